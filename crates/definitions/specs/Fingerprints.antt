@@ -1,0 +1,50 @@
+-- Fingerprints of sets. The definitions are generic over them: a profile says what its fingerprint is.
+--     Summary F, IsExact S       a fingerprint of type F
+--     Lanes, two_lanes           the two-lane sum over SHA-256
+--     Counted, counted_lanes     the same, with the count of items beside it
+use Rattle.std.specs.Prelude.{◌≡◌, ℕ, ◌%◌, ◌^◌, Bool, ◌&&◌, ◌==◌, ◌↔◌, List, length, take, drop, sum_by, IsTrue}
+use Rattle.std.specs.Int.{w128, from_be_bytes}
+use Rattle.sha2.specs.Sha256.{sha256}
+use Rattle.definitions.specs.Items.{Item}
+
+-- the fingerprint of a set, and the test of two for equality
+pub record Summary (F : Type 0) : Type 0 where
+  pub of : List Item → F
+  pub same : F → F → Bool
+
+-- the test of equality answers equality
+abbrev pub IsExact : {F : Type 0} → Summary F → Type 0
+IsExact {F} S = (f g : F) → IsTrue (S.same f g) ↔ (f ≡ g)
+
+-- two sums modulo 2 ^ 128
+pub record Lanes : Type 0 where
+  pub first : ℕ
+  pub second : ℕ
+
+-- the sums of the two halves of each item's digest, with no carry from one to the other
+abbrev pub lanes_by : (Item → List ℕ) → List Item → Lanes
+lanes_by digest A = record {
+  first = sum_by (λ x. from_be_bytes w128 (take 16 (digest x))) A % 2 ^ 128;
+  second = sum_by (λ x. from_be_bytes w128 (drop 16 (digest x))) A % 2 ^ 128;
+}
+
+abbrev pub same_lanes : Lanes → Lanes → Bool
+same_lanes f g = (f.first == g.first) && (f.second == g.second)
+
+abbrev pub lanes_summary : (Item → List ℕ) → Summary Lanes
+lanes_summary digest = record { of = lanes_by digest; same = same_lanes }
+
+-- the fingerprint of profile 1
+abbrev pub two_lanes : Summary Lanes
+two_lanes = lanes_summary sha256
+
+-- the fingerprint of profile 2: the count of the items, modulo 2 ^ 32, beside the lanes
+pub record Counted : Type 0 where
+  pub count : ℕ
+  pub lanes : Lanes
+
+abbrev pub counted_lanes : Summary Counted
+counted_lanes = record {
+  of = λ A. record { count = length A % 2 ^ 32; lanes = lanes_by sha256 A };
+  same = λ f g. (f.count == g.count) && same_lanes f.lanes g.lanes;
+}
