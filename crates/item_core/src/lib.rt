@@ -1,0 +1,13 @@
+//! Items and ranges of items.
+#![tactic(auto)]
+
+mod item;
+mod lower;
+mod range;
+mod short;
+mod upper;
+
+pub use item::{Item, LengthFault};
+pub use lower::Lower;
+pub use range::{EmptyRange, Range};
+pub use upper::Upper;
