@@ -29,14 +29,16 @@ impl Lower {
     pub fn start() -> Lower
         ensures { result ≡ [] }
     {
-        Lower { bytes: Short::empty() }
+        Lower {
+            bytes: Short::empty(),
+        }
     }
 
     /// The bound of these bytes, unless there are more than 64.
     pub fn new(bytes: &[u8]) -> Result<Lower, LengthFault>
         ensures bound { IfOk result (λ x. x ≡ bytes.now) }
         ensures ok { IsOk result ↔ (length bytes.now ≤ 64) }
-        ensures long { result ≡ Err LengthFault.TooLong → 64 < length bytes.now }
+        ensures long { (result ≡ Err LengthFault.TooLong) ↔ (64 < length bytes.now) }
     {
         match Short::new(bytes) {
             None => Err(LengthFault::TooLong),
@@ -50,5 +52,13 @@ impl Lower {
         ensures lower { IsLower self.now }
     {
         self.bytes.bytes()
+    }
+}
+
+impl From<Item> for Lower {
+    ghost from_gives = { λ x y. y ≡ x };
+
+    fn from(item: Item) -> Lower {
+        Lower { bytes: item.bytes }
     }
 }

@@ -62,7 +62,10 @@ impl Range {
     pub fn whole() -> Range
         ensures { result ≡ items.whole }
     {
-        Range { lower: Lower::start(), upper: Upper::End }
+        Range {
+            lower: Lower::start(),
+            upper: Upper::End,
+        }
     }
 
     /// The lower bound.
@@ -84,5 +87,20 @@ impl Range {
         ensures { result ≡ items.contains self.now item.now }
     {
         item.bytes().cmp(self.lower.bytes()).is_ge() && self.upper.is_above(item.bytes())
+    }
+
+    /// Whether the parts make up the range: the first begins where the range does, each later one where the one
+    /// before it ends, and the last ends where the range does.
+    pub fn splits_into(&self, parts: &[Range]) -> bool
+        ensures { IsTrue result ↔ Partitions self.now parts.now }
+    {
+        let mut seam = Some(self.lower.bytes());
+        for part in parts {
+            if seam != Some(part.lower.bytes()) {
+                return false;
+            }
+            seam = part.upper.bytes();
+        }
+        !parts.is_empty() && seam == self.upper.bytes()
     }
 }

@@ -57,7 +57,10 @@ impl Short {
     pub fn empty() -> Short
         ensures { result ≡ [] }
     {
-        Short { bytes: [0; 64], length: 0 }
+        Short {
+            bytes: [0; 64],
+            length: 0,
+        }
     }
 
     /// The byte string, unless it is longer than 64 bytes.
