@@ -1,0 +1,9 @@
+//! Fingerprints of sets of items.
+#![tactic(auto)]
+
+mod fingerprint;
+pub mod laws;
+mod summary;
+
+pub use fingerprint::Fingerprint;
+pub use summary::Summary;
