@@ -1,0 +1,34 @@
+-- What a reader of bytes returns, beside what reading on lists gives.
+--     fault_number f             the number of a fault
+--     GivesField, Gives          the same value or the same fault, unless memory ran out
+use Rattle.std.specs.Prelude.{◌≡◌, ℕ, Result, Ok, Err, ⊤}
+use Rattle.wire_core.specs.declared.fault.WireFault.{WireFault}
+use Rattle.wire_core.specs.declared.fault.WireFault.TheVariants.{FrameLength, Truncated, BadKind, BadBound, EmptyRange, ItemLength, ItemOrder, ItemOutside, MarkPadding, Trailing, TooManyParts}
+use Rattle.wire_core.specs.declared.fault.DecodeError.{DecodeError}
+use Rattle.wire_core.specs.declared.fault.DecodeError.TheVariants as errors
+use Rattle.definitions.specs.Refusals as codes
+
+abbrev pub fault_number : WireFault → ℕ
+fault_number FrameLength = codes.frame_length
+fault_number Truncated = codes.truncated
+fault_number BadKind = codes.bad_kind
+fault_number BadBound = codes.bad_bound
+fault_number EmptyRange = codes.empty_range
+fault_number ItemLength = codes.item_length
+fault_number ItemOrder = codes.item_order
+fault_number ItemOutside = codes.item_outside
+fault_number MarkPadding = codes.mark_padding
+fault_number Trailing = codes.trailing
+fault_number TooManyParts = codes.too_many_parts
+
+abbrev pub GivesField : {X Y : Type 0} → (X → Y) → Result X WireFault → Result Y ℕ → Type 0
+GivesField view (Ok x) read = read ≡ Ok (view x)
+GivesField view (Err f) read = read ≡ Err (fault_number f)
+
+abbrev pub Fails : {Y : Type 0} → DecodeError → Result Y ℕ → Type 0
+Fails errors.Memory read = ⊤
+Fails (errors.Fault f) read = read ≡ Err (fault_number f)
+
+abbrev pub Gives : {X Y : Type 0} → (X → Y) → Result X DecodeError → Result Y ℕ → Type 0
+Gives view (Ok x) read = read ≡ Ok (view x)
+Gives view (Err e) read = Fails e read

@@ -1,0 +1,133 @@
+//! Reading the fields of a body. Each reader takes a field off the front of the bytes and gives its value, or the fault.
+
+ghost use Rattle.std.specs.Prelude.{◌≡◌, Option, Some, None};
+ghost use Rattle.std.specs.Option.{option_copied};
+ghost use Rattle.definitions.specs.Reading as reading;
+ghost use Rattle.definitions.specs.Faults as faults;
+ghost use Rattle.item_core.specs.Bounds.{upper_value};
+ghost use Rattle.wire_core.specs.Refused.{GivesField, Gives};
+ghost use Rattle.wire_core.specs.Readers.{byte_at};
+
+use crate::fault::{DecodeError, WireFault};
+use item_core::{Item, Lower, Range, Upper};
+use std::alloc::Global;
+
+/// So many bytes.
+pub fn take_bytes<'a>(bytes: &mut &'a [u8], count: usize) -> Result<&'a [u8], WireFault>
+    ensures { GivesField (λ x. (x.now, bytes.new.now)) result (reading.bytes_at count bytes.old.now) }
+{
+    if bytes.len() < count {
+        return Err(WireFault::FrameLength);
+    }
+    let (front, rest) = bytes.split_at(count);
+    *bytes = rest;
+    Ok(front)
+}
+
+/// One byte: a kind, or a length.
+pub fn take_byte(bytes: &mut &[u8]) -> Result<u8, WireFault>
+    ensures { GivesField (λ x. (x, bytes.new.now)) result (byte_at bytes.old.now) }
+{
+    let Some((&byte, rest)) = bytes.split_first() else {
+        return Err(WireFault::FrameLength);
+    };
+    *bytes = rest;
+    Ok(byte)
+}
+
+/// A number of four bytes, the greatest first.
+pub fn take_number(bytes: &mut &[u8]) -> Result<u32, WireFault>
+    ensures { GivesField (λ x. (x, bytes.new.now)) result (reading.number_at bytes.old.now) }
+{
+    let four = take_bytes(bytes, 4)?;
+    Ok(u32::from_be_bytes([four[0], four[1], four[2], four[3]]))
+}
+
+/// A lower bound: its length, 0 to 64, and its bytes.
+pub fn take_lower(bytes: &mut &[u8]) -> Result<Lower, WireFault>
+    ensures { GivesField (λ x. (x, bytes.new.now)) result (reading.lower_at bytes.old.now) }
+{
+    let length = take_byte(bytes)?;
+    if length > 64 {
+        return Err(WireFault::BadBound);
+    }
+    let text = take_bytes(bytes, length as usize)?;
+    Lower::new(text).map_err(|_| WireFault::BadBound)
+}
+
+/// An upper bound: its length, 1 to 64, and its bytes, or 255 for the end.
+pub fn take_upper(bytes: &mut &[u8]) -> Result<Upper, WireFault>
+    ensures { GivesField (λ x. (upper_value x, bytes.new.now)) result (reading.upper_at bytes.old.now) }
+{
+    let length = take_byte(bytes)?;
+    if length == 255 {
+        return Ok(Upper::End);
+    }
+    if length == 0 || length > 64 {
+        return Err(WireFault::BadBound);
+    }
+    let text = take_bytes(bytes, length as usize)?;
+    Upper::new(text).map_err(|_| WireFault::BadBound)
+}
+
+/// A lower and an upper bound, the lower one below the upper one.
+pub fn take_range(bytes: &mut &[u8]) -> Result<Range, WireFault>
+    ensures { GivesField (λ x. (x, bytes.new.now)) result (reading.range_at bytes.old.now) }
+{
+    let lower = take_lower(bytes)?;
+    let upper = take_upper(bytes)?;
+    Range::new(lower, upper).map_err(|_| WireFault::EmptyRange)
+}
+
+/// An item: its length, 1 to 64, and its bytes.
+pub fn take_text(bytes: &mut &[u8]) -> Result<Item, WireFault>
+    ensures { GivesField (λ x. (x, bytes.new.now)) result (reading.text_at bytes.old.now) }
+{
+    let length = take_byte(bytes)?;
+    if length == 0 || length > 64 {
+        return Err(WireFault::ItemLength);
+    }
+    let text = take_bytes(bytes, length as usize)?;
+    Item::new(text).map_err(|_| WireFault::ItemLength)
+}
+
+/// Whether the item is greater than the one before it, if there is one.
+pub fn rises_from(before: Option<&Item>, item: &Item) -> bool
+    ensures { result ≡ faults.rises_from (option_copied before.entry) item.now }
+{
+    match before {
+        None => true,
+        Some(before) => before < item,
+    }
+}
+
+/// An item of the range that is greater than the one before it, if there is one.
+pub fn take_item(bytes: &mut &[u8], range: &Range, before: Option<&Item>) -> Result<Item, WireFault>
+    ensures { GivesField (λ x. (x, bytes.new.now)) result (reading.item_at range.now (option_copied before.entry) bytes.old.now) }
+{
+    let item = take_text(bytes)?;
+    if !rises_from(before, &item) {
+        return Err(WireFault::ItemOrder);
+    }
+    if !range.contains(&item) {
+        return Err(WireFault::ItemOutside);
+    }
+    Ok(item)
+}
+
+/// So many items, which rise and lie in the range.
+pub fn take_items(
+    alloc: Global,
+    bytes: &mut &[u8],
+    range: &Range,
+    count: u32,
+) -> Result<Vec<Item>, DecodeError>
+    ensures { Gives (λ x. (x.items, bytes.new.now)) result (reading.items_at range.now count None bytes.old.now) }
+{
+    let mut items: Vec<Item> = Vec::new(alloc);
+    'each: for _ in 0..count {
+        let item = take_item(bytes, range, items.last())?;
+        items.push(item)?;
+    }
+    Ok(items)
+}
