@@ -1,12 +1,23 @@
--- A part as the definitions have it.
-use Rattle.std.specs.Prelude.{ℕ, List}
-use Rattle.definitions.specs.Items.{Range}
+-- A part's body, and the part as the definitions have it.
+use Rattle.std.specs.Prelude.{ℕ, List, [], ⊤}
+use Rattle.definitions.specs.Items.{Item, Range}
 use Rattle.definitions.specs.Fingerprints.{Lanes}
 use Rattle.definitions.specs.Messages.{Part, Sum, Listing, Answer}
-use Rattle.wire_core.specs.declared.part.Body.{Body}
-use Rattle.wire_core.specs.declared.part.Body.TheVariants as bodies
+use Rattle.wire_core.specs.declared.body.Body.{Body}
+use Rattle.wire_core.specs.declared.body.Body.TheVariants as bodies
 
 abbrev pub part_of : Range → Body → Part Lanes
 part_of X (bodies.Sum f) = Sum X f
 part_of X (bodies.List items) = Listing X items.items
 part_of X (bodies.Answer marks items) = Answer X marks items.items
+
+abbrev pub items_in : Body → List Item
+items_in (bodies.Sum f) = []
+items_in (bodies.List items) = items.items
+items_in (bodies.Answer marks items) = items.items
+
+-- it has items, or none of them and marks
+abbrev pub Lists : Body → Type 0
+Lists (bodies.Sum f) = ⊥
+Lists (bodies.List items) = ⊤
+Lists (bodies.Answer marks items) = ⊤

@@ -1,10 +1,14 @@
 pub use Rattle.definitions.specs.Items
+pub use Rattle.definitions.specs.Fingerprints
 pub use Rattle.definitions.specs.Messages
+pub use Rattle.definitions.specs.Refusals
 pub use Rattle.definitions.specs.Wire
 pub use Rattle.definitions.specs.Faults
 pub use Rattle.definitions.specs.Reading
 pub use Rattle.definitions.specs.Streams
 pub mod Refused
+pub mod PartFaults
 pub mod Readers
 pub mod Bodies
-pub mod PartFaults
+pub mod Parts
+pub mod Packed

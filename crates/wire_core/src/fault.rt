@@ -1,5 +1,6 @@
 ghost use Rattle.std.specs.Prelude.{◌≡◌};
 ghost use Rattle.wire_core.specs.Refused.{fault_number};
+ghost use Rattle.wire_core.specs.PartFaults.{part_fault_number};
 ghost use Rattle.wire_core.specs.declared.fault.DecodeError.TheVariants as errors;
 
 use std::alloc::{AllocError, AllocFailed};
@@ -48,6 +49,30 @@ impl WireFault {
             WireFault::MarkPadding => 10,
             WireFault::Trailing => 11,
             WireFault::TooManyParts => 12,
+        }
+    }
+}
+
+/// Why a part has no spelling.
+#[derive(Clone, Copy, Debug, PartialEq, Eq)]
+pub enum PartFault {
+    /// An item is not greater than the one before it.
+    ItemOrder,
+    /// An item is outside the range.
+    ItemOutside,
+    /// The body would have more than 8,388,608 bytes.
+    FrameLength,
+}
+
+impl PartFault {
+    /// The number of the refusal: 8, 9 or 2.
+    pub fn number(self) -> u8
+        ensures { result ≡ part_fault_number self }
+    {
+        match self {
+            PartFault::ItemOrder => 8,
+            PartFault::ItemOutside => 9,
+            PartFault::FrameLength => 2,
         }
     }
 }

@@ -1,6 +1,9 @@
-ghost use Rattle.std.specs.Prelude.{◌≡◌, ◌<◌, ◌^◌, length, IfOk, slice_index, not, bytes_eq, Bool};
+ghost use Rattle.std.specs.Prelude.{◌≡◌, ◌<◌, ◌≤◌, ◌^◌, length, IfOk, slice_get, not, bytes_eq, IsTrue};
+ghost use Rattle.std.specs.Bool.{OnFalse};
 ghost use Rattle.definitions.specs.Wire.{mark_bytes, mark_bytes_for};
+ghost use Rattle.definitions.specs.Wire as wire;
 ghost use Rattle.definitions.specs.Reading.{marks_in};
+ghost use Rattle.wire_core.specs.Packed.{IsPacked};
 
 use std::alloc::{AllocError, Global};
 use std::marker::Model;
@@ -13,13 +16,91 @@ pub struct Marks {
 }
 
 impl Model for Marks {
-    ghost use Rattle.std.specs.Prelude.{◌≡◌, List, Bool, length, ◌<◌, ◌^◌};
-    ghost use Rattle.definitions.specs.Wire.{mark_bytes, mark_bytes_for};
+    ghost use Rattle.std.specs.Prelude.{List, Bool};
     ghost use Rattle.definitions.specs.Reading.{marks_in};
+    ghost use Rattle.wire_core.specs.Packed.{IsPacked};
 
     ghost Value = { List Bool };
 
     ghost view = { λ a. marks_in a.count a.bytes.items };
 
-    ghost invariant = { λ a. (a.count < 2 ^ 32) × (a.bytes.items ≡ mark_bytes (marks_in a.count a.bytes.items)) };
+    ghost invariant = { λ a. IsPacked a.count a.bytes.items };
+}
+
+impl Marks {
+    /// The marks of the list, in order.
+    pub fn new(alloc: Global, marks: &[bool]) -> Result<Marks, AllocError>
+        requires { length marks.now < 2 ^ 32 }
+        ensures { IfOk result (λ m. m ≡ marks.now) }
+    {
+        Ok(Marks {
+            bytes: packed(alloc, marks)?,
+            count: marks.len() as u32,
+        })
+    }
+
+    /// So many marks, packed in these bytes.
+    pub(crate) fn of_packed(alloc: Global, bytes: &[u8], count: u32) -> Result<Marks, AllocError>
+        requires { IsPacked count bytes.now }
+        ensures { IfOk result (λ m. m ≡ marks_in count bytes.now) }
+    {
+        Ok(Marks {
+            bytes: Vec::from_slice(alloc, bytes)?,
+            count,
+        })
+    }
+
+    /// The number of marks.
+    pub fn len(&self) -> usize
+        ensures length { result ≡ length self.now }
+        ensures few { length self.now < 2 ^ 32 }
+    {
+        self.count as usize
+    }
+
+    /// The mark at a place, from 0, if there is one.
+    pub fn get(&self, index: usize) -> Option<bool>
+        ensures { result ≡ slice_get self.now index }
+    {
+        if index >= self.count as usize {
+            return None;
+        }
+        Some(self.bytes[index / 8] >> (index % 8) & 1 == 1)
+    }
+
+    /// The marks, eight to a byte: mark i is the bit of value 2^(i mod 8) in byte i / 8, and unused bits are zero.
+    pub fn bytes(&self) -> &[u8]
+        ensures bytes { result.now ≡ mark_bytes self.now }
+        ensures small { length result.now ≤ 2 ^ 29 }
+    {
+        &self.bytes
+    }
+}
+
+/// The byte of eight marks or fewer: the first counts 1, the next 2, and so on.
+fn mark_byte(marks: &[bool]) -> u8
+    requires { length marks.now ≤ 8 }
+    ensures byte { result ≡ wire.mark_byte marks.now }
+    ensures small { result < 2 ^ length marks.now }
+{
+    match marks {
+        [] => 0,
+        [mark, rest @ ..] => u8::from(*mark) + 2 * mark_byte(rest),
+    }
+}
+
+/// The marks, eight to a byte.
+fn packed(alloc: Global, marks: &[bool]) -> Result<Vec<u8>, AllocError>
+    ensures { IfOk result (λ v. v.items ≡ mark_bytes marks.now) }
+{
+    marks.chunks(8).map(mark_byte).collect(alloc)
+}
+
+/// Whether a bit behind the last of so many marks is set.
+pub fn has_padding(bytes: &[u8], count: u32) -> bool
+    requires { length bytes.now ≡ mark_bytes_for count }
+    ensures { result ≡ not (bytes_eq bytes.now (mark_bytes (marks_in count bytes.now))) }
+{
+    let used = count % 8;
+    used != 0 && bytes.last().is_some_and(|byte| byte >> used != 0)
 }

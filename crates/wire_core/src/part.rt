@@ -1,70 +1,148 @@
-ghost use Rattle.std.specs.Prelude.{◌≡◌, ◌↔◌, ◌≤◌, ◌^◌, Option, Some, None, IfOk, IfErr, IsOk, IfSome, IfNone, length, sum_by, option_map};
-ghost use Rattle.definitions.specs.Messages as messages;
-ghost use Rattle.definitions.specs.Messages.{range_of};
-ghost use Rattle.definitions.specs.Wire.{two_lane_profile, IsPart, short_text, body};
+ghost use Rattle.std.specs.Prelude.{◌≡◌, ◌↔◌, Some, None, IfOk, IfErr, IsOk};
+ghost use Rattle.std.specs.Option.{option_copied};
+ghost use Rattle.definitions.specs.Messages.{Sum, Listing, Answer, range_of};
+ghost use Rattle.definitions.specs.Wire.{two_lane_profile, IsPart};
 ghost use Rattle.definitions.specs.Faults as faults;
-ghost use Rattle.wire_core.specs.Bodies.{part_of};
+ghost use Rattle.wire_core.specs.Bodies.{part_of, Lists};
+ghost use Rattle.wire_core.specs.Parts.{kind_of, sum_in, items_in, marks_in};
 ghost use Rattle.wire_core.specs.PartFaults.{part_fault_number};
 
+use crate::body::{Body, MAX_BODY, items_fault};
+use crate::fault::PartFault;
 use crate::marks::Marks;
-use crate::field::rises_from;
 use digest_core::Fingerprint;
 use item_core::{Item, Range};
 use std::marker::Model;
 
-/// Why a part has no spelling.
+/// The kinds of part.
 #[derive(Clone, Copy, Debug, PartialEq, Eq)]
-pub enum PartFault {
-    /// An item is not greater than the one before it.
-    ItemOrder,
-    /// An item is outside the range.
-    ItemOutside,
-    /// The body would have more than 8,388,608 bytes.
-    FrameLength,
+pub enum PartKind {
+    /// The fingerprint of the sender's items in the range.
+    Sum,
+    /// The sender's items in the range.
+    List,
+    /// For each item of a list that is answered, whether the sender lacks it, and the sender's items that the list had not.
+    Answer,
 }
 
-impl PartFault {
-    /// The number of the refusal: 8, 9 or 2.
-    pub fn number(self) -> u8
-        ensures { result ≡ part_fault_number self }
-    {
-        match self {
-            PartFault::ItemOrder => 8,
-            PartFault::ItemOutside => 9,
-            PartFault::FrameLength => 2,
-        }
-    }
-}
-
-/// What a part has beside its range.
+/// A part of a message: a range, and what the sender says of its items there. Each part has a spelling.
 #[derive(Drop)]
-pub enum Body {
-    Sum(Fingerprint),
-    List(Vec<Item>),
-    Answer(Marks, Vec<Item>),
+pub struct Part {
+    range: Range,
+    body: Body,
 }
 
-/// The first item that is not greater than the one before it, or is outside the range.
-fn items_fault(range: &Range, items: &[Item]) -> Option<PartFault>
-    ensures { option_map part_fault_number result ≡ faults.items_fault range.now None items.now }
-{
-    let mut before: Option<&Item> = None;
-    for item in items {
-        if !rises_from(before, item) {
-            return Some(PartFault::ItemOrder);
+impl Model for Part {
+    ghost use Rattle.definitions.specs.Messages as messages;
+    ghost use Rattle.definitions.specs.Fingerprints.{Lanes};
+    ghost use Rattle.definitions.specs.Wire.{two_lane_profile, IsPart};
+
+    ghost Value = { messages.Part Lanes };
+
+    ghost use Rattle.wire_core.specs.Bodies.{part_of};
+
+    ghost view = { λ a. part_of a.range a.body };
+
+    ghost invariant = { λ a. IsPart two_lane_profile (part_of a.range a.body) };
+}
+
+impl Part {
+    /// The fingerprint of the sender's items in the range.
+    pub fn sum(range: Range, sum: Fingerprint) -> Part
+        ensures { result ≡ Sum range sum }
+    {
+        Part {
+            range,
+            body: Body::Sum(sum),
         }
-        if !range.contains(item) {
-            return Some(PartFault::ItemOutside);
-        }
-        before = Some(item);
     }
-    None
-}
 
-/// The length of the items' texts in bytes.
-fn texts_length(items: &[Item]) -> usize
-    requires { length items.now ≤ 2 ^ 23 }
-    ensures { result ≡ sum_by (λ x. length (short_text x)) items.now }
-{
-    items.iter().map(|item| 1 + item.bytes().len()).sum()
+    /// The sender's items in the range.
+    ///
+    /// The first item that is not greater than the one before it (8) or is outside the range (9) is refused, and
+    /// then a body above its limit (2).
+    pub fn list(range: Range, items: Vec<Item>) -> Result<Part, PartFault>
+        ensures part { IfOk result (λ p. p ≡ Listing range items.items) }
+        ensures ok { IsOk result ↔ IsPart two_lane_profile (Listing range items.items) }
+        ensures fault { IfErr result (λ e. faults.part_fault two_lane_profile (Listing range items.items) ≡ Some (part_fault_number e)) }
+    {
+        Part::checked(range, Body::List(items))
+    }
+
+    /// The marks for the items of a list that is answered, and the sender's items in the range that the list had not.
+    ///
+    /// Refused as a list is.
+    pub fn answer(range: Range, marks: Marks, items: Vec<Item>) -> Result<Part, PartFault>
+        ensures part { IfOk result (λ p. p ≡ Answer range marks items.items) }
+        ensures ok { IsOk result ↔ IsPart two_lane_profile (Answer range marks items.items) }
+        ensures fault { IfErr result (λ e. faults.part_fault two_lane_profile (Answer range marks items.items) ≡ Some (part_fault_number e)) }
+    {
+        Part::checked(range, Body::Answer(marks, items))
+    }
+
+    /// The kind.
+    pub fn kind(&self) -> PartKind
+        ensures { result ≡ kind_of self.now }
+    {
+        match &self.body {
+            Body::Sum(_) => PartKind::Sum,
+            Body::List(_) => PartKind::List,
+            Body::Answer(_, _) => PartKind::Answer,
+        }
+    }
+
+    /// The range.
+    pub fn range(&self) -> &Range
+        ensures range { result.now ≡ range_of self.now }
+        ensures part { IsPart two_lane_profile self.now }
+    {
+        &self.range
+    }
+
+    /// The fingerprint of a Sum.
+    pub fn fingerprint(&self) -> Option<&Fingerprint>
+        ensures { option_copied result ≡ sum_in self.now }
+    {
+        match &self.body {
+            Body::Sum(sum) => Some(sum),
+            _ => None,
+        }
+    }
+
+    /// The items of a List or an Answer.
+    pub fn items(&self) -> Option<&[Item]>
+        ensures { option_copied result ≡ items_in self.now }
+    {
+        match &self.body {
+            Body::Sum(_) => None,
+            Body::List(items) => Some(items),
+            Body::Answer(_, items) => Some(items),
+        }
+    }
+
+    /// The marks of an Answer.
+    pub fn marks(&self) -> Option<&Marks>
+        ensures { option_copied result ≡ marks_in self.now }
+    {
+        match &self.body {
+            Body::Answer(marks, _) => Some(marks),
+            _ => None,
+        }
+    }
+
+    /// The part, unless it has no spelling.
+    fn checked(range: Range, body: Body) -> Result<Part, PartFault>
+        requires { Lists body }
+        ensures part { IfOk result (λ p. p ≡ part_of range body) }
+        ensures ok { IsOk result ↔ IsPart two_lane_profile (part_of range body) }
+        ensures fault { IfErr result (λ e. faults.part_fault two_lane_profile (part_of range body) ≡ Some (part_fault_number e)) }
+    {
+        if let Some(fault) = items_fault(&range, body.items()) {
+            return Err(fault);
+        }
+        if body.items().len() > MAX_BODY || body.length(&range) > MAX_BODY {
+            return Err(PartFault::FrameLength);
+        }
+        Ok(Part { range, body })
+    }
 }

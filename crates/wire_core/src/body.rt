@@ -1,0 +1,103 @@
+ghost use Rattle.std.specs.Prelude.{◌≡◌, ◌+◌, ◌≤◌, ◌<◌, ◌*◌, ◌^◌, None, length, sum_by, option_map};
+ghost use Rattle.std.specs.List.{AllByRecursion};
+ghost use Rattle.definitions.specs.Items.{IsItem};
+ghost use Rattle.definitions.specs.Wire.{two_lane_profile, short_text, upper_text, max_body};
+ghost use Rattle.definitions.specs.Wire as wire;
+ghost use Rattle.definitions.specs.Faults as faults;
+ghost use Rattle.item_core.specs.Bounds.{upper_value};
+ghost use Rattle.wire_core.specs.Bodies.{part_of, items_in};
+ghost use Rattle.wire_core.specs.PartFaults.{part_fault_number};
+
+use crate::fault::PartFault;
+use crate::field::rises_from;
+use crate::marks::Marks;
+use digest_core::Fingerprint;
+use item_core::{Item, Range, Upper};
+
+/// The greatest length of a frame's body in bytes.
+pub const MAX_BODY: usize = 8_388_608;
+
+/// What a part has beside its range.
+#[derive(Drop)]
+pub enum Body {
+    Sum(Fingerprint),
+    List(Vec<Item>),
+    Answer(Marks, Vec<Item>),
+}
+
+impl Body {
+    /// The items of a list or an answer; none of a sum.
+    pub fn items(&self) -> &[Item]
+        ensures { result.now ≡ items_in self.now }
+    {
+        match self {
+            Body::Sum(_) => &[],
+            Body::List(items) => items,
+            Body::Answer(_, items) => items,
+        }
+    }
+
+    /// The length in bytes of what follows the range.
+    fn fields_length(&self) -> usize
+        requires { length (items_in self.now) ≤ max_body }
+        ensures length { (X : _) → length (wire.body two_lane_profile (part_of X self.now)) ≡ 1 + length (wire.range_text X) + result }
+        ensures small { result < 2 ^ 32 }
+        ensures each { AllByRecursion IsItem (items_in self.now) }
+    {
+        match self {
+            Body::Sum(_) => 32,
+            Body::List(items) => 4 + texts_length(items),
+            Body::Answer(marks, items) => 4 + marks.bytes().len() + 4 + texts_length(items),
+        }
+    }
+
+    /// The length in bytes of a body with this range.
+    pub fn length(&self, range: &Range) -> usize
+        requires { length (items_in self.now) ≤ max_body }
+        ensures length { result ≡ length (wire.body two_lane_profile (part_of range.now self.now)) }
+        ensures each { AllByRecursion IsItem (items_in self.now) }
+    {
+        1 + range_length(range) + self.fields_length()
+    }
+}
+
+/// The length of a range's text in bytes.
+fn range_length(range: &Range) -> usize
+    ensures length { result ≡ length (wire.range_text range.now) }
+    ensures small { result ≤ 130 }
+{
+    let lower = range.lower();
+    let upper = range.upper();
+    1 + lower.bytes().len() + 1 + upper.bytes().map_or(0, |bytes| bytes.len())
+}
+
+/// The first item that is not greater than the one before it, or is outside the range.
+pub fn items_fault(range: &Range, items: &[Item]) -> Option<PartFault>
+    ensures { option_map part_fault_number result ≡ faults.items_fault range.now None items.now }
+{
+    let mut before: Option<&Item> = None;
+    for item in items {
+        if !rises_from(before, item) {
+            return Some(PartFault::ItemOrder);
+        }
+        if !range.contains(item) {
+            return Some(PartFault::ItemOutside);
+        }
+        before = Some(item);
+    }
+    None
+}
+
+/// The length of the items' texts in bytes.
+fn texts_length(items: &[Item]) -> usize
+    requires { length items.now ≤ 2 ^ 23 }
+    ensures length { result ≡ sum_by (λ x. length (short_text x)) items.now }
+    ensures small { result ≤ 65 * length items.now }
+    ensures each { AllByRecursion IsItem items.now }
+{
+    let mut total = 0;
+    for item in items {
+        total += 1 + item.bytes().len();
+    }
+    total
+}

@@ -1,0 +1,73 @@
+//! Reading what follows the kind of a part, and a whole body.
+
+ghost use Rattle.std.specs.Prelude.{◌≡◌, ◌≤◌, None, length};
+ghost use Rattle.definitions.specs.Wire.{two_lane_profile, max_body, One_message};
+ghost use Rattle.definitions.specs.Reading as reading;
+ghost use Rattle.wire_core.specs.Refused.{GivesField, Gives};
+ghost use Rattle.wire_core.specs.Bodies.{part_of};
+ghost use Rattle.wire_core.specs.Readers.{fingerprint_at};
+
+use crate::body::Body;
+use crate::fault::{DecodeError, WireFault};
+use crate::field::{take_byte, take_bytes, take_items, take_number, take_range};
+use crate::marks::{Marks, has_padding};
+use digest_core::Fingerprint;
+use item_core::{Item, Range};
+use std::alloc::Global;
+
+/// The items of a list: their number, and so many items.
+fn take_list(alloc: Global, bytes: &mut &[u8], range: &Range) -> Result<Vec<Item>, DecodeError>
+    ensures { Gives (λ x. (x.items, bytes.new.now)) result (reading.list_at range.now bytes.old.now) }
+{
+    let count = take_number(bytes)?;
+    take_items(alloc, bytes, range, count)
+}
+
+/// The marks of an Answer: their number, and as many bytes as hold them.
+fn take_marks(alloc: Global, bytes: &mut &[u8]) -> Result<Marks, DecodeError>
+    ensures { Gives (λ x. (x, bytes.new.now)) result (reading.marks_at bytes.old.now) }
+{
+    let count = take_number(bytes)?;
+    let held = take_bytes(bytes, count.div_ceil(8) as usize)?;
+    if has_padding(held, count) {
+        return Err(DecodeError::Fault(WireFault::MarkPadding));
+    }
+    Ok(Marks::of_packed(alloc, held, count)?)
+}
+
+/// A fingerprint, of 32 bytes.
+fn take_fingerprint(bytes: &mut &[u8]) -> Result<Fingerprint, WireFault>
+    ensures { GivesField (λ x. (x, bytes.new.now)) result (fingerprint_at bytes.old.now) }
+{
+    let mut lanes = [0; 32];
+    lanes.copy_from_slice(take_bytes(bytes, 32)?);
+    Ok(Fingerprint::from_bytes(lanes))
+}
+
+/// What follows the kind of a Sum.
+fn take_sum(bytes: &mut &[u8]) -> Result<(Range, Body), WireFault>
+    ensures { GivesField (λ x. (part_of x.0 x.1, bytes.new.now)) result (reading.sum_at two_lane_profile bytes.old.now) }
+{
+    let range = take_range(bytes)?;
+    let sum = take_fingerprint(bytes)?;
+    Ok((range, Body::Sum(sum)))
+}
+
+/// What follows the kind of a List.
+fn take_listing(alloc: Global, bytes: &mut &[u8]) -> Result<(Range, Body), DecodeError>
+    ensures { Gives (λ x. (part_of x.0 x.1, bytes.new.now)) result (reading.listing_at bytes.old.now) }
+{
+    let range = take_range(bytes)?;
+    let items = take_list(alloc, bytes, &range)?;
+    Ok((range, Body::List(items)))
+}
+
+/// What follows the kind of an Answer.
+fn take_answer(alloc: Global, bytes: &mut &[u8]) -> Result<(Range, Body), DecodeError>
+    ensures { Gives (λ x. (part_of x.0 x.1, bytes.new.now)) result (reading.answer_at bytes.old.now) }
+{
+    let range = take_range(bytes)?;
+    let marks = take_marks(alloc, bytes)?;
+    let items = take_list(alloc, bytes, &range)?;
+    Ok((range, Body::Answer(marks, items)))
+}
