@@ -1,0 +1,9 @@
+-- Worked cases. Each is stated as an equation and computed by the check.
+mod Examples
+mod Tables
+mod Talks
+mod Spellings
+mod Streams
+mod Placings
+mod Runs
+mod Parts
