@@ -38,6 +38,7 @@ impl Body {
     }
 
     /// The length in bytes of what follows the range.
+    #[tactic(auto, using(crate::proofs::Lengths::lengths))]
     fn fields_length(&self) -> usize
         requires { length (items_in self.now) ≤ max_body }
         ensures length { (X : _) → length (wire.body two_lane_profile (part_of X self.now)) ≡ 1 + length (wire.range_text X) + result }

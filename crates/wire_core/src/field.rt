@@ -1,6 +1,6 @@
 //! Reading the fields of a body. Each reader takes a field off the front of the bytes and gives its value, or the fault.
 
-ghost use Rattle.std.specs.Prelude.{◌≡◌, Option, Some, None};
+ghost use Rattle.std.specs.Prelude.{◌≡◌, length, None, IfOk};
 ghost use Rattle.std.specs.Option.{option_copied};
 ghost use Rattle.definitions.specs.Reading as reading;
 ghost use Rattle.definitions.specs.Faults as faults;
@@ -14,7 +14,8 @@ use std::alloc::Global;
 
 /// So many bytes.
 pub fn take_bytes<'a>(bytes: &mut &'a [u8], count: usize) -> Result<&'a [u8], WireFault>
-    ensures { GivesField (λ x. (x.now, bytes.new.now)) result (reading.bytes_at count bytes.old.now) }
+    ensures read { GivesField (λ x. (x.now, bytes.new.now)) result (reading.bytes_at count bytes.old.now) }
+    ensures length { IfOk result (λ x. length x.now ≡ count) }
 {
     if bytes.len() < count {
         return Err(WireFault::FrameLength);

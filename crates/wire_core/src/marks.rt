@@ -1,4 +1,4 @@
-ghost use Rattle.std.specs.Prelude.{◌≡◌, ◌<◌, ◌≤◌, ◌^◌, length, IfOk, slice_get, not, bytes_eq, IsTrue};
+ghost use Rattle.std.specs.Prelude.{◌≡◌, ◌*◌, ◌<◌, ◌≤◌, ◌^◌, length, take, drop, IfOk, slice_get, not, bytes_eq, IsTrue};
 ghost use Rattle.std.specs.Bool.{OnFalse};
 ghost use Rattle.definitions.specs.Wire.{mark_bytes, mark_bytes_for};
 ghost use Rattle.definitions.specs.Wire as wire;
@@ -65,7 +65,7 @@ impl Marks {
         if index >= self.count as usize {
             return None;
         }
-        Some(self.bytes[index / 8] >> (index % 8) & 1 == 1)
+        Some((self.bytes[index / 8] >> (index % 8)) % 2 == 1)
     }
 
     /// The marks, eight to a byte: mark i is the bit of value 2^(i mod 8) in byte i / 8, and unused bits are zero.
@@ -89,11 +89,24 @@ fn mark_byte(marks: &[bool]) -> u8
     }
 }
 
+/// The byte of the eight marks from place 8 * index on, or of as many as there are.
+fn byte_at(marks: &[bool], index: usize) -> u8
+    requires { 8 * index ≤ length marks.now }
+    ensures { result ≡ wire.mark_byte (take 8 (drop (8 * index) marks.now)) }
+{
+    let rest = &marks[8 * index..];
+    mark_byte(&rest[..rest.len().min(8)])
+}
+
 /// The marks, eight to a byte.
 fn packed(alloc: Global, marks: &[bool]) -> Result<Vec<u8>, AllocError>
     ensures { IfOk result (λ v. v.items ≡ mark_bytes marks.now) }
 {
-    marks.chunks(8).map(mark_byte).collect(alloc)
+    let mut bytes = Vec::new(alloc);
+    for index in 0..marks.len().div_ceil(8) {
+        bytes.push(byte_at(marks, index))?;
+    }
+    Ok(bytes)
 }
 
 /// Whether a bit behind the last of so many marks is set.

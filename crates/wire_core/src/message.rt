@@ -1,0 +1,61 @@
+ghost use Rattle.std.specs.Prelude.{◌≡◌, ◌↔◌, ◌≤◌, IfOk, IsOk, length};
+ghost use Rattle.definitions.specs.Wire.{max_parts};
+
+use crate::part::Part;
+use std::marker::Model;
+
+/// The greatest number of parts of a message.
+pub const MAX_PARTS: usize = 131_072;
+
+/// A message would have more than 131,072 parts.
+#[derive(Clone, Copy, Debug, PartialEq, Eq)]
+pub struct TooManyParts;
+
+impl TooManyParts {
+    /// The number of the refusal: 12.
+    pub fn number(self) -> u8
+        ensures { result ≡ 12 }
+    {
+        12
+    }
+}
+
+/// A message: 0 to 131,072 parts in order.
+#[derive(Drop)]
+pub struct Message {
+    parts: Vec<Part>,
+}
+
+impl Model for Message {
+    ghost use Rattle.std.specs.Prelude.{◌≤◌, length};
+    ghost use Rattle.definitions.specs.Messages as messages;
+    ghost use Rattle.definitions.specs.Fingerprints.{Lanes};
+    ghost use Rattle.definitions.specs.Wire.{max_parts};
+
+    ghost Value = { messages.Message Lanes };
+
+    ghost view = { λ a. a.parts.items };
+
+    ghost invariant = { λ a. length a.parts.items ≤ max_parts };
+}
+
+impl Message {
+    /// The message of these parts, unless they are too many.
+    pub fn new(parts: Vec<Part>) -> Result<Message, TooManyParts>
+        ensures message { IfOk result (λ m. m ≡ parts.items) }
+        ensures ok { IsOk result ↔ (length parts.items ≤ max_parts) }
+    {
+        if parts.len() > MAX_PARTS {
+            return Err(TooManyParts);
+        }
+        Ok(Message { parts })
+    }
+
+    /// The parts in order.
+    pub fn parts(&self) -> &[Part]
+        ensures parts { result.now ≡ self.now }
+        ensures few { length self.now ≤ max_parts }
+    {
+        &self.parts
+    }
+}
