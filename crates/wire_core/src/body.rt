@@ -1,4 +1,5 @@
-ghost use Rattle.std.specs.Prelude.{◌≡◌, ◌+◌, ◌≤◌, ◌<◌, ◌*◌, ◌^◌, None, length, sum_by, option_map};
+ghost use Rattle.std.specs.Prelude.{◌≡◌, ◌↔◌, IsTrue, ◌+◌, ◌≤◌, ◌<◌, ◌*◌, ◌^◌, None, length, sum_by, option_map};
+ghost use Rattle.std.specs.Bool.{OnFalse};
 ghost use Rattle.std.specs.List.{AllByRecursion};
 ghost use Rattle.definitions.specs.Items.{IsItem};
 ghost use Rattle.definitions.specs.Wire.{two_lane_profile, short_text, upper_text, max_body};
@@ -59,6 +60,15 @@ impl Body {
         ensures each { AllByRecursion IsItem (items_in self.now) }
     {
         1 + range_length(range) + self.fields_length()
+    }
+
+    /// Whether a body with this range is above its limit.
+    #[tactic(auto, using(crate::proofs::Lengths::lengths))]
+    pub fn is_too_long(&self, range: &Range) -> bool
+        ensures long { IsTrue result ↔ (max_body < length (wire.body two_lane_profile (part_of range.now self.now))) }
+        ensures each { OnFalse result (AllByRecursion IsItem (items_in self.now)) }
+    {
+        self.items().len() > MAX_BODY || self.length(range) > MAX_BODY
     }
 }
 

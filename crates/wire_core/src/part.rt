@@ -7,7 +7,7 @@ ghost use Rattle.wire_core.specs.Bodies.{part_of, Lists};
 ghost use Rattle.wire_core.specs.Parts.{kind_of, sum_in, items_in, marks_in};
 ghost use Rattle.wire_core.specs.PartFaults.{part_fault_number};
 
-use crate::body::{Body, MAX_BODY, items_fault};
+use crate::body::{Body, items_fault};
 use crate::fault::PartFault;
 use crate::marks::Marks;
 use digest_core::Fingerprint;
@@ -137,10 +137,13 @@ impl Part {
         ensures ok { IsOk result ↔ IsPart two_lane_profile (part_of range body) }
         ensures fault { IfErr result (λ e. faults.part_fault two_lane_profile (part_of range body) ≡ Some (part_fault_number e)) }
     {
+        codec_laws::two_lanes_are_real();
+        codec_laws::part_fault_is_exact::<Fingerprint>();
+        codec_laws::items_fault_is_exact();
         if let Some(fault) = items_fault(&range, body.items()) {
             return Err(fault);
         }
-        if body.items().len() > MAX_BODY || body.length(&range) > MAX_BODY {
+        if body.is_too_long(&range) {
             return Err(PartFault::FrameLength);
         }
         Ok(Part { range, body })
