@@ -6,7 +6,7 @@ use crate::short::Short;
 use std::marker::Model;
 
 /// The lower bound of a range: 0 to 64 bytes. The empty one is the start, before every item.
-#[derive(Clone, Copy, PartialEq, Eq, PartialOrd, Ord, Hash)]
+#[derive(Clone, Copy, Debug, PartialEq, Eq, PartialOrd, Ord, Hash)]
 pub struct Lower {
     bytes: Short,
 }
