@@ -1,8 +1,9 @@
 -- Fingerprints of sets. The definitions are generic over them: a profile says what its fingerprint is.
 --     Summary F, IsExact S       a fingerprint of type F
---     Lanes, two_lanes           the two-lane sum over SHA-256
+--     Lanes, IsLanes f, two_lanes    the two-lane sum over SHA-256
+--     join_lanes f g             the fingerprint of two sets together
 --     Counted, counted_lanes     the same, with the count of items beside it
-use Rattle.std.specs.Prelude.{◌≡◌, ℕ, ◌%◌, ◌^◌, Bool, ◌&&◌, ◌==◌, ◌↔◌, List, length, take, drop, sum_by, IsTrue}
+use Rattle.std.specs.Prelude.{◌≡◌, ℕ, ◌+◌, ◌%◌, ◌<◌, ◌^◌, Bool, ◌&&◌, ◌==◌, ◌↔◌, List, length, take, drop, sum_by, IsTrue}
 use Rattle.std.specs.Int.{w128, from_be_bytes}
 use Rattle.sha2.specs.Sha256.{sha256}
 use Rattle.definitions.specs.Items.{Item}
@@ -20,6 +21,15 @@ IsExact {F} S = (f g : F) → IsTrue (S.same f g) ↔ (f ≡ g)
 pub record Lanes : Type 0 where
   pub first : ℕ
   pub second : ℕ
+
+-- the pairs of numbers that are fingerprints
+pub record IsLanes (f : Lanes) : Type 0 where
+  pub first_fits : f.first < 2 ^ 128
+  pub second_fits : f.second < 2 ^ 128
+
+-- lane by lane, with no carry from one to the other
+abbrev pub join_lanes : Lanes → Lanes → Lanes
+join_lanes f g = record { first = (f.first + g.first) % 2 ^ 128; second = (f.second + g.second) % 2 ^ 128 }
 
 -- the sums of the two halves of each item's digest, with no carry from one to the other
 abbrev pub lanes_by : (Item → List ℕ) → List Item → Lanes

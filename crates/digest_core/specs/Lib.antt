@@ -1,0 +1,5 @@
+pub use Rattle.definitions.specs.Items
+pub use Rattle.definitions.specs.Fingerprints
+pub use Rattle.definitions.specs.Wire
+pub mod Laws
+pub use Rattle.definitions.specs.Sets

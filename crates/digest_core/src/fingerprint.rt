@@ -1,0 +1,112 @@
+ghost use Rattle.std.specs.Prelude.{◌≡◌, length};
+ghost use Rattle.std.specs.Int.{w128, from_be_bytes};
+ghost use Rattle.definitions.specs.Wire.{IsFingerprint, lanes_text, lanes_read, two_lane_profile};
+
+use crate::summary::Summary;
+use item_core::Item;
+use sha2::{Digest, Sha256};
+use std::marker::Model;
+
+/// Two sums modulo 2^128 over the items of a set: of the numbers in bytes 0 to 15 of each item's
+/// SHA-256 digest, and of those in bytes 16 to 31. No carry passes from one to the other.
+#[derive(Clone, Copy, Debug, PartialEq, Eq)]
+pub struct Fingerprint {
+    first: u128,
+    second: u128,
+}
+
+impl Model for Fingerprint {
+    ghost use Rattle.definitions.specs.Fingerprints.{Lanes, IsLanes};
+
+    ghost Value = { Lanes };
+
+    ghost view = { λ a. record { first = a.first; second = a.second } };
+
+    ghost invariant = { λ a. IsLanes (record { first = a.first; second = a.second }) };
+
+    ghost inverse = { λ f. record { first = f.first; second = f.second } };
+}
+
+/// The number that 16 bytes spell, the highest first.
+fn lane(bytes: &[u8]) -> u128
+    requires { length bytes.now ≡ 16 }
+    ensures { result ≡ from_be_bytes w128 bytes.now }
+{
+    let mut own = [0u8; 16];
+    own.copy_from_slice(bytes);
+    u128::from_be_bytes(own)
+}
+
+impl Fingerprint {
+    /// The 32 bytes, the first lane before the second, each with its highest byte first.
+    pub fn to_bytes(self) -> [u8; 32]
+        ensures bytes { result ≡ lanes_text self }
+        ensures spelled { IsFingerprint two_lane_profile self }
+    {
+        let mut bytes = [0u8; 32];
+        bytes[..16].copy_from_slice(&self.first.to_be_bytes());
+        bytes[16..].copy_from_slice(&self.second.to_be_bytes());
+        bytes
+    }
+
+    /// The fingerprint of these 32 bytes.
+    pub fn from_bytes(bytes: [u8; 32]) -> Fingerprint
+        ensures { result ≡ lanes_read bytes }
+    {
+        Fingerprint {
+            first: lane(&bytes[..16]),
+            second: lane(&bytes[16..]),
+        }
+    }
+}
+
+impl Summary for Fingerprint {
+    ghost use Rattle.definitions.specs.Fingerprints.{IsLanes, two_lanes, join_lanes};
+    ghost use Rattle.digest_core.specs.Laws as laws;
+
+    ghost summary = { two_lanes };
+
+    ghost joined = { join_lanes };
+
+    ghost is_value = { IsLanes };
+
+    ghost of_is_value = { laws.of_is_value };
+
+    ghost joined_is_value = { laws.joined_is_value };
+
+    ghost associates = { laws.associates };
+
+    ghost commutes = { laws.commutes };
+
+    ghost unit = { laws.unit };
+
+    ghost adds_up = { laws.adds_up };
+
+    ghost exact = { laws.exact };
+
+    fn zero() -> Fingerprint {
+        Fingerprint {
+            first: 0,
+            second: 0,
+        }
+    }
+
+    fn of_item(item: &Item) -> Fingerprint {
+        Fingerprint::from_bytes(Sha256::digest(item.bytes()))
+    }
+
+    fn join(self, other: Fingerprint) -> Fingerprint {
+        Fingerprint {
+            first: self.first.wrapping_add(other.first),
+            second: self.second.wrapping_add(other.second),
+        }
+    }
+
+    fn equals(self, other: Fingerprint) -> bool {
+        self == other
+    }
+
+    fn known(self) {
+        let _ = self.first;
+    }
+}

@@ -1,0 +1,12 @@
+//! Fingerprints of sets of items.
+#![tactic(auto)]
+
+mod fingerprint;
+pub mod laws;
+mod summary;
+
+#[cfg(test)]
+mod tests;
+
+pub use fingerprint::Fingerprint;
+pub use summary::Summary;
