@@ -50,7 +50,7 @@ impl Range {
         ensures range { IfOk result (λ X. X ≡ record { lower = lower; upper = upper_value upper }) }
         ensures ok { IsOk result ↔ IsTrue (items.is_below lower (upper_value upper)) }
     {
-        if upper.is_above(lower.bytes()) {
+        if upper.ends_after(lower.bytes()) {
             Ok(Range { lower, upper })
         } else {
             Err(EmptyRange)
@@ -88,7 +88,7 @@ impl Range {
         ensures { result ≡ items.contains self.now item.now }
     {
         let Range { lower, upper } = self;
-        item.bytes().cmp(lower.bytes()).is_ge() && upper.is_above(item.bytes())
+        !lower.is_above(item) && upper.is_above(item)
     }
 
     /// Whether the parts make up the range: the first begins where the range does, each later one where the one

@@ -37,8 +37,16 @@ impl Upper {
         }
     }
 
+    /// Whether the item is before the bound.
+    pub fn is_above(&self, item: &Item) -> bool
+        ensures above { result ≡ is_below item.now (upper_value self.now) }
+        ensures upper { IsUpper (upper_value self.now) }
+    {
+        self.ends_after(item.bytes())
+    }
+
     /// Whether these bytes are before the bound.
-    pub(crate) fn is_above(&self, bytes: &[u8]) -> bool
+    pub(crate) fn ends_after(&self, bytes: &[u8]) -> bool
         ensures above { result ≡ is_below bytes.now (upper_value self.now) }
         ensures upper { IsUpper (upper_value self.now) }
     {
