@@ -1,5 +1,5 @@
 -- Laws of the two-lane fingerprint.
-use Rattle.std.proofs.Common.{◌≡◌, ℕ, ◌+◌, ◌%◌, ◌^◌, List, [], ◌++◌, ◌∙◌, sym, rules}
+use Rattle.std.proofs.Common.{◌≡◌, ℕ, ◌+◌, ◌%◌, ◌^◌, List, [], ◌++◌, ◌∙◌, sym, ap, rules}
 use Rattle.std.specs.Prelude.{sum_by, take, drop}
 use Rattle.std.specs.Int.{w128, from_be_bytes}
 use Rattle.std.proofs.Math.Nat.{add-mod-mod, mod-add-mod}
@@ -11,14 +11,17 @@ use Rattle.definitions.specs.Fingerprints.{Lanes, IsLanes, IsExact, join_lanes, 
 add_mod : (m a b : ℕ) → (a + b) % m ≡ (a % m + b % m) % m
 add_mod m a b = sym (mod-add-mod a m (b % m) ∙ add-mod-mod a b m)
 
-sums : (f : Item → ℕ) (A B : List Item) → sum_by f (A ++ B) % 2 ^ 128 ≡ (sum_by f A % 2 ^ 128 + sum_by f B % 2 ^ 128) % 2 ^ 128
-sums f A B = rw (sum_by-append f A B) (add_mod (2 ^ 128) (sum_by f A) (sum_by f B))
+-- where each sum over C is the sum of those over A and B, so is the fingerprint
+pub joined_from_sums : (A B C : List Item) → ((f : Item → ℕ) → sum_by f C ≡ sum_by f A + sum_by f B) → two_lanes.of C ≡ join_lanes (two_lanes.of A) (two_lanes.of B)
+joined_from_sums A B C sums =
+    let lane : (f : Item → ℕ) → sum_by f C % 2 ^ 128 ≡ (sum_by f A % 2 ^ 128 + sum_by f B % 2 ^ 128) % 2 ^ 128 = λ f. ap (λ n. n % 2 ^ 128) (sums f) ∙ add_mod (2 ^ 128) (sum_by f A) (sum_by f B) in
+    λ i. record {
+      first = lane (λ x. from_be_bytes w128 (take 16 (sha256 x))) i;
+      second = lane (λ x. from_be_bytes w128 (drop 16 (sha256 x))) i;
+    }
 
 pub adds_up : (A B : List Item) → two_lanes.of (A ++ B) ≡ join_lanes (two_lanes.of A) (two_lanes.of B)
-adds_up A B = λ i. record {
-  first = sums (λ x. from_be_bytes w128 (take 16 (sha256 x))) A B i;
-  second = sums (λ x. from_be_bytes w128 (drop 16 (sha256 x))) A B i;
-}
+adds_up A B = joined_from_sums A B (A ++ B) (λ f. sum_by-append f A B)
 
 pub of_is_value : (A : List Item) → IsLanes (two_lanes.of A)
 of_is_value A = search rules

@@ -53,7 +53,10 @@ impl Fingerprint {
     pub fn from_bytes(bytes: [u8; 32]) -> Fingerprint
         ensures { result ≡ lanes_read bytes }
     {
-        Fingerprint { first: lane(&bytes[..16]), second: lane(&bytes[16..]) }
+        Fingerprint {
+            first: lane(&bytes[..16]),
+            second: lane(&bytes[16..]),
+        }
     }
 }
 
@@ -82,7 +85,10 @@ impl Summary for Fingerprint {
     ghost exact = { laws.exact };
 
     fn zero() -> Fingerprint {
-        Fingerprint { first: 0, second: 0 }
+        Fingerprint {
+            first: 0,
+            second: 0,
+        }
     }
 
     fn of_item(item: &Item) -> Fingerprint {

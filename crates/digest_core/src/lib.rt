@@ -5,5 +5,8 @@ mod fingerprint;
 pub mod laws;
 mod summary;
 
+#[cfg(test)]
+mod tests;
+
 pub use fingerprint::Fingerprint;
 pub use summary::Summary;

@@ -27,7 +27,7 @@ impl LengthFault {
 }
 
 /// A byte string of 1 to 64 bytes. Items are ordered bytewise, a proper prefix first.
-#[derive(Clone, Copy, PartialEq, Eq, PartialOrd, Ord, Hash)]
+#[derive(Clone, Copy, Debug, PartialEq, Eq, PartialOrd, Ord, Hash)]
 pub struct Item {
     pub(crate) bytes: Short,
 }

@@ -1,12 +1,12 @@
 ghost use Rattle.std.specs.Prelude.{◌≡◌, ◌<◌, ◌≤◌, ◌↔◌, length, IfOk, IsOk, Err, []};
-ghost use Rattle.definitions.specs.Items.{IsLower};
+ghost use Rattle.definitions.specs.Items.{IsLower, comes_before};
 
 use crate::item::{Item, LengthFault};
 use crate::short::Short;
 use std::marker::Model;
 
 /// The lower bound of a range: 0 to 64 bytes. The empty one is the start, before every item.
-#[derive(Clone, Copy, PartialEq, Eq, PartialOrd, Ord, Hash)]
+#[derive(Clone, Copy, Debug, PartialEq, Eq, PartialOrd, Ord, Hash)]
 pub struct Lower {
     bytes: Short,
 }
@@ -52,6 +52,14 @@ impl Lower {
         ensures lower { IsLower self.now }
     {
         self.bytes.bytes()
+    }
+
+    /// Whether the item is before the bound, so that a range from there on does not hold it.
+    pub fn is_above(&self, item: &Item) -> bool
+        ensures above { result ≡ comes_before item.now self.now }
+        ensures lower { IsLower self.now }
+    {
+        item.bytes().cmp(self.bytes()).is_lt()
     }
 }
 

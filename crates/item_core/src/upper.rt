@@ -7,7 +7,7 @@ ghost use Rattle.item_core.specs.declared.upper.Upper.TheVariants.{Before};
 use crate::item::{Item, LengthFault};
 
 /// The upper bound of a range: an item, which the range does not hold, or the end, after every item.
-#[derive(Clone, Copy, PartialEq, Eq, PartialOrd, Ord, Hash)]
+#[derive(Clone, Copy, Debug, PartialEq, Eq, PartialOrd, Ord, Hash)]
 pub enum Upper {
     /// Before this item.
     Before(Item),
@@ -37,9 +37,18 @@ impl Upper {
         }
     }
 
+    /// Whether the item is before the bound.
+    pub fn is_above(&self, item: &Item) -> bool
+        ensures above { result ≡ is_below item.now (upper_value self.now) }
+        ensures upper { IsUpper (upper_value self.now) }
+    {
+        self.ends_after(item.bytes())
+    }
+
     /// Whether these bytes are before the bound.
-    pub(crate) fn is_above(&self, bytes: &[u8]) -> bool
-        ensures { result ≡ is_below bytes.now (upper_value self.now) }
+    pub(crate) fn ends_after(&self, bytes: &[u8]) -> bool
+        ensures above { result ≡ is_below bytes.now (upper_value self.now) }
+        ensures upper { IsUpper (upper_value self.now) }
     {
         match self {
             Upper::Before(item) => bytes.cmp(item.bytes()).is_lt(),

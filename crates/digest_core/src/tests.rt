@@ -1,0 +1,57 @@
+use crate::{Fingerprint, Summary};
+use item_core::Item;
+use std::process::Abort;
+
+fn item(rt: &impl Abort, bytes: &[u8]) -> Item {
+    Item::new(bytes).ok().expect(rt, "an item")
+}
+
+#[test]
+fn fingerprint_of_abc(rt: HostRuntime) {
+    let digest: [u8; 32] = [
+        0xBA, 0x78, 0x16, 0xBF, 0x8F, 0x01, 0xCF, 0xEA, 0x41, 0x41, 0x40, 0xDE, 0x5D, 0xAE, 0x22, 0x23,
+        0xB0, 0x03, 0x61, 0xA3, 0x96, 0x17, 0x7A, 0x9C, 0xB4, 0x10, 0xFF, 0x61, 0xF2, 0x00, 0x15, 0xAD,
+    ];
+    let abc = Fingerprint::of_item(&item(&rt, b"abc"));
+    assert_eq!(rt; abc.to_bytes(), digest);
+    assert!(rt; abc.equals(Fingerprint::from_bytes(digest)));
+    assert!(rt; !abc.equals(Fingerprint::zero()));
+}
+
+#[test]
+fn empty_set_is_zeros(rt: HostRuntime) {
+    assert_eq!(rt; Fingerprint::zero().to_bytes(), [0; 32]);
+}
+
+#[test]
+fn lanes_carry_nothing_over(rt: HostRuntime) {
+    let mut second_full = [0; 32];
+    for i in 16..32 {
+        second_full[i] = 0xFF;
+    }
+    let mut one = [0; 32];
+    one[31] = 1;
+    let joined = Fingerprint::from_bytes(second_full).join(Fingerprint::from_bytes(one));
+    assert_eq!(rt; joined.to_bytes(), [0; 32]);
+}
+
+fn total<S: Summary>(items: &[Item]) -> S {
+    let mut all = S::zero();
+    for item in items {
+        all = all.join(S::of_item(item));
+    }
+    all.known();
+    all
+}
+
+// Through the trait alone. The expected lanes were summed apart from this program; the first sum wraps.
+#[test]
+fn fingerprint_of_a_and_b(rt: HostRuntime) {
+    let both = [item(&rt, b"a"), item(&rt, b"b")];
+    let sum: Fingerprint = total(&both);
+    let lanes: [u8; 32] = [
+        0x08, 0xBB, 0x69, 0x28, 0xCA, 0x55, 0x17, 0x15, 0x2E, 0x4B, 0x81, 0x18, 0xFF, 0x05, 0x8D, 0x81,
+        0x33, 0x44, 0x69, 0xF8, 0x9D, 0x50, 0x7A, 0xBD, 0x84, 0xF4, 0x66, 0x34, 0x85, 0x8A, 0x49, 0x58,
+    ];
+    assert_eq!(rt; sum.to_bytes(), lanes);
+}
