@@ -3,7 +3,7 @@ use Rattle.std.proofs.Common.{take, drop, ◌≡◌, ℕ, ◌++◌, ◌^◌, zer
 use Rattle.std.specs.Int.{w128, from_be_bytes, to_be_bytes}
 use Rattle.std.proofs.Math.Nat.{div-div-eq-div-mul}
 use Rattle.std.proofs.lemmas.Nat.{div-mul-add, mod-mul-add}
-use Rattle.std.proofs.lemmas.List.{length-take-le, length-drop, take-append-drop}
+use Rattle.std.proofs.lemmas.List.{take_rest, length-take-le, length-drop, take-append-drop}
 use Rattle.definitions.specs.Items.{IsBytes}
 use Rattle.definitions.specs.Fingerprints.{IsLanes}
 use Rattle.definitions.specs.Wire.{lanes_text, lanes_read}
@@ -17,6 +17,10 @@ digits (suc k) n = n % 256 ∷ digits k (n / 256)
 abbrev number : List ℕ → ℕ
 number [] = 0
 number (x ∷ xs) = number xs * 256 + x
+
+pub IsBytes-get_or : (xs : List ℕ) → ((i : ℕ) → get_or xs i 0 < 256) → IsBytes xs
+IsBytes-get_or [] fits = tt
+IsBytes-get_or (x ∷ xs) fits = (fits 0, IsBytes-get_or xs (λ i. fits (suc i)))
 
 digits-number : (xs : List ℕ) → IsBytes xs → digits (length xs) (number xs) ≡ xs
 digits-number [] fit = refl
@@ -67,6 +71,13 @@ read_back bytes fit len =
     let front = be_bytes_16 (take 16 bytes) (take-fits 16 bytes fit) (length-take-le 16 bytes (omega arith)) in
     let rest = be_bytes_16 (drop 16 bytes) (drop-fits 16 bytes fit) (let l = length-drop 16 bytes in omega arith) in
     (λ i. front i ++ rest i) ∙ take-append-drop 16 bytes
+
+pub halves_back : (bytes : List ℕ) (a b : ℕ) → IsBytes bytes → length bytes ≡ 32 → a ≡ from_be_bytes w128 (take 16 bytes) → b ≡ from_be_bytes w128 (take 16 (drop 16 bytes)) →
+    lanes_text (record { first = a; second = b }) ≡ bytes
+halves_back bytes a b fit len front rest =
+    let half : take 16 (drop 16 bytes) ≡ drop 16 bytes = rw len at (take_rest bytes 16) in
+    let whole : b ≡ from_be_bytes w128 (drop 16 bytes) = rest ∙ ap (from_be_bytes w128) half in
+    (λ i. lanes_text (record { first = front i; second = whole i })) ∙ read_back bytes fit len
 
 pub lanes_fit : (bytes : List ℕ) → IsBytes bytes → IsLanes (lanes_read bytes)
 lanes_fit bytes fit = record {

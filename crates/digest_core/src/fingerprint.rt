@@ -51,7 +51,8 @@ impl Fingerprint {
 
     /// The fingerprint of these 32 bytes.
     pub fn from_bytes(bytes: [u8; 32]) -> Fingerprint
-        ensures { result ≡ lanes_read bytes }
+        ensures value { result ≡ lanes_read bytes }
+        ensures back { lanes_text result ≡ bytes }
     {
         Fingerprint {
             first: lane(&bytes[..16]),
@@ -106,7 +107,5 @@ impl Summary for Fingerprint {
         self == other
     }
 
-    fn known(self) {
-        let _ = self.first;
-    }
+    fn known(self) {}
 }
