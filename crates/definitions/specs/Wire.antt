@@ -2,10 +2,13 @@
 --     Profile F, two_lane_profile, counted_profile      what differs between profiles
 --     part_text P p, message_text P M, session_text P Ms, fault_text code      the one spelling
 --     IsPart P p, IsMessage P M, Spells P M bytes       what has a spelling
-use Rattle.std.specs.Prelude.{◌≡◌, ℕ, ◌+◌, ◌*◌, ◌/◌, ◌<◌, ◌≤◌, ◌^◌, Bool, List, [], ◌∷◌, ◌++◌, length, map, take, drop, flat_map, Option, Some, None, IsTrue, if◌then◌else◌}
+--     Event F, event_text P e                           what a frame's body says: a part, the end of a message or a fault
+--     Input, HasEvent P input e, Says P input bytes e   which events may come where one message is read, and which in a stream
+--     IsProfile P                                       four bytes of hello, and each fingerprint's bytes have one reading
+use Rattle.std.specs.Prelude.{◌≡◌, ℕ, ◌+◌, ◌*◌, ◌/◌, ◌<◌, ◌≤◌, ◌^◌, Bool, List, [], ◌∷◌, ◌++◌, length, map, take, drop, flat_map, Option, Some, None, IsTrue, if◌then◌else◌, ⊤}
 use Rattle.std.specs.List.{AllByRecursion, range_with_len}
 use Rattle.std.specs.Int.{w32, w128, to_be_bytes, from_be_bytes}
-use Rattle.definitions.specs.Items.{Item, IsItem, Range, IsRange, contains}
+use Rattle.definitions.specs.Items.{IsBytes, Item, IsItem, Range, IsRange, contains}
 use Rattle.definitions.specs.Sets.{IsSet}
 use Rattle.definitions.specs.Fingerprints.{Lanes, Counted}
 use Rattle.definitions.specs.Messages.{Part, Sum, Listing, Answer, Message}
@@ -17,6 +20,13 @@ pub record Profile (F : Type 0) : Type 0 where
   pub size : ℕ
   pub text : F → List ℕ
   pub read : List ℕ → F
+
+-- four bytes of hello; and what is read from the bytes of a fingerprint is spelled by them
+pub record IsProfile {F : Type 0} (P : Profile F) : Type 0 where
+  pub hello : length P.hello ≡ 4
+  pub hello_bytes : IsBytes P.hello
+  pub size : 0 < P.size
+  pub back : (bytes : List ℕ) → IsBytes bytes → length bytes ≡ P.size → P.text (P.read bytes) ≡ bytes
 
 abbrev pub lanes_text : Lanes → List ℕ
 lanes_text f = to_be_bytes w128 f.first ++ to_be_bytes w128 f.second
@@ -76,7 +86,7 @@ marks_text marks = count_text (length marks) ++ mark_bytes marks
 abbrev pub body : {F : Type 0} → Profile F → Part F → List ℕ
 body P (Sum X f) = 1 ∷ range_text X ++ P.text f
 body P (Listing X items) = 2 ∷ range_text X ++ items_text items
-body P (Answer X marks items) = 3 ∷ range_text X ++ marks_text marks ++ items_text items
+body P (Answer X marks items) = 3 ∷ range_text X ++ (marks_text marks ++ items_text items)
 
 abbrev pub frame : List ℕ → List ℕ
 frame bytes = to_be_bytes w32 (length bytes) ++ bytes
@@ -132,3 +142,46 @@ pub record IsMessage {F : Type 0} (P : Profile F) (M : Message F) : Type 0 where
 -- the bytes are the spelling of the message
 abbrev pub Spells : {F : Type 0} → Profile F → Message F → List ℕ → Type 0
 Spells P M bytes = IsMessage P M × (bytes ≡ message_text P M)
+
+-- ---- what a frame says
+
+-- what a frame's body says
+pub data Event (F : Type 0) : Type 0 where
+  Came : (part : Part F) → Event F
+  -- the message's parts have all come
+  Ended : Event F
+  -- the other side refused, with this number
+  Failed : (code : ℕ) → Event F
+
+abbrev pub event_text : {F : Type 0} → Profile F → Event F → List ℕ
+event_text P (Came p) = body P p
+event_text P Ended = 4 ∷ []
+event_text P (Failed code) = 5 ∷ code ∷ []
+
+-- what is read
+pub data Input : Type 0 where
+  -- one message and nothing else
+  One_message : Input
+  -- a stream, in which a fault frame may come
+  Stream : Input
+
+abbrev pub greatest_kind : Input → ℕ
+greatest_kind One_message = 4
+greatest_kind Stream = 5
+
+-- the event has a text, and may come there
+abbrev pub HasEvent : {F : Type 0} → Profile F → Input → Event F → Type 0
+HasEvent P input (Came p) = HasFields P p
+HasEvent P input Ended = ⊤
+HasEvent P One_message (Failed code) = ⊥
+HasEvent P Stream (Failed code) = code < 256
+
+-- the body is this event's
+abbrev pub Says : {F : Type 0} → Profile F → Input → List ℕ → Event F → Type 0
+Says P input bytes e = HasEvent P input e × (bytes ≡ event_text P e)
+
+-- behind so many parts of its message the event may come: there is room for one part more
+abbrev pub Counts : {F : Type 0} → ℕ → Event F → Type 0
+Counts parts (Came p) = parts < max_parts
+Counts parts Ended = ⊤
+Counts parts (Failed code) = ⊤

@@ -15,7 +15,10 @@ pub enum LengthFault {
 
 impl LengthFault {
     /// The number of the refusal: 71 or 72.
-    pub fn number(self) -> u8 {
+    pub fn number(self) -> u8
+        ensures empty { self ≡ LengthFault.Empty → result ≡ 71 }
+        ensures long { self ≡ LengthFault.TooLong → result ≡ 72 }
+    {
         match self {
             LengthFault::Empty => 71,
             LengthFault::TooLong => 72,
@@ -24,9 +27,9 @@ impl LengthFault {
 }
 
 /// A byte string of 1 to 64 bytes. Items are ordered bytewise, a proper prefix first.
-#[derive(Clone, Copy, PartialEq, Eq, PartialOrd, Ord, Hash)]
+#[derive(Clone, Copy, Debug, PartialEq, Eq, PartialOrd, Ord, Hash)]
 pub struct Item {
-    bytes: Short,
+    pub(crate) bytes: Short,
 }
 
 impl Model for Item {
@@ -46,8 +49,8 @@ impl Item {
     pub fn new(bytes: &[u8]) -> Result<Item, LengthFault>
         ensures item { IfOk result (λ x. x ≡ bytes.now) }
         ensures ok { IsOk result ↔ ((1 ≤ length bytes.now) × (length bytes.now ≤ 64)) }
-        ensures empty { result ≡ Err LengthFault.Empty → length bytes.now ≡ 0 }
-        ensures long { result ≡ Err LengthFault.TooLong → 64 < length bytes.now }
+        ensures empty { (result ≡ Err LengthFault.Empty) ↔ (length bytes.now ≡ 0) }
+        ensures long { (result ≡ Err LengthFault.TooLong) ↔ (64 < length bytes.now) }
     {
         if bytes.is_empty() {
             return Err(LengthFault::Empty);

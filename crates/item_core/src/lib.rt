@@ -5,6 +5,8 @@ mod item;
 mod lower;
 mod range;
 mod short;
+#[cfg(test)]
+mod tests;
 mod upper;
 
 pub use item::{Item, LengthFault};

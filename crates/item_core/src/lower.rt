@@ -1,12 +1,12 @@
 ghost use Rattle.std.specs.Prelude.{◌≡◌, ◌<◌, ◌≤◌, ◌↔◌, length, IfOk, IsOk, Err, []};
-ghost use Rattle.definitions.specs.Items.{IsLower};
+ghost use Rattle.definitions.specs.Items.{IsLower, comes_before};
 
 use crate::item::{Item, LengthFault};
 use crate::short::Short;
 use std::marker::Model;
 
 /// The lower bound of a range: 0 to 64 bytes. The empty one is the start, before every item.
-#[derive(Clone, Copy, PartialEq, Eq, PartialOrd, Ord, Hash)]
+#[derive(Clone, Copy, Debug, PartialEq, Eq, PartialOrd, Ord, Hash)]
 pub struct Lower {
     bytes: Short,
 }
@@ -29,14 +29,16 @@ impl Lower {
     pub fn start() -> Lower
         ensures { result ≡ [] }
     {
-        Lower { bytes: Short::empty() }
+        Lower {
+            bytes: Short::empty(),
+        }
     }
 
     /// The bound of these bytes, unless there are more than 64.
     pub fn new(bytes: &[u8]) -> Result<Lower, LengthFault>
         ensures bound { IfOk result (λ x. x ≡ bytes.now) }
         ensures ok { IsOk result ↔ (length bytes.now ≤ 64) }
-        ensures long { result ≡ Err LengthFault.TooLong → 64 < length bytes.now }
+        ensures long { (result ≡ Err LengthFault.TooLong) ↔ (64 < length bytes.now) }
     {
         match Short::new(bytes) {
             None => Err(LengthFault::TooLong),
@@ -50,5 +52,21 @@ impl Lower {
         ensures lower { IsLower self.now }
     {
         self.bytes.bytes()
+    }
+
+    /// Whether the item is before the bound, so that a range from there on does not hold it.
+    pub fn is_above(&self, item: &Item) -> bool
+        ensures above { result ≡ comes_before item.now self.now }
+        ensures lower { IsLower self.now }
+    {
+        item.bytes().cmp(self.bytes()).is_lt()
+    }
+}
+
+impl From<Item> for Lower {
+    ghost from_gives = { λ x y. y ≡ x };
+
+    fn from(item: Item) -> Lower {
+        Lower { bytes: item.bytes }
     }
 }

@@ -22,7 +22,7 @@ impl EmptyRange {
 }
 
 /// The items from the lower bound on and before the upper one.
-#[derive(Clone, Copy, PartialEq, Eq, PartialOrd, Ord, Hash)]
+#[derive(Clone, Copy, Debug, PartialEq, Eq, PartialOrd, Ord, Hash)]
 pub struct Range {
     lower: Lower,
     upper: Upper,
@@ -50,8 +50,7 @@ impl Range {
         ensures range { IfOk result (λ X. X ≡ record { lower = lower; upper = upper_value upper }) }
         ensures ok { IsOk result ↔ IsTrue (items.is_below lower (upper_value upper)) }
     {
-        let _item = upper.bytes();
-        if upper.is_above(lower.bytes()) {
+        if upper.ends_after(lower.bytes()) {
             Ok(Range { lower, upper })
         } else {
             Err(EmptyRange)
@@ -62,19 +61,24 @@ impl Range {
     pub fn whole() -> Range
         ensures { result ≡ items.whole }
     {
-        Range { lower: Lower::start(), upper: Upper::End }
+        Range {
+            lower: Lower::start(),
+            upper: Upper::End,
+        }
     }
 
     /// The lower bound.
     pub fn lower(&self) -> Lower
-        ensures { result ≡ self.now.lower }
+        ensures lower { result ≡ self.now.lower }
+        ensures range { IsRange self.now }
     {
         self.lower
     }
 
     /// The upper bound.
     pub fn upper(&self) -> Upper
-        ensures { upper_value result ≡ self.now.upper }
+        ensures upper { upper_value result ≡ self.now.upper }
+        ensures range { IsRange self.now }
     {
         self.upper
     }
@@ -83,6 +87,23 @@ impl Range {
     pub fn contains(&self, item: &Item) -> bool
         ensures { result ≡ items.contains self.now item.now }
     {
-        item.bytes().cmp(self.lower.bytes()).is_ge() && self.upper.is_above(item.bytes())
+        let Range { lower, upper } = self;
+        !lower.is_above(item) && upper.is_above(item)
+    }
+
+    /// Whether the parts make up the range: the first begins where the range does, each later one where the one
+    /// before it ends, and the last ends where the range does.
+    pub fn splits_into(&self, parts: &[Range]) -> bool
+        ensures { IsTrue result ↔ Partitions self.now parts.now }
+    {
+        let Range { lower, upper } = self;
+        let mut seam = Some(lower.bytes());
+        for part in parts {
+            if seam != Some(part.lower.bytes()) {
+                return false;
+            }
+            seam = part.upper.bytes();
+        }
+        !parts.is_empty() && seam == upper.bytes()
     }
 }

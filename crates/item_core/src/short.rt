@@ -9,6 +9,7 @@ ghost use Rattle.std.specs.Cmp.Rules.{comparing, hashing};
 ghost use Rattle.definitions.specs.Items.{IsBytes};
 
 use std::cmp::Ordering;
+use std::fmt;
 use std::hash::{Hash, Hasher};
 use std::marker::Model;
 
@@ -57,7 +58,10 @@ impl Short {
     pub fn empty() -> Short
         ensures { result ≡ [] }
     {
-        Short { bytes: [0; 64], length: 0 }
+        Short {
+            bytes: [0; 64],
+            length: 0,
+        }
     }
 
     /// The byte string, unless it is longer than 64 bytes.
@@ -129,5 +133,11 @@ impl Hash for Short {
 
     fn hash<H: Hasher>(&self, state: &mut H) {
         self.bytes().hash(state);
+    }
+}
+
+impl fmt::Debug for Short {
+    fn fmt<W: fmt::Write>(&self, f: &mut fmt::Formatter<W>) -> fmt::Result {
+        self.bytes().fmt(f)
     }
 }

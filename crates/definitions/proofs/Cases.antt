@@ -1,0 +1,4 @@
+-- Worked cases. Each is stated as an equation and computed by the check.
+mod Examples
+mod Tables
+mod Talks

@@ -1,0 +1,55 @@
+-- Tables, sets and a fingerprint that the cases speak of.
+use Rattle.std.specs.Prelude.{ℕ, List, [], ◌∷◌, map, Some, None, codes}
+use Rattle.std.specs.Cmp.Lexicographic.{pointwise}
+use Rattle.definitions.specs.Items.{Item, Range, same_item}
+use Rattle.definitions.specs.Fingerprints.{Summary}
+use Rattle.definitions.specs.Strategies.{Table, Row, Act, List_items, Split, Peel}
+use Rattle.definitions.specs.Replies.{Peer}
+
+-- the fingerprint of a set is the set: no two sets share one
+abbrev pub itself : Summary (List Item)
+itself = record { of = λ A. A; same = pointwise same_item }
+
+abbrev pub row_upto : ℕ → Act → Row
+row_upto n act = record { upto = n; act = act }
+
+abbrev pub halves : Act
+halves = Split (1 ∷ 1 ∷ [])
+
+abbrev pub binary : ℕ → ℕ → Table
+binary cap rounds = record { cap = cap; limit = 1; rounds = rounds; rows = row_upto 1 List_items ∷ row_upto cap halves ∷ [] }
+
+abbrev pub binary8 : Table
+binary8 = binary 8 3
+
+abbrev pub binary16 : Table
+binary16 = binary 16 4
+
+abbrev pub peeling : ℕ → ℕ → Table
+peeling rounds front = record { cap = 10; limit = 3; rounds = rounds; rows = row_upto 3 List_items ∷ row_upto 10 (Peel front) ∷ [] }
+
+-- the one-byte items of a text
+abbrev pub letters : List ℕ → List Item
+letters bytes = map (λ b. b ∷ []) bytes
+
+abbrev pub peer : Table → List ℕ → Peer
+peer T bytes = record { table = T; items = letters bytes }
+
+-- one item of three bytes
+abbrev pub abc : List Item
+abc = codes "abc" ∷ []
+
+abbrev pub no_items : Peer
+no_items = record { table = binary8; items = [] }
+
+abbrev pub has_abc : Peer
+has_abc = record { table = binary8; items = abc }
+
+abbrev pub from_to : List ℕ → List ℕ → Range
+from_to x y = record { lower = x; upper = Some y }
+
+abbrev pub below : List ℕ → Range
+below y = from_to [] y
+
+abbrev pub from : List ℕ → Range
+from x = record { lower = x; upper = None }
