@@ -1,0 +1,63 @@
+//! Laws of the spelling of messages and of its reading, for every profile. Each is the contract of a function with an empty body.
+#![tactic(auto)]
+
+ghost use Rattle.definitions.specs.Items.{IsItem, IsLower, IsUpper};
+ghost use Rattle.definitions.specs.Wire.{Profile, IsProfile, short_text, upper_text, count_text, two_lane_profile, counted_profile};
+ghost use Rattle.definitions.specs.Faults.{NoLower, NoUpper, NoItem, IsCount, Stops};
+ghost use Rattle.definitions.specs.Reading.{lower_at, upper_at, text_at, number_at};
+ghost use Rattle.codec_laws.specs.Codec.{FieldIsExact, BodyIsExact, NextIsExact, MessageIsExact, SpellingsStandAlone, FeedIsExact};
+
+/// A lower bound is read where one is spelled, and otherwise it is the fault.
+pub fn lower_is_exact()
+    ensures { FieldIsExact short_text IsLower NoLower lower_at }
+{}
+
+/// So is an upper bound.
+pub fn upper_is_exact()
+    ensures { FieldIsExact upper_text IsUpper NoUpper upper_at }
+{}
+
+/// So is an item.
+pub fn item_is_exact()
+    ensures { FieldIsExact short_text IsItem NoItem text_at }
+{}
+
+/// So is a count.
+pub fn count_is_exact()
+    ensures { FieldIsExact count_text IsCount (Stops 4) number_at }
+{}
+
+/// A frame's body is one event's, or has a fault.
+pub fn body_is_exact<F>()
+    ensures { (P : Profile F) → IsProfile P → BodyIsExact P }
+{}
+
+/// So is what stands next in a stream, or it is no whole frame yet.
+pub fn next_is_exact<F>()
+    ensures { (P : Profile F) → IsProfile P → NextIsExact P }
+{}
+
+/// Bytes are one message's, or have a fault.
+pub fn message_is_exact<F>()
+    ensures { (P : Profile F) → IsProfile P → MessageIsExact P }
+{}
+
+/// A spelling of a message begins no other.
+pub fn spellings_stand_alone<F>()
+    ensures { (P : Profile F) → IsProfile P → SpellingsStandAlone P }
+{}
+
+/// Profile 1 is a real one.
+pub fn two_lanes_are_real()
+    ensures { IsProfile two_lane_profile }
+{}
+
+/// Profile 2 is a real one.
+pub fn counted_is_real()
+    ensures { IsProfile counted_profile }
+{}
+
+/// A stream is fed what its bytes mean, and nothing else.
+pub fn feed_is_exact<F>()
+    ensures { (P : Profile F) → IsProfile P → FeedIsExact P }
+{}
