@@ -1,8 +1,9 @@
 -- A part's body, and the part as the definitions have it.
-use Rattle.std.specs.Prelude.{ℕ, List, [], ⊤}
+use Rattle.std.specs.Prelude.{ℕ, List, [], Option, Some, None, ⊤}
 use Rattle.definitions.specs.Items.{Item, Range}
 use Rattle.definitions.specs.Fingerprints.{Lanes}
 use Rattle.definitions.specs.Messages.{Part, Sum, Listing, Answer}
+use Rattle.definitions.specs.Wire.{Event, Came, Ended}
 use Rattle.wire_core.specs.declared.body.Body.{Body}
 use Rattle.wire_core.specs.declared.body.Body.TheVariants as bodies
 
@@ -21,3 +22,8 @@ abbrev pub Lists : Body → Type 0
 Lists (bodies.Sum f) = ⊥
 Lists (bodies.List items) = ⊤
 Lists (bodies.Answer marks items) = ⊤
+
+-- the fields of a part, or the end of the message
+abbrev pub fields_event : Option (Range × Body) → Event Lanes
+fields_event (Some p) = Came (part_of p.0 p.1)
+fields_event None = Ended

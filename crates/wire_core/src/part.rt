@@ -130,6 +130,14 @@ impl Part {
         }
     }
 
+    /// The part of fields that were read.
+    pub(crate) fn of_fields(range: Range, body: Body) -> Part
+        requires { IsPart two_lane_profile (part_of range body) }
+        ensures { result ≡ part_of range body }
+    {
+        Part { range, body }
+    }
+
     /// The part, unless it has no spelling.
     fn checked(range: Range, body: Body) -> Result<Part, PartFault>
         requires { Lists body }

@@ -4,13 +4,15 @@ ghost use Rattle.std.specs.Prelude.{◌≡◌, ◌≤◌, None, length};
 ghost use Rattle.definitions.specs.Wire.{two_lane_profile, max_body, One_message};
 ghost use Rattle.definitions.specs.Reading as reading;
 ghost use Rattle.wire_core.specs.Refused.{GivesField, Gives};
-ghost use Rattle.wire_core.specs.Bodies.{part_of};
+ghost use Rattle.wire_core.specs.Bodies.{part_of, fields_event};
+ghost use Rattle.wire_core.specs.Parts.{event_of};
 ghost use Rattle.wire_core.specs.Readers.{fingerprint_at};
 
 use crate::body::Body;
 use crate::fault::{DecodeError, WireFault};
 use crate::field::{take_byte, take_bytes, take_items, take_number, take_range};
 use crate::marks::{Marks, has_padding};
+use crate::part::Part;
 use digest_core::Fingerprint;
 use item_core::{Item, Range};
 use std::alloc::Global;
@@ -70,4 +72,35 @@ fn take_answer(alloc: Global, bytes: &mut &[u8]) -> Result<(Range, Body), Decode
     let marks = take_marks(alloc, bytes)?;
     let items = take_list(alloc, bytes, &range)?;
     Ok((range, Body::Answer(marks, items)))
+}
+
+/// All of a body where one message is read: the fields of a part, or the end of the message.
+fn fields_in(alloc: Global, body: &[u8]) -> Result<Option<(Range, Body)>, DecodeError>
+    ensures { Gives fields_event result (reading.event_in two_lane_profile One_message body.now) }
+{
+    let mut rest = body;
+    let fields = match take_byte(&mut rest)? {
+        1 => Some(take_sum(&mut rest)?),
+        2 => Some(take_listing(alloc, &mut rest)?),
+        3 => Some(take_answer(alloc, &mut rest)?),
+        4 => None,
+        _ => return Err(DecodeError::Fault(WireFault::BadKind)),
+    };
+    if !rest.is_empty() {
+        return Err(DecodeError::Fault(WireFault::Trailing));
+    }
+    Ok(fields)
+}
+
+/// What a frame's body says where one message is read: a part, or the end of the message.
+pub fn part_in(alloc: Global, body: &[u8]) -> Result<Option<Part>, DecodeError>
+    requires { length body.now ≤ max_body }
+    ensures { Gives event_of result (reading.event_in two_lane_profile One_message body.now) }
+{
+    codec_laws::two_lanes_are_real();
+    codec_laws::body_is_exact::<Fingerprint>();
+    match fields_in(alloc, body)? {
+        Some((range, fields)) => Ok(Some(Part::of_fields(range, fields))),
+        None => Ok(None),
+    }
 }

@@ -20,5 +20,5 @@ returns c =
     let here : c.args.index < length (marks_in count bytes) = omega (arith, length-map-range_with_len (mark_in bytes) 0 count) in
     let read = get_or-map-range_with_len (mark_in bytes) 0 count c.args.index c.args.index false (omega arith) (omega arith) in
     let byte : c.index.result.now ≡ slice_index c.self.inside.bytes.items (c.args.index / 8) =
-        c.index.ensures ∙ get_or_default_zero c.self.inside.bytes.items (c.args.index / 8) c.index.result.now (let size = c.self.invariant.size in omega arith) in
+    c.index.ensures ∙ get_or_default_zero c.self.inside.bytes.items (c.args.index / 8) c.index.result.now (let size = c.self.invariant.size in omega arith) in
     ap (λ b. Some (nat_eq (b / 2 ^ (c.args.index % 8) % 2) 1)) byte ∙ sym (slice_get-get_or (marks_in count bytes) c.args.index false here ∙ ap (λ m. Some m) read) ∙ ap (λ ms. slice_get ms c.args.index) c.self.view_is
