@@ -131,11 +131,14 @@ impl Part {
     }
 
     /// The part of fields that were read.
-    pub(crate) fn of_fields(range: Range, body: Body) -> Part
-        requires { IsPart two_lane_profile (part_of range body) }
-        ensures { result ≡ part_of range body }
+    pub(crate) fn of_fields(fields: (Range, Body)) -> Part
+        requires { IsPart two_lane_profile (part_of fields.0 fields.1) }
+        ensures { result ≡ part_of fields.0 fields.1 }
     {
-        Part { range, body }
+        Part {
+            range: fields.0,
+            body: fields.1,
+        }
     }
 
     /// The part, unless it has no spelling.

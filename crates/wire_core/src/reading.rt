@@ -1,6 +1,6 @@
 //! Reading what follows the kind of a part, and a whole body.
 
-ghost use Rattle.std.specs.Prelude.{◌≡◌, ◌≤◌, None, length};
+ghost use Rattle.std.specs.Prelude.{◌≡◌, ◌<◌, ◌≤◌, None, [], OnOk, IfErr, length};
 ghost use Rattle.definitions.specs.Wire.{two_lane_profile, max_body, One_message};
 ghost use Rattle.definitions.specs.Reading as reading;
 ghost use Rattle.wire_core.specs.Refused.{GivesField, Gives};
@@ -74,21 +74,43 @@ fn take_answer(alloc: Global, bytes: &mut &[u8]) -> Result<(Range, Body), Decode
     Ok((range, Body::Answer(marks, items)))
 }
 
+/// No bytes are left.
+fn ends(bytes: &[u8]) -> Result<(), WireFault>
+    ensures ok { OnOk result (bytes.now ≡ []) }
+    ensures trailing { IfErr result (λ fault. (fault ≡ WireFault.Trailing) × (0 < length bytes.now)) }
+{
+    if bytes.is_empty() {
+        Ok(())
+    } else {
+        Err(WireFault::Trailing)
+    }
+}
+
+/// What follows a kind where one message is read: the fields of a part, or the end of the message.
+fn take_fields(
+    alloc: Global,
+    bytes: &mut &[u8],
+    kind: u8,
+) -> Result<Option<(Range, Body)>, DecodeError>
+    ensures { Gives (λ x. (fields_event x, bytes.new.now)) result (reading.fields_at two_lane_profile One_message kind bytes.old.now) }
+{
+    match kind {
+        1 => Ok(Some(take_sum(bytes)?)),
+        2 => Ok(Some(take_listing(alloc, bytes)?)),
+        3 => Ok(Some(take_answer(alloc, bytes)?)),
+        4 => Ok(None),
+        _ => Err(DecodeError::Fault(WireFault::BadKind)),
+    }
+}
+
 /// All of a body where one message is read: the fields of a part, or the end of the message.
 fn fields_in(alloc: Global, body: &[u8]) -> Result<Option<(Range, Body)>, DecodeError>
     ensures { Gives fields_event result (reading.event_in two_lane_profile One_message body.now) }
 {
     let mut rest = body;
-    let fields = match take_byte(&mut rest)? {
-        1 => Some(take_sum(&mut rest)?),
-        2 => Some(take_listing(alloc, &mut rest)?),
-        3 => Some(take_answer(alloc, &mut rest)?),
-        4 => None,
-        _ => return Err(DecodeError::Fault(WireFault::BadKind)),
-    };
-    if !rest.is_empty() {
-        return Err(DecodeError::Fault(WireFault::Trailing));
-    }
+    let kind = take_byte(&mut rest)?;
+    let fields = take_fields(alloc, &mut rest, kind)?;
+    ends(rest)?;
     Ok(fields)
 }
 
@@ -100,7 +122,7 @@ pub fn part_in(alloc: Global, body: &[u8]) -> Result<Option<Part>, DecodeError>
     codec_laws::two_lanes_are_real();
     codec_laws::body_is_exact::<Fingerprint>();
     match fields_in(alloc, body)? {
-        Some((range, fields)) => Ok(Some(Part::of_fields(range, fields))),
+        Some(fields) => Ok(Some(Part::of_fields(fields))),
         None => Ok(None),
     }
 }
