@@ -1,3 +1,5 @@
 pub mod Loops
 pub mod Lengths
 pub mod Read
+pub mod Messages
+pub mod Exact

@@ -1,9 +1,9 @@
 -- A part's body, and the part as the definitions have it.
-use Rattle.std.specs.Prelude.{ℕ, List, [], Option, Some, None, ⊤}
+use Rattle.std.specs.Prelude.{ℕ, List, [], ◌++◌, Option, Some, None, ⊤}
 use Rattle.definitions.specs.Items.{Item, Range}
 use Rattle.definitions.specs.Fingerprints.{Lanes}
 use Rattle.definitions.specs.Messages.{Part, Sum, Listing, Answer}
-use Rattle.definitions.specs.Wire.{Event, Came, Ended}
+use Rattle.definitions.specs.Wire.{Event, Came, Ended, two_lane_profile, items_text, marks_text}
 use Rattle.wire_core.specs.declared.body.Body.{Body}
 use Rattle.wire_core.specs.declared.body.Body.TheVariants as bodies
 
@@ -27,3 +27,14 @@ Lists (bodies.Answer marks items) = ⊤
 abbrev pub fields_event : Option (Range × Body) → Event Lanes
 fields_event (Some p) = Came (part_of p.0 p.1)
 fields_event None = Ended
+
+-- a body's first byte, and what follows its range
+abbrev pub kind_byte : Body → ℕ
+kind_byte (bodies.Sum f) = 1
+kind_byte (bodies.List items) = 2
+kind_byte (bodies.Answer marks items) = 3
+
+abbrev pub fields_text : Body → List ℕ
+fields_text (bodies.Sum f) = two_lane_profile.text f
+fields_text (bodies.List items) = items_text items.items
+fields_text (bodies.Answer marks items) = marks_text marks ++ items_text items.items

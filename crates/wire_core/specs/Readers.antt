@@ -1,11 +1,12 @@
 -- Words of the readers, beside those of the definitions.
 --     byte_at bytes              one byte and the bytes after it
 --     fingerprint_at bytes       a fingerprint and the bytes after it
-use Rattle.std.specs.Prelude.{ℕ, List, [], ◌∷◌, Result, Ok, Err}
+--     next_at parts bytes        the event of a message that stands next, behind so many parts, and the bytes after it
+use Rattle.std.specs.Prelude.{ℕ, List, [], ◌∷◌, Option, Some, None, Result, Ok, Err}
 use Rattle.definitions.specs.Fingerprints.{Lanes}
-use Rattle.definitions.specs.Refusals.{frame_length}
-use Rattle.definitions.specs.Wire.{two_lane_profile}
-use Rattle.definitions.specs.Reading.{◌>>=◌, bytes_at}
+use Rattle.definitions.specs.Refusals.{frame_length, truncated}
+use Rattle.definitions.specs.Wire.{two_lane_profile, Event, One_message}
+use Rattle.definitions.specs.Reading.{◌>>=◌, bytes_at, event_at}
 
 abbrev pub byte_at : List ℕ → Result (ℕ × List ℕ) ℕ
 byte_at [] = Err frame_length
@@ -15,3 +16,10 @@ abbrev pub fingerprint_at : List ℕ → Result (Lanes × List ℕ) ℕ
 fingerprint_at bytes = do
   f ← bytes_at 32 bytes
   Ok (two_lane_profile.read f.0, f.1)
+
+abbrev pub whole_frame : {A : Type 0} → Option A → Result A ℕ
+whole_frame None = Err truncated
+whole_frame (Some x) = Ok x
+
+abbrev pub next_at : ℕ → List ℕ → Result (Event Lanes × List ℕ) ℕ
+next_at parts bytes = event_at two_lane_profile One_message parts bytes >>= whole_frame

@@ -32,3 +32,9 @@ Fails (errors.Fault f) read = read ≡ Err (fault_number f)
 abbrev pub Gives : {X Y : Type 0} → (X → Y) → Result X DecodeError → Result Y ℕ → Type 0
 Gives view (Ok x) read = read ≡ Ok (view x)
 Gives view (Err e) read = Fails e read
+
+-- a number of a fault, where memory did not run out
+abbrev pub IfFault : {X : Type 0} → Result X DecodeError → (ℕ → Type 0) → Type 0
+IfFault (Ok x) P = ⊤
+IfFault (Err errors.Memory) P = ⊤
+IfFault (Err (errors.Fault f)) P = P (fault_number f)

@@ -6,7 +6,7 @@ ghost use Rattle.definitions.specs.Wire.{two_lane_profile, short_text, upper_tex
 ghost use Rattle.definitions.specs.Wire as wire;
 ghost use Rattle.definitions.specs.Faults as faults;
 ghost use Rattle.item_core.specs.Bounds.{upper_value};
-ghost use Rattle.wire_core.specs.Bodies.{part_of, items_in};
+ghost use Rattle.wire_core.specs.Bodies.{part_of, items_in, kind_byte};
 ghost use Rattle.wire_core.specs.PartFaults.{part_fault_number};
 
 use crate::fault::PartFault;
@@ -27,6 +27,17 @@ pub enum Body {
 }
 
 impl Body {
+    /// The kind's byte.
+    pub fn kind(&self) -> u8
+        ensures { result ≡ kind_byte self.now }
+    {
+        match self {
+            Body::Sum(_) => 1,
+            Body::List(_) => 2,
+            Body::Answer(_, _) => 3,
+        }
+    }
+
     /// The items of a list or an answer; none of a sum.
     pub fn items(&self) -> &[Item]
         ensures { result.now ≡ items_in self.now }

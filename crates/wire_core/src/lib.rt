@@ -2,6 +2,7 @@
 #![tactic(auto)]
 
 mod body;
+mod decoding;
 mod fault;
 mod field;
 mod marks;
@@ -10,7 +11,9 @@ mod part;
 mod reading;
 mod spelling;
 
+pub use decoding::decode_message;
 pub use fault::{DecodeError, PartFault, WireFault};
 pub use marks::Marks;
 pub use message::{MAX_PARTS, Message, TooManyParts};
 pub use part::{Part, PartKind};
+pub use spelling::{encode_message, encode_part};

@@ -51,6 +51,14 @@ impl Message {
         Ok(Message { parts })
     }
 
+    /// The message of so few parts.
+    pub(crate) fn of_parts(parts: Vec<Part>) -> Message
+        requires { length parts.items ≤ max_parts }
+        ensures { result ≡ parts.items }
+    {
+        Message { parts }
+    }
+
     /// The parts in order.
     pub fn parts(&self) -> &[Part]
         ensures parts { result.now ≡ self.now }

@@ -1,7 +1,7 @@
-ghost use Rattle.std.specs.Prelude.{◌≡◌, ◌↔◌, Some, None, IfOk, IfErr, IsOk};
+ghost use Rattle.std.specs.Prelude.{◌≡◌, ◌↔◌, ◌++◌, OnOk, Some, None, IfOk, IfErr, IsOk};
 ghost use Rattle.std.specs.Option.{option_copied};
 ghost use Rattle.definitions.specs.Messages.{Sum, Listing, Answer, range_of};
-ghost use Rattle.definitions.specs.Wire.{two_lane_profile, IsPart};
+ghost use Rattle.definitions.specs.Wire.{two_lane_profile, IsPart, part_text};
 ghost use Rattle.definitions.specs.Faults as faults;
 ghost use Rattle.wire_core.specs.Bodies.{part_of, Lists};
 ghost use Rattle.wire_core.specs.Parts.{kind_of, sum_in, items_in, marks_in};
@@ -10,8 +10,10 @@ ghost use Rattle.wire_core.specs.PartFaults.{part_fault_number};
 use crate::body::{Body, items_fault};
 use crate::fault::PartFault;
 use crate::marks::Marks;
+use crate::spelling::push_frame;
 use digest_core::Fingerprint;
 use item_core::{Item, Range};
+use std::alloc::AllocError;
 use std::marker::Model;
 
 /// The kinds of part.
@@ -128,6 +130,14 @@ impl Part {
             Body::Answer(marks, _) => Some(marks),
             _ => None,
         }
+    }
+
+    /// Appends the frame of the part.
+    pub(crate) fn push(&self, out: &mut Vec<u8>) -> Result<(), AllocError>
+        ensures part { IsPart two_lane_profile self.now }
+        ensures ok { OnOk result (out.new.items ≡ out.old.items ++ part_text two_lane_profile self.now) }
+    {
+        push_frame(out, &self.range, &self.body)
     }
 
     /// The part of fields that were read.

@@ -4,7 +4,7 @@ ghost use Rattle.std.specs.Prelude.{◌≡◌, ◌++◌, ◌≤◌, ◌<◌, ◌
 ghost use Rattle.definitions.specs.Wire as wire;
 ghost use Rattle.definitions.specs.Wire.{two_lane_profile, part_text, IsPart, Spells};
 ghost use Rattle.item_core.specs.Bounds.{upper_value};
-ghost use Rattle.wire_core.specs.Bodies.{part_of};
+ghost use Rattle.wire_core.specs.Bodies.{part_of, items_in, fields_text};
 
 use crate::body::Body;
 use crate::marks::Marks;
@@ -12,6 +12,9 @@ use crate::message::Message;
 use crate::part::Part;
 use item_core::{Item, Range, Upper};
 use std::alloc::{AllocError, Global};
+
+/// The frame of a message's end.
+const END: [u8; 5] = [0, 0, 0, 1, 4];
 
 /// Appends a length byte and the bytes: an item, or a lower bound.
 fn push_short(out: &mut Vec<u8>, bytes: &[u8]) -> Result<(), AllocError>
@@ -71,4 +74,57 @@ fn push_marks(out: &mut Vec<u8>, marks: &Marks) -> Result<(), AllocError>
     push_number(out, marks.len() as u32)?;
     out.extend_from_slice(marks.bytes())?;
     Ok(())
+}
+
+/// Appends the fields of a body behind its range.
+fn push_fields(out: &mut Vec<u8>, body: &Body) -> Result<(), AllocError>
+    requires { length (items_in body.now) < 2 ^ 32 }
+    ensures { OnOk result (out.new.items ≡ out.old.items ++ fields_text body.now) }
+{
+    match body {
+        Body::Sum(sum) => {
+            out.extend_from_slice(&sum.to_bytes())?;
+            Ok(())
+        }
+        Body::List(items) => push_items(out, items),
+        Body::Answer(marks, items) => {
+            push_marks(out, marks)?;
+            push_items(out, items)
+        }
+    }
+}
+
+/// Appends the frame of a part.
+#[tactic(auto, using(crate::proofs::Lengths::lengths))]
+pub fn push_frame(out: &mut Vec<u8>, range: &Range, body: &Body) -> Result<(), AllocError>
+    requires { IsPart two_lane_profile (part_of range.now body.now) }
+    ensures { OnOk result (out.new.items ≡ out.old.items ++ part_text two_lane_profile (part_of range.now body.now)) }
+{
+    let length = body.length(range);
+    out.reserve(4 + length)?;
+    push_number(out, length as u32)?;
+    out.push(body.kind())?;
+    push_range(out, range)?;
+    push_fields(out, body)
+}
+
+/// The one spelling of a part: a frame.
+pub fn encode_part(alloc: Global, part: &Part) -> Result<Vec<u8>, AllocError>
+    ensures { IfOk result (λ text. text.items ≡ part_text two_lane_profile part.now) }
+{
+    let mut out = Vec::new(alloc);
+    part.push(&mut out)?;
+    Ok(out)
+}
+
+/// The one spelling of a message: its parts' frames in order, and the frame of its end.
+pub fn encode_message(alloc: Global, message: &Message) -> Result<Vec<u8>, AllocError>
+    ensures { IfOk result (λ text. Spells two_lane_profile message.now text.items) }
+{
+    let mut out = Vec::new(alloc);
+    for part in message.parts() {
+        part.push(&mut out)?;
+    }
+    out.extend_from_slice(&END)?;
+    Ok(out)
 }
