@@ -1,4 +1,4 @@
-use Rattle.std.proofs.Common.{◌≡◌, ◌∙◌, sym, ap, false, rules}
+use Rattle.std.proofs.Common.{◌≡◌, ◌∙◌, sym, false, rules}
 use Rattle.std.specs.Option.{option_copied}
 use Rattle.store_core.proofs.Additions.{has_got, put_there, is_item}
 use Rattle.store_core.proofs.spans.search.Goals as goal

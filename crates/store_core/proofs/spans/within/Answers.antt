@@ -1,4 +1,4 @@
-use Rattle.std.proofs.Common.{rules, ◌∙◌, ap, not, filter}
+use Rattle.std.proofs.Common.{not}
 use Rattle.std.proofs.lemmas.List.Kept.{IsStrictlySortedBy-filter}
 use Rattle.definitions.specs.Items.{item_cmp, comes_before, is_below}
 use Rattle.store_core.proofs.Partitions.{filter_twice}

@@ -1,4 +1,4 @@
-use Rattle.std.proofs.Common.{◌≡◌, sym, ◌∙◌, rules}
+use Rattle.std.proofs.Common.{◌≡◌, rules}
 use Rattle.definitions.specs.Items.{IsItem}
 use Rattle.definitions.specs.Sets.{add_item}
 use Rattle.store_core.proofs.Additions.{set_add, all_add}
