@@ -59,13 +59,13 @@ impl RangeStore for FlatStore {
     }
 
     fn has(&self, item: &Item) -> bool {
-        spans::search(&self.entries, item).is_ok()
+        spans::gap_for(&self.entries, item).is_none()
     }
 
     fn with(&self, alloc: Global, item: Item) -> Result<With<FlatStore>, AllocError> {
-        match spans::search(&self.entries, &item) {
-            Ok(_) => Ok(With::Already),
-            Err(place) => Ok(With::New(FlatStore {
+        match spans::gap_for(&self.entries, &item) {
+            None => Ok(With::Already),
+            Some(place) => Ok(With::New(FlatStore {
                 entries: spans::with_entry(alloc, &self.entries, place, Entry::new(item))?,
             })),
         }

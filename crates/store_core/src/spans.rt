@@ -1,6 +1,6 @@
 //! Parts of a sorted slice of entries.
 
-ghost use Rattle.std.specs.Prelude.{◌≡◌, ◌≤◌, ◌∷◌, ◌++◌, true, false, take, drop, length, filter, not, is_ok, IfOk, IfErr};
+ghost use Rattle.std.specs.Prelude.{◌≡◌, ◌≤◌, ◌∷◌, ◌++◌, true, false, take, drop, length, filter, not, is_none, IfOk, IfSome};
 ghost use Rattle.std.specs.List.{AllByRecursion};
 ghost use Rattle.std.specs.List.Sorted.{IsPartitionPoint};
 ghost use Rattle.definitions.specs.Items.{IsItem, comes_before, is_below};
@@ -70,17 +70,17 @@ pub fn items(alloc: Global, entries: &[Entry]) -> Result<Vec<Item>, AllocError>
     Ok(items)
 }
 
-/// Where the item is, or else where it would go.
-pub fn search(entries: &[Entry], item: &Item) -> Result<usize, usize>
+/// Where the item would go, unless it is there.
+pub fn gap_for(entries: &[Entry], item: &Item) -> Option<usize>
     requires { IsSet entries.now }
-    ensures found { is_ok result ≡ has entries.now item.now }
-    ensures absent { IfErr result (λ i. add_item entries.now item.now ≡ take i entries.now ++ item.now ∷ drop i entries.now) }
-    ensures bound { IfErr result (λ i. i ≤ length entries.now) }
+    ensures found { is_none result ≡ has entries.now item.now }
+    ensures gap { IfSome result (λ i. add_item entries.now item.now ≡ take i entries.now ++ item.now ∷ drop i entries.now) }
+    ensures within { IfSome result (λ i. i ≤ length entries.now) }
 {
     let place = place(entries, &Lower::from(*item));
     match entries.get(place) {
-        Some(entry) if *item == *entry.item() => Ok(place),
-        _ => Err(place),
+        Some(entry) if *item == *entry.item() => None,
+        _ => Some(place),
     }
 }
 
