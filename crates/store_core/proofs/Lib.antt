@@ -1,0 +1,3 @@
+pub mod Additions
+pub mod Made
+pub mod Partitions

@@ -1,0 +1,14 @@
+//! Sets of items from which the items of a range are counted, summed and read.
+#![tactic(auto)]
+
+mod entry;
+mod flat;
+mod flat_store;
+mod range_store;
+mod spans;
+#[cfg(test)]
+mod tests;
+
+pub use entry::Entry;
+pub use flat_store::FlatStore;
+pub use range_store::{RangeStore, With};

@@ -1,0 +1,80 @@
+ghost use Rattle.std.specs.Prelude.{◌≡◌, ◌<◌, ◌↔◌, List, [], length, not, Some, slice_get, IfOk, IsTrue};
+ghost use Rattle.std.specs.List.{AllByRecursion};
+ghost use Rattle.definitions.specs.Items as items;
+ghost use Rattle.definitions.specs.Items.{IsItem};
+ghost use Rattle.definitions.specs.Sets.{IsSet, has, items_in, add_item, set_of};
+ghost use Rattle.definitions.specs.Fingerprints.{two_lanes};
+ghost use Rattle.store_core.specs.Stores.{IfNew, is_new};
+
+use digest_core::Fingerprint;
+use item_core::{Item, Range};
+use std::alloc::{AllocError, Global};
+
+/// What `RangeStore::with` gives.
+#[derive(Drop)]
+pub enum With<S> {
+    /// The store with the item.
+    New(S),
+    /// The store has the item already.
+    Already,
+}
+
+/// A set of items, however it is kept. No call changes it: `with` makes another.
+pub trait RangeStore: Drop + Sized {
+    /// The items, in rising order.
+    ghost content: { Self → List items.Item };
+
+    /// A store of no items.
+    fn empty(alloc: Global) -> Self
+        ensures { content result ≡ [] };
+
+    /// The store of these items, each one once.
+    fn from_items(alloc: Global, items: Vec<Item>) -> Result<Self, AllocError>
+        ensures { IfOk result (λ s. content s ≡ set_of items.items) };
+
+    /// How many items there are.
+    fn len(&self) -> usize
+        ensures { result ≡ length (content self.now) };
+
+    /// Whether there is none.
+    fn is_empty(&self) -> bool
+        ensures { IsTrue result ↔ (content self.now ≡ []) }
+    {
+        self.len() == 0
+    }
+
+    /// How many items the range holds.
+    fn count(&self, range: &Range) -> usize
+        ensures { result ≡ length (items_in (content self.now) range.now) };
+
+    /// The fingerprint of the items in the range.
+    fn sum(&self, range: &Range) -> Fingerprint
+        ensures { result ≡ two_lanes.of (items_in (content self.now) range.now) };
+
+    /// The item at this place among those in the range, from 0.
+    fn nth(&self, range: &Range, place: usize) -> Item
+        requires { place < length (items_in (content self.now) range.now) }
+        ensures { slice_get (items_in (content self.now) range.now) place ≡ Some result };
+
+    /// The items in the range, in rising order.
+    fn items(&self, alloc: Global, range: &Range) -> Result<Vec<Item>, AllocError>
+        ensures { IfOk result (λ held. held.items ≡ items_in (content self.now) range.now) };
+
+    /// Whether the item is there.
+    fn has(&self, item: &Item) -> bool
+        ensures { result ≡ has (content self.now) item.now };
+
+    /// The store with the item, unless it is there already.
+    fn with(&self, alloc: Global, item: Item) -> Result<With<Self>, AllocError>
+        ensures store { IfOk result (λ w. IfNew w (λ s. content s ≡ add_item (content self.now) item)) }
+        ensures new { IfOk result (λ w. is_new w ≡ not (has (content self.now) item)) };
+
+    /// The same set again.
+    fn copy(&self, alloc: Global) -> Result<Self, AllocError>
+        ensures { IfOk result (λ s. content s ≡ content self.now) };
+
+    /// Each item is before all later ones.
+    ghost rises: { (s : Self) → IsSet (content s) };
+
+    ghost are_items: { (s : Self) → AllByRecursion IsItem (content s) };
+}
