@@ -12,3 +12,4 @@ pub mod Readers
 pub mod Bodies
 pub mod Parts
 pub mod Packed
+pub mod Watch

@@ -10,6 +10,7 @@ mod message;
 mod part;
 mod reading;
 mod spelling;
+mod watched;
 
 pub use decoding::decode_message;
 pub use fault::{DecodeError, PartFault, WireFault};
@@ -17,3 +18,4 @@ pub use marks::Marks;
 pub use message::{MAX_PARTS, Message, TooManyParts};
 pub use part::{Part, PartKind};
 pub use spelling::{encode_message, encode_part};
+pub use watched::Watched;

@@ -1,0 +1,23 @@
+-- What is seen of a watched reader or writer.
+--     Watch T                    what is watched, and whether it failed or ended
+--     failed_read, ended_read, failed_write     what one call adds
+use Rattle.std.specs.Prelude.{ℕ, Bool, true, false, ◌&&◌, ◌==◌, List, length, nat_lt, Result, Ok, Err}
+
+pub record Watch (T : Type 0) : Type 0 where
+  pub inner : T
+  -- a call gave an error, or a write took no byte of a rest
+  pub failed : Bool
+  -- a read into room gave no byte
+  pub ended : Bool
+
+abbrev pub failed_read : {E : Type 0} → Result ℕ E → Bool
+failed_read (Ok n) = false
+failed_read (Err e) = true
+
+abbrev pub ended_read : {E : Type 0} → Result ℕ E → List ℕ → Bool
+ended_read (Ok n) room = n == 0 && nat_lt 0 (length room)
+ended_read (Err e) room = false
+
+abbrev pub failed_write : {E : Type 0} → Result ℕ E → List ℕ → Bool
+failed_write (Ok n) bytes = n == 0 && nat_lt 0 (length bytes)
+failed_write (Err e) bytes = true
