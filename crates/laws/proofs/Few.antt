@@ -1,5 +1,5 @@
 -- How many parts a message has: no range is asked about again unless an item in it differs, and then it is cut into no more than the width.
-use Rattle.std.proofs.Common.{◌≡◌, ℕ, ◌+◌, ◌*◌, ◌≤◌, Bool, true, false, not, ◌&&◌, zero, suc, List, [], ◌∷◌, length, map, max, unwrap_or, cond, ltb, Less, Equal, Greater, get_or, if◌then◌else◌, refl, sym, ap, ◌∙◌, inl, inr, arith}
+use Rattle.std.proofs.Common.{◌≡◌, ℕ, ◌+◌, ◌*◌, ◌≤◌, Bool, true, false, not, ◌&&◌, zero, suc, List, [], ◌∷◌, ◌++◌, length, map, max, unwrap_or, cond, ltb, Less, Equal, Greater, get_or, if◌then◌else◌, refl, sym, ap, ◌∙◌, inl, inr, arith}
 use Rattle.std.specs.List.{AllByRecursion}
 use Rattle.std.specs.List.Sorted.{IsStrictlySortedBy}
 use Rattle.std.specs.Ordering.{ordering_reverse}
@@ -14,22 +14,24 @@ use Rattle.definitions.specs.Items.{Item, item_cmp, same_item, Range, contains}
 use Rattle.definitions.specs.Sets.{IsSet, has, items_in, difference, symmetric_difference}
 use Rattle.definitions.specs.Fingerprints.{Summary, IsExact}
 use Rattle.definitions.specs.Messages.{Part, Sum, Listing, Answer, Message, has_open, opening}
-use Rattle.definitions.specs.Strategies.{Table, shares, width}
+use Rattle.definitions.specs.Strategies.{Table, act, shares, width}
 use Rattle.definitions.specs.Replies.{Peer, inner_cuts, cutup, sum_of, reply_to, reply}
-use Rattle.definitions.specs.Talks.{talk_from}
+use Rattle.definitions.specs.Talks.{talk, talk_from}
 use Rattle.definitions.specs.Cost.{part_bound}
 use Rattle.definitions.specs.Worlds.{messages, initiator_of, responder_of, start}
-use Rattle.definitions.specs.Theorems.{PartsAreFew, CostClaim}
-use Rattle.laws.proofs.Times.{when, times, times-filter, has-times, has-filter, times_le_one, times_below}
+use Rattle.definitions.specs.Theorems.{PartsAreFew, CostClaim, MessagesFit}
+use Rattle.laws.proofs.Times.{when, times, times-append, times-filter, has-times, has-filter, times_le_one, times_below}
 use Rattle.laws.proofs.Unions.{all_above}
-use Rattle.laws.proofs.Parts.{tally, in_open, IsHonest, tally-in_open, reply_to_sum, reply-IsHonest}
+use Rattle.laws.proofs.Parts.{tally, in_open, IsHonest, tally-in_open, reply-IsHonest}
 use Rattle.laws.proofs.Sound.{reply-in_open_le}
 use Rattle.laws.proofs.Sessions.{peer_at-IsSet}
 use Rattle.laws.proofs.Talk.{contains-whole, items_in-whole}
 use Rattle.definitions.proofs.Equality.{item_cmp-eq, same_item-itself}
-use Rattle.rank_laws.proofs.Shares.{length-shares, widest-positive}
+use Rattle.rank_laws.proofs.Shares.{length-shares, widest-positive, length-le-sum, sum-shares_by, shares_by-positive}
+use Rattle.std.proofs.lemmas.List.Elements.{filter-append}
 use Rattle.laws.proofs.Cuts.{length-ranges_between}
 use Rattle.definitions.proofs.Lists.{All-append, All-every}
+use Rattle.laws.proofs.Ranks.{peer_cutup, reply_to_sum}
 
 -- ---- sets are equal where their items are
 
@@ -120,6 +122,16 @@ length-cutup A X sizes =
 length-cutup-shares : (A : List Item) (X : Range) (T : Table) (n : ℕ) → length (cutup A X (shares T n)) ≤ width T
 length-cutup-shares A X T n = omega (arith, length-cutup A X (shares T n), length-shares T n, widest-positive T.rows)
 
+-- no more parts than items, or one
+length-cutup-items : (A : List Item) (X : Range) (T : Table) (n : ℕ) → length (cutup A X (shares T n)) ≤ max 1 n
+length-cutup-items A X T n =
+    let sum = sum-shares_by (act T n) n in
+    let few = length-le-sum (shares T n) (shares_by-positive (act T n) n) in
+    elim (cases_lt (length (shares T n)) 2) [
+      | inl one ↦ omega (arith, length-cutup A X (shares T n))
+      | inr more ↦ omega (arith, length-cutup A X (shares T n), sum more)
+    ]
+
 -- ---- hits
 
 -- how many items of D are in the range of an open part
@@ -174,19 +186,23 @@ sums-IsNews : {F : Type 0} (S : Summary F) (D A : List Item) (Xs : List Range) �
 sums-IsNews S D A [] = tt
 sums-IsNews S D A (X ∷ Xs) = (tt, sums-IsNews S D A Xs)
 
-reply_to-few : {F : Type 0} (S : Summary F) (D : List Item) (P Q : Peer) (w : ℕ) → IsExact S → IsSet P.items → IsSet Q.items → HasDifference D P.items Q.items → width Q.table ≤ w →
+-- Q cuts a range that has items of D into no more than w parts for each of them
+record CutsFew (D : List Item) (w : ℕ) (Q : Peer) : Type 0 where
+  one : 1 ≤ w
+  cuts : (X : Range) → 1 ≤ length (items_in D X) → length (peer_cutup Q X) ≤ w * length (items_in D X)
+
+reply_to-few : {F : Type 0} (S : Summary F) (D : List Item) (P Q : Peer) (w : ℕ) → IsExact S → IsSet P.items → IsSet Q.items → HasDifference D P.items Q.items → CutsFew D w Q →
     (p : Part F) → IsHonest S P.items p → IsNews D p → (length (reply_to S Q p) ≤ w * hits D p) × AllByRecursion (IsNews D) (reply_to S Q p)
 reply_to-few S D P Q w exact own other diff wide (Sum X f) honest news =
-    let n : ℕ = length (items_in Q.items X) in
     let hit = hit_from_differs S D P.items Q.items X f exact own other diff honest in
     reply_to_sum S Q X f (λ M. (length M ≤ w * length (items_in D X)) × AllByRecursion (IsNews D) M)
     (λ e. (omega arith, tt))
-    (λ e. (room w (length (items_in D X)) _ (omega (arith, length-map (cutup Q.items X (shares Q.table n)) (sum_of S Q.items), length-cutup-shares Q.items X Q.table n)) (hit e), sums-IsNews S D Q.items (cutup Q.items X (shares Q.table n))))
-    (λ e. (room w (length (items_in D X)) 1 (omega (arith, widest-positive Q.table.rows)) (hit e), (hit e, tt)))
-reply_to-few S D P Q w exact own other diff wide (Listing X items) honest news = (room w (length (items_in D X)) 1 (omega (arith, widest-positive Q.table.rows)) news, (tt, tt))
+    (λ e s. (omega (arith, length-map (peer_cutup Q X) (sum_of S Q.items), wide.cuts X (hit e)), sums-IsNews S D Q.items (peer_cutup Q X)))
+    (λ e s. (room w (length (items_in D X)) 1 wide.one (hit e), (hit e, tt)))
+reply_to-few S D P Q w exact own other diff wide (Listing X items) honest news = (room w (length (items_in D X)) 1 wide.one news, (tt, tt))
 reply_to-few S D P Q w exact own other diff wide (Answer X marks items) honest news = (omega arith, tt)
 
-reply-few : {F : Type 0} (S : Summary F) (D : List Item) (P Q : Peer) (w : ℕ) → IsExact S → IsSet P.items → IsSet Q.items → HasDifference D P.items Q.items → width Q.table ≤ w →
+reply-few : {F : Type 0} (S : Summary F) (D : List Item) (P Q : Peer) (w : ℕ) → IsExact S → IsSet P.items → IsSet Q.items → HasDifference D P.items Q.items → CutsFew D w Q →
     (M : Message F) → AllByRecursion (IsHonest S P.items) M → AllByRecursion (IsNews D) M → (length (reply S Q M) ≤ w * tally (hits D) M) × AllByRecursion (IsNews D) (reply S Q M)
 reply-few S D P Q w exact own other diff wide [] honest news = (omega arith, tt)
 reply-few S D P Q w exact own other diff wide (p ∷ ps) honest news =
@@ -197,7 +213,7 @@ reply-few S D P Q w exact own other diff wide (p ∷ ps) honest news =
 -- ---- talks
 
 talk_from-few : {F : Type 0} (S : Summary F) (D : List Item) (w b : ℕ) → IsExact S → w * length D ≤ b → (k : ℕ) (P Q : Peer) → IsSet P.items → IsSet Q.items → HasDifference D P.items Q.items →
-    width P.table ≤ w → width Q.table ≤ w → (M : Message F) → length M ≤ b → AllByRecursion (IsHonest S P.items) M → AllByRecursion (IsNews D) M → ((x : Item) → tally (in_open x 1) M ≤ 1) →
+    CutsFew D w P → CutsFew D w Q → (M : Message F) → length M ≤ b → AllByRecursion (IsHonest S P.items) M → AllByRecursion (IsNews D) M → ((x : Item) → tally (in_open x 1) M ≤ 1) →
     AllByRecursion (λ N. length N ≤ b) (talk_from S P Q M k)
 talk_from-few S D w b exact bound zero P Q own other diff wide wide' M short honest news once = tt
 talk_from-few S D w b exact bound (suc k) P Q own other diff wide wide' M short honest news once =
@@ -207,14 +223,42 @@ talk_from-few S D w b exact bound (suc k) P Q own other diff wide wide' M short 
     (λ x. omega (arith, reply-in_open_le S Q x 1 other M, tally-in_open x 1 M, once x)) in
     (short, elim (has_open M) as (λ v. AllByRecursion (λ N. length N ≤ b) (if v then talk_from S Q P (reply S Q M) k else [])) [ true ↦ more | false ↦ tt ])
 
+-- from the opening on
+talk-few : {F : Type 0} (S : Summary F) (D : List Item) (w b : ℕ) → IsExact S → w * length D ≤ b → 1 ≤ b → (k : ℕ) (I R : Peer) → IsSet I.items → IsSet R.items → HasDifference D I.items R.items →
+    CutsFew D w I → CutsFew D w R → AllByRecursion (λ N. length N ≤ b) (talk S I R k)
+talk-few S D w b exact bound one k I R left right diff wide wide' =
+    talk_from-few S D w b exact bound k I R left right diff wide wide' (opening S I.items) one (ap S.of (sym (items_in-whole I.items)), tt) (tt, tt)
+    (λ x. omega (arith, ap (λ b. when b 1) (contains-whole x)))
+
+by_width : (D : List Item) (Q : Peer) (w : ℕ) → width Q.table ≤ w → CutsFew D w Q
+by_width D Q w wide = record {
+  one = omega (arith, widest-positive Q.table.rows);
+  cuts = λ X some. room w (length (items_in D X)) (length (peer_cutup Q X)) (omega (arith, length-cutup-shares Q.items X Q.table (length (items_in Q.items X)))) some;
+}
+
 -- only the sets matter, and the widths
 pub few_parts : {F : Type 0} (S : Summary F) → PartsAreFew S
 few_parts S exact I R k left right =
     let D : List Item = symmetric_difference I.items R.items in
     let w : ℕ = max (width I.table) (width R.table) in
-    talk_from-few S D w (part_bound I R) exact (omega (arith, mul_comm w (length D))) k I R left right (HasDifference-symmetric I.items R.items left right)
-    (omega arith) (omega arith) (opening S I.items) (omega arith) (ap S.of (sym (items_in-whole I.items)), tt) (tt, tt)
-    (λ x. omega (arith, ap (λ b. when b 1) (contains-whole x)))
+    talk-few S D w (part_bound I R) exact (omega (arith, mul_comm w (length D))) (omega arith) k I R left right (HasDifference-symmetric I.items R.items left right)
+    (by_width D I w (omega arith)) (by_width D R w (omega arith))
+
+-- where D has what Q has
+by_items : (D : List Item) (Q : Peer) → ((X : Range) → length (items_in Q.items X) ≤ length (items_in D X)) → CutsFew D 1 Q
+by_items D Q holds = record { one = omega arith; cuts = λ X some. omega (arith, length-cutup-items Q.items X Q.table (length (items_in Q.items X)), holds X) }
+
+HasDifference-both : (A B : List Item) → HasDifference (A ++ B) A B
+HasDifference-both A B = record { covers = λ z e. let a = times-append z A B in omega arith }
+
+length-both : (A B : List Item) (X : Range) → length (items_in (A ++ B) X) ≡ length (items_in A X) + length (items_in B X)
+length-both A B X = ap length (filter-append (contains X) A B) ∙ length-append (items_in A X) (items_in B X)
+
+pub messages_fit : {F : Type 0} (S : Summary F) → MessagesFit S
+messages_fit S exact I R k left right =
+    let D : List Item = I.items ++ R.items in
+    talk-few S D 1 (max 1 (length I.items + length R.items)) exact (omega (arith, length-append I.items R.items)) (omega arith) k I R left right (HasDifference-both I.items R.items)
+    (by_items D I (λ X. omega (arith, length-both I.items R.items X))) (by_items D R (λ X. omega (arith, length-both I.items R.items X)))
 
 pub cost_claim : {F : Type 0} (S : Summary F) → CostClaim S
 cost_claim S exact w =

@@ -21,3 +21,4 @@ pub mod Placed
 pub mod PlacingExact
 pub mod PlacedAccepted
 pub mod Exact
+pub mod Apart

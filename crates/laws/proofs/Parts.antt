@@ -5,13 +5,14 @@ use Rattle.definitions.specs.Items.{Item, Range, contains, same_range}
 use Rattle.definitions.specs.Sets.{IsSet, has, items_in, difference}
 use Rattle.definitions.specs.Fingerprints.{Summary, IsExact}
 use Rattle.definitions.specs.Messages.{Part, Sum, Listing, Answer, Message, has_open}
-use Rattle.definitions.specs.Strategies.{act, shares, is_split}
-use Rattle.definitions.specs.Replies.{Peer, cutup, sum_of, differing, reply_to, reply}
+use Rattle.definitions.specs.Strategies.{shares}
+use Rattle.definitions.specs.Replies.{Peer, cutup, sum_of, reply_to, reply}
 use Rattle.definitions.specs.Talks.{listed_in, learn, IsClearAt}
 use Rattle.laws.proofs.Times.{when, times, times-append, times-difference_in, times-difference_of, times-difference_same, items_where_true-map}
 use Rattle.laws.proofs.Spread.{spread, spread-cutup, PlacesRise-shares}
 use Rattle.definitions.proofs.Equality.{same_range-eq, same_range-itself}
 use Rattle.definitions.proofs.Lists.{All-append, All-both}
+use Rattle.laws.proofs.Ranks.{reply_to_sum}
 
 -- ---- words
 
@@ -148,21 +149,9 @@ sums-IsHonest : {F : Type 0} (S : Summary F) (A : List Item) (Xs : List Range) �
 sums-IsHonest S A [] = tt
 sums-IsHonest S A (X ∷ Xs) = (refl, sums-IsHonest S A Xs)
 
--- what holds of no reply, of sums and of a list holds of the reply to a Sum
-pub reply_to_sum : {F : Type 0} (S : Summary F) (P : Peer) (X : Range) (f : F) (Holds : Message F → Type 0) →
-    (S.same (S.of (items_in P.items X)) f ≡ true → Holds []) →
-    (S.same (S.of (items_in P.items X)) f ≡ false → Holds (map (sum_of S P.items) (cutup P.items X (shares P.table (length (items_in P.items X)))))) →
-    (S.same (S.of (items_in P.items X)) f ≡ false → Holds (Listing X (items_in P.items X) ∷ [])) → Holds (reply_to S P (Sum X f))
-reply_to_sum S P X f Holds equal cut listed =
-    let differs : S.same (S.of (items_in P.items X)) f ≡ false → Holds (differing S P X) =
-    λ e. elim (is_split (act P.table (length (items_in P.items X)))) as (λ b. Holds (if b then map (sum_of S P.items) (cutup P.items X (shares P.table (length (items_in P.items X)))) else Listing X (items_in P.items X) ∷ [])) [ true ↦ cut e | false ↦ listed e ] in
-    let either : (b : Bool) → S.same (S.of (items_in P.items X)) f ≡ b → Holds (if b then [] else differing S P X) =
-    elim [ true ↦ λ e. equal e | false ↦ λ e. differs e ] in
-    either (S.same (S.of (items_in P.items X)) f) refl
-
 reply_to-IsHonest : {F : Type 0} (S : Summary F) (P : Peer) (p : Part F) → AllByRecursion (IsHonest S P.items) (reply_to S P p)
 reply_to-IsHonest S P (Sum X f) =
-    reply_to_sum S P X f (λ M. AllByRecursion (IsHonest S P.items) M) (λ e. tt) (λ e. sums-IsHonest S P.items _) (λ e. (refl, tt))
+    reply_to_sum S P X f (λ M. AllByRecursion (IsHonest S P.items) M) (λ e. tt) (λ e s. sums-IsHonest S P.items _) (λ e s. (refl, tt))
 reply_to-IsHonest S P (Listing X items) = (tt, tt)
 reply_to-IsHonest S P (Answer X marks items) = tt
 
@@ -174,7 +163,7 @@ reply-IsHonest S P (p ∷ ps) = All-append (IsHonest S P.items) (reply_to S P p)
 reply_to-marked : {F : Type 0} (S : Summary F) (P Q : Peer) (x : Item) (sent : Message F) (p : Part F) → IsHonest S P.items p → IsListed P.items sent p →
     tally (marked x sent) (reply_to S Q p) ≡ in_list x (times x (difference P.items Q.items)) p
 reply_to-marked S P Q x sent (Sum X f) honest listed =
-    reply_to_sum S Q X f (λ M. tally (marked x sent) M ≡ 0) (λ e. refl) (λ e. tally-sums S Q.items (marked x sent) (λ X. refl) _) (λ e. refl)
+    reply_to_sum S Q X f (λ M. tally (marked x sent) M ≡ 0) (λ e. refl) (λ e s. tally-sums S Q.items (marked x sent) (λ X. refl) _) (λ e s. refl)
 reply_to-marked S P Q x sent (Listing X items) honest listed =
     let same : items_where_true (map (λ y. not (has Q.items y)) items) (listed_in sent X) ≡ difference (items_in P.items X) Q.items =
     ap (λ l. items_where_true (map (λ y. not (has Q.items y)) items) l) (listed ∙ sym honest)
@@ -186,7 +175,7 @@ reply_to-marked S P Q x sent (Answer X marks items) honest listed = refl
 reply_to-offered : {F : Type 0} (S : Summary F) (P Q : Peer) (x : Item) (p : Part F) → IsHonest S P.items p →
     tally (offered x) (reply_to S Q p) ≡ in_list x (times x (difference Q.items P.items)) p
 reply_to-offered S P Q x (Sum X f) honest =
-    reply_to_sum S Q X f (λ M. tally (offered x) M ≡ 0) (λ e. refl) (λ e. tally-sums S Q.items (offered x) (λ X. refl) _) (λ e. refl)
+    reply_to_sum S Q X f (λ M. tally (offered x) M ≡ 0) (λ e. refl) (λ e s. tally-sums S Q.items (offered x) (λ X. refl) _) (λ e s. refl)
 reply_to-offered S P Q x (Listing X items) honest =
     let same : times x (difference (items_in Q.items X) items) ≡ when (contains X x) (times x (difference Q.items P.items)) =
     ap (λ l. times x (difference (items_in Q.items X) l)) honest ∙ times-difference_in x X Q.items P.items in
@@ -208,8 +197,8 @@ reply_to-in_open S P Q x n exact set none (Sum X f) honest clear =
     let sizes : List ℕ = shares Q.table (length (items_in Q.items X)) in
     reply_to_sum S Q X f (λ M. tally (in_open x n) M ≡ when (contains X x) n)
     (λ e. sym (none X (clear (sym ((exact (S.of (items_in Q.items X)) f).0 e ∙ honest)))))
-    (λ e. tally-in_open-sums S Q.items x n (cutup Q.items X sizes) ∙ spread-cutup x n Q.items X sizes set (PlacesRise-shares Q.table (length (items_in Q.items X))))
-    (λ e. omega arith)
+    (λ e s. tally-in_open-sums S Q.items x n (cutup Q.items X sizes) ∙ spread-cutup x n Q.items X sizes set (PlacesRise-shares Q.table (length (items_in Q.items X))))
+    (λ e s. omega arith)
 reply_to-in_open S P Q x n exact set none (Listing X items) honest clear = refl
 reply_to-in_open S P Q x n exact set none (Answer X marks items) honest clear = refl
 

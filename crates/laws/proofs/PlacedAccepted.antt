@@ -23,7 +23,7 @@ other_lower : (x y : List ℕ) → comes_before x y ≡ true → bytes_eq x y �
 other_lower x y h = false_from _ (λ e. let same : x ≡ y = same_text x y (sym e) in false≢true (sym (before-irrefl x) ∙ subst (λ z. comes_before x z ≡ true) (sym same) h))
 
 -- the bound at the end of a chain of rising ranges is above its beginning
-chain_below : {F : Type 0} (x : List ℕ) (cuts : List (List ℕ)) (y : Option (List ℕ)) (ps : Message F) →
+pub chain_below : {F : Type 0} (x : List ℕ) (cuts : List (List ℕ)) (y : Option (List ℕ)) (ps : Message F) →
     AreSums (ranges_between x cuts y) ps → RangesRise ps → is_below x y ≡ true
 chain_below x [] y [] h r = absurd h
 chain_below x [] y (Sum Y f ∷ ps) h r = subst (λ (Z : Range). is_below Z.lower Z.upper ≡ true) h.0 r.0
@@ -130,7 +130,7 @@ elsewhere x (Listing Y listed ∷ left) M e (front, rest, is, (marks, items, one
 elsewhere x (Answer Y marks items ∷ left) M e (front, rest, is, none, more) =
     subst (BeginsElsewhere x) (sym (is ∙ ap (λ ps. ps ++ rest) none)) (elsewhere x left rest e.1 more)
 
-rises_append : {F : Type 0} (ps qs : Message F) → RangesRise (ps ++ qs) → RangesRise ps × RangesRise qs
+pub rises_append : {F : Type 0} (ps qs : Message F) → RangesRise (ps ++ qs) → RangesRise ps × RangesRise qs
 rises_append [] qs h = (tt, h)
 rises_append (p ∷ ps) qs h = let both = rises_append ps qs h.1 in ((h.0, both.0), both.1)
 

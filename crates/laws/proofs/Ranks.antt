@@ -86,14 +86,22 @@ IsSumUnder f A n (Answer X marks items) = ⊤
 abbrev pub SumsUnder : {F : Type 0} → List ℕ → List Item → ℕ → Message F → Type 0
 SumsUnder f A n M = AllByRecursion (IsSumUnder f A n) M
 
--- what holds of each Sum of a cut, and of the list of the range, holds of the reply to a Sum
+-- what holds of nothing, of the Sums of a cut and of the list of the range holds of the reply to a Sum
+pub reply_to_sum : {F : Type 0} (S : Summary F) (P : Peer) (X : Range) (g : F) (Holds : Message F → Type 0) →
+    (S.same (S.of (items_in P.items X)) g ≡ true → Holds []) →
+    (S.same (S.of (items_in P.items X)) g ≡ false → does_split P X ≡ true → Holds (map (sum_of S P.items) (peer_cutup P X))) →
+    (S.same (S.of (items_in P.items X)) g ≡ false → does_split P X ≡ false → Holds (Listing X (items_in P.items X) ∷ [])) →
+    Holds (reply_to S P (Sum X g))
+reply_to_sum S P X g Holds equal cut list =
+    cond_both (S.same (S.of (items_in P.items X)) g) [] (differing S P X) Holds equal
+    (λ d. cond_both (does_split P X) (map (sum_of S P.items) (peer_cutup P X)) (Listing X (items_in P.items X) ∷ []) Holds (cut d) (list d))
+
+-- the same of each part
 pub reply_to-All : {F : Type 0} (S : Summary F) (P : Peer) (G : Part F → Type 0) (X : Range) (g : F) →
     (S.same (S.of (items_in P.items X)) g ≡ false → does_split P X ≡ true → AllByRecursion G (map (sum_of S P.items) (peer_cutup P X))) →
     (S.same (S.of (items_in P.items X)) g ≡ false → does_split P X ≡ false → G (Listing X (items_in P.items X))) →
     AllByRecursion G (reply_to S P (Sum X g))
-reply_to-All {F} S P G X g cut list =
-    cond_both (S.same (S.of (items_in P.items X)) g) [] (differing S P X) (AllByRecursion G) (λ d. tt)
-    (λ d. cond_both (does_split P X) (map (sum_of S P.items) (peer_cutup P X)) (Listing X (items_in P.items X) ∷ []) (AllByRecursion G) (λ e. cut d e) (λ e. (list d e, tt)))
+reply_to-All S P G X g cut list = reply_to_sum S P X g (AllByRecursion G) (λ d. tt) cut (λ d e. (list d e, tt))
 
 -- what holds of the reply to each part holds of the reply
 pub reply-All : {F : Type 0} (S : Summary F) (P : Peer) (H G : Part F → Type 0) → ((p : Part F) → H p → AllByRecursion G (reply_to S P p)) →

@@ -12,8 +12,9 @@ use Rattle.definitions.specs.Talks.{talk_from, learn, knows, of_first}
 use Rattle.definitions.specs.Theorems.{ListsSome, KnowledgeIsSound}
 use Rattle.laws.proofs.Times.{when, times, times-append, has-times, times_le_one, IsDistinct-from_times, difference-IsSet}
 use Rattle.laws.proofs.Spread.{spread-cutup, PlacesRise-shares}
-use Rattle.laws.proofs.Parts.{tally, tally-append, in_sum, in_open, marked, offered, IsHonest, tally-in_open, tally-in_open-sums, learn-ours, learn-theirs, reply_to_sum, reply-IsHonest, reply-marked, reply-offered}
+use Rattle.laws.proofs.Parts.{tally, tally-append, in_sum, in_open, marked, offered, IsHonest, tally-in_open, tally-in_open-sums, learn-ours, learn-theirs, reply-IsHonest, reply-marked, reply-offered}
 use Rattle.laws.proofs.Talk.{contains-whole, items_in-whole}
+use Rattle.laws.proofs.Ranks.{reply_to_sum}
 
 ListsSome-from_times : (items A : List Item) → IsSet A → ((x : Item) → times x items ≤ times x A) → ListsSome items A
 ListsSome-from_times items A set few = record {
@@ -27,8 +28,8 @@ reply_to-in_open_le S Q x n set (Sum X f) =
     let sizes : List ℕ = shares Q.table (length (items_in Q.items X)) in
     reply_to_sum S Q X f (λ M. tally (in_open x n) M ≤ when (contains X x) n)
     (λ e. omega arith)
-    (λ e. omega (arith, tally-in_open-sums S Q.items x n (cutup Q.items X sizes), spread-cutup x n Q.items X sizes set (PlacesRise-shares Q.table (length (items_in Q.items X)))))
-    (λ e. omega arith)
+    (λ e s. omega (arith, tally-in_open-sums S Q.items x n (cutup Q.items X sizes), spread-cutup x n Q.items X sizes set (PlacesRise-shares Q.table (length (items_in Q.items X)))))
+    (λ e s. omega arith)
 reply_to-in_open_le S Q x n set (Listing X items) = omega arith
 reply_to-in_open_le S Q x n set (Answer X marks items) = omega arith
 

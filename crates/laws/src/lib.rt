@@ -4,7 +4,7 @@
 ghost use Rattle.definitions.specs.Fingerprints.{Summary, IsExact, two_lanes, counted_lanes};
 ghost use Rattle.definitions.specs.Messages.{Message, RangesRise};
 ghost use Rattle.definitions.specs.Wire.{Profile, IsMessage};
-ghost use Rattle.definitions.specs.Theorems.{RepliesArePlaced, RepliesAreShort, PlacingIsExact, MessagesAreFew, InitiatorStops, ResponderStops, ListsAreShort, KnowledgeIsExact, KnowledgeIsSound, PartsAreFew, Headline, CostClaim, HistoryClaim, AbsorbClaim};
+ghost use Rattle.definitions.specs.Theorems.{RepliesArePlaced, RepliesAreShort, PlacingIsExact, MessagesAreFew, MessagesFit, TalksAreApart, RepliesAreApart, PlacedAreApart, InitiatorStops, ResponderStops, ListsAreShort, KnowledgeIsExact, KnowledgeIsSound, PartsAreFew, Headline, CostClaim, HistoryClaim, AbsorbClaim};
 ghost use Rattle.laws.specs.Cutting.{CutsAreExact, TalksHaveRanges};
 
 // ---- fingerprints
@@ -36,6 +36,16 @@ pub fn replies_are_short<F>()
     ensures { (S : Summary F) → RepliesAreShort S }
 {}
 
+/// What an honest reply opens does not overlap, where what it replies to does not.
+pub fn replies_are_apart<F>()
+    ensures { (S : Summary F) → RepliesAreApart S }
+{}
+
+/// What a placed message opens does not overlap, where what it follows does not.
+pub fn placed_are_apart<F>()
+    ensures { PlacedAreApart F }
+{}
+
 /// The placing part by part accepts exactly the placed messages.
 pub fn placing_is_exact<F>()
     ensures { PlacingIsExact F }
@@ -65,6 +75,11 @@ pub fn talks_have_ranges<F>()
     ensures { (S : Summary F) → TalksHaveRanges S }
 {}
 
+/// What each message of a talk opens does not overlap.
+pub fn talks_are_apart<F>()
+    ensures { (S : Summary F) → TalksAreApart S }
+{}
+
 /// A talk has few messages.
 pub fn messages_are_few<F>()
     ensures { (S : Summary F) → MessagesAreFew S }
@@ -78,6 +93,11 @@ pub fn lists_are_short<F>()
 /// A message of a talk has few parts.
 pub fn parts_are_few<F>()
     ensures { (S : Summary F) → PartsAreFew S }
+{}
+
+/// A message of a talk has no more parts than both sets have items, or one.
+pub fn messages_fit<F>()
+    ensures { (S : Summary F) → MessagesFit S }
 {}
 
 /// Once a talk has ended each side knows both differences.

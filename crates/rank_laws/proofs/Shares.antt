@@ -26,7 +26,7 @@ sum-without_zeros (x ∷ xs) =
 pub without_zeros-positive : (xs : List ℕ) → AllByRecursion (λ n. 0 < n) (without_zeros xs)
 without_zeros-positive xs = All-map (λ n. nat_lt 0 n ≡ true) (λ n. 0 < n) (λ n e. ltb-true 0 n e) (without_zeros xs) (All-filter (λ n. nat_lt 0 n) xs)
 
-length-le-sum : (xs : List ℕ) → AllByRecursion (λ n. 0 < n) xs → length xs ≤ sum xs
+pub length-le-sum : (xs : List ℕ) → AllByRecursion (λ n. 0 < n) xs → length xs ≤ sum xs
 length-le-sum [] p = omega arith
 length-le-sum (x ∷ xs) p = omega (arith, p.0, length-le-sum xs p.1, sum-cons x xs)
 
