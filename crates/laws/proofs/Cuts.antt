@@ -1,13 +1,12 @@
 -- A range cut at items of a set: the parts have the shares as their sizes, and partition the range.
 use Rattle.std.proofs.Common.{◌≡◌, ℕ, suc, ◌+◌, ◌<◌, ◌≤◌, Bool, true, false, not, ◌&&◌, List, [], ◌∷◌, length, map, Option, Some, refl, sym, ap, ◌∙◌, subst, get_or, drop, arith, sum}
 use Rattle.std.specs.Prelude.{⊤}
-use Rattle.std.specs.List.{AllByRecursion, sum_by, filter, flat_map}
+use Rattle.std.specs.List.{AllByRecursion, filter, flat_map}
 use Rattle.std.proofs.lemmas.Bool.{false≢true, and_parts, and_from}
 use Rattle.std.proofs.lemmas.Map.Keys.{Less-from_sorted}
 use Rattle.std.specs.Ordering.{is_lt}
 use Rattle.std.proofs.lemmas.List.{append-nil, length-drop, drop-drop, get_or-drop}
 use Rattle.std.proofs.lemmas.List.Sums.{sum_by-cons}
-use Rattle.std.proofs.lemmas.List.Filters.{length-filter_both}
 use Rattle.std.proofs.lemmas.List.Kept.{IsStrictlySortedBy-filter}
 use Rattle.definitions.specs.Items.{Item, item_cmp, comes_before, Range, is_below, contains, ranges_between}
 use Rattle.definitions.specs.Sets.{IsSet, items_in}
@@ -91,19 +90,6 @@ ranges-IsWithin x [] y r = (λ z k. k, tt)
 ranges-IsWithin x (c ∷ cs) y r =
     let inside = inside_from_between x c y r.0 r.1 in
     (left-IsWithin x c y inside, All-map (λ Y. IsWithin Y (span c y)) (λ Y. IsWithin Y (span x y)) (λ Y w z k. right-IsWithin x c y inside z (w z k)) (ranges_between c cs y) (ranges-IsWithin c cs y r.2))
-
--- each item of any list is in one of the parts
-pub sum-ranges : (D : List Item) (x : List ℕ) (cs : List (List ℕ)) (y : Option (List ℕ)) → CutsRise x cs y →
-    sum_by (λ Y. length (items_in D Y)) (ranges_between x cs y) ≡ length (items_in D (span x y))
-sum-ranges D x [] y r = omega (arith, sum_by-cons (λ Y. length (items_in D Y)) (span x y) [])
-sum-ranges D x (c ∷ cs) y r =
-    let inside = inside_from_between x c y r.0 r.1 in
-    let ih = sum-ranges D c cs y r.2 in
-    let step = sum_by-cons (λ Y. length (items_in D Y)) (span x (Some c)) (ranges_between c cs y) in
-    let left = ap length (items_in-left D x c y inside) in
-    let right = ap length (items_in-right D x c y inside) in
-    let both = length-filter_both (λ z. comes_before z c) (λ z. not (comes_before z c)) (λ z. refl) (items_in D (span x y)) in
-    omega arith
 
 -- a set is what it has in each of the parts, one after another
 pub flat_map-ranges : (D : List Item) → IsSet D → (x : List ℕ) (cs : List (List ℕ)) (y : Option (List ℕ)) → CutsRise x cs y →

@@ -133,9 +133,3 @@ least T e = record {
 -- where there is a rank table no count is stuck
 pub ranked : (T : Table) (f : List ℕ) → IsRankTable T f → first_stuck T ≡ None
 ranked T f r = first_stuck-none T (λ n h. not_stuck T n (λ s. (r.descends n h s).0))
-
--- two least rank tables are one
-pub least-one : (T : Table) (f : List ℕ) → IsLeastRankTable T f → (n : ℕ) → n ≤ T.cap → slice_index f n ≡ slice_index (least_ranks T) n
-least-one T f l n h =
-    let mine = least T (ranked T f l.ranks) in
-    omega (arith, mine.least f l.ranks n h, l.least (least_ranks T) mine.ranks n h)
