@@ -1,5 +1,5 @@
 -- A body: the events that it says, and its faults.
-use Rattle.std.proofs.Common.{◌≡◌, ℕ, ◌^◌, ◌<◌, ◌≤◌, Bool, true, false, ◌||◌, List, [], ◌∷◌, ◌++◌, length, take, drop, Result, Ok, Err, refl, sym, ap, subst, ◌∙◌, arith, inl, inr}
+use Rattle.std.proofs.Common.{◌≡◌, ℕ, zero, suc, ◌^◌, ◌<◌, ◌≤◌, Bool, true, false, ◌||◌, List, [], ◌∷◌, ◌++◌, length, take, drop, Result, Err, refl, sym, ap, subst, ◌∙◌, arith, inl, inr}
 use Rattle.std.specs.Prelude.{◌⊎◌, ◌==◌, nat_lt, slice_index}
 use Rattle.std.proofs.lemmas.Bool.{ltb-true, ltb-false, lt-ltb, eqb-true}
 use Rattle.std.proofs.lemmas.List.{append-nil, length-append, length-take-le, length-drop, take-append-drop}
@@ -22,10 +22,6 @@ head_of e = cc
 pub tail_of : {n m : ℕ} {a b : List ℕ} → n ∷ a ≡ m ∷ b → a ≡ b
 tail_of e = cc
 
-no_bytes : (bytes : List ℕ) → length bytes ≡ 0 → bytes ≡ []
-no_bytes [] h = refl
-no_bytes (b ∷ bytes) h = absurd (omega arith)
-
 -- ---- the end
 
 pub end_told : {B : Type 0} (v : B) (rest : List ℕ) → Tells (IsBytes rest) (nothing_after (v, rest)) (λ y. (y ≡ v) × (rest ≡ [])) (Trails rest)
@@ -33,9 +29,6 @@ end_told v [] = told_ok _ v _ _ (λ _. (refl, refl)) (λ z g. sym g.0) (λ e b. 
 end_told v (b ∷ rest) =
     let some : nat_lt 0 (length (b ∷ rest)) ≡ true = lt-ltb 0 (length (b ∷ rest)) (omega arith) in
     along (ap (λ t. unless t trailing v) some) (told_err _ trailing _ _ (λ _. (omega arith, refl)) (λ c h. sym h.1) (λ z g. let e = ap length g.1 in omega arith))
-
-ends_with : {A B : Type 0} (r : Result A ℕ) (s : Result B ℕ) (x : A) (k : A → Result B ℕ) → r ≡ Ok x → k x ≡ s → (r >>= k) ≡ s
-ends_with r s x k e h = ap (λ (t : Result _ ℕ). t >>= k) e ∙ h
 
 -- n bytes and nothing more
 pub bytes_end : {B : Type 0} (n : ℕ) (v : List ℕ → B) (bytes : List ℕ) →
@@ -191,40 +184,24 @@ failed_told {F} P bytes =
 abbrev Kinds : ℕ → (A B C D E : Type 0) → Type 0
 Kinds n A B C D E = ((n ≡ 1) × A) ⊎ (((n ≡ 2) × B) ⊎ (((n ≡ 3) × C) ⊎ (((n ≡ 4) × D) ⊎ ((n ≡ 5) × E))))
 
-pick1 : (n : ℕ) (A B C D E : Type 0) → n ≡ 1 → Kinds n A B C D E → A
-pick1 n A B C D E e (inl x) = x.1
-pick1 n A B C D E e (inr (inl x)) = absurd (let k = x.0 in omega arith)
-pick1 n A B C D E e (inr (inr (inl x))) = absurd (let k = x.0 in omega arith)
-pick1 n A B C D E e (inr (inr (inr (inl x)))) = absurd (let k = x.0 in omega arith)
-pick1 n A B C D E e (inr (inr (inr (inr x)))) = absurd (let k = x.0 in omega arith)
+-- of the five, the one of this number
+abbrev Kind : (A B C D E : Type 0) → ℕ → Type 0
+Kind A B C D E (suc zero) = A
+Kind A B C D E (suc (suc zero)) = B
+Kind A B C D E (suc (suc (suc zero))) = C
+Kind A B C D E (suc (suc (suc (suc zero)))) = D
+Kind A B C D E (suc (suc (suc (suc (suc zero))))) = E
+Kind A B C D E _ = ⊥
 
-pick2 : (n : ℕ) (A B C D E : Type 0) → n ≡ 2 → Kinds n A B C D E → B
-pick2 n A B C D E e (inl x) = absurd (let k = x.0 in omega arith)
-pick2 n A B C D E e (inr (inl x)) = x.1
-pick2 n A B C D E e (inr (inr (inl x))) = absurd (let k = x.0 in omega arith)
-pick2 n A B C D E e (inr (inr (inr (inl x)))) = absurd (let k = x.0 in omega arith)
-pick2 n A B C D E e (inr (inr (inr (inr x)))) = absurd (let k = x.0 in omega arith)
+only : (n : ℕ) (A B C D E : Type 0) → Kinds n A B C D E → Kind A B C D E n
+only n A B C D E (inl x) = subst (Kind A B C D E) (sym x.0) x.1
+only n A B C D E (inr (inl x)) = subst (Kind A B C D E) (sym x.0) x.1
+only n A B C D E (inr (inr (inl x))) = subst (Kind A B C D E) (sym x.0) x.1
+only n A B C D E (inr (inr (inr (inl x)))) = subst (Kind A B C D E) (sym x.0) x.1
+only n A B C D E (inr (inr (inr (inr x)))) = subst (Kind A B C D E) (sym x.0) x.1
 
-pick3 : (n : ℕ) (A B C D E : Type 0) → n ≡ 3 → Kinds n A B C D E → C
-pick3 n A B C D E e (inl x) = absurd (let k = x.0 in omega arith)
-pick3 n A B C D E e (inr (inl x)) = absurd (let k = x.0 in omega arith)
-pick3 n A B C D E e (inr (inr (inl x))) = x.1
-pick3 n A B C D E e (inr (inr (inr (inl x)))) = absurd (let k = x.0 in omega arith)
-pick3 n A B C D E e (inr (inr (inr (inr x)))) = absurd (let k = x.0 in omega arith)
-
-pick4 : (n : ℕ) (A B C D E : Type 0) → n ≡ 4 → Kinds n A B C D E → D
-pick4 n A B C D E e (inl x) = absurd (let k = x.0 in omega arith)
-pick4 n A B C D E e (inr (inl x)) = absurd (let k = x.0 in omega arith)
-pick4 n A B C D E e (inr (inr (inl x))) = absurd (let k = x.0 in omega arith)
-pick4 n A B C D E e (inr (inr (inr (inl x)))) = x.1
-pick4 n A B C D E e (inr (inr (inr (inr x)))) = absurd (let k = x.0 in omega arith)
-
-pick5 : (n : ℕ) (A B C D E : Type 0) → n ≡ 5 → Kinds n A B C D E → E
-pick5 n A B C D E e (inl x) = absurd (let k = x.0 in omega arith)
-pick5 n A B C D E e (inr (inl x)) = absurd (let k = x.0 in omega arith)
-pick5 n A B C D E e (inr (inr (inl x))) = absurd (let k = x.0 in omega arith)
-pick5 n A B C D E e (inr (inr (inr (inl x)))) = absurd (let k = x.0 in omega arith)
-pick5 n A B C D E e (inr (inr (inr (inr x)))) = x.1
+pick : (n i : ℕ) (A B C D E : Type 0) → n ≡ i → Kinds n A B C D E → Kind A B C D E i
+pick n i A B C D E e k = subst (Kind A B C D E) e (only n A B C D E k)
 
 pub or_cases : (a b : Bool) → (a || b) ≡ true → (a ≡ true) ⊎ (b ≡ true)
 or_cases true b h = inl refl
@@ -261,17 +238,10 @@ of_kind {F} P input kind i bytes r Bad e low high to from t = as_told t (λ f. f
     (λ c b. inr (high, to c b))
     (λ c b. elim b [ inl x ↦ absurd (elim x.0 [ inl z ↦ omega arith | inr z ↦ omega arith ]) | inr x ↦ from c x.1 ])
 
-zero_kind : {F : Type 0} (P : Profile F) (kind : ℕ) (bytes : List ℕ) (c : ℕ) → kind ≡ 0 → FaultyFields P kind bytes c → ⊥
-zero_kind P kind bytes c z (inl x) = let k = x.0 in omega arith
-zero_kind P kind bytes c z (inr (inl x)) = let k = x.0 in omega arith
-zero_kind P kind bytes c z (inr (inr (inl x))) = let k = x.0 in omega arith
-zero_kind P kind bytes c z (inr (inr (inr (inl x)))) = let k = x.0 in omega arith
-zero_kind P kind bytes c z (inr (inr (inr (inr x)))) = let k = x.0 in omega arith
-
 last_kind : {F : Type 0} (P : Profile F) (input : Input) (kind : ℕ) (bytes : List ℕ) → kind ≡ 5 → kind ≤ greatest_kind input →
     Tells (IsBytes (kind ∷ bytes)) (failed_at bytes >>= nothing_after) (Says P input (kind ∷ bytes)) (FaultyBody P input (kind ∷ bytes))
 last_kind P One_message kind bytes q high = absurd (omega arith)
-last_kind P Stream kind bytes q high = of_kind P Stream kind 5 bytes _ _ q (omega arith) high (λ c b. inr (inr (inr (inr (q, b))))) (λ c. pick5 kind _ _ _ _ _ q) (failed_told P bytes)
+last_kind P Stream kind bytes q high = of_kind P Stream kind 5 bytes _ _ q (omega arith) high (λ c b. inr (inr (inr (inr (q, b))))) (λ c. pick kind 5 _ _ _ _ _ q) (failed_told P bytes)
 
 pub event_told : {F : Type 0} (P : Profile F) → IsProfile P → (input : Input) → (kind : ℕ) (bytes : List ℕ) →
     Tells (IsBytes (kind ∷ bytes)) (event_in P input (kind ∷ bytes)) (Says P input (kind ∷ bytes)) (FaultyBody P input (kind ∷ bytes))
@@ -279,19 +249,19 @@ event_told {F} P real input kind bytes =
     by_test_then (kind == 0 || nat_lt (greatest_kind input) kind) _ _ nothing_after
     (λ h. let out : (kind ≡ 0) ⊎ (greatest_kind input < kind) = elim (or_cases (kind == 0) (nat_lt (greatest_kind input) kind) h) [ inl x ↦ inl (eqb-true _ _ x) | inr x ↦ inr (ltb-true _ _ x) ] in
     told_err _ bad_kind _ _ (λ _. inl (out, refl))
-    (λ c b. elim b [ inl x ↦ sym x.1 | inr x ↦ elim out [ inl z ↦ absurd (zero_kind P kind bytes c z x.1) | inr z ↦ absurd (let le = x.0 in omega arith) ] ])
+    (λ c b. elim b [ inl x ↦ sym x.1 | inr x ↦ elim out [ inl z ↦ absurd (pick kind 0 _ _ _ _ _ z x.1) | inr z ↦ absurd (let le = x.0 in omega arith) ] ])
     (λ y g. let k = says_kind P input kind bytes y g in let a = k.0 in let b = k.1 in elim out [ inl z ↦ omega arith | inr z ↦ omega arith ]))
     (λ h. let no = or_none (kind == 0) (nat_lt (greatest_kind input) kind) h in
     let ne = neq_of kind 0 no.0 in
     let high : kind ≤ greatest_kind input = ltb-false _ _ no.1 in
     let low : 1 ≤ kind = omega arith in
     by_test_then (kind == 1) _ _ nothing_after
-    (λ e. let q = eqb-true kind 1 e in of_kind P input kind 1 bytes _ _ q low high (λ c b. inl (q, b)) (λ c. pick1 kind _ _ _ _ _ q) (sum_told P real input bytes))
+    (λ e. let q = eqb-true kind 1 e in of_kind P input kind 1 bytes _ _ q low high (λ c b. inl (q, b)) (λ c. pick kind 1 _ _ _ _ _ q) (sum_told P real input bytes))
     (λ n1. by_test_then (kind == 2) _ _ nothing_after
-    (λ e. let q = eqb-true kind 2 e in of_kind P input kind 2 bytes _ _ q low high (λ c b. inr (inl (q, b))) (λ c. pick2 kind _ _ _ _ _ q) (listing_told P input bytes))
+    (λ e. let q = eqb-true kind 2 e in of_kind P input kind 2 bytes _ _ q low high (λ c b. inr (inl (q, b))) (λ c. pick kind 2 _ _ _ _ _ q) (listing_told P input bytes))
     (λ n2. by_test_then (kind == 3) _ _ nothing_after
-    (λ e. let q = eqb-true kind 3 e in of_kind P input kind 3 bytes _ _ q low high (λ c b. inr (inr (inl (q, b)))) (λ c. pick3 kind _ _ _ _ _ q) (answer_told P input bytes))
+    (λ e. let q = eqb-true kind 3 e in of_kind P input kind 3 bytes _ _ q low high (λ c b. inr (inr (inl (q, b)))) (λ c. pick kind 3 _ _ _ _ _ q) (answer_told P input bytes))
     (λ n3. by_test_then (kind == 4) _ _ nothing_after
-    (λ e. let q = eqb-true kind 4 e in of_kind P input kind 4 bytes _ _ q low high (λ c b. inr (inr (inr (inl (q, b))))) (λ c. pick4 kind _ _ _ _ _ q) (ended_told P input bytes))
+    (λ e. let q = eqb-true kind 4 e in of_kind P input kind 4 bytes _ _ q low high (λ c b. inr (inr (inr (inl (q, b))))) (λ c. pick kind 4 _ _ _ _ _ q) (ended_told P input bytes))
     (λ n4. let a = neq_of kind 1 n1 in let b = neq_of kind 2 n2 in let c = neq_of kind 3 n3 in let d = neq_of kind 4 n4 in
     let five = five_kinds input in last_kind P input kind bytes (omega arith) high)))))

@@ -1,4 +1,3 @@
-pub mod Order
 pub mod Tells
 pub mod Fields
 pub mod Ranges

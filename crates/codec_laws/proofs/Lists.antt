@@ -9,7 +9,7 @@ use Rattle.definitions.specs.Sets.{IsSet}
 use Rattle.definitions.specs.Wire.{short_text, count_text, items_text, AreItemsOf}
 use Rattle.definitions.specs.Faults.{Begins, NoItem, rises_from, FaultyItem, FaultyItems, FaultyList, Trails, IsCount}
 use Rattle.definitions.specs.Reading.{◌>>=◌, unless, text_at, item_at, items_at, list_at, number_at}
-use Rattle.codec_laws.proofs.Order.{before-trans}
+use Rattle.definitions.proofs.Order.{before-trans}
 use Rattle.codec_laws.proofs.Tells.{Tells, along, as_told, behind, bind_assoc, tested, read_ok}
 use Rattle.codec_laws.proofs.Fields.{item_field, count_field}
 use Rattle.definitions.specs.Refusals.{item_order, item_outside}
