@@ -11,3 +11,7 @@ pub mod Bytes
 pub mod Profiles
 pub mod Laws
 pub mod Feeds
+pub mod Made
+pub mod Fuel
+pub mod Joins
+pub mod Padding

@@ -82,7 +82,7 @@ all_after : (b x : Item) (xs : List Item) → item_cmp b x ≡ Less → AllByRec
 all_after b x [] h a = tt
 all_after b x (y ∷ ys) h a = (less-trans b x y h a.0, all_after b x ys h a.1)
 
-abbrev After : Option Item → List Item → Type 0
+abbrev pub After : Option Item → List Item → Type 0
 After None xs = ⊤
 After (Some b) xs = AllByRecursion (λ y. item_cmp b y ≡ Less) xs
 
@@ -94,18 +94,18 @@ after_rises : (before : Option Item) (x : Item) (xs : List Item) → After befor
 after_rises None x xs a = refl
 after_rises (Some b) x xs a = ap is_lt a.0
 
-record Rising (X : Range) (n : ℕ) (before : Option Item) (xs : List Item) : Type 0 where
-  count : length xs ≡ n
-  each : AllByRecursion IsItem xs
-  within : AllByRecursion (λ x. IsTrue (contains X x)) xs
-  after : After before xs
-  rises : IsSet xs
+pub record Rising (X : Range) (n : ℕ) (before : Option Item) (xs : List Item) : Type 0 where
+  pub count : length xs ≡ n
+  pub each : AllByRecursion IsItem xs
+  pub within : AllByRecursion (λ x. IsTrue (contains X x)) xs
+  pub after : After before xs
+  pub rises : IsSet xs
 
 nothing_after_any : (before : Option Item) → After before []
 nothing_after_any None = tt
 nothing_after_any (Some b) = tt
 
-run_rises : (X : Range) (n : ℕ) (before : Option Item) (xs : List Item) → IsRun X n before xs → Rising X n before xs
+pub run_rises : (X : Range) (n : ℕ) (before : Option Item) (xs : List Item) → IsRun X n before xs → Rising X n before xs
 unfolding IsStrictlySortedBy
 run_rises X zero before [] run = record { count = refl; each = tt; within = tt; after = nothing_after_any before; rises = tt }
 run_rises X zero before (x ∷ xs) run = absurd run
@@ -114,7 +114,7 @@ run_rises X (suc n) before (x ∷ xs) run =
     let r = run_rises X n (Some x) xs run.3 in
     record { count = (let c = r.count in omega arith); each = (run.0, r.each); within = (run.2, r.within); after = after_first before x xs run.1 r.after; rises = (r.after, r.rises) }
 
-rises_run : (X : Range) (before : Option Item) (xs : List Item) → AllByRecursion IsItem xs → AllByRecursion (λ x. IsTrue (contains X x)) xs → After before xs → IsSet xs → IsRun X (length xs) before xs
+pub rises_run : (X : Range) (before : Option Item) (xs : List Item) → AllByRecursion IsItem xs → AllByRecursion (λ x. IsTrue (contains X x)) xs → After before xs → IsSet xs → IsRun X (length xs) before xs
 unfolding IsStrictlySortedBy
 rises_run X before [] each within after rises = tt
 rises_run X before (x ∷ xs) each within after rises = (each.0, after_rises before x xs after, within.0, rises_run X (Some x) xs each.1 within.1 rises.0 rises.1)

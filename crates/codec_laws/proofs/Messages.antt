@@ -45,7 +45,7 @@ here P parts bytes code le place = record { front = []; rest = bytes; count = (o
 part_then : {F : Type 0} (P : Profile F) (p : Part F) (ps : Message F) (rest : List ℕ) → flat_map (part_text P) (p ∷ ps) ++ rest ≡ part_text P p ++ (flat_map (part_text P) ps ++ rest)
 part_then P p ps rest = append_assoc (part_text P p) (flat_map (part_text P) ps) rest
 
-shorter : {F : Type 0} (P : Profile F) (p : Part F) (bytes rest : List ℕ) (fuel : ℕ) → bytes ≡ part_text P p ++ rest → length bytes < suc fuel → length rest < fuel
+pub shorter : {F : Type 0} (P : Profile F) (p : Part F) (bytes rest : List ℕ) (fuel : ℕ) → bytes ≡ part_text P p ++ rest → length bytes < suc fuel → length rest < fuel
 shorter P p bytes rest fuel is lt = let l = ap length is in let a = length-append (body P p) rest in omega arith
 
 -- by what stands next

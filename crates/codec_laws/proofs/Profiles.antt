@@ -18,13 +18,14 @@ lanes_back bytes fits len =
     (λ i. a i ++ b i) ∙ sym whole
 
 pub two_lanes_real : IsProfile two_lane_profile
-two_lanes_real = record { hello = refl; hello_bytes = (omega arith, (omega arith, (omega arith, (omega arith, tt)))); size = omega arith; back = lanes_back }
+two_lanes_real = record { hello = refl; hello_bytes = (omega arith, (omega arith, (omega arith, (omega arith, tt)))); size = omega arith; small = omega arith; back = lanes_back }
 
 pub counted_real : IsProfile counted_profile
 counted_real = record {
   hello = refl;
   hello_bytes = (omega arith, (omega arith, (omega arith, (omega arith, tt))));
   size = omega arith;
+  small = omega arith;
   back = λ bytes fits len.
       let whole : bytes ≡ take 4 bytes ++ drop 4 bytes = sym (take-append-drop 4 bytes) in
       let a : to_be_bytes w32 (from_be_bytes w32 (take 4 bytes)) ≡ take 4 bytes = be_bytes_4 (take 4 bytes) _ (length-take-le 4 bytes (omega arith)) (byte_fits (take 4 bytes) (front_fits bytes (take 4 bytes) (drop 4 bytes) whole fits)) refl in

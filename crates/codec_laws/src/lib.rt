@@ -6,6 +6,7 @@ ghost use Rattle.definitions.specs.Wire.{Profile, IsProfile, short_text, upper_t
 ghost use Rattle.definitions.specs.Faults.{NoLower, NoUpper, NoItem, IsCount, Stops};
 ghost use Rattle.definitions.specs.Reading.{lower_at, upper_at, text_at, number_at};
 ghost use Rattle.codec_laws.specs.Codec.{FieldIsExact, BodyIsExact, NextIsExact, MessageIsExact, SpellingsStandAlone, FeedIsExact};
+ghost use Rattle.codec_laws.specs.Parts.{ItemsFaultIsExact, PartFaultIsExact, MarksComeBack, PaddingIsLast, FuelIsEnough, FeedsJoin};
 
 /// A lower bound is read where one is spelled, and otherwise it is the fault.
 pub fn lower_is_exact()
@@ -60,4 +61,34 @@ pub fn counted_is_real()
 /// A stream is fed what its bytes mean, and nothing else.
 pub fn feed_is_exact<F>()
     ensures { (P : Profile F) → IsProfile P → FeedIsExact P }
+{}
+
+/// Items that are made have no fault where a part can have them.
+pub fn items_fault_is_exact()
+    ensures { ItemsFaultIsExact }
+{}
+
+/// A part that is made has no fault where it has a spelling.
+pub fn part_fault_is_exact<F>()
+    ensures { (P : Profile F) → IsProfile P → PartFaultIsExact P }
+{}
+
+/// Marks are read from their bytes.
+pub fn marks_come_back()
+    ensures { MarksComeBack }
+{}
+
+/// A mark bit that is not used can only stand in the last byte.
+pub fn padding_is_last()
+    ensures { PaddingIsLast }
+{}
+
+/// A message is read alike by any fuel above the number of its bytes.
+pub fn fuel_is_enough<F>()
+    ensures { (P : Profile F) → IsProfile P → FuelIsEnough P }
+{}
+
+/// A stream may be cut anywhere.
+pub fn feeds_join<F>()
+    ensures { (P : Profile F) → IsProfile P → FeedsJoin P }
 {}
