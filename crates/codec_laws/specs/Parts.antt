@@ -1,10 +1,12 @@
 -- What it means that the faults of what is made are exact.
 --     ItemsFaultIsExact, PartFaultIsExact P      items and parts that are made: no fault where they have a spelling
+--     SetsFit P                                  lists of a set's items
 --     MarksComeBack, PaddingIsLast               marks and their bytes
 --     FuelIsEnough P, FeedsJoin P                readings of messages and streams in steps
-use Rattle.std.specs.Prelude.{◌≡◌, ◌↔◌, ℕ, ◌/◌, ◌%◌, ◌^◌, ◌<◌, ◌==◌, ◌||◌, Bool, List, ◌++◌, length, None, bytes_eq, slice_index}
+use Rattle.std.specs.Prelude.{◌≡◌, ◌↔◌, ℕ, ◌/◌, ◌%◌, ◌^◌, ◌<◌, ◌≤◌, ◌==◌, ◌||◌, Bool, List, ◌++◌, length, None, bytes_eq, slice_index}
 use Rattle.std.specs.List.{AllByRecursion}
 use Rattle.definitions.specs.Items.{IsBytes, Item, IsItem, Range, IsRange}
+use Rattle.definitions.specs.Sets.{IsSet, items_in}
 use Rattle.definitions.specs.Messages.{Part, Sum, Listing, Answer}
 use Rattle.definitions.specs.Wire.{Profile, AreItemsOf, IsFingerprint, IsPart, mark_bytes, mark_bytes_for}
 use Rattle.definitions.specs.Faults.{items_fault, part_fault}
@@ -45,3 +47,7 @@ joined a b = record { events = a.events ++ b.events; to = b.to; kept = b.kept }
 abbrev pub FeedsJoin : {F : Type 0} → Profile F → Type 0
 FeedsJoin {F} P = (from : Standing) (front back : List ℕ) → IsBytes front → IsBytes back →
     feed P from (front ++ back) ≡ (let a = feed P from front in joined a (feed P a.to (a.kept ++ back)))
+
+-- the items that a set has in a range fit a frame
+abbrev pub SetsFit : {F : Type 0} → Profile F → Type 0
+SetsFit P = (A : List Item) (X : Range) → IsSet A → AllByRecursion IsItem A → length A ≤ 65536 → IsRange X → IsPart P (Listing X (items_in A X))

@@ -1,0 +1,5 @@
+use Rattle.codec_laws.proofs.Sizes.{sets_fit_lem}
+use Rattle.codec_laws.proofs.sets_fit.Goals as goal
+
+pub returns : goal.returns
+returns g c = λ P. sets_fit_lem P

@@ -1,0 +1,6 @@
+//! The two ends of a session, and the reply to one message alone.
+#![tactic(auto)]
+
+mod listing;
+
+pub use listing::{ListReplyFault, list_reply};
