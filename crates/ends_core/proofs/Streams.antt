@@ -1,6 +1,8 @@
 -- What is read and written in turns.
-use Rattle.std.proofs.Common.{◌≡◌, List, [], ◌++◌, ℕ, Option, Some, None, refl, sym, ap, ◌∙◌, append_assoc}
-use Rattle.std.specs.Io.KnownBytes.{Consumes}
+use Rattle.std.proofs.Common.{◌≡◌, List, [], ◌++◌, ℕ, ◌+◌, ◌-◌, length, take, drop, Option, Some, None, refl, sym, ap, ◌∙◌, append_assoc}
+use Rattle.std.specs.Io.KnownBytes.{Consumes, Appends}
+use Rattle.std.proofs.Math.Seq.{take-add}
+use Rattle.std.proofs.lemmas.List.{take_rest}
 
 -- nothing was read
 pub consumes_nothing : (a : Option (List ℕ)) → Consumes a a []
@@ -13,3 +15,12 @@ consumes_more None b c xs ys p q = tt
 consumes_more (Some a) None c xs ys p q = absurd p
 consumes_more (Some a) (Some b) None xs ys p q = absurd q
 consumes_more (Some a) (Some b) (Some c) xs ys p q = p ∙ ap (λ (l : List ℕ). xs ++ l) q ∙ sym (append_assoc xs ys c)
+
+-- two appends, of the first i bytes and of the n after them, are one of i + n
+pub appends_more : (a b c : Option (List ℕ)) (bs : List ℕ) (i n : ℕ) → Appends a b (take i bs) → Appends b c (take n (take (length bs - i) (drop i bs))) → Appends a c (take (i + n) bs)
+appends_more None b c bs i n p q = tt
+appends_more (Some a) None c bs i n p q = absurd p
+appends_more (Some a) (Some b) None bs i n p q = absurd q
+appends_more (Some a) (Some b) (Some c) bs i n p q =
+    let r = rw take_rest at q in
+    r ∙ (ap (λ (x : List ℕ). x ++ take n (drop i bs)) p ∙ (append_assoc a (take i bs) (take n (drop i bs)) ∙ ap (λ (x : List ℕ). a ++ x) (sym (take-add i n bs))))

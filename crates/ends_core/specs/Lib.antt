@@ -2,5 +2,10 @@ pub use Rattle.definitions.specs.Messages
 pub use Rattle.definitions.specs.Strategies
 pub use Rattle.definitions.specs.Replies
 pub use Rattle.definitions.specs.Wire
+pub use Rattle.definitions.specs.Faults
+pub use Rattle.store_core.specs.Flat
+pub use Rattle.wire_core.specs.Refused
 pub mod ListPeer
+pub mod Inputs
 pub mod Answered
+pub mod FaultsOf

@@ -1,7 +1,7 @@
 //! Reading an input to its end.
 
 ghost use Rattle.std.specs.Prelude.{vec_len, ◌≡◌, ◌<◌, ◌≤◌, ◌⊎◌, ◌-◌, false, length, Err, IfOk, OnOk, IsTrue};
-ghost use Rattle.ends_core.specs.Answered.{WasRead, ReadsMore, IsTooLong};
+ghost use Rattle.ends_core.specs.Inputs.{WasRead, ReadsMore, IsTooLong};
 ghost use Rattle.ends_core.specs.declared.input.InputFault.TheVariants as faults;
 
 use std::alloc::{AllocError, Global};

@@ -1,0 +1,21 @@
+-- Why no reply was written, by what refused.
+use Rattle.wire_core.specs.declared.fault.DecodeError.{DecodeError}
+use Rattle.wire_core.specs.declared.fault.DecodeError.TheVariants as errors
+use Rattle.ends_core.specs.declared.input.InputFault.{InputFault}
+use Rattle.ends_core.specs.declared.input.InputFault.TheVariants as inputs
+use Rattle.ends_core.specs.declared.listing.ListReplyFault.{ListReplyFault}
+use Rattle.ends_core.specs.declared.listing.ListReplyFault.TheVariants as lists
+use Rattle.ends_core.specs.declared.answering.AnswerFault.{AnswerFault}
+use Rattle.ends_core.specs.declared.answering.AnswerFault.TheVariants.{CannotRead, Wire, Misplaced, Memory}
+
+abbrev pub of_input : InputFault → AnswerFault
+of_input inputs.CannotRead = CannotRead
+of_input inputs.Memory = Memory
+
+abbrev pub of_decoding : DecodeError → AnswerFault
+of_decoding (errors.Fault f) = Wire f
+of_decoding errors.Memory = Memory
+
+abbrev pub of_listing : ListReplyFault → AnswerFault
+of_listing lists.Misplaced = Misplaced
+of_listing lists.Memory = Memory
