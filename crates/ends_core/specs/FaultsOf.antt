@@ -1,4 +1,6 @@
--- Why no reply was written, by what refused.
+-- Why no reply was written, by what refused; and numbers.
+use Rattle.std.specs.Prelude.{ℕ}
+use Rattle.definitions.specs.Refusals.{misplaced, no_memory}
 use Rattle.wire_core.specs.declared.fault.DecodeError.{DecodeError}
 use Rattle.wire_core.specs.declared.fault.DecodeError.TheVariants as errors
 use Rattle.ends_core.specs.declared.input.InputFault.{InputFault}
@@ -19,3 +21,7 @@ of_decoding errors.Memory = Memory
 abbrev pub of_listing : ListReplyFault → AnswerFault
 of_listing lists.Misplaced = Misplaced
 of_listing lists.Memory = Memory
+
+abbrev pub list_fault_number : ListReplyFault → ℕ
+list_fault_number lists.Misplaced = misplaced
+list_fault_number lists.Memory = no_memory

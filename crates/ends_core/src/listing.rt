@@ -4,6 +4,7 @@ ghost use Rattle.definitions.specs.Fingerprints.{two_lanes};
 ghost use Rattle.definitions.specs.Replies as replies;
 ghost use Rattle.store_core.specs.Flat.{flat_items};
 ghost use Rattle.ends_core.specs.ListPeer.{list_peer, is_sum, are_sums};
+ghost use Rattle.ends_core.specs.FaultsOf.{list_fault_number};
 ghost use Rattle.ends_core.specs.declared.listing.ListReplyFault.TheVariants as faults;
 
 use digest_core::Fingerprint;
@@ -22,7 +23,9 @@ pub enum ListReplyFault {
 
 impl ListReplyFault {
     /// The number of the refusal: 20 or 90.
-    pub fn number(self) -> u8 {
+    pub fn number(self) -> u8
+        ensures { result ≡ list_fault_number self }
+    {
         match self {
             ListReplyFault::Misplaced => 20,
             ListReplyFault::Memory => 90,
