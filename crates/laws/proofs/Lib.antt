@@ -22,3 +22,4 @@ pub mod PlacingExact
 pub mod PlacedAccepted
 pub mod Exact
 pub mod Apart
+pub mod Once

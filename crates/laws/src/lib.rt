@@ -4,7 +4,7 @@
 ghost use Rattle.definitions.specs.Fingerprints.{Summary, IsExact, two_lanes, counted_lanes};
 ghost use Rattle.definitions.specs.Messages.{Message, RangesRise};
 ghost use Rattle.definitions.specs.Wire.{Profile, IsMessage};
-ghost use Rattle.definitions.specs.Theorems.{RepliesArePlaced, RepliesAreShort, PlacingIsExact, MessagesAreFew, MessagesFit, TalksAreApart, RepliesAreApart, PlacedAreApart, InitiatorStops, ResponderStops, ListsAreShort, KnowledgeIsExact, KnowledgeIsSound, PartsAreFew, Headline, CostClaim, HistoryClaim, AbsorbClaim};
+ghost use Rattle.definitions.specs.Theorems.{RepliesArePlaced, RepliesAreShort, PlacingIsExact, MessagesAreFew, MessagesFit, TalksAreApart, RepliesAreApart, PlacedAreApart, RepliesAreHonest, LearnsOnce, InitiatorStops, ResponderStops, ListsAreShort, KnowledgeIsExact, KnowledgeIsSound, PartsAreFew, Headline, CostClaim, HistoryClaim, AbsorbClaim};
 ghost use Rattle.laws.specs.Cutting.{CutsAreExact, TalksHaveRanges};
 
 // ---- fingerprints
@@ -44,6 +44,16 @@ pub fn replies_are_apart<F>()
 /// What a placed message opens does not overlap, where what it follows does not.
 pub fn placed_are_apart<F>()
     ensures { PlacedAreApart F }
+{}
+
+/// A reply says what its sender has.
+pub fn replies_are_honest<F>()
+    ensures { (S : Summary F) → RepliesAreHonest S }
+{}
+
+/// What is learned from a placed message is learned once, and lies in no range that is still open.
+pub fn learns_once<F>()
+    ensures { (S : Summary F) → LearnsOnce S }
 {}
 
 /// The placing part by part accepts exactly the placed messages.
