@@ -23,3 +23,4 @@ pub mod PlacedAccepted
 pub mod Exact
 pub mod Apart
 pub mod Once
+pub mod Growing

@@ -6,6 +6,7 @@ ghost use Rattle.definitions.specs.Messages.{Message, RangesRise};
 ghost use Rattle.definitions.specs.Wire.{Profile, IsMessage};
 ghost use Rattle.definitions.specs.Theorems.{RepliesArePlaced, RepliesAreShort, PlacingIsExact, MessagesAreFew, MessagesFit, TalksAreApart, RepliesAreApart, PlacedAreApart, RepliesAreHonest, LearnsOnce, InitiatorStops, ResponderStops, ListsAreShort, KnowledgeIsExact, KnowledgeIsSound, PartsAreFew, Headline, CostClaim, HistoryClaim, AbsorbClaim};
 ghost use Rattle.laws.specs.Cutting.{CutsAreExact, TalksHaveRanges};
+ghost use Rattle.laws.specs.Growing.{TalksGrow, KnowledgeGrows};
 
 // ---- fingerprints
 
@@ -79,6 +80,16 @@ pub fn responder_stops<F>()
 {}
 
 // ---- talks
+
+/// A talk grows by the reply to its last message.
+pub fn talks_grow<F>()
+    ensures { (S : Summary F) → TalksGrow S }
+{}
+
+/// Only its hearer learns from a message.
+pub fn knowledge_grows<F>()
+    ensures { KnowledgeGrows F }
+{}
 
 /// Each range of a talk rises.
 pub fn talks_have_ranges<F>()
