@@ -24,3 +24,4 @@ pub mod Exact
 pub mod Apart
 pub mod Once
 pub mod Growing
+pub mod Refuted

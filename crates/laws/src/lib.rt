@@ -7,6 +7,7 @@ ghost use Rattle.definitions.specs.Wire.{Profile, IsMessage};
 ghost use Rattle.definitions.specs.Theorems.{RepliesArePlaced, RepliesAreShort, PlacingIsExact, MessagesAreFew, MessagesFit, TalksAreApart, RepliesAreApart, PlacedAreApart, RepliesAreHonest, LearnsOnce, InitiatorStops, ResponderStops, ListsAreShort, KnowledgeIsExact, KnowledgeIsSound, PartsAreFew, Headline, CostClaim, HistoryClaim, AbsorbClaim};
 ghost use Rattle.laws.specs.Cutting.{CutsAreExact, TalksHaveRanges};
 ghost use Rattle.laws.specs.Growing.{TalksGrow, KnowledgeGrows};
+ghost use Rattle.laws.specs.Weaker.{InitiatorStopsAnyhow, ResponderStopsAnyhow, ListsAreShortAnyhow, KnowledgeIsExactAnyhow, count_summary, blind};
 
 // ---- fingerprints
 
@@ -151,4 +152,26 @@ pub fn history_claim<F>()
 /// An absorbed session leaves its node with both pinned versions.
 pub fn absorb_claim<F>()
     ensures { (S : Summary F) → AbsorbClaim S }
+{}
+
+// ---- no premise can be left out
+
+/// An initiator need not stop where received ranges do not rise.
+pub fn initiator_needs_ranges()
+    ensures { InitiatorStopsAnyhow count_summary → ⊥ }
+{}
+
+/// Nor need a responder.
+pub fn responder_needs_ranges()
+    ensures { ResponderStopsAnyhow count_summary → ⊥ }
+{}
+
+/// A list may be long where the rows end below the cap.
+pub fn lists_need_tables()
+    ensures { ListsAreShortAnyhow count_summary → ⊥ }
+{}
+
+/// Knowledge may be wrong where the test of fingerprints errs.
+pub fn knowledge_needs_exactness()
+    ensures { KnowledgeIsExactAnyhow blind → ⊥ }
 {}
