@@ -14,3 +14,4 @@ pub mod Made
 pub mod Fuel
 pub mod Joins
 pub mod Padding
+pub mod Heard

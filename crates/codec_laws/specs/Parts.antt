@@ -2,13 +2,15 @@
 --     ItemsFaultIsExact, PartFaultIsExact P      items and parts that are made: no fault where they have a spelling
 --     MarksComeBack, PaddingIsLast               marks and their bytes
 --     FuelIsEnough P, FeedsJoin P                readings of messages and streams in steps
+--     HeardAreMessages P                         what a stream spells
 use Rattle.std.specs.Prelude.{◌≡◌, ◌↔◌, ℕ, ◌/◌, ◌%◌, ◌^◌, ◌<◌, ◌==◌, ◌||◌, Bool, List, ◌++◌, length, None, bytes_eq, slice_index}
 use Rattle.std.specs.List.{AllByRecursion}
 use Rattle.definitions.specs.Items.{IsBytes, Item, IsItem, Range, IsRange}
 use Rattle.definitions.specs.Messages.{Part, Sum, Listing, Answer}
-use Rattle.definitions.specs.Wire.{Profile, AreItemsOf, IsFingerprint, IsPart, mark_bytes, mark_bytes_for}
+use Rattle.definitions.specs.Wire.{Profile, AreItemsOf, IsFingerprint, IsPart, IsMessage, mark_bytes, mark_bytes_for}
 use Rattle.definitions.specs.Faults.{items_fault, part_fault}
 use Rattle.definitions.specs.Reading.{marks_in}
+use Rattle.definitions.specs.Engines.{heard}
 use Rattle.definitions.specs.Streams.{Standing, Fed, feed, message_from}
 
 -- so few items that their number can be written
@@ -45,3 +47,7 @@ joined a b = record { events = a.events ++ b.events; to = b.to; kept = b.kept }
 abbrev pub FeedsJoin : {F : Type 0} → Profile F → Type 0
 FeedsJoin {F} P = (from : Standing) (front back : List ℕ) → IsBytes front → IsBytes back →
     feed P from (front ++ back) ≡ (let a = feed P from front in joined a (feed P a.to (a.kept ++ back)))
+
+-- the whole messages of a stream have a spelling
+abbrev pub HeardAreMessages : {F : Type 0} → Profile F → Type 0
+HeardAreMessages P = (bytes : List ℕ) → IsBytes bytes → AllByRecursion (IsMessage P) (heard P bytes)

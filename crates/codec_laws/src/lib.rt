@@ -6,7 +6,7 @@ ghost use Rattle.definitions.specs.Wire.{Profile, IsProfile, short_text, upper_t
 ghost use Rattle.definitions.specs.Faults.{NoLower, NoUpper, NoItem, IsCount, Stops};
 ghost use Rattle.definitions.specs.Reading.{lower_at, upper_at, text_at, number_at};
 ghost use Rattle.codec_laws.specs.Codec.{FieldIsExact, BodyIsExact, NextIsExact, MessageIsExact, SpellingsStandAlone, FeedIsExact};
-ghost use Rattle.codec_laws.specs.Parts.{ItemsFaultIsExact, PartFaultIsExact, MarksComeBack, PaddingIsLast, FuelIsEnough, FeedsJoin};
+ghost use Rattle.codec_laws.specs.Parts.{ItemsFaultIsExact, PartFaultIsExact, MarksComeBack, PaddingIsLast, FuelIsEnough, FeedsJoin, HeardAreMessages};
 
 /// A lower bound is read where one is spelled, and otherwise it is the fault.
 pub fn lower_is_exact()
@@ -91,4 +91,9 @@ pub fn fuel_is_enough<F>()
 /// A stream may be cut anywhere.
 pub fn feeds_join<F>()
     ensures { (P : Profile F) → IsProfile P → FeedsJoin P }
+{}
+
+/// What a stream spells are messages.
+pub fn heard_are_messages<F>()
+    ensures { (P : Profile F) → IsProfile P → HeardAreMessages P }
 {}

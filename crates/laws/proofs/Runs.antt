@@ -5,7 +5,7 @@ use Rattle.std.specs.List.{AllByRecursion}
 use Rattle.std.proofs.lemmas.Bool.{cond_both}
 use Rattle.definitions.specs.Items.{Item}
 use Rattle.definitions.specs.Sets.{set_of}
-use Rattle.definitions.specs.Fingerprints.{Summary, IsExact}
+use Rattle.definitions.specs.Fingerprints.{Summary}
 use Rattle.definitions.specs.Strategies.{IsTable}
 use Rattle.definitions.specs.Ranks.{IsRankTable, Accepted, IsServing, ranks_by}
 use Rattle.definitions.specs.Histories.{History, content, insertion, history_after}
@@ -164,8 +164,8 @@ shown : (m b c : ℕ) (version : Option ℕ) → m ≤ b → option_map (λ v. b
 shown m b c None h e = absurd cc
 shown m b c (Some v) h e = let same : b ≡ c = cc in omega arith
 
-pub session-IsSound : {F : Type 0} (S : Summary F) → IsExact S → (count : ℕ) (w : World) (t : Session) → IsSteady count w → IsAmong count t → IsSound S w t
-session-IsSound S exact count w t s a =
+pub session-IsSound : {F : Type 0} (S : Summary F) (count : ℕ) (w : World) (t : Session) → IsSteady count w → IsAmong count t → IsSound S w t
+session-IsSound S count w t s a =
     let i = node_at-IsFit count w t.initiator s a.initiator in
     let r = node_at-IsFit count w t.responder s a.responder in
     record {
@@ -173,11 +173,11 @@ session-IsSound S exact count w t s a =
       reported = λ b e. shown _ _ b t.responder_version (kept_bound S count w t s a) e;
       short_lists = lists_are_short S (initiator_of w t) (responder_of w t) (t.delivered + 1) i.table r.table i.accepted r.accepted
           (peer_at-room count w t.initiator t.initiator_version s a.initiator) (peer_at-room count w t.responder _ s a.responder);
-      exact_knowledge = λ ended clear. session_knowledge S w t exact ended clear;
+      exact_knowledge = λ exact ended clear. session_knowledge S w t exact ended clear;
     }
 
 pub headline : {F : Type 0} (S : Summary F) → Headline S
-headline S exact nodes steps h =
+headline S nodes steps h =
     let w = run S (start nodes) steps in
     let steady = run-IsSteady S (length nodes) (start nodes) steps (start-IsSteady nodes h) in
-    All-map (IsAmong (length nodes)) (IsSound S w) (λ t a. session-IsSound S exact (length nodes) w t steady a) w.sessions steady.sessions
+    All-map (IsAmong (length nodes)) (IsSound S w) (λ t a. session-IsSound S (length nodes) w t steady a) w.sessions steady.sessions

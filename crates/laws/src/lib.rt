@@ -4,7 +4,7 @@
 ghost use Rattle.definitions.specs.Fingerprints.{Summary, IsExact, two_lanes, counted_lanes};
 ghost use Rattle.definitions.specs.Messages.{Message, RangesRise};
 ghost use Rattle.definitions.specs.Wire.{Profile, IsMessage};
-ghost use Rattle.definitions.specs.Theorems.{RepliesArePlaced, RepliesAreShort, PlacingIsExact, MessagesAreFew, MessagesFit, TalksAreApart, RepliesAreApart, PlacedAreApart, RepliesAreHonest, LearnsOnce, InitiatorStops, ResponderStops, ListsAreShort, KnowledgeIsExact, KnowledgeIsSound, PartsAreFew, Headline, CostClaim, HistoryClaim, AbsorbClaim};
+ghost use Rattle.definitions.specs.Theorems.{RepliesArePlaced, RepliesAreShort, EndsKeepLimits, PlacingIsExact, MessagesAreFew, MessagesFit, TalksAreApart, RepliesAreApart, PlacedAreApart, RepliesAreHonest, LearnsOnce, InitiatorStops, ResponderStops, ListsAreShort, KnowledgeIsExact, KnowledgeIsSound, PartsAreFew, Headline, CostClaim, HistoryClaim, AbsorbClaim};
 ghost use Rattle.laws.specs.Cutting.{CutsAreExact, TalksHaveRanges};
 ghost use Rattle.laws.specs.Growing.{TalksGrow, KnowledgeGrows};
 ghost use Rattle.laws.specs.Weaker.{InitiatorStopsAnyhow, ResponderStopsAnyhow, ListsAreShortAnyhow, KnowledgeIsExactAnyhow, count_summary, blind};
@@ -78,6 +78,11 @@ pub fn initiator_stops<F>()
 /// So does a responder.
 pub fn responder_stops<F>()
     ensures { (S : Summary F) → ResponderStops S }
+{}
+
+/// No own message lists more items than the limit, whatever the peer sends.
+pub fn ends_keep_limits<F>()
+    ensures { (S : Summary F) → EndsKeepLimits S }
 {}
 
 // ---- talks
