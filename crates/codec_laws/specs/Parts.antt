@@ -2,12 +2,12 @@
 --     ItemsFaultIsExact, PartFaultIsExact P      items and parts that are made: no fault where they have a spelling
 --     MarksComeBack, PaddingIsLast               marks and their bytes
 --     FuelIsEnough P, FeedsJoin P                readings of messages and streams in steps
---     HeardAreMessages P                         what a stream spells
+--     HeardAreMessages P, SessionsAreHeard P     what a stream spells
 use Rattle.std.specs.Prelude.{◌≡◌, ◌↔◌, ℕ, ◌/◌, ◌%◌, ◌^◌, ◌<◌, ◌==◌, ◌||◌, Bool, List, ◌++◌, length, None, bytes_eq, slice_index}
 use Rattle.std.specs.List.{AllByRecursion}
 use Rattle.definitions.specs.Items.{IsBytes, Item, IsItem, Range, IsRange}
-use Rattle.definitions.specs.Messages.{Part, Sum, Listing, Answer}
-use Rattle.definitions.specs.Wire.{Profile, AreItemsOf, IsFingerprint, IsPart, IsMessage, mark_bytes, mark_bytes_for}
+use Rattle.definitions.specs.Messages.{Part, Sum, Listing, Answer, Message}
+use Rattle.definitions.specs.Wire.{Profile, AreItemsOf, IsFingerprint, IsPart, IsMessage, session_text, mark_bytes, mark_bytes_for}
 use Rattle.definitions.specs.Faults.{items_fault, part_fault}
 use Rattle.definitions.specs.Reading.{marks_in}
 use Rattle.definitions.specs.Engines.{heard}
@@ -51,3 +51,7 @@ FeedsJoin {F} P = (from : Standing) (front back : List ℕ) → IsBytes front �
 -- the whole messages of a stream have a spelling
 abbrev pub HeardAreMessages : {F : Type 0} → Profile F → Type 0
 HeardAreMessages P = (bytes : List ℕ) → IsBytes bytes → AllByRecursion (IsMessage P) (heard P bytes)
+
+-- a session's text spells its messages
+abbrev pub SessionsAreHeard : {F : Type 0} → Profile F → Type 0
+SessionsAreHeard {F} P = (Ms : List (Message F)) → AllByRecursion (IsMessage P) Ms → heard P (session_text P Ms) ≡ Ms

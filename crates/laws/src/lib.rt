@@ -4,7 +4,7 @@
 ghost use Rattle.definitions.specs.Fingerprints.{Summary, IsExact, two_lanes, counted_lanes};
 ghost use Rattle.definitions.specs.Messages.{Message, RangesRise};
 ghost use Rattle.definitions.specs.Wire.{Profile, IsMessage};
-ghost use Rattle.definitions.specs.Theorems.{RepliesArePlaced, RepliesAreShort, EndsKeepLimits, PlacingIsExact, MessagesAreFew, MessagesFit, TalksAreApart, RepliesAreApart, PlacedAreApart, RepliesAreHonest, LearnsOnce, InitiatorStops, ResponderStops, ListsAreShort, KnowledgeIsExact, KnowledgeIsSound, PartsAreFew, Headline, CostClaim, HistoryClaim, AbsorbClaim};
+ghost use Rattle.definitions.specs.Theorems.{RepliesArePlaced, RepliesAreShort, EndsKeepLimits, PlacingIsExact, OpeningIsExact, MessagesAreFew, MessagesFit, TalksAreApart, RepliesAreApart, PlacedAreApart, RepliesAreHonest, LearnsOnce, InitiatorStops, ResponderStops, ListsAreShort, KnowledgeIsExact, KnowledgeIsSound, PartsAreFew, Headline, CostClaim, HistoryClaim, AbsorbClaim};
 ghost use Rattle.laws.specs.Cutting.{CutsAreExact, TalksHaveRanges};
 ghost use Rattle.laws.specs.Growing.{TalksGrow, KnowledgeGrows};
 ghost use Rattle.laws.specs.Weaker.{InitiatorStopsAnyhow, ResponderStopsAnyhow, ListsAreShortAnyhow, KnowledgeIsExactAnyhow, count_summary, blind};
@@ -61,6 +61,11 @@ pub fn learns_once<F>()
 /// The placing part by part accepts exactly the placed messages.
 pub fn placing_is_exact<F>()
     ensures { PlacingIsExact F }
+{}
+
+/// And exactly the openings.
+pub fn opening_is_exact<F>()
+    ensures { OpeningIsExact F }
 {}
 
 /// Each range of a message that has a spelling rises.
