@@ -15,3 +15,4 @@ pub mod Fuel
 pub mod Joins
 pub mod Padding
 pub mod Sizes
+pub mod Heard

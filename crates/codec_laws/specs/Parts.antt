@@ -3,14 +3,16 @@
 --     SetsFit P                                  lists of a set's items
 --     MarksComeBack, PaddingIsLast               marks and their bytes
 --     FuelIsEnough P, FeedsJoin P                readings of messages and streams in steps
+--     HeardAreMessages P, SessionsAreHeard P     what a stream spells
 use Rattle.std.specs.Prelude.{◌≡◌, ◌↔◌, ℕ, ◌/◌, ◌%◌, ◌^◌, ◌<◌, ◌≤◌, ◌==◌, ◌||◌, Bool, List, ◌++◌, length, None, bytes_eq, slice_index}
 use Rattle.std.specs.List.{AllByRecursion}
 use Rattle.definitions.specs.Items.{IsBytes, Item, IsItem, Range, IsRange}
 use Rattle.definitions.specs.Sets.{IsSet, items_in}
-use Rattle.definitions.specs.Messages.{Part, Sum, Listing, Answer}
-use Rattle.definitions.specs.Wire.{Profile, AreItemsOf, IsFingerprint, IsPart, mark_bytes, mark_bytes_for}
+use Rattle.definitions.specs.Messages.{Part, Sum, Listing, Answer, Message}
+use Rattle.definitions.specs.Wire.{Profile, AreItemsOf, IsFingerprint, IsPart, IsMessage, session_text, mark_bytes, mark_bytes_for}
 use Rattle.definitions.specs.Faults.{items_fault, part_fault}
 use Rattle.definitions.specs.Reading.{marks_in}
+use Rattle.definitions.specs.Engines.{heard}
 use Rattle.definitions.specs.Streams.{Standing, Fed, feed, message_from}
 
 -- so few items that their number can be written
@@ -51,3 +53,11 @@ FeedsJoin {F} P = (from : Standing) (front back : List ℕ) → IsBytes front �
 -- the items that a set has in a range fit a frame
 abbrev pub SetsFit : {F : Type 0} → Profile F → Type 0
 SetsFit P = (A : List Item) (X : Range) → IsSet A → AllByRecursion IsItem A → length A ≤ 65536 → IsRange X → IsPart P (Listing X (items_in A X))
+
+-- the whole messages of a stream have a spelling
+abbrev pub HeardAreMessages : {F : Type 0} → Profile F → Type 0
+HeardAreMessages P = (bytes : List ℕ) → IsBytes bytes → AllByRecursion (IsMessage P) (heard P bytes)
+
+-- a session's text spells its messages
+abbrev pub SessionsAreHeard : {F : Type 0} → Profile F → Type 0
+SessionsAreHeard {F} P = (Ms : List (Message F)) → AllByRecursion (IsMessage P) Ms → heard P (session_text P Ms) ≡ Ms

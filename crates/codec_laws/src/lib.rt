@@ -6,7 +6,7 @@ ghost use Rattle.definitions.specs.Wire.{Profile, IsProfile, short_text, upper_t
 ghost use Rattle.definitions.specs.Faults.{NoLower, NoUpper, NoItem, IsCount, Stops};
 ghost use Rattle.definitions.specs.Reading.{lower_at, upper_at, text_at, number_at};
 ghost use Rattle.codec_laws.specs.Codec.{FieldIsExact, BodyIsExact, NextIsExact, MessageIsExact, SpellingsStandAlone, FeedIsExact};
-ghost use Rattle.codec_laws.specs.Parts.{ItemsFaultIsExact, PartFaultIsExact, MarksComeBack, PaddingIsLast, FuelIsEnough, FeedsJoin, SetsFit};
+ghost use Rattle.codec_laws.specs.Parts.{ItemsFaultIsExact, PartFaultIsExact, MarksComeBack, PaddingIsLast, FuelIsEnough, FeedsJoin, HeardAreMessages, SessionsAreHeard, SetsFit};
 
 /// A lower bound is read where one is spelled, and otherwise it is the fault.
 pub fn lower_is_exact()
@@ -96,4 +96,14 @@ pub fn feeds_join<F>()
 /// What a set of 65,536 items or fewer has in a range is listed in one frame.
 pub fn sets_fit<F>()
     ensures { (P : Profile F) → SetsFit P }
+{}
+
+/// What a stream spells are messages.
+pub fn heard_are_messages<F>()
+    ensures { (P : Profile F) → IsProfile P → HeardAreMessages P }
+{}
+
+/// And a session's text spells its messages.
+pub fn sessions_are_heard<F>()
+    ensures { (P : Profile F) → IsProfile P → SessionsAreHeard P }
 {}

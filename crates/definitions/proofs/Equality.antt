@@ -1,5 +1,5 @@
 -- The tests of equality of items, bounds and ranges.
-use Rattle.std.proofs.Common.{◌≡◌, Bool, true, false, List, ℕ, Option, Some, None, refl, sym, ap, ◌∙◌, Equal}
+use Rattle.std.proofs.Common.{◌≡◌, true, List, ℕ, Option, Some, None, refl, sym, ap, ◌∙◌, Equal}
 use Rattle.std.specs.Ordering.{is_eq}
 use Rattle.std.proofs.lemmas.Bool.{false≢true, and_parts, and_from}
 use Rattle.std.proofs.lemmas.Map.Text.{is_eq-slice_cmp}

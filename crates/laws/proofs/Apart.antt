@@ -140,7 +140,7 @@ talks_are_apart S I R f g k i r = talk_from-Apart S I R f g i r (opening S I.ite
 
 -- ---- placed messages
 
-sums-cuts : {F : Type 0} (x : List ℕ) (cs : List (List ℕ)) (y : Option (List ℕ)) (ps : Message F) → AreSums (ranges_between x cs y) ps → RangesRise ps → CutsRise x cs y
+pub sums-cuts : {F : Type 0} (x : List ℕ) (cs : List (List ℕ)) (y : Option (List ℕ)) (ps : Message F) → AreSums (ranges_between x cs y) ps → RangesRise ps → CutsRise x cs y
 sums-cuts x [] y ps h r = tt
 sums-cuts x (c ∷ cs) y [] h r = absurd h
 sums-cuts x (c ∷ cs) y (Sum Y f ∷ ps) h r = (subst Rises h.0 r.0, chain_below c cs y ps h.1 r.1, sums-cuts c cs y ps h.1 r.1)

@@ -22,7 +22,7 @@ use Rattle.definitions.specs.Worlds.{messages, initiator_of, responder_of, start
 use Rattle.definitions.specs.Theorems.{PartsAreFew, CostClaim, MessagesFit}
 use Rattle.laws.proofs.Times.{when, times, times-append, times-filter, has-times, has-filter, times_le_one, times_below}
 use Rattle.laws.proofs.Unions.{all_above}
-use Rattle.laws.proofs.Parts.{tally, in_open, IsHonest, tally-in_open, reply-IsHonest}
+use Rattle.laws.proofs.Parts.{tally, in_open, tally-in_open, reply-IsHonest}
 use Rattle.laws.proofs.Sound.{reply-in_open_le}
 use Rattle.laws.proofs.Sessions.{peer_at-IsSet}
 use Rattle.laws.proofs.Talk.{contains-whole, items_in-whole}
@@ -32,6 +32,7 @@ use Rattle.std.proofs.lemmas.List.Elements.{filter-append}
 use Rattle.laws.proofs.Cuts.{length-ranges_between}
 use Rattle.definitions.proofs.Lists.{All-append, All-every}
 use Rattle.laws.proofs.Ranks.{peer_cutup, reply_to_sum}
+use Rattle.definitions.specs.Theorems.{IsHonest}
 
 -- ---- sets are equal where their items are
 

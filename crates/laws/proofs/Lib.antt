@@ -22,3 +22,6 @@ pub mod PlacingExact
 pub mod PlacedAccepted
 pub mod Exact
 pub mod Apart
+pub mod Once
+pub mod Growing
+pub mod Refuted

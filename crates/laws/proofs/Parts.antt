@@ -13,6 +13,7 @@ use Rattle.laws.proofs.Spread.{spread, spread-cutup, PlacesRise-shares}
 use Rattle.definitions.proofs.Equality.{same_range-eq, same_range-itself}
 use Rattle.definitions.proofs.Lists.{All-append, All-both}
 use Rattle.laws.proofs.Ranks.{reply_to_sum}
+use Rattle.definitions.specs.Theorems.{IsHonest, RepliesAreHonest}
 
 -- ---- words
 
@@ -50,12 +51,6 @@ abbrev pub offered : {F : Type 0} → Item → Part F → ℕ
 offered x (Sum X f) = 0
 offered x (Listing X items) = 0
 offered x (Answer X marks items) = times x items
-
--- the part says what A has in its range
-abbrev pub IsHonest : {F : Type 0} → Summary F → List Item → Part F → Type 0
-IsHonest S A (Sum X f) = f ≡ S.of (items_in A X)
-IsHonest S A (Listing X items) = items ≡ items_in A X
-IsHonest S A (Answer X marks items) = Unit {0}
 
 -- for the range of a Listing the message sent lists what A has there
 abbrev pub IsListed : {F : Type 0} → List Item → Message F → Part F → Type 0
@@ -155,7 +150,7 @@ reply_to-IsHonest S P (Sum X f) =
 reply_to-IsHonest S P (Listing X items) = (tt, tt)
 reply_to-IsHonest S P (Answer X marks items) = tt
 
-pub reply-IsHonest : {F : Type 0} (S : Summary F) (P : Peer) (M : Message F) → AllByRecursion (IsHonest S P.items) (reply S P M)
+pub reply-IsHonest : {F : Type 0} (S : Summary F) → RepliesAreHonest S
 reply-IsHonest S P [] = tt
 reply-IsHonest S P (p ∷ ps) = All-append (IsHonest S P.items) (reply_to S P p) (reply S P ps) (reply_to-IsHonest S P p) (reply-IsHonest S P ps)
 

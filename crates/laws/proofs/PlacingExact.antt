@@ -11,6 +11,10 @@ use Rattle.definitions.specs.Placing.{AreSums, FollowsAll, Placed, Place, Behind
 use Rattle.definitions.specs.Refusals.{misplaced, stall, gap, missing_answer, mark_count, answer_repeats}
 use Rattle.definitions.proofs.Equality.{same_range-eq}
 use Rattle.std.proofs.lemmas.Bool.{and_parts}
+use Rattle.definitions.specs.Theorems.{OpeningIsExact}
+use Rattle.definitions.specs.Messages.{IsOpening}
+use Rattle.definitions.specs.Placing.{opening_fault}
+use Rattle.definitions.specs.Items.{whole}
 
 -- a refusal stays
 refused : {F : Type 0} (code : ℕ) (M : Message F) → finish (fold next (Refused code) M) ≡ None → ⊥
@@ -135,3 +139,23 @@ both_sides (p ∷ M) =
 -- what is accepted part by part is placed
 pub Placed-from_accepted : {F : Type 0} (sent M : Message F) → place_fault sent M ≡ None → Placed sent M
 Placed-from_accepted sent M h = (both_sides M).0 (open_parts sent) h
+
+-- ---- a first message
+
+opening-whole : {F : Type 0} (X : Range) (f : F) → same_range X whole ≡ true → IsOpening (Sum X f ∷ [])
+opening-whole X f e = (f, ap (λ Y. Sum Y f ∷ []) (same_range-eq X whole e))
+
+opening-accepted : {F : Type 0} (M : Message F) → opening_fault M ≡ None → IsOpening M
+opening-accepted [] h = absurd cc
+opening-accepted (Listing X items ∷ M) h = absurd (refused misplaced M h)
+opening-accepted (Answer X marks items ∷ M) h = absurd (refused misplaced M h)
+opening-accepted {F} (Sum X f ∷ []) h =
+    if-cases (Accepts []) _ (same_range X whole) (Behind [] None) (Refused misplaced) (λ e _. opening-whole X f e) (λ _ no. absurd (refused {F = F} misplaced [] no)) h
+opening-accepted (Sum X f ∷ p ∷ M) h =
+    if-cases (Accepts (p ∷ M)) _ (same_range X whole) (Behind [] None) (Refused misplaced) (λ _ more. absurd (refused misplaced M more)) (λ _ no. absurd (refused misplaced (p ∷ M) no)) h
+
+accepted-opening : {F : Type 0} (M : Message F) → IsOpening M → opening_fault M ≡ None
+accepted-opening M (f, is) = ap opening_fault is
+
+pub opening_exact : {F : Type 0} → OpeningIsExact F
+opening_exact M = (opening-accepted M, accepted-opening M)

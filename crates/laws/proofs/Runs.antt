@@ -1,26 +1,28 @@
 -- Each session of each run is sound, and its messages have few parts.
-use Rattle.std.proofs.Common.{◌≡◌, ℕ, zero, suc, ◌+◌, ◌<◌, ◌≤◌, Bool, true, false, List, [], ◌∷◌, ◌++◌, length, set, Option, Some, None, refl, ◌∙◌, subst, arith, length-set}
-use Rattle.std.specs.Prelude.{slice_get, slice_set, ◌==◌, if◌then◌else◌}
+use Rattle.std.proofs.Common.{◌≡◌, ℕ, zero, suc, ◌+◌, ◌<◌, ◌≤◌, Bool, true, false, List, [], ◌∷◌, ◌++◌, length, set, Option, Some, None, refl, ◌∙◌, subst, arith, length-set, sym}
+use Rattle.std.specs.Prelude.{slice_get, slice_set, ◌==◌, if◌then◌else◌, option_map, unwrap_or}
 use Rattle.std.specs.List.{AllByRecursion}
 use Rattle.std.proofs.lemmas.Bool.{cond_both}
 use Rattle.definitions.specs.Items.{Item}
 use Rattle.definitions.specs.Sets.{set_of}
-use Rattle.definitions.specs.Fingerprints.{Summary, IsExact}
+use Rattle.definitions.specs.Fingerprints.{Summary}
 use Rattle.definitions.specs.Strategies.{IsTable}
-use Rattle.definitions.specs.Ranks.{IsRankTable, Accepted}
+use Rattle.definitions.specs.Ranks.{IsRankTable, Accepted, IsServing, ranks_by}
 use Rattle.definitions.specs.Histories.{History, content, insertion, history_after}
-use Rattle.definitions.specs.Worlds.{Node, Session, World, Side, Initiator, Responder, Step, Insert, Open, Deliver, Absorb, Did, Idle, Opened, Over, Sent, no_node, node_at, peer_at, initiator_of, responder_of, has_ended, initiator_knowledge, responder_knowledge, with_history, insert_at, open_at, after_delivery, deliver_at, absorb_all, absorb_into, absorb_side, absorb_at, step, run, start}
-use Rattle.definitions.specs.Theorems.{Ready, IsNode, IsSound, Headline}
+use Rattle.definitions.specs.Worlds.{Node, Session, World, Side, Initiator, Responder, Step, Insert, Open, Deliver, Absorb, Did, Idle, Opened, Over, Sent, no_node, node_at, peer_at, initiator_of, responder_of, has_ended, initiator_knowledge, responder_knowledge, with_history, insert_at, open_at, after_delivery, deliver_at, absorb_all, absorb_into, absorb_side, absorb_at, step, run, start, message_bound, rank_of, messages}
+use Rattle.definitions.specs.Theorems.{Ready, rank, IsNode, IsSound, Headline}
 use Rattle.laws.proofs.FewMessages.{messages_are_few}
 use Rattle.laws.proofs.ShortLists.{lists_are_short}
 use Rattle.laws.proofs.Sessions.{peer_at-IsSet, session_knowledge}
 use Rattle.laws.proofs.Histories.{length-version, length-insertion, length-absorb_all}
 use Rattle.definitions.proofs.Lists.{All-map, All-append, All-at}
+use Rattle.rank_laws.proofs.Checks.{ranks_by-at}
 
 -- what stays true of a node
 pub record IsFit (n : Node) : Type 0 where
   pub table : IsTable n.table
   pub accepted : Accepted n.table
+  pub serves : IsServing n.table n.steps
   pub room : length (content n.history) ≤ n.table.cap
 
 -- the session's nodes are among so many
@@ -49,7 +51,7 @@ All-set P (y ∷ ys) zero x h k = (k, h.1)
 All-set P (y ∷ ys) (suc i) x h k = (h.0, All-set P ys i x h.1 k)
 
 fit_with : (n : Node) (h : History) → IsFit n → length (content h) ≤ n.table.cap → IsFit (record n { history = h })
-fit_with n h f room = record { table = f.table; accepted = f.accepted; room = room }
+fit_with n h f room = record { table = f.table; accepted = f.accepted; serves = f.serves; room = room }
 
 -- ---- steps
 
@@ -125,7 +127,7 @@ run-IsSteady S count w (e ∷ es) s = run-IsSteady S count (step S w e).0 es (st
 
 pub start-IsSteady : (nodes : List Node) → AllByRecursion IsNode nodes → IsSteady (length nodes) (start nodes)
 start-IsSteady nodes h = record {
-  nodes = All-map IsNode IsFit (λ n k. record { table = k.table; accepted = k.accepted; room = k.room }) nodes h;
+  nodes = All-map IsNode IsFit (λ n k. record { table = k.table; accepted = k.accepted; serves = k.serves; room = k.room }) nodes h;
   size = refl;
   sessions = tt;
 }
@@ -140,19 +142,42 @@ peer_at-Ready count w n v f s h r =
 peer_at-room : (count : ℕ) (w : World) (n v : ℕ) → IsSteady count w → n < count → length (peer_at w n v).items ≤ (peer_at w n v).table.cap
 peer_at-room count w n v s h = let fit = node_at-IsFit count w n s h in omega (arith, length-version (node_at w n).history v, fit.room)
 
-pub session-IsSound : {F : Type 0} (S : Summary F) → IsExact S → (count : ℕ) (w : World) (t : Session) → IsSteady count w → IsAmong count t → IsSound S w t
-session-IsSound S exact count w t s a =
+-- the rank by the steps that a node keeps
+rank-kept : (count : ℕ) (w : World) (n v : ℕ) → IsSteady count w → n < count →
+    rank_of (node_at w n).steps (peer_at w n v) ≡ rank (ranks_by (node_at w n).steps (node_at w n).table.cap) (peer_at w n v)
+rank-kept count w n v s h = sym (ranks_by-at (node_at w n).steps (node_at w n).table.cap (length (peer_at w n v).items) (peer_at-room count w n v s h))
+
+kept_bound : {F : Type 0} (S : Summary F) (count : ℕ) (w : World) (t : Session) → IsSteady count w → IsAmong count t →
+    length (messages S w t) ≤ message_bound (rank_of (node_at w t.initiator).steps (initiator_of w t)) (rank_of (node_at w t.responder).steps (responder_of w t))
+kept_bound S count w t s a =
+    let i = node_at-IsFit count w t.initiator s a.initiator in
+    let r = node_at-IsFit count w t.responder s a.responder in
+    omega (
+      arith,
+      rank-kept count w t.initiator t.initiator_version s a.initiator,
+      rank-kept count w t.responder (unwrap_or t.responder_version 0) s a.responder,
+      messages_are_few S (initiator_of w t) (responder_of w t) _ _ (t.delivered + 1) (peer_at-Ready count w t.initiator t.initiator_version _ s a.initiator i.serves.ranks) (peer_at-Ready count w t.responder _ _ s a.responder r.serves.ranks),
+    )
+
+-- a bound is shown once the responder has a version
+shown : (m b c : ℕ) (version : Option ℕ) → m ≤ b → option_map (λ v. b) version ≡ Some c → m ≤ c
+shown m b c None h e = absurd cc
+shown m b c (Some v) h e = let same : b ≡ c = cc in omega arith
+
+pub session-IsSound : {F : Type 0} (S : Summary F) (count : ℕ) (w : World) (t : Session) → IsSteady count w → IsAmong count t → IsSound S w t
+session-IsSound S count w t s a =
     let i = node_at-IsFit count w t.initiator s a.initiator in
     let r = node_at-IsFit count w t.responder s a.responder in
     record {
       few_messages = λ f g p q. messages_are_few S (initiator_of w t) (responder_of w t) f g (t.delivered + 1) (peer_at-Ready count w t.initiator t.initiator_version f s a.initiator p) (peer_at-Ready count w t.responder _ g s a.responder q);
+      reported = λ b e. shown _ _ b t.responder_version (kept_bound S count w t s a) e;
       short_lists = lists_are_short S (initiator_of w t) (responder_of w t) (t.delivered + 1) i.table r.table i.accepted r.accepted
           (peer_at-room count w t.initiator t.initiator_version s a.initiator) (peer_at-room count w t.responder _ s a.responder);
-      exact_knowledge = λ ended clear. session_knowledge S w t exact ended clear;
+      exact_knowledge = λ exact ended clear. session_knowledge S w t exact ended clear;
     }
 
 pub headline : {F : Type 0} (S : Summary F) → Headline S
-headline S exact nodes steps h =
+headline S nodes steps h =
     let w = run S (start nodes) steps in
     let steady = run-IsSteady S (length nodes) (start nodes) steps (start-IsSteady nodes h) in
-    All-map (IsAmong (length nodes)) (IsSound S w) (λ t a. session-IsSound S exact (length nodes) w t steady a) w.sessions steady.sessions
+    All-map (IsAmong (length nodes)) (IsSound S w) (λ t a. session-IsSound S (length nodes) w t steady a) w.sessions steady.sessions

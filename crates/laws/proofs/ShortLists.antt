@@ -12,9 +12,12 @@ use Rattle.rank_laws.proofs.Tables.{covers}
 use Rattle.definitions.specs.Ranks.{keeps_limit, Accepted}
 use Rattle.definitions.specs.Replies.{Peer, sum_of, reply_to, reply}
 use Rattle.definitions.specs.Talks.{talk_from}
-use Rattle.definitions.specs.Theorems.{IsShort, KeepLimits, ListsAreShort, RepliesAreShort}
+use Rattle.definitions.specs.Theorems.{IsShort, KeepLimits, ListsAreShort, RepliesAreShort, EndsKeepLimits}
 use Rattle.laws.proofs.Ranks.{length-items_in-le_all, peer_cutup, reply_to-All, reply-All}
 use Rattle.definitions.proofs.Lists.{All-every}
+use Rattle.definitions.specs.Engines.{is_taken, replies, responder_says}
+use Rattle.definitions.specs.Placing.{opening_fault}
+use Rattle.std.specs.Prelude.{◌&&◌, is_none}
 
 listed-le : (limit top n : ℕ) (rows : List Row) → list_all (keeps_limit limit) rows ≡ true → list_any (λ row. nat_le top row.upto) rows ≡ true → n ≤ top →
     is_split (act_in rows n) ≡ false → n ≤ limit
@@ -60,3 +63,24 @@ talk_from-KeepLimits {F} S P Q M (suc k) s a t b i j h = (
 
 pub lists_are_short : {F : Type 0} (S : Summary F) → ListsAreShort S
 lists_are_short S I R k t u a b i j = talk_from-KeepLimits S I R (opening S I.items) k t a u b i j (tt, tt)
+
+-- ---- one end
+
+replies-short : {F : Type 0} (S : Summary F) (P : Peer) → ((M : Message F) → AllByRecursion (IsShort P.table.limit) (reply S P M)) → (sent : Message F) (Ms : List (Message F)) →
+    AllByRecursion (AllByRecursion (IsShort P.table.limit)) (replies S P sent Ms)
+replies-short S P short sent [] = tt
+replies-short S P short sent (M ∷ Ms) =
+    cond_both (is_taken sent M && has_open M) (reply S P M ∷ replies S P (reply S P M) Ms) [] (AllByRecursion (AllByRecursion (IsShort P.table.limit)))
+    (λ e. (short M, replies-short S P short (reply S P M) Ms)) (λ e. tt)
+
+responder-short : {F : Type 0} (S : Summary F) (P : Peer) → ((M : Message F) → AllByRecursion (IsShort P.table.limit) (reply S P M)) → (Ms : List (Message F)) →
+    AllByRecursion (AllByRecursion (IsShort P.table.limit)) (responder_says S P Ms)
+responder-short S P short [] = tt
+responder-short S P short (M ∷ Ms) =
+    cond_both (is_none (opening_fault M)) (reply S P M ∷ replies S P (reply S P M) Ms) [] (AllByRecursion (AllByRecursion (IsShort P.table.limit)))
+    (λ e. (short M, replies-short S P short (reply S P M) Ms)) (λ e. tt)
+
+pub ends_keep_limits : {F : Type 0} (S : Summary F) → EndsKeepLimits S
+ends_keep_limits S P Ms t a room =
+    let short : (M : Message _) → AllByRecursion (IsShort P.table.limit) (reply S P M) = λ M. reply-IsShort S P M t a room in
+    (((tt, tt), replies-short S P short (opening S P.items) Ms), responder-short S P short Ms)

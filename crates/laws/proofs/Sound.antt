@@ -12,9 +12,10 @@ use Rattle.definitions.specs.Talks.{talk_from, learn, knows, of_first}
 use Rattle.definitions.specs.Theorems.{ListsSome, KnowledgeIsSound}
 use Rattle.laws.proofs.Times.{when, times, times-append, has-times, times_le_one, IsDistinct-from_times, difference-IsSet}
 use Rattle.laws.proofs.Spread.{spread-cutup, PlacesRise-shares}
-use Rattle.laws.proofs.Parts.{tally, tally-append, in_sum, in_open, marked, offered, IsHonest, tally-in_open, tally-in_open-sums, learn-ours, learn-theirs, reply-IsHonest, reply-marked, reply-offered}
+use Rattle.laws.proofs.Parts.{tally, tally-append, in_sum, in_open, marked, offered, tally-in_open, tally-in_open-sums, learn-ours, learn-theirs, reply-IsHonest, reply-marked, reply-offered}
 use Rattle.laws.proofs.Talk.{contains-whole, items_in-whole}
 use Rattle.laws.proofs.Ranks.{reply_to_sum}
+use Rattle.definitions.specs.Theorems.{IsHonest}
 
 ListsSome-from_times : (items A : List Item) → IsSet A → ((x : Item) → times x items ≤ times x A) → ListsSome items A
 ListsSome-from_times items A set few = record {

@@ -9,8 +9,9 @@ use Rattle.definitions.specs.Replies.{Peer, reply}
 use Rattle.definitions.specs.Talks.{talk_from, learn, knows, of_first, IsClearAt, IsClear}
 use Rattle.definitions.specs.Theorems.{KnowledgeIsExact}
 use Rattle.laws.proofs.Times.{when, times, times-append, ListsOnce-from_times, difference-IsSet}
-use Rattle.laws.proofs.Parts.{tally, in_open, marked, offered, IsHonest, tally-in_open, tally-no_open, learn-ours, learn-theirs, reply-IsHonest, NoneWhereSame, NoneWhereSame-difference, reply-marked, reply-offered, reply-in_open}
+use Rattle.laws.proofs.Parts.{tally, in_open, marked, offered, tally-in_open, tally-no_open, learn-ours, learn-theirs, reply-IsHonest, NoneWhereSame, NoneWhereSame-difference, reply-marked, reply-offered, reply-in_open}
 use Rattle.definitions.proofs.Lists.{All-both}
+use Rattle.definitions.specs.Theorems.{IsHonest}
 
 -- the messages that follow M, of which there are at most k
 abbrev following : {F : Type 0} → Summary F → Peer → Peer → Message F → ℕ → List (Message F)

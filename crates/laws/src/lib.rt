@@ -4,8 +4,10 @@
 ghost use Rattle.definitions.specs.Fingerprints.{Summary, IsExact, two_lanes, counted_lanes};
 ghost use Rattle.definitions.specs.Messages.{Message, RangesRise};
 ghost use Rattle.definitions.specs.Wire.{Profile, IsMessage};
-ghost use Rattle.definitions.specs.Theorems.{RepliesArePlaced, RepliesAreShort, PlacingIsExact, MessagesAreFew, MessagesFit, TalksAreApart, RepliesAreApart, PlacedAreApart, InitiatorStops, ResponderStops, ListsAreShort, KnowledgeIsExact, KnowledgeIsSound, PartsAreFew, Headline, CostClaim, HistoryClaim, AbsorbClaim};
+ghost use Rattle.definitions.specs.Theorems.{RepliesArePlaced, RepliesAreShort, EndsKeepLimits, PlacingIsExact, OpeningIsExact, MessagesAreFew, MessagesFit, TalksAreApart, RepliesAreApart, PlacedAreApart, RepliesAreHonest, LearnsOnce, InitiatorStops, ResponderStops, ListsAreShort, KnowledgeIsExact, KnowledgeIsSound, PartsAreFew, Headline, CostClaim, HistoryClaim, AbsorbClaim};
 ghost use Rattle.laws.specs.Cutting.{CutsAreExact, TalksHaveRanges};
+ghost use Rattle.laws.specs.Growing.{TalksGrow, KnowledgeGrows};
+ghost use Rattle.laws.specs.Weaker.{InitiatorStopsAnyhow, ResponderStopsAnyhow, ListsAreShortAnyhow, KnowledgeIsExactAnyhow, count_summary, blind};
 
 // ---- fingerprints
 
@@ -46,9 +48,24 @@ pub fn placed_are_apart<F>()
     ensures { PlacedAreApart F }
 {}
 
+/// A reply says what its sender has.
+pub fn replies_are_honest<F>()
+    ensures { (S : Summary F) → RepliesAreHonest S }
+{}
+
+/// What is learned from a placed message is learned once, and lies in no range that is still open.
+pub fn learns_once<F>()
+    ensures { (S : Summary F) → LearnsOnce S }
+{}
+
 /// The placing part by part accepts exactly the placed messages.
 pub fn placing_is_exact<F>()
     ensures { PlacingIsExact F }
+{}
+
+/// And exactly the openings.
+pub fn opening_is_exact<F>()
+    ensures { OpeningIsExact F }
 {}
 
 /// Each range of a message that has a spelling rises.
@@ -68,7 +85,22 @@ pub fn responder_stops<F>()
     ensures { (S : Summary F) → ResponderStops S }
 {}
 
+/// No own message lists more items than the limit, whatever the peer sends.
+pub fn ends_keep_limits<F>()
+    ensures { (S : Summary F) → EndsKeepLimits S }
+{}
+
 // ---- talks
+
+/// A talk grows by the reply to its last message.
+pub fn talks_grow<F>()
+    ensures { (S : Summary F) → TalksGrow S }
+{}
+
+/// Only its hearer learns from a message.
+pub fn knowledge_grows<F>()
+    ensures { KnowledgeGrows F }
+{}
 
 /// Each range of a talk rises.
 pub fn talks_have_ranges<F>()
@@ -130,4 +162,26 @@ pub fn history_claim<F>()
 /// An absorbed session leaves its node with both pinned versions.
 pub fn absorb_claim<F>()
     ensures { (S : Summary F) → AbsorbClaim S }
+{}
+
+// ---- no premise can be left out
+
+/// An initiator need not stop where received ranges do not rise.
+pub fn initiator_needs_ranges()
+    ensures { InitiatorStopsAnyhow count_summary → ⊥ }
+{}
+
+/// Nor need a responder.
+pub fn responder_needs_ranges()
+    ensures { ResponderStopsAnyhow count_summary → ⊥ }
+{}
+
+/// A list may be long where the rows end below the cap.
+pub fn lists_need_tables()
+    ensures { ListsAreShortAnyhow count_summary → ⊥ }
+{}
+
+/// Knowledge may be wrong where the test of fingerprints errs.
+pub fn knowledge_needs_exactness()
+    ensures { KnowledgeIsExactAnyhow blind → ⊥ }
 {}
