@@ -2,3 +2,8 @@
 mod Examples
 mod Tables
 mod Talks
+mod Spellings
+mod Streams
+mod Placings
+mod Runs
+mod Parts

@@ -1,1 +1,4 @@
 mod Cases
+pub mod Lists
+pub mod Order
+pub mod Equality

@@ -21,11 +21,13 @@ pub record Profile (F : Type 0) : Type 0 where
   pub text : F → List ℕ
   pub read : List ℕ → F
 
--- four bytes of hello; and what is read from the bytes of a fingerprint is spelled by them
+-- four bytes of hello; and a fingerprint of some bytes, where what is read from them is spelled by them
 pub record IsProfile {F : Type 0} (P : Profile F) : Type 0 where
   pub hello : length P.hello ≡ 4
   pub hello_bytes : IsBytes P.hello
   pub size : 0 < P.size
+  -- so the body of a Sum is never too long
+  pub small : P.size ≤ 1024
   pub back : (bytes : List ℕ) → IsBytes bytes → length bytes ≡ P.size → P.text (P.read bytes) ≡ bytes
 
 abbrev pub lanes_text : Lanes → List ℕ

@@ -1,0 +1,16 @@
+pub mod Tells
+pub mod Fields
+pub mod Ranges
+pub mod Lists
+pub mod Marks
+pub mod Bodies
+pub mod Frames
+pub mod Messages
+pub mod Bytes
+pub mod Profiles
+pub mod Laws
+pub mod Feeds
+pub mod Made
+pub mod Fuel
+pub mod Joins
+pub mod Padding

@@ -1,0 +1,5 @@
+use Rattle.codec_laws.proofs.Laws.{message_exact}
+use Rattle.codec_laws.proofs.message_is_exact.Goals as goal
+
+pub returns : goal.returns
+returns g c = λ P real. message_exact P real

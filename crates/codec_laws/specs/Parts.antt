@@ -1,0 +1,47 @@
+-- What it means that the faults of what is made are exact.
+--     ItemsFaultIsExact, PartFaultIsExact P      items and parts that are made: no fault where they have a spelling
+--     MarksComeBack, PaddingIsLast               marks and their bytes
+--     FuelIsEnough P, FeedsJoin P                readings of messages and streams in steps
+use Rattle.std.specs.Prelude.{◌≡◌, ◌↔◌, ℕ, ◌/◌, ◌%◌, ◌^◌, ◌<◌, ◌==◌, ◌||◌, Bool, List, ◌++◌, length, None, bytes_eq, slice_index}
+use Rattle.std.specs.List.{AllByRecursion}
+use Rattle.definitions.specs.Items.{IsBytes, Item, IsItem, Range, IsRange}
+use Rattle.definitions.specs.Messages.{Part, Sum, Listing, Answer}
+use Rattle.definitions.specs.Wire.{Profile, AreItemsOf, IsFingerprint, IsPart, mark_bytes, mark_bytes_for}
+use Rattle.definitions.specs.Faults.{items_fault, part_fault}
+use Rattle.definitions.specs.Reading.{marks_in}
+use Rattle.definitions.specs.Streams.{Standing, Fed, feed, message_from}
+
+-- so few items that their number can be written
+abbrev pub ItemsFaultIsExact : Type 0
+ItemsFaultIsExact = (X : Range) (items : List Item) → AllByRecursion IsItem items → length items < 2 ^ 32 →
+    (items_fault X None items ≡ None) ↔ AreItemsOf X items
+
+-- what a part is made of: its items may still fall or lie outside, or be too many
+abbrev pub IsMadeOf : {F : Type 0} → Profile F → Part F → Type 0
+IsMadeOf P (Sum X f) = IsRange X × IsFingerprint P f
+IsMadeOf P (Listing X items) = IsRange X × AllByRecursion IsItem items
+IsMadeOf P (Answer X marks items) = IsRange X × AllByRecursion IsItem items
+
+abbrev pub PartFaultIsExact : {F : Type 0} → Profile F → Type 0
+PartFaultIsExact {F} P = (p : Part F) → IsMadeOf P p → (part_fault P p ≡ None) ↔ IsPart P p
+
+abbrev pub MarksComeBack : Type 0
+MarksComeBack = (marks : List Bool) → marks_in (length marks) (mark_bytes marks) ≡ marks
+
+-- of so many bytes as hold n marks, only the last can have a bit that is not used
+abbrev pub PaddingIsLast : Type 0
+PaddingIsLast = (n : ℕ) (held : List ℕ) → IsBytes held → length held ≡ mark_bytes_for n →
+    bytes_eq held (mark_bytes (marks_in n held)) ≡ (n % 8 == 0 || slice_index held (n / 8) / 2 ^ (n % 8) == 0)
+
+-- fuel above the number of bytes is enough
+abbrev pub FuelIsEnough : {F : Type 0} → Profile F → Type 0
+FuelIsEnough P = (m n parts : ℕ) (bytes : List ℕ) → IsBytes bytes → length bytes < m → length bytes < n → message_from P m parts bytes ≡ message_from P n parts bytes
+
+-- one stream after another
+abbrev pub joined : {F : Type 0} → Fed F → Fed F → Fed F
+joined a b = record { events = a.events ++ b.events; to = b.to; kept = b.kept }
+
+-- a stream may come in pieces: each is read behind what was kept
+abbrev pub FeedsJoin : {F : Type 0} → Profile F → Type 0
+FeedsJoin {F} P = (from : Standing) (front back : List ℕ) → IsBytes front → IsBytes back →
+    feed P from (front ++ back) ≡ (let a = feed P from front in joined a (feed P a.to (a.kept ++ back)))

@@ -1,0 +1,94 @@
+//! Laws of the spelling of messages and of its reading, for every profile. Each is the contract of a function with an empty body.
+#![tactic(auto)]
+
+ghost use Rattle.definitions.specs.Items.{IsItem, IsLower, IsUpper};
+ghost use Rattle.definitions.specs.Wire.{Profile, IsProfile, short_text, upper_text, count_text, two_lane_profile, counted_profile};
+ghost use Rattle.definitions.specs.Faults.{NoLower, NoUpper, NoItem, IsCount, Stops};
+ghost use Rattle.definitions.specs.Reading.{lower_at, upper_at, text_at, number_at};
+ghost use Rattle.codec_laws.specs.Codec.{FieldIsExact, BodyIsExact, NextIsExact, MessageIsExact, SpellingsStandAlone, FeedIsExact};
+ghost use Rattle.codec_laws.specs.Parts.{ItemsFaultIsExact, PartFaultIsExact, MarksComeBack, PaddingIsLast, FuelIsEnough, FeedsJoin};
+
+/// A lower bound is read where one is spelled, and otherwise it is the fault.
+pub fn lower_is_exact()
+    ensures { FieldIsExact short_text IsLower NoLower lower_at }
+{}
+
+/// So is an upper bound.
+pub fn upper_is_exact()
+    ensures { FieldIsExact upper_text IsUpper NoUpper upper_at }
+{}
+
+/// So is an item.
+pub fn item_is_exact()
+    ensures { FieldIsExact short_text IsItem NoItem text_at }
+{}
+
+/// So is a count.
+pub fn count_is_exact()
+    ensures { FieldIsExact count_text IsCount (Stops 4) number_at }
+{}
+
+/// A frame's body is one event's, or has a fault.
+pub fn body_is_exact<F>()
+    ensures { (P : Profile F) → IsProfile P → BodyIsExact P }
+{}
+
+/// So is what stands next in a stream, or it is no whole frame yet.
+pub fn next_is_exact<F>()
+    ensures { (P : Profile F) → IsProfile P → NextIsExact P }
+{}
+
+/// Bytes are one message's, or have a fault.
+pub fn message_is_exact<F>()
+    ensures { (P : Profile F) → IsProfile P → MessageIsExact P }
+{}
+
+/// A spelling of a message begins no other.
+pub fn spellings_stand_alone<F>()
+    ensures { (P : Profile F) → IsProfile P → SpellingsStandAlone P }
+{}
+
+/// Profile 1 is a real one.
+pub fn two_lanes_are_real()
+    ensures { IsProfile two_lane_profile }
+{}
+
+/// Profile 2 is a real one.
+pub fn counted_is_real()
+    ensures { IsProfile counted_profile }
+{}
+
+/// A stream is fed what its bytes mean, and nothing else.
+pub fn feed_is_exact<F>()
+    ensures { (P : Profile F) → IsProfile P → FeedIsExact P }
+{}
+
+/// Items that are made have no fault where a part can have them.
+pub fn items_fault_is_exact()
+    ensures { ItemsFaultIsExact }
+{}
+
+/// A part that is made has no fault where it has a spelling.
+pub fn part_fault_is_exact<F>()
+    ensures { (P : Profile F) → IsProfile P → PartFaultIsExact P }
+{}
+
+/// Marks are read from their bytes.
+pub fn marks_come_back()
+    ensures { MarksComeBack }
+{}
+
+/// A mark bit that is not used can only stand in the last byte.
+pub fn padding_is_last()
+    ensures { PaddingIsLast }
+{}
+
+/// A message is read alike by any fuel above the number of its bytes.
+pub fn fuel_is_enough<F>()
+    ensures { (P : Profile F) → IsProfile P → FuelIsEnough P }
+{}
+
+/// A stream may be cut anywhere.
+pub fn feeds_join<F>()
+    ensures { (P : Profile F) → IsProfile P → FeedsJoin P }
+{}

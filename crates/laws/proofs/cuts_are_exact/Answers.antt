@@ -1,0 +1,5 @@
+use Rattle.laws.proofs.Cutting.{cuts_are_exact}
+use Rattle.laws.proofs.cuts_are_exact.Goals as goal
+
+pub returns : goal.returns
+returns c = cuts_are_exact

@@ -1,0 +1,5 @@
+use Rattle.laws.proofs.Growing.{knowledge_grows}
+use Rattle.laws.proofs.knowledge_grows.Goals as goal
+
+pub returns : goal.returns
+returns g c = knowledge_grows

@@ -1,0 +1,5 @@
+use Rattle.laws.proofs.Apart.{placed_are_apart}
+use Rattle.laws.proofs.placed_are_apart.Goals as goal
+
+pub returns : goal.returns
+returns g c = placed_are_apart

@@ -1,0 +1,30 @@
+-- What a cut is.
+--     CutsAreExact           of a range by a peer's table
+--     TalksHaveRanges        each range of a talk rises
+use Rattle.std.specs.Prelude.{◌≡◌, ℕ, ◌≤◌, List, length, map, flat_map, IsTrue}
+use Rattle.std.specs.List.{AllByRecursion}
+use Rattle.definitions.specs.Items.{Item, Range, Rises}
+use Rattle.definitions.specs.Sets.{IsSet, items_in}
+use Rattle.definitions.specs.Fingerprints.{Summary}
+use Rattle.definitions.specs.Strategies.{act, shares, is_split}
+use Rattle.definitions.specs.Replies.{Peer, cutup}
+use Rattle.definitions.specs.Talks.{talk}
+use Rattle.definitions.specs.Messages.{RangesRise}
+use Rattle.definitions.specs.Theorems.{Ready}
+
+pub record IsExactCut (P : Peer) (X : Range) (Ys : List Range) : Type 0 where
+  -- the parts hold so many own items as the table says
+  pub sizes : map (λ Y. length (items_in P.items Y)) Ys ≡ shares P.table (length (items_in P.items X))
+  -- they rise if X does
+  pub rise : Rises X → AllByRecursion Rises Ys
+  -- what a set has in X is what it has in the parts, in order
+  pub whole : (D : List Item) → IsSet D → flat_map (items_in D) Ys ≡ items_in D X
+  -- no part has more items than X, of any list
+  pub no_more : (D : List Item) → AllByRecursion (λ Y. length (items_in D Y) ≤ length (items_in D X)) Ys
+
+abbrev pub CutsAreExact : Type 0
+CutsAreExact = (P : Peer) (f : List ℕ) (X : Range) → Ready P f → IsTrue (is_split (act P.table (length (items_in P.items X)))) →
+    IsExactCut P X (cutup P.items X (shares P.table (length (items_in P.items X))))
+
+abbrev pub TalksHaveRanges : {F : Type 0} → Summary F → Type 0
+TalksHaveRanges S = (I R : Peer) (f g : List ℕ) (k : ℕ) → Ready I f → Ready R g → AllByRecursion RangesRise (talk S I R k)

@@ -1,0 +1,154 @@
+//! Laws of replies, talks and runs, for every fingerprint. Each is the contract of a function with an empty body.
+#![tactic(auto)]
+
+ghost use Rattle.definitions.specs.Fingerprints.{Summary, IsExact, two_lanes, counted_lanes};
+ghost use Rattle.definitions.specs.Messages.{Message, RangesRise};
+ghost use Rattle.definitions.specs.Wire.{Profile, IsMessage};
+ghost use Rattle.definitions.specs.Theorems.{RepliesArePlaced, RepliesAreShort, PlacingIsExact, MessagesAreFew, MessagesFit, TalksAreApart, RepliesAreApart, PlacedAreApart, RepliesAreHonest, LearnsOnce, InitiatorStops, ResponderStops, ListsAreShort, KnowledgeIsExact, KnowledgeIsSound, PartsAreFew, Headline, CostClaim, HistoryClaim, AbsorbClaim};
+ghost use Rattle.laws.specs.Cutting.{CutsAreExact, TalksHaveRanges};
+ghost use Rattle.laws.specs.Growing.{TalksGrow, KnowledgeGrows};
+
+// ---- fingerprints
+
+/// The fingerprints of the first profile are compared exactly.
+pub fn lanes_are_exact()
+    ensures { IsExact two_lanes }
+{}
+
+/// So are those of the other.
+pub fn counted_lanes_are_exact()
+    ensures { IsExact counted_lanes }
+{}
+
+// ---- replies
+
+/// A cut has the shares of the table, and its parts make up the range.
+pub fn cuts_are_exact()
+    ensures { CutsAreExact }
+{}
+
+/// An honest reply is placed, whatever it replies to.
+pub fn replies_are_placed<F>()
+    ensures { (S : Summary F) → RepliesArePlaced S }
+{}
+
+/// No reply lists more items than the limit.
+pub fn replies_are_short<F>()
+    ensures { (S : Summary F) → RepliesAreShort S }
+{}
+
+/// What an honest reply opens does not overlap, where what it replies to does not.
+pub fn replies_are_apart<F>()
+    ensures { (S : Summary F) → RepliesAreApart S }
+{}
+
+/// What a placed message opens does not overlap, where what it follows does not.
+pub fn placed_are_apart<F>()
+    ensures { PlacedAreApart F }
+{}
+
+/// A reply says what its sender has.
+pub fn replies_are_honest<F>()
+    ensures { (S : Summary F) → RepliesAreHonest S }
+{}
+
+/// What is learned from a placed message is learned once, and lies in no range that is still open.
+pub fn learns_once<F>()
+    ensures { (S : Summary F) → LearnsOnce S }
+{}
+
+/// The placing part by part accepts exactly the placed messages.
+pub fn placing_is_exact<F>()
+    ensures { PlacingIsExact F }
+{}
+
+/// Each range of a message that has a spelling rises.
+pub fn messages_have_ranges<F>()
+    ensures { (P : Profile F) (M : Message F) → IsMessage P M → RangesRise M }
+{}
+
+// ---- one end
+
+/// An initiator stops, whatever well-placed messages its peer sends.
+pub fn initiator_stops<F>()
+    ensures { (S : Summary F) → InitiatorStops S }
+{}
+
+/// So does a responder.
+pub fn responder_stops<F>()
+    ensures { (S : Summary F) → ResponderStops S }
+{}
+
+// ---- talks
+
+/// A talk grows by the reply to its last message.
+pub fn talks_grow<F>()
+    ensures { (S : Summary F) → TalksGrow S }
+{}
+
+/// Only its hearer learns from a message.
+pub fn knowledge_grows<F>()
+    ensures { KnowledgeGrows F }
+{}
+
+/// Each range of a talk rises.
+pub fn talks_have_ranges<F>()
+    ensures { (S : Summary F) → TalksHaveRanges S }
+{}
+
+/// What each message of a talk opens does not overlap.
+pub fn talks_are_apart<F>()
+    ensures { (S : Summary F) → TalksAreApart S }
+{}
+
+/// A talk has few messages.
+pub fn messages_are_few<F>()
+    ensures { (S : Summary F) → MessagesAreFew S }
+{}
+
+/// A talk lists no more items for a range than its sender's limit.
+pub fn lists_are_short<F>()
+    ensures { (S : Summary F) → ListsAreShort S }
+{}
+
+/// A message of a talk has few parts.
+pub fn parts_are_few<F>()
+    ensures { (S : Summary F) → PartsAreFew S }
+{}
+
+/// A message of a talk has no more parts than both sets have items, or one.
+pub fn messages_fit<F>()
+    ensures { (S : Summary F) → MessagesFit S }
+{}
+
+/// Once a talk has ended each side knows both differences.
+pub fn knowledge_is_exact<F>()
+    ensures { (S : Summary F) → KnowledgeIsExact S }
+{}
+
+/// Nothing wrong is learned, at any time.
+pub fn knowledge_is_sound<F>()
+    ensures { (S : Summary F) → KnowledgeIsSound S }
+{}
+
+// ---- runs
+
+/// In each run each session is sound.
+pub fn headline<F>()
+    ensures { (S : Summary F) → Headline S }
+{}
+
+/// The messages of a session have few parts.
+pub fn cost_claim<F>()
+    ensures { (S : Summary F) → CostClaim S }
+{}
+
+/// An item of a history was there at the start, or was inserted.
+pub fn history_claim<F>()
+    ensures { (S : Summary F) → HistoryClaim S }
+{}
+
+/// An absorbed session leaves its node with both pinned versions.
+pub fn absorb_claim<F>()
+    ensures { (S : Summary F) → AbsorbClaim S }
+{}
