@@ -2,6 +2,7 @@ ghost use Rattle.std.specs.Prelude.{◌≡◌, length};
 ghost use Rattle.std.specs.Int.{w128, from_be_bytes};
 ghost use Rattle.definitions.specs.Wire.{IsFingerprint, lanes_text, lanes_read, two_lane_profile};
 
+use crate::laws;
 use crate::summary::Summary;
 use item_core::Item;
 use sha2::{Digest, Sha256};
@@ -51,8 +52,10 @@ impl Fingerprint {
 
     /// The fingerprint of these 32 bytes.
     pub fn from_bytes(bytes: [u8; 32]) -> Fingerprint
-        ensures { result ≡ lanes_read bytes }
+        ensures value { result ≡ lanes_read bytes }
+        ensures back { lanes_text result ≡ bytes }
     {
+        laws::bytes_are_exact();
         Fingerprint {
             first: lane(&bytes[..16]),
             second: lane(&bytes[16..]),
@@ -106,7 +109,5 @@ impl Summary for Fingerprint {
         self == other
     }
 
-    fn known(self) {
-        let _ = self.first;
-    }
+    fn known(self) {}
 }

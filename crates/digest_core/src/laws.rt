@@ -45,4 +45,6 @@ pub fn bytes_are_exact()
     ensures fingerprints { (f : Lanes) → IsLanes f → IsFingerprint two_lane_profile f }
     ensures bytes { (bytes : List ℕ) → IsBytes bytes → length bytes ≡ 32 → lanes_text (lanes_read bytes) ≡ bytes }
     ensures are_lanes { (bytes : List ℕ) → IsBytes bytes → IsLanes (lanes_read bytes) }
-{}
+{
+    codec_laws::two_lanes_are_real();
+}

@@ -4,7 +4,6 @@
 mod fingerprint;
 pub mod laws;
 mod summary;
-
 #[cfg(test)]
 mod tests;
 

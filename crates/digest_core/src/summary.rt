@@ -11,6 +11,7 @@ pub trait Summary: Copy + Drop {
     /// The summary of a list of items, and the test of two summaries.
     ghost summary: { fingerprints.Summary Self };
 
+    /// The summary of two lists, one behind the other, from those of the two.
     ghost joined: { Self → Self → Self };
 
     /// Holds of the values of the type.
@@ -36,17 +37,21 @@ pub trait Summary: Copy + Drop {
     fn known(self)
         ensures { is_value self };
 
+    /// The summary of a list is a value, and so is each join.
     ghost of_is_value: { (A : List items.Item) → is_value (summary.of A) };
 
     ghost joined_is_value: { (f g : Self) → is_value (joined f g) };
 
+    /// Joining is a sum: associative, commutative, with the summary of no items as its unit.
     ghost associates: { (f g h : Self) → joined (joined f g) h ≡ joined f (joined g h) };
 
     ghost commutes: { (f g : Self) → joined f g ≡ joined g f };
 
     ghost unit: { (f : Self) → is_value f → joined (summary.of []) f ≡ f };
 
+    /// The summary of one list behind another is the join of the two.
     ghost adds_up: { (A B : List items.Item) → summary.of (A ++ B) ≡ joined (summary.of A) (summary.of B) };
 
+    /// The test answers whether two summaries are equal.
     ghost exact: { IsExact summary };
 }

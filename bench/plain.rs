@@ -1,0 +1,595 @@
+//! What `rangesync answer` does, in plain Rust over std alone, to time the proved program beside it.
+//!
+//!     plain make DIR             writes DIR/items, DIR/message and DIR/equal
+//!     plain run DIR [ROUNDS]     prints the least time of each step in microseconds, and writes DIR/reply
+//!
+//! `items` has 65,536 lines of 32-byte items in hex, in no order. `message` is one Sum over everything
+//! with a fingerprint of 32 zero bytes, `equal` the same with the fingerprint of the items.
+
+use std::cmp::Ordering;
+use std::env;
+use std::fs;
+use std::hint::black_box;
+use std::path::Path;
+use std::process::exit;
+use std::time::{Duration, Instant};
+
+const MAX_ITEM: usize = 64;
+const MAX_ITEMS: usize = 65_536;
+const MAX_INPUT: usize = 16_777_216;
+const MAX_BODY: usize = 8_388_608;
+const MAX_PARTS: usize = 131_072;
+
+/// The number of a refusal.
+#[derive(Debug, Clone, Copy, PartialEq, Eq)]
+struct Refusal(u8);
+
+// ---- SHA-256
+
+const ROUND_CONSTANTS: [u32; 64] = [
+    0x428a2f98, 0x71374491, 0xb5c0fbcf, 0xe9b5dba5, 0x3956c25b, 0x59f111f1, 0x923f82a4, 0xab1c5ed5,
+    0xd807aa98, 0x12835b01, 0x243185be, 0x550c7dc3, 0x72be5d74, 0x80deb1fe, 0x9bdc06a7, 0xc19bf174,
+    0xe49b69c1, 0xefbe4786, 0x0fc19dc6, 0x240ca1cc, 0x2de92c6f, 0x4a7484aa, 0x5cb0a9dc, 0x76f988da,
+    0x983e5152, 0xa831c66d, 0xb00327c8, 0xbf597fc7, 0xc6e00bf3, 0xd5a79147, 0x06ca6351, 0x14292967,
+    0x27b70a85, 0x2e1b2138, 0x4d2c6dfc, 0x53380d13, 0x650a7354, 0x766a0abb, 0x81c2c92e, 0x92722c85,
+    0xa2bfe8a1, 0xa81a664b, 0xc24b8b70, 0xc76c51a3, 0xd192e819, 0xd6990624, 0xf40e3585, 0x106aa070,
+    0x19a4c116, 0x1e376c08, 0x2748774c, 0x34b0bcb5, 0x391c0cb3, 0x4ed8aa4a, 0x5b9cca4f, 0x682e6ff3,
+    0x748f82ee, 0x78a5636f, 0x84c87814, 0x8cc70208, 0x90befffa, 0xa4506ceb, 0xbef9a3f7, 0xc67178f2,
+];
+
+const INITIAL_HASH: [u32; 8] = [
+    0x6a09e667, 0xbb67ae85, 0x3c6ef372, 0xa54ff53a, 0x510e527f, 0x9b05688c, 0x1f83d9ab, 0x5be0cd19,
+];
+
+fn compress(hash: &mut [u32; 8], block: &[u8; 64]) {
+    let mut words = [0u32; 64];
+    for (word, bytes) in words.iter_mut().zip(block.chunks_exact(4)) {
+        *word = u32::from_be_bytes(bytes.try_into().expect("4 bytes"));
+    }
+    for t in 16..64 {
+        let s0 = words[t - 15].rotate_right(7) ^ words[t - 15].rotate_right(18) ^ (words[t - 15] >> 3);
+        let s1 = words[t - 2].rotate_right(17) ^ words[t - 2].rotate_right(19) ^ (words[t - 2] >> 10);
+        words[t] = words[t - 16].wrapping_add(s0).wrapping_add(words[t - 7]).wrapping_add(s1);
+    }
+    let [mut a, mut b, mut c, mut d, mut e, mut f, mut g, mut h] = *hash;
+    for t in 0..64 {
+        let big1 = e.rotate_right(6) ^ e.rotate_right(11) ^ e.rotate_right(25);
+        let choice = (e & f) ^ (!e & g);
+        let first = h
+            .wrapping_add(big1)
+            .wrapping_add(choice)
+            .wrapping_add(ROUND_CONSTANTS[t])
+            .wrapping_add(words[t]);
+        let big0 = a.rotate_right(2) ^ a.rotate_right(13) ^ a.rotate_right(22);
+        let majority = (a & b) ^ (a & c) ^ (b & c);
+        let second = big0.wrapping_add(majority);
+        h = g;
+        g = f;
+        f = e;
+        e = d.wrapping_add(first);
+        d = c;
+        c = b;
+        b = a;
+        a = first.wrapping_add(second);
+    }
+    for (word, value) in hash.iter_mut().zip([a, b, c, d, e, f, g, h]) {
+        *word = word.wrapping_add(value);
+    }
+}
+
+fn sha256(message: &[u8]) -> [u8; 32] {
+    let mut hash = INITIAL_HASH;
+    let mut blocks = message.chunks_exact(64);
+    for block in &mut blocks {
+        compress(&mut hash, block.try_into().expect("64 bytes"));
+    }
+    let rest = blocks.remainder();
+    let mut block = [0u8; 64];
+    block[..rest.len()].copy_from_slice(rest);
+    block[rest.len()] = 0x80;
+    if rest.len() >= 56 {
+        compress(&mut hash, &block);
+        block = [0; 64];
+    }
+    block[56..].copy_from_slice(&(message.len() as u64 * 8).to_be_bytes());
+    compress(&mut hash, &block);
+    let mut digest = [0u8; 32];
+    for (bytes, word) in digest.chunks_exact_mut(4).zip(hash) {
+        bytes.copy_from_slice(&word.to_be_bytes());
+    }
+    digest
+}
+
+// ---- items, ranges, fingerprints
+
+/// 0 to 64 bytes, kept inline.
+#[derive(Clone, Copy)]
+struct Short {
+    bytes: [u8; MAX_ITEM],
+    length: u8,
+}
+
+impl Short {
+    fn new(bytes: &[u8]) -> Short {
+        let mut held = [0; MAX_ITEM];
+        held[..bytes.len()].copy_from_slice(bytes);
+        Short { bytes: held, length: bytes.len() as u8 }
+    }
+
+    fn bytes(&self) -> &[u8] {
+        &self.bytes[..self.length as usize]
+    }
+}
+
+impl PartialEq for Short {
+    fn eq(&self, other: &Short) -> bool {
+        self.bytes() == other.bytes()
+    }
+}
+
+impl Eq for Short {}
+
+impl PartialOrd for Short {
+    fn partial_cmp(&self, other: &Short) -> Option<Ordering> {
+        Some(self.cmp(other))
+    }
+}
+
+impl Ord for Short {
+    fn cmp(&self, other: &Short) -> Ordering {
+        self.bytes().cmp(other.bytes())
+    }
+}
+
+type Item = Short;
+
+/// The items at or after `lower` and before `upper`; no `upper` is the end.
+#[derive(Clone, Copy)]
+struct Range {
+    lower: Short,
+    upper: Option<Short>,
+}
+
+impl Range {
+    fn is_empty(&self) -> bool {
+        self.upper.is_some_and(|upper| upper <= self.lower)
+    }
+
+    fn contains(&self, item: &Item) -> bool {
+        *item >= self.lower && self.upper.is_none_or(|upper| *item < upper)
+    }
+}
+
+#[derive(Clone, Copy, PartialEq, Eq)]
+struct Fingerprint {
+    first: u128,
+    second: u128,
+}
+
+impl Fingerprint {
+    const ZERO: Fingerprint = Fingerprint { first: 0, second: 0 };
+
+    fn of_item(item: &Item) -> Fingerprint {
+        Fingerprint::from_bytes(&sha256(item.bytes()))
+    }
+
+    fn join(self, other: Fingerprint) -> Fingerprint {
+        Fingerprint {
+            first: self.first.wrapping_add(other.first),
+            second: self.second.wrapping_add(other.second),
+        }
+    }
+
+    fn from_bytes(bytes: &[u8; 32]) -> Fingerprint {
+        Fingerprint {
+            first: u128::from_be_bytes(bytes[..16].try_into().expect("16 bytes")),
+            second: u128::from_be_bytes(bytes[16..].try_into().expect("16 bytes")),
+        }
+    }
+
+    fn write(self, out: &mut Vec<u8>) {
+        out.extend_from_slice(&self.first.to_be_bytes());
+        out.extend_from_slice(&self.second.to_be_bytes());
+    }
+}
+
+// ---- the store
+
+/// The items in rising order, each with its fingerprint beside it.
+struct Store {
+    items: Vec<Item>,
+    prints: Vec<Fingerprint>,
+}
+
+impl Store {
+    fn places(&self, range: &Range) -> std::ops::Range<usize> {
+        let start = self.items.partition_point(|item| *item < range.lower);
+        let end = match range.upper {
+            None => self.items.len(),
+            Some(upper) => self.items.partition_point(|item| *item < upper),
+        };
+        start..end
+    }
+
+    fn sum(&self, range: &Range) -> Fingerprint {
+        self.prints[self.places(range)].iter().fold(Fingerprint::ZERO, |sum, print| sum.join(*print))
+    }
+
+    fn items(&self, range: &Range) -> &[Item] {
+        &self.items[self.places(range)]
+    }
+}
+
+// ---- the item file
+
+/// The values of hex digits of both cases, and 0xFF for every other byte.
+const HEX_VALUES: [u8; 256] = hex_values();
+
+const fn hex_values() -> [u8; 256] {
+    let mut values = [0xFF; 256];
+    let mut value = 0;
+    while value < 16 {
+        values[b"0123456789abcdef"[value] as usize] = value as u8;
+        values[b"0123456789ABCDEF"[value] as usize] = value as u8;
+        value += 1;
+    }
+    values
+}
+
+fn trimmed(mut line: &[u8]) -> &[u8] {
+    if let [rest @ .., b'\r'] = line {
+        line = rest;
+    }
+    while let [b' ' | b'\t', rest @ ..] = line {
+        line = rest;
+    }
+    while let [rest @ .., b' ' | b'\t'] = line {
+        line = rest;
+    }
+    line
+}
+
+fn item_of_line(line: &[u8]) -> Result<Item, Refusal> {
+    if line.len() % 2 != 0 || line.len() > 2 * MAX_ITEM {
+        return Err(Refusal(81));
+    }
+    let mut bytes = [0; MAX_ITEM];
+    let mut seen = 0;
+    for (byte, digits) in bytes.iter_mut().zip(line.chunks_exact(2)) {
+        let high = HEX_VALUES[digits[0] as usize];
+        let low = HEX_VALUES[digits[1] as usize];
+        seen |= high | low;
+        *byte = high << 4 | low & 0x0F;
+    }
+    if seen > 0x0F {
+        return Err(Refusal(81));
+    }
+    Ok(Short { bytes, length: (line.len() / 2) as u8 })
+}
+
+fn read_items(text: &[u8]) -> Result<Vec<Item>, Refusal> {
+    if text.len() > MAX_INPUT {
+        return Err(Refusal(80));
+    }
+    let mut items = Vec::new();
+    for line in text.split(|byte| *byte == b'\n') {
+        let line = trimmed(line);
+        if !line.is_empty() {
+            items.push(item_of_line(line)?);
+        }
+    }
+    Ok(items)
+}
+
+// ---- messages
+
+enum Part {
+    Sum(Range, Fingerprint),
+    List(Range, Vec<Item>),
+}
+
+/// The bytes of one body that are still to be read.
+struct Body<'a> {
+    rest: &'a [u8],
+}
+
+impl<'a> Body<'a> {
+    fn take(&mut self, count: usize) -> Result<&'a [u8], Refusal> {
+        if self.rest.len() < count {
+            return Err(Refusal(2));
+        }
+        let (taken, rest) = self.rest.split_at(count);
+        self.rest = rest;
+        Ok(taken)
+    }
+
+    fn byte(&mut self) -> Result<u8, Refusal> {
+        Ok(self.take(1)?[0])
+    }
+
+    fn number(&mut self) -> Result<u32, Refusal> {
+        Ok(u32::from_be_bytes(self.take(4)?.try_into().expect("4 bytes")))
+    }
+
+    fn range(&mut self) -> Result<Range, Refusal> {
+        let length = self.byte()? as usize;
+        if length > MAX_ITEM {
+            return Err(Refusal(5));
+        }
+        let lower = Short::new(self.take(length)?);
+        let upper = match self.byte()? as usize {
+            0xFF => None,
+            length @ 1..=MAX_ITEM => Some(Short::new(self.take(length)?)),
+            _ => return Err(Refusal(5)),
+        };
+        let range = Range { lower, upper };
+        if range.is_empty() { Err(Refusal(6)) } else { Ok(range) }
+    }
+
+    fn items(&mut self, range: &Range) -> Result<Vec<Item>, Refusal> {
+        let count = self.number()? as usize;
+        let mut items: Vec<Item> = Vec::with_capacity(count.min(self.rest.len() / 2));
+        for _ in 0..count {
+            let length = self.byte()? as usize;
+            if length == 0 || length > MAX_ITEM {
+                return Err(Refusal(7));
+            }
+            let item = Short::new(self.take(length)?);
+            if items.last().is_some_and(|last| item <= *last) {
+                return Err(Refusal(8));
+            }
+            if !range.contains(&item) {
+                return Err(Refusal(9));
+            }
+            items.push(item);
+        }
+        Ok(items)
+    }
+
+    fn end<T>(self, value: T) -> Result<T, Refusal> {
+        if self.rest.is_empty() { Ok(value) } else { Err(Refusal(11)) }
+    }
+}
+
+/// The part of a body, or none where it is the end of the message.
+fn decode_body(bytes: &[u8]) -> Result<Option<Part>, Refusal> {
+    let mut body = Body { rest: bytes };
+    match body.byte()? {
+        1 => {
+            let range = body.range()?;
+            let sum = Fingerprint::from_bytes(body.take(32)?.try_into().expect("32 bytes"));
+            body.end(Some(Part::Sum(range, sum)))
+        }
+        2 => {
+            let range = body.range()?;
+            let items = body.items(&range)?;
+            body.end(Some(Part::List(range, items)))
+        }
+        4 => body.end(None),
+        _ => Err(Refusal(4)),
+    }
+}
+
+fn decode_message(bytes: &[u8]) -> Result<Vec<Part>, Refusal> {
+    let mut parts = Vec::new();
+    let mut rest = bytes;
+    loop {
+        let Some((length, after)) = rest.split_first_chunk::<4>() else { return Err(Refusal(3)) };
+        let length = u32::from_be_bytes(*length) as usize;
+        if length == 0 || length > MAX_BODY {
+            return Err(Refusal(2));
+        }
+        let Some((body, after)) = after.split_at_checked(length) else { return Err(Refusal(3)) };
+        match decode_body(body)? {
+            None if after.is_empty() => return Ok(parts),
+            None => return Err(Refusal(11)),
+            Some(_) if parts.len() == MAX_PARTS => return Err(Refusal(12)),
+            Some(part) => parts.push(part),
+        }
+        rest = after;
+    }
+}
+
+fn write_short(short: &Short, out: &mut Vec<u8>) {
+    out.push(short.length);
+    out.extend_from_slice(short.bytes());
+}
+
+fn write_range(range: &Range, out: &mut Vec<u8>) {
+    write_short(&range.lower, out);
+    match &range.upper {
+        None => out.push(0xFF),
+        Some(upper) => write_short(upper, out),
+    }
+}
+
+fn range_length(range: &Range) -> usize {
+    2 + range.lower.length as usize + range.upper.map_or(0, |upper| upper.length as usize)
+}
+
+fn body_length(part: &Part) -> usize {
+    match part {
+        Part::Sum(range, _) => 1 + range_length(range) + 32,
+        Part::List(range, items) => {
+            5 + range_length(range) + items.iter().map(|item| 1 + item.length as usize).sum::<usize>()
+        }
+    }
+}
+
+fn encode_part(part: &Part, out: &mut Vec<u8>) -> Result<(), Refusal> {
+    let length = body_length(part);
+    if length > MAX_BODY {
+        return Err(Refusal(2));
+    }
+    out.reserve(4 + length);
+    out.extend_from_slice(&(length as u32).to_be_bytes());
+    match part {
+        Part::Sum(range, sum) => {
+            out.push(1);
+            write_range(range, out);
+            sum.write(out);
+        }
+        Part::List(range, items) => {
+            out.push(2);
+            write_range(range, out);
+            out.extend_from_slice(&(items.len() as u32).to_be_bytes());
+            for item in items {
+                write_short(item, out);
+            }
+        }
+    }
+    Ok(())
+}
+
+fn encode_message(parts: &[Part]) -> Result<Vec<u8>, Refusal> {
+    let mut out = Vec::new();
+    for part in parts {
+        encode_part(part, &mut out)?;
+    }
+    out.extend_from_slice(&[0, 0, 0, 1, 4]);
+    Ok(out)
+}
+
+/// The reply where each range that differs is listed.
+fn list_reply(store: &Store, message: &[Part]) -> Result<Vec<Part>, Refusal> {
+    let mut reply = Vec::new();
+    for part in message {
+        match part {
+            Part::Sum(range, sum) => {
+                if store.sum(range) != *sum {
+                    reply.push(Part::List(*range, store.items(range).to_vec()));
+                }
+            }
+            Part::List(..) => return Err(Refusal(20)),
+        }
+    }
+    Ok(reply)
+}
+
+// ---- the programs
+
+/// Numbers that look random, the same in each run.
+struct Numbers(u64);
+
+impl Numbers {
+    fn next(&mut self) -> u64 {
+        self.0 = self.0.wrapping_add(0x9E37_79B9_7F4A_7C15);
+        let mut z = self.0;
+        z = (z ^ (z >> 30)).wrapping_mul(0xBF58_476D_1CE4_E5B9);
+        z = (z ^ (z >> 27)).wrapping_mul(0x94D0_49BB_1331_11EB);
+        z ^ (z >> 31)
+    }
+}
+
+fn opening(sum: Fingerprint) -> Result<Vec<u8>, Refusal> {
+    let whole = Range { lower: Short::new(&[]), upper: None };
+    encode_message(&[Part::Sum(whole, sum)])
+}
+
+fn make(folder: &Path) -> Result<(), Refusal> {
+    let mut numbers = Numbers(1);
+    let mut text = String::new();
+    let mut sum = Fingerprint::ZERO;
+    for _ in 0..MAX_ITEMS {
+        let mut bytes = [0u8; 32];
+        for chunk in bytes.chunks_exact_mut(8) {
+            chunk.copy_from_slice(&numbers.next().to_be_bytes());
+        }
+        sum = sum.join(Fingerprint::of_item(&Short::new(&bytes)));
+        for byte in bytes {
+            text.push_str(&format!("{byte:02x}"));
+        }
+        text.push('\n');
+    }
+    write(&folder.join("items"), text.as_bytes())?;
+    write(&folder.join("message"), &opening(Fingerprint::ZERO)?)?;
+    write(&folder.join("equal"), &opening(sum)?)
+}
+
+fn read(path: &Path) -> Result<Vec<u8>, Refusal> {
+    fs::read(path).map_err(|_| Refusal(80))
+}
+
+fn write(path: &Path, bytes: &[u8]) -> Result<(), Refusal> {
+    fs::write(path, bytes).map_err(|_| Refusal(80))
+}
+
+/// The steps by name, with the least time of each.
+struct Times(Vec<(&'static str, Duration)>);
+
+impl Times {
+    fn time<T>(&mut self, name: &'static str, step: impl FnOnce() -> T) -> T {
+        let start = Instant::now();
+        let value = black_box(step());
+        let took = start.elapsed();
+        match self.0.iter_mut().find(|entry| entry.0 == name) {
+            Some(entry) => entry.1 = entry.1.min(took),
+            None => self.0.push((name, took)),
+        }
+        value
+    }
+}
+
+fn load(path: &Path, times: &mut Times) -> Result<Store, Refusal> {
+    let text = times.time("read", || read(path))?;
+    let mut items = times.time("parse", || read_items(&text))?;
+    times.time("sort", || {
+        items.sort_unstable();
+        items.dedup();
+    });
+    if items.len() > MAX_ITEMS {
+        return Err(Refusal(82));
+    }
+    let prints = times.time("hash", || items.iter().map(Fingerprint::of_item).collect());
+    Ok(Store { items, prints })
+}
+
+fn run(folder: &Path, rounds: usize) -> Result<(), Refusal> {
+    let message = read(&folder.join("message"))?;
+    let equal = decode_message(&read(&folder.join("equal"))?)?;
+    let mut times = Times(Vec::new());
+    let mut text = Vec::new();
+    for _ in 0..rounds {
+        let mut steps = Times(std::mem::take(&mut times.0));
+        let start = Instant::now();
+        let store = load(&folder.join("items"), &mut steps)?;
+        let took = start.elapsed();
+        times = steps;
+        match times.0.iter_mut().find(|entry| entry.0 == "load") {
+            Some(entry) => entry.1 = entry.1.min(took),
+            None => times.0.push(("load", took)),
+        }
+        let parts = times.time("decode", || decode_message(&message))?;
+        let reply = times.time("reply", || list_reply(&store, &parts))?;
+        text = times.time("encode", || encode_message(&reply))?;
+        let none = times.time("reply_equal", || list_reply(&store, &equal))?;
+        if !none.is_empty() {
+            return Err(Refusal(2));
+        }
+    }
+    for (name, took) in &times.0 {
+        println!("{name} {:.1}", took.as_secs_f64() * 1e6);
+    }
+    write(&folder.join("reply"), &text)
+}
+
+fn main() {
+    let words: Vec<String> = env::args().skip(1).collect();
+    let words: Vec<&str> = words.iter().map(String::as_str).collect();
+    let done = match words.as_slice() {
+        ["make", folder] => make(Path::new(folder)),
+        ["run", folder] => run(Path::new(folder), 9),
+        ["run", folder, rounds] => match rounds.parse() {
+            Ok(rounds) => run(Path::new(folder), rounds),
+            Err(_) => exit(2),
+        },
+        _ => {
+            eprintln!("plain make DIR | plain run DIR [ROUNDS]");
+            exit(2)
+        }
+    };
+    if let Err(Refusal(number)) = done {
+        eprintln!("refused {number}");
+        exit(1);
+    }
+}
