@@ -1,5 +1,5 @@
 -- The set of a list's items, as sorting the list and dropping repeats makes it.
-use Rattle.std.proofs.Common.{◌≡◌, Bool, true, false, ◌||◌, List, [], ◌∷◌, Contains, refl, sym, ap, ◌∙◌}
+use Rattle.std.proofs.Common.{◌≡◌, Bool, true, false, ◌||◌, List, [], ◌∷◌, Contains, IsTrue, refl, sym, ap, ◌∙◌}
 use Rattle.std.specs.List.{list_any, dedup}
 use Rattle.std.specs.List.Sorted.{IsStrictlySortedBy, IsSorted, IsPermutation}
 use Rattle.std.specs.Ordering.{match_ordering}
@@ -77,6 +77,13 @@ pub same_set : (A B : List Item) → IsSet A → IsSet B → ((q : Item) → has
 same_set A B a b same =
     btree_set_from_contains nat_list_cmp_total (record { keys = A }) (record { keys = B }) a b (λ q. has_by_order A q ∙ same q ∙ sym (has_by_order B q)) exact_bytes
 
+again : (A : List Item) (x y : Item) (b : Bool) → b ≡ same_item y x → has A x ≡ true → b || has A y ≡ has A y
+again A x y true same there = let equal : y ≡ x = is_equal y x (sym same) in rw equal (sym there)
+again A x y false same there = refl
+
+pub add_again : (A : List Item) (x : Item) → IsSet A → IsTrue (has A x) → add_item A x ≡ A
+add_again A x set there = same_set (add_item A x) A (set_add A x set) set (λ y. has_add A x y ∙ again A x y (same_item y x) refl there)
+
 -- ---- sorting and dropping repeats
 
 contains : (A : List Item) (q : Item) → has A q ≡ true → Contains A q
@@ -96,9 +103,12 @@ has_kept xs ys q moved =
 pub set_of_is_set : (xs : List Item) → IsSet (set_of xs)
 set_of_is_set xs = set_union [] xs none_is_set
 
+pub has_set_of : (xs : List Item) (x : Item) → has (set_of xs) x ≡ has xs x
+has_set_of xs x = has_union [] xs x
+
 pub sorted_is_set_of : (xs ys : List Item) → IsPermutation xs ys → IsSorted item_cmp ys → dedup same_item ys ≡ set_of xs
 sorted_is_set_of xs ys moved sorted =
     same_set (dedup same_item ys) (set_of xs)
     (IsStrictlySortedBy-dedup nat_list_cmp_total (λ x y. sym (is_eq-slice_cmp x y)) ys sorted)
     (set_of_is_set xs)
-    (λ q. has_kept xs ys q moved ∙ sym (has_union [] xs q))
+    (λ q. has_kept xs ys q moved ∙ sym (has_set_of xs q))

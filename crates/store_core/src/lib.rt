@@ -4,8 +4,9 @@
 mod entry;
 mod flat;
 mod flat_store;
+pub mod laws;
 mod range_store;
-mod spans;
+pub mod spans;
 #[cfg(test)]
 mod tests;
 

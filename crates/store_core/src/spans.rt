@@ -1,4 +1,4 @@
-//! Parts of a sorted slice of entries.
+//! Sorted slices of entries: the part in a range, its fingerprint, and the slice with one more entry.
 
 ghost use Rattle.std.specs.Prelude.{◌≡◌, ◌≤◌, ◌∷◌, ◌++◌, true, false, take, drop, length, filter, not, is_none, IfOk, IfSome};
 ghost use Rattle.std.specs.List.{AllByRecursion};
