@@ -11,6 +11,5 @@ pub mod Profiles
 pub mod Laws
 pub mod Feeds
 pub mod Made
-pub mod Fuel
 pub mod Joins
 pub mod Padding

@@ -92,6 +92,7 @@ pub fn decode_message(alloc: Global, bytes: &[u8]) -> Result<Message, DecodeErro
     ensures exact { Gives (λ message. message) result (message_in two_lane_profile bytes.now) }
 {
     codec_laws::two_lanes_are_real();
+    codec_laws::reads_are_bytes();
     codec_laws::message_is_exact::<Fingerprint>();
     message_of(alloc, bytes)
 }

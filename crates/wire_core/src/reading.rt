@@ -120,6 +120,7 @@ pub fn part_in(alloc: Global, body: &[u8]) -> Result<Option<Part>, DecodeError>
     ensures { Gives event_of result (reading.event_in two_lane_profile One_message body.now) }
 {
     codec_laws::two_lanes_are_real();
+    codec_laws::reads_are_bytes();
     codec_laws::body_is_exact::<Fingerprint>();
     match fields_in(alloc, body)? {
         Some(fields) => Ok(Some(Part::of_fields(fields))),
