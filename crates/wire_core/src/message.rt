@@ -21,7 +21,7 @@ impl TooManyParts {
 }
 
 /// A message: 0 to 131,072 parts in order.
-#[derive(Drop)]
+#[derive(Debug, Drop)]
 pub struct Message {
     parts: Vec<Part>,
 }

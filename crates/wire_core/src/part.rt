@@ -28,7 +28,7 @@ pub enum PartKind {
 }
 
 /// A part of a message: a range, and what the sender says of its items there. Each part has a spelling.
-#[derive(Drop)]
+#[derive(Debug, Drop)]
 pub struct Part {
     range: Range,
     body: Body,
