@@ -6,8 +6,7 @@ ghost use Rattle.definitions.specs.Faults.{FaultyMessage};
 ghost use Rattle.definitions.specs.Reading as reading;
 ghost use Rattle.definitions.specs.Streams.{message_in};
 ghost use Rattle.wire_core.specs.Refused.{GivesField, Gives, IfFault};
-ghost use Rattle.wire_core.specs.Parts.{event_of};
-ghost use Rattle.wire_core.specs.Readers.{next_at};
+ghost use Rattle.wire_core.specs.Readers.{event_of, next_at};
 
 use crate::body::MAX_BODY;
 use crate::fault::{DecodeError, WireFault};

@@ -1,11 +1,11 @@
 ghost use Rattle.std.specs.Prelude.{◌≡◌, ◌↔◌, ◌*◌, ◌<◌, ◌≤◌, ◌^◌, [], length, take, drop, IfOk, slice_get, not, bytes_eq, IsTrue};
-ghost use Rattle.std.specs.Bool.{beq};
 ghost use Rattle.std.specs.Cmp.{partial_equiv_from_equiv, bool_eq_equiv};
-ghost use Rattle.std.specs.Cmp.Lexicographic.{pointwise, lists_equiv};
+ghost use Rattle.std.specs.Cmp.Lexicographic.{lists_equiv};
 ghost use Rattle.definitions.specs.Wire.{mark_bytes, mark_bytes_for};
 ghost use Rattle.definitions.specs.Wire as wire;
 ghost use Rattle.definitions.specs.Reading.{marks_in};
 ghost use Rattle.wire_core.specs.Packed.{IsPacked};
+ghost use Rattle.wire_core.specs.Same.{same_marks};
 
 use std::alloc::{AllocError, Global};
 use std::marker::Model;
@@ -88,7 +88,7 @@ impl Marks {
 }
 
 impl PartialEq for Marks {
-    ghost eq = { pointwise beq };
+    ghost eq = { same_marks };
 
     ghost laws = { partial_equiv_from_equiv (lists_equiv bool_eq_equiv) };
 

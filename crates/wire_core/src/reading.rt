@@ -5,8 +5,7 @@ ghost use Rattle.definitions.specs.Wire.{two_lane_profile, max_body, One_message
 ghost use Rattle.definitions.specs.Reading as reading;
 ghost use Rattle.wire_core.specs.Refused.{GivesField, Gives};
 ghost use Rattle.wire_core.specs.Bodies.{part_of, fields_event};
-ghost use Rattle.wire_core.specs.Parts.{event_of};
-ghost use Rattle.wire_core.specs.Readers.{fingerprint_at};
+ghost use Rattle.wire_core.specs.Readers.{event_of, fingerprint_at};
 
 use crate::body::Body;
 use crate::fault::{DecodeError, WireFault};
