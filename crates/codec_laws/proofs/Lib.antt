@@ -11,7 +11,6 @@ pub mod Profiles
 pub mod Laws
 pub mod Feeds
 pub mod Made
-pub mod Fuel
 pub mod Joins
 pub mod Padding
 pub mod Sizes

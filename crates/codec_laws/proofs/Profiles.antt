@@ -13,8 +13,8 @@ use Rattle.definitions.specs.Wire.{IsProfile}
 lanes_back : (bytes : List ℕ) → IsBytes bytes → length bytes ≡ 32 → lanes_text (lanes_read bytes) ≡ bytes
 lanes_back bytes fits len =
     let whole : bytes ≡ take 16 bytes ++ drop 16 bytes = sym (take-append-drop 16 bytes) in
-    let a : to_be_bytes w128 (from_be_bytes w128 (take 16 bytes)) ≡ take 16 bytes = be_bytes_16 (take 16 bytes) _ (length-take-le 16 bytes (omega arith)) (byte_fits (take 16 bytes) (front_fits bytes (take 16 bytes) (drop 16 bytes) whole fits)) refl in
-    let b : to_be_bytes w128 (from_be_bytes w128 (drop 16 bytes)) ≡ drop 16 bytes = be_bytes_16 (drop 16 bytes) _ (let l = length-drop 16 bytes in omega arith) (byte_fits (drop 16 bytes) (rest_fits bytes (take 16 bytes) (drop 16 bytes) whole fits)) refl in
+    let a : to_be_bytes w128 (from_be_bytes w128 (take 16 bytes)) ≡ take 16 bytes = be_bytes_16 (take 16 bytes) (length-take-le 16 bytes (omega arith)) (byte_fits (take 16 bytes) (front_fits bytes (take 16 bytes) (drop 16 bytes) whole fits)) in
+    let b : to_be_bytes w128 (from_be_bytes w128 (drop 16 bytes)) ≡ drop 16 bytes = be_bytes_16 (drop 16 bytes) (let l = length-drop 16 bytes in omega arith) (byte_fits (drop 16 bytes) (rest_fits bytes (take 16 bytes) (drop 16 bytes) whole fits)) in
     (λ i. a i ++ b i) ∙ sym whole
 
 pub two_lanes_real : IsProfile two_lane_profile

@@ -2,7 +2,7 @@
 --     ItemsFaultIsExact, PartFaultIsExact P      items and parts that are made: no fault where they have a spelling
 --     SetsFit P                                  lists of a set's items
 --     MarksComeBack, PaddingIsLast               marks and their bytes
---     FuelIsEnough P, FeedsJoin P                readings of messages and streams in steps
+--     FeedsJoin P                                readings of streams in steps
 --     HeardAreMessages P, SessionsAreHeard P     what a stream spells
 use Rattle.std.specs.Prelude.{◌≡◌, ◌↔◌, ℕ, ◌/◌, ◌%◌, ◌^◌, ◌<◌, ◌≤◌, ◌==◌, ◌||◌, Bool, List, ◌++◌, length, None, bytes_eq, slice_index}
 use Rattle.std.specs.List.{AllByRecursion}
@@ -13,7 +13,7 @@ use Rattle.definitions.specs.Wire.{Profile, AreItemsOf, IsFingerprint, IsPart, I
 use Rattle.definitions.specs.Faults.{items_fault, part_fault}
 use Rattle.definitions.specs.Reading.{marks_in}
 use Rattle.definitions.specs.Engines.{heard}
-use Rattle.definitions.specs.Streams.{Standing, Fed, feed, message_from}
+use Rattle.definitions.specs.Streams.{Standing, Fed, feed}
 
 -- so few items that their number can be written
 abbrev pub ItemsFaultIsExact : Type 0
@@ -36,10 +36,6 @@ MarksComeBack = (marks : List Bool) → marks_in (length marks) (mark_bytes mark
 abbrev pub PaddingIsLast : Type 0
 PaddingIsLast = (n : ℕ) (held : List ℕ) → IsBytes held → length held ≡ mark_bytes_for n →
     bytes_eq held (mark_bytes (marks_in n held)) ≡ (n % 8 == 0 || slice_index held (n / 8) / 2 ^ (n % 8) == 0)
-
--- fuel above the number of bytes is enough
-abbrev pub FuelIsEnough : {F : Type 0} → Profile F → Type 0
-FuelIsEnough P = (m n parts : ℕ) (bytes : List ℕ) → IsBytes bytes → length bytes < m → length bytes < n → message_from P m parts bytes ≡ message_from P n parts bytes
 
 -- one stream after another
 abbrev pub joined : {F : Type 0} → Fed F → Fed F → Fed F

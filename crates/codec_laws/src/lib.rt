@@ -1,12 +1,18 @@
 //! Laws of the spelling of messages and of its reading, for every profile. Each is the contract of a function with an empty body.
 #![tactic(auto)]
 
-ghost use Rattle.definitions.specs.Items.{IsItem, IsLower, IsUpper};
+ghost use Rattle.std.specs.Prelude.{ℕ, List, ◌<◌, ◌↔◌, slice_index};
+ghost use Rattle.definitions.specs.Items.{IsBytes, IsItem, IsLower, IsUpper};
 ghost use Rattle.definitions.specs.Wire.{Profile, IsProfile, short_text, upper_text, count_text, two_lane_profile, counted_profile};
 ghost use Rattle.definitions.specs.Faults.{NoLower, NoUpper, NoItem, IsCount, Stops};
 ghost use Rattle.definitions.specs.Reading.{lower_at, upper_at, text_at, number_at};
 ghost use Rattle.codec_laws.specs.Codec.{FieldIsExact, BodyIsExact, NextIsExact, MessageIsExact, SpellingsStandAlone, FeedIsExact};
-ghost use Rattle.codec_laws.specs.Parts.{ItemsFaultIsExact, PartFaultIsExact, MarksComeBack, PaddingIsLast, FuelIsEnough, FeedsJoin, HeardAreMessages, SessionsAreHeard, SetsFit};
+ghost use Rattle.codec_laws.specs.Parts.{ItemsFaultIsExact, PartFaultIsExact, MarksComeBack, PaddingIsLast, FeedsJoin, HeardAreMessages, SessionsAreHeard, SetsFit};
+
+/// Numbers are bytes where each that is read from them is below 256.
+pub fn reads_are_bytes()
+    ensures { (bytes : List ℕ) → IsBytes bytes ↔ ((i : ℕ) → slice_index bytes i < 256) }
+{}
 
 /// A lower bound is read where one is spelled, and otherwise it is the fault.
 pub fn lower_is_exact()
@@ -81,11 +87,6 @@ pub fn marks_come_back()
 /// A mark bit that is not used can only stand in the last byte.
 pub fn padding_is_last()
     ensures { PaddingIsLast }
-{}
-
-/// A message is read alike by any fuel above the number of its bytes.
-pub fn fuel_is_enough<F>()
-    ensures { (P : Profile F) → IsProfile P → FuelIsEnough P }
 {}
 
 /// A stream may be cut anywhere.

@@ -6,15 +6,6 @@ use Rattle.definitions.specs.Items.{IsBytes}
 use Rattle.definitions.specs.Fingerprints.{IsLanes}
 use Rattle.definitions.specs.Wire.{lanes_text, lanes_read}
 
-pub IsBytes-get_or : (xs : List ℕ) → ((i : ℕ) → get_or xs i 0 < 256) → IsBytes xs
-IsBytes-get_or [] fits = tt
-IsBytes-get_or (x ∷ xs) fits = (fits 0, IsBytes-get_or xs (λ i. fits (suc i)))
-
-get_or-fits : (xs : List ℕ) → IsBytes xs → (i : ℕ) → get_or xs i 0 < 256
-get_or-fits [] fit i = search rules
-get_or-fits (x ∷ xs) fit zero = fit.0
-get_or-fits (x ∷ xs) fit (suc i) = get_or-fits xs fit.1 i
-
 number_fits : (bs : List ℕ) → ((i : ℕ) → get_or bs i 0 < 256) → from_be_bytes w128 bs < 2 ^ 128
 number_fits bs fits = omega arith
 
@@ -28,10 +19,10 @@ drop-fits zero bs fit = fit
 drop-fits (suc k) [] fit = tt
 drop-fits (suc k) (b ∷ bs) fit = drop-fits k bs fit.1
 
-pub lanes_fit : (bytes : List ℕ) → IsBytes bytes → IsLanes (lanes_read bytes)
-lanes_fit bytes fit = record {
-  first_fits = number_fits (take 16 bytes) (get_or-fits (take 16 bytes) (take-fits 16 bytes fit));
-  second_fits = number_fits (drop 16 bytes) (get_or-fits (drop 16 bytes) (drop-fits 16 bytes fit));
+pub lanes_fit : ((bs : List ℕ) → IsBytes bs → (i : ℕ) → get_or bs i 0 < 256) → (bytes : List ℕ) → IsBytes bytes → IsLanes (lanes_read bytes)
+lanes_fit reads bytes fit = record {
+  first_fits = number_fits (take 16 bytes) (reads (take 16 bytes) (take-fits 16 bytes fit));
+  second_fits = number_fits (drop 16 bytes) (reads (drop 16 bytes) (drop-fits 16 bytes fit));
 }
 
 -- the two halves of 32 bytes, read one by one

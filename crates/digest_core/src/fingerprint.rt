@@ -56,6 +56,7 @@ impl Fingerprint {
         ensures back { lanes_text result ≡ bytes }
     {
         laws::bytes_are_exact();
+        codec_laws::reads_are_bytes();
         Fingerprint {
             first: lane(&bytes[..16]),
             second: lane(&bytes[16..]),

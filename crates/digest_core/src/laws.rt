@@ -47,4 +47,5 @@ pub fn bytes_are_exact()
     ensures are_lanes { (bytes : List ℕ) → IsBytes bytes → IsLanes (lanes_read bytes) }
 {
     codec_laws::two_lanes_are_real();
+    codec_laws::reads_are_bytes();
 }

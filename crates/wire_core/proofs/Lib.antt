@@ -3,3 +3,4 @@ pub mod Lengths
 pub mod Read
 pub mod Messages
 pub mod Exact
+pub mod Same

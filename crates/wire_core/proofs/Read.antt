@@ -10,10 +10,6 @@ use Rattle.definitions.specs.Reading.{◌>>=◌, event_in, fields_at, nothing_af
 use Rattle.wire_core.specs.Readers.{byte_at}
 use Rattle.codec_laws.specs.Codec.{BodyIsExact}
 
-pub IsBytes-from_reads : (bs : List ℕ) → ((k : ℕ) → get_or bs k 0 < 256) → IsBytes bs
-IsBytes-from_reads [] h = tt
-IsBytes-from_reads (b ∷ bs) h = (h 0, IsBytes-from_reads bs (λ k. h (suc k)))
-
 -- the body of a part that is no longer than a body may be is that of a part with a spelling
 pub part_read : BodyIsExact two_lane_profile → (bytes : List ℕ) → IsBytes bytes → length bytes ≤ max_body → (p : Part Lanes) →
     event_in two_lane_profile One_message bytes ≡ Ok (Came p) → IsPart two_lane_profile p

@@ -17,7 +17,7 @@ items_in (bodies.Sum f) = []
 items_in (bodies.List items) = items.items
 items_in (bodies.Answer marks items) = items.items
 
--- it has items, or none of them and marks
+-- it is a list or an answer
 abbrev pub Lists : Body → Type 0
 Lists (bodies.Sum f) = ⊥
 Lists (bodies.List items) = ⊤

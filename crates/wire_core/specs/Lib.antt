@@ -11,5 +11,6 @@ pub mod PartFaults
 pub mod Readers
 pub mod Bodies
 pub mod Parts
+pub mod Same
 pub mod Packed
 pub mod Watch

@@ -2,7 +2,6 @@
 use Rattle.std.specs.Prelude.{ℕ, List, Bool, Option, Some, None}
 use Rattle.definitions.specs.Items.{Item}
 use Rattle.definitions.specs.Messages.{Part, Sum, Listing, Answer}
-use Rattle.definitions.specs.Wire.{Event, Came, Ended}
 use Rattle.wire_core.specs.declared.part.PartKind.{PartKind}
 use Rattle.wire_core.specs.declared.part.PartKind.TheVariants as kinds
 
@@ -25,8 +24,3 @@ abbrev pub marks_in : {F : Type 0} → Part F → Option (List Bool)
 marks_in (Sum X f) = None
 marks_in (Listing X items) = None
 marks_in (Answer X marks items) = Some marks
-
--- what a frame says where one message is read: a part, or the end of the message
-abbrev pub event_of : {F : Type 0} → Option (Part F) → Event F
-event_of (Some p) = Came p
-event_of None = Ended

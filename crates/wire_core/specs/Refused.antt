@@ -1,6 +1,7 @@
 -- What a reader of bytes returns, beside what reading on lists gives.
 --     fault_number f             the number of a fault
---     GivesField, Gives          the same value or the same fault, unless memory ran out
+--     GivesField, Gives, Fails   the same value or the same fault, unless memory ran out
+--     IfFault                    something of the fault's number
 use Rattle.std.specs.Prelude.{◌≡◌, ℕ, Result, Ok, Err, ⊤}
 use Rattle.wire_core.specs.declared.fault.WireFault.{WireFault}
 use Rattle.wire_core.specs.declared.fault.WireFault.TheVariants.{FrameLength, Truncated, BadKind, BadBound, EmptyRange, ItemLength, ItemOrder, ItemOutside, MarkPadding, Trailing, TooManyParts}

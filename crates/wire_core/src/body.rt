@@ -19,7 +19,7 @@ use item_core::{Item, Range, Upper};
 pub const MAX_BODY: usize = 8_388_608;
 
 /// What a part has beside its range.
-#[derive(Drop)]
+#[derive(Debug, PartialEq, Eq, Drop)]
 pub enum Body {
     Sum(Fingerprint),
     List(Vec<Item>),

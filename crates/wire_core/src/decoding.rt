@@ -6,8 +6,7 @@ ghost use Rattle.definitions.specs.Faults.{FaultyMessage};
 ghost use Rattle.definitions.specs.Reading as reading;
 ghost use Rattle.definitions.specs.Streams.{message_in};
 ghost use Rattle.wire_core.specs.Refused.{GivesField, Gives, IfFault};
-ghost use Rattle.wire_core.specs.Parts.{event_of};
-ghost use Rattle.wire_core.specs.Readers.{next_at};
+ghost use Rattle.wire_core.specs.Readers.{event_of, next_at};
 
 use crate::body::MAX_BODY;
 use crate::fault::{DecodeError, WireFault};
@@ -92,6 +91,7 @@ pub fn decode_message(alloc: Global, bytes: &[u8]) -> Result<Message, DecodeErro
     ensures exact { Gives (λ message. message) result (message_in two_lane_profile bytes.now) }
 {
     codec_laws::two_lanes_are_real();
+    codec_laws::reads_are_bytes();
     codec_laws::message_is_exact::<Fingerprint>();
     message_of(alloc, bytes)
 }

@@ -56,6 +56,13 @@ pub fn take_lower(bytes: &mut &[u8]) -> Result<Lower, WireFault>
     Lower::new(text).map_err(|_| WireFault::BadBound)
 }
 
+/// Whether an item may have so many bytes: 1 to 64.
+fn is_item_length(length: u8) -> bool
+    ensures { result ≡ reading.is_item_length length }
+{
+    length > 0 && length <= 64
+}
+
 /// An upper bound: its length, 1 to 64, and its bytes, or 255 for the end.
 pub fn take_upper(bytes: &mut &[u8]) -> Result<Upper, WireFault>
     ensures { GivesField (λ x. (upper_value x, bytes.new.now)) result (reading.upper_at bytes.old.now) }
@@ -64,7 +71,7 @@ pub fn take_upper(bytes: &mut &[u8]) -> Result<Upper, WireFault>
     if length == 255 {
         return Ok(Upper::End);
     }
-    if length == 0 || length > 64 {
+    if !is_item_length(length) {
         return Err(WireFault::BadBound);
     }
     let text = take_bytes(bytes, length as usize)?;
@@ -85,7 +92,7 @@ pub fn take_text(bytes: &mut &[u8]) -> Result<Item, WireFault>
     ensures { GivesField (λ x. (x, bytes.new.now)) result (reading.text_at bytes.old.now) }
 {
     let length = take_byte(bytes)?;
-    if length == 0 || length > 64 {
+    if !is_item_length(length) {
         return Err(WireFault::ItemLength);
     }
     let text = take_bytes(bytes, length as usize)?;

@@ -10,6 +10,8 @@ mod message;
 mod part;
 mod reading;
 mod spelling;
+#[cfg(test)]
+mod tests;
 mod watched;
 
 pub use decoding::decode_message;

@@ -1,15 +1,17 @@
-ghost use Rattle.std.specs.Prelude.{◌≡◌, ◌*◌, ◌<◌, ◌≤◌, ◌^◌, length, take, drop, IfOk, slice_get, not, bytes_eq, IsTrue};
-ghost use Rattle.std.specs.Bool.{OnFalse};
+ghost use Rattle.std.specs.Prelude.{◌≡◌, ◌↔◌, ◌*◌, ◌<◌, ◌≤◌, ◌^◌, [], length, take, drop, IfOk, slice_get, not, bytes_eq, IsTrue};
+ghost use Rattle.std.specs.Cmp.{partial_equiv_from_equiv, bool_eq_equiv};
+ghost use Rattle.std.specs.Cmp.Lexicographic.{lists_equiv};
 ghost use Rattle.definitions.specs.Wire.{mark_bytes, mark_bytes_for};
 ghost use Rattle.definitions.specs.Wire as wire;
 ghost use Rattle.definitions.specs.Reading.{marks_in};
 ghost use Rattle.wire_core.specs.Packed.{IsPacked};
+ghost use Rattle.wire_core.specs.Same.{same_marks};
 
 use std::alloc::{AllocError, Global};
 use std::marker::Model;
 
 /// The marks of an Answer, one for each listed item, eight to a byte.
-#[derive(Drop)]
+#[derive(Debug, Drop)]
 pub struct Marks {
     bytes: Vec<u8>,
     count: u32,
@@ -28,7 +30,7 @@ impl Model for Marks {
 }
 
 impl Marks {
-    /// The marks of the list, in order.
+    /// The marks of the list, in order: at most 4,294,967,295 of them.
     pub fn new(alloc: Global, marks: &[bool]) -> Result<Marks, AllocError>
         requires { length marks.now < 2 ^ 32 }
         ensures { IfOk result (λ m. m ≡ marks.now) }
@@ -59,6 +61,13 @@ impl Marks {
         self.count as usize
     }
 
+    /// Whether there are none.
+    pub fn is_empty(&self) -> bool
+        ensures { IsTrue result ↔ (self.now ≡ []) }
+    {
+        self.len() == 0
+    }
+
     /// The mark at a place, from 0, if there is one.
     pub fn get(&self, index: usize) -> Option<bool>
         ensures { result ≡ slice_get self.now index }
@@ -76,6 +85,21 @@ impl Marks {
     {
         &self.bytes
     }
+}
+
+impl PartialEq for Marks {
+    ghost eq = { same_marks };
+
+    ghost laws = { partial_equiv_from_equiv (lists_equiv bool_eq_equiv) };
+
+    fn eq(&self, other: &Self) -> bool {
+        codec_laws::marks_come_back();
+        self.len() == other.len() && self.bytes() == other.bytes()
+    }
+}
+
+impl Eq for Marks {
+    ghost laws = { lists_equiv bool_eq_equiv };
 }
 
 /// The byte of eight marks or fewer: the first counts 1, the next 2, and so on.

@@ -1,5 +1,8 @@
 ghost use Rattle.std.specs.Prelude.{◌≡◌, ◌↔◌, ◌≤◌, IfOk, IsOk, length};
+ghost use Rattle.std.specs.Cmp.{partial_equiv_from_equiv};
+ghost use Rattle.std.specs.Cmp.Lexicographic.{pointwise, lists_equiv};
 ghost use Rattle.definitions.specs.Wire.{max_parts};
+ghost use Rattle.wire_core.specs.Same.{same_part, same_part_equiv};
 
 use crate::part::Part;
 use std::marker::Model;
@@ -21,7 +24,7 @@ impl TooManyParts {
 }
 
 /// A message: 0 to 131,072 parts in order.
-#[derive(Drop)]
+#[derive(Debug, Drop)]
 pub struct Message {
     parts: Vec<Part>,
 }
@@ -66,4 +69,18 @@ impl Message {
     {
         &self.parts
     }
+}
+
+impl PartialEq for Message {
+    ghost eq = { pointwise same_part };
+
+    ghost laws = { partial_equiv_from_equiv (lists_equiv same_part_equiv) };
+
+    fn eq(&self, other: &Self) -> bool {
+        self.parts() == other.parts()
+    }
+}
+
+impl Eq for Message {
+    ghost laws = { lists_equiv same_part_equiv };
 }

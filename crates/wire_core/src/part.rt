@@ -1,10 +1,12 @@
 ghost use Rattle.std.specs.Prelude.{◌≡◌, ◌↔◌, ◌++◌, OnOk, Some, None, IfOk, IfErr, IsOk};
 ghost use Rattle.std.specs.Option.{option_copied};
+ghost use Rattle.std.specs.Cmp.{partial_equiv_from_equiv};
 ghost use Rattle.definitions.specs.Messages.{Sum, Listing, Answer, range_of};
 ghost use Rattle.definitions.specs.Wire.{two_lane_profile, IsPart, part_text};
 ghost use Rattle.definitions.specs.Faults as faults;
 ghost use Rattle.wire_core.specs.Bodies.{part_of, Lists};
 ghost use Rattle.wire_core.specs.Parts.{kind_of, sum_in, items_in, marks_in};
+ghost use Rattle.wire_core.specs.Same.{same_part, same_part_equiv};
 ghost use Rattle.wire_core.specs.PartFaults.{part_fault_number};
 
 use crate::body::{Body, items_fault};
@@ -28,7 +30,7 @@ pub enum PartKind {
 }
 
 /// A part of a message: a range, and what the sender says of its items there. Each part has a spelling.
-#[derive(Drop)]
+#[derive(Debug, Drop)]
 pub struct Part {
     range: Range,
     body: Body,
@@ -169,4 +171,18 @@ impl Part {
         }
         Ok(Part { range, body })
     }
+}
+
+impl PartialEq for Part {
+    ghost eq = { same_part };
+
+    ghost laws = { partial_equiv_from_equiv same_part_equiv };
+
+    fn eq(&self, other: &Self) -> bool {
+        self.range == other.range && self.body == other.body
+    }
+}
+
+impl Eq for Part {
+    ghost laws = { same_part_equiv };
 }

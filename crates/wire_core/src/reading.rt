@@ -5,8 +5,7 @@ ghost use Rattle.definitions.specs.Wire.{two_lane_profile, max_body, One_message
 ghost use Rattle.definitions.specs.Reading as reading;
 ghost use Rattle.wire_core.specs.Refused.{GivesField, Gives};
 ghost use Rattle.wire_core.specs.Bodies.{part_of, fields_event};
-ghost use Rattle.wire_core.specs.Parts.{event_of};
-ghost use Rattle.wire_core.specs.Readers.{fingerprint_at};
+ghost use Rattle.wire_core.specs.Readers.{event_of, fingerprint_at};
 
 use crate::body::Body;
 use crate::fault::{DecodeError, WireFault};
@@ -120,6 +119,7 @@ pub fn part_in(alloc: Global, body: &[u8]) -> Result<Option<Part>, DecodeError>
     ensures { Gives event_of result (reading.event_in two_lane_profile One_message body.now) }
 {
     codec_laws::two_lanes_are_real();
+    codec_laws::reads_are_bytes();
     codec_laws::body_is_exact::<Fingerprint>();
     match fields_in(alloc, body)? {
         Some(fields) => Ok(Some(Part::of_fields(fields))),

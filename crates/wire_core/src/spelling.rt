@@ -112,9 +112,9 @@ pub fn push_frame(out: &mut Vec<u8>, range: &Range, body: &Body) -> Result<(), A
 pub fn encode_part(alloc: Global, part: &Part) -> Result<Vec<u8>, AllocError>
     ensures { IfOk result (λ text. text.items ≡ part_text two_lane_profile part.now) }
 {
-    let mut out = Vec::new(alloc);
-    part.push(&mut out)?;
-    Ok(out)
+    let mut frame = Vec::new(alloc);
+    part.push(&mut frame)?;
+    Ok(frame)
 }
 
 /// The one spelling of a message: its parts' frames in order, and the frame of its end.

@@ -3,8 +3,7 @@ use Rattle.std.proofs.lemmas.List.{length-append}
 use Rattle.std.proofs.lemmas.Result.{err_from_is_err_and}
 use Rattle.definitions.specs.Wire.{two_lane_profile, Came, Ended}
 use Rattle.definitions.specs.Streams.{message_from}
-use Rattle.wire_core.specs.Parts.{event_of}
-use Rattle.wire_core.specs.Readers.{next_at}
+use Rattle.wire_core.specs.Readers.{event_of, next_at}
 use Rattle.wire_core.specs.Refused.{Fails}
 use Rattle.wire_core.proofs.Messages.{with_parts, parts_go_on, parts_fail, parts_end, parts_trail}
 use Rattle.wire_core.proofs.decoding.parts_in.Goals as goal

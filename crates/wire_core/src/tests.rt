@@ -1,0 +1,207 @@
+use crate::{
+    DecodeError, Marks, Message, Part, PartFault, PartKind, Watched, decode_message,
+    encode_message, encode_part,
+};
+use digest_core::{Fingerprint, Summary};
+use item_core::{Item, Range, Upper};
+use std::alloc::Global;
+use std::io;
+use std::io::{ErrorKind, Read, Write};
+use std::process::Abort;
+use std::test::Fail;
+
+fn item(rt: &impl Abort, bytes: &[u8]) -> Item {
+    Item::new(bytes).ok().expect(rt, "an item")
+}
+
+fn range_before(rt: &impl Abort, bytes: &[u8]) -> Range {
+    let upper = Upper::from(item(rt, bytes));
+    Range::new(Range::whole().lower(), upper)
+        .ok()
+        .expect(rt, "a range")
+}
+
+/// The number of the fault; none where the bytes spell a message.
+fn fault_in(rt: &impl Abort, alloc: Global, bytes: &[u8]) -> Option<u8> {
+    match decode_message(alloc, bytes) {
+        Ok(_) => None,
+        Err(DecodeError::Fault(fault)) => Some(fault.number()),
+        Err(DecodeError::Memory) => panic!(rt; "memory"),
+    }
+}
+
+#[test]
+fn edges_of_the_frame_length(rt: HostRuntime) -> Result<(), Fail> {
+    let alloc = rt.alloc();
+    assert_eq!(rt; fault_in(&rt, alloc, &[0, 0, 0, 0]), Some(2));
+    assert_eq!(rt; fault_in(&rt, alloc, &[0, 0x80, 0, 1]), Some(2));
+    let mut longest = vec![in alloc; 0u8; 4 + 8_388_608]?;
+    longest[1] = 0x80;
+    assert_eq!(rt; fault_in(&rt, alloc, &longest), Some(4));
+    Ok(())
+}
+
+#[test]
+fn faults_of_items(rt: HostRuntime) -> Result<(), Fail> {
+    let alloc = rt.alloc();
+    let falling = [0, 0, 0, 0x0B, 2, 0, 0xFF, 0, 0, 0, 2, 1, 0x62, 1, 0x61];
+    let twice = [0, 0, 0, 0x0B, 2, 0, 0xFF, 0, 0, 0, 2, 1, 0x61, 1, 0x61];
+    let outside = [0, 0, 0, 0x0A, 2, 0, 1, 0x62, 0, 0, 0, 1, 1, 0x62];
+    assert_eq!(rt; fault_in(&rt, alloc, &falling), Some(8));
+    assert_eq!(rt; fault_in(&rt, alloc, &twice), Some(8));
+    assert_eq!(rt; fault_in(&rt, alloc, &outside), Some(9));
+
+    let (a, b) = (item(&rt, b"a"), item(&rt, b"b"));
+    let whole = Range::whole();
+    let falling = Part::list(whole, vec![in alloc; b, a]?);
+    assert_eq!(rt; falling.err().map(PartFault::number), Some(8));
+    let twice = Part::list(whole, vec![in alloc; a, a]?);
+    assert_eq!(rt; twice.err().map(PartFault::number), Some(8));
+    let outside = Part::list(range_before(&rt, b"b"), vec![in alloc; b]?);
+    assert_eq!(rt; outside.err().map(PartFault::number), Some(9));
+    Ok(())
+}
+
+#[test]
+fn unused_mark_bit(rt: HostRuntime) {
+    let bytes = [0, 0, 0, 0x0C, 3, 0, 0xFF, 0, 0, 0, 1, 2, 0, 0, 0, 0];
+    assert_eq!(rt; fault_in(&rt, rt.alloc(), &bytes), Some(10));
+}
+
+#[test]
+fn both_empty(rt: HostRuntime) -> Result<(), Fail> {
+    let alloc = rt.alloc();
+    let part = Part::sum(Range::whole(), Fingerprint::zero());
+    let message = Message::new(vec![in alloc; part]?)
+        .ok()
+        .expect(&rt, "a message");
+    let mut text = encode_message(alloc, &message)?;
+    let mut bytes = [0u8; 44];
+    bytes[3] = 0x23;
+    bytes[4] = 1;
+    bytes[6] = 0xFF;
+    bytes[42] = 1;
+    bytes[43] = 4;
+    assert_eq!(rt; text.as_slice(), bytes.as_slice());
+    let read = decode_message(alloc, &text).ok().expect(&rt, "a message");
+    assert_eq!(rt; read.parts().len(), 1);
+    assert_eq!(rt; read.parts()[0].fingerprint(), Some(&Fingerprint::zero()));
+
+    text.push(0)?;
+    assert_eq!(rt; fault_in(&rt, alloc, &text), Some(11), "trailing byte");
+    Ok(())
+}
+
+#[test]
+fn nine_marks(rt: HostRuntime) -> Result<(), Fail> {
+    let alloc = rt.alloc();
+    let marks = [true, false, false, false, false, false, false, false, true];
+    let marks = Marks::new(alloc, &marks)?;
+    let part = Part::answer(Range::whole(), marks, Vec::new(alloc))
+        .ok()
+        .expect(&rt, "a part");
+    let text = encode_part(alloc, &part)?;
+    let bytes = [0, 0, 0, 0x0D, 3, 0, 0xFF, 0, 0, 0, 9, 1, 1, 0, 0, 0, 0];
+    assert_eq!(rt; text.as_slice(), bytes.as_slice());
+    let with_end = [
+        0, 0, 0, 0x0D, 3, 0, 0xFF, 0, 0, 0, 9, 1, 1, 0, 0, 0, 0, 0, 0, 0, 1, 4,
+    ];
+    let read = decode_message(alloc, &with_end)
+        .ok()
+        .expect(&rt, "a message");
+    assert!(rt; matches!(read.parts(), [part] if part.kind() == PartKind::Answer));
+    assert!(rt; read.parts()[0].marks() == part.marks());
+    Ok(())
+}
+
+/// A List of so many items of 64 bytes: its body has 7 bytes, and 65 for each item.
+fn long_list(alloc: Global, count: u32) -> Result<Result<Part, PartFault>, Fail> {
+    let mut items: Vec<Item> = Vec::new(alloc);
+    for number in 0..count {
+        let mut bytes = [0u8; 64];
+        bytes[..4].copy_from_slice(&number.to_be_bytes());
+        if let Ok(item) = Item::new(&bytes) {
+            items.push(item)?;
+        }
+    }
+    Ok(Part::list(Range::whole(), items))
+}
+
+#[test]
+fn longest_list(rt: HostRuntime) -> Result<(), Fail> {
+    let alloc = rt.alloc();
+    assert!(rt; long_list(alloc, 129_055)?.is_ok());
+    let longer = long_list(alloc, 129_056)?;
+    assert_eq!(rt; longer.err().map(PartFault::number), Some(2));
+    Ok(())
+}
+
+/// A reader of zeros whose call number `fail_at`, from 0, fails, and a writer alike.
+#[derive(Drop)]
+struct Flaky {
+    calls: u32,
+    fail_at: u32,
+}
+
+impl Flaky {
+    fn call(&mut self, length: usize) -> io::Result<usize> {
+        let call = self.calls;
+        self.calls = call.saturating_add(1);
+        if call == self.fail_at {
+            return Err(io::Error::from(ErrorKind::ConnectionReset));
+        }
+        Ok(length)
+    }
+}
+
+impl Read for Flaky {
+    fn read(&mut self, buf: &mut [u8]) -> io::Result<usize> {
+        self.call(buf.len())
+    }
+}
+
+impl Write for Flaky {
+    fn write(&mut self, buf: &[u8]) -> io::Result<usize> {
+        self.call(buf.len())
+    }
+
+    fn flush(&mut self) -> io::Result<()> {
+        Ok(())
+    }
+}
+
+#[test]
+fn a_call_that_fails(rt: HostRuntime) {
+    for fail_at in 0..4 {
+        let mut reader = Watched::new(Flaky { calls: 0, fail_at });
+        let mut writer = Watched::new(Flaky { calls: 0, fail_at });
+        let mut room = [0; 2];
+        for call in 0..3 {
+            assert_eq!(rt; reader.read(&mut room).is_err(), call == fail_at);
+            assert_eq!(rt; writer.write(&room).is_err(), call == fail_at);
+            assert_eq!(rt;
+                reader.failed(),
+                call >= fail_at,
+                "call {call}, {fail_at} fails"
+            );
+            assert_eq!(rt;
+                writer.failed(),
+                call >= fail_at,
+                "call {call}, {fail_at} fails"
+            );
+            assert!(rt; !reader.ended());
+        }
+    }
+}
+
+#[test]
+fn the_end_of_the_input(rt: HostRuntime) -> Result<(), Fail> {
+    let mut reader = Watched::new(b"ab".as_slice());
+    let mut room = [0; 4];
+    assert_eq!(rt; reader.read(&mut [])?, 0);
+    assert_eq!(rt; reader.read(&mut room)?, 2);
+    assert!(rt; !reader.ended());
+    assert_eq!(rt; reader.read(&mut room)?, 0);
+    assert!(rt; reader.ended() && !reader.failed());
+    Ok(())
+}
