@@ -1,5 +1,6 @@
 -- What is read and written in turns.
-use Rattle.std.proofs.Common.{◌≡◌, List, [], ◌++◌, ℕ, ◌+◌, ◌-◌, length, take, drop, Option, Some, None, refl, sym, ap, ◌∙◌, append_assoc}
+use Rattle.std.proofs.Common.{◌≡◌, Bool, false, zero, suc, ◌<◌, arith, rules, List, [], ◌++◌, ℕ, ◌+◌, ◌-◌, length, take, drop, Option, Some, None, refl, sym, ap, ◌∙◌, append_assoc}
+use Rattle.std.specs.Prelude.{◌||◌, ◌&&◌, ◌==◌}
 use Rattle.std.specs.Io.KnownBytes.{Consumes, Appends}
 use Rattle.std.proofs.Math.Seq.{take-add}
 use Rattle.std.proofs.lemmas.List.{take_rest}
@@ -24,3 +25,8 @@ appends_more (Some a) (Some b) None bs i n p q = absurd q
 appends_more (Some a) (Some b) (Some c) bs i n p q =
     let r = rw take_rest at q in
     r ∙ (ap (λ (x : List ℕ). x ++ take n (drop i bs)) p ∙ (append_assoc a (take i bs) (take n (drop i bs)) ∙ ap (λ (x : List ℕ). a ++ x) (sym (take-add i n bs))))
+
+-- a write that took some bytes did not fail
+pub took_some : (failed : Bool) (n : ℕ) (room : Bool) → failed ≡ false → 0 < n → (failed || (n == 0 && room)) ≡ false
+took_some failed zero room fine some = absurd (omega arith)
+took_some failed (suc n) room fine some = let none : (suc n == 0) ≡ false = search rules in λ i. fine i || (none i && room)

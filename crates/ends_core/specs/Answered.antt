@@ -2,7 +2,7 @@
 --     Reading, Writing              what a reader gave and a writer took
 --     Asks reading M                the input spells a message
 --     Answered A reading writing result      what each outcome says
-use Rattle.std.specs.Prelude.{◌≡◌, ◌⊎◌, ℕ, Bool, List, take, Option, Result, Ok, Err, IsTrue, IsFalse}
+use Rattle.std.specs.Prelude.{◌≡◌, ◌⊎◌, ℕ, Bool, List, take, Option, Result, Ok, Err, IsTrue, IsFalse, ⊤}
 use Rattle.std.specs.Io.KnownBytes.{Appends, Keeps}
 use Rattle.definitions.specs.Items.{Item}
 use Rattle.definitions.specs.Fingerprints.{Lanes, two_lanes}
@@ -38,45 +38,65 @@ pub record Asks (r : Reading) (M : Message Lanes) : Type 0 where
 abbrev pub reply_text : List Item → Message Lanes → List ℕ
 reply_text A M = message_text two_lane_profile (reply two_lanes (list_peer A) M)
 
--- the reply to a message of Sums was written
-pub record Replied (A : List Item) (r : Reading) (w : Writing) : Type 0 where
-  pub message : Message Lanes
-  pub asks : Asks r message
-  pub sums : IsTrue (are_sums message)
-  pub written : Appends w.old w.new (reply_text A message)
+-- the reader failed, or the input is too long
+abbrev pub Unread : Reading → Type 0
+Unread r = IsTrue r.failed ⊎ IsTooLong r.old r.new
 
--- nothing was written, since the reader failed or the input is too long
-pub record Unread (r : Reading) (w : Writing) : Type 0 where
-  pub cause : IsTrue r.failed ⊎ IsTooLong r.old r.new
-  pub kept : Keeps w.old w.new
-
--- nothing was written, since the input spells no message: its fault
-pub record Faulty (r : Reading) (w : Writing) (code : ℕ) : Type 0 where
+-- the input spells no message: its fault
+pub record Faulty (r : Reading) (code : ℕ) : Type 0 where
   pub input : List ℕ
   pub was : WasRead r.old r.new r.failed input
   pub fault : FaultyMessage two_lane_profile input code
-  pub kept : Keeps w.old w.new
 
--- nothing was written, since a part of the message is no Sum
-pub record Misplaced (r : Reading) (w : Writing) : Type 0 where
+-- a part of the message is no Sum
+pub record IsMisplaced (r : Reading) : Type 0 where
   pub message : Message Lanes
   pub asks : Asks r message
   pub no_sum : IsFalse (are_sums message)
-  pub kept : Keeps w.old w.new
 
--- a beginning of the reply was written, and then the writer failed
-pub record BrokeOff (A : List Item) (r : Reading) (w : Writing) : Type 0 where
+-- why there is no reply; for want of memory nothing is said
+abbrev pub Refused : Reading → AnswerFault → Type 0
+Refused r faults.CannotRead = Unread r
+Refused r (faults.Wire f) = Faulty r (fault_number f)
+Refused r faults.Misplaced = IsMisplaced r
+Refused r faults.Io = ⊥
+Refused r faults.Memory = ⊤
+
+-- the message that the input spells, or why there is none
+abbrev pub Asked : Reading → Result (Message Lanes) AnswerFault → Type 0
+Asked r (Ok M) = Asks r M
+Asked r (Err e) = Refused r e
+
+-- the reply that is due: to a message of Sums
+pub record IsReply (A : List Item) (r : Reading) (text : List ℕ) : Type 0 where
   pub message : Message Lanes
   pub asks : Asks r message
   pub sums : IsTrue (are_sums message)
+  pub text_is : text ≡ reply_text A message
+
+abbrev pub Prepared : {V : Type 0} → (V → List ℕ) → List Item → Reading → Result V AnswerFault → Type 0
+Prepared bytes A r (Ok v) = IsReply A r (bytes v)
+Prepared bytes A r (Err e) = Refused r e
+
+-- the reply was written
+pub record Replied (A : List Item) (r : Reading) (w : Writing) : Type 0 where
+  pub text : List ℕ
+  pub reply : IsReply A r text
+  pub written : Appends w.old w.new text
+
+-- a beginning of the reply was written, and then the writer failed
+pub record BrokeOff (A : List Item) (r : Reading) (w : Writing) : Type 0 where
+  pub text : List ℕ
+  pub reply : IsReply A r text
   pub count : ℕ
-  pub written : Appends w.old w.new (take count (reply_text A message))
+  pub written : Appends w.old w.new (take count text)
   pub failed : IsTrue w.failed
 
-abbrev pub Answered : {X : Type 0} → List Item → Reading → Writing → Result X AnswerFault → Type 0
+-- after any other refusal nothing was written
+abbrev pub AnsweredFault : List Item → Reading → Writing → AnswerFault → Type 0
+AnsweredFault A r w faults.Io = BrokeOff A r w
+AnsweredFault A r w e = Refused r e × Keeps w.old w.new
+
+abbrev pub Answered : List Item → Reading → Writing → Result (Unit {0}) AnswerFault → Type 0
 Answered A r w (Ok x) = Replied A r w
-Answered A r w (Err faults.CannotRead) = Unread r w
-Answered A r w (Err (faults.Wire f)) = Faulty r w (fault_number f)
-Answered A r w (Err faults.Misplaced) = Misplaced r w
-Answered A r w (Err faults.Io) = BrokeOff A r w
-Answered A r w (Err faults.Memory) = Keeps w.old w.new
+Answered A r w (Err e) = AnsweredFault A r w e

@@ -1,6 +1,6 @@
-ghost use Rattle.std.specs.Prelude.{◌≡◌, ◌≤◌, false, length, IfOk};
+ghost use Rattle.std.specs.Prelude.{◌≡◌, ◌≤◌, false, length};
 ghost use Rattle.store_core.specs.Flat.{flat_items};
-ghost use Rattle.ends_core.specs.Answered.{Answered};
+ghost use Rattle.ends_core.specs.Answered.{Asked, Prepared, Answered};
 ghost use Rattle.ends_core.specs.declared.answering.AnswerFault.TheVariants as faults;
 ghost use Rattle.ends_core.specs.FaultsOf.{of_input, of_decoding, of_listing};
 
@@ -79,6 +79,7 @@ impl From<WriterFailed> for AnswerFault {
 /// The message that the input spells. The input itself is given up.
 fn asked<R: Read>(alloc: Global, reader: &mut Watched<R>) -> Result<Message, AnswerFault>
     requires { reader.old.failed ≡ false }
+    ensures { Asked (record { old = R.remaining reader.old.inner; new = R.remaining reader.new.inner; failed = reader.new.failed }) result }
 {
     let input = read_input(alloc, reader)?;
     Ok(decode_message(alloc, &input)?)
@@ -92,6 +93,7 @@ fn reply_for<R: Read>(
 ) -> Result<Vec<u8>, AnswerFault>
     requires few { length (flat_items store.now) ≤ 65536 }
     requires fresh { reader.old.failed ≡ false }
+    ensures { Prepared (λ v. v.items) (flat_items store.now) (record { old = R.remaining reader.old.inner; new = R.remaining reader.new.inner; failed = reader.new.failed }) result }
 {
     let message = asked(alloc, reader)?;
     let reply = list_reply(alloc, store, &message)?;
@@ -111,6 +113,7 @@ pub fn answer<R: Read, W: Write>(
     requires few { length (flat_items store.now) ≤ 65536 }
     requires reader { reader.old.failed ≡ false }
     requires writer { writer.old.failed ≡ false }
+    ensures { Answered (flat_items store.now) (record { old = R.remaining reader.old.inner; new = R.remaining reader.new.inner; failed = reader.new.failed }) (record { old = W.contents writer.old.inner; new = W.contents writer.new.inner; failed = writer.new.failed }) result }
 {
     let text = reply_for(alloc, store, reader)?;
     write_output(writer, &text)?;
