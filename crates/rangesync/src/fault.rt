@@ -1,0 +1,90 @@
+//! Why a run is refused.
+
+ghost use Rattle.std.specs.Prelude.{◌≡◌};
+ghost use Rattle.rangesync.specs.declared.fault.Fault.TheVariants as faults;
+
+use ends_core::{AnswerFault, InputFault, ListReplyFault, WriterFailed};
+use std::alloc::{AllocError, AllocFailed};
+use wire_core::{DecodeError, WireFault};
+
+/// Why a run does not end with status 0, its words being known.
+#[derive(Clone, Copy, Debug, PartialEq, Eq)]
+pub enum Fault {
+    /// A file or the input was not opened or not read, or is above 16,777,216 bytes.
+    CannotRead,
+    /// A line, from 1, of the item file is bad; or the input is not hex.
+    BadItemLine { line: usize },
+    /// There are more than 65,536 different items.
+    TooManyItems,
+    /// The input spells no message.
+    Wire(WireFault),
+    /// A part of the message is no Sum.
+    Misplaced,
+    /// The writer failed: a beginning of the reply was written.
+    WriterFailed,
+    /// Memory ran out.
+    Memory,
+}
+
+impl From<AnswerFault> for Fault {
+    fn from(fault: AnswerFault) -> Fault {
+        match fault {
+            AnswerFault::CannotRead => Fault::CannotRead,
+            AnswerFault::Wire(fault) => Fault::Wire(fault),
+            AnswerFault::Misplaced => Fault::Misplaced,
+            AnswerFault::Io => Fault::WriterFailed,
+            AnswerFault::Memory => Fault::Memory,
+        }
+    }
+}
+
+impl From<InputFault> for Fault {
+    fn from(fault: InputFault) -> Fault {
+        match fault {
+            InputFault::CannotRead => Fault::CannotRead,
+            InputFault::Memory => Fault::Memory,
+        }
+    }
+}
+
+impl From<DecodeError> for Fault {
+    fn from(error: DecodeError) -> Fault {
+        match error {
+            DecodeError::Fault(fault) => Fault::Wire(fault),
+            DecodeError::Memory => Fault::Memory,
+        }
+    }
+}
+
+impl From<ListReplyFault> for Fault {
+    fn from(fault: ListReplyFault) -> Fault {
+        match fault {
+            ListReplyFault::Misplaced => Fault::Misplaced,
+            ListReplyFault::Memory => Fault::Memory,
+        }
+    }
+}
+
+impl From<WriterFailed> for Fault {
+    ghost from_gives = { λ _ e. e ≡ faults.WriterFailed };
+
+    fn from(_failed: WriterFailed) -> Fault {
+        Fault::WriterFailed
+    }
+}
+
+impl From<AllocError> for Fault {
+    ghost from_gives = { λ _ e. e ≡ faults.Memory };
+
+    fn from(_refused: AllocError) -> Fault {
+        Fault::Memory
+    }
+}
+
+impl<T: Drop> From<AllocFailed<T>> for Fault {
+    ghost from_gives = { λ _ e. e ≡ faults.Memory };
+
+    fn from(_refused: AllocFailed<T>) -> Fault {
+        Fault::Memory
+    }
+}

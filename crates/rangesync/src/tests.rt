@@ -1,0 +1,190 @@
+//! Runs over memory, on messages and replies that are typed in.
+
+use crate::run::run;
+use std::fs;
+use std::io;
+use std::io::Write;
+use std::process::Abort;
+use std::rt::Files;
+
+/// The first message of an empty set, in hex.
+const BOTH_EMPTY: &str = "00000023 01 00 FF
+    0000000000000000000000000000000000000000000000000000000000000000 00000001 04";
+
+/// The Sums of no items before b and from b on, in hex.
+const TWO_SUMS: &str = "
+    00000024 01 00 01 62 0000000000000000000000000000000000000000000000000000000000000000
+    00000024 01 01 62 FF 0000000000000000000000000000000000000000000000000000000000000000
+    00000001 04";
+
+/// The reply to these Sums of the items a and b.
+const TWO_LISTS: &str = "0000000a02000162000000010161
+0000000a020162ff000000010162
+0000000104
+";
+
+/// A writer that takes nothing.
+#[derive(Drop)]
+struct Broken;
+
+impl Write for Broken {
+    fn write(&mut self, _buf: &[u8]) -> io::Result<usize> {
+        Err(io::Error::from(io::ErrorKind::BrokenPipe))
+    }
+
+    fn flush(&mut self) -> io::Result<()> {
+        Ok(())
+    }
+}
+
+/// What a run is to give: its status, output and line on standard error.
+#[derive(Clone, Copy)]
+struct Wanted<'a> {
+    status: u8,
+    out: &'a [u8],
+    err: &'a str,
+}
+
+/// Runs the words on the input, and compares what comes of it.
+fn gives<R: Files + AllocGlobal + Abort>(
+    rt: &R,
+    words: &[&str],
+    input: &[u8],
+    wanted: &Wanted<'_>,
+) {
+    let mut out: Vec<u8> = Vec::new(rt.alloc());
+    let mut err: Vec<u8> = Vec::new(rt.alloc());
+    let status = run(rt, words, input, &mut out, &mut err);
+    assert!(rt; err.as_slice() == wanted.err.as_bytes(), "{words:?}: {err:?}");
+    assert!(rt; out.as_slice() == wanted.out, "{words:?}: {out:?}");
+    assert_eq!(rt; status, wanted.status);
+}
+
+/// What is refused with this line.
+fn refused(status: u8, err: &str) -> Wanted<'_> {
+    Wanted {
+        status,
+        out: &[],
+        err,
+    }
+}
+
+/// What is answered with these lines.
+fn answered(out: &str) -> Wanted<'_> {
+    Wanted {
+        status: 0,
+        out: out.as_bytes(),
+        err: "",
+    }
+}
+
+/// Answers the hex under an item file of these lines.
+fn answers<R: Files + AllocGlobal + Abort>(
+    rt: &R,
+    lines: &str,
+    input: &str,
+    wanted: &Wanted<'_>,
+) -> io::Result<()> {
+    let path = "answered.items";
+    fs::write(rt, path, lines)?;
+    gives(rt, &["answer", "--hex", path], input.as_bytes(), wanted);
+    fs::remove_file(rt, path)
+}
+
+#[test]
+fn replies(rt: HostRuntime) -> io::Result<()> {
+    let end = answered("0000000104\n");
+    let two_lists = answered(TWO_LISTS);
+    let abc = answered("0000000b0200ff0000000103616263\n0000000104\n");
+    let equal = "00000023 01 00 FF
+        ba7816bf8f01cfea414140de5dae2223b00361a396177a9cb410ff61f20015ad 00000001 04";
+    answers(&rt, "", BOTH_EMPTY, &end)?;
+    answers(&rt, "616263\n", BOTH_EMPTY, &abc)?;
+    answers(&rt, "616263\n", equal, &end)?;
+    answers(&rt, "61\n62\n", TWO_SUMS, &two_lists)?;
+    // Out of order, twice, with CR, blanks, blank lines and no newline at the end.
+    answers(&rt, "62\r\n\r\n \t 61 \t\r\n62\n\n61", TWO_SUMS, &two_lists)
+}
+
+#[test]
+fn refusals(rt: HostRuntime) -> io::Result<()> {
+    let list = "00000007 02 00 FF 00000000 00000001 04";
+    let trailing = "00000023 01 00 FF
+        0000000000000000000000000000000000000000000000000000000000000000 00000001 04 00";
+    let bad_line = refused(1, "refused 81 BadItemLine 2\n");
+    let bad_input = refused(1, "refused 81 BadItemLine 1\n");
+    answers(&rt, "", list, &refused(1, "refused 20 Misplaced\n"))?;
+    answers(&rt, "", trailing, &refused(1, "refused 11 Trailing\n"))?;
+    answers(&rt, "", "00000000", &refused(1, "refused 2 FrameLength\n"))?;
+    answers(&rt, "", "00800001", &refused(1, "refused 2 FrameLength\n"))?;
+    answers(&rt, "", "", &refused(1, "refused 3 Truncated\n"))?;
+    answers(&rt, "", "0", &bad_input)?;
+    answers(&rt, "", "0g", &bad_input)?;
+    // A bad line is met before the input is read. The last one has 65 bytes.
+    let long = "00".repeat(rt.alloc(), 65)?;
+    for line in ["6", "6g", "6 1", "0x61", "61\r\r", long.as_str()] {
+        let lines = format!(in rt.alloc(); "61\n{line}\n62")?;
+        answers(&rt, lines.as_str(), "0", &bad_line)?;
+    }
+    Ok(())
+}
+
+#[test]
+fn edges(rt: HostRuntime) -> io::Result<()> {
+    let path = "edges.items";
+    fs::write(&rt, path, "")?;
+    let words = ["answer", path];
+    // The longest frame is read, and its kind is none.
+    let mut longest: Vec<u8> = vec![in rt.alloc(); 0u8; 8_388_612]?;
+    longest[1] = 0x80;
+    gives(&rt, &words, &longest, &refused(1, "refused 4 BadKind\n"));
+    // Bytes in, bytes out.
+    let mut message: Vec<u8> = vec![in rt.alloc(); 0u8; 44]?;
+    message[3] = 0x23;
+    message[4] = 1;
+    message[6] = 0xff;
+    message[42] = 1;
+    message[43] = 4;
+    let end = Wanted {
+        status: 0,
+        out: &[0, 0, 0, 1, 4],
+        err: "",
+    };
+    gives(&rt, &words, &message, &end);
+    let mut err: Vec<u8> = Vec::new(rt.alloc());
+    assert_eq!(rt; run(&rt, &words, message.as_slice(), Broken, &mut err), 3);
+    assert!(rt; err.as_slice() == b"io write\n".as_slice());
+    // An input above the limit.
+    let above: Vec<u8> = vec![in rt.alloc(); b' '; 16_777_217]?;
+    gives(&rt, &["answer", "--hex", path], &above, &refused(3, "refused 80 CannotRead\n"));
+    fs::remove_file(&rt, path)
+}
+
+#[test]
+fn files_and_words(rt: HostRuntime) {
+    let unread = refused(3, "refused 80 CannotRead\n");
+    let usage = refused(2, "usage: rangesync answer [--hex] ITEMS\n");
+    gives(&rt, &["answer", "missing.items"], &[], &unread);
+    gives(&rt, &["answer", "."], &[], &unread);
+    gives(&rt, &[], &[], &usage);
+    gives(&rt, &["answer", "--hex"], &[], &usage);
+    gives(&rt, &["answer", "items", "--hex"], &[], &usage);
+    gives(&rt, &["serve", "items"], &[], &usage);
+}
+
+#[test]
+fn too_many_items(rt: HostRuntime) -> io::Result<()> {
+    let path = "many.items";
+    let mut lines = String::new(rt.alloc());
+    for number in 0..65_536u32 {
+        writeln!(lines, "{number:08x}")?;
+    }
+    lines.push_str("00000000\n")?;
+    fs::write(&rt, path, lines.as_str())?;
+    let words = ["answer", "--hex", path];
+    gives(&rt, &words, b"0", &refused(1, "refused 81 BadItemLine 1\n"));
+    lines.push_str("00010000\n")?;
+    fs::write(&rt, path, lines.as_str())?;
+    gives(&rt, &words, b"0", &refused(1, "refused 82 TooManyItems\n"));
+    fs::remove_file(&rt, path)
+}
