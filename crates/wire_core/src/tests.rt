@@ -1,6 +1,6 @@
 use crate::{
-    DecodeError, Marks, Message, Part, PartFault, PartKind, Watched, decode_message,
-    encode_message, encode_part,
+    DecodeError, Marks, Message, Part, PartFault, Watched, decode_message, encode_message,
+    encode_part,
 };
 use digest_core::{Fingerprint, Summary};
 use item_core::{Item, Range, Upper};
@@ -75,18 +75,15 @@ fn both_empty(rt: HostRuntime) -> Result<(), Fail> {
     let message = Message::new(vec![in alloc; part]?)
         .ok()
         .expect(&rt, "a message");
-    let mut text = encode_message(alloc, &message)?;
     let mut bytes = [0u8; 44];
     bytes[3] = 0x23;
     bytes[4] = 1;
     bytes[6] = 0xFF;
     bytes[42] = 1;
     bytes[43] = 4;
+    let mut text = encode_message(alloc, &message)?;
     assert_eq!(rt; text.as_slice(), bytes.as_slice());
-    let read = decode_message(alloc, &text).ok().expect(&rt, "a message");
-    assert_eq!(rt; read.parts().len(), 1);
-    assert_eq!(rt; read.parts()[0].fingerprint(), Some(&Fingerprint::zero()));
-
+    assert_eq!(rt; decode_message(alloc, &bytes), Ok(message));
     text.push(0)?;
     assert_eq!(rt; fault_in(&rt, alloc, &text), Some(11), "trailing byte");
     Ok(())
@@ -100,17 +97,13 @@ fn nine_marks(rt: HostRuntime) -> Result<(), Fail> {
     let part = Part::answer(Range::whole(), marks, Vec::new(alloc))
         .ok()
         .expect(&rt, "a part");
-    let text = encode_part(alloc, &part)?;
-    let bytes = [0, 0, 0, 0x0D, 3, 0, 0xFF, 0, 0, 0, 9, 1, 1, 0, 0, 0, 0];
-    assert_eq!(rt; text.as_slice(), bytes.as_slice());
-    let with_end = [
+    let bytes = [
         0, 0, 0, 0x0D, 3, 0, 0xFF, 0, 0, 0, 9, 1, 1, 0, 0, 0, 0, 0, 0, 0, 1, 4,
     ];
-    let read = decode_message(alloc, &with_end)
-        .ok()
-        .expect(&rt, "a message");
-    assert!(rt; matches!(read.parts(), [part] if part.kind() == PartKind::Answer));
-    assert!(rt; read.parts()[0].marks() == part.marks());
+    let frame = encode_part(alloc, &part)?;
+    assert_eq!(rt; frame.as_slice(), &bytes[..17]);
+    let message = decode_message(alloc, &bytes).ok().expect(&rt, "a message");
+    assert_eq!(rt; message.parts(), [part].as_slice());
     Ok(())
 }
 
@@ -144,29 +137,31 @@ struct Flaky {
 }
 
 impl Flaky {
-    fn call(&mut self, length: usize) -> io::Result<usize> {
+    fn call(&mut self) -> io::Result<()> {
         let call = self.calls;
         self.calls = call.saturating_add(1);
         if call == self.fail_at {
             return Err(io::Error::from(ErrorKind::ConnectionReset));
         }
-        Ok(length)
+        Ok(())
     }
 }
 
 impl Read for Flaky {
     fn read(&mut self, buf: &mut [u8]) -> io::Result<usize> {
-        self.call(buf.len())
+        self.call()?;
+        Ok(buf.len())
     }
 }
 
 impl Write for Flaky {
     fn write(&mut self, buf: &[u8]) -> io::Result<usize> {
-        self.call(buf.len())
+        self.call()?;
+        Ok(buf.len())
     }
 
     fn flush(&mut self) -> io::Result<()> {
-        Ok(())
+        self.call()
     }
 }
 
@@ -175,22 +170,20 @@ fn a_call_that_fails(rt: HostRuntime) {
     for fail_at in 0..4 {
         let mut reader = Watched::new(Flaky { calls: 0, fail_at });
         let mut writer = Watched::new(Flaky { calls: 0, fail_at });
+        let mut flushed = Watched::new(Flaky { calls: 0, fail_at });
         let mut room = [0; 2];
         for call in 0..3 {
-            assert_eq!(rt; reader.read(&mut room).is_err(), call == fail_at);
-            assert_eq!(rt; writer.write(&room).is_err(), call == fail_at);
-            assert_eq!(rt;
-                reader.failed(),
-                call >= fail_at,
-                "call {call}, {fail_at} fails"
-            );
-            assert_eq!(rt;
-                writer.failed(),
-                call >= fail_at,
-                "call {call}, {fail_at} fails"
-            );
+            let fails = call == fail_at;
+            assert_eq!(rt; reader.read(&mut room).is_err(), fails);
+            assert_eq!(rt; writer.write(&room).is_err(), fails);
+            assert_eq!(rt; flushed.flush().is_err(), fails);
+            let failed = call >= fail_at;
+            assert_eq!(rt; reader.failed(), failed, "read {call}");
+            assert_eq!(rt; writer.failed(), failed, "write {call}");
+            assert_eq!(rt; flushed.failed(), failed, "flush {call}");
             assert!(rt; !reader.ended());
         }
+        assert_eq!(rt; flushed.into_inner().calls, 3);
     }
 }
 
