@@ -1,0 +1,5 @@
+//! Tests that cross crates: worked cases from bytes to bytes.
+#![tactic(auto)]
+
+#[cfg(test)]
+mod answers;
