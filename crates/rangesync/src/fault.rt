@@ -1,6 +1,7 @@
 //! Why a run is refused.
 
 ghost use Rattle.std.specs.Prelude.{◌≡◌};
+ghost use Rattle.rangesync.specs.FaultsOf.{of_answer, of_input, of_decoding, of_listing};
 ghost use Rattle.rangesync.specs.declared.fault.Fault.TheVariants as faults;
 
 use ends_core::{AnswerFault, InputFault, ListReplyFault, WriterFailed};
@@ -27,6 +28,8 @@ pub enum Fault {
 }
 
 impl From<AnswerFault> for Fault {
+    ghost from_gives = { λ f e. e ≡ of_answer f };
+
     fn from(fault: AnswerFault) -> Fault {
         match fault {
             AnswerFault::CannotRead => Fault::CannotRead,
@@ -39,6 +42,8 @@ impl From<AnswerFault> for Fault {
 }
 
 impl From<InputFault> for Fault {
+    ghost from_gives = { λ f e. e ≡ of_input f };
+
     fn from(fault: InputFault) -> Fault {
         match fault {
             InputFault::CannotRead => Fault::CannotRead,
@@ -48,6 +53,8 @@ impl From<InputFault> for Fault {
 }
 
 impl From<DecodeError> for Fault {
+    ghost from_gives = { λ f e. e ≡ of_decoding f };
+
     fn from(error: DecodeError) -> Fault {
         match error {
             DecodeError::Fault(fault) => Fault::Wire(fault),
@@ -57,6 +64,8 @@ impl From<DecodeError> for Fault {
 }
 
 impl From<ListReplyFault> for Fault {
+    ghost from_gives = { λ f e. e ≡ of_listing f };
+
     fn from(fault: ListReplyFault) -> Fault {
         match fault {
             ListReplyFault::Misplaced => Fault::Misplaced,

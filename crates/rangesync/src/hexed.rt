@@ -1,8 +1,9 @@
 //! Messages as hex text.
 
-ghost use Rattle.std.specs.Prelude.{◌≡◌, ◌≢◌, ◌++◌, ◌∷◌, [], filter, IfOk, IfErr, OnOk, IsErr, Ok};
-ghost use Rattle.hex.specs.Hex.{decode_of, encode_lower};
+ghost use Rattle.std.specs.Prelude.{◌≡◌, ◌≢◌, ◌++◌, filter, IfOk, IfErr, OnOk, IsErr, Ok};
+ghost use Rattle.hex.specs.Hex.{decode_of};
 ghost use Rattle.rangesync.specs.Blanks.{is_solid};
+ghost use Rattle.rangesync.specs.HexLines.{line_of, hex_lines};
 
 use crate::fault::Fault;
 use hex::FromHexError;
@@ -41,7 +42,7 @@ pub fn decode_text(alloc: Global, text: &[u8]) -> Result<Vec<u8>, Fault>
 
 /// Appends the hex of a frame and a newline.
 fn push_line(alloc: Global, text: &mut Vec<u8>, frame: &[u8]) -> Result<(), AllocError>
-    ensures { OnOk result (text.new.items ≡ text.old.items ++ (encode_lower frame.now ++ (10 ∷ []))) }
+    ensures { OnOk result (text.new.items ≡ text.old.items ++ line_of frame.now) }
 {
     let digits = hex::encode(alloc, frame)?;
     text.extend_from_slice(digits.as_bytes())?;
@@ -50,7 +51,9 @@ fn push_line(alloc: Global, text: &mut Vec<u8>, frame: &[u8]) -> Result<(), Allo
 }
 
 /// The spelling of the message as hex, one frame a line.
-pub fn encode_lines(alloc: Global, message: &Message) -> Result<Vec<u8>, AllocError> {
+pub fn encode_lines(alloc: Global, message: &Message) -> Result<Vec<u8>, AllocError>
+    ensures { IfOk result (λ text. text.items ≡ hex_lines message.now) }
+{
     let mut text = Vec::new(alloc);
     for part in message.parts() {
         push_line(alloc, &mut text, &encode_part(alloc, part)?)?;

@@ -1,15 +1,17 @@
 //! Item files: one item a line, in hex.
 
-ghost use Rattle.std.specs.Prelude.{◌≡◌, ◌≤◌, length, IfOk};
+ghost use Rattle.std.specs.Prelude.{◌≡◌, ◌≤◌, length, IfOk, IfErr, IfSome, IsSome};
+ghost use Rattle.definitions.specs.Items.{Item};
+ghost use Rattle.rangesync.specs.Blanks.{is_blank};
+ghost use Rattle.rangesync.specs.ItemLines.{Spells, IsLineFault};
 ghost use Rattle.store_core.specs.Flat.{flat_items};
 
 use crate::fault::Fault;
 use ends_core::read_input;
 use item_core::Item;
 use std::alloc::Global;
-use std::fs;
-use std::io;
 use std::rt::Files;
+use std::{fs, io};
 use store_core::{FlatStore, RangeStore};
 use wire_core::Watched;
 
@@ -17,19 +19,27 @@ use wire_core::Watched;
 const MAX_ITEMS: usize = 65_536;
 
 /// Whether a byte is a blank of an item line.
-fn is_blank(byte: u8) -> bool {
+fn is_blank(byte: u8) -> bool
+    ensures { result ≡ is_blank byte }
+{
     byte == b' ' || byte == b'\t'
 }
 
-/// The line without one CR at its end, and then without the blanks at both ends.
-fn trimmed(line: &[u8]) -> &[u8] {
-    let mut rest = line.strip_suffix(b"\r").unwrap_or(line);
+/// The line without the blanks at its front.
+fn without_front(line: &[u8]) -> &[u8] {
+    let mut rest = line;
     while let Some((first, others)) = rest.split_first() {
         if !is_blank(*first) {
             break;
         }
         rest = others;
     }
+    rest
+}
+
+/// The line without the blanks at its end.
+fn without_end(line: &[u8]) -> &[u8] {
+    let mut rest = line;
     while let Some((last, others)) = rest.split_last() {
         if !is_blank(*last) {
             break;
@@ -39,10 +49,21 @@ fn trimmed(line: &[u8]) -> &[u8] {
     rest
 }
 
+/// The line without one CR at its end, and then without the blanks at both ends.
+fn trimmed(line: &[u8]) -> &[u8] {
+    without_front(without_end(line.strip_suffix(b"\r").unwrap_or(line)))
+}
+
 /// The item that hex digits spell, if they spell one.
-fn item_of(digits: &[u8]) -> Option<Item> {
+fn item_of(digits: &[u8]) -> Option<Item>
+    ensures item { IfSome result (λ x. Spells digits.now x) }
+    ensures found { (x : Item) → Spells digits.now x → IsSome result }
+{
+    if digits.len() > 128 {
+        return None;
+    }
     let mut bytes = [0u8; 64];
-    let room = bytes.get_mut(..digits.len() / 2)?;
+    let room = &mut bytes[..digits.len() / 2];
     hex::decode_to_slice(digits, room).ok()?;
     Item::new(room).ok()
 }
@@ -53,7 +74,9 @@ fn line_count(text: &[u8]) -> usize {
 }
 
 /// The items of the lines in order, or the first bad line. A blank line has none.
-pub fn items_of(alloc: Global, text: &[u8]) -> Result<Vec<Item>, Fault> {
+pub fn items_of(alloc: Global, text: &[u8]) -> Result<Vec<Item>, Fault>
+    ensures refused { IfErr result (λ e. IsLineFault text.now e) }
+{
     let mut items: Vec<Item> = Vec::with_capacity(alloc, line_count(text).min(MAX_ITEMS))?;
     for (index, line) in text.split(|byte| *byte == b'\n').enumerate() {
         let digits = trimmed(line);

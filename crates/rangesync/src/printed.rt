@@ -1,5 +1,8 @@
 //! What is printed on standard error, and the status of a run.
 
+ghost use Rattle.std.specs.Prelude.{◌≡◌};
+ghost use Rattle.rangesync.specs.FaultsOf.{status_of};
+
 use crate::fault::Fault;
 use std::fmt;
 use std::io::Write;
@@ -30,7 +33,9 @@ fn wire_name(fault: WireFault) -> &'static str {
 
 impl Fault {
     /// The status of a run that ends so.
-    pub fn status(self) -> u8 {
+    pub fn status(self) -> u8
+        ensures { result ≡ status_of self }
+    {
         match self {
             Fault::CannotRead | Fault::WriterFailed | Fault::Memory => 3,
             Fault::BadItemLine { line: _ }
@@ -56,14 +61,18 @@ impl fmt::Display for Fault {
 }
 
 /// Prints the fault's line, and gives the status. A line that is not taken changes nothing.
-pub fn tell<E: Write + Drop>(err: E, fault: Fault) -> u8 {
+pub fn tell<E: Write + Drop>(err: E, fault: Fault) -> u8
+    ensures { result ≡ status_of fault }
+{
     let mut err = err;
     let _told = writeln!(err, "{fault}");
     fault.status()
 }
 
 /// Prints the usage line, and gives the status.
-pub fn tell_usage<E: Write + Drop>(err: E) -> u8 {
+pub fn tell_usage<E: Write + Drop>(err: E) -> u8
+    ensures { result ≡ 2 }
+{
     let mut err = err;
     let _told = writeln!(err, "{USAGE}");
     USAGE_STATUS

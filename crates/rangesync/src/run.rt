@@ -4,10 +4,9 @@ ghost use Rattle.std.specs.Prelude.{◌≤◌, length};
 ghost use Rattle.store_core.specs.Flat.{flat_items};
 
 use crate::fault::Fault;
-use crate::hexed;
 use crate::items::read_items;
-use crate::printed;
 use crate::words::{Command, read_words};
+use crate::{hexed, printed};
 use ends_core::{answer, list_reply, read_input, write_output};
 use std::alloc::Global;
 use std::io::{Read, Write};
@@ -43,7 +42,12 @@ fn obey<R: Files + AllocGlobal, I: Read + Drop, O: Write + Drop>(
     if hexed {
         answer_hex(rt.alloc(), &store, reader, out)
     } else {
-        answer(rt.alloc(), &store, &mut Watched::new(reader), &mut Watched::new(out))?;
+        answer(
+            rt.alloc(),
+            &store,
+            &mut Watched::new(reader),
+            &mut Watched::new(out),
+        )?;
         Ok(())
     }
 }

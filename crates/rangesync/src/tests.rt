@@ -1,11 +1,10 @@
 //! Runs over memory, on messages and replies that are typed in.
 
 use crate::run::run;
-use std::fs;
-use std::io;
 use std::io::Write;
 use std::process::Abort;
 use std::rt::Files;
+use std::{fs, io};
 
 /// The first message of an empty set, in hex.
 const BOTH_EMPTY: &str = "00000023 01 00 FF
@@ -55,7 +54,10 @@ fn gives<R: Files + AllocGlobal + Abort>(
     let mut out: Vec<u8> = Vec::new(rt.alloc());
     let mut err: Vec<u8> = Vec::new(rt.alloc());
     let status = run(rt, words, input, &mut out, &mut err);
-    assert!(rt; err.as_slice() == wanted.err.as_bytes(), "{words:?}: {err:?}");
+    assert!(rt;
+        err.as_slice() == wanted.err.as_bytes(),
+        "{words:?}: {err:?}"
+    );
     assert!(rt; out.as_slice() == wanted.out, "{words:?}: {out:?}");
     assert_eq!(rt; status, wanted.status);
 }
@@ -156,7 +158,12 @@ fn edges(rt: HostRuntime) -> io::Result<()> {
     assert!(rt; err.as_slice() == b"io write\n".as_slice());
     // An input above the limit.
     let above: Vec<u8> = vec![in rt.alloc(); b' '; 16_777_217]?;
-    gives(&rt, &["answer", "--hex", path], &above, &refused(3, "refused 80 CannotRead\n"));
+    gives(
+        &rt,
+        &["answer", "--hex", path],
+        &above,
+        &refused(3, "refused 80 CannotRead\n"),
+    );
     fs::remove_file(&rt, path)
 }
 

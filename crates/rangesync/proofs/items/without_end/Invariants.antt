@@ -1,0 +1,5 @@
+use Rattle.std.proofs.Common.{ℕ, length}
+use Rattle.rangesync.proofs.items.without_end.Given as goal
+
+abbrev pub decreases-loop-last : goal.decreases-loop-last
+decreases-loop-last l = length l.rest
