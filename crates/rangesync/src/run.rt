@@ -60,7 +60,9 @@ pub fn run<R: Files + AllocGlobal, I: Read + Drop, O: Write + Drop, E: Write + D
     reader: I,
     out: O,
     err: E,
-) -> u8 {
+) -> u8
+    ensures known { result ≤ 3 }
+{
     let Some(command) = read_words(words) else {
         return printed::tell_usage(err);
     };
