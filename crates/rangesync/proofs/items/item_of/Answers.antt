@@ -1,4 +1,4 @@
-use Rattle.std.proofs.Common.{◌≡◌, ◌≤◌, ◌<◌, ◌*◌, length, arith}
+use Rattle.std.proofs.Common.{arith}
 use Rattle.hex.proofs.HexLemmas.{decode_of-ok}
 use Rattle.rangesync.proofs.items.item_of.Goals as goal
 

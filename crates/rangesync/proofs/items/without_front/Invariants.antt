@@ -1,4 +1,4 @@
-use Rattle.std.proofs.Common.{ℕ, length}
+use Rattle.std.proofs.Common.{length}
 use Rattle.rangesync.proofs.items.without_front.Given as goal
 
 abbrev pub decreases-loop-first : goal.decreases-loop-first
