@@ -1,5 +1,5 @@
 -- Lanes and their bytes.
-use Rattle.std.proofs.Common.{take, drop, ◌≡◌, ℕ, ◌^◌, zero, suc, ◌<◌, List, [], ◌∷◌, length, get_or, ap, ◌∙◌, arith, rules}
+use Rattle.std.proofs.Common.{take, drop, ◌≡◌, ℕ, ◌^◌, zero, suc, ◌<◌, List, [], ◌∷◌, length, get_or, ap, ◌∙◌, arith}
 use Rattle.std.specs.Int.{w128, from_be_bytes}
 use Rattle.std.proofs.lemmas.List.{take_rest}
 use Rattle.definitions.specs.Items.{IsBytes}

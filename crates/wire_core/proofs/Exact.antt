@@ -1,5 +1,5 @@
 -- What an exact reading says of a message and of its spelling.
-use Rattle.std.proofs.Common.{◌≡◌, ℕ, List, Result, Ok, Err, sym, ◌∙◌, subst}
+use Rattle.std.proofs.Common.{ℕ, List, Result, Ok, Err, subst}
 use Rattle.std.specs.Prelude.{IfOk}
 use Rattle.definitions.specs.Items.{IsBytes}
 use Rattle.definitions.specs.Fingerprints.{Lanes}

@@ -1,5 +1,5 @@
 -- The lengths of bodies.
-use Rattle.std.proofs.Common.{◌≡◌, ℕ, ◌+◌, ◌<◌, ◌≤◌, ◌++◌, Bool, true, List, [], ◌∷◌, Some, None, refl, length, arith, rules, length-append}
+use Rattle.std.proofs.Common.{◌≡◌, ◌+◌, ◌<◌, ◌≤◌, ◌++◌, Bool, true, List, [], ◌∷◌, Some, None, refl, length, arith, rules, length-append}
 use Rattle.std.specs.Prelude.{sum_by, flat_map, nat_lt}
 use Rattle.std.proofs.lemmas.List.Concat.{length-flat_map}
 use Rattle.std.proofs.lemmas.List.Sums.{sum_by-cons}
@@ -9,7 +9,6 @@ use Rattle.wire_core.specs.Bodies.{part_of, items_in, Lists}
 use Rattle.definitions.specs.Refusals.{frame_length}
 use Rattle.definitions.specs.Faults.{items_fault, part_fault}
 use Rattle.definitions.specs.Items.{Item, Range}
-use Rattle.definitions.specs.Fingerprints.{Lanes}
 use Rattle.definitions.specs.Messages.{Listing, Answer}
 use Rattle.definitions.specs.Wire.{two_lane_profile, body, range_text, short_text, items_text, marks_text, mark_bytes, count_text, max_body}
 

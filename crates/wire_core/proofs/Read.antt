@@ -1,5 +1,5 @@
 -- What was read is a part.
-use Rattle.std.proofs.Common.{◌≡◌, ℕ, suc, ◌<◌, ◌≤◌, Bool, true, List, [], ◌∷◌, length, get_or, Result, Ok, Err, refl, ap, ◌∙◌, arith, rules}
+use Rattle.std.proofs.Common.{◌≡◌, ℕ, ◌<◌, ◌≤◌, true, List, [], ◌∷◌, length, Result, Ok, Err, refl, ap, ◌∙◌, arith, rules}
 use Rattle.std.specs.Prelude.{nat_lt}
 use Rattle.definitions.specs.Items.{IsBytes}
 use Rattle.definitions.specs.Fingerprints.{Lanes}

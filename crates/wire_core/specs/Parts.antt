@@ -1,5 +1,5 @@
 -- What the readers of a part tell.
-use Rattle.std.specs.Prelude.{ℕ, List, Bool, Option, Some, None}
+use Rattle.std.specs.Prelude.{List, Bool, Option, Some, None}
 use Rattle.definitions.specs.Items.{Item}
 use Rattle.definitions.specs.Messages.{Part, Sum, Listing, Answer}
 use Rattle.wire_core.specs.declared.part.PartKind.{PartKind}

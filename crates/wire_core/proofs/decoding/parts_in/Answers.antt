@@ -1,7 +1,7 @@
-use Rattle.std.proofs.Common.{◌≡◌, ◌+◌, ◌-◌, ◌++◌, ◌∷◌, [], length, Ok, Some, None, ap, sym, ◌∙◌, arith, rules, subst}
+use Rattle.std.proofs.Common.{◌≡◌, ◌+◌, ◌-◌, ◌++◌, ◌∷◌, [], length, Ok, ap, sym, ◌∙◌, arith, rules, subst}
 use Rattle.std.proofs.lemmas.List.{length-append}
 use Rattle.std.proofs.lemmas.Result.{err_from_is_err_and}
-use Rattle.definitions.specs.Wire.{two_lane_profile, Came, Ended}
+use Rattle.definitions.specs.Wire.{two_lane_profile, Came}
 use Rattle.definitions.specs.Streams.{message_from}
 use Rattle.wire_core.specs.Readers.{event_of, next_at}
 use Rattle.wire_core.specs.Refused.{Fails}

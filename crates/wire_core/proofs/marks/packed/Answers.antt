@@ -1,4 +1,4 @@
-use Rattle.std.proofs.Common.{◌*◌, take, drop, ◌++◌, [], ◌∷◌, refl, ap, sym, ◌∙◌, arith}
+use Rattle.std.proofs.Common.{◌*◌, take, drop, ◌++◌, [], ◌∷◌, sym, ◌∙◌, arith}
 use Rattle.std.proofs.lemmas.List.FromFn.{map-range_with_len_more}
 use Rattle.definitions.specs.Wire.{mark_byte}
 use Rattle.wire_core.proofs.marks.packed.Goals as goal

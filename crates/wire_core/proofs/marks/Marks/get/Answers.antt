@@ -1,4 +1,4 @@
-use Rattle.std.proofs.Common.{◌≡◌, ◌<◌, ◌≤◌, length, false, Some, sym, ap, ◌∙◌, arith, rules, nat_eq, ◌/◌, ◌%◌, ◌^◌, slice_index}
+use Rattle.std.proofs.Common.{◌≡◌, ◌<◌, ◌≤◌, length, false, Some, sym, ap, ◌∙◌, arith, nat_eq, ◌/◌, ◌%◌, ◌^◌, slice_index}
 use Rattle.std.specs.Prelude.{slice_get}
 use Rattle.std.proofs.lemmas.Option.{slice_get_past, slice_get-get_or}
 use Rattle.std.proofs.lemmas.List.FromFn.{length-map-range_with_len, get_or-map-range_with_len}
