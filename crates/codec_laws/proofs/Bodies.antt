@@ -1,34 +1,157 @@
--- A body: the events that it says, and its faults.
-use Rattle.std.proofs.Common.{◌≡◌, ℕ, zero, suc, ◌^◌, ◌<◌, ◌≤◌, Bool, true, false, ◌||◌, List, [], ◌∷◌, ◌++◌, length, take, drop, Result, Err, refl, sym, ap, subst, ◌∙◌, arith, inl, inr}
-use Rattle.std.specs.Prelude.{◌⊎◌, ◌==◌, nat_lt, slice_index}
-use Rattle.std.proofs.lemmas.Bool.{ltb-true, ltb-false, lt-ltb, eqb-true}
-use Rattle.std.proofs.lemmas.List.{append-nil, length-append, length-take-le, length-drop, take-append-drop}
-use Rattle.definitions.specs.Items.{IsBytes, Range, IsRange}
-use Rattle.definitions.specs.Messages.{Part, Sum, Listing, Answer}
-use Rattle.definitions.specs.Wire.{Profile, range_text, items_text, marks_text, AreItemsOf}
-use Rattle.definitions.specs.Faults.{Begins, Trails, FaultyBytes, FaultyRange, FaultyList, FaultyAnswer, FaultyFields, FaultyBody}
-use Rattle.definitions.specs.Reading.{◌>>=◌, unless, bytes_at, range_at, list_at, marks_at, sum_at, listing_at, answer_at, came_at, failed_at, ended_at, nothing_after, event_in}
-use Rattle.codec_laws.proofs.Tells.{Tells, along, as_told, bind_assoc, by_test_then, told_ok, told_err, read_ok, rest_fits}
-use Rattle.codec_laws.proofs.Fields.{some_bytes, neq_of}
-use Rattle.codec_laws.proofs.Ranges.{range_told}
-use Rattle.codec_laws.proofs.Lists.{list_told}
+-- The bodies of frames.
+use Rattle.std.proofs.Common.{rules, ◌≡◌, ℕ, zero, suc, true, List, [], ◌∷◌, ◌++◌, length, Option, Some, None, Result, refl, sym, ap, subst, ◌∙◌, append_assoc, arith, inl, inr, Ordering, Less, ◌^◌, ◌<◌, ◌≤◌, Bool, false, ◌||◌, take, drop, Err}
+use Rattle.std.specs.Prelude.{◌⊎◌, not, IsTrue, flat_map, ⊤, ◌==◌, nat_lt, slice_index}
+use Rattle.std.specs.List.Sorted.{IsStrictlySortedBy}
+use Rattle.definitions.proofs.Words.{AllByRecursion, is_lt, IsBytes, Item, IsItem, Range, contains, item_cmp, IsUpper, IsRange, is_below, IsSet, short_text, count_text, items_text, AreItemsOf, upper_text, range_text, Profile, marks_text, Event, Came, Failed, Input, One_message, Stream, greatest_kind, IsProfile, Says, Begins, NoItem, rises_from, FaultyItem, FaultyItems, FaultyList, Trails, IsCount, FaultyBounds, FaultyUpper, FaultyRange, FaultyBytes, FaultyAnswer, FaultyFields, FaultyBody, unless, text_at, item_at, items_at, list_at, number_at, lower_at, upper_at, range_at, bytes_at, marks_at, sum_at, listing_at, answer_at, came_at, failed_at, ended_at, nothing_after, event_in, item_order, item_outside, empty_range, bad_kind, trailing, Part, Sum, Listing, Answer}
+use Rattle.definitions.proofs.Lemmas.{common_steps, length-append, ltb-true, ltb-false, eqb-true, append-nil, length-take-le, length-drop, take-append-drop, before-trans}
+use Rattle.definitions.specs.Reading.{◌>>=◌}
+use Rattle.codec_laws.proofs.Fields.{Tells, along, as_told, behind, bind_assoc, tested, read_ok, item_field, count_field, lower_field, upper_field, by_test_then, told_ok, told_err, rest_fits, some_bytes, neq_of}
 use Rattle.codec_laws.proofs.Marks.{marks_told}
-use Rattle.definitions.specs.Refusals.{bad_kind, trailing}
-use Rattle.definitions.specs.Wire.{Event, Came, Ended, Failed, Input, One_message, Stream, greatest_kind, IsProfile, Says}
 
-pub head_of : {n m : ℕ} {a b : List ℕ} → n ∷ a ≡ m ∷ b → n ≡ m
-head_of e = cc
+-- ==== Items, and the end of a body behind them
 
-pub tail_of : {n m : ℕ} {a b : List ℕ} → n ∷ a ≡ m ∷ b → a ≡ b
-tail_of e = cc
+abbrev inside : Range → Item × List ℕ → Result (Item × List ℕ) ℕ
+inside X y = unless (not (contains X y.0)) item_outside y
+
+item_behind : {B : Type 0} (X : Range) (before : Option Item) (k : Item × List ℕ → Result B ℕ) (Good : Item → List ℕ → B → Type 0) (Later : Item → List ℕ → ℕ → Type 0) →
+    ((x : Item) (rest : List ℕ) → Tells (IsBytes rest) (k (x, rest)) (Good x rest) (Later x rest)) → (bytes : List ℕ) →
+    Tells (IsBytes bytes) (item_at X before bytes >>= k) (λ y. Begins short_text IsItem (λ x rest. IsTrue (rises_from before x) × (IsTrue (contains X x) × Good x rest y)) bytes)
+    (λ e. NoItem bytes e ⊎ Begins short_text IsItem (λ x rest. FaultyItem X before x (Later x rest e) e) bytes)
+item_behind {B} X before k Good Later goes bytes =
+    along (bind_assoc (text_at bytes) (λ x. unless (not (rises_from before x.0)) item_order x >>= inside X) k)
+    (behind item_field (λ x. (unless (not (rises_from before x.0)) item_order x >>= inside X) >>= k)
+    (λ x rest y. IsTrue (rises_from before x) × (IsTrue (contains X x) × Good x rest y)) (λ x rest e. FaultyItem X before x (Later x rest e) e)
+    (λ x rest right. as_told (along (bind_assoc (unless (not (rises_from before x)) item_order (x, rest)) (inside X) k)
+    (tested (rises_from before x) item_order (x, rest) (λ y. inside X y >>= k) _ _ (λ _. tested (contains X x) item_outside (x, rest) k _ _ (λ _. goes x rest))))
+    (λ f. f) (λ y f g. g) (λ y g. g)
+    (λ e b. elim b [ inl x ↦ inl x | inr x ↦ elim x.1 [ inl y ↦ inr (inl (x.0, y.0, y.1)) | inr y ↦ inr (inr (x.0, y.0, y.1)) ] ])
+    (λ e b. elim b [ inl x ↦ inl x | inr x ↦ elim x [ inl y ↦ inr (y.0, inl (y.1, y.2)) | inr y ↦ inr (y.0, inr (y.1, y.2)) ] ])) bytes)
+
+-- so many right items, each after the one before
+abbrev pub IsRun : Range → ℕ → Option Item → List Item → Type 0
+IsRun X zero before [] = ⊤
+IsRun X zero before (x ∷ xs) = ⊥
+IsRun X (suc n) before [] = ⊥
+IsRun X (suc n) before (x ∷ xs) = IsItem x × IsTrue (rises_from before x) × IsTrue (contains X x) × IsRun X n (Some x) xs
+
+abbrev Run : {B : Type 0} → Range → ℕ → Option Item → (List Item → List ℕ → B → Type 0) → List ℕ → B → Type 0
+Run X n before Good bytes y = Begins (flat_map short_text) (IsRun X n before) (λ xs rest. Good xs rest y) bytes
+
+run_none : {B : Type 0} (X : Range) (before : Option Item) (Good : List Item → List ℕ → B → Type 0) (bytes : List ℕ) (y : B) → Run X zero before Good bytes y → Good [] bytes y
+run_none X before Good bytes y a = grind arith
+
+abbrev FirstOf : {B : Type 0} → Range → ℕ → Option Item → (List Item → List ℕ → B → Type 0) → List ℕ → B → Type 0
+FirstOf X n before Good bytes y = Begins short_text IsItem (λ x rest. IsTrue (rises_from before x) × (IsTrue (contains X x) × Run X n (Some x) (λ xs. Good (x ∷ xs)) rest y)) bytes
+
+run_first : {B : Type 0} (X : Range) (n : ℕ) (before : Option Item) (Good : List Item → List ℕ → B → Type 0) (bytes : List ℕ) (y : B) → Run X (suc n) before Good bytes y → FirstOf X n before Good bytes y
+run_first X n before Good bytes y ([], rest, run, is, g) = absurd run
+run_first X n before Good bytes y (x ∷ xs, rest, run, is, g) = grind (arith, append_assoc)
+
+run_more : {B : Type 0} (X : Range) (n : ℕ) (before : Option Item) (Good : List Item → List ℕ → B → Type 0) (bytes : List ℕ) (y : B) → FirstOf X n before Good bytes y → Run X (suc n) before Good bytes y
+run_more X n before Good bytes y (x, rest, item, is, (rises, (within, (xs, more, run, is2, g)))) = grind (arith, append_assoc)
+
+pub items_told : {B : Type 0} (X : Range) (n : ℕ) (before : Option Item) (k : List Item × List ℕ → Result B ℕ) (Good : List Item → List ℕ → B → Type 0) →
+    ((xs : List Item) (rest : List ℕ) → Tells (IsBytes rest) (k (xs, rest)) (Good xs rest) (Trails rest)) → (bytes : List ℕ) →
+    Tells (IsBytes bytes) (items_at X n before bytes >>= k) (Run X n before Good bytes) (FaultyItems X n before bytes)
+items_told X zero before k Good goes bytes = as_told (goes [] bytes) (λ f. f) (λ y f g. ([], bytes, tt, refl, g)) (run_none X before Good bytes) (λ e b. b) (λ e b. b)
+items_told X (suc n) before k Good goes bytes =
+    as_told (along (bind_assoc (item_at X before bytes) (λ x. items_at X n (Some x.0) x.1 >>= (λ xs. read_ok (x.0 ∷ xs.0, xs.1))) k)
+    (item_behind X before (λ x. (items_at X n (Some x.0) x.1 >>= (λ xs. read_ok (x.0 ∷ xs.0, xs.1))) >>= k) (λ x rest y. Run X n (Some x) (λ xs. Good (x ∷ xs)) rest y) (λ x rest e. FaultyItems X n (Some x) rest e)
+    (λ x rest. along (bind_assoc (items_at X n (Some x) rest) (λ xs. read_ok (x ∷ xs.0, xs.1)) k)
+    (items_told X n (Some x) (λ xs. k (x ∷ xs.0, xs.1)) (λ xs. Good (x ∷ xs)) (λ xs more. goes (x ∷ xs) more) rest)) bytes))
+    (λ f. f) (λ y f g. run_more X n before Good bytes y g) (run_first X n before Good bytes) (λ e b. b) (λ e b. b)
+
+-- ---- a run and a set
+
+less_of : (o : Ordering) → is_lt o ≡ true → o ≡ Less
+less_of o h = grind arith
+
+less-trans : (x y z : Item) → item_cmp x y ≡ Less → item_cmp y z ≡ Less → item_cmp x z ≡ Less
+less-trans x y z h k = less_of (item_cmp x z) (before-trans x y z (ap is_lt h) (ap is_lt k))
+
+all_after : (b x : Item) (xs : List Item) → item_cmp b x ≡ Less → AllByRecursion (λ y. item_cmp x y ≡ Less) xs → AllByRecursion (λ y. item_cmp b y ≡ Less) xs
+all_after b x [] h a = tt
+all_after b x (y ∷ ys) h a = (less-trans b x y h a.0, all_after b x ys h a.1)
+
+abbrev pub After : Option Item → List Item → Type 0
+After None xs = ⊤
+After (Some b) xs = AllByRecursion (λ y. item_cmp b y ≡ Less) xs
+
+after_rises : (before : Option Item) (x : Item) (xs : List Item) → After before (x ∷ xs) → IsTrue (rises_from before x)
+after_rises before x xs a = grind arith
+
+pub record Rising (X : Range) (n : ℕ) (before : Option Item) (xs : List Item) : Type 0 where
+  pub count : length xs ≡ n
+  pub each : AllByRecursion IsItem xs
+  pub within : AllByRecursion (λ x. IsTrue (contains X x)) xs
+  pub after : After before xs
+  pub rises : IsSet xs
+
+nothing_after_any : (before : Option Item) → After before []
+nothing_after_any before = grind arith
+
+pub run_rises : (X : Range) (n : ℕ) (before : Option Item) (xs : List Item) → IsRun X n before xs → Rising X n before xs
+unfolding IsStrictlySortedBy
+run_rises X zero before [] run = record { count = refl; each = tt; within = tt; after = nothing_after_any before; rises = tt }
+run_rises X zero before (x ∷ xs) run = absurd run
+run_rises X (suc n) before [] run = absurd run
+run_rises X (suc n) before (x ∷ xs) run = grind (arith, run_rises X n (Some x) xs run.3, before, less_of, all_after)
+
+pub rises_run : (X : Range) (before : Option Item) (xs : List Item) → AllByRecursion IsItem xs → AllByRecursion (λ x. IsTrue (contains X x)) xs → After before xs → IsSet xs → IsRun X (length xs) before xs
+unfolding IsStrictlySortedBy
+rises_run X before [] each within after rises = tt
+rises_run X before (x ∷ xs) each within after rises = (each.0, after_rises before x xs after, within.0, rises_run X (Some x) xs each.1 within.1 rises.0 rises.1)
+
+-- ---- a count and so many items
+
+abbrev Counted : {B : Type 0} → Range → (List Item → List ℕ → B → Type 0) → List ℕ → B → Type 0
+Counted X Good bytes y = Begins count_text IsCount (λ n rest. Run X n None Good rest y) bytes
+
+list_of_count : {B : Type 0} (X : Range) (Good : List Item → List ℕ → B → Type 0) (bytes : List ℕ) (y : B) → Counted X Good bytes y → Begins items_text (AreItemsOf X) (λ xs rest. Good xs rest y) bytes
+list_of_count X Good bytes y (n, rest, small, is, (xs, more, run, is2, g)) = grind (arith, run_rises, append_assoc)
+
+count_of_list : {B : Type 0} (X : Range) (Good : List Item → List ℕ → B → Type 0) (bytes : List ℕ) (y : B) → Begins items_text (AreItemsOf X) (λ xs rest. Good xs rest y) bytes → Counted X Good bytes y
+count_of_list X Good bytes y (xs, more, right, is, g) = grind (arith, append_assoc, rises_run)
+
+pub list_told : {B : Type 0} (X : Range) (k : List Item × List ℕ → Result B ℕ) (Good : List Item → List ℕ → B → Type 0) →
+    ((xs : List Item) (rest : List ℕ) → Tells (IsBytes rest) (k (xs, rest)) (Good xs rest) (Trails rest)) → (bytes : List ℕ) →
+    Tells (IsBytes bytes) (list_at X bytes >>= k) (λ y. Begins items_text (AreItemsOf X) (λ xs rest. Good xs rest y) bytes) (FaultyList X bytes)
+list_told {B} X k Good goes bytes =
+    as_told (along (bind_assoc (number_at bytes) (λ n. items_at X n.0 None n.1) k)
+    (behind count_field (λ n. items_at X n.0 None n.1 >>= k) (λ n rest y. Run X n None Good rest y) (λ n rest. FaultyItems X n None rest)
+    (λ n rest _. items_told X n None k Good goes rest) bytes))
+    (λ f. f) (λ y f g. list_of_count X Good bytes y g) (count_of_list X Good bytes) (λ e b. b) (λ e b. b)
+
+-- ==== A range, and what follows it
+
+abbrev span : List ℕ → Option (List ℕ) → Range
+span x y = record { lower = x; upper = y }
+
+abbrev bounds : List ℕ × List ℕ → Option (List ℕ) × List ℕ → Result (Range × List ℕ) ℕ
+bounds x y = unless (not (is_below x.0 y.0)) empty_range (span x.0 y.0, y.1)
+
+pub range_told : {B : Type 0} (k : Range × List ℕ → Result B ℕ) (Good : Range → List ℕ → B → Type 0) (Next : Range → List ℕ → ℕ → Type 0) →
+    ((X : Range) (rest : List ℕ) → IsRange X → Tells (IsBytes rest) (k (X, rest)) (Good X rest) (Next X rest)) → (bytes : List ℕ) →
+    Tells (IsBytes bytes) (range_at bytes >>= k) (λ y. Begins range_text IsRange (λ X rest. Good X rest y) bytes) (FaultyRange Next bytes)
+range_told {B} k Good Next goes bytes =
+    let GoodUpper : List ℕ → List ℕ → B → Type 0 = λ x rest z. Begins upper_text IsUpper (λ y more. IsTrue (is_below x y) × Good (span x y) more z) rest in
+    as_told (along (bind_assoc (lower_at bytes) (λ x. upper_at x.1 >>= bounds x) k)
+    (behind lower_field (λ x. (upper_at x.1 >>= bounds x) >>= k) GoodUpper (FaultyUpper Next)
+    (λ x rest right. along (bind_assoc (upper_at rest) (bounds (x, rest)) k)
+    (behind upper_field (λ y. bounds (x, rest) y >>= k) (λ y more z. IsTrue (is_below x y) × Good (span x y) more z) (FaultyBounds Next x)
+    (λ y more right2. tested (is_below x y) empty_range (span x y, more) k _ _ (λ below. goes (span x y) more (record { lower = right; upper = right2; rises = below }))) rest)) bytes))
+    (λ f. f)
+    (λ z f g. let u = g.4 in (span g.0 u.0, u.1, record { lower = g.2; upper = u.2; rises = u.4.0 }, g.3 ∙ ap (λ (t : List ℕ). short_text g.0 ++ t) u.3 ∙ sym (append_assoc (short_text g.0) (upper_text u.0) u.1), u.4.1))
+    (λ z g. (g.0.lower, upper_text g.0.upper ++ g.1, g.2.lower, g.3 ∙ append_assoc (short_text g.0.lower) (upper_text g.0.upper) g.1, (g.0.upper, g.1, g.2.upper, λ i. upper_text g.0.upper ++ g.1, (g.2.rises, g.4))))
+    (λ e b. b) (λ e b. b)
+
+-- ==== A body: the events that it says, and its faults
 
 -- ---- the end
 
 pub end_told : {B : Type 0} (v : B) (rest : List ℕ) → Tells (IsBytes rest) (nothing_after (v, rest)) (λ y. (y ≡ v) × (rest ≡ [])) (Trails rest)
 end_told v [] = told_ok _ v _ _ (λ _. (refl, refl)) (λ z g. sym g.0) (λ e b. let lt = b.0 in omega arith)
-end_told v (b ∷ rest) =
-    let some : nat_lt 0 (length (b ∷ rest)) ≡ true = lt-ltb 0 (length (b ∷ rest)) (omega arith) in
-    along (ap (λ t. unless t trailing v) some) (told_err _ trailing _ _ (λ _. (omega arith, refl)) (λ c h. sym h.1) (λ z g. let e = ap length g.1 in omega arith))
+end_told v (b ∷ rest) = grind arith
 
 -- n bytes and nothing more
 pub bytes_end : {B : Type 0} (n : ℕ) (v : List ℕ → B) (bytes : List ℕ) →
@@ -64,8 +187,7 @@ Told P input kind bytes r Bad = Tells (IsBytes bytes) r (Says P input (kind ∷ 
 
 sum_good : {F : Type 0} (P : Profile F) (input : Input) (bytes : List ℕ) (y : Event F) → Says P input (1 ∷ bytes) y →
     Begins range_text IsRange (λ X rest. (length rest ≡ P.size) × (y ≡ Came (Sum X (P.read rest)))) bytes
-sum_good P input bytes (Came (Sum X f)) g = (X, P.text f, g.0.0, tail_of g.1, (g.0.1.0, ap (λ f. Came (Sum X f)) (sym g.0.1.1)))
-sum_good P input bytes y g = absurd (let e = head_of g.1 in omega arith)
+sum_good P input bytes y g = grind arith
 
 after_part : {F : Type 0} (read : Result (Part F × List ℕ) ℕ) → (came_at read >>= nothing_after) ≡ (read >>= (λ p. nothing_after (Came p.0, p.1)))
 after_part read = bind_assoc read (λ p. read_ok (Came p.0, p.1)) nothing_after
@@ -78,10 +200,7 @@ sum_of P X = bytes_at P.size X.1 >>= (λ f. read_ok (Sum X.0 (P.read f.0), f.1))
 
 sum_says : {F : Type 0} (P : Profile F) → IsProfile P → (input : Input) (bytes : List ℕ) (y : Event F) → IsBytes bytes →
     Begins range_text IsRange (λ X rest. (length rest ≡ P.size) × (y ≡ Came (Sum X (P.read rest)))) bytes → Says P input (1 ∷ bytes) y
-sum_says P real input bytes y fits (X, rest, right, is, (len, what)) =
-    let back = real.back rest (rest_fits bytes (range_text X) rest is fits) len in
-    subst (λ y. Says P input (1 ∷ bytes) y) (sym what)
-    ((right, (ap length back ∙ len, ap P.read back)), ap (λ (t : List ℕ). 1 ∷ t) (is ∙ ap (λ (t : List ℕ). range_text X ++ t) (sym back)))
+sum_says P real input bytes y fits (X, rest, right, is, (len, what)) = grind (arith, rest_fits, fits)
 
 pub sum_told : {F : Type 0} (P : Profile F) → IsProfile P → (input : Input) (bytes : List ℕ) →
     Told P input 1 bytes (came_at (sum_at P bytes) >>= nothing_after) (FaultyRange (λ X. FaultyBytes P.size) bytes)
@@ -98,13 +217,10 @@ abbrev ListingGood : {F : Type 0} → Range → List ℕ → Event F → Type 0
 ListingGood X rest y = Begins items_text (AreItemsOf X) (λ xs more. (y ≡ Came (Listing X xs)) × (more ≡ [])) rest
 
 listing_says : {F : Type 0} (P : Profile F) (input : Input) (bytes : List ℕ) (y : Event F) → IsBytes bytes → Begins range_text IsRange (λ X rest. ListingGood X rest y) bytes → Says P input (2 ∷ bytes) y
-listing_says P input bytes y fits (X, rest, right, is, (xs, more, items, is2, (what, none))) =
-    subst (λ y. Says P input (2 ∷ bytes) y) (sym what)
-    ((right, items), ap (λ (t : List ℕ). 2 ∷ t) (is ∙ ap (λ (t : List ℕ). range_text X ++ t) (is2 ∙ ap (λ (t : List ℕ). items_text xs ++ t) none ∙ append-nil (items_text xs))))
+listing_says P input bytes y fits (X, rest, right, is, (xs, more, items, is2, (what, none))) = search rules
 
 listing_good : {F : Type 0} (P : Profile F) (input : Input) (bytes : List ℕ) (y : Event F) → Says P input (2 ∷ bytes) y → Begins range_text IsRange (λ X rest. ListingGood X rest y) bytes
-listing_good P input bytes (Came (Listing X xs)) g = (X, items_text xs, g.0.0, tail_of g.1, (xs, [], g.0.1, sym (append-nil (items_text xs)), (refl, refl)))
-listing_good P input bytes y g = absurd (let e = head_of g.1 in omega arith)
+listing_good P input bytes y g = search rules
 
 pub listing_told : {F : Type 0} (P : Profile F) (input : Input) (bytes : List ℕ) →
     Told P input 2 bytes (came_at (listing_at bytes) >>= nothing_after) (FaultyRange FaultyList bytes)
@@ -128,14 +244,10 @@ abbrev AnswerGood : {F : Type 0} → Range → List ℕ → Event F → Type 0
 AnswerGood X rest y = Begins marks_text (λ marks. length marks < 2 ^ 32) (λ marks more. ItemsGood X marks more y) rest
 
 answer_says : {F : Type 0} (P : Profile F) (input : Input) (bytes : List ℕ) (y : Event F) → IsBytes bytes → Begins range_text IsRange (λ X rest. AnswerGood X rest y) bytes → Says P input (3 ∷ bytes) y
-answer_says P input bytes y fits (X, rest, right, is, (marks, more, few, is2, (xs, end, items, is3, (what, none)))) =
-    let last : more ≡ items_text xs = is3 ∙ ap (λ (t : List ℕ). items_text xs ++ t) none ∙ append-nil (items_text xs) in
-    subst (λ y. Says P input (3 ∷ bytes) y) (sym what)
-    ((right, few, items), ap (λ (t : List ℕ). 3 ∷ t) (is ∙ ap (λ (t : List ℕ). range_text X ++ t) (is2 ∙ ap (λ (t : List ℕ). marks_text marks ++ t) last)))
+answer_says P input bytes y fits (X, rest, right, is, (marks, more, few, is2, (xs, end, items, is3, (what, none)))) = search rules
 
 answer_good : {F : Type 0} (P : Profile F) (input : Input) (bytes : List ℕ) (y : Event F) → Says P input (3 ∷ bytes) y → Begins range_text IsRange (λ X rest. AnswerGood X rest y) bytes
-answer_good P input bytes (Came (Answer X marks xs)) g = (X, marks_text marks ++ items_text xs, g.0.0, tail_of g.1, (marks, items_text xs, g.0.1, refl, (xs, [], g.0.2, sym (append-nil (items_text xs)), (refl, refl))))
-answer_good P input bytes y g = absurd (let e = head_of g.1 in omega arith)
+answer_good P input bytes y g = search rules
 
 pub answer_told : {F : Type 0} (P : Profile F) (input : Input) (bytes : List ℕ) →
     Told P input 3 bytes (came_at (answer_at bytes) >>= nothing_after) (FaultyRange FaultyAnswer bytes)
@@ -150,29 +262,14 @@ answer_told {F} P input bytes =
 
 -- ---- the end of a message, and a fault frame
 
-ended_good : {F : Type 0} (P : Profile F) (input : Input) (bytes : List ℕ) (y : Event F) → Says P input (4 ∷ bytes) y → (y ≡ Ended) × (bytes ≡ [])
-ended_good P input bytes Ended g = (refl, tail_of g.1)
-ended_good P input bytes (Came (Sum X f)) g = absurd (let e = head_of g.1 in omega arith)
-ended_good P input bytes (Came (Listing X xs)) g = absurd (let e = head_of g.1 in omega arith)
-ended_good P input bytes (Came (Answer X ms xs)) g = absurd (let e = head_of g.1 in omega arith)
-ended_good P input bytes (Failed code) g = absurd (let e = head_of g.1 in omega arith)
-
 pub ended_told : {F : Type 0} (P : Profile F) (input : Input) (bytes : List ℕ) → Told P input 4 bytes (ended_at bytes >>= nothing_after) (FaultyBytes 0 bytes)
-ended_told {F} P input bytes = as_told (end_told {B = Event F} Ended bytes) (λ f. f)
-    (λ y f g. subst (λ y. Says P input (4 ∷ bytes) y) (sym g.0) (tt, ap (λ (t : List ℕ). 4 ∷ t) g.1)) (ended_good P input bytes)
-    (λ e b. inr b) (λ e b. elim b [ inl x ↦ absurd (let lt = x.0 in omega arith) | inr x ↦ x ])
+ended_told {F} P input bytes = grind (arith, common_steps, as_told, end_told)
 
 failed_says : {F : Type 0} (P : Profile F) (bytes : List ℕ) → (y : Event F) → IsBytes bytes → (length bytes ≡ 1) × (y ≡ Failed (slice_index bytes 0)) → Says P Stream (5 ∷ bytes) y
-failed_says P [] y f g = absurd (let l = g.0 in omega arith)
-failed_says P (c ∷ []) y f g = subst (λ y. Says P Stream (5 ∷ c ∷ []) y) (sym g.1) (f.0, refl)
-failed_says P (c ∷ d ∷ ds) y f g = absurd (let l = g.0 in omega arith)
+failed_says P bytes y f g = grind (arith, common_steps)
 
 failed_good : {F : Type 0} (P : Profile F) (input : Input) (bytes : List ℕ) (y : Event F) → Says P input (5 ∷ bytes) y → (length bytes ≡ 1) × (y ≡ Failed (slice_index bytes 0))
-failed_good P input bytes (Failed code) g = let e = tail_of g.1 in (ap length e, ap (λ (t : List ℕ). Failed (slice_index t 0)) (sym e))
-failed_good P input bytes (Came (Sum X f)) g = absurd (let e = head_of g.1 in omega arith)
-failed_good P input bytes (Came (Listing X xs)) g = absurd (let e = head_of g.1 in omega arith)
-failed_good P input bytes (Came (Answer X ms xs)) g = absurd (let e = head_of g.1 in omega arith)
-failed_good P input bytes Ended g = absurd (let e = head_of g.1 in omega arith)
+failed_good P input bytes y g = grind arith
 
 pub failed_told : {F : Type 0} (P : Profile F) (bytes : List ℕ) → Told P Stream 5 bytes (failed_at bytes >>= nothing_after) (FaultyBytes 1 bytes)
 failed_told {F} P bytes =
@@ -194,40 +291,23 @@ Kind A B C D E (suc (suc (suc (suc (suc zero))))) = E
 Kind A B C D E _ = ⊥
 
 only : (n : ℕ) (A B C D E : Type 0) → Kinds n A B C D E → Kind A B C D E n
-only n A B C D E (inl x) = subst (Kind A B C D E) (sym x.0) x.1
-only n A B C D E (inr (inl x)) = subst (Kind A B C D E) (sym x.0) x.1
-only n A B C D E (inr (inr (inl x))) = subst (Kind A B C D E) (sym x.0) x.1
-only n A B C D E (inr (inr (inr (inl x)))) = subst (Kind A B C D E) (sym x.0) x.1
-only n A B C D E (inr (inr (inr (inr x)))) = subst (Kind A B C D E) (sym x.0) x.1
+only n A B C D E a = grind arith
 
 pick : (n i : ℕ) (A B C D E : Type 0) → n ≡ i → Kinds n A B C D E → Kind A B C D E i
 pick n i A B C D E e k = subst (Kind A B C D E) e (only n A B C D E k)
 
 pub or_cases : (a b : Bool) → (a || b) ≡ true → (a ≡ true) ⊎ (b ≡ true)
-or_cases true b h = inl refl
-or_cases false b h = inr h
+or_cases a b h = grind arith
 
 pub or_none : (a b : Bool) → (a || b) ≡ false → (a ≡ false) × (b ≡ false)
-or_none true b h = cc
-or_none false b h = (refl, h)
-
--- four kinds may always come
-four_kinds : (input : Input) → 4 ≤ greatest_kind input
-four_kinds One_message = omega arith
-four_kinds Stream = omega arith
+or_none a b h = grind arith
 
 says_kind : {F : Type 0} (P : Profile F) (input : Input) (kind : ℕ) (bytes : List ℕ) → (y : Event F) → Says P input (kind ∷ bytes) y → (1 ≤ kind) × (kind ≤ greatest_kind input)
-says_kind P input kind bytes (Came (Sum X f)) g = let four = four_kinds input in let e = head_of g.1 in (omega arith, omega arith)
-says_kind P input kind bytes (Came (Listing X xs)) g = let four = four_kinds input in let e = head_of g.1 in (omega arith, omega arith)
-says_kind P input kind bytes (Came (Answer X ms xs)) g = let four = four_kinds input in let e = head_of g.1 in (omega arith, omega arith)
-says_kind P input kind bytes Ended g = let four = four_kinds input in let e = head_of g.1 in (omega arith, omega arith)
-says_kind P One_message kind bytes (Failed code) g = absurd g.0
-says_kind P Stream kind bytes (Failed code) g = let e = head_of g.1 in (omega arith, omega arith)
+says_kind P input kind bytes y g = grind arith
 
 -- and no more than five
 five_kinds : (input : Input) → greatest_kind input ≤ 5
-five_kinds One_message = omega arith
-five_kinds Stream = omega arith
+five_kinds input = grind arith
 
 -- a told kind, where the kind is a variable
 of_kind : {F : Type 0} (P : Profile F) (input : Input) (kind i : ℕ) (bytes : List ℕ) (r : Result (Event F) ℕ) (Bad : ℕ → Type 0) → kind ≡ i → 1 ≤ kind → kind ≤ greatest_kind input →

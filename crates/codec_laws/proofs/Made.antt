@@ -1,18 +1,42 @@
--- Items and parts that are made: no fault where they have a spelling.
-use Rattle.std.proofs.Common.{◌≡◌, ℕ, ◌≤◌, Bool, true, false, not, List, [], ◌∷◌, ◌++◌, length, Option, Some, None, refl, ap, ◌∙◌, arith}
-use Rattle.std.specs.Prelude.{nat_lt, flat_map, if◌then◌else◌}
-use Rattle.std.specs.List.{AllByRecursion}
-use Rattle.std.specs.Option.{option_or}
-use Rattle.std.proofs.lemmas.Bool.{ltb-false, le-ltb}
-use Rattle.std.proofs.lemmas.List.{length-append}
-use Rattle.definitions.specs.Items.{Item, IsItem, IsUpper, Range, IsRange, contains}
-use Rattle.definitions.specs.Messages.{Part, Sum, Listing, Answer}
-use Rattle.definitions.specs.Wire.{Profile, IsProfile, body, short_text, upper_text, range_text, count_text, items_text, mark_bytes, mark_bytes_for, marks_text, max_body}
-use Rattle.definitions.specs.Faults.{rises_from, items_fault, body_fault}
-use Rattle.definitions.specs.Refusals.{frame_length, item_order, item_outside}
-use Rattle.codec_laws.specs.Parts.{ItemsFaultIsExact, PartFaultIsExact}
-use Rattle.codec_laws.proofs.Lists.{IsRun, run_rises, rises_run}
+-- Parts that are made, and the two profiles.
+use Rattle.std.proofs.Common.{◌≡◌, ℕ, List, ◌++◌, length, take, drop, refl, sym, ◌∙◌, arith, ◌≤◌, Bool, true, not, [], ◌∷◌, Option, Some, None, ap, ◌*◌, length-append}
+use Rattle.std.specs.Prelude.{flat_map, if◌then◌else◌, filter, map, IsTrue}
+use Rattle.definitions.specs.Sets.{has, difference}
+use Rattle.definitions.specs.Messages.{Listing}
+use Rattle.definitions.proofs.Words.{w32, w128, to_be_bytes, from_be_bytes, AllByRecursion, option_or, IsBytes, Item, IsItem, Range, IsRange, contains, item_cmp, lanes_text, lanes_read, two_lane_profile, counted_profile, IsProfile, Profile, body, short_text, range_text, count_text, items_text, mark_bytes, mark_bytes_for, marks_text, max_body, Part, rises_from, items_fault, body_fault, frame_length, item_order, item_outside, items_in}
+use Rattle.definitions.proofs.Lemmas.{length-append, length-take-le, length-drop, take-append-drop, be_bytes_4, le-ltb, IsStrictlySortedBy-filter, length-filter, count_by-le-length, All-filter}
+use Rattle.std.proofs.lemmas.List.{length-map}
+use Rattle.codec_laws.specs.Parts.{ItemsFaultIsExact, PartFaultIsExact, SetsFit, AnswersFit}
+use Rattle.codec_laws.proofs.Fields.{be_bytes_16, front_fits, rest_fits, byte_fits}
+use Rattle.codec_laws.proofs.Bodies.{IsRun, run_rises, rises_run}
 use Rattle.codec_laws.proofs.Marks.{length-mark_bytes}
+
+-- ==== Both profiles are real
+
+lanes_back : (bytes : List ℕ) → IsBytes bytes → length bytes ≡ 32 → lanes_text (lanes_read bytes) ≡ bytes
+lanes_back bytes fits len =
+    let whole : bytes ≡ take 16 bytes ++ drop 16 bytes = sym (take-append-drop 16 bytes) in
+    let a : to_be_bytes w128 (from_be_bytes w128 (take 16 bytes)) ≡ take 16 bytes = be_bytes_16 (take 16 bytes) (length-take-le 16 bytes (omega arith)) (byte_fits (take 16 bytes) (front_fits bytes (take 16 bytes) (drop 16 bytes) whole fits)) in
+    let b : to_be_bytes w128 (from_be_bytes w128 (drop 16 bytes)) ≡ drop 16 bytes = be_bytes_16 (drop 16 bytes) (let l = length-drop 16 bytes in omega arith) (byte_fits (drop 16 bytes) (rest_fits bytes (take 16 bytes) (drop 16 bytes) whole fits)) in
+    (λ i. a i ++ b i) ∙ sym whole
+
+pub two_lanes_real : IsProfile two_lane_profile
+two_lanes_real = record { hello = refl; hello_bytes = (omega arith, (omega arith, (omega arith, (omega arith, tt)))); size = omega arith; small = omega arith; back = lanes_back }
+
+pub counted_real : IsProfile counted_profile
+counted_real = record {
+  hello = refl;
+  hello_bytes = (omega arith, (omega arith, (omega arith, (omega arith, tt))));
+  size = omega arith;
+  small = omega arith;
+  back = λ bytes fits len.
+      let whole : bytes ≡ take 4 bytes ++ drop 4 bytes = sym (take-append-drop 4 bytes) in
+      let a : to_be_bytes w32 (from_be_bytes w32 (take 4 bytes)) ≡ take 4 bytes = be_bytes_4 (take 4 bytes) _ (length-take-le 4 bytes (omega arith)) (byte_fits (take 4 bytes) (front_fits bytes (take 4 bytes) (drop 4 bytes) whole fits)) refl in
+      let b : lanes_text (lanes_read (drop 4 bytes)) ≡ drop 4 bytes = lanes_back (drop 4 bytes) (rest_fits bytes (take 4 bytes) (drop 4 bytes) whole fits) (let l = length-drop 4 bytes in omega arith) in
+      (λ i. a i ++ b i) ∙ sym whole;
+}
+
+-- ==== Items and parts that are made: no fault where they have a spelling
 
 -- ---- items
 
@@ -20,14 +44,10 @@ abbrev tests : Bool → Bool → Option ℕ → Option ℕ
 tests rises within later = if not rises then Some item_order else if not within then Some item_outside else later
 
 passed : (rises within : Bool) (later : Option ℕ) → tests rises within later ≡ None → (rises ≡ true) × (within ≡ true) × (later ≡ None)
-passed true true later h = (refl, refl, h)
-passed true false later h = absurd cc
-passed false within later h = absurd cc
+passed rises within later h = grind arith
 
 passes : (rises within : Bool) (later : Option ℕ) → rises ≡ true → within ≡ true → tests rises within later ≡ later
-passes true true later h k = refl
-passes true false later h k = absurd cc
-passes false within later h k = absurd cc
+passes rises within later h k = cc
 
 run_of : (X : Range) (before : Option Item) (xs : List Item) → AllByRecursion IsItem xs → items_fault X before xs ≡ None → IsRun X (length xs) before xs
 run_of X before [] each h = tt
@@ -40,10 +60,7 @@ no_fault X before [] run = refl
 no_fault X before (x ∷ xs) run = passes (rises_from before x) (contains X x) (items_fault X (Some x) xs) run.1 run.2 ∙ no_fault X (Some x) xs run.3
 
 pub items_exact : ItemsFaultIsExact
-items_exact X items each few = (
-  λ h. let r = run_rises X (length items) None items (run_of X None items each h) in record { count = few; each = each; rises = r.rises; inside = r.within },
-  λ a. no_fault X None items (rises_run X None items each a.inside tt a.rises),
-)
+items_exact X items each few = grind (arith, run_rises, run_of, no_fault, rises_run)
 
 -- ---- lengths
 
@@ -58,51 +75,69 @@ length-items xs = let a = length-append (count_text (length xs)) (flat_map short
 length-marks : (marks : List Bool) → mark_bytes_for (length marks) ≤ length (marks_text marks)
 length-marks marks = let a = length-append (count_text (length marks)) (mark_bytes marks) in let b = length-mark_bytes marks in omega arith
 
-length-upper : (y : Option (List ℕ)) → IsUpper y → length (upper_text y) ≤ 65
-length-upper None h = omega arith
-length-upper (Some y) h = let l = h.not_long in omega arith
-
-length-range : (X : Range) → IsRange X → length (range_text X) ≤ 130
-length-range X h =
-    let a = length-append (short_text X.lower) (upper_text X.upper) in
-    let l = h.lower.not_long in let u = length-upper X.upper h.upper in omega arith
-
 -- ---- parts
 
-both_none : (a b : Option ℕ) → option_or a b ≡ None → (a ≡ None) × (b ≡ None)
-both_none None b h = (refl, h)
-both_none (Some x) b h = absurd cc
-
 or_none : (a b : Option ℕ) → a ≡ None → b ≡ None → option_or a b ≡ None
-or_none None b h k = k
-or_none (Some x) b h k = absurd cc
-
-is_short : {F : Type 0} (P : Profile F) (p : Part F) → body_fault P p ≡ None → length (body P p) ≤ max_body
-is_short P p h = by (nat_lt max_body (length (body P p))) refl h where
-  by : (b : Bool) → nat_lt max_body (length (body P p)) ≡ b → (if b then Some frame_length else None) ≡ None → length (body P p) ≤ max_body
-  by true e h = absurd cc
-  by false e h = ltb-false _ _ e
+or_none a b h k = cc
 
 short_is : {F : Type 0} (P : Profile F) (p : Part F) → length (body P p) ≤ max_body → body_fault P p ≡ None
 short_is P p h = ap (λ b. if b then Some frame_length else None) (le-ltb max_body (length (body P p)) h)
 
-sum_short : {F : Type 0} (P : Profile F) → IsProfile P → (X : Range) (f : F) → IsRange X → length (P.text f) ≡ P.size → length (body P (Sum X f)) ≤ max_body
-sum_short P real X f range len = let a = length-append (range_text X) (P.text f) in let r = length-range X range in let s = real.small in omega arith
-
 pub part_exact : {F : Type 0} (P : Profile F) → IsProfile P → PartFaultIsExact P
-part_exact P real (Sum X f) made = (λ h. record { fields = (made.0, made.1); short = sum_short P real X f made.0 made.1.0 }, λ p. refl)
-part_exact P real (Listing X items) made = (
-  λ h. let n = both_none (items_fault X None items) _ h in
-      let short = is_short P (Listing X items) n.1 in
-      let a = length-append (range_text X) (items_text items) in let i = length-items items in
-      record { fields = (made.0, (items_exact X items made.1 (omega arith)).0 n.0); short = short },
-  λ p. or_none (items_fault X None items) _ ((items_exact X items made.1 p.fields.1.count).1 p.fields.1) (short_is P (Listing X items) p.short),
-)
-part_exact P real (Answer X marks items) made = (
-  λ h. let n = both_none (items_fault X None items) _ h in
-      let short = is_short P (Answer X marks items) n.1 in
-      let a = length-append (range_text X) (marks_text marks ++ items_text items) in let b = length-append (marks_text marks) (items_text items) in
-      let i = length-items items in let m = length-marks marks in
-      record { fields = (made.0, omega arith, (items_exact X items made.1 (omega arith)).0 n.0); short = short },
-  λ p. or_none (items_fault X None items) _ ((items_exact X items made.1 p.fields.2.count).1 p.fields.2) (short_is P (Answer X marks items) p.short),
-)
+part_exact P real a made = grind (arith, length-append, length-items, items_exact, or_none, short_is, length-marks)
+
+-- ==== How long the bodies of lists are
+
+length-range_text : (X : Range) → IsRange X → length (range_text X) ≤ 130
+length-range_text X h = grind (arith, length-append)
+
+-- an item is a length byte and at most 64 bytes
+length-texts_le : (items : List Item) → AllByRecursion IsItem items → length (flat_map short_text items) ≤ 65 * length items
+length-texts_le [] h = omega arith
+length-texts_le (x ∷ xs) h = grind (arith, length-texts_le xs h.1, length-append)
+
+-- what holds of each element holds of those that are kept
+All-kept : {X : Type 0} (P : X → Type 0) (test : X → Bool) (xs : List X) → AllByRecursion P xs → AllByRecursion P (filter test xs)
+All-kept P test [] h = tt
+All-kept P test (x ∷ xs) h = grind (arith, All-kept P test xs h.1)
+
+pub sets_fit_lem : {F : Type 0} (P : Profile F) → SetsFit P
+sets_fit_lem P A X set each few range =
+    let items = items_in A X in
+    let fewer : length items ≤ length A = omega (arith, length-filter (contains X) A, count_by-le-length (contains X) A) in
+    let kept = All-kept IsItem (contains X) A each in
+    record {
+      fields = (range, record { count = omega arith; each = kept; rises = IsStrictlySortedBy-filter item_cmp (contains X) A set; inside = All-filter (contains X) A });
+      short = omega (arith, length-range_text X range, length-append (range_text X) (items_text items), length-append (count_text (length items)) (flat_map short_text items), length-texts_le items kept);
+    }
+
+pub answers_fit_lem : {F : Type 0} (P : Profile F) → AnswersFit P
+answers_fit_lem P A X listed set each few part =
+    let held = items_in A X in
+    let items = difference held listed in
+    let marks = map (λ x. not (has A x)) listed in
+    let new : Item → Bool = λ x. not (has listed x) in
+    let fewer : length items ≤ length A = omega (arith, length-filter new held, count_by-le-length new held, length-filter (contains X) A, count_by-le-length (contains X) A) in
+    let kept = All-kept IsItem new held (All-kept IsItem (contains X) A each) in
+    let range = part.fields.0 in
+    let short = part.short in
+    let many : length marks ≡ length listed = length-map listed (λ x. not (has A x)) in
+    let heard = length-append (range_text X) (items_text listed) in
+    let few_listed = length-items listed in
+    record {
+      fields = (range, omega arith, record { count = omega arith; each = kept; rises = IsStrictlySortedBy-filter item_cmp new held (IsStrictlySortedBy-filter item_cmp (contains X) A set); inside = All-kept (λ x. IsTrue (contains X x)) new held (All-filter (contains X) A) });
+      short = omega (
+        arith,
+        short,
+        heard,
+        few_listed,
+        many,
+        length-range_text X range,
+        length-append (range_text X) (marks_text marks ++ items_text items),
+        length-append (marks_text marks) (items_text items),
+        length-append (count_text (length marks)) (mark_bytes marks),
+        length-mark_bytes marks,
+        length-append (count_text (length items)) (flat_map short_text items),
+        length-texts_le items kept,
+      );
+    }

@@ -1,32 +1,20 @@
--- Marks, and the list behind them.
-use Rattle.std.proofs.Common.{◌≡◌, ℕ, zero, suc, ◌+◌, ◌*◌, ◌/◌, ◌%◌, ◌^◌, ◌<◌, Bool, true, false, not, List, [], ◌∷◌, ◌++◌, length, get_or, take, drop, Result, refl, sym, ap, subst, ◌∙◌, append_assoc, arith, inl, inr}
-use Rattle.std.specs.Prelude.{◌⊎◌, IsTrue, IsFalse, ◌==◌, bytes_eq}
-use Rattle.std.specs.Int.{bit_at}
-use Rattle.std.specs.Cmp.Lexicographic.{same_text}
-use Rattle.std.proofs.lemmas.List.{ext_get_or, get_or-take, get_or-drop}
-use Rattle.std.proofs.lemmas.List.FromFn.{length-map-range_with_len, get_or-map-range_with_len}
-use Rattle.std.proofs.lemmas.Nat.Bits.{bit_at_lowest, bit_at-suc, bit_at-zero}
-use Rattle.std.proofs.lemmas.Slice.Eq.{bytes_eq-Decides}
-use Rattle.definitions.specs.Items.{IsBytes, Range}
-use Rattle.definitions.specs.Wire.{count_text, mark_byte, mark_bytes, mark_bytes_for, marks_text}
-use Rattle.definitions.specs.Faults.{Begins, IsPadded, FaultyMarks, FaultyList, FaultyAnswer}
-use Rattle.definitions.specs.Reading.{◌>>=◌, unless, bytes_at, number_at, mark_in, marks_in, marks_at}
-use Rattle.codec_laws.proofs.Tells.{Tells, along, as_told, behind, bind_assoc, tested, true_is_false}
-use Rattle.codec_laws.proofs.Fields.{bytes_field, count_field}
-use Rattle.definitions.specs.Refusals.{mark_padding}
+-- Marks and their bytes.
+use Rattle.std.proofs.Common.{◌≡◌, ℕ, zero, suc, ◌+◌, ◌*◌, ◌/◌, ◌%◌, ◌^◌, ◌<◌, Bool, true, false, not, List, [], ◌∷◌, ◌++◌, length, get_or, take, drop, Result, refl, sym, ap, subst, ◌∙◌, append_assoc, arith, inl, inr, ◌≤◌}
+use Rattle.std.specs.Prelude.{◌⊎◌, IsTrue, IsFalse, ◌==◌, bytes_eq, ◌||◌, if◌then◌else◌}
+use Rattle.definitions.proofs.Words.{bit_at, same_text, IsBytes, Range, count_text, mark_byte, mark_bytes, mark_bytes_for, marks_text, Begins, IsPadded, FaultyMarks, FaultyList, FaultyAnswer, unless, bytes_at, number_at, mark_in, marks_in, marks_at, mark_padding}
+use Rattle.definitions.proofs.Lemmas.{ext_get_or, get_or-take, get_or-drop, length-take, length-drop, length-map-range_with_len, get_or-map-range_with_len, bit_at_lowest, bit_at-suc, bit_at-zero, bytes_eq-Decides, div-eq_of_lt, lt-div-mul-add, mod-eq_of_lt, mod-lt, leb_tells, eqb-true, eqb-false, mod-pow-add, pow_pos}
+use Rattle.definitions.specs.Reading.{◌>>=◌}
+use Rattle.codec_laws.specs.Parts.{PaddingIsLast}
+use Rattle.codec_laws.proofs.Fields.{Tells, along, as_told, behind, bind_assoc, tested, true_is_false, bytes_field, count_field, byte_fits}
+
+-- ==== Marks, and the list behind them
 
 bit_of_mark : (bits : List Bool) (i : ℕ) → (bit_at (mark_byte bits) i == 1) ≡ get_or bits i false
 bit_of_mark [] i = ap (λ n. n == 1) (bit_at-zero i)
-bit_of_mark (true ∷ bits) zero =
-    let e : (1 + 2 * mark_byte bits) % 2 ≡ 1 = omega arith in ap (λ n. n == 1) (bit_at_lowest (1 + 2 * mark_byte bits) ∙ e)
-bit_of_mark (false ∷ bits) zero =
-    let e : (0 + 2 * mark_byte bits) % 2 ≡ 0 = omega arith in ap (λ n. n == 1) (bit_at_lowest (0 + 2 * mark_byte bits) ∙ e)
-bit_of_mark (true ∷ bits) (suc i) =
-    let e : (1 + 2 * mark_byte bits) / 2 ≡ mark_byte bits = omega arith in
-    ap (λ n. n == 1) (bit_at-suc (1 + 2 * mark_byte bits) i ∙ ap (λ n. bit_at n i) e) ∙ bit_of_mark bits i
-bit_of_mark (false ∷ bits) (suc i) =
-    let e : (0 + 2 * mark_byte bits) / 2 ≡ mark_byte bits = omega arith in
-    ap (λ n. n == 1) (bit_at-suc (0 + 2 * mark_byte bits) i ∙ ap (λ n. bit_at n i) e) ∙ bit_of_mark bits i
+bit_of_mark (true ∷ bits) zero = grind arith
+bit_of_mark (false ∷ bits) zero = grind arith
+bit_of_mark (true ∷ bits) (suc i) = grind (arith, bit_of_mark bits i, bit_at-suc)
+bit_of_mark (false ∷ bits) (suc i) = grind (arith, bit_of_mark bits i, bit_at-suc)
 
 pub length-mark_bytes : (marks : List Bool) → length (mark_bytes marks) ≡ mark_bytes_for (length marks)
 length-mark_bytes marks = length-map-range_with_len (λ j. mark_byte (take 8 (drop (8 * j) marks))) 0 (mark_bytes_for (length marks))
@@ -63,9 +51,7 @@ padded_of : (n : ℕ) (held : List ℕ) → IsFalse (Clean n held) → IsPadded 
 padded_of n held f marks len e = true_is_false (sym (subst (λ (h : List ℕ). IsTrue (Clean n h)) (sym e) (clean_marks n marks len)) ∙ f)
 
 unclean : (n : ℕ) (held : List ℕ) → IsPadded n held → IsFalse (Clean n held)
-unclean n held pad =
-    let either : (b : Bool) → Clean n held ≡ b → Clean n held ≡ false = elim [ true ↦ λ e. absurd (pad (marks_in n held) (length-marks_in n held) (clean_text n held e)) | false ↦ λ e. e ] in
-    either (Clean n held) refl
+unclean n held pad = grind (arith, length-marks_in, clean_text)
 
 abbrev held_marks : ℕ → List ℕ × List ℕ → Result (List Bool × List ℕ) ℕ
 held_marks n held = unless (not (bytes_eq held.0 (mark_bytes (marks_in n held.0)))) mark_padding (marks_in n held.0, held.1)
@@ -108,3 +94,87 @@ marks_told {B} X k Good goes bytes =
     (m.0, m.1, omega arith, g.3 ∙ ap (λ (t : List ℕ). count_text g.0 ++ t) m.3 ∙ ap (λ n. count_text n ++ (mark_bytes m.0 ++ m.1)) (sym m.2) ∙ sym (append_assoc (count_text (length m.0)) (mark_bytes m.0) m.1), m.4))
     (λ y g. (length g.0, mark_bytes g.0 ++ g.1, g.2, g.3 ∙ append_assoc (count_text (length g.0)) (mark_bytes g.0) g.1, (g.0, g.1, refl, refl, g.4)))
     (λ e b. b) (λ e b. b)
+
+-- ==== Of the bytes that hold so many marks only the last can have a bit that is not used
+
+-- ---- the low bits of a number
+
+low_bits : ℕ → ℕ → List Bool
+low_bits zero b = []
+low_bits (suc k) b = (b % 2 == 1) ∷ low_bits k (b / 2)
+
+length-low_bits : (k b : ℕ) → length (low_bits k b) ≡ k
+unfolding low_bits
+length-low_bits zero b = refl
+length-low_bits (suc k) b = let i = length-low_bits k (b / 2) in omega arith
+
+low_bit : (k b i : ℕ) → i < k → get_or (low_bits k b) i false ≡ (bit_at b i == 1)
+unfolding low_bits
+low_bit zero b i lt = absurd (omega arith)
+low_bit (suc k) b zero lt = ap (λ n. n == 1) (sym (bit_at_lowest b))
+low_bit (suc k) b (suc i) lt = low_bit k (b / 2) i (omega arith) ∙ ap (λ n. n == 1) (sym (bit_at-suc b i))
+
+lowest : (b : ℕ) → (if b % 2 == 1 then 1 else 0) ≡ b % 2
+lowest b = grind arith
+
+low_value : (k b : ℕ) → mark_byte (low_bits k b) ≡ b % 2 ^ k
+unfolding low_bits
+low_value zero b = omega arith
+low_value (suc k) b = grind (arith, low_value k (b / 2), lowest b, mod-pow-add b k 1)
+
+-- ---- the bytes of the marks in some bytes
+
+entry : (n : ℕ) (held : List ℕ) (j k i : ℕ) → k ≤ 8 → 8 * j + k ≤ n → i < k → get_or (take 8 (drop (8 * j) (marks_in n held))) i false ≡ (bit_at (get_or held j 0) i == 1)
+entry n held j k i eight room lt =
+    let place : (8 * j + i) / 8 ≡ j = omega arith in
+    let bit : (8 * j + i) % 8 ≡ i = omega arith in
+    get_or-take 8 (drop (8 * j) (marks_in n held)) i false (omega arith) ∙ get_or-drop (8 * j) (marks_in n held) i false
+    ∙ get_or-map-range_with_len (mark_in held) 0 n (8 * j + i) (8 * j + i) false (omega arith) (omega arith)
+    ∙ (λ h. bit_at (get_or held (place h) 0) (bit h) == 1)
+
+chunk : (n : ℕ) (held : List ℕ) (j k : ℕ) → k ≤ 8 → 8 * j + k ≤ n → (k ≡ 8) ⊎ (8 * j + k ≡ n) → take 8 (drop (8 * j) (marks_in n held)) ≡ low_bits k (get_or held j 0)
+chunk n held j k eight room last =
+    let a = length-take 8 (drop (8 * j) (marks_in n held)) in let b = length-drop (8 * j) (marks_in n held) in let c = length-marks_in n held in
+    let len : length (take 8 (drop (8 * j) (marks_in n held))) ≡ k = elim last [ inl e ↦ omega arith | inr e ↦ omega arith ] in
+    ext_get_or false _ _ (len ∙ sym (length-low_bits k (get_or held j 0)))
+    (λ i lt. entry n held j k i eight room (omega arith) ∙ sym (low_bit k (get_or held j 0) i (omega arith)))
+
+value_at : (n : ℕ) (held : List ℕ) (j k : ℕ) → j < mark_bytes_for n → k ≤ 8 → 8 * j + k ≤ n → (k ≡ 8) ⊎ (8 * j + k ≡ n) → get_or (mark_bytes (marks_in n held)) j 0 ≡ get_or held j 0 % 2 ^ k
+value_at n held j k lt eight room last =
+    let len = length-marks_in n held in
+    get_or-map-range_with_len (λ j. mark_byte (take 8 (drop (8 * j) (marks_in n held)))) 0 (mark_bytes_for (length (marks_in n held))) j j 0 (omega arith) (omega arith)
+    ∙ ap mark_byte (chunk n held j k eight room last) ∙ low_value k (get_or held j 0)
+
+-- a byte whose eight bits are all used
+full : (n : ℕ) (held : List ℕ) (j : ℕ) → IsBytes held → j < mark_bytes_for n → 8 * j + 8 ≤ n → get_or held j 0 ≡ get_or (mark_bytes (marks_in n held)) j 0
+full n held j fits lt room = sym (value_at n held j 8 lt (omega arith) room (inl refl) ∙ mod-eq_of_lt (byte_fits held fits j))
+
+same_length : (n : ℕ) (held : List ℕ) → length held ≡ mark_bytes_for n → length held ≡ length (mark_bytes (marks_in n held))
+same_length n held len = len ∙ sym (length-mark_bytes (marks_in n held) ∙ ap mark_bytes_for (length-marks_in n held))
+
+clean : (n : ℕ) (held : List ℕ) → length held ≡ mark_bytes_for n → ((j : ℕ) → j < mark_bytes_for n → get_or held j 0 ≡ get_or (mark_bytes (marks_in n held)) j 0) → bytes_eq held (mark_bytes (marks_in n held)) ≡ true
+clean n held len each = (bytes_eq-Decides held (mark_bytes (marks_in n held))).1 (ext_get_or 0 held (mark_bytes (marks_in n held)) (same_length n held len) (λ j lt. each j (omega arith)))
+
+-- the last byte, of which r bits are used
+last_byte : (n : ℕ) (held : List ℕ) → 0 < n % 8 → get_or (mark_bytes (marks_in n held)) (n / 8) 0 ≡ get_or held (n / 8) 0 % 2 ^ (n % 8)
+last_byte n held some = value_at n held (n / 8) (n % 8) (omega arith) (omega arith) (omega arith) (inr (omega arith))
+
+-- where the last byte has no other bit, each byte is that of the marks
+each_byte : (n : ℕ) (held : List ℕ) → IsBytes held → 0 < n % 8 → get_or held (n / 8) 0 < 2 ^ (n % 8) → (j : ℕ) → j < mark_bytes_for n → get_or held j 0 ≡ get_or (mark_bytes (marks_in n held)) j 0
+each_byte n held fits some low j lt = elim (leb_tells (8 * j + 8) n) [
+  | inl room ↦ full n held j fits lt room.1
+  | inr end ↦ (let short = end.1 in let last : n / 8 ≡ j = omega arith in subst (λ j. get_or held j 0 ≡ get_or (mark_bytes (marks_in n held)) j 0) last (sym (last_byte n held some ∙ mod-eq_of_lt low)))
+]
+
+low_of : (b m : ℕ) → 0 < m → b / m ≡ 0 → b < m
+low_of b m some none = let a = lt-div-mul-add {a = b} {b = m} some in let c : b < 0 * m + m = subst (λ q. b < q * m + m) none a in omega arith
+
+partly : (n : ℕ) (held : List ℕ) → IsBytes held → length held ≡ mark_bytes_for n → 0 < n % 8 → (t : Bool) → (get_or held (n / 8) 0 / 2 ^ (n % 8) == 0) ≡ t → bytes_eq held (mark_bytes (marks_in n held)) ≡ t
+partly n held fits len some true e = clean n held len (each_byte n held fits some (low_of (get_or held (n / 8) 0) (2 ^ (n % 8)) (pow_pos (n % 8)) (eqb-true _ _ e)))
+partly n held fits len some false e = grind (arith, eqb-false, div-eq_of_lt, bytes_eq-Decides, last_byte, mod-lt, pow_pos)
+
+pub padding_last : PaddingIsLast
+padding_last n held fits len = by (n % 8 == 0) refl where
+  by : (t : Bool) → (n % 8 == 0) ≡ t → bytes_eq held (mark_bytes (marks_in n held)) ≡ (t || get_or held (n / 8) 0 / 2 ^ (n % 8) == 0)
+  by true e = let none = eqb-true _ _ e in clean n held len (λ j lt. full n held j fits lt (omega arith))
+  by false e = let no = eqb-false _ _ e in partly n held fits len (omega arith) _ refl

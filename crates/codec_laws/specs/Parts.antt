@@ -1,6 +1,6 @@
 -- What it means that the faults of what is made are exact.
 --     ItemsFaultIsExact, PartFaultIsExact P      items and parts that are made: no fault where they have a spelling
---     SetsFit P                                  lists of a set's items
+--     SetsFit P, AnswersFit P                    lists of a set's items, and its answers to lists
 --     MarksComeBack, PaddingIsLast               marks and their bytes
 --     FeedsJoin P                                readings of streams in steps
 --     HeardAreMessages P, SessionsAreHeard P     what a stream spells
@@ -9,6 +9,7 @@ use Rattle.std.specs.List.{AllByRecursion}
 use Rattle.definitions.specs.Items.{IsBytes, Item, IsItem, Range, IsRange}
 use Rattle.definitions.specs.Sets.{IsSet, items_in}
 use Rattle.definitions.specs.Messages.{Part, Sum, Listing, Answer, Message}
+use Rattle.definitions.specs.Replies.{answer_to}
 use Rattle.definitions.specs.Wire.{Profile, AreItemsOf, IsFingerprint, IsPart, IsMessage, session_text, mark_bytes, mark_bytes_for}
 use Rattle.definitions.specs.Faults.{items_fault, part_fault}
 use Rattle.definitions.specs.Reading.{marks_in}
@@ -49,6 +50,10 @@ FeedsJoin {F} P = (from : Standing) (front back : List ℕ) → IsBytes front �
 -- the items that a set has in a range fit a frame
 abbrev pub SetsFit : {F : Type 0} → Profile F → Type 0
 SetsFit P = (A : List Item) (X : Range) → IsSet A → AllByRecursion IsItem A → length A ≤ 65536 → IsRange X → IsPart P (Listing X (items_in A X))
+
+-- what a set answers to a list fits a frame
+abbrev pub AnswersFit : {F : Type 0} → Profile F → Type 0
+AnswersFit P = (A : List Item) (X : Range) (listed : List Item) → IsSet A → AllByRecursion IsItem A → length A ≤ 65536 → IsPart P (Listing X listed) → IsPart P (answer_to A X listed)
 
 -- the whole messages of a stream have a spelling
 abbrev pub HeardAreMessages : {F : Type 0} → Profile F → Type 0

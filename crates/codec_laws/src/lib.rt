@@ -7,14 +7,16 @@ ghost use Rattle.definitions.specs.Wire.{Profile, IsProfile, short_text, upper_t
 ghost use Rattle.definitions.specs.Faults.{NoLower, NoUpper, NoItem, IsCount, Stops};
 ghost use Rattle.definitions.specs.Reading.{lower_at, upper_at, text_at, number_at};
 ghost use Rattle.codec_laws.specs.Codec.{FieldIsExact, BodyIsExact, NextIsExact, MessageIsExact, SpellingsStandAlone, FeedIsExact};
-ghost use Rattle.codec_laws.specs.Parts.{ItemsFaultIsExact, PartFaultIsExact, MarksComeBack, PaddingIsLast, FeedsJoin, HeardAreMessages, SessionsAreHeard, SetsFit};
+ghost use Rattle.codec_laws.specs.Parts.{ItemsFaultIsExact, PartFaultIsExact, MarksComeBack, PaddingIsLast, FeedsJoin, HeardAreMessages, SessionsAreHeard, SetsFit, AnswersFit};
 
 /// Numbers are bytes where each that is read from them is below 256.
+#[tactic(auto, using(crate::proofs::Fields::reads_fit, crate::proofs::Fields::byte_fits))]
 pub fn reads_are_bytes()
     ensures { (bytes : List ℕ) → IsBytes bytes ↔ ((i : ℕ) → slice_index bytes i < 256) }
 {}
 
 /// A lower bound is read where one is spelled, and otherwise it is the fault.
+#[tactic(auto, using(crate::proofs::Messages::lower_exact))]
 pub fn lower_is_exact()
     ensures { FieldIsExact short_text IsLower NoLower lower_at }
 {}
@@ -25,11 +27,13 @@ pub fn upper_is_exact()
 {}
 
 /// So is an item.
+#[tactic(auto, using(crate::proofs::Messages::item_exact))]
 pub fn item_is_exact()
     ensures { FieldIsExact short_text IsItem NoItem text_at }
 {}
 
 /// So is a count.
+#[tactic(auto, using(crate::proofs::Messages::count_exact))]
 pub fn count_is_exact()
     ensures { FieldIsExact count_text IsCount (Stops 4) number_at }
 {}
@@ -50,16 +54,19 @@ pub fn message_is_exact<F>()
 {}
 
 /// A spelling of a message begins no other.
+#[tactic(auto, using(crate::proofs::Messages::spelling_alone))]
 pub fn spellings_stand_alone<F>()
     ensures { (P : Profile F) → IsProfile P → SpellingsStandAlone P }
 {}
 
 /// Profile 1 is a real one.
+#[tactic(auto, using(crate::proofs::Made::two_lanes_real))]
 pub fn two_lanes_are_real()
     ensures { IsProfile two_lane_profile }
 {}
 
 /// Profile 2 is a real one.
+#[tactic(auto, using(crate::proofs::Made::counted_real))]
 pub fn counted_is_real()
     ensures { IsProfile counted_profile }
 {}
@@ -70,26 +77,31 @@ pub fn feed_is_exact<F>()
 {}
 
 /// Items that are made have no fault where a part can have them.
+#[tactic(auto, using(crate::proofs::Made::items_exact))]
 pub fn items_fault_is_exact()
     ensures { ItemsFaultIsExact }
 {}
 
 /// A part that is made has no fault where it has a spelling.
+#[tactic(auto, using(crate::proofs::Made::part_exact))]
 pub fn part_fault_is_exact<F>()
     ensures { (P : Profile F) → IsProfile P → PartFaultIsExact P }
 {}
 
 /// Marks are read from their bytes.
+#[tactic(auto, using(crate::proofs::Marks::marks_back))]
 pub fn marks_come_back()
     ensures { MarksComeBack }
 {}
 
 /// A mark bit that is not used can only stand in the last byte.
+#[tactic(auto, using(crate::proofs::Marks::padding_last))]
 pub fn padding_is_last()
     ensures { PaddingIsLast }
 {}
 
 /// A stream may be cut anywhere.
+#[tactic(auto, using(crate::proofs::Streams::feeds_joined))]
 pub fn feeds_join<F>()
     ensures { (P : Profile F) → IsProfile P → FeedsJoin P }
 {}
@@ -99,12 +111,19 @@ pub fn sets_fit<F>()
     ensures { (P : Profile F) → SetsFit P }
 {}
 
+/// What a set of 65,536 items or fewer answers to a list fits one frame.
+pub fn answers_fit<F>()
+    ensures { (P : Profile F) → AnswersFit P }
+{}
+
 /// What a stream spells are messages.
+#[tactic(auto, using(crate::proofs::Streams::heard_messages))]
 pub fn heard_are_messages<F>()
     ensures { (P : Profile F) → IsProfile P → HeardAreMessages P }
 {}
 
 /// And a session's text spells its messages.
+#[tactic(auto, using(crate::proofs::Streams::sessions_heard))]
 pub fn sessions_are_heard<F>()
     ensures { (P : Profile F) → IsProfile P → SessionsAreHeard P }
 {}

@@ -1,5 +1,6 @@
 -- Worked cases. Each is stated as an equation and computed by the check.
 mod Examples
+mod Laws
 mod Tables
 mod Talks
 mod Spellings

@@ -1,19 +1,76 @@
--- A range cut at items of a set: the parts have the shares as their sizes, and partition the range.
-use Rattle.std.proofs.Common.{◌≡◌, ℕ, suc, ◌+◌, ◌<◌, ◌≤◌, Bool, true, false, not, ◌&&◌, List, [], ◌∷◌, length, map, Option, Some, refl, sym, ap, ◌∙◌, subst, get_or, drop, arith, sum}
-use Rattle.std.specs.Prelude.{⊤}
-use Rattle.std.specs.List.{AllByRecursion, filter, flat_map}
-use Rattle.std.proofs.lemmas.Bool.{false≢true, and_parts, and_from}
-use Rattle.std.proofs.lemmas.Map.Keys.{Less-from_sorted}
-use Rattle.std.specs.Ordering.{is_lt}
-use Rattle.std.proofs.lemmas.List.{append-nil, length-drop, drop-drop, get_or-drop}
-use Rattle.std.proofs.lemmas.List.Sums.{sum_by-cons}
-use Rattle.std.proofs.lemmas.List.Kept.{IsStrictlySortedBy-filter}
-use Rattle.definitions.specs.Items.{Item, item_cmp, comes_before, Range, is_below, contains, ranges_between}
-use Rattle.definitions.specs.Sets.{IsSet, items_in}
-use Rattle.definitions.specs.Replies.{inner_cuts}
-use Rattle.definitions.proofs.Order.{not_before-trans, before-asym, below-trans, upto-before}
-use Rattle.laws.proofs.Filters.{filter-and, filter-same, length-filter-le, length-before_place, filter-from_place, filter-two_sides}
-use Rattle.definitions.proofs.Lists.{All-filter, All-map, All-at}
+-- Ranges that are cut at own items: the parts, their sizes and their ranks.
+use Rattle.std.proofs.Common.{take, ◌≡◌, ℕ, zero, suc, ◌<◌, ◌≤◌, Bool, true, false, not, ◌&&◌, List, [], ◌∷◌, ◌++◌, length, refl, ap, cond, get_or, drop, arith, Less, ◌+◌, map, Option, Some, sym, ◌∙◌, subst, sum, ◌-◌}
+use Rattle.std.specs.Prelude.{filter, ⊤, slice_index}
+use Rattle.std.specs.List.{flat_map}
+use Rattle.definitions.proofs.Words.{Rises, RangesRise, is_open, range_of, answer_to, talk_from, AllByRecursion, is_lt, Item, item_cmp, comes_before, Range, is_below, contains, ranges_between, IsSet, items_in, inner_cuts, cutup, Peer, sum_of, reply_to, reply, Table, act, shares, is_split, Summary, Part, Sum, Listing, Answer, Message, has_open, IsRankTable, Ready}
+use Rattle.definitions.proofs.Lemmas.{not-true, length-take-le, cond_both, sorted_head, sorted_tail, Less-from_sorted, and_parts, and_from, append-nil, length-drop, drop-drop, get_or-drop, sum_by-cons, length-filter, count_by-le-length, IsStrictlySortedBy-filter, before-irrefl, before-asym, not_before-trans, below-trans, upto-before, All-map, All-filter, All-at, All-append}
+use Rattle.rank_laws.proofs.Tables.{sum-shares_by, shares_by-positive}
+use Rattle.laws.proofs.Times.{when}
+
+-- ==== Filters of a list, and of a list in order
+
+-- what passes both tests
+pub filter-and : {X : Type 0} (p q : X → Bool) (xs : List X) → filter (λ x. p x && q x) xs ≡ filter q (filter p xs)
+filter-and p q [] = refl
+filter-and p q (x ∷ xs) = grind (arith, filter-and p q xs)
+
+-- tests that agree
+pub filter-same : {X : Type 0} (p q : X → Bool) → ((x : X) → p x ≡ q x) → (xs : List X) → filter p xs ≡ filter q xs
+filter-same p q h [] = refl
+filter-same p q h (x ∷ xs) = let e = h x in let ih = filter-same p q h xs in cc
+
+-- a wider test passes no fewer
+pub length-filter-le : {X : Type 0} (p q : X → Bool) → ((x : X) → p x ≡ true → q x ≡ true) → (xs : List X) → length (filter p xs) ≤ length (filter q xs)
+length-filter-le p q h [] = omega arith
+length-filter-le p q h (x ∷ xs) = grind (arith, length-filter-le p q h xs)
+
+pub filter-none : {X : Type 0} (p : X → Bool) (xs : List X) → AllByRecursion (λ x. p x ≡ false) xs → filter p xs ≡ []
+filter-none p [] h = refl
+filter-none p (x ∷ xs) h = let e = h.0 in let ih = filter-none p xs h.1 in cc
+
+pub filter-all : {X : Type 0} (p : X → Bool) (xs : List X) → AllByRecursion (λ x. p x ≡ true) xs → filter p xs ≡ xs
+filter-all p [] h = refl
+filter-all p (x ∷ xs) h = let e = h.0 in let ih = filter-all p xs h.1 in cc
+
+-- ---- sets
+
+before : (x y : Item) → item_cmp x y ≡ Less → comes_before x y ≡ true
+before x y e = ap is_lt e
+
+-- the first s items of a set come before the one at place s, and the others do not
+pub sides_of_place : (B : List Item) (s : ℕ) → IsSet B → s < length B →
+    (filter (λ z. comes_before z (get_or B s [])) B ≡ take s B) × (filter (λ z. not (comes_before z (get_or B s []))) B ≡ drop s B)
+sides_of_place [] s set h = absurd (omega arith)
+sides_of_place (b ∷ B) zero set h =
+    let later : AllByRecursion (λ z. comes_before z b ≡ false) B = All-map _ _ (λ z e. before-asym b z (before b z e)) B (sorted_head item_cmp b B set) in
+    let none = filter-none (λ z. comes_before z b) B later in
+    let all = filter-all (λ z. not (comes_before z b)) B (All-map _ _ (λ z k. ap not k) B later) in
+    let one = before-irrefl b in
+    (cc, cc)
+sides_of_place (b ∷ B) (suc s) set h =
+    let first : comes_before b (get_or B s []) ≡ true = before b (get_or B s []) (Less-from_sorted item_cmp (b ∷ B) 0 (suc s) [] set (omega arith) h) in
+    let ih = sides_of_place B s (sorted_tail item_cmp b B set) (omega arith) in
+    let left = ih.0 in
+    let right = ih.1 in
+    (cc, cc)
+
+-- what comes before a bound, and what does not
+pub filter-two_sides : (c : Item) (B : List Item) → IsSet B → B ≡ filter (λ z. comes_before z c) B ++ filter (λ z. not (comes_before z c)) B
+filter-two_sides c [] set = refl
+filter-two_sides c (b ∷ B) set =
+    let ih = filter-two_sides c B (sorted_tail item_cmp b B set) in
+    let either : (t : Bool) → comes_before b c ≡ t → b ∷ B ≡ cond t (b ∷ filter (λ z. comes_before z c) B) (filter (λ z. comes_before z c) B) ++ cond (not t) (b ∷ filter (λ z. not (comes_before z c)) B) (filter (λ z. not (comes_before z c)) B) =
+    elim [
+      | true ↦ λ e. ap (λ zs. b ∷ zs) ih
+      | false ↦ λ e.
+          let later : AllByRecursion (λ z. comes_before z c ≡ false) B = All-map _ _ (λ z k. not_before-trans z b c (before-asym b z (before b z k)) e) B (sorted_head item_cmp b B set) in
+          let none = filter-none (λ z. comes_before z c) B later in
+          let all = filter-all (λ z. not (comes_before z c)) B (All-map _ _ (λ z k. ap not k) B later) in
+          cc
+    ] in
+    either (comes_before b c) refl
+
+-- ==== A range cut at items of a set: the parts have the shares as their sizes, and partition the range
 
 abbrev pub span : List ℕ → Option (List ℕ) → Range
 span x y = record { lower = x; upper = y }
@@ -29,30 +86,19 @@ length-items_in-le A Y X w = length-filter-le (contains Y) (contains X) w A
 -- ---- one cut
 
 left_test : (a b c : Bool) → (c ≡ true → b ≡ true) → (not a && c) ≡ ((not a && b) && c)
-left_test true b c h = refl
-left_test false true c h = refl
-left_test false false true h = absurd (false≢true (h refl))
-left_test false false false h = refl
+left_test a b c h = grind arith
 
 right_test : (a b c : Bool) → (c ≡ false → a ≡ false) → (not c && b) ≡ ((not a && b) && not c)
-right_test true b false h = absurd (false≢true (sym (h refl)))
-right_test true b true h = refl
-right_test false true true h = refl
-right_test false true false h = refl
-right_test false false c h = elim c as (λ d. (not d && false) ≡ false) [ true ↦ refl | false ↦ refl ]
+right_test a b c h = grind arith
 
 -- below and from a bound within the range
 contains-left : (x c : List ℕ) (y : Option (List ℕ)) → contains (span x y) c ≡ true → (z : Item) →
     contains (span x (Some c)) z ≡ (contains (span x y) z && comes_before z c)
 contains-left x c y h z = left_test (comes_before z x) (is_below z y) (comes_before z c) (λ k. below-trans z c y k (and_parts _ _ h).1)
 
-is_false : (b : Bool) → not b ≡ true → b ≡ false
-is_false true h = sym h
-is_false false h = refl
-
 contains-right : (x c : List ℕ) (y : Option (List ℕ)) → contains (span x y) c ≡ true → (z : Item) →
     contains (span c y) z ≡ (contains (span x y) z && not (comes_before z c))
-contains-right x c y h z = right_test (comes_before z x) (is_below z y) (comes_before z c) (λ k. not_before-trans z c x k (is_false _ (and_parts _ _ h).0))
+contains-right x c y h z = right_test (comes_before z x) (is_below z y) (comes_before z c) (λ k. not_before-trans z c x k (not-true _ (and_parts _ _ h).0))
 
 pub left-IsWithin : (x c : List ℕ) (y : Option (List ℕ)) → contains (span x y) c ≡ true → IsWithin (span x (Some c)) (span x y)
 left-IsWithin x c y h z k = (and_parts _ _ (sym (contains-left x c y h z) ∙ k)).0
@@ -119,9 +165,9 @@ at_place A x c y s set z h e =
     let first : Item = get_or B 0 [] in
     let first_in = and_parts _ _ (All-at (λ z. contains (span x y) z ≡ true) B 0 [] (omega arith) (All-filter (contains (span x y)) A)) in
     let rises : comes_before first c ≡ true = subst (λ (d : Item). comes_before first d ≡ true) e (ap is_lt (Less-from_sorted item_cmp B 0 s [] sorted z h)) in
-    let before : length (filter (λ z. comes_before z c) B) ≡ s = subst (λ (d : Item). length (filter (λ z. comes_before z d) B) ≡ s) e (length-before_place B s sorted h) in
-    let after : filter (λ z. not (comes_before z c)) B ≡ drop s B = subst (λ (d : Item). filter (λ z. not (comes_before z d)) B ≡ drop s B) e (filter-from_place B s sorted h) in
-    record { after = upto-before x first c (is_false _ first_in.0) rises; before = (and_parts _ _ in_range).1; left = ap length (items_in-left A x c y in_range) ∙ before; right = items_in-right A x c y in_range ∙ after }
+    let before : length (filter (λ z. comes_before z c) B) ≡ s = subst (λ (d : Item). length (filter (λ z. comes_before z d) B) ≡ s) e (ap length (sides_of_place B s sorted h).0 ∙ length-take-le s B (omega arith)) in
+    let after : filter (λ z. not (comes_before z c)) B ≡ drop s B = subst (λ (d : Item). filter (λ z. not (comes_before z d)) B ≡ drop s B) e (sides_of_place B s sorted h).1 in
+    record { after = upto-before x first c (not-true _ first_in.0) rises; before = (and_parts _ _ in_range).1; left = ap length (items_in-left A x c y in_range) ∙ before; right = items_in-right A x c y in_range ∙ after }
 
 -- X is cut into ranges with so many items of A
 pub record AreCuts (A : List Item) (x : List ℕ) (cs : List (List ℕ)) (y : Option (List ℕ)) (sizes : List ℕ) : Type 0 where
@@ -132,9 +178,7 @@ cuts_from : (A L : List Item) (x : List ℕ) (y : Option (List ℕ)) (start : �
     items_in A (span x y) ≡ drop start L → start + sum sizes ≡ length L → 0 < length sizes → AllByRecursion (λ s. 0 < s) sizes →
     AreCuts A x (map (λ place. get_or L place []) (inner_cuts start sizes)) y sizes
 cuts_from A L x y start [] set e total some positive = absurd (omega arith)
-cuts_from A L x y start (s ∷ []) set e total some positive =
-    let one : length (items_in A (span x y)) ≡ s = omega (arith, ap length e, length-drop start L, sum_by-cons (λ n. n) s []) in
-    record { rise = tt; counts = ap (λ n. n ∷ []) one }
+cuts_from A L x y start (s ∷ []) set e total some positive = grind (arith, length-drop start L)
 cuts_from A L x y start (s ∷ t ∷ ss) set e total some positive =
     let c : Item = get_or L (start + s) [] in
     let first = sum_by-cons (λ n. n) s (t ∷ ss) in
@@ -162,3 +206,168 @@ pub length-inner_cuts : (start : ℕ) (sizes : List ℕ) → 0 < length sizes �
 length-inner_cuts start [] h = absurd (omega arith)
 length-inner_cuts start (s ∷ []) h = refl
 length-inner_cuts start (s ∷ t ∷ ss) h = ap suc (length-inner_cuts (start + s) (t ∷ ss) (omega arith))
+
+-- ==== Each item of the range lies in just one of the parts
+
+-- n for each range that has x
+abbrev pub spread : Item → ℕ → List Range → ℕ
+spread x n [] = 0
+spread x n (X ∷ Xs) = when (contains X x) n + spread x n Xs
+
+-- of two neighbours one has x, if both together have it: p, q and r say that x is before the lower bound, the cut and the upper bound
+cut_once : (p q r : Bool) (n : ℕ) → (q ≡ true → r ≡ true) → (q ≡ false → p ≡ false) → when (not p && q) n + when (not q && r) n ≡ when (not p && r) n
+cut_once p q r n h k = grind arith
+
+pub spread-ranges_between : (x : Item) (n : ℕ) (lower : List ℕ) (cuts : List (List ℕ)) (upper : Option (List ℕ)) → CutsRise lower cuts upper →
+    spread x n (ranges_between lower cuts upper) ≡ when (contains (span lower upper) x) n
+spread-ranges_between x n lower [] upper h = omega arith
+spread-ranges_between x n lower (cut ∷ cuts) upper (after, before, rest) =
+    let once = cut_once (comes_before x lower) (comes_before x cut) (is_below x upper) n
+    (λ h. below-trans x cut upper h before) (λ h. not_before-trans x cut lower h (before-asym lower cut after)) in
+    omega (arith, once, spread-ranges_between x n cut cuts upper rest)
+
+-- ==== Ranks of the ranges that are compared: a cut lowers the rank in the set that it is made by, and raises none
+
+pub length-items_in-le_all : (A : List Item) (X : Range) → length (items_in A X) ≤ length A
+length-items_in-le_all A X = omega (arith, length-filter (contains X) A, count_by-le-length (contains X) A)
+
+pub slice_index-le : {T : Table} {f : List ℕ} → IsRankTable T f → (m n : ℕ) → m ≤ n → n ≤ T.cap → slice_index f m ≤ slice_index f n
+slice_index-le r m n h k = r.rises m n h k
+
+-- ---- ranges
+
+-- the rank of X, by the items of A in it, is below n
+abbrev pub IsUnder : List ℕ → List Item → ℕ → Range → Type 0
+IsUnder f A n X = slice_index f (length (items_in A X)) < n
+
+pub within-IsUnder : {P : Peer} {f : List ℕ} → Ready P f → (n : ℕ) (X Y : Range) → IsWithin Y X → IsUnder f P.items n X → IsUnder f P.items n Y
+within-IsUnder {P} {f} r n X Y w h =
+    let le = length-items_in-le P.items Y X w in
+    let room = length-items_in-le_all P.items X in
+    omega (arith, slice_index-le r.ranks (length (items_in P.items Y)) (length (items_in P.items X)) le (omega (arith, r.room)))
+
+-- the cut of a range by a peer whose table cuts it
+abbrev pub peer_cuts : Peer → Range → List (List ℕ)
+peer_cuts P X = map (λ place. get_or (items_in P.items X) place []) (inner_cuts 0 (shares P.table (length (items_in P.items X))))
+
+abbrev pub peer_cutup : Peer → Range → List Range
+peer_cutup P X = cutup P.items X (shares P.table (length (items_in P.items X)))
+
+-- whether the peer's table cuts X
+abbrev pub does_split : Peer → Range → Bool
+does_split P X = is_split (act P.table (length (items_in P.items X)))
+
+pub peer_cutup-AreCuts : {P : Peer} {f : List ℕ} → Ready P f → (X : Range) → does_split P X ≡ true →
+    AreCuts P.items X.lower (peer_cuts P X) X.upper (shares P.table (length (items_in P.items X)))
+peer_cutup-AreCuts {P} {f} r X s =
+    let n : ℕ = length (items_in P.items X) in
+    let descends = r.ranks.descends n (omega (arith, length-items_in-le_all P.items X, r.room)) s in
+    cutup-AreCuts P.items X (shares P.table n) r.set (sum-shares_by (act P.table n) n descends.0) (omega (arith, descends.0)) (shares_by-positive (act P.table n) n)
+
+-- the bounds of a cut rise, whatever the table
+peer_cuts-rise : (P : Peer) (X : Range) → IsSet P.items → CutsRise X.lower (peer_cuts P X) X.upper
+peer_cuts-rise P X set = by (shares P.table count) (sum-shares_by (act P.table count) count) (shares_by-positive (act P.table count) count) where
+  count : ℕ
+  count = length (items_in P.items X)
+
+  by : (sizes : List ℕ) → (2 ≤ length sizes → sum sizes ≡ count) → AllByRecursion (λ s. 0 < s) sizes →
+      CutsRise X.lower (map (λ place. get_or (items_in P.items X) place []) (inner_cuts 0 sizes)) X.upper
+  by [] total positive = tt
+  by (s ∷ []) total positive = tt
+  by (s ∷ t ∷ ss) total positive = (cutup-AreCuts P.items X (s ∷ t ∷ ss) set (total (omega arith)) (omega arith) positive).rise
+
+pub spread-cutup : (x : Item) (n : ℕ) (P : Peer) (X : Range) → IsSet P.items → spread x n (peer_cutup P X) ≡ when (contains X x) n
+spread-cutup x n P X set = spread-ranges_between x n X.lower (peer_cuts P X) X.upper (peer_cuts-rise P X set)
+
+All-from_map : {X Y : Type 0} (P : Y → Type 0) (g : X → Y) (xs : List X) → AllByRecursion P (map g xs) → AllByRecursion (λ x. P (g x)) xs
+All-from_map P g [] h = tt
+All-from_map P g (x ∷ xs) h = (h.0, All-from_map P g xs h.1)
+
+-- the parts have a lower rank in the set that cuts
+pub own-IsUnder : {P : Peer} {f : List ℕ} → Ready P f → (n : ℕ) (X : Range) → does_split P X ≡ true → IsUnder f P.items n X →
+    AllByRecursion (IsUnder f P.items (n - 1)) (peer_cutup P X)
+own-IsUnder {P} {f} r n X s h =
+    let m : ℕ = length (items_in P.items X) in
+    let lower = (r.ranks.descends m (omega (arith, length-items_in-le_all P.items X, r.room)) s).1 in
+    let counts = (peer_cutup-AreCuts r X s).counts in
+    let below : ℕ → Type 0 = λ k. slice_index f k < slice_index f m in
+    let each = All-from_map below (λ Y. length (items_in P.items Y)) (peer_cutup P X) (subst (λ (ks : List ℕ). AllByRecursion below ks) (sym counts) lower) in
+    All-map (λ Y. slice_index f (length (items_in P.items Y)) < slice_index f m) (IsUnder f P.items (n - 1)) (λ Y k. omega arith) (peer_cutup P X) each
+
+pub peer_cutup-IsWithin : {P : Peer} {f : List ℕ} → Ready P f → (X : Range) → does_split P X ≡ true → AllByRecursion (λ Y. IsWithin Y X) (peer_cutup P X)
+peer_cutup-IsWithin {P} r X s = ranges-IsWithin X.lower (peer_cuts P X) X.upper (peer_cutup-AreCuts r X s).rise
+
+-- and no higher rank in another
+pub other-IsUnder : {P Q : Peer} {f g : List ℕ} → Ready P f → Ready Q g → (n : ℕ) (X : Range) → does_split P X ≡ true → IsUnder g Q.items n X →
+    AllByRecursion (IsUnder g Q.items n) (peer_cutup P X)
+other-IsUnder {P} {Q} {f} {g} r q n X s h = All-map (λ Y. IsWithin Y X) (IsUnder g Q.items n) (λ Y w. within-IsUnder q n X Y w h) (peer_cutup P X) (peer_cutup-IsWithin r X s)
+
+-- ---- messages
+
+-- each range that is compared has a rank below n
+abbrev pub IsSumUnder : {F : Type 0} → List ℕ → List Item → ℕ → Part F → Type 0
+IsSumUnder f A n (Sum X g) = IsUnder f A n X
+IsSumUnder f A n (Listing X items) = ⊤
+IsSumUnder f A n (Answer X marks items) = ⊤
+
+abbrev pub SumsUnder : {F : Type 0} → List ℕ → List Item → ℕ → Message F → Type 0
+SumsUnder f A n M = AllByRecursion (IsSumUnder f A n) M
+
+-- what holds of nothing, of the Sums of a cut and of the list of the range holds of the reply to a Sum
+pub reply_to_sum : {F : Type 0} (S : Summary F) (P : Peer) (X : Range) (g : F) (Holds : Message F → Type 0) →
+    (S.same (S.of (items_in P.items X)) g ≡ true → Holds []) →
+    (S.same (S.of (items_in P.items X)) g ≡ false → does_split P X ≡ true → Holds (map (sum_of S P.items) (peer_cutup P X))) →
+    (S.same (S.of (items_in P.items X)) g ≡ false → does_split P X ≡ false → Holds (Listing X (items_in P.items X) ∷ [])) →
+    Holds (reply_to S P (Sum X g))
+reply_to_sum S P X g Holds equal cut list = grind arith
+
+All-into_map : {X Y : Type 0} (P : Y → Type 0) (g : X → Y) (xs : List X) → AllByRecursion (λ x. P (g x)) xs → AllByRecursion P (map g xs)
+All-into_map P g [] h = tt
+All-into_map P g (x ∷ xs) h = (h.0, All-into_map P g xs h.1)
+
+-- what holds of the Sums of a cut, of the list and of the Answer holds of each part of a reply
+pub reply-each : {F : Type 0} (S : Summary F) (P : Peer) (H G : Part F → Type 0) →
+    ((X : Range) (g : F) → H (Sum X g) → does_split P X ≡ true → AllByRecursion (λ Y. G (sum_of S P.items Y)) (peer_cutup P X)) →
+    ((X : Range) (g : F) → H (Sum X g) → does_split P X ≡ false → G (Listing X (items_in P.items X))) →
+    ((X : Range) (items : List Item) → H (Listing X items) → G (answer_to P.items X items)) →
+    (M : Message F) → AllByRecursion H M → AllByRecursion G (reply S P M)
+reply-each S P H G cut list answer [] h = tt
+reply-each S P H G cut list answer (Sum X g ∷ ps) h =
+    All-append G (reply_to S P (Sum X g)) (reply S P ps)
+    (reply_to_sum S P X g (AllByRecursion G) (λ d. tt) (λ d s. All-into_map G (sum_of S P.items) (peer_cutup P X) (cut X g h.0 s)) (λ d s. (list X g h.0 s, tt)))
+    (reply-each S P H G cut list answer ps h.1)
+reply-each S P H G cut list answer (Listing X items ∷ ps) h = (answer X items h.0, reply-each S P H G cut list answer ps h.1)
+reply-each S P H G cut list answer (Answer X marks items ∷ ps) h = reply-each S P H G cut list answer ps h.1
+
+-- what holds of a message and, with it, of the reply to it holds of each message of a talk
+pub talk_from-All : {F : Type 0} (S : Summary F) (G : Message F → Type 0) (P Q : Peer) → ((M : Message F) → G M → G (reply S P M)) →
+    ((M : Message F) → G M → G (reply S Q M)) → (M : Message F) (k : ℕ) → G M → AllByRecursion G (talk_from S P Q M k)
+talk_from-All S G P Q p q M zero h = tt
+talk_from-All S G P Q p q M (suc k) h =
+    (h, cond_both (has_open M) (talk_from S Q P (reply S Q M) k) [] (AllByRecursion G) (λ e. talk_from-All S G Q P q p (reply S Q M) k (q M h)) (λ e. tt))
+
+-- a reply lowers the ranks in the own set
+pub reply-own : {F : Type 0} (S : Summary F) (P : Peer) (f : List ℕ) → Ready P f → (n : ℕ) (M : Message F) → SumsUnder f P.items n M →
+    SumsUnder f P.items (n - 1) (reply S P M)
+reply-own S P f r n M h =
+    reply-each S P (IsSumUnder f P.items n) (IsSumUnder f P.items (n - 1)) (λ X g u s. own-IsUnder r n X s u) (λ X g u s. tt) (λ X items u. tt) M h
+
+-- and raises none in the other's
+pub reply-other : {F : Type 0} (S : Summary F) (P Q : Peer) (f g : List ℕ) → Ready P f → Ready Q g → (n : ℕ) (M : Message F) → SumsUnder g Q.items n M →
+    SumsUnder g Q.items n (reply S P M)
+reply-other S P Q f g r q n M h =
+    reply-each S P (IsSumUnder g Q.items n) (IsSumUnder g Q.items n) (λ X e u s. other-IsUnder r q n X s u) (λ X e u s. tt) (λ X items u. tt) M h
+
+-- ranges rise in a reply where those do that are open
+pub reply-rises : {F : Type 0} (S : Summary F) (P : Peer) (f : List ℕ) → Ready P f → (M : Message F) → AllByRecursion (λ p. is_open p ≡ true → Rises (range_of p)) M →
+    RangesRise (reply S P M)
+reply-rises S P f r M h =
+    reply-each S P (λ p. is_open p ≡ true → Rises (range_of p)) (λ p. Rises (range_of p))
+    (λ X g up s. ranges-rise X.lower (peer_cuts P X) X.upper (up refl) (peer_cutup-AreCuts r X s).rise) (λ X g up s. up refl) (λ X items up. up refl) M h
+
+-- the reply to a message of lists and Answers alone wants no reply
+pub reply-no_sums : {F : Type 0} (S : Summary F) (P : Peer) (f : List ℕ) (A : List Item) (M : Message F) → SumsUnder f A 0 M → has_open (reply S P M) ≡ false
+reply-no_sums S P f A [] h = refl
+reply-no_sums S P f A (Sum X g ∷ ps) h = absurd (omega (arith, h.0))
+reply-no_sums S P f A (Listing X items ∷ ps) h = reply-no_sums S P f A ps h.1
+reply-no_sums S P f A (Answer X marks items ∷ ps) h = reply-no_sums S P f A ps h.1

@@ -1,38 +1,14 @@
 -- How many parts a message has: no range is asked about again unless an item in it differs, and then it is cut into no more than the width.
-use Rattle.std.proofs.Common.{◌≡◌, ℕ, ◌+◌, ◌*◌, ◌≤◌, Bool, true, false, not, ◌&&◌, zero, suc, List, [], ◌∷◌, ◌++◌, length, map, max, unwrap_or, cond, ltb, Less, Equal, Greater, get_or, if◌then◌else◌, refl, sym, ap, ◌∙◌, inl, inr, arith}
-use Rattle.std.specs.List.{AllByRecursion}
+use Rattle.std.proofs.Common.{rules, ◌≡◌, ℕ, ◌+◌, ◌*◌, ◌≤◌, Bool, true, false, not, ◌&&◌, zero, suc, List, [], ◌∷◌, ◌++◌, length, map, max, unwrap_or, ltb, Less, Equal, Greater, if◌then◌else◌, refl, sym, ap, ◌∙◌, arith}
 use Rattle.std.specs.List.Sorted.{IsStrictlySortedBy}
-use Rattle.std.specs.Ordering.{ordering_reverse}
 use Rattle.std.specs.declared.cmp.Ordering.{Ordering}
-use Rattle.std.proofs.Math.Nat.{mul-add, mul_comm, mul-le-mul_left}
-use Rattle.std.proofs.lemmas.Bool.{ltb-true, ltb-false, cases_lt, or_parts}
-use Rattle.std.proofs.lemmas.Cmp.{nat_list_cmp_total}
-use Rattle.std.proofs.lemmas.List.{length-append, length-map}
-use Rattle.std.proofs.lemmas.List.Folds.{list_any-append}
-use Rattle.std.proofs.lemmas.List.Kept.{IsStrictlySortedBy-filter}
-use Rattle.definitions.specs.Items.{Item, item_cmp, same_item, Range, contains}
-use Rattle.definitions.specs.Sets.{IsSet, has, items_in, difference, symmetric_difference}
-use Rattle.definitions.specs.Fingerprints.{Summary, IsExact}
-use Rattle.definitions.specs.Messages.{Part, Sum, Listing, Answer, Message, has_open, opening}
-use Rattle.definitions.specs.Strategies.{Table, act, shares, width}
-use Rattle.definitions.specs.Replies.{Peer, inner_cuts, cutup, sum_of, reply_to, reply}
-use Rattle.definitions.specs.Talks.{talk, talk_from}
-use Rattle.definitions.specs.Cost.{part_bound}
-use Rattle.definitions.specs.Worlds.{messages, initiator_of, responder_of, start}
-use Rattle.definitions.specs.Theorems.{PartsAreFew, CostClaim, MessagesFit}
-use Rattle.laws.proofs.Times.{when, times, times-append, times-filter, has-times, has-filter, times_le_one, times_below}
-use Rattle.laws.proofs.Unions.{all_above}
-use Rattle.laws.proofs.Parts.{tally, in_open, tally-in_open, reply-IsHonest}
-use Rattle.laws.proofs.Sound.{reply-in_open_le}
-use Rattle.laws.proofs.Sessions.{peer_at-IsSet}
-use Rattle.laws.proofs.Talk.{contains-whole, items_in-whole}
-use Rattle.definitions.proofs.Equality.{item_cmp-eq, same_item-itself}
-use Rattle.rank_laws.proofs.Shares.{length-shares, widest-positive, length-le-sum, sum-shares_by, shares_by-positive}
-use Rattle.std.proofs.lemmas.List.Elements.{filter-append}
-use Rattle.laws.proofs.Cuts.{length-ranges_between}
-use Rattle.definitions.proofs.Lists.{All-append, All-every}
-use Rattle.laws.proofs.Ranks.{peer_cutup, reply_to_sum}
-use Rattle.definitions.specs.Theorems.{IsHonest}
+use Rattle.definitions.proofs.Words.{AllByRecursion, ordering_reverse, Item, item_cmp, same_item, Range, contains, IsSet, has, items_in, difference, symmetric_difference, Summary, IsExact, Part, Sum, Listing, Answer, Message, has_open, opening, Table, shares, width, Peer, inner_cuts, cutup, sum_of, reply_to, reply, talk, talk_from, part_bound, start, PartsAreFew, CostClaim, MessagesFit, IsHonest}
+use Rattle.definitions.proofs.Lemmas.{common_steps, length-append, mul-add, mul_comm, mul-le-mul_left, ltb-true, ltb-false, cases_lt, or_parts, nat_list_cmp_total, length-map, list_any-append, IsStrictlySortedBy-filter, filter-append, item_cmp-eq, same_item-itself, All-append, All-every}
+use Rattle.rank_laws.proofs.Tables.{length-shares, widest-positive, length-le-sum, sum-shares_by, shares_by-positive}
+use Rattle.laws.proofs.Times.{when, times, times-append, times-filter, has-times, has-filter, times_le_one, times_below, all_above}
+use Rattle.laws.proofs.Knowledge.{tally, in_open, tally-in_open, replies_are_honest, reply-in_open_le, contains-whole, items_in-whole}
+use Rattle.laws.proofs.Runs.{peer_at-IsSet}
+use Rattle.laws.proofs.Cuts.{length-ranges_between, peer_cutup, reply_to_sum}
 
 -- ---- sets are equal where their items are
 
@@ -73,16 +49,10 @@ HasDifference-flip : (D A B : List Item) → HasDifference D A B → HasDifferen
 HasDifference-flip D A B h = record { covers = λ z e. sym (h.covers z e) }
 
 times_by_has : (z : Item) (A : List Item) → IsSet A → times z A ≡ when (has A z) 1
-times_by_has z A set =
-    let either : (b : Bool) → ltb 0 (times z A) ≡ b → times z A ≡ when b 1 =
-    elim [ true ↦ λ e. omega (arith, ltb-true 0 (times z A) e, times_le_one z A set) | false ↦ λ e. omega (arith, ltb-false 0 (times z A) e) ] in
-    either (ltb 0 (times z A)) refl ∙ ap (λ b. when b 1) (sym (has-times z A))
+times_by_has z A set = grind (arith, ltb-true, times_le_one, ltb-false, has-times)
 
 agree : (a b : Bool) → (not a && b) ≡ false → (not b && a) ≡ false → a ≡ b
-agree true true h k = refl
-agree false false h k = refl
-agree true false h k = k
-agree false true h k = sym h
+agree a b h k = grind arith
 
 HasDifference-symmetric : (A B : List Item) → IsSet A → IsSet B → HasDifference (symmetric_difference A B) A B
 HasDifference-symmetric A B a b = record {
@@ -94,16 +64,14 @@ HasDifference-symmetric A B a b = record {
 }
 
 times_none : (z : Item) (xs : List Item) → length xs ≡ 0 → times z xs ≡ 0
-times_none z [] h = refl
-times_none z (x ∷ xs) h = absurd (omega arith)
+times_none z xs h = grind (arith, common_steps)
 
 same_in_range : (D A B : List Item) (X : Range) → IsSet A → IsSet B → HasDifference D A B → length (items_in D X) ≡ 0 → items_in A X ≡ items_in B X
 same_in_range D A B X a b diff empty =
     let pointwise : (z : Item) → when (contains X z) (times z A) ≡ when (contains X z) (times z B) =
     λ z.
     let out : when (contains X z) (times z D) ≡ 0 = sym (times-filter (contains X) z D) ∙ times_none z (items_in D X) empty in
-    let either : (c : Bool) → when c (times z D) ≡ 0 → when c (times z A) ≡ when c (times z B) =
-    elim [ true ↦ λ e. diff.covers z e | false ↦ λ e. refl ] in
+    let either : (c : Bool) → when c (times z D) ≡ 0 → when c (times z A) ≡ when c (times z B) = grind arith in
     either (contains X z) out in
     same_set (items_in A X) (items_in B X) (IsStrictlySortedBy-filter item_cmp (contains X) A a) (IsStrictlySortedBy-filter item_cmp (contains X) B b)
     (λ z. times-filter (contains X) z A ∙ pointwise z ∙ sym (times-filter (contains X) z B))
@@ -116,22 +84,14 @@ length-inner_cuts start (s ∷ []) = omega arith
 length-inner_cuts start (s ∷ t ∷ ss) = omega (arith, length-inner_cuts (start + s) (t ∷ ss))
 
 length-cutup : (A : List Item) (X : Range) (sizes : List ℕ) → length (cutup A X sizes) ≤ max 1 (length sizes)
-length-cutup A X sizes =
-    let places : List (List ℕ) = map (λ place. get_or (items_in A X) place []) (inner_cuts 0 sizes) in
-    omega (arith, length-ranges_between X.lower places X.upper, length-map (inner_cuts 0 sizes) (λ place. get_or (items_in A X) place []), length-inner_cuts 0 sizes)
+length-cutup A X sizes = grind (arith, length-ranges_between, length-map, length-inner_cuts)
 
 length-cutup-shares : (A : List Item) (X : Range) (T : Table) (n : ℕ) → length (cutup A X (shares T n)) ≤ width T
 length-cutup-shares A X T n = omega (arith, length-cutup A X (shares T n), length-shares T n, widest-positive T.rows)
 
 -- no more parts than items, or one
 length-cutup-items : (A : List Item) (X : Range) (T : Table) (n : ℕ) → length (cutup A X (shares T n)) ≤ max 1 n
-length-cutup-items A X T n =
-    let sum = sum-shares_by (act T n) n in
-    let few = length-le-sum (shares T n) (shares_by-positive (act T n) n) in
-    elim (cases_lt (length (shares T n)) 2) [
-      | inl one ↦ omega (arith, length-cutup A X (shares T n))
-      | inr more ↦ omega (arith, length-cutup A X (shares T n), sum more)
-    ]
+length-cutup-items A X T n = grind (arith, sum-shares_by, length-le-sum, shares_by-positive, cases_lt, length-cutup)
 
 -- ---- hits
 
@@ -147,21 +107,13 @@ IsNews D (Sum X f) = Unit {0}
 IsNews D (Listing X items) = 1 ≤ length (items_in D X)
 IsNews D (Answer X marks items) = Unit {0}
 
-length_keep : (x : Item) (xs : List Item) (b : Bool) → length (cond b (x ∷ xs) xs) ≡ when b 1 + length xs
-length_keep x xs true = omega arith
-length_keep x xs false = omega arith
-
 tally-no_hits : {F : Type 0} (M : Message F) → tally (hits []) M ≡ 0
 tally-no_hits [] = refl
-tally-no_hits (Sum X f ∷ ps) = omega (arith, tally-no_hits ps)
-tally-no_hits (Listing X items ∷ ps) = omega (arith, tally-no_hits ps)
-tally-no_hits (Answer X marks items ∷ ps) = omega (arith, tally-no_hits ps)
+tally-no_hits (p ∷ ps) = grind (arith, tally-no_hits ps)
 
 tally-hits_more : {F : Type 0} (x : Item) (D : List Item) (M : Message F) → tally (hits (x ∷ D)) M ≡ tally (in_open x 1) M + tally (hits D) M
 tally-hits_more x D [] = omega arith
-tally-hits_more x D (Sum X f ∷ ps) = omega (arith, length_keep x (items_in D X) (contains X x), tally-hits_more x D ps)
-tally-hits_more x D (Listing X items ∷ ps) = omega (arith, length_keep x (items_in D X) (contains X x), tally-hits_more x D ps)
-tally-hits_more x D (Answer X marks items ∷ ps) = omega (arith, tally-hits_more x D ps)
+tally-hits_more x D (p ∷ ps) = grind (arith, tally-hits_more x D ps)
 
 -- where no item lies in two open ranges, there are no more hits than items
 tally-hits_le : {F : Type 0} (D : List Item) (M : Message F) → ((x : Item) → tally (in_open x 1) M ≤ 1) → tally (hits D) M ≤ length D
@@ -173,12 +125,7 @@ tally-hits_le (x ∷ D) M once = omega (arith, tally-hits_more x D M, once x, ta
 -- a range whose fingerprints differ has an item of D
 hit_from_differs : {F : Type 0} (S : Summary F) (D A B : List Item) (X : Range) (f : F) → IsExact S → IsSet A → IsSet B → HasDifference D A B → f ≡ S.of (items_in A X) →
     S.same (S.of (items_in B X)) f ≡ false → 1 ≤ length (items_in D X)
-hit_from_differs S D A B X f exact a b diff honest differs =
-    let none : length (items_in D X) ≡ 0 → 1 ≤ length (items_in D X) =
-    λ e.
-    let equal : S.same (S.of (items_in B X)) f ≡ true = (exact (S.of (items_in B X)) f).1 (ap S.of (sym (same_in_range D A B X a b diff e)) ∙ sym honest) in
-    let wrong : true ≡ false = sym equal ∙ differs in cc in
-    elim (cases_lt 0 (length (items_in D X))) [ inl some ↦ omega arith | inr le ↦ none (omega arith) ]
+hit_from_differs S D A B X f exact a b diff honest differs = grind (arith, same_in_range, cases_lt)
 
 room : (w n k : ℕ) → k ≤ w → 1 ≤ n → k ≤ w * n
 room w n k h some = let more : w * 1 ≤ w * n = mul-le-mul_left w some in omega arith
@@ -194,14 +141,7 @@ record CutsFew (D : List Item) (w : ℕ) (Q : Peer) : Type 0 where
 
 reply_to-few : {F : Type 0} (S : Summary F) (D : List Item) (P Q : Peer) (w : ℕ) → IsExact S → IsSet P.items → IsSet Q.items → HasDifference D P.items Q.items → CutsFew D w Q →
     (p : Part F) → IsHonest S P.items p → IsNews D p → (length (reply_to S Q p) ≤ w * hits D p) × AllByRecursion (IsNews D) (reply_to S Q p)
-reply_to-few S D P Q w exact own other diff wide (Sum X f) honest news =
-    let hit = hit_from_differs S D P.items Q.items X f exact own other diff honest in
-    reply_to_sum S Q X f (λ M. (length M ≤ w * length (items_in D X)) × AllByRecursion (IsNews D) M)
-    (λ e. (omega arith, tt))
-    (λ e s. (omega (arith, length-map (peer_cutup Q X) (sum_of S Q.items), wide.cuts X (hit e)), sums-IsNews S D Q.items (peer_cutup Q X)))
-    (λ e s. (room w (length (items_in D X)) 1 wide.one (hit e), (hit e, tt)))
-reply_to-few S D P Q w exact own other diff wide (Listing X items) honest news = (room w (length (items_in D X)) 1 wide.one news, (tt, tt))
-reply_to-few S D P Q w exact own other diff wide (Answer X marks items) honest news = (omega arith, tt)
+reply_to-few S D P Q w exact own other diff wide p honest news = grind (arith, hit_from_differs, reply_to_sum, length-map, sums-IsNews, room)
 
 reply-few : {F : Type 0} (S : Summary F) (D : List Item) (P Q : Peer) (w : ℕ) → IsExact S → IsSet P.items → IsSet Q.items → HasDifference D P.items Q.items → CutsFew D w Q →
     (M : Message F) → AllByRecursion (IsHonest S P.items) M → AllByRecursion (IsNews D) M → (length (reply S Q M) ≤ w * tally (hits D) M) × AllByRecursion (IsNews D) (reply S Q M)
@@ -220,7 +160,7 @@ talk_from-few S D w b exact bound zero P Q own other diff wide wide' M short hon
 talk_from-few S D w b exact bound (suc k) P Q own other diff wide wide' M short honest news once =
     let few = reply-few S D P Q w exact own other diff wide' M honest news in
     let total : w * tally (hits D) M ≤ w * length D = mul-le-mul_left w (tally-hits_le D M once) in
-    let more = talk_from-few S D w b exact bound k Q P other own (HasDifference-flip D P.items Q.items diff) wide' wide (reply S Q M) (omega (arith, few.0)) (reply-IsHonest S Q M) few.1
+    let more = talk_from-few S D w b exact bound k Q P other own (HasDifference-flip D P.items Q.items diff) wide' wide (reply S Q M) (omega (arith, few.0)) (replies_are_honest S Q M) few.1
     (λ x. omega (arith, reply-in_open_le S Q x 1 other M, tally-in_open x 1 M, once x)) in
     (short, elim (has_open M) as (λ v. AllByRecursion (λ N. length N ≤ b) (if v then talk_from S Q P (reply S Q M) k else [])) [ true ↦ more | false ↦ tt ])
 
@@ -232,10 +172,7 @@ talk-few S D w b exact bound one k I R left right diff wide wide' =
     (λ x. omega (arith, ap (λ b. when b 1) (contains-whole x)))
 
 by_width : (D : List Item) (Q : Peer) (w : ℕ) → width Q.table ≤ w → CutsFew D w Q
-by_width D Q w wide = record {
-  one = omega (arith, widest-positive Q.table.rows);
-  cuts = λ X some. room w (length (items_in D X)) (length (peer_cutup Q X)) (omega (arith, length-cutup-shares Q.items X Q.table (length (items_in Q.items X)))) some;
-}
+by_width D Q w wide = grind (arith, widest-positive, room, length-cutup-shares)
 
 -- only the sets matter, and the widths
 pub few_parts : {F : Type 0} (S : Summary F) → PartsAreFew S
@@ -262,6 +199,4 @@ messages_fit S exact I R k left right =
     (by_items D I (λ X. omega (arith, length-both I.items R.items X))) (by_items D R (λ X. omega (arith, length-both I.items R.items X)))
 
 pub cost_claim : {F : Type 0} (S : Summary F) → CostClaim S
-cost_claim S exact w =
-    All-every (λ s. AllByRecursion (λ M. length M ≤ part_bound (initiator_of w s) (responder_of w s)) (messages S w s))
-    (λ s. few_parts S exact (initiator_of w s) (responder_of w s) (s.delivered + 1) (peer_at-IsSet w s.initiator s.initiator_version) (peer_at-IsSet w s.responder (unwrap_or s.responder_version 0))) w.sessions
+cost_claim S exact w = search (rules, All-every, few_parts, peer_at-IsSet, unwrap_or)

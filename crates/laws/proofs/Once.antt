@@ -1,39 +1,22 @@
 -- What is learned from placed messages is learned once: an item that is learned lay in an open range, and lies in none afterwards.
 use Rattle.std.proofs.Common.{◌≡◌, ℕ, ◌+◌, ◌≤◌, Bool, true, false, not, ◌||◌, List, [], ◌∷◌, ◌++◌, ltb, if◌then◌else◌, refl, sym, ap, subst, ◌∙◌, inl, inr, ◌⊎◌, arith}
-use Rattle.std.specs.Prelude.{Option, IsTrue, IsFalse}
-use Rattle.std.specs.List.{AllByRecursion, IsDistinct, items_where_true}
-use Rattle.std.proofs.lemmas.Bool.{false≢true, lt-ltb, ltb-true, ltb-false, le-ltb, and_parts, not-true, cases_lt, or_cases}
-use Rattle.definitions.specs.Items.{Item, same_item, Range, Apart, contains, is_below, cut_range, same_range}
-use Rattle.definitions.specs.Sets.{IsSet, has, items_in, difference}
-use Rattle.definitions.specs.Fingerprints.{Summary}
-use Rattle.definitions.specs.Messages.{Part, Sum, Listing, Answer, Message, RangesRise, range_of, open_parts, open_ranges}
-use Rattle.definitions.specs.Wire.{Profile, AreItemsOf, IsPart}
-use Rattle.definitions.specs.Placing.{AreSums, Follows, FollowsAll, Placed}
-use Rattle.definitions.specs.Replies.{reply}
-use Rattle.definitions.specs.Talks.{learn, listed_in}
-use Rattle.definitions.specs.Theorems.{IsHonest, lies_open, LearnsOnce}
-use Rattle.definitions.proofs.Equality.{same_item-eq, same_item-itself, same_range-eq}
-use Rattle.definitions.proofs.Order.{upto-below}
+use Rattle.std.specs.Prelude.{IsTrue, IsFalse}
+use Rattle.std.specs.List.{IsDistinct}
+use Rattle.definitions.proofs.Words.{AllByRecursion, items_where_true, Item, same_item, Range, Apart, contains, is_below, cut_range, same_range, IsSet, has, items_in, difference, Summary, Part, Sum, Listing, Answer, Message, RangesRise, range_of, open_parts, open_ranges, Profile, AreItemsOf, IsPart, AreSums, Follows, FollowsAll, Placed, reply, learn, listed_in, IsHonest, lies_open, LearnsOnce}
+use Rattle.definitions.proofs.Lemmas.{false≢true, lt-ltb, ltb-true, ltb-false, le-ltb, and_parts, not-true, cases_lt, or_cases, same_item-eq, same_item-itself, same_range-eq, upto-below}
 use Rattle.laws.proofs.Times.{when, times, times-append, times-filter, has-times, times_le_one, IsDistinct-from_times}
-use Rattle.laws.proofs.Cuts.{inside_from_between}
-use Rattle.laws.proofs.Cuts as cuts
-use Rattle.laws.proofs.Spread.{spread, spread-ranges_between}
-use Rattle.laws.proofs.Spread as weak
-use Rattle.laws.proofs.Parts.{tally, tally-append, in_sum, in_open}
-use Rattle.laws.proofs.Sound.{reply-in_open_le}
-use Rattle.laws.proofs.Apart.{sums-cuts}
-use Rattle.laws.proofs.Cutting.{RangesRise-from_message}
-use Rattle.laws.proofs.PlacedAccepted.{rises_append}
+use Rattle.laws.proofs.Cuts.{spread, spread-ranges_between}
+use Rattle.laws.proofs.Knowledge.{tally, tally-append, in_sum, in_open, reply-in_open_le}
+use Rattle.laws.proofs.Placing.{sums-cuts, rises_append}
+use Rattle.laws.proofs.Ends.{messages_have_ranges}
 
 -- ---- items of a list
 
 when_le : (b : Bool) (n : ℕ) → when b n ≤ n
-when_le true n = omega arith
-when_le false n = omega arith
+when_le b n = grind arith
 
 when_both : (b : Bool) (m n : ℕ) → m ≤ n → when b m ≤ when b n
-when_both true m n h = h
-when_both false m n h = omega arith
+when_both b m n h = grind arith
 
 -- what is in the list has what each of its items has
 of_all : (P : Item → Type 0) (xs : List Item) (x : Item) → AllByRecursion P xs → has xs x ≡ true → P x
@@ -86,10 +69,7 @@ listed_either S A (Listing Y items ∷ ps) X h = by (listed_either S A ps X h.1)
   by later false e = later
 
 times-listed : {F : Type 0} (S : Summary F) (x : Item) (A : List Item) (sent : Message F) (X : Range) → IsSet A → AllByRecursion (IsHonest S A) sent → times x (listed_in sent X) ≤ when (contains X x) 1
-times-listed S x A sent X set h = elim (listed_either S A sent X h) [
-  | inl none ↦ omega (arith, ap (times x) none)
-  | inr own ↦ omega (arith, ap (times x) own, times-items_in x X A set)
-]
+times-listed S x A sent X set h = grind (arith, listed_either S A sent X h, times-items_in x X A set)
 
 learn-ours_le : {F : Type 0} (S : Summary F) (Q : Profile F) (x : Item) (A : List Item) (sent M : Message F) → IsSet A → AllByRecursion (IsHonest S A) sent → AllByRecursion (IsPart Q) M →
     times x (learn A sent M).ours ≤ tally (in_told x) M
@@ -102,11 +82,7 @@ learn-ours_le S Q x A sent (Answer X marks items ∷ ps) set h parts =
 
 learn-theirs_le : {F : Type 0} (Q : Profile F) (x : Item) (A : List Item) (sent M : Message F) → AllByRecursion (IsPart Q) M → times x (learn A sent M).theirs ≤ tally (in_told x) M
 learn-theirs_le Q x A sent [] parts = omega arith
-learn-theirs_le Q x A sent (Sum X f ∷ ps) parts = omega (arith, learn-theirs_le Q x A sent ps parts.1)
-learn-theirs_le Q x A sent (Listing X listed ∷ ps) parts =
-    omega (arith, times-append x (difference listed A) (learn A sent ps).theirs, times-difference_le x listed A, times-inside x X listed parts.0.fields.1, learn-theirs_le Q x A sent ps parts.1)
-learn-theirs_le Q x A sent (Answer X marks items ∷ ps) parts =
-    omega (arith, times-append x items (learn A sent ps).theirs, times-inside x X items parts.0.fields.2, learn-theirs_le Q x A sent ps parts.1)
+learn-theirs_le Q x A sent (p ∷ ps) parts = grind (arith, learn-theirs_le Q x A sent ps parts.1, times-append, times-difference_le, times-inside)
 
 -- ---- the ranges of a placed message
 
@@ -116,19 +92,11 @@ in_any x p = when (contains (range_of p) x) 1
 
 tally-in_any : {F : Type 0} (x : Item) (M : Message F) → tally (in_any x) M ≡ tally (in_sum x 1) M + tally (in_told x) M
 tally-in_any x [] = omega arith
-tally-in_any x (Sum X f ∷ ps) = omega (arith, tally-in_any x ps)
-tally-in_any x (Listing X items ∷ ps) = omega (arith, tally-in_any x ps)
-tally-in_any x (Answer X marks items ∷ ps) = omega (arith, tally-in_any x ps)
+tally-in_any x (p ∷ ps) = grind (arith, tally-in_any x ps)
 
 tally-open_parts : {F : Type 0} (x : Item) (M : Message F) → tally (in_open x 1) (open_parts M) ≡ tally (in_open x 1) M
 tally-open_parts x [] = refl
-tally-open_parts x (Sum X f ∷ ps) = omega (arith, tally-open_parts x ps)
-tally-open_parts x (Listing X items ∷ ps) = omega (arith, tally-open_parts x ps)
-tally-open_parts x (Answer X marks items ∷ ps) = omega (arith, tally-open_parts x ps)
-
-weaker : (x : List ℕ) (cs : List (List ℕ)) (y : Option (List ℕ)) → cuts.CutsRise x cs y → weak.CutsRise x cs y
-weaker x [] y h = tt
-weaker x (c ∷ cs) y h = (inside_from_between x c y h.0 h.1, weaker c cs y h.2)
+tally-open_parts x (p ∷ ps) = grind (arith, tally-open_parts x ps)
 
 tally-sums_any : {F : Type 0} (x : Item) (Xs : List Range) (ps : Message F) → AreSums Xs ps → tally (in_any x) ps ≡ spread x 1 Xs
 tally-sums_any x [] [] h = refl
@@ -142,7 +110,7 @@ follows-le : {F : Type 0} (x : Item) (p : Part F) (front : Message F) → Ranges
 follows-le x (Sum X f) front r (inl none) = omega (arith, ap (tally (in_any x)) none)
 follows-le x (Sum X f) front r (inr (inl (items, one))) = omega (arith, ap (tally (in_any x)) one)
 follows-le x (Sum X f) front r (inr (inr (cs, some, sums))) =
-    omega (arith, tally-sums_any x (cut_range X cs) front sums, spread-ranges_between x 1 X.lower cs X.upper (weaker X.lower cs X.upper (sums-cuts X.lower cs X.upper front sums r)))
+    omega (arith, tally-sums_any x (cut_range X cs) front sums, spread-ranges_between x 1 X.lower cs X.upper (sums-cuts X.lower cs X.upper front sums r))
 follows-le x (Listing X listed) front r (marks, items, one, count, fresh) = omega (arith, ap (tally (in_any x)) one)
 follows-le x (Answer X marks items) front r none = omega (arith, ap (tally (in_any x)) none)
 
@@ -158,21 +126,15 @@ placed-le x sent M r h = omega (arith, all-le x (open_parts sent) M r h, tally-o
 -- ---- open ranges that are apart have an item once
 
 one_more : (b a : Bool) (n : ℕ) → a ≡ ltb 0 n → (b || a) ≡ ltb 0 (when b 1 + n)
-one_more true a n h = sym (lt-ltb 0 (1 + n) (omega arith))
-one_more false a n h = let e : n ≡ 0 + n = omega arith in h ∙ ap (ltb 0) e
+one_more b a n h = grind arith
 
 lies_open-tally : {F : Type 0} (x : Item) (M : Message F) → lies_open M x ≡ ltb 0 (tally (in_open x 1) M)
 lies_open-tally x [] = refl
-lies_open-tally x (Sum X f ∷ ps) = one_more (contains X x) (lies_open ps x) (tally (in_open x 1) ps) (lies_open-tally x ps)
-lies_open-tally x (Listing X items ∷ ps) = one_more (contains X x) (lies_open ps x) (tally (in_open x 1) ps) (lies_open-tally x ps)
-lies_open-tally x (Answer X marks items ∷ ps) = one_more false (lies_open ps x) (tally (in_open x 1) ps) (lies_open-tally x ps)
+lies_open-tally x (p ∷ ps) = grind (arith, lies_open-tally x ps, one_more)
 
 -- an item of X lies in no range behind X
 outside : (X Y : Range) (x : Item) → contains X x ≡ true → is_below Y.lower X.upper ≡ false → contains Y x ≡ false
-outside X Y x h behind = by (contains Y x) refl where
-  by : (b : Bool) → contains Y x ≡ b → b ≡ false
-  by false e = refl
-  by true e = absurd (false≢true (sym behind ∙ upto-below Y.lower x X.upper (not-true _ (and_parts _ _ e).0) (and_parts _ _ h).1))
+outside X Y x h behind = grind (arith, false≢true, upto-below, not-true, and_parts)
 
 none_later : {F : Type 0} (X : Range) (ps : Message F) (x : Item) → contains X x ≡ true → AllByRecursion (λ Y. IsFalse (is_below Y.lower X.upper)) (open_ranges ps) → tally (in_open x 1) ps ≡ 0
 none_later X [] x h all = refl
@@ -224,7 +186,7 @@ closed_by ys M few = all_of (λ y. IsFalse (lies_open M y)) ys
 pub learns_once : {F : Type 0} (S : Summary F) → LearnsOnce S
 learns_once S Q P k sent M set honest apart right placed settled =
     let l = learn P.items sent M in
-    let rises = RangesRise-from_message Q M right in
+    let rises = messages_have_ranges Q M right in
     let few : (x : Item) → tally (in_told x) M + tally (in_open x 1) (reply S P M) ≤ tally (in_open x 1) sent =
     λ x. omega (arith, placed-le x sent M rises placed, tally-in_any x M, reply-in_open_le S P x 1 set M) in
     let ours : (x : Item) → times x (k.ours ++ l.ours) + tally (in_open x 1) (reply S P M) ≤ 1 =

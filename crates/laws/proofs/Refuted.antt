@@ -1,16 +1,26 @@
--- Why the premises are there.
-use Rattle.std.proofs.Common.{◌≡◌, ℕ, zero, suc, ◌≤◌, true, false, List, [], ◌∷◌, length, Some, refl, arith}
-use Rattle.std.specs.List.Sorted.{IsStrictlySortedBy, IsNonDecreasing}
-use Rattle.std.proofs.lemmas.Bool.{false≢true}
-use Rattle.definitions.specs.Items.{whole}
-use Rattle.definitions.specs.Sets.{IsSet}
-use Rattle.definitions.specs.Messages.{Sum, Message}
-use Rattle.definitions.specs.Strategies.{Table, List_items, Split, list_only}
-use Rattle.definitions.specs.Ranks.{Descends, Accepted}
-use Rattle.definitions.specs.Replies.{Peer}
-use Rattle.definitions.specs.Engines.{initiator_says, responder_says}
-use Rattle.definitions.specs.Theorems.{Ready}
+-- Fingerprints that are compared exactly, and why the premises are there.
+use Rattle.std.proofs.Common.{◌≡◌, true, ap, ℕ, ◌≤◌, false, List, [], ◌∷◌, Some, refl, arith}
+use Rattle.std.specs.Prelude.{◌==◌}
+use Rattle.std.specs.List.Sorted.{IsStrictlySortedBy}
+use Rattle.definitions.proofs.Words.{IsNonDecreasing, IsExact, Lanes, same_lanes, two_lanes, counted_lanes, whole, IsSet, Sum, Message, Table, List_items, Split, list_only, Descends, Accepted, Peer, Ready}
+use Rattle.definitions.proofs.Lemmas.{eq-eqb, and_from, false≢true}
 use Rattle.laws.specs.Weaker.{InitiatorStopsAnyhow, ResponderStopsAnyhow, ListsAreShortAnyhow, KnowledgeIsExactAnyhow, count_summary, blind}
+
+-- ==== The tests of fingerprints are exact
+
+same-lanes : (f g : Lanes) → same_lanes f g ≡ true → f ≡ g
+same-lanes f g h = grind arith
+
+lanes-same : (f g : Lanes) → f ≡ g → same_lanes f g ≡ true
+lanes-same f g e = and_from (f.first == g.first) (f.second == g.second) (eq-eqb f.first g.first (ap (λ h. h.first) e)) (eq-eqb f.second g.second (ap (λ h. h.second) e))
+
+pub two_lanes_exact : IsExact two_lanes
+two_lanes_exact f g = (same-lanes f g, lanes-same f g)
+
+pub counted_lanes_exact : IsExact counted_lanes
+counted_lanes_exact f g = grind arith
+
+-- ==== Why the premises are there
 
 -- ---- bounds that do not rise
 
@@ -25,19 +35,10 @@ abbrev pair_ranks : List ℕ
 pair_ranks = 0 ∷ 0 ∷ 1 ∷ []
 
 pair_ranks-IsNonDecreasing : IsNonDecreasing pair_ranks
-pair_ranks-IsNonDecreasing zero j d h k = omega arith
-pair_ranks-IsNonDecreasing (suc zero) j d h k = omega arith
-pair_ranks-IsNonDecreasing (suc (suc i)) zero d h k = absurd (omega arith)
-pair_ranks-IsNonDecreasing (suc (suc i)) (suc zero) d h k = absurd (omega arith)
-pair_ranks-IsNonDecreasing (suc (suc zero)) (suc (suc zero)) d h k = omega arith
-pair_ranks-IsNonDecreasing (suc (suc (suc i))) (suc (suc zero)) d h k = absurd (omega arith)
-pair_ranks-IsNonDecreasing (suc (suc i)) (suc (suc (suc j))) d h k = absurd (omega arith)
+pair_ranks-IsNonDecreasing a j d h k = grind arith
 
 pair-Descends : (n : ℕ) → n ≤ 2 → Descends halves pair_ranks n
-pair-Descends zero h s = absurd (false≢true s)
-pair-Descends (suc zero) h s = absurd (false≢true s)
-pair-Descends (suc (suc zero)) h s = (omega arith, (omega arith, (omega arith, tt)))
-pair-Descends (suc (suc (suc n))) h s = absurd (omega arith)
+pair-Descends n h s = grind arith
 
 pair-IsSet : IsSet pair.items
 unfolding IsStrictlySortedBy
@@ -56,13 +57,11 @@ again x n = Sum (record { lower = x; upper = Some (5 ∷ []) }) n ∷ Sum (recor
 
 pub initiator_needs_ranges : InitiatorStopsAnyhow count_summary → ⊥
 initiator_needs_ranges h =
-    let four : length (initiator_says count_summary pair (again [] 2 ∷ again (2 ∷ []) 1 ∷ again (2 ∷ []) 1 ∷ [])) ≡ 4 = refl in
     let three = h pair pair_ranks (again [] 2 ∷ again (2 ∷ []) 1 ∷ again (2 ∷ []) 1 ∷ []) pair-Ready in
     omega arith
 
 pub responder_needs_ranges : ResponderStopsAnyhow count_summary → ⊥
 responder_needs_ranges h =
-    let three : length (responder_says count_summary pair ((Sum whole 99 ∷ []) ∷ again (2 ∷ []) 1 ∷ again (2 ∷ []) 1 ∷ [])) ≡ 3 = refl in
     let two = h pair pair_ranks ((Sum whole 99 ∷ []) ∷ again (2 ∷ []) 1 ∷ again (2 ∷ []) 1 ∷ []) pair-Ready in
     omega arith
 
@@ -75,9 +74,7 @@ no_rows-Descends : (n : ℕ) → n ≤ 1 → Descends no_rows (0 ∷ 0 ∷ []) n
 no_rows-Descends n h s = absurd (false≢true s)
 
 two_zeros-IsNonDecreasing : IsNonDecreasing (0 ∷ 0 ∷ [])
-two_zeros-IsNonDecreasing zero j d h k = omega arith
-two_zeros-IsNonDecreasing (suc zero) j d h k = omega arith
-two_zeros-IsNonDecreasing (suc (suc i)) j d h k = absurd (omega arith)
+two_zeros-IsNonDecreasing a j d h k = grind arith
 
 no_rows-Accepted : Accepted no_rows
 no_rows-Accepted = record { lists = refl; ranks = (0 ∷ 0 ∷ [], record { size = omega arith; rises = λ m n h k. two_zeros-IsNonDecreasing m n 0 h (omega arith); descends = no_rows-Descends }, omega arith) }

@@ -12,11 +12,13 @@ ghost use Rattle.laws.specs.Weaker.{InitiatorStopsAnyhow, ResponderStopsAnyhow, 
 // ---- fingerprints
 
 /// The fingerprints of the first profile are compared exactly.
+#[tactic(auto, using(crate::proofs::Refuted::two_lanes_exact))]
 pub fn lanes_are_exact()
     ensures { IsExact two_lanes }
 {}
 
 /// So are those of the other.
+#[tactic(auto, using(crate::proofs::Refuted::counted_lanes_exact))]
 pub fn counted_lanes_are_exact()
     ensures { IsExact counted_lanes }
 {}
@@ -69,6 +71,7 @@ pub fn opening_is_exact<F>()
 {}
 
 /// Each range of a message that has a spelling rises.
+#[tactic(auto, using(crate::proofs::Ends::messages_have_ranges))]
 pub fn messages_have_ranges<F>()
     ensures { (P : Profile F) (M : Message F) → IsMessage P M → RangesRise M }
 {}
@@ -76,11 +79,13 @@ pub fn messages_have_ranges<F>()
 // ---- one end
 
 /// An initiator stops, whatever well-placed messages its peer sends.
+#[tactic(auto, using(crate::proofs::Ends::initiator_stops))]
 pub fn initiator_stops<F>()
     ensures { (S : Summary F) → InitiatorStops S }
 {}
 
 /// So does a responder.
+#[tactic(auto, using(crate::proofs::Ends::responder_stops))]
 pub fn responder_stops<F>()
     ensures { (S : Summary F) → ResponderStops S }
 {}
@@ -93,6 +98,7 @@ pub fn ends_keep_limits<F>()
 // ---- talks
 
 /// A talk grows by the reply to its last message.
+#[tactic(auto, using(crate::proofs::Knowledge::talks_grow))]
 pub fn talks_grow<F>()
     ensures { (S : Summary F) → TalksGrow S }
 {}
@@ -103,41 +109,49 @@ pub fn knowledge_grows<F>()
 {}
 
 /// Each range of a talk rises.
+#[tactic(auto, using(crate::proofs::Ends::talks_have_ranges))]
 pub fn talks_have_ranges<F>()
     ensures { (S : Summary F) → TalksHaveRanges S }
 {}
 
 /// What each message of a talk opens does not overlap.
+#[tactic(auto, using(crate::proofs::Placing::talks_are_apart))]
 pub fn talks_are_apart<F>()
     ensures { (S : Summary F) → TalksAreApart S }
 {}
 
 /// A talk has few messages.
+#[tactic(auto, using(crate::proofs::Ends::messages_are_few))]
 pub fn messages_are_few<F>()
     ensures { (S : Summary F) → MessagesAreFew S }
 {}
 
 /// A talk lists no more items for a range than its sender's limit.
+#[tactic(auto, using(crate::proofs::Ends::lists_are_short))]
 pub fn lists_are_short<F>()
     ensures { (S : Summary F) → ListsAreShort S }
 {}
 
 /// A message of a talk has few parts.
+#[tactic(auto, using(crate::proofs::Few::few_parts))]
 pub fn parts_are_few<F>()
     ensures { (S : Summary F) → PartsAreFew S }
 {}
 
 /// A message of a talk has no more parts than both sets have items, or one.
+#[tactic(auto, using(crate::proofs::Few::messages_fit))]
 pub fn messages_fit<F>()
     ensures { (S : Summary F) → MessagesFit S }
 {}
 
 /// Once a talk has ended each side knows both differences.
+#[tactic(auto, using(crate::proofs::Knowledge::exact_knowledge))]
 pub fn knowledge_is_exact<F>()
     ensures { (S : Summary F) → KnowledgeIsExact S }
 {}
 
 /// Nothing wrong is learned, at any time.
+#[tactic(auto, using(crate::proofs::Knowledge::sound_knowledge))]
 pub fn knowledge_is_sound<F>()
     ensures { (S : Summary F) → KnowledgeIsSound S }
 {}
@@ -145,6 +159,7 @@ pub fn knowledge_is_sound<F>()
 // ---- runs
 
 /// In each run each session is sound.
+#[tactic(auto, using(crate::proofs::Runs::headline))]
 pub fn headline<F>()
     ensures { (S : Summary F) → Headline S }
 {}
@@ -155,11 +170,13 @@ pub fn cost_claim<F>()
 {}
 
 /// An item of a history was there at the start, or was inserted.
+#[tactic(auto, using(crate::proofs::Runs::history_claim))]
 pub fn history_claim<F>()
     ensures { (S : Summary F) → HistoryClaim S }
 {}
 
 /// An absorbed session leaves its node with both pinned versions.
+#[tactic(auto, using(crate::proofs::Runs::absorb_claim))]
 pub fn absorb_claim<F>()
     ensures { (S : Summary F) → AbsorbClaim S }
 {}
@@ -167,21 +184,25 @@ pub fn absorb_claim<F>()
 // ---- no premise can be left out
 
 /// An initiator need not stop where received ranges do not rise.
+#[tactic(auto, using(crate::proofs::Refuted::initiator_needs_ranges))]
 pub fn initiator_needs_ranges()
     ensures { InitiatorStopsAnyhow count_summary → ⊥ }
 {}
 
 /// Nor need a responder.
+#[tactic(auto, using(crate::proofs::Refuted::responder_needs_ranges))]
 pub fn responder_needs_ranges()
     ensures { ResponderStopsAnyhow count_summary → ⊥ }
 {}
 
 /// A list may be long where the rows end below the cap.
+#[tactic(auto, using(crate::proofs::Refuted::lists_need_tables))]
 pub fn lists_need_tables()
     ensures { ListsAreShortAnyhow count_summary → ⊥ }
 {}
 
 /// Knowledge may be wrong where the test of fingerprints errs.
+#[tactic(auto, using(crate::proofs::Refuted::knowledge_needs_exactness))]
 pub fn knowledge_needs_exactness()
     ensures { KnowledgeIsExactAnyhow blind → ⊥ }
 {}

@@ -1,29 +1,131 @@
--- The checks by computation say what the definitions say.
-use Rattle.std.proofs.Common.{◌≡◌, ℕ, suc, ◌+◌, ◌-◌, ◌<◌, ◌≤◌, Bool, true, false, not, ◌||◌, None, List, [], ◌∷◌, length, sym, ap, ◌∙◌, subst, arith, cond, inl, inr}
-use Rattle.std.specs.Prelude.{slice_index, IsTrue, nat_lt, nat_le, find, option_map}
-use Rattle.std.specs.Option.{option_or}
-use Rattle.std.specs.List.{AllByRecursion, list_all, list_any}
-use Rattle.std.proofs.lemmas.Bool.{cases_lt, cases_Bool, not_from_true, not-false, leb-true, leb-false, ltb-false, le-leb, lt-leb, lt-ltb, le-ltb, or_parts, or_from}
-use Rattle.std.proofs.lemmas.List.Sums.{sum_by-cons}
-use Rattle.std.proofs.lemmas.List.FromFn.{get_or-map-range_with_len, length-map-range_with_len}
-use Rattle.definitions.specs.Strategies.{Table, act, shares, is_split}
-use Rattle.definitions.specs.Ranks.{Descends, IsRankTable, Accepted, keeps_limit, least_ranks, counts, is_stuck, first_long, first_stuck, first_deep, List_too_long, No_descent, Too_deep, Bad_certificate, deep_fault, check_fault, rank_by, ranks_by, is_unfit, first_unfit, check_with_fault, IsServing}
-use Rattle.definitions.proofs.Lists.{All-map, All-both, All-range, range-at, none_found, find-none, list_any-none, none_passes, list_all-from_All, All-from_list_all, or_none, none_or, map_none, none_map}
-use Rattle.rank_laws.proofs.Tables.{shares-below, shares-none, many, not_stuck}
-use Rattle.rank_laws.proofs.Least.{least, ranked}
+-- The least rank table, and what a check answers.
+use Rattle.std.proofs.Common.{rules, ◌≡◌, ℕ, zero, suc, ◌+◌, ◌-◌, ◌<◌, ◌≤◌, false, None, List, [], ◌∷◌, length, refl, sym, ap, ◌∙◌, subst, arith, max, inl, inr, length-append, Bool, not, ◌||◌, cond}
+use Rattle.std.specs.Prelude.{slice_index, IsTrue, nat_lt, nat_le, option_map}
+use Rattle.definitions.proofs.Words.{AllByRecursion, list_all, list_any, option_or, Table, act, shares, is_split, Descends, IsRankTable, IsLeastRankTable, above_all, next_rank, ranks_upto, least_ranks, counts, is_stuck, first_stuck, Accepted, keeps_limit, first_long, first_deep, List_too_long, No_descent, Too_deep, Bad_certificate, deep_fault, check_fault, rank_by, ranks_by, is_unfit, first_unfit, check_with_fault, IsServing}
+use Rattle.definitions.proofs.Lemmas.{common_steps, cases_order, cases_Bool, cases_lt, not_from_true, not-false, leb-true, leb-false, ltb-false, le-leb, lt-leb, lt-ltb, le-ltb, or_parts, or_from, get_or-append, get_or-append_seam, sum_by-cons, get_or-map-range_with_len, length-map-range_with_len, All-map, All-both, All-range, range-at, none_found, find-none, list_any-none, none_passes, list_all-from_All, All-from_list_all, or_none, none_or, map_none, none_map}
+use Rattle.rank_laws.proofs.Tables.{shares-below, shares-none, zero_uncut, many, not_stuck}
+
+-- ==== The least ranks are the least rank table, where no count is stuck
+
+-- ---- one more than the greatest
+
+pub above_all-each : (f xs : List ℕ) (k : ℕ) → above_all f xs ≤ k → AllByRecursion (λ s. slice_index f s < k) xs
+above_all-each f [] k h = tt
+above_all-each f (s ∷ ss) k h = (omega arith, above_all-each f ss k (omega arith))
+
+pub above_all-least : (f xs : List ℕ) (k : ℕ) → AllByRecursion (λ s. slice_index f s < k) xs → above_all f xs ≤ k
+above_all-least f [] k h = omega arith
+above_all-least f (s ∷ ss) k h = omega (arith, above_all-least f ss k h.1)
+
+-- ---- the ranks, count by count
+
+pub length-ranks_upto : (T : Table) (n : ℕ) → length (ranks_upto T n) ≡ suc n
+length-ranks_upto T zero = refl
+length-ranks_upto T (suc n) = omega (arith, length-ranks_upto T n, length-append (ranks_upto T n) (next_rank T (ranks_upto T n) (suc n) ∷ []))
+
+-- a rank stays as it was found
+pub ranks-keep : (T : Table) (n m : ℕ) → m ≤ n → slice_index (ranks_upto T (suc n)) m ≡ slice_index (ranks_upto T n) m
+ranks-keep T n m h = get_or-append (ranks_upto T n) (next_rank T (ranks_upto T n) (suc n) ∷ []) 0 m (omega (arith, length-ranks_upto T n))
+
+pub ranks-next : (T : Table) (n : ℕ) →
+    slice_index (ranks_upto T (suc n)) (suc n) ≡ max (slice_index (ranks_upto T n) n) (above_all (ranks_upto T n) (shares T (suc n)))
+ranks-next T n =
+    let seam = get_or-append_seam (ranks_upto T n) (next_rank T (ranks_upto T n) (suc n)) [] 0 in
+    let at = subst (λ (k : ℕ). slice_index (ranks_upto T (suc n)) k ≡ next_rank T (ranks_upto T n) (suc n)) (length-ranks_upto T n) seam in
+    let before : suc n - 1 ≡ n = omega arith in
+    at ∙ ap (λ (k : ℕ). max (slice_index (ranks_upto T n) k) (above_all (ranks_upto T n) (shares T (suc n)))) before
+
+-- the ranks up to n are those up to any later count
+pub ranks-later : (T : Table) (d n m : ℕ) → m ≤ n → slice_index (ranks_upto T (d + n)) m ≡ slice_index (ranks_upto T n) m
+ranks-later T zero n m h = let same : 0 + n ≡ n = omega arith in ap (λ (k : ℕ). slice_index (ranks_upto T k) m) same
+ranks-later T (suc d) n m h =
+    let same : suc d + n ≡ suc (d + n) = omega arith in
+    ap (λ (k : ℕ). slice_index (ranks_upto T k) m) same ∙ ranks-keep T (d + n) m (omega arith) ∙ ranks-later T d n m h
+
+pub ranks-same : (T : Table) (n k m : ℕ) → m ≤ n → n ≤ k → slice_index (ranks_upto T k) m ≡ slice_index (ranks_upto T n) m
+ranks-same T n k m h l = let same : k ≡ (k - n) + n = omega arith in ap (λ (j : ℕ). slice_index (ranks_upto T j) m) same ∙ ranks-later T (k - n) n m h
+
+-- they do not fall
+pub ranks-step : (T : Table) (n : ℕ) → slice_index (ranks_upto T n) n ≤ slice_index (ranks_upto T (suc n)) (suc n)
+ranks-step T n = omega (arith, ranks-next T n)
+
+pub ranks-rise : (T : Table) (k n m : ℕ) → m ≤ n → n ≤ k → slice_index (ranks_upto T k) m ≤ slice_index (ranks_upto T k) n
+ranks-rise T k zero m h l = let none : m ≡ 0 = omega arith in subst (λ (i : ℕ). slice_index (ranks_upto T k) i ≤ slice_index (ranks_upto T k) 0) (sym none) (omega arith)
+ranks-rise T k (suc n) m h l = elim (cases_order m (suc n)) [
+  | inl e ↦ subst (λ (i : ℕ). slice_index (ranks_upto T k) i ≤ slice_index (ranks_upto T k) (suc n)) (sym e) (omega arith)
+  | inr other ↦ grind (arith, ranks-rise T k n m (omega arith) (omega arith), ranks-step, ranks-same)
+]
+
+-- nor leave out a number
+pub ranks-gradual : (T : Table) (n : ℕ) → AllByRecursion (λ s. s < suc n) (shares T (suc n)) →
+    slice_index (ranks_upto T (suc n)) (suc n) ≤ slice_index (ranks_upto T n) n + 1
+ranks-gradual T n h =
+    let f : List ℕ = ranks_upto T n in
+    let top = above_all-least f (shares T (suc n)) (slice_index f n + 1)
+    (All-map (λ s. s < suc n) (λ s. slice_index f s < slice_index f n + 1) (λ s l. omega (arith, ranks-rise T n n s (omega arith) (omega arith))) (shares T (suc n)) h) in
+    omega (arith, ranks-next T n)
+
+-- ---- a rank table
+
+ranks-descend : (T : Table) (k n : ℕ) → n ≤ k → (IsTrue (is_split (act T n)) → 2 ≤ length (shares T n)) → Descends T (ranks_upto T k) n
+ranks-descend T k zero l h = λ s. absurd (zero_uncut T (h s))
+ranks-descend T k (suc n) l h = λ s.
+    let two = h s in
+    let low = shares-below T (suc n) two in
+    let f : List ℕ = ranks_upto T n in
+    let r : ℕ = slice_index (ranks_upto T (suc n)) (suc n) in
+    let next = ranks-next T n in
+    let under = above_all-each f (shares T (suc n)) r (omega arith) in (
+      two,
+      All-both (λ m. m < suc n) (λ m. slice_index f m < r) (λ m. slice_index (ranks_upto T k) m < slice_index (ranks_upto T k) (suc n))
+          (λ m a b. omega (arith, ranks-same T n k m (omega arith) (omega arith), ranks-same T (suc n) k (suc n) (omega arith) (omega arith))) (shares T (suc n)) low under,
+    )
+
+pub least_ranks-IsRankTable : (T : Table) → ((n : ℕ) → n ≤ T.cap → is_stuck T n ≡ false) → IsRankTable T (least_ranks T)
+least_ranks-IsRankTable T h = search (rules, length-ranks_upto, ranks-rise, ranks-descend, many)
+
+-- no rank table is below it
+pub ranks-least : (T : Table) (g : List ℕ) → IsRankTable T g → (n : ℕ) → n ≤ T.cap → (m : ℕ) → m ≤ n → slice_index (ranks_upto T n) m ≤ slice_index g m
+ranks-least T g r zero l m h = let none : m ≡ 0 = omega arith in subst (λ (i : ℕ). slice_index (0 ∷ []) i ≤ slice_index g i) (sym none) (omega arith)
+ranks-least T g r (suc n) l m h =
+    let ih = ranks-least T g r n (omega arith) in
+    let f : List ℕ = ranks_upto T n in
+    elim (cases_order m (suc n)) [
+      | inl e ↦
+          let top : above_all f (shares T (suc n)) ≤ slice_index g (suc n) = grind (arith, cases_Bool, above_all-least, All-both, shares-below, shares-none) in
+          subst (λ (i : ℕ). slice_index (ranks_upto T (suc n)) i ≤ slice_index g i) (sym e)
+          (omega (arith, ranks-next T n, ih n (omega arith), r.rises n (suc n) (omega arith) l))
+      | inr other ↦ elim other [
+        | inl below ↦ omega (arith, ranks-keep T n m (omega arith), ih m (omega arith))
+        | inr above ↦ absurd (omega arith)
+      ]
+    ]
+
+pub none_stuck : (T : Table) → first_stuck T ≡ None → (n : ℕ) → n ≤ T.cap → is_stuck T n ≡ false
+none_stuck T e n h = range-at (λ k. is_stuck T k ≡ false) 0 (T.cap + 1) (none_found (is_stuck T) (counts T) e) n (omega arith) (omega arith)
+
+pub first_stuck-none : (T : Table) → ((n : ℕ) → n ≤ T.cap → is_stuck T n ≡ false) → first_stuck T ≡ None
+first_stuck-none T h = find-none (is_stuck T) (counts T) (All-range (λ k. is_stuck T k ≡ false) 0 (T.cap + 1) (λ k a b. h k (omega arith)))
+
+pub least : (T : Table) → first_stuck T ≡ None → IsLeastRankTable T (least_ranks T)
+least T e = record {
+  ranks = least_ranks-IsRankTable T (none_stuck T e);
+  least = λ g r n h. ranks-least T g r T.cap (omega arith) n h;
+}
+
+-- where there is a rank table no count is stuck
+pub ranked : (T : Table) (f : List ℕ) → IsRankTable T f → first_stuck T ≡ None
+ranked T f r = first_stuck-none T (λ n h. not_stuck T n (λ s. (r.descends n h s).0))
+
+-- ==== The checks by computation say what the definitions say
 
 -- ---- lists
 
 pub lists_fit : (T : Table) → first_long T ≡ None → IsTrue (list_all (keeps_limit T.limit) T.rows)
-lists_fit T e =
-    let none = none_found (λ row. not (keeps_limit T.limit row)) T.rows (map_none (λ row. row.upto) (find (λ row. not (keeps_limit T.limit row)) T.rows) e) in
-    list_all-from_All (keeps_limit T.limit) T.rows (All-map (λ row. not (keeps_limit T.limit row) ≡ false) (λ row. keeps_limit T.limit row ≡ true) (λ row h. not-false (keeps_limit T.limit row) h) T.rows none)
+lists_fit T e = search (rules, none_found, map_none, list_all-from_All, All-map, not-false)
 
 pub none_long : (T : Table) → IsTrue (list_all (keeps_limit T.limit) T.rows) → first_long T ≡ None
-none_long T h =
-    let each = All-from_list_all (keeps_limit T.limit) T.rows h in
-    none_map (λ row. row.upto) (find (λ row. not (keeps_limit T.limit row)) T.rows)
-    (find-none (λ row. not (keeps_limit T.limit row)) T.rows (All-map (λ row. keeps_limit T.limit row ≡ true) (λ row. not (keeps_limit T.limit row) ≡ false) (λ row k. not_from_true (keeps_limit T.limit row) k) T.rows each))
+none_long T h = search (rules, All-from_list_all, not, find-none, All-map, not_from_true)
 
 -- ---- depth
 
@@ -49,7 +151,6 @@ pub no_fault : (T : Table) → Accepted T → check_fault T ≡ None
 no_fault T a =
     let f : List ℕ = a.ranks.0 in
     let table : IsRankTable T f = a.ranks.1 in
-    let low : slice_index f T.cap ≤ T.rounds = a.ranks.2 in
     let stuck = ranked T f table in
     let mine = least T stuck in
     none_or List_too_long (first_long T) (option_or (option_map No_descent (first_stuck T)) (deep_fault T (least_ranks T))) (none_long T a.lists)
@@ -69,12 +170,7 @@ rank_by-no s ss n h = let e = ap (λ (b : Bool). cond b 1 0 + rank_by ss n) (le-
 
 pub rank_by-rises : (ss : List ℕ) (m n : ℕ) → m ≤ n → rank_by ss m ≤ rank_by ss n
 rank_by-rises [] m n h = omega arith
-rank_by-rises (s ∷ ss) m n h =
-    let ih = rank_by-rises ss m n h in
-    elim (cases_lt s n) [
-      | inl under ↦ elim (cases_lt s m) [ inl a ↦ omega (arith, rank_by-yes s ss n under, rank_by-yes s ss m a) | inr b ↦ omega (arith, rank_by-yes s ss n under, rank_by-no s ss m b) ]
-      | inr over ↦ omega (arith, rank_by-no s ss n over, rank_by-no s ss m (omega arith))
-    ]
+rank_by-rises (s ∷ ss) m n h = grind (arith, common_steps, rank_by-rises ss m n h, cases_lt, rank_by-yes, rank_by-no)
 
 pub ranks_by-at : (steps : List ℕ) (cap n : ℕ) → n ≤ cap → slice_index (ranks_by steps cap) n ≡ rank_by steps n
 ranks_by-at steps cap n h = get_or-map-range_with_len (rank_by steps) 0 (cap + 1) n n 0 (omega arith) (omega arith)
@@ -140,8 +236,5 @@ no_fault_with T steps l s h =
     (none_or Bad_certificate (first_unfit T steps) (deep_fault T (ranks_by steps T.cap)) (none_unfit T steps s)
     (none_deep T (ranks_by steps T.cap) (λ n k. omega (arith, ranks_by-at steps T.cap n k, rank_by-rises steps n T.cap k))))
 
-pub with-Accepted : (T : Table) (steps : List ℕ) → check_with_fault T steps ≡ None → Accepted T
-with-Accepted T steps e =
-    let a = accepted_with T steps e in
-    let s = a.1 in
-    record { lists = a.0; ranks = (ranks_by steps T.cap, s.ranks, omega (arith, a.2, ranks_by-at steps T.cap T.cap (omega arith))) }
+pub check_with_accepts : (T : Table) (steps : List ℕ) → check_with_fault T steps ≡ None → Accepted T
+check_with_accepts T steps e = grind (arith, accepted_with T steps e, ranks_by-at steps T.cap T.cap (omega arith))

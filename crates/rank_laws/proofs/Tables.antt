@@ -1,14 +1,90 @@
--- The rows and shares of a table.
-use Rattle.std.proofs.Common.{◌≡◌, ℕ, zero, suc, ◌+◌, ◌-◌, ◌<◌, ◌≤◌, Bool, true, false, List, [], ◌∷◌, ◌++◌, length, map, refl, sym, ap, ◌∙◌, subst, arith, sum, cond, min, inl, inr}
+-- The rows of a table, and the shares that a count is cut into.
+use Rattle.std.proofs.Common.{rules, ◌≡◌, ℕ, suc, ◌+◌, ◌-◌, ◌*◌, ◌/◌, ◌<◌, ◌≤◌, Bool, true, false, List, [], ◌∷◌, length, refl, ap, ◌∙◌, arith, sum, cond, inl, inr, zero, ◌++◌, map}
 use Rattle.std.specs.Prelude.{nat_lt, nat_le, slice_index, IsTrue}
-use Rattle.std.specs.List.{AllByRecursion, list_any}
-use Rattle.std.proofs.lemmas.Bool.{ltb-false, leb-true, leb-false, le-leb, cases_Bool, cond-true, cond-false, and_cases, and_left, and_right, le-ltb, or_left, or_right}
-use Rattle.std.proofs.Math.Nat.{mul-div_cancel}
-use Rattle.definitions.specs.Strategies.{Act, List_items, Split, Peel, Row, Table, act_in, act, running_sums, differences, cuts_by, shares_by, shares, is_split, IsAct, IsTable, uptos}
-use Rattle.definitions.specs.Ranks.{is_stuck}
+use Rattle.definitions.proofs.Words.{AllByRecursion, list_any, Act, List_items, Split, Peel, Row, Table, act_in, act, running_sums, differences, cuts_by, without_zeros, shares_by, shares, width_of, widest, width, is_split, IsAct, IsTable, uptos, is_stuck}
+use Rattle.definitions.proofs.Lemmas.{common_steps, ltb-true, ltb-false, leb-true, leb-false, le-leb, cond-true, cond-false, and_cases, or_left, or_right, sum_by-cons, div-zero, zero-div, mul-div_cancel, All-filter, All-map}
 use Rattle.rank_laws.specs.Laws.{HasRow, IsCut}
-use Rattle.definitions.proofs.Lists.{All-map}
-use Rattle.rank_laws.proofs.Shares.{sum-cons, sum-split, sum-without_zeros, sum-shares_by, shares_by-positive}
+
+-- ==== The shares of a row: what they add up to, that none but the first is 0, and how many there are
+
+pub sum-cons : (x : ℕ) (xs : List ℕ) → sum (x ∷ xs) ≡ x + sum xs
+sum-cons x xs = sum_by-cons (λ n. n) x xs
+
+-- ---- no zeros
+
+pub sum-without_zeros : (xs : List ℕ) → sum (without_zeros xs) ≡ sum xs
+sum-without_zeros [] = refl
+sum-without_zeros (x ∷ xs) = grind (arith, sum-without_zeros xs, sum-cons, ltb-false)
+
+pub without_zeros-positive : (xs : List ℕ) → AllByRecursion (λ n. 0 < n) (without_zeros xs)
+without_zeros-positive xs = All-map (λ n. nat_lt 0 n ≡ true) (λ n. 0 < n) (λ n e. ltb-true 0 n e) (without_zeros xs) (All-filter (λ n. nat_lt 0 n) xs)
+
+pub length-le-sum : (xs : List ℕ) → AllByRecursion (λ n. 0 < n) xs → length xs ≤ sum xs
+length-le-sum [] p = omega arith
+length-le-sum (x ∷ xs) p = omega (arith, length-le-sum xs p.1, sum-cons x xs)
+
+length-without_zeros : (xs : List ℕ) → length (without_zeros xs) ≤ length xs
+length-without_zeros [] = omega arith
+length-without_zeros (x ∷ xs) = grind (arith, length-without_zeros xs, suc)
+
+-- ---- in proportion
+
+div-le-div : (a b k : ℕ) → a ≤ b → a / k ≤ b / k
+div-le-div a b k h = grind arith
+
+sum-differences : (weights : List ℕ) (n s : ℕ) (ws : List ℕ) →
+    n * s / sum weights + sum (differences (n * s / sum weights) (cuts_by weights n (running_sums s ws))) ≡ n * (s + sum ws) / sum weights
+sum-differences weights n s [] = let e : s ≡ s + sum [] = omega arith in let end = ap (λ m. n * m / sum weights) e in omega arith
+sum-differences weights n s (w ∷ ws) = grind (arith, sum-differences weights n (s + w) ws, div-le-div, sum-cons)
+
+pub sum-split : (weights : List ℕ) (n : ℕ) → sum (differences 0 (cuts_by weights n (running_sums 0 weights))) ≡ n * sum weights / sum weights
+sum-split weights n = grind (arith, sum-differences weights n 0 weights, zero-div (sum weights))
+
+split_total : (n W : ℕ) (zs : List ℕ) → sum zs ≡ n * W / W → 2 ≤ length (without_zeros zs) → sum (without_zeros zs) ≡ n
+split_total n W zs e many = grind (arith, div-zero, sum-without_zeros, length-le-sum, without_zeros-positive, mul-div_cancel)
+
+-- ---- the shares of any row
+
+-- two shares or more add up to what is cut
+pub sum-shares_by : (act : Act) (n : ℕ) → 2 ≤ length (shares_by act n) → sum (shares_by act n) ≡ n
+sum-shares_by List_items n h = absurd (omega arith)
+sum-shares_by (Split weights) n h = split_total n (sum weights) (differences 0 (cuts_by weights n (running_sums 0 weights))) (sum-split weights n) h
+sum-shares_by (Peel front) n h = grind arith
+
+-- none is 0
+pub shares_by-positive : (act : Act) (n : ℕ) → AllByRecursion (λ s. 0 < s) (shares_by act n)
+shares_by-positive act n = search (rules, without_zeros-positive)
+
+-- ---- how many
+
+length-running_sums : (start : ℕ) (ws : List ℕ) → length (running_sums start ws) ≡ length ws
+length-running_sums start [] = refl
+length-running_sums start (w ∷ ws) = ap suc (length-running_sums (start + w) ws)
+
+length-cuts_by : (weights : List ℕ) (n : ℕ) (ss : List ℕ) → length (cuts_by weights n ss) ≡ length ss
+length-cuts_by weights n [] = refl
+length-cuts_by weights n (s ∷ ss) = ap suc (length-cuts_by weights n ss)
+
+length-differences : (start : ℕ) (cs : List ℕ) → length (differences start cs) ≡ length cs
+length-differences start [] = refl
+length-differences start (c ∷ cs) = ap suc (length-differences c cs)
+
+length-shares_by : (act : Act) (n : ℕ) → length (shares_by act n) ≤ width_of act
+length-shares_by act n = search (rules, length-without_zeros, length-differences, length-cuts_by, length-running_sums)
+
+pub widest-positive : (rows : List Row) → 1 ≤ widest rows
+widest-positive [] = omega arith
+widest-positive (row ∷ rows) = omega (arith, widest-positive rows)
+
+pub width_of-act_in : (rows : List Row) (n : ℕ) → width_of (act_in rows n) ≤ widest rows
+width_of-act_in [] n = omega arith
+width_of-act_in (row ∷ rows) n = grind (arith, width_of-act_in rows n)
+
+-- no more shares than the table is wide
+pub length-shares : (T : Table) (n : ℕ) → length (shares T n) ≤ width T
+length-shares T n = omega (arith, length-shares_by (act T n) n, width_of-act_in T.rows n)
+
+-- ==== The rows and shares of a table
 
 -- ---- shares
 
@@ -20,7 +96,6 @@ each_below : (xs : List ℕ) (n : ℕ) → AllByRecursion (λ s. 0 < s) xs → s
 each_below [] n p e h = absurd (omega arith)
 each_below (x ∷ []) n p e h = absurd (omega arith)
 each_below (x ∷ y ∷ zs) n p e h =
-    let a = p.0 in
     let b = p.1.0 in
     let c = sum-cons x (y ∷ zs) in
     let d = sum-cons y zs in
@@ -31,9 +106,7 @@ pub shares-below : (T : Table) (n : ℕ) → 2 ≤ length (shares T n) → AllBy
 shares-below T n h = each_below (shares T n) n (shares_by-positive (act T n) n) (sum-shares_by (act T n) n h) h
 
 pub shares-none : (act : Act) (n : ℕ) → is_split act ≡ false → shares_by act n ≡ []
-shares-none List_items n e = refl
-shares-none (Split weights) n e = absurd (cc)
-shares-none (Peel front) n e = absurd (cc)
+shares-none act n e = search (rules)
 
 -- nothing is not cut
 pub zero_uncut : (T : Table) → 2 ≤ length (shares T 0) → ⊥
@@ -43,29 +116,18 @@ zero_uncut T h =
 
 weights-positive : (ws : List ℕ) → AllByRecursion (λ w. (1 ≤ w) × (w ≤ 1024)) ws → length ws ≤ sum ws
 weights-positive [] h = omega arith
-weights-positive (w ∷ ws) h = omega (arith, h.0.0, weights-positive ws h.1, sum-cons w ws)
+weights-positive (w ∷ ws) h = omega (arith, weights-positive ws h.1, sum-cons w ws)
 
 -- the shares of a row within the limits add up to what is cut, few or many
 sum-cut : (act : Act) (n : ℕ) → IsAct act → is_split act ≡ true → sum (shares_by act n) ≡ n
-sum-cut List_items n h e = absurd (cc)
-sum-cut (Split weights) n h e =
-    let some = weights-positive weights h.2 in
-    let two = h.0 in
-    let above : 0 < sum weights = omega arith in
-    sum-without_zeros (differences 0 (cuts_by weights n (running_sums 0 weights))) ∙ sum-split weights n ∙ mul-div_cancel n above
-sum-cut (Peel front) n h e =
-    omega (arith, sum-without_zeros (min front n ∷ (n - front) ∷ []), sum-cons (min front n) ((n - front) ∷ []), sum-cons (n - front) [])
+sum-cut act n h e = search (rules, weights-positive, sum-without_zeros, sum-split, mul-div_cancel)
 
 act_in-IsAct : (rows : List Row) (n : ℕ) → AllByRecursion (λ row. IsAct row.act) rows → IsAct (act_in rows n)
 act_in-IsAct [] n h = tt
 act_in-IsAct (row ∷ rows) n h = elim (nat_le n row.upto) as (λ b. IsAct (cond b row.act (act_in rows n))) [ true ↦ h.0 | false ↦ act_in-IsAct rows n h.1 ]
 
 pub cut : (T : Table) → IsTable T → (n : ℕ) → IsTrue (is_split (act T n)) → IsCut n (shares T n)
-cut T t n e = record {
-  positive = shares_by-positive (act T n) n;
-  total = sum-cut (act T n) n (act_in-IsAct T.rows n t.acts) e;
-  below = shares-below T n;
-}
+cut T t n e = grind (arith, shares_by-positive, sum-cut, act_in-IsAct, shares-below)
 
 -- ---- rows
 
@@ -89,8 +151,7 @@ length-uptos [] = refl
 length-uptos (row ∷ rows) = ap suc (length-uptos rows)
 
 none_reach : (rows : List Row) → length rows ≡ 0 → slice_index (map (λ row. row.upto) rows) (length (map (λ row. row.upto) rows) - 1) ≡ 0
-none_reach [] e = refl
-none_reach (row ∷ rows) e = absurd (omega arith)
+none_reach rows e = grind (arith, common_steps)
 
 pub each_served : (T : Table) → IsTable T → (n : ℕ) → n ≤ T.cap → HasRow T.rows n
 each_served T t n h =
@@ -98,14 +159,12 @@ each_served T t n h =
     served T.rows (length (uptos T) - 1) n (omega (arith, length-uptos T.rows)) (omega (arith, t.reach))
 
 uptos-from_end : (T : Table) → IsTable T → (d j : ℕ) → j + d ≡ length (uptos T) - 1 → slice_index (uptos T) j ≤ T.cap
-uptos-from_end T t zero j e =
-    let at : j ≡ length (uptos T) - 1 = omega arith in
-    subst (λ (i : ℕ). slice_index (uptos T) i ≤ T.cap) (sym at) (omega (arith, t.reach))
+uptos-from_end T t zero j e = grind arith
 uptos-from_end T t (suc d) j e = omega (arith, t.rise j (omega arith), uptos-from_end T t d (j + 1) (omega arith))
 
 -- no row reaches past the cap
-pub uptos-within : (T : Table) → IsTable T → (k : ℕ) → k < length (uptos T) → slice_index (uptos T) k ≤ T.cap
-uptos-within T t k h = uptos-from_end T t (length (uptos T) - 1 - k) k (omega arith)
+pub rows_within : (T : Table) → IsTable T → (k : ℕ) → k < length (uptos T) → slice_index (uptos T) k ≤ T.cap
+rows_within T t k h = uptos-from_end T t (length (uptos T) - 1 - k) k (omega arith)
 
 -- ---- counts that are not cut
 
@@ -113,10 +172,7 @@ pub many : (T : Table) (n : ℕ) → is_stuck T n ≡ false → IsTrue (is_split
 many T n e s = elim (and_cases (is_split (act T n)) (nat_lt (length (shares T n)) 2) e) [ inl uncut ↦ absurd (cc) | inr few ↦ ltb-false (length (shares T n)) 2 few ]
 
 pub not_stuck : (T : Table) (n : ℕ) → (IsTrue (is_split (act T n)) → 2 ≤ length (shares T n)) → is_stuck T n ≡ false
-not_stuck T n h = elim (cases_Bool (is_split (act T n))) [
-  | inl cuts ↦ and_right (is_split (act T n)) (nat_lt (length (shares T n)) 2) (le-ltb (length (shares T n)) 2 (h cuts))
-  | inr uncut ↦ and_left (is_split (act T n)) (nat_lt (length (shares T n)) 2) uncut
-]
+not_stuck T n h = grind arith
 
 -- ---- what was a field of `Accepted`
 

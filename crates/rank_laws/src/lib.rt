@@ -10,16 +10,19 @@ ghost use Rattle.rank_laws.specs.Laws.{HasRow, IsCut, IsGradual, IsGreatest};
 ghost use Rattle.definitions.specs.Climbs.{find_steps, deep_by_steps, check_by_steps};
 
 /// A row serves each count up to the cap.
+#[tactic(auto, using(crate::proofs::Tables::each_served))]
 pub fn each_served()
     ensures { (T : Table) → IsTable T → (n : ℕ) → n ≤ T.cap → HasRow T.rows n }
 {}
 
 /// No row reaches past the cap.
+#[tactic(auto, using(crate::proofs::Tables::rows_within))]
 pub fn rows_within()
     ensures { (T : Table) → IsTable T → (k : ℕ) → k < length (uptos T) → slice_index (uptos T) k ≤ T.cap }
 {}
 
 /// The shares of what is cut are positive and add up to it.
+#[tactic(auto, using(crate::proofs::Tables::cut))]
 pub fn shares_are_parts()
     ensures { (T : Table) → IsTable T → (n : ℕ) → IsTrue (is_split (act T n)) → IsCut n (shares T n) }
 {}
@@ -30,32 +33,38 @@ pub fn least_where_not_stuck()
 {}
 
 /// Where there is a rank table no count is stuck.
+#[tactic(auto, using(crate::proofs::Checks::ranked))]
 pub fn ranked_is_not_stuck()
     ensures { (T : Table) (f : List ℕ) → IsRankTable T f → first_stuck T ≡ None }
 {}
 
 /// No list is too long where each list row keeps the limit.
+#[tactic(auto, using(crate::proofs::Checks::lists_fit, crate::proofs::Checks::none_long))]
 pub fn lists_keep_limit()
     ensures { (T : Table) → (first_long T ≡ None) ↔ IsTrue (list_all (keeps_limit T.limit) T.rows) }
 {}
 
 /// The check accepts what is to be accepted.
+#[tactic(auto, using(crate::proofs::Checks::accepted, crate::proofs::Checks::no_fault))]
 pub fn check_accepts()
     ensures { (T : Table) → (check_fault T ≡ None) ↔ Accepted T }
 {}
 
 /// The staircase of ranks keeps them where they begin at 0 and leave out no number, and only there.
+#[tactic(auto, using(crate::proofs::Staircases::rank_by_staircase, crate::proofs::Staircases::gradual_only))]
 pub fn staircase_keeps()
     ensures { (f : List ℕ) → IsGradual f ↔ ((n : ℕ) → n < length f → rank_by (staircase f) n ≡ slice_index f n) }
 {}
 
 /// A staircase that is made is one, and ends at the last count.
+#[tactic(auto, using(crate::proofs::Staircases::staircase_IsStaircase, crate::proofs::Staircases::staircase_last))]
 pub fn staircase_is_one()
     ensures rises { (f : List ℕ) → 0 < length f → IsStaircase (staircase f) }
     ensures ends { (f : List ℕ) → 0 < length f → slice_index (staircase f) (length (staircase f) - 1) ≡ length f - 1 }
 {}
 
 /// Entry j is the greatest count of rank at most j.
+#[tactic(auto, using(crate::proofs::Staircases::entries_are_greatest))]
 pub fn entries_are_greatest()
     ensures { (f : List ℕ) → IsGradual f → (j : ℕ) → j < length (staircase f) → IsGreatest f j (slice_index (staircase f) j) }
 {}
@@ -78,33 +87,39 @@ pub fn check_with_accepts()
 {}
 
 /// A loop that keeps the steps alone finds it too, or the least count that is stuck.
+#[tactic(auto, using(crate::proofs::Staircases::loop_finds))]
 pub fn loop_finds()
     ensures { (T : Table) → find_steps T ≡ found T }
 {}
 
 /// The last row reaches the cap.
+#[tactic(auto, using(crate::proofs::Tables::covers))]
 pub fn rows_cover()
     ensures { (T : Table) → IsTable T → IsTrue (list_any (λ row. nat_le T.cap row.upto) T.rows) }
 {}
 
 /// Ranks and their staircase come back from one another.
+#[tactic(auto, using(crate::proofs::Staircases::ranks_by_staircase, crate::proofs::Staircases::staircase_ranks_by))]
 pub fn staircase_and_back()
     ensures ranks { (f : List ℕ) (cap : ℕ) → IsGradual f → length f ≡ cap + 1 → ranks_by (staircase f) cap ≡ f }
     ensures steps { (steps : List ℕ) (cap : ℕ) → IsStaircase steps → slice_index steps (length steps - 1) ≡ cap → staircase (ranks_by steps cap) ≡ steps }
 {}
 
 /// A list of numbers without a fault is a staircase.
+#[tactic(auto, using(crate::proofs::Staircases::no_steps_fault, crate::proofs::Staircases::staircase_no_fault))]
 pub fn steps_are_tested()
     ensures { (steps : List ℕ) → (steps_fault steps ≡ None) ↔ IsStaircase steps }
 {}
 
 /// The first count that is too deep is the one after an entry of the staircase.
+#[tactic(auto, using(crate::proofs::Staircases::too_deep_by_steps, crate::proofs::Staircases::least_too_deep))]
 pub fn deep_by_the_steps()
     ensures brought { (T : Table) (steps : List ℕ) → IsStrictlyIncreasing steps → deep_fault T (ranks_by steps T.cap) ≡ deep_by_steps T.cap T.rounds steps }
     ensures least { (T : Table) → first_stuck T ≡ None → deep_fault T (least_ranks T) ≡ deep_by_steps T.cap T.rounds (staircase (least_ranks T)) }
 {}
 
 /// The check needs the loop's steps alone.
+#[tactic(auto, using(crate::proofs::Staircases::check_by_the_steps))]
 pub fn check_by_the_steps()
     ensures { (T : Table) → check_fault T ≡ check_by_steps T }
 {}
@@ -115,6 +130,7 @@ pub fn ranks_are_packed()
 {}
 
 /// Ranks that leave out no number are no greater than their counts.
+#[tactic(auto, using(crate::proofs::Staircases::ranks_are_small))]
 pub fn ranks_are_small()
     ensures { (f : List ℕ) → IsGradual f → (n : ℕ) → n < length f → slice_index f n ≤ n }
 {}

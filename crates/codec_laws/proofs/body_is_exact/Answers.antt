@@ -1,4 +1,4 @@
-use Rattle.codec_laws.proofs.Laws.{body_exact}
+use Rattle.codec_laws.proofs.Messages.{body_exact}
 use Rattle.codec_laws.proofs.body_is_exact.Goals as goal
 
 pub returns : goal.returns

@@ -1,4 +1,4 @@
-use Rattle.codec_laws.proofs.Feeds.{feed_exact}
+use Rattle.codec_laws.proofs.Streams.{feed_exact}
 use Rattle.codec_laws.proofs.feed_is_exact.Goals as goal
 
 pub returns : goal.returns

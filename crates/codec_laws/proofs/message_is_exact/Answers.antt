@@ -1,4 +1,4 @@
-use Rattle.codec_laws.proofs.Laws.{message_exact}
+use Rattle.codec_laws.proofs.Messages.{message_exact}
 use Rattle.codec_laws.proofs.message_is_exact.Goals as goal
 
 pub returns : goal.returns

@@ -1,4 +1,4 @@
-use Rattle.codec_laws.proofs.Laws.{next_exact}
+use Rattle.codec_laws.proofs.Messages.{next_exact}
 use Rattle.codec_laws.proofs.next_is_exact.Goals as goal
 
 pub returns : goal.returns

@@ -1,4 +1,4 @@
-use Rattle.codec_laws.proofs.Sizes.{sets_fit_lem}
+use Rattle.codec_laws.proofs.Made.{sets_fit_lem}
 use Rattle.codec_laws.proofs.sets_fit.Goals as goal
 
 pub returns : goal.returns

@@ -1,4 +1,4 @@
-use Rattle.codec_laws.proofs.Laws.{upper_exact}
+use Rattle.codec_laws.proofs.Messages.{upper_exact}
 use Rattle.codec_laws.proofs.upper_is_exact.Goals as goal
 
 pub returns : goal.returns

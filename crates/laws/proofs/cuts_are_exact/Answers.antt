@@ -1,4 +1,4 @@
-use Rattle.laws.proofs.Cutting.{cuts_are_exact}
+use Rattle.laws.proofs.Ends.{cuts_are_exact}
 use Rattle.laws.proofs.cuts_are_exact.Goals as goal
 
 pub returns : goal.returns

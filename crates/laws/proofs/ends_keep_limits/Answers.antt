@@ -1,4 +1,4 @@
-use Rattle.laws.proofs.ShortLists.{ends_keep_limits}
+use Rattle.laws.proofs.Ends.{ends_keep_limits}
 use Rattle.laws.proofs.ends_keep_limits.Goals as goal
 
 pub returns : goal.returns

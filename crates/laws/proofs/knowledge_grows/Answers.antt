@@ -1,4 +1,4 @@
-use Rattle.laws.proofs.Growing.{knowledge_grows}
+use Rattle.laws.proofs.Knowledge.{knowledge_grows}
 use Rattle.laws.proofs.knowledge_grows.Goals as goal
 
 pub returns : goal.returns

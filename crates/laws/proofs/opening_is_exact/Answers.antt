@@ -1,4 +1,4 @@
-use Rattle.laws.proofs.PlacingExact.{opening_exact}
+use Rattle.laws.proofs.Placing.{opening_exact}
 use Rattle.laws.proofs.opening_is_exact.Goals as goal
 
 pub returns : goal.returns

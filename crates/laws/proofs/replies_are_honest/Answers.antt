@@ -1,5 +1,5 @@
-use Rattle.laws.proofs.Parts.{reply-IsHonest}
+use Rattle.laws.proofs.Knowledge.{replies_are_honest}
 use Rattle.laws.proofs.replies_are_honest.Goals as goal
 
 pub returns : goal.returns
-returns g c = λ S. reply-IsHonest S
+returns g c = λ S. replies_are_honest S

@@ -1,5 +1,5 @@
-use Rattle.laws.proofs.Placed.{reply-Placed}
+use Rattle.laws.proofs.Placing.{replies_are_placed}
 use Rattle.laws.proofs.replies_are_placed.Goals as goal
 
 pub returns : goal.returns
-returns g c = λ S. reply-Placed S
+returns g c = λ S. replies_are_placed S

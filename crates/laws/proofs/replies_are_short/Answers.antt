@@ -1,5 +1,5 @@
-use Rattle.laws.proofs.ShortLists.{reply-IsShort}
+use Rattle.laws.proofs.Ends.{replies_are_short}
 use Rattle.laws.proofs.replies_are_short.Goals as goal
 
 pub returns : goal.returns
-returns g c = λ S. reply-IsShort S
+returns g c = λ S. replies_are_short S

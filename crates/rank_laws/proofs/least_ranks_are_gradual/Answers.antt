@@ -1,5 +1,5 @@
-use Rattle.rank_laws.proofs.Climbs.{least-IsGradual}
+use Rattle.rank_laws.proofs.Staircases.{least_ranks_are_gradual}
 use Rattle.rank_laws.proofs.least_ranks_are_gradual.Goals as goal
 
 pub returns : goal.returns
-returns c = λ T e. least-IsGradual T e
+returns c = λ T e. least_ranks_are_gradual T e

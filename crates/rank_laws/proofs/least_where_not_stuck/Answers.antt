@@ -1,4 +1,4 @@
-use Rattle.rank_laws.proofs.Least.{least, ranked}
+use Rattle.rank_laws.proofs.Checks.{least, ranked}
 use Rattle.rank_laws.proofs.least_where_not_stuck.Goals as goal
 
 pub returns : goal.returns

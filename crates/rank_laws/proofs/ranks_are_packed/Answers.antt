@@ -1,4 +1,4 @@
-use Rattle.rank_laws.proofs.Packed.{packed}
+use Rattle.rank_laws.proofs.Staircases.{packed}
 use Rattle.rank_laws.proofs.ranks_are_packed.Goals as goal
 
 pub returns : goal.returns

@@ -1,0 +1,27 @@
+-- What the proofs of the laws speak of, in one place.
+pub use Rattle.definitions.specs.Climbs.{At, Climbing, Stuck_at, above_all_by, check_by_steps, climb_to, climbing_next, deep_by_steps, find_steps, push_step}
+pub use Rattle.definitions.specs.Cost.{part_bound}
+pub use Rattle.definitions.specs.Engines.{is_taken, replies, responder_says}
+pub use Rattle.definitions.specs.Faults.{Begins, FaultyAnswer, FaultyBody, FaultyBounds, FaultyBytes, FaultyFields, FaultyFrame, FaultyItem, FaultyItems, FaultyList, FaultyMarks, FaultyMessage, FaultyRange, FaultyUpper, IsBodyLength, IsCount, IsItemLength, IsPadded, IsPartial, NoItem, NoLower, NoUpper, Stands, Stops, Trails, body_fault, items_fault, rises_from}
+pub use Rattle.definitions.specs.Fingerprints.{IsExact, Lanes, Summary, counted_lanes, same_lanes, two_lanes}
+pub use Rattle.definitions.specs.Histories.{Already, Full, History, Insertion, New, content, history_after, insertion, items_of, version}
+pub use Rattle.definitions.specs.Items.{Apart, IsBytes, IsItem, IsLower, IsRange, IsUpper, Item, Range, Rises, comes_before, contains, cut_range, is_below, item_cmp, ranges_between, same_item, same_range, same_upper, whole}
+pub use Rattle.definitions.specs.Messages.{Answer, IsOpening, Listing, Message, Part, RangesRise, Sum, has_open, is_open, open_parts, open_ranges, opening, range_of}
+pub use Rattle.definitions.specs.Placing.{Answers, AreSums, Behind, CutsUp, Follows, FollowsAll, Lists, Place, Placed, Refused, ends_before, finish, next, next_answer, next_inside, next_sum, opening_fault, place_fault, placed_to}
+pub use Rattle.definitions.specs.Ranks.{Accepted, Bad_certificate, CheckFault, Descends, IsLeastRankTable, IsRankTable, IsServing, IsStaircase, List_too_long, No_descent, Too_deep, above_all, check_fault, check_with_fault, counts, deep_fault, first_deep, first_fall, first_long, first_stuck, first_unfit, found, is_stuck, is_unfit, keeps_limit, least_ranks, next_rank, rank_by, ranks_by, ranks_upto, staircase, steps_fault, steps_from}
+pub use Rattle.definitions.specs.Reading.{answer_at, bytes_at, came_at, counted_event, ended_at, event_at, event_in, event_of, failed_at, frame_at, frame_of, is_item_length, item_at, items_at, list_at, listing_at, lower_at, mark_in, marks_at, marks_in, nothing_after, number_at, range_at, sum_at, text_at, unless, upper_at}
+pub use Rattle.definitions.specs.Refusals.{answer_repeats, bad_kind, empty_range, frame_length, gap, item_order, item_outside, mark_count, mark_padding, misplaced, missing_answer, stall, too_many_parts, trailing, truncated}
+pub use Rattle.definitions.specs.Replies.{Peer, answer_to, cutup, differing, inner_cuts, reply, reply_to, sum_of}
+pub use Rattle.definitions.specs.Sets.{IsSet, add_item, difference, has, items_in, set_of, symmetric_difference, union}
+pub use Rattle.definitions.specs.Strategies.{Act, IsAct, IsTable, List_items, Peel, Row, Split, Table, act, act_in, cuts_by, differences, is_split, list_only, running_sums, shares, shares_by, uptos, widest, width, width_of, without_zeros}
+pub use Rattle.definitions.specs.Streams.{Before_hello, Faulted, Fed, In_message, Meaning_over, Means, MeansFrames, Standing, fed_by, feed, feed_frames, feed_start, message_by, message_from, message_in, messages_of}
+pub use Rattle.definitions.specs.Talks.{IsClear, IsClearAt, Knowledge, and_then, initiator_knows, knows, learn, listed_in, nothing, of_first, of_second, responder_knows, sender, talk, talk_from}
+pub use Rattle.definitions.specs.Theorems.{AbsorbClaim, CostClaim, EndsKeepLimits, Headline, HistoryClaim, InitiatorStops, IsHonest, IsNode, IsShort, IsSound, KeepLimits, KnowledgeIsExact, KnowledgeIsSound, KnowsDifference, KnowsNothingWrong, LearnsOnce, ListsAreShort, ListsOnce, ListsSome, MessagesAreFew, MessagesFit, OpeningIsExact, PartsAreFew, PlacedAreApart, PlacingIsExact, Ready, RepliesAreApart, RepliesAreHonest, RepliesArePlaced, RepliesAreShort, ResponderStops, TalksAreApart, inserts, lies_open, rank}
+pub use Rattle.definitions.specs.Wire.{AreItemsOf, Came, Counts, Ended, Event, Failed, Input, IsMessage, IsPart, IsProfile, One_message, Profile, Says, Spells, Stream, body, count_text, counted_profile, end_text, event_text, fault_text, frame, greatest_kind, items_text, lanes_read, lanes_text, mark_byte, mark_bytes, mark_bytes_for, marks_text, max_body, max_parts, message_text, part_text, range_text, session_text, short_text, two_lane_profile, upper_text}
+pub use Rattle.definitions.specs.Worlds.{Absorbing, Initiator, Node, Responder, Session, Side, Step, World, absorb_all, absorb_at, absorb_by, absorb_into, absorb_one, absorb_side, has_ended, initiator_knowledge, initiator_of, insert_at, message_bound, messages, no_node, node_at, peer_at, rank_of, responder_knowledge, responder_of, run, start, step, with_history}
+pub use Rattle.std.specs.Cmp.Lexicographic.{same_text}
+pub use Rattle.std.specs.Int.{bit_at, from_be_bytes, to_be_bytes, w128, w32}
+pub use Rattle.std.specs.List.{AllByRecursion, items_where_true, list_all, list_any, range_with_len}
+pub use Rattle.std.specs.List.Sorted.{IsNonDecreasing, IsStrictlyIncreasing}
+pub use Rattle.std.specs.Option.{option_or}
+pub use Rattle.std.specs.Ordering.{is_lt, match_ordering, ordering_reverse}

@@ -1,0 +1,192 @@
+-- What ranks bound: the messages of a talk and of one end. What the limit bounds: lists.
+use Rattle.std.proofs.Common.{rules, ◌≡◌, ℕ, zero, suc, ◌≤◌, true, List, [], ◌∷◌, length, refl, ◌+◌, ◌-◌, ◌*◌, false, min, arith, cond, ◌<◌, Bool, ◌&&◌, Option, None, sym, subst, inl, inr}
+use Rattle.std.specs.Prelude.{⊤, nat_le, is_none}
+use Rattle.std.specs.List.{filter}
+use Rattle.definitions.proofs.Words.{AllByRecursion, list_any, list_all, Rises, Item, Range, whole, items_in, Summary, Part, Sum, Listing, Answer, Message, range_of, has_open, opening, RangesRise, is_open, Profile, IsPart, IsMessage, max_parts, Peer, reply, talk_from, Ready, rank, MessagesAreFew, InitiatorStops, ResponderStops, IsShort, KeepLimits, ListsAreShort, RepliesAreShort, EndsKeepLimits, place_fault, opening_fault, is_taken, replies, responder_says, Row, act_in, is_split, IsTable, keeps_limit, Accepted, AreSums, Follows, FollowsAll, cut_range, open_parts}
+use Rattle.definitions.proofs.Lemmas.{cond_both, false≢true, and_parts, or_cases, leb-true, leb-false, All-map, All-every, All-append}
+use Rattle.laws.specs.Cutting.{CutsAreExact, TalksHaveRanges}
+use Rattle.rank_laws.proofs.Tables.{covers}
+use Rattle.laws.proofs.Placing.{rises_append, sums-cuts, Placed-from_accepted, opening_exact}
+use Rattle.laws.proofs.Cuts.{ranges-IsWithin, IsWithin, length-items_in-le, ranges-rise, flat_map-ranges, peer_cuts, peer_cutup, peer_cutup-AreCuts, peer_cutup-IsWithin, reply-each, reply-rises, talk_from-All, length-items_in-le_all, slice_index-le, IsUnder, SumsUnder, reply-own, reply-other, reply-no_sums, within-IsUnder, IsSumUnder}
+
+-- ==== What a cut is, and that honest ranges rise
+
+pub cuts_are_exact : CutsAreExact
+cuts_are_exact P f X r s =
+    let cuts = peer_cutup-AreCuts r X s in
+    record {
+      sizes = cuts.counts;
+      rise = λ h. ranges-rise X.lower (peer_cuts P X) X.upper h cuts.rise;
+      whole = λ D set. flat_map-ranges D set X.lower (peer_cuts P X) X.upper cuts.rise;
+      no_more = λ D. All-map (λ Y. IsWithin Y X) (λ Y. length (items_in D Y) ≤ length (items_in D X)) (λ Y w. length-items_in-le D Y X w) (peer_cutup P X) (peer_cutup-IsWithin r X s);
+    }
+
+pub talks_have_ranges : {F : Type 0} (S : Summary F) → TalksHaveRanges S
+talks_have_ranges {F} S I R f g k i r =
+    let kept : (P : Peer) (f : List ℕ) → Ready P f → (M : Message F) → RangesRise M → RangesRise (reply S P M) =
+    λ P f p M h. reply-rises S P f p M (All-map (λ p. Rises (range_of p)) (λ p. is_open p ≡ true → Rises (range_of p)) (λ p h e. h) M h) in
+    talk_from-All S RangesRise I R (kept I f i) (kept R g r) (opening S I.items) k (refl, tt)
+
+-- so has what was read
+IsPart-rises : {F : Type 0} (P : Profile F) (p : Part F) → IsPart P p → Rises (range_of p)
+IsPart-rises P p h = grind arith
+
+pub messages_have_ranges : {F : Type 0} (P : Profile F) (M : Message F) → IsMessage P M → RangesRise M
+messages_have_ranges P M h = All-map (IsPart P) (λ p. Rises (range_of p)) (IsPart-rises P) M h.parts
+
+-- ==== The talk of two peers is short
+
+-- the sender of M is P, whose ranks there are below a, and those of Q below b
+length-no_open : {F : Type 0} (S : Summary F) (P Q : Peer) (M : Message F) (k : ℕ) → has_open M ≡ false → length (talk_from S P Q M k) ≤ 1
+length-no_open S P Q M k h = grind arith
+
+length-no_sums : {F : Type 0} (S : Summary F) (P Q : Peer) (M : Message F) (k : ℕ) → has_open (reply S Q M) ≡ false → length (talk_from S P Q M k) ≤ 2
+length-no_sums S P Q M k h = grind (arith, length-no_open)
+
+length-talk_from : {F : Type 0} (S : Summary F) (P Q : Peer) (f g : List ℕ) → Ready P f → Ready Q g → (M : Message F) (a b k : ℕ) →
+    SumsUnder f P.items a M → SumsUnder g Q.items b M → length (talk_from S P Q M k) ≤ 2 + min (2 * a) (2 * b - 1)
+length-talk_from S P Q f g p q M zero b k h j = omega (arith, length-no_sums S P Q M k (reply-no_sums S Q f P.items M h))
+length-talk_from S P Q f g p q M (suc a) zero k h j = omega (arith, length-no_sums S P Q M k (reply-no_sums S Q g Q.items M j))
+length-talk_from S P Q f g p q M (suc a) (suc b) zero h j = omega arith
+length-talk_from S P Q f g p q M (suc a) (suc b) (suc k) h j =
+    let ih = length-talk_from S Q P g f q p (reply S Q M) (suc b - 1) (suc a) k (reply-own S Q g q (suc b) M j) (reply-other S Q P g f q p (suc a) M h) in
+    elim (has_open M) as (λ c. suc (length (cond c (talk_from S Q P (reply S Q M) k) [])) ≤ 2 + min (2 * suc a) (2 * suc b - 1)) [ true ↦ omega arith | false ↦ omega arith ]
+
+pub whole-IsUnder : {P : Peer} {f : List ℕ} → Ready P f → IsUnder f P.items (rank f P + 1) whole
+whole-IsUnder {P} {f} r = omega (arith, slice_index-le r.ranks (length (items_in P.items whole)) (length P.items) (length-items_in-le_all P.items whole) r.room)
+
+pub messages_are_few : {F : Type 0} (S : Summary F) → MessagesAreFew S
+messages_are_few S I R f g k i r =
+    omega (arith, length-talk_from S I R f g i r (opening S I.items) (rank f I + 1) (rank g R + 1) k (whole-IsUnder i, tt) (whole-IsUnder r, tt))
+
+-- ==== One end stops: what is placed compares only parts of what the own message compared
+
+-- a compared range has a rank below n, and where something is listed n is not 0
+abbrev pub IsOpenUnder : {F : Type 0} → List ℕ → List Item → ℕ → Part F → Type 0
+IsOpenUnder f A n (Sum X g) = IsUnder f A n X
+IsOpenUnder f A n (Listing X items) = 0 < n
+IsOpenUnder f A n (Answer X marks items) = ⊤
+
+sums-OpenUnder : {F : Type 0} (f : List ℕ) (A : List Item) (n : ℕ) (Xs : List Range) (ps : Message F) → AreSums Xs ps → AllByRecursion (IsUnder f A n) Xs →
+    AllByRecursion (IsOpenUnder f A n) ps
+sums-OpenUnder f A n [] [] h u = tt
+sums-OpenUnder f A n [] (p ∷ ps) h u = absurd h
+sums-OpenUnder f A n (X ∷ Xs) [] h u = absurd h
+sums-OpenUnder f A n (X ∷ Xs) (Sum Y g ∷ ps) h u = (subst (λ (Z : Range). IsUnder f A n Z) (sym h.0) u.0, sums-OpenUnder f A n Xs ps h.1 u.1)
+sums-OpenUnder f A n (X ∷ Xs) (Listing Y items ∷ ps) h u = absurd h
+sums-OpenUnder f A n (X ∷ Xs) (Answer Y marks items ∷ ps) h u = absurd h
+
+follows-OpenUnder : {F : Type 0} {P : Peer} {f : List ℕ} → Ready P f → (n : ℕ) (p : Part F) (front : Message F) → RangesRise front → Follows p front →
+    IsSumUnder f P.items n p → AllByRecursion (IsOpenUnder f P.items n) front
+follows-OpenUnder {F} {P} {f} r n (Sum X g) front k (inl none) u = subst (AllByRecursion (IsOpenUnder f P.items n)) (sym none) tt
+follows-OpenUnder {F} {P} {f} r n (Sum X g) front k (inr (inl (items, one))) u = subst (AllByRecursion (IsOpenUnder f P.items n)) (sym one) (omega arith, tt)
+follows-OpenUnder {F} {P} {f} r n (Sum X g) front k (inr (inr (cs, some, sums))) u =
+    let within = ranges-IsWithin X.lower cs X.upper (sums-cuts X.lower cs X.upper front sums k) in
+    sums-OpenUnder f P.items n (cut_range X cs) front sums
+    (All-map (λ Y. IsWithin Y X) (IsUnder f P.items n) (λ Y w. within-IsUnder r n X Y w u) (cut_range X cs) within)
+follows-OpenUnder {F} {P} {f} r n (Listing X listed) front k (marks, items, one, count, fresh) u = subst (AllByRecursion (IsOpenUnder f P.items n)) (sym one) (tt, tt)
+follows-OpenUnder {F} {P} {f} r n (Answer X marks items) front k none u = subst (AllByRecursion (IsOpenUnder f P.items n)) (sym none) tt
+
+all-OpenUnder : {F : Type 0} {P : Peer} {f : List ℕ} → Ready P f → (n : ℕ) (left M : Message F) → SumsUnder f P.items n left → RangesRise M → FollowsAll left M →
+    AllByRecursion (IsOpenUnder f P.items n) M
+all-OpenUnder {F} {P} {f} r n [] M u k h = subst (AllByRecursion (IsOpenUnder f P.items n)) (sym h) tt
+all-OpenUnder {F} {P} {f} r n (p ∷ left) M u k (front, rest, is, follows, more) =
+    let both = rises_append front rest (subst RangesRise is k) in
+    subst (AllByRecursion (IsOpenUnder f P.items n)) (sym is)
+    (All-append (IsOpenUnder f P.items n) front rest (follows-OpenUnder r n p front both.0 follows u.0) (all-OpenUnder r n left rest u.1 both.1 more))
+
+pub All-kept : {X : Type 0} (P : X → Type 0) (q : X → Bool) (xs : List X) → AllByRecursion P xs → AllByRecursion P (filter q xs)
+All-kept P q [] h = tt
+All-kept P q (x ∷ xs) h = grind (arith, All-kept P q xs h.1)
+
+none_is : (o : Option ℕ) → is_none o ≡ true → o ≡ None
+none_is o e = grind arith
+
+IsSumUnder-from_open : {F : Type 0} (f : List ℕ) (A : List Item) (n : ℕ) (p : Part F) → IsOpenUnder f A n p → IsSumUnder f A n p
+IsSumUnder-from_open f A n p h = grind arith
+
+has_open-under : {F : Type 0} (f : List ℕ) (A : List Item) (n : ℕ) (M : Message F) → AllByRecursion (IsOpenUnder f A n) M → has_open M ≡ true → 0 < n
+has_open-under f A n [] h e = absurd (false≢true e)
+has_open-under f A n (Sum X g ∷ ps) h e = omega (arith, h.0)
+has_open-under f A n (Listing X items ∷ ps) h e = h.0
+has_open-under f A n (Answer X marks items ∷ ps) h e = has_open-under f A n ps h.1 e
+
+-- so the reply to what is heard compares ranges of lower ranks
+reply-under : {F : Type 0} (S : Summary F) (P : Peer) (f : List ℕ) → Ready P f → (n : ℕ) (M : Message F) → AllByRecursion (IsOpenUnder f P.items n) M →
+    SumsUnder f P.items (n - 1) (reply S P M)
+reply-under S P f r n M h = reply-own S P f r n M (All-map (IsOpenUnder f P.items n) (IsSumUnder f P.items n) (IsSumUnder-from_open f P.items n) M h)
+
+length-replies : {F : Type 0} (S : Summary F) (P : Peer) (f : List ℕ) → Ready P f → (n : ℕ) (sent : Message F) (Ms : List (Message F)) →
+    SumsUnder f P.items n sent → AllByRecursion RangesRise Ms → length (replies S P sent Ms) ≤ n
+length-replies S P f r n sent [] h k = omega arith
+length-replies {F} S P f r n sent (M ∷ Ms) h k =
+    cond_both (is_taken sent M && has_open M) (reply S P M ∷ replies S P (reply S P M) Ms) [] (λ Ns. length Ns ≤ n)
+    (λ e.
+    let some = and_parts (has_open sent && nat_le (length sent) max_parts && is_none (place_fault sent M)) (has_open M) e in
+    let fits = (and_parts (has_open sent && nat_le (length sent) max_parts) (is_none (place_fault sent M)) some.0).1 in
+    let heard = all-OpenUnder r n (open_parts sent) M (All-kept (IsSumUnder f P.items n) is_open sent h) k.0 (Placed-from_accepted sent M (none_is (place_fault sent M) fits)) in
+    omega (arith, has_open-under f P.items n M heard some.1, length-replies S P f r (n - 1) (reply S P M) Ms (reply-under S P f r n M heard) k.1))
+    (λ e. omega arith)
+
+pub initiator_stops : {F : Type 0} (S : Summary F) → InitiatorStops S
+initiator_stops S P f Ms r k = omega (arith, length-replies S P f r (rank f P + 1) (opening S P.items) Ms (whole-IsUnder r, tt) k)
+
+pub responder_stops : {F : Type 0} (S : Summary F) → ResponderStops S
+responder_stops S P f [] r k = omega arith
+responder_stops {F} S P f (M ∷ Ms) r k =
+    cond_both (is_none (opening_fault M)) (reply S P M ∷ replies S P (reply S P M) Ms) [] (λ Ns. length Ns ≤ rank f P + 1)
+    (λ e.
+    let opens = (opening_exact M).0 (none_is (opening_fault M) e) in
+    let heard = subst (AllByRecursion (IsOpenUnder f P.items (rank f P + 1))) (sym opens.1) (whole-IsUnder r, tt) in
+    omega (arith, length-replies S P f r (rank f P + 1 - 1) (reply S P M) Ms (reply-under S P f r (rank f P + 1) M heard) k.1))
+    (λ e. omega arith)
+
+-- ==== Each sender keeps its limit
+
+listed-le : (limit top n : ℕ) (rows : List Row) → list_all (keeps_limit limit) rows ≡ true → list_any (λ row. nat_le top row.upto) rows ≡ true → n ≤ top →
+    is_split (act_in rows n) ≡ false → n ≤ limit
+listed-le limit top n [] keeps covers h s = absurd (false≢true covers)
+listed-le limit top n (row ∷ rows) keeps covers h split =
+    let both = and_parts (keeps_limit limit row) (list_all (keeps_limit limit) rows) keeps in
+    cond_both (nat_le n row.upto) row.act (act_in rows n) (λ a. is_split a ≡ false → n ≤ limit)
+    (λ e s. grind arith)
+    (λ e s. elim (or_cases (nat_le top row.upto) (list_any (λ row. nat_le top row.upto) rows) covers) [
+      | inl t ↦ absurd (omega (arith, leb-false n row.upto e, leb-true top row.upto t))
+      | inr t ↦ listed-le limit top n rows both.1 t h s
+    ]) split
+
+-- no reply lists more than the limit
+pub replies_are_short : {F : Type 0} (S : Summary F) → RepliesAreShort S
+replies_are_short S P M t a room =
+    reply-each S P (λ p. ⊤) (IsShort P.table.limit) (λ X g h s. All-every (λ Y. ⊤) (λ Y. tt) (peer_cutup P X))
+    (λ X g h s. listed-le P.table.limit P.table.cap (length (items_in P.items X)) P.table.rows a.lists (covers P.table t) (omega (arith, length-items_in-le_all P.items X)) s)
+    (λ X items h. tt) M (All-every (λ p. ⊤) (λ p. tt) M)
+
+talk_from-KeepLimits : {F : Type 0} (S : Summary F) (P Q : Peer) (M : Message F) (k : ℕ) → IsTable P.table → Accepted P.table → IsTable Q.table → Accepted Q.table →
+    length P.items ≤ P.table.cap → length Q.items ≤ Q.table.cap → AllByRecursion (IsShort P.table.limit) M →
+    KeepLimits P.table.limit Q.table.limit (talk_from S P Q M k)
+talk_from-KeepLimits S P Q M zero s a t b i j h = tt
+talk_from-KeepLimits {F} S P Q M (suc k) s a t b i j h = (
+  h,
+  cond_both (has_open M) (talk_from S Q P (reply S Q M) k) [] (KeepLimits Q.table.limit P.table.limit)
+      (λ e. talk_from-KeepLimits S Q P (reply S Q M) k t b s a j i (replies_are_short S Q M t b j))
+      (λ e. tt),
+)
+
+pub lists_are_short : {F : Type 0} (S : Summary F) → ListsAreShort S
+lists_are_short S I R k t u a b i j = talk_from-KeepLimits S I R (opening S I.items) k t a u b i j (tt, tt)
+
+-- ---- one end
+
+replies-short : {F : Type 0} (S : Summary F) (P : Peer) → ((M : Message F) → AllByRecursion (IsShort P.table.limit) (reply S P M)) → (sent : Message F) (Ms : List (Message F)) →
+    AllByRecursion (AllByRecursion (IsShort P.table.limit)) (replies S P sent Ms)
+replies-short S P short sent [] = tt
+replies-short S P short sent (M ∷ Ms) = grind (arith, replies-short S P short (reply S P M) Ms)
+
+responder-short : {F : Type 0} (S : Summary F) (P : Peer) → ((M : Message F) → AllByRecursion (IsShort P.table.limit) (reply S P M)) → (Ms : List (Message F)) →
+    AllByRecursion (AllByRecursion (IsShort P.table.limit)) (responder_says S P Ms)
+responder-short S P short [] = tt
+responder-short S P short (M ∷ Ms) = grind (arith, cond_both, replies-short)
+
+pub ends_keep_limits : {F : Type 0} (S : Summary F) → EndsKeepLimits S
+ends_keep_limits S P Ms t a room = search (rules, replies_are_short, room, replies-short, responder-short)

@@ -1,0 +1,438 @@
+-- What may follow a message: the relation, the reading part by part, and ranges that do not overlap.
+use Rattle.std.proofs.Common.{rules, ◌≡◌, ℕ, Bool, true, false, not, ◌&&◌, List, [], ◌∷◌, ◌++◌, length, refl, sym, ap, inl, inr, arith, if◌then◌else◌, ◌<◌, subst, ◌∙◌, map, ◌≤◌, IsTrue, get_or, ◌⊎◌, Option, Some}
+use Rattle.std.specs.Prelude.{None, fold, IsFalse, ◌==◌, bytes_eq, ⊤}
+use Rattle.definitions.proofs.Words.{AllByRecursion, list_any, same_text, Item, Range, cut_range, same_range, same_upper, same_item, whole, Rises, Apart, comes_before, is_below, ranges_between, has, items_in, difference, Part, Sum, Listing, Answer, Message, open_parts, IsOpening, RangesRise, range_of, is_open, open_ranges, opening, AreSums, FollowsAll, Placed, Place, Behind, Refused, next, next_sum, next_answer, next_inside, finish, ends_before, placed_to, place_fault, opening_fault, Follows, CutsUp, Lists, Answers, misplaced, stall, gap, missing_answer, mark_count, answer_repeats, OpeningIsExact, PlacingIsExact, RepliesArePlaced, RepliesAreApart, PlacedAreApart, TalksAreApart, Summary, act, shares, is_split, IsRankTable, Peer, inner_cuts, cutup, sum_of, differing, answer_to, reply_to, reply}
+use Rattle.definitions.proofs.Lemmas.{none_passes, list_any-none, All-filter, not-true, not-false, eqb-true, and_parts, eq-eqb, false≢true, and_from, length-map, map-append, filter-append, same_range-eq, same_item-itself, same_range-itself, below-trans, before-irrefl, not_before-trans, before-asym, upto-below, All-map, All-append}
+use Rattle.laws.proofs.Cuts.{reply-rises, talk_from-All, length-items_in-le_all, span, CutsRise}
+
+-- ==== What the placing accepts part by part is placed
+
+-- a refusal stays
+refused : {F : Type 0} (code : ℕ) (M : Message F) → finish (fold next (Refused code) M) ≡ None → ⊥
+refused code [] h = cc
+refused code (p ∷ M) h = refused code M h
+
+-- the rest of a partition of Z, and then what may follow the parts that are left
+abbrev GoesOn : {F : Type 0} → Message F → Range → Message F → Type 0
+GoesOn {F} left Z M = (cuts : List (List ℕ)) × (front : Message F) × (rest : Message F) × (M ≡ front ++ rest) × AreSums (cut_range Z cuts) front × FollowsAll left rest
+
+-- the parts of M are accepted from here on
+abbrev pub Accepts : {F : Type 0} → Message F → Place F → Type 0
+Accepts M at = finish (fold next at M) ≡ None
+
+abbrev Outside : {F : Type 0} → Message F → Type 0
+Outside {F} M = (left : Message F) → Accepts M (Behind left None) → FollowsAll left M
+
+abbrev Inside : {F : Type 0} → Message F → Type 0
+Inside {F} M = (left : Message F) (Z : Range) → Accepts M (Behind left (Some Z)) → GoesOn left Z M
+
+-- by cases on a test
+if-cases : {X : Type 0} (P : X → Type 0) (C : Type 0) (b : Bool) (x y : X) → (b ≡ true → P x → C) → (b ≡ false → P y → C) → P (if b then x else y) → C
+if-cases P C b x y first second h = grind arith
+
+outside_none : {F : Type 0} → Outside {F = F} []
+outside_none [] h = refl
+outside_none (Sum X f ∷ left) h = ([], [], refl, inl refl, outside_none left h)
+outside_none (Listing X listed ∷ left) h = cc
+outside_none (Answer X marks items ∷ left) h = ([], [], refl, refl, outside_none left h)
+
+-- a partition that has come to u
+comes_to : {F : Type 0} (M : Message F) → Inside M → (left : Message F) (u y : Option (List ℕ)) → ends_before u y ≡ true →
+    Accepts M (placed_to left u y) → (z : List ℕ) × (u ≡ Some z) × GoesOn left (record { lower = z; upper = y }) M
+comes_to M ins left u y e h = grind arith
+
+-- one Sum more of a partition of Z
+one_more : {F : Type 0} (M : Message F) (left : Message F) (Z Y : Range) (g : F) → Y.lower ≡ Z.lower →
+    (z : List ℕ) × (Y.upper ≡ Some z) × GoesOn left (record { lower = z; upper = Z.upper }) M → GoesOn left Z (Sum Y g ∷ M)
+one_more M left Z Y g lower (z, upper, (cuts, front, rest, is, sums, follows)) =
+    let first : Y ≡ record { lower = Z.lower; upper = Some z } = λ i. record { lower = lower i; upper = upper i } in
+    (z ∷ cuts, Sum Y g ∷ front, rest, ap (λ ps. Sum Y g ∷ ps) is, (first, sums), follows)
+
+inside_sum : {F : Type 0} (M : Message F) → Outside M → Inside M → (left : Message F) (Z Y : Range) (g : F) →
+    Accepts M (next_inside left Z (Sum Y g)) → GoesOn left Z (Sum Y g ∷ M)
+inside_sum M out ins left Z Y g =
+    if-cases (Accepts M) _ (same_range Y Z) _ _
+    (λ e h. ([], Sum Y g ∷ [], M, refl, (same_range-eq Y Z e, tt), out left h))
+    (λ _. if-cases (Accepts M) _ (same_item Y.lower Z.lower && ends_before Y.upper Z.upper) _ _
+    (λ e h. search (rules, and_parts, one_more, comes_to))
+    (λ _ h. absurd (refused gap M h)))
+
+inside_more : {F : Type 0} (M : Message F) → Outside M → Inside M → (p : Part F) → Inside (p ∷ M)
+inside_more M out ins (Sum Y g) left Z h = inside_sum M out ins left Z Y g h
+inside_more M out ins (Listing Y items) left Z h = absurd (refused gap M h)
+inside_more M out ins (Answer Y marks items) left Z h = absurd (refused gap M h)
+
+outside_answer : {F : Type 0} (M : Message F) → Outside M → (left : Message F) (X : Range) (listed : List Item) (Y : Range) (marks : List Bool) (items : List Item) →
+    Accepts M (next_answer left X listed Y marks items) → FollowsAll (Listing X listed ∷ left) (Answer Y marks items ∷ M)
+outside_answer M out left X listed Y marks items =
+    if-cases (Accepts M) _ (not (same_range X Y)) _ _ (λ _ h. absurd (refused misplaced M h))
+    (λ range. if-cases (Accepts M) _ (not (length marks == length listed)) _ _ (λ _ h. absurd (refused mark_count M h))
+    (λ count. if-cases (Accepts M) _ (list_any (has listed) items) _ _ (λ _ h. absurd (refused answer_repeats M h))
+    (λ fresh h.
+    let is : X ≡ Y = same_range-eq X Y (not-false _ range) in
+    (Answer Y marks items ∷ [], M, refl, (marks, items, ap (λ Z. Answer Z marks items ∷ []) (sym is), eqb-true _ _ (not-false _ count), none_passes (has listed) items fresh), out left h))))
+
+-- the first Sum of a partition of X
+cut_up : {F : Type 0} (M : Message F) (left : Message F) (X Y : Range) (f g : F) → X.lower ≡ Y.lower →
+    (z : List ℕ) × (Y.upper ≡ Some z) × GoesOn left (record { lower = z; upper = X.upper }) M → FollowsAll (Sum X f ∷ left) (Sum Y g ∷ M)
+cut_up M left X Y f g lower (z, upper, (cuts, front, rest, is, sums, follows)) =
+    let first : Y ≡ record { lower = X.lower; upper = Some z } = λ i. record { lower = sym lower i; upper = upper i } in
+    (Sum Y g ∷ front, rest, ap (λ ps. Sum Y g ∷ ps) is, inr (inr (z ∷ cuts, omega arith, (first, sums))), follows)
+
+outside_sum : {F : Type 0} (M : Message F) → Inside M → (left : Message F) (X Y : Range) (f g : F) → X.lower ≡ Y.lower →
+    Accepts M (next_sum left X Y) → FollowsAll (Sum X f ∷ left) (Sum Y g ∷ M)
+outside_sum M ins left X Y f g lower =
+    if-cases (Accepts M) _ (same_upper X.upper Y.upper) _ _ (λ _ h. absurd (refused stall M h))
+    (λ _. if-cases (Accepts M) _ (ends_before Y.upper X.upper) _ _
+    (λ e h. cut_up M left X Y f g lower (comes_to M ins left Y.upper X.upper e h))
+    (λ _ h. absurd (refused misplaced M h)))
+
+outside_more : {F : Type 0} (M : Message F) → Outside M → Inside M → (p : Part F) → Outside (p ∷ M)
+outside_more M out ins p [] h = absurd (refused misplaced M h)
+outside_more M out ins (Answer Y marks items) (Listing X listed ∷ left) h = outside_answer M out left X listed Y marks items h
+outside_more M out ins (Sum Y g) (Listing X listed ∷ left) h = absurd (refused missing_answer M h)
+outside_more M out ins (Listing Y items) (Listing X listed ∷ left) h = absurd (refused missing_answer M h)
+outside_more M out ins (Listing Y items) (Sum X f ∷ left) h =
+    if-cases (Accepts M) _ (same_range X Y) _ _
+    (λ e h. (Listing Y items ∷ [], M, refl, inr (inl (items, ap (λ Z. Listing Z items ∷ []) (sym (same_range-eq X Y e)))), out left h))
+    (λ _ h. ([], Listing Y items ∷ M, refl, inl refl, outside_more M out ins (Listing Y items) left h)) h
+outside_more M out ins (Sum Y g) (Sum X f ∷ left) h =
+    if-cases (Accepts M) _ (same_item X.lower Y.lower) _ _
+    (λ e h. outside_sum M ins left X Y f g (same_text X.lower Y.lower (sym e)) h)
+    (λ _ h. ([], Sum Y g ∷ M, refl, inl refl, outside_more M out ins (Sum Y g) left h)) h
+outside_more M out ins (Answer Y marks items) (Sum X f ∷ left) h = ([], _, refl, inl refl, outside_more M out ins (Answer Y marks items) left h)
+outside_more M out ins p (Answer X marks items ∷ left) h = ([], _, refl, refl, outside_more M out ins p left h)
+
+both_sides : {F : Type 0} (M : Message F) → Outside M × Inside M
+both_sides [] = (outside_none, λ left Z h. cc)
+both_sides (p ∷ M) = grind (arith, both_sides M, outside_more, inside_more)
+
+-- what is accepted part by part is placed
+pub Placed-from_accepted : {F : Type 0} (sent M : Message F) → place_fault sent M ≡ None → Placed sent M
+Placed-from_accepted sent M h = (both_sides M).0 (open_parts sent) h
+
+-- ---- a first message
+
+opening-whole : {F : Type 0} (X : Range) (f : F) → same_range X whole ≡ true → IsOpening (Sum X f ∷ [])
+opening-whole X f e = (f, ap (λ Y. Sum Y f ∷ []) (same_range-eq X whole e))
+
+opening-accepted : {F : Type 0} (M : Message F) → opening_fault M ≡ None → IsOpening M
+opening-accepted [] h = absurd cc
+opening-accepted (Listing X items ∷ M) h = absurd (refused misplaced M h)
+opening-accepted (Answer X marks items ∷ M) h = absurd (refused misplaced M h)
+opening-accepted {F} (Sum X f ∷ []) h = grind (arith, if-cases, opening-whole, refused)
+opening-accepted (Sum X f ∷ p ∷ M) h =
+    if-cases (Accepts (p ∷ M)) _ (same_range X whole) (Behind [] None) (Refused misplaced) (λ _ more. absurd (refused misplaced M more)) (λ _ no. absurd (refused misplaced (p ∷ M) no)) h
+
+accepted-opening : {F : Type 0} (M : Message F) → IsOpening M → opening_fault M ≡ None
+accepted-opening M (f, is) = ap opening_fault is
+
+pub opening_exact : {F : Type 0} → OpeningIsExact F
+opening_exact M = (opening-accepted M, accepted-opening M)
+
+-- ==== What is placed is accepted part by part
+
+false_from : (b : Bool) → (b ≡ true → ⊥) → b ≡ false
+false_from b h = grind arith
+
+-- a lower bound is not the one that it is before
+other_lower : (x y : List ℕ) → comes_before x y ≡ true → bytes_eq x y ≡ false
+other_lower x y h = false_from _ (λ e. let same : x ≡ y = same_text x y (sym e) in false≢true (sym (before-irrefl x) ∙ subst (λ z. comes_before x z ≡ true) (sym same) h))
+
+-- the bound at the end of a chain of rising ranges is above its beginning
+pub chain_below : {F : Type 0} (x : List ℕ) (cuts : List (List ℕ)) (y : Option (List ℕ)) (ps : Message F) →
+    AreSums (ranges_between x cuts y) ps → RangesRise ps → is_below x y ≡ true
+chain_below x [] y [] h r = absurd h
+chain_below x [] y (p ∷ ps) h r = grind (arith)
+chain_below x (cut ∷ cuts) y [] h r = absurd h
+chain_below x (cut ∷ cuts) y (Sum Y f ∷ ps) h r = grind (arith, chain_below cut cuts y ps h.1 r.1, cut, below-trans)
+chain_below x (cut ∷ cuts) y (Listing Y items ∷ ps) h r = absurd h
+chain_below x (cut ∷ cuts) y (Answer Y marks items ∷ ps) h r = absurd h
+
+if-true : {X : Type 0} (b : Bool) (x y : X) → b ≡ true → (if b then x else y) ≡ x
+if-true b x y h = cc
+
+upper_differs : (cut : List ℕ) (y : Option (List ℕ)) → is_below cut y ≡ true → same_upper (Some cut) y ≡ false
+upper_differs cut None h = refl
+upper_differs cut (Some y) h = other_lower cut y h
+
+-- a partition of Z goes on to cut, or ends
+next_inside-more : {F : Type 0} (left : Message F) (Z : Range) (cut : List ℕ) (f : F) → is_below cut Z.upper ≡ true →
+    next (Behind left (Some Z)) (Sum (record { lower = Z.lower; upper = Some cut }) f) ≡ Behind left (Some (record { lower = cut; upper = Z.upper }))
+next_inside-more left Z cut f h = grind (arith, upper_differs, cut, if-true, and_from, same_item-itself)
+
+inside_accepted : {F : Type 0} (left : Message F) (z : List ℕ) (cuts : List (List ℕ)) (y : Option (List ℕ)) (front rest : Message F) →
+    AreSums (ranges_between z cuts y) front → RangesRise front → Accepts rest (Behind left None) →
+    Accepts (front ++ rest) (Behind left (Some (record { lower = z; upper = y })))
+inside_accepted left z [] y [] rest h r a = absurd h
+inside_accepted left z [] y (Sum Y f ∷ []) rest h r a = search rules
+inside_accepted left z [] y (Sum Y f ∷ p ∷ ps) rest h r a = absurd h.1
+inside_accepted left z [] y (p ∷ ps) rest h r a = grind (arith)
+inside_accepted left z (cut ∷ cuts) y [] rest h r a = absurd h
+inside_accepted left z (cut ∷ cuts) y (Sum Y f ∷ ps) rest h r a =
+    let goes : is_below cut y ≡ true = chain_below cut cuts y ps h.1 r.1 in
+    subst (λ (Z : Range). Accepts (ps ++ rest) (next (Behind left (Some (record { lower = z; upper = y }))) (Sum Z f))) (sym h.0)
+    (subst (Accepts (ps ++ rest)) (sym (next_inside-more left (record { lower = z; upper = y }) cut f goes))
+    (inside_accepted left cut cuts y ps rest h.1 r.1 a))
+inside_accepted left z (cut ∷ cuts) y (Listing Y items ∷ ps) rest h r a = absurd h
+inside_accepted left z (cut ∷ cuts) y (Answer Y marks items ∷ ps) rest h r a = absurd h
+
+-- the first Sum of a partition of X
+next_sum-first : {F : Type 0} (left : Message F) (X : Range) (cut : List ℕ) (f g : F) → is_below cut X.upper ≡ true →
+    next (Behind (Sum X f ∷ left) None) (Sum (record { lower = X.lower; upper = Some cut }) g) ≡ Behind left (Some (record { lower = cut; upper = X.upper }))
+next_sum-first left X cut f g h = search (rules, if-true, same_item-itself, cut, false_from, false≢true, before-irrefl)
+
+-- the message does not begin with an open part at this bound
+abbrev BeginsElsewhere : {F : Type 0} → List ℕ → Message F → Type 0
+BeginsElsewhere x [] = ⊤
+BeginsElsewhere x (Sum Y f ∷ ps) = bytes_eq x Y.lower ≡ false
+BeginsElsewhere x (Listing Y items ∷ ps) = bytes_eq x Y.lower ≡ false
+BeginsElsewhere x (Answer Y marks items ∷ ps) = ⊤
+
+skipped : {F : Type 0} (left : Message F) (X : Range) (f : F) (M : Message F) → BeginsElsewhere X.lower M → Accepts M (Behind left None) → Accepts M (Behind (Sum X f ∷ left) None)
+skipped left X f M e a = grind arith
+
+elsewhere : {F : Type 0} (x : List ℕ) (left M : Message F) → AllByRecursion (λ p. bytes_eq x (range_of p).lower ≡ false) left → FollowsAll left M → BeginsElsewhere x M
+elsewhere x [] M e h = subst (BeginsElsewhere x) (sym h) tt
+elsewhere x (Sum Y g ∷ left) M e (front, rest, is, inl none, more) =
+    subst (BeginsElsewhere x) (sym (is ∙ ap (λ ps. ps ++ rest) none)) (elsewhere x left rest e.1 more)
+elsewhere x (Sum Y g ∷ left) M e (front, rest, is, inr (inl (items, one)), more) =
+    subst (BeginsElsewhere x) (sym (is ∙ ap (λ ps. ps ++ rest) one)) e.0
+elsewhere {F = F} x (Sum Y g ∷ left) M e (front, rest, is, inr (inr (cuts, some, sums)), more) =
+    subst (BeginsElsewhere x) (sym is) (first_sum cuts front some sums)
+  where
+    first_sum : (cuts : List (List ℕ)) (ps : Message F) → 0 < length cuts → AreSums (cut_range Y cuts) ps → BeginsElsewhere x (ps ++ rest)
+    first_sum [] ps some sums = absurd (omega arith)
+    first_sum (cut ∷ cuts) [] some sums = absurd sums
+    first_sum (cut ∷ cuts) (Sum Z f ∷ ps) some sums = subst (λ (W : Range). bytes_eq x W.lower ≡ false) (sym sums.0) e.0
+    first_sum (cut ∷ cuts) (Listing Z items ∷ ps) some sums = absurd sums
+    first_sum (cut ∷ cuts) (Answer Z marks items ∷ ps) some sums = absurd sums
+elsewhere x (Listing Y listed ∷ left) M e (front, rest, is, (marks, items, one, count, fresh), more) =
+    subst (BeginsElsewhere x) (sym (is ∙ ap (λ ps. ps ++ rest) one)) tt
+elsewhere x (Answer Y marks items ∷ left) M e (front, rest, is, none, more) =
+    subst (BeginsElsewhere x) (sym (is ∙ ap (λ ps. ps ++ rest) none)) (elsewhere x left rest e.1 more)
+
+pub rises_append : {F : Type 0} (ps qs : Message F) → RangesRise (ps ++ qs) → RangesRise ps × RangesRise qs
+rises_append [] qs h = (tt, h)
+rises_append (p ∷ ps) qs h = let both = rises_append ps qs h.1 in ((h.0, both.0), both.1)
+
+-- no later range begins where X does
+later_elsewhere : {F : Type 0} (X : Range) (left : Message F) → Rises X → AllByRecursion (λ Y. IsFalse (is_below Y.lower X.upper)) (map range_of left) →
+    AllByRecursion (λ p. bytes_eq X.lower (range_of p).lower ≡ false) left
+later_elsewhere X [] r h = tt
+later_elsewhere X (p ∷ left) r h = (
+  false_from _ (λ e. let same : X.lower ≡ (range_of p).lower = same_text X.lower (range_of p).lower (sym e) in
+      let clash : true ≡ false = sym (subst (λ z. is_below z X.upper ≡ true) same r) ∙ h.0 in cc),
+  later_elsewhere X left r h.1,
+)
+
+next_answer-placed : {F : Type 0} (left : Message F) (X : Range) (listed items : List Item) (marks : List Bool) →
+    length marks ≡ length listed → AllByRecursion (λ x. IsFalse (has listed x)) items →
+    next (Behind (Listing X listed ∷ left) None) (Answer X marks items) ≡ Behind left None
+next_answer-placed left X listed items marks count fresh = grind (arith, same_range-itself, eq-eqb, list_any-none)
+
+past_answer : {F : Type 0} (left M : Message F) (X : Range) (marks : List Bool) (items : List Item) →
+    Accepts M (Behind left None) → Accepts M (Behind (Answer X marks items ∷ left) None)
+past_answer left [] X marks items a = a
+past_answer left (p ∷ M) X marks items a = a
+
+cut_accepted : {F : Type 0} (left : Message F) (X : Range) (f : F) (cuts : List (List ℕ)) (front rest : Message F) → 0 < length cuts →
+    AreSums (cut_range X cuts) front → RangesRise front → Accepts rest (Behind left None) → Accepts (front ++ rest) (Behind (Sum X f ∷ left) None)
+cut_accepted left X f [] front rest some sums r a = absurd (omega arith)
+cut_accepted left X f (cut ∷ cuts) [] rest some sums r a = absurd sums
+cut_accepted left X f (cut ∷ cuts) (Sum Y g ∷ ps) rest some sums r a =
+    let goes : is_below cut X.upper ≡ true = chain_below cut cuts X.upper ps sums.1 r.1 in
+    subst (λ (Z : Range). Accepts (ps ++ rest) (next (Behind (Sum X f ∷ left) None) (Sum Z g))) (sym sums.0)
+    (subst (Accepts (ps ++ rest)) (sym (next_sum-first left X cut f g goes))
+    (inside_accepted left cut cuts X.upper ps rest sums.1 r.1 a))
+cut_accepted left X f (cut ∷ cuts) (Listing Y items ∷ ps) rest some sums r a = absurd sums
+cut_accepted left X f (cut ∷ cuts) (Answer Y marks items ∷ ps) rest some sums r a = absurd sums
+
+-- what is placed behind parts whose ranges do not overlap is accepted
+accepted : {F : Type 0} (left M : Message F) → Apart (map range_of left) → RangesRise M → FollowsAll left M → Accepts M (Behind left None)
+accepted [] M apart r h = subst (λ ms. Accepts ms (Behind [] None)) (sym h) refl
+accepted (p ∷ left) M apart r (front, rest, is, follows, more) =
+    let both = rises_append front rest (subst RangesRise is r) in
+    subst (λ ms. Accepts ms (Behind (p ∷ left) None)) (sym is)
+    (behind_one p left front rest apart both.0 follows more (accepted left rest apart.2 both.1 more))
+  where
+    behind_one : {F : Type 0} (p : Part F) (left front rest : Message F) → Apart (map range_of (p ∷ left)) → RangesRise front → Follows p front → FollowsAll left rest →
+        Accepts rest (Behind left None) → Accepts (front ++ rest) (Behind (p ∷ left) None)
+    behind_one (Sum X f) left front rest apart r (inl none) more a =
+        subst (λ ps. Accepts (ps ++ rest) (Behind (Sum X f ∷ left) None)) (sym none)
+        (skipped left X f rest (elsewhere X.lower left rest (later_elsewhere X left apart.0 apart.1) more) a)
+    behind_one (Sum X f) left front rest apart r (inr (inl (items, one))) more a =
+        subst (λ ps. Accepts (ps ++ rest) (Behind (Sum X f ∷ left) None)) (sym one)
+        (subst (Accepts rest) (sym (if-true _ _ _ (same_range-itself X))) a)
+    behind_one (Sum X f) left front rest apart r (inr (inr (cuts, some, sums))) more a = cut_accepted left X f cuts front rest some sums r a
+    behind_one (Listing X listed) left front rest apart r (marks, items, one, count, fresh) more a =
+        subst (λ ps. Accepts (ps ++ rest) (Behind (Listing X listed ∷ left) None)) (sym one)
+        (subst (Accepts rest) (sym (next_answer-placed left X listed items marks count fresh)) a)
+    behind_one (Answer X marks items) left front rest apart r none more a =
+        subst (λ ps. Accepts (ps ++ rest) (Behind (Answer X marks items ∷ left) None)) (sym none) (past_answer left rest X marks items a)
+
+-- the placing part by part accepts exactly what is placed
+pub placing_is_exact : (F : Type 0) → PlacingIsExact F
+placing_is_exact F sent M apart r = (Placed-from_accepted sent M, accepted (open_parts sent) M apart r)
+
+-- ==== An honest reply is placed
+
+-- what is not listed is answered alone
+not_listed : (xs listed : List Item) → AllByRecursion (λ x. IsFalse (has listed x)) (difference xs listed)
+not_listed xs listed = All-map _ _ (λ x e. not-true _ e) (difference xs listed) (All-filter (λ x. not (has listed x)) xs)
+
+sums-AreSums : {F : Type 0} (S : Summary F) (A : List Item) (Xs : List Range) → AreSums Xs (map (sum_of S A) Xs)
+sums-AreSums S A [] = tt
+sums-AreSums S A (X ∷ Xs) = (refl, sums-AreSums S A Xs)
+
+-- two shares or more have a cut
+some_cut : {X : Type 0} (g : ℕ → X) (sizes : List ℕ) → 2 ≤ length sizes → 0 < length (map g (inner_cuts 0 sizes))
+some_cut g [] h = absurd (omega arith)
+some_cut g (s ∷ []) h = absurd (omega arith)
+some_cut g (s ∷ t ∷ ss) h = omega arith
+
+-- a range that differs is listed or cut up
+differing-Follows : {F : Type 0} (S : Summary F) (P : Peer) (X : Range) (n : ℕ) (b : Bool) →
+    (IsTrue b → 2 ≤ length (shares P.table n)) →
+    Lists X (if b then map (sum_of S P.items) (cutup P.items X (shares P.table n)) else Listing X (items_in P.items X) ∷ [])
+    ⊎ CutsUp X (if b then map (sum_of S P.items) (cutup P.items X (shares P.table n)) else Listing X (items_in P.items X) ∷ [])
+differing-Follows S P X n true h =
+    inr (map (λ place. get_or (items_in P.items X) place []) (inner_cuts 0 (shares P.table n)), some_cut _ (shares P.table n) (h refl), sums-AreSums S P.items _)
+differing-Follows S P X n false h = inl (items_in P.items X, refl)
+
+-- the reply to an open part is what may follow it
+reply_to-Follows : {F : Type 0} (S : Summary F) (P : Peer) (f : List ℕ) → IsRankTable P.table f → length P.items ≤ P.table.cap →
+    (X : Range) (g : F) → Follows (Sum X g) (reply_to S P (Sum X g))
+reply_to-Follows S P f ranks room X g =
+    let n = length (items_in P.items X) in
+    let in_cap : n ≤ P.table.cap = omega (arith, length-items_in-le_all P.items X) in
+    elim (S.same (S.of (items_in P.items X)) g) as (λ b. Follows (Sum X g) (if b then [] else differing S P X)) [
+      | true ↦ inl refl
+      | false ↦ inr (differing-Follows S P X n (is_split (act P.table n)) (λ s. (ranks.descends n in_cap s).0))
+    ]
+
+answer_to-Answers : {F : Type 0} (A : List Item) (X : Range) (listed : List Item) → Answers X listed (answer_to {F = F} A X listed ∷ [])
+answer_to-Answers A X listed = (map (λ x. not (has A x)) listed, difference (items_in A X) listed, refl, length-map listed _, not_listed (items_in A X) listed)
+
+-- an honest reply is placed
+pub replies_are_placed : {F : Type 0} (S : Summary F) → RepliesArePlaced S
+replies_are_placed S P f [] ranks room = refl
+replies_are_placed S P f (Sum X g ∷ ps) ranks room = (reply_to S P (Sum X g), reply S P ps, refl, reply_to-Follows S P f ranks room X g, replies_are_placed S P f ps ranks room)
+replies_are_placed S P f (Listing X listed ∷ ps) ranks room = (reply_to S P (Listing X listed), reply S P ps, refl, answer_to-Answers P.items X listed, replies_are_placed S P f ps ranks room)
+replies_are_placed S P f (Answer X marks items ∷ ps) ranks room = replies_are_placed S P f ps ranks room
+
+-- ==== What a reply opens does not overlap, and what a placed message opens does not
+
+-- ---- ranges
+
+-- Y begins no earlier than X and ends no later
+abbrev IsPiece : Range → Range → Type 0
+IsPiece X Y = (comes_before Y.lower X.lower ≡ false) × ((z : Item) → is_below z Y.upper ≡ true → is_below z X.upper ≡ true)
+
+-- Y begins where u is, or behind it
+abbrev IsBehind : Option (List ℕ) → Range → Type 0
+IsBehind u Y = is_below Y.lower u ≡ false
+
+-- and the pieces of what is behind a bound are behind it
+piece_behind : (u : Option (List ℕ)) (X Y : Range) → IsPiece X Y → IsBehind u X → IsBehind u Y
+piece_behind u X Y p behind = false_from _ (λ e. false≢true (sym behind ∙ upto-below X.lower Y.lower u p.0 e))
+
+itself : (X : Range) → IsPiece X X
+itself X = (before-irrefl X.lower, λ z h. h)
+
+Apart-append : (Xs Ys : List Range) → Apart Xs → Apart Ys → AllByRecursion (λ X. AllByRecursion (IsBehind X.upper) Ys) Xs → Apart (Xs ++ Ys)
+Apart-append [] Ys a b h = b
+Apart-append (X ∷ Xs) Ys a b h = (a.0, All-append (IsBehind X.upper) Xs Ys a.1 h.0, Apart-append Xs Ys a.2 b h.1)
+
+-- ---- the ranges of a cut
+
+ranges-behind : (u : Option (List ℕ)) (x : List ℕ) (cs : List (List ℕ)) (y : Option (List ℕ)) → CutsRise x cs y → is_below x u ≡ false → AllByRecursion (IsBehind u) (ranges_between x cs y)
+ranges-behind u x [] y rise h = (h, tt)
+ranges-behind u x (c ∷ cs) y rise h =
+    (h, ranges-behind u c cs y rise.2 (false_from _ (λ e. false≢true (sym h ∙ below-trans x c u rise.0 e))))
+
+ranges-Apart : (x : List ℕ) (cs : List (List ℕ)) (y : Option (List ℕ)) → is_below x y ≡ true → CutsRise x cs y → Apart (ranges_between x cs y)
+ranges-Apart x [] y h rise = (h, tt, tt)
+ranges-Apart x (c ∷ cs) y h rise = (rise.0, ranges-behind (Some c) c cs y rise.2 (before-irrefl c), ranges-Apart c cs y rise.1 rise.2)
+
+ranges-pieces : (x : List ℕ) (cs : List (List ℕ)) (y : Option (List ℕ)) → CutsRise x cs y → AllByRecursion (IsPiece (span x y)) (ranges_between x cs y)
+ranges-pieces x [] y rise = (itself (span x y), tt)
+ranges-pieces x (c ∷ cs) y rise = grind (arith, ranges-pieces c cs y rise.2, before-irrefl, below-trans, All-map, not_before-trans, before-asym)
+
+-- ---- what belongs to one open range, and then to the others
+
+-- ranges apart, each a piece of X
+record ArePieces (X : Range) (Ys : List Range) : Type 0 where
+  apart : Apart Ys
+  pieces : AllByRecursion (IsPiece X) Ys
+
+no_pieces : (X : Range) → ArePieces X []
+no_pieces X = record { apart = tt; pieces = tt }
+
+one_piece : (X : Range) → Rises X → ArePieces X (X ∷ [])
+one_piece X h = record { apart = (h, tt, tt); pieces = (itself X, tt) }
+
+cut_pieces : (X : Range) (cs : List (List ℕ)) → Rises X → CutsRise X.lower cs X.upper → ArePieces X (cut_range X cs)
+cut_pieces X cs h rise = record { apart = ranges-Apart X.lower cs X.upper h rise; pieces = ranges-pieces X.lower cs X.upper rise }
+
+-- for each of the ranges its pieces, in order
+abbrev PiecesOf : List Range → List Range → Type 0
+PiecesOf [] Zs = Zs ≡ []
+PiecesOf (X ∷ Xs) Zs = (Ys : List Range) × (rest : List Range) × (Zs ≡ Ys ++ rest) × ArePieces X Ys × PiecesOf Xs rest
+
+pieces-behind : (u : Option (List ℕ)) (Xs Zs : List Range) → PiecesOf Xs Zs → AllByRecursion (IsBehind u) Xs → AllByRecursion (IsBehind u) Zs
+pieces-behind u [] Zs h b = subst (AllByRecursion (IsBehind u)) (sym h) tt
+pieces-behind u (X ∷ Xs) Zs (Ys, rest, is, p, more) b = grind (arith, pieces-behind u Xs rest more b.1, All-append, All-map, piece_behind)
+
+pieces-Apart : (Xs Zs : List Range) → PiecesOf Xs Zs → Apart Xs → Apart Zs
+pieces-Apart [] Zs h a = subst Apart (sym h) tt
+pieces-Apart (X ∷ Xs) Zs (Ys, rest, is, p, more) a = grind (arith, pieces-Apart Xs rest more a.2, pieces-behind, Apart-append, All-map)
+
+-- ---- open ranges
+
+open_ranges-append : {F : Type 0} (M N : Message F) → open_ranges (M ++ N) ≡ open_ranges M ++ open_ranges N
+open_ranges-append M N = ap (map range_of) (filter-append is_open M N) ∙ map-append range_of (open_parts M) (open_parts N)
+
+-- ---- placed messages
+
+pub sums-cuts : {F : Type 0} (x : List ℕ) (cs : List (List ℕ)) (y : Option (List ℕ)) (ps : Message F) → AreSums (ranges_between x cs y) ps → RangesRise ps → CutsRise x cs y
+sums-cuts x [] y ps h r = tt
+sums-cuts x (c ∷ cs) y [] h r = absurd h
+sums-cuts x (c ∷ cs) y (Sum Y f ∷ ps) h r = (subst Rises h.0 r.0, chain_below c cs y ps h.1 r.1, sums-cuts c cs y ps h.1 r.1)
+sums-cuts x (c ∷ cs) y (Listing Y items ∷ ps) h r = absurd h
+sums-cuts x (c ∷ cs) y (Answer Y marks items ∷ ps) h r = absurd h
+
+sums-open : {F : Type 0} (Xs : List Range) (ps : Message F) → AreSums Xs ps → open_ranges ps ≡ Xs
+sums-open [] [] h = refl
+sums-open [] (p ∷ ps) h = absurd h
+sums-open (X ∷ Xs) [] h = absurd h
+sums-open (X ∷ Xs) (Sum Y f ∷ ps) h = ap (λ Z. Z ∷ open_ranges ps) h.0 ∙ ap (λ Zs. X ∷ Zs) (sums-open Xs ps h.1)
+sums-open (X ∷ Xs) (Listing Y items ∷ ps) h = absurd h
+sums-open (X ∷ Xs) (Answer Y marks items ∷ ps) h = absurd h
+
+follows-pieces : {F : Type 0} (p : Part F) (front : Message F) → Rises (range_of p) → RangesRise front → Follows p front → ArePieces (range_of p) (open_ranges front)
+follows-pieces p front h r none = grind (arith, no_pieces, one_piece, sums-open, cut_pieces, sums-cuts)
+
+all-pieces : {F : Type 0} (left M : Message F) → Apart (map range_of left) → RangesRise M → FollowsAll left M → PiecesOf (map range_of left) (open_ranges M)
+all-pieces [] M a r h = ap open_ranges h
+all-pieces (p ∷ left) M a r (front, rest, is, follows, more) =
+    let both = rises_append front rest (subst RangesRise is r) in
+    (open_ranges front, open_ranges rest, ap open_ranges is ∙ open_ranges-append front rest, follows-pieces p front a.0 both.0 follows, all-pieces left rest a.2 both.1 more)
+
+pub placed_are_apart : {F : Type 0} → PlacedAreApart F
+placed_are_apart sent M a r h = pieces-Apart (open_ranges sent) (open_ranges M) (all-pieces (open_parts sent) M a r h) a
+
+-- ---- replies, which are placed
+
+open-rise : {F : Type 0} (M : Message F) → Apart (open_ranges M) → AllByRecursion (λ p. is_open p ≡ true → Rises (range_of p)) M
+open-rise [] a = tt
+open-rise (Sum X g ∷ ps) a = (λ e. a.0, open-rise ps a.2)
+open-rise (Listing X items ∷ ps) a = (λ e. a.0, open-rise ps a.2)
+open-rise (Answer X marks items ∷ ps) a = (λ e. absurd (false≢true e), open-rise ps a)
+
+pub replies_are_apart : {F : Type 0} (S : Summary F) → RepliesAreApart S
+replies_are_apart S P f M r a = placed_are_apart M (reply S P M) a (reply-rises S P f r M (open-rise M a)) (replies_are_placed S P f M r.ranks r.room)
+
+pub talks_are_apart : {F : Type 0} (S : Summary F) → TalksAreApart S
+talks_are_apart S I R f g k i r =
+    talk_from-All S (λ N. Apart (open_ranges N)) I R (λ M a. replies_are_apart S I f M i a) (λ M a. replies_are_apart S R g M r a) (opening S I.items) k (refl, tt, tt)
