@@ -1,5 +1,6 @@
 -- What a reader of bytes returns, beside what reading on lists gives.
 --     fault_number f             the number of a fault
+--     decode_error_number e      the number of a refusal, 90 where memory ran out
 --     GivesField, Gives, Fails   the same value or the same fault, unless memory ran out
 --     IfFault                    something of the fault's number
 use Rattle.std.specs.Prelude.{◌≡◌, ℕ, Result, Ok, Err, ⊤}
@@ -21,6 +22,10 @@ fault_number ItemOutside = codes.item_outside
 fault_number MarkPadding = codes.mark_padding
 fault_number Trailing = codes.trailing
 fault_number TooManyParts = codes.too_many_parts
+
+abbrev pub decode_error_number : DecodeError → ℕ
+decode_error_number (errors.Fault f) = fault_number f
+decode_error_number errors.Memory = codes.no_memory
 
 abbrev pub GivesField : {X Y : Type 0} → (X → Y) → Result X WireFault → Result Y ℕ → Type 0
 GivesField view (Ok x) read = read ≡ Ok (view x)

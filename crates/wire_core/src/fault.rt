@@ -1,5 +1,5 @@
 ghost use Rattle.std.specs.Prelude.{◌≡◌};
-ghost use Rattle.wire_core.specs.Refused.{fault_number};
+ghost use Rattle.wire_core.specs.Refused.{fault_number, decode_error_number};
 ghost use Rattle.wire_core.specs.PartFaults.{part_fault_number};
 ghost use Rattle.wire_core.specs.declared.fault.DecodeError.TheVariants as errors;
 
@@ -84,6 +84,18 @@ pub enum DecodeError {
     Fault(WireFault),
     /// Memory ran out.
     Memory,
+}
+
+impl DecodeError {
+    /// The number of the refusal: 2 to 12, or 90.
+    pub fn number(self) -> u8
+        ensures { result ≡ decode_error_number self }
+    {
+        match self {
+            DecodeError::Fault(fault) => fault.number(),
+            DecodeError::Memory => 90,
+        }
+    }
 }
 
 impl From<WireFault> for DecodeError {

@@ -73,6 +73,17 @@ impl Part {
         Part::checked(range, Body::List(items))
     }
 
+    /// The sender's items in the range, which are known to rise and to lie in it. Nothing is tested.
+    pub fn listing(range: Range, items: Vec<Item>) -> Part
+        requires { IsPart two_lane_profile (Listing range items.items) }
+        ensures { result ≡ Listing range items.items }
+    {
+        Part {
+            range,
+            body: Body::List(items),
+        }
+    }
+
     /// The marks for the items of a list that is answered, and the sender's items in the range that the list had not.
     ///
     /// Refused as a list is.

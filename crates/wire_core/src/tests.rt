@@ -1,6 +1,6 @@
 use crate::{
-    DecodeError, Marks, Message, Part, PartFault, Watched, decode_message, encode_message,
-    encode_part,
+    DecodeError, Marks, Message, Part, PartFault, TooManyParts, Watched, decode_message,
+    encode_message, encode_part,
 };
 use digest_core::{Fingerprint, Summary};
 use item_core::{Item, Range, Upper};
@@ -21,24 +21,40 @@ fn range_before(rt: &impl Abort, bytes: &[u8]) -> Range {
         .expect(rt, "a range")
 }
 
-/// The number of the fault; none where the bytes spell a message.
-fn fault_in(rt: &impl Abort, alloc: Global, bytes: &[u8]) -> Option<u8> {
-    match decode_message(alloc, bytes) {
-        Ok(_) => None,
-        Err(DecodeError::Fault(fault)) => Some(fault.number()),
-        Err(DecodeError::Memory) => panic!(rt; "memory"),
-    }
+/// The number of the refusal; none where the bytes spell a message.
+fn fault_in(alloc: Global, bytes: &[u8]) -> Option<u8> {
+    decode_message(alloc, bytes).err().map(DecodeError::number)
 }
 
 #[test]
 fn edges_of_the_frame_length(rt: HostRuntime) -> Result<(), Fail> {
     let alloc = rt.alloc();
-    assert_eq!(rt; fault_in(&rt, alloc, &[0, 0, 0, 0]), Some(2));
-    assert_eq!(rt; fault_in(&rt, alloc, &[0, 0x80, 0, 1]), Some(2));
+    assert_eq!(rt; fault_in(alloc, &[0, 0, 0, 0]), Some(2));
+    assert_eq!(rt; fault_in(alloc, &[0, 0x80, 0, 1]), Some(2));
     let mut longest = vec![in alloc; 0u8; 4 + 8_388_608]?;
     longest[1] = 0x80;
-    assert_eq!(rt; fault_in(&rt, alloc, &longest), Some(4));
+    assert_eq!(rt; fault_in(alloc, &longest), Some(4));
     Ok(())
+}
+
+#[test]
+fn hello_of_another_profile(rt: HostRuntime) {
+    // One message has no hello: the four bytes of one are a frame's length.
+    let bytes = [0x52, 0x52, 0x53, 0x31, 0, 0, 0, 1, 4];
+    assert_eq!(rt; fault_in(rt.alloc(), &bytes), Some(2));
+}
+
+#[test]
+fn counts_that_the_body_cannot_hold(rt: HostRuntime) {
+    let alloc = rt.alloc();
+    let items = [0, 0, 0, 7, 2, 0, 0xFF, 0xFF, 0xFF, 0xFF, 0xFF];
+    let two_of_one = [0, 0, 0, 9, 2, 0, 0xFF, 0, 0, 0, 2, 1, 0x61];
+    let marks = [0, 0, 0, 8, 3, 0, 0xFF, 0xFF, 0xFF, 0xFF, 0xFF, 0];
+    let items_answered = [0, 0, 0, 11, 3, 0, 0xFF, 0, 0, 0, 0, 0xFF, 0xFF, 0xFF, 0xFF];
+    assert_eq!(rt; fault_in(alloc, &items), Some(2));
+    assert_eq!(rt; fault_in(alloc, &two_of_one), Some(2));
+    assert_eq!(rt; fault_in(alloc, &marks), Some(2));
+    assert_eq!(rt; fault_in(alloc, &items_answered), Some(2));
 }
 
 #[test]
@@ -47,9 +63,9 @@ fn faults_of_items(rt: HostRuntime) -> Result<(), Fail> {
     let falling = [0, 0, 0, 0x0B, 2, 0, 0xFF, 0, 0, 0, 2, 1, 0x62, 1, 0x61];
     let twice = [0, 0, 0, 0x0B, 2, 0, 0xFF, 0, 0, 0, 2, 1, 0x61, 1, 0x61];
     let outside = [0, 0, 0, 0x0A, 2, 0, 1, 0x62, 0, 0, 0, 1, 1, 0x62];
-    assert_eq!(rt; fault_in(&rt, alloc, &falling), Some(8));
-    assert_eq!(rt; fault_in(&rt, alloc, &twice), Some(8));
-    assert_eq!(rt; fault_in(&rt, alloc, &outside), Some(9));
+    assert_eq!(rt; fault_in(alloc, &falling), Some(8));
+    assert_eq!(rt; fault_in(alloc, &twice), Some(8));
+    assert_eq!(rt; fault_in(alloc, &outside), Some(9));
 
     let (a, b) = (item(&rt, b"a"), item(&rt, b"b"));
     let whole = Range::whole();
@@ -65,7 +81,7 @@ fn faults_of_items(rt: HostRuntime) -> Result<(), Fail> {
 #[test]
 fn unused_mark_bit(rt: HostRuntime) {
     let bytes = [0, 0, 0, 0x0C, 3, 0, 0xFF, 0, 0, 0, 1, 2, 0, 0, 0, 0];
-    assert_eq!(rt; fault_in(&rt, rt.alloc(), &bytes), Some(10));
+    assert_eq!(rt; fault_in(rt.alloc(), &bytes), Some(10));
 }
 
 #[test]
@@ -85,7 +101,112 @@ fn both_empty(rt: HostRuntime) -> Result<(), Fail> {
     assert_eq!(rt; text.as_slice(), bytes.as_slice());
     assert_eq!(rt; decode_message(alloc, &bytes), Ok(message));
     text.push(0)?;
-    assert_eq!(rt; fault_in(&rt, alloc, &text), Some(11), "trailing byte");
+    assert_eq!(rt; fault_in(alloc, &text), Some(11), "trailing byte");
+    Ok(())
+}
+
+#[test]
+fn lanes_that_begin_with_zeros(rt: HostRuntime) -> Result<(), Fail> {
+    let alloc = rt.alloc();
+    let mut lanes = [0u8; 32];
+    lanes[15] = 1;
+    lanes[30] = 2;
+    let part = Part::sum(Range::whole(), Fingerprint::from_bytes(lanes));
+    let mut bytes = [0u8; 39];
+    bytes[3] = 0x23;
+    bytes[4] = 1;
+    bytes[6] = 0xFF;
+    bytes[22] = 1;
+    bytes[37] = 2;
+    let mut text = encode_part(alloc, &part)?;
+    assert_eq!(rt; text.as_slice(), bytes.as_slice());
+    text.extend_from_slice(&[0, 0, 0, 1, 4])?;
+    let message = decode_message(alloc, &text).ok().expect(&rt, "a message");
+    assert_eq!(rt; message.parts(), [part].as_slice());
+    Ok(())
+}
+
+#[test]
+fn few_marks(rt: HostRuntime) -> Result<(), Fail> {
+    let alloc = rt.alloc();
+    // How many marks, all of them set, and the bytes that hold them.
+    let cases: [(usize, &[u8]); 5] = [
+        (0, &[]),
+        (1, &[1]),
+        (7, &[0x7F]),
+        (8, &[0xFF]),
+        (9, &[0xFF, 1]),
+    ];
+    for (count, held) in cases {
+        let marks = Marks::new(alloc, &[true; 9][..count])?;
+        assert_eq!(rt; marks.bytes(), held, "of {count}");
+        let part = Part::answer(Range::whole(), marks, Vec::new(alloc))
+            .ok()
+            .expect(&rt, "a part");
+        let mut text = encode_part(alloc, &part)?;
+        assert_eq!(rt; text.len(), 15 + held.len(), "of {count}");
+        text.extend_from_slice(&[0, 0, 0, 1, 4])?;
+        let message = decode_message(alloc, &text).ok().expect(&rt, "a message");
+        assert_eq!(rt; message.parts(), [part].as_slice(), "of {count}");
+    }
+    Ok(())
+}
+
+/// So many marks.
+fn marks_of(rt: &impl Abort, alloc: Global, count: usize) -> Result<Marks, Fail> {
+    let mut marks: Vec<bool> = Vec::with_capacity(alloc, count)?;
+    for _ in 0..count {
+        marks.push(true)?;
+    }
+    assert!(rt; marks.len() < 4_294_967_296);
+    Ok(Marks::new(alloc, &marks)?)
+}
+
+#[test]
+fn most_marks(rt: HostRuntime) -> Result<(), Fail> {
+    let alloc = rt.alloc();
+    // A body of 11 bytes and a byte for each 8 marks.
+    let most = Part::answer(
+        Range::whole(),
+        marks_of(&rt, alloc, 67_108_776)?,
+        Vec::new(alloc),
+    );
+    assert!(rt; most.is_ok());
+    let more = Part::answer(
+        Range::whole(),
+        marks_of(&rt, alloc, 67_108_777)?,
+        Vec::new(alloc),
+    );
+    assert_eq!(rt; more.err().map(PartFault::number), Some(2));
+    Ok(())
+}
+
+/// So many Sums of no items over everything.
+fn many_sums(alloc: Global, count: u32) -> Result<Vec<Part>, Fail> {
+    let mut parts: Vec<Part> = Vec::new(alloc);
+    for _ in 0..count {
+        parts.push(Part::sum(Range::whole(), Fingerprint::zero()))?;
+    }
+    Ok(parts)
+}
+
+#[test]
+fn most_parts(rt: HostRuntime) -> Result<(), Fail> {
+    let alloc = rt.alloc();
+    let one_more = Message::new(many_sums(alloc, 131_073)?);
+    assert_eq!(rt; one_more.err().map(TooManyParts::number), Some(12));
+    let most = Message::new(many_sums(alloc, 131_072)?)
+        .ok()
+        .expect(&rt, "a message");
+    let mut text = encode_message(alloc, &most)?;
+    assert_eq!(rt; text.len(), 39 * 131_072 + 5);
+    assert!(rt; decode_message(alloc, &text) == Ok(most));
+
+    // One Sum more in front: the frame of the end is now behind 131,073 parts.
+    let first = encode_part(alloc, &Part::sum(Range::whole(), Fingerprint::zero()))?;
+    text.extend_from_slice(&first)?;
+    text.rotate_right(39);
+    assert_eq!(rt; fault_in(alloc, &text), Some(12));
     Ok(())
 }
 
@@ -196,5 +317,10 @@ fn the_end_of_the_input(rt: HostRuntime) -> Result<(), Fail> {
     assert!(rt; !reader.ended());
     assert_eq!(rt; reader.read(&mut room)?, 0);
     assert!(rt; reader.ended() && !reader.failed());
+    let shown = format!(in rt.alloc(); "{reader:?}")?;
+    assert_eq!(rt;
+        shown.as_str(),
+        "Watched { inner: [], failed: false, ended: true }"
+    );
     Ok(())
 }

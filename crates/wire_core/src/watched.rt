@@ -8,7 +8,7 @@ use std::io::{Read, Write};
 use std::marker::Model;
 
 /// A reader or a writer that passes each call on, and tells whether one failed and whether the input ended.
-#[derive(Drop)]
+#[derive(Debug, Drop)]
 pub struct Watched<T> {
     inner: T,
     failed: bool,
