@@ -1,0 +1,5 @@
+pub use Rattle.definitions.specs.Strategies
+pub use Rattle.definitions.specs.Ranks
+pub use Rattle.definitions.specs.Climbs
+pub use Rattle.definitions.specs.Refusals
+pub mod Refused

@@ -1,0 +1,5 @@
+pub mod Shares
+pub mod Rows
+pub mod Readings
+pub mod Tables
+pub mod Spares

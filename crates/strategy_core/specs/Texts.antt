@@ -1,0 +1,136 @@
+-- What a TOML table says of a strategy, and what a text does. The tests stand in the order in which they are made: the first
+-- that fails is the fault.
+--     table_in members           the strategy of a table, or the fault
+--     IsTextOf text said         the text is TOML, and its table says this
+use Rattle.std.specs.Prelude.{◌≡◌, ℕ, suc, ◌-◌, ℤ, pos, negsuc, codes, Bool, true, false, ◌&&◌, nat_lt, nat_le, nat_eq, List, [], ◌∷◌, length, map, slice_index, Option, Some, None, Result, Ok, Err, IsUtf8}
+use Rattle.toml.specs.Parse.{parse_document}
+use Rattle.toml.specs.Data.{Data, Items, no_items, item, Members, get_member, as_integer, as_bool, as_array, as_table}
+use Rattle.definitions.specs.Strategies.{Table, Row, Act, List_items, Split}
+use Rattle.strategy_core.specs.declared.fault.StrategyFault.{StrategyFault}
+use Rattle.strategy_core.specs.declared.fault.StrategyFault.TheVariants.{Missing, BadNumber, RowOrder, RowAction, CapMismatch}
+use Rattle.strategy_core.specs.declared.field.Field.{Field}
+use Rattle.strategy_core.specs.declared.field.Field.TheVariants as fields
+
+infixl 10 ◌>>=◌
+abbrev pub ◌>>=◌ : {A B : Type 0} → Result A StrategyFault → (A → Result B StrategyFault) → Result B StrategyFault
+(Ok x) >>= f = f x
+(Err e) >>= f = Err e
+
+-- the value that is there, else this fault
+abbrev pub present : {A : Type 0} → StrategyFault → Option A → Result A StrategyFault
+present fault None = Err fault
+present fault (Some x) = Ok x
+
+-- the value, if the test holds, else this fault
+abbrev pub provided : {A : Type 0} → Bool → StrategyFault → A → Result A StrategyFault
+provided true fault x = Ok x
+provided false fault x = Err fault
+
+-- ---- numbers
+
+abbrev pub key_of : Field → List ℕ
+key_of fields.Cap = codes "cap"
+key_of fields.Limit = codes "limit"
+key_of fields.Rounds = codes "rounds"
+key_of fields.Row = codes "row"
+key_of fields.Upto = codes "upto"
+
+abbrev pub member_at : Members → Field → Result Data StrategyFault
+member_at ms field = present (Missing field) (get_member (key_of field) ms)
+
+abbrev pub in_span : ℕ → ℕ → ℤ → Result ℕ StrategyFault
+in_span low high (pos n) = provided (nat_le low n && nat_le n high) BadNumber n
+in_span low high (negsuc n) = Err BadNumber
+
+-- a whole number of low to high
+abbrev pub number_in : ℕ → ℕ → Data → Result ℕ StrategyFault
+number_in low high d = present BadNumber (as_integer d) >>= in_span low high
+
+abbrev pub number_at : Members → Field → ℕ → ℕ → Result ℕ StrategyFault
+number_at ms field low high = member_at ms field >>= number_in low high
+
+-- ---- rows
+
+abbrev pub weights_in : Items → Result (List ℕ) StrategyFault
+weights_in no_items = Ok []
+weights_in (item d ds) = number_in 1 1024 d >>= λ w. weights_in ds >>= λ ws. Ok (w ∷ ws)
+
+abbrev pub items_count : Items → ℕ
+items_count no_items = 0
+items_count (item d ds) = suc (items_count ds)
+
+abbrev pub array_in : Data → Result Items StrategyFault
+array_in d = present RowAction (as_array d)
+
+-- an array of 2 to 64 values
+abbrev pub few_in : Data → Result Items StrategyFault
+few_in d = array_in d >>= λ ds. provided (nat_le 2 (items_count ds) && nat_le (items_count ds) 64) RowAction ds
+
+-- an array of 2 to 64 weights
+abbrev pub split_in : Data → Result Act StrategyFault
+split_in d = few_in d >>= λ ds. weights_in ds >>= λ weights. Ok (Split weights)
+
+-- the word true
+abbrev pub list_in : Data → Result Act StrategyFault
+list_in d = present RowAction (as_bool d) >>= λ yes. provided yes RowAction List_items
+
+-- what is under the keys list and split: exactly one of them
+abbrev pub act_under : Option Data → Option Data → Result Act StrategyFault
+act_under (Some list) None = list_in list
+act_under None (Some split) = split_in split
+act_under (Some list) (Some split) = Err RowAction
+act_under None None = Err RowAction
+
+abbrev pub is_above : ℕ → Option ℕ → Bool
+is_above n None = true
+is_above n (Some before) = nat_lt before n
+
+-- the upto of a row behind one of this upto
+abbrev pub upto_in : ℕ → Option ℕ → Members → Result ℕ StrategyFault
+upto_in cap before ms = number_at ms fields.Upto 0 cap >>= λ upto. provided (is_above upto before) RowOrder upto
+
+abbrev pub act_at : Members → Result Act StrategyFault
+act_at ms = act_under (get_member (codes "list") ms) (get_member (codes "split") ms)
+
+abbrev pub row_at : ℕ → Option ℕ → Members → Result Row StrategyFault
+row_at cap before ms = do
+  upto ← upto_in cap before ms
+  act ← act_at ms
+  Ok (record { upto = upto; act = act })
+
+-- a table that is a row behind one of this upto
+abbrev pub row_in : ℕ → Option ℕ → Data → Result Row StrategyFault
+row_in cap before d = present RowAction (as_table d) >>= row_at cap before
+
+-- the rows behind one of this upto
+abbrev pub rows_in : ℕ → Option ℕ → Items → Result (List Row) StrategyFault
+rows_in cap before no_items = Ok []
+rows_in cap before (item d ds) = row_in cap before d >>= λ row. rows_in cap (Some row.upto) ds >>= λ rows. Ok (row ∷ rows)
+
+-- an array of at least one
+abbrev pub entries_at : Members → Result Items StrategyFault
+entries_at ms = member_at ms fields.Row >>= λ d. array_in d >>= λ ds. provided (nat_lt 0 (items_count ds)) (Missing fields.Row) ds
+
+abbrev pub last_upto : List Row → ℕ
+last_upto rows = slice_index (map (λ row. row.upto) rows) (length rows - 1)
+
+-- ---- a strategy
+
+abbrev pub table_in : Members → Result Table StrategyFault
+table_in ms = do
+  cap ← number_at ms fields.Cap 1 65536
+  limit ← number_at ms fields.Limit 0 cap
+  rounds ← number_at ms fields.Rounds 0 255
+  entries ← entries_at ms
+  rows ← rows_in cap None entries
+  provided (nat_eq (last_upto rows) cap) CapMismatch (record { cap = cap; limit = limit; rounds = rounds; rows = rows })
+
+-- UTF-8 in which TOML has this table
+abbrev pub IsDocument : List ℕ → Members → Type 0
+IsDocument text ms = IsUtf8 text × (parse_document text ≡ Some ms)
+
+abbrev pub IsText : List ℕ → Type 0
+IsText text = (ms : Members) × IsDocument text ms
+
+abbrev pub IsTextOf : List ℕ → Result Table StrategyFault → Type 0
+IsTextOf text said = (ms : Members) × IsDocument text ms × (table_in ms ≡ said)

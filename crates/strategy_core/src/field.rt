@@ -1,0 +1,32 @@
+ghost use Rattle.std.specs.Prelude.{◌≡◌};
+ghost use Rattle.strategy_core.specs.Texts.{key_of};
+
+/// A key that a strategy text must have.
+#[derive(Clone, Copy, Debug, PartialEq, Eq)]
+pub enum Field {
+    /// The greatest number of items.
+    Cap,
+    /// The length of the longest list.
+    Limit,
+    /// The greatest rank.
+    Rounds,
+    /// The rows.
+    Row,
+    /// The greatest number of items that a row serves.
+    Upto,
+}
+
+impl Field {
+    /// The key, as the text has it.
+    pub fn key(self) -> &'static str
+        ensures { result.now ≡ key_of self }
+    {
+        match self {
+            Field::Cap => "cap",
+            Field::Limit => "limit",
+            Field::Rounds => "rounds",
+            Field::Row => "row",
+            Field::Upto => "upto",
+        }
+    }
+}

@@ -1,0 +1,17 @@
+//! Strategy tables: read from TOML, and asked what is done with a range of so many items.
+#![tactic(auto)]
+
+mod act;
+mod fault;
+mod field;
+mod reading;
+mod row;
+mod strategy;
+#[cfg(test)]
+mod tests;
+mod weights;
+
+pub use act::{Act, Cutting};
+pub use fault::{StrategyError, StrategyFault};
+pub use field::Field;
+pub use strategy::Strategy;

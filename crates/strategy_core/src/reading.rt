@@ -1,0 +1,214 @@
+//! What a TOML table says of a strategy, test by test.
+
+ghost use Rattle.std.specs.Prelude.{◌≡◌, ◌≤◌, IfOk, None, length, option_map};
+ghost use Rattle.toml.specs.View.{table_view, view, array_view};
+ghost use Rattle.toml.specs.Data.{get_member};
+ghost use Rattle.strategy_core.specs.Texts.{IsDocument, IsText, key_of, member_at, number_in, number_at, weights_in, array_in, few_in, split_in, list_in, act_at, row_in, upto_in, rows_in, entries_at, last_upto, table_in};
+ghost use Rattle.strategy_core.specs.Refused.{Gives, GivesField, Opens};
+ghost use Rattle.strategy_core.specs.Rules.{act_of};
+
+use crate::fault::{StrategyError, StrategyFault};
+use crate::field::Field;
+use crate::row::{Row, Rule};
+use crate::strategy::Strategy;
+use crate::weights::Weights;
+use std::alloc::Global;
+use toml::value::{Array, Table, Value};
+
+/// The greatest cap of a strategy.
+const MAX_CAP: u32 = 65_536;
+
+/// The most rounds of a strategy.
+const MAX_ROUNDS: u32 = 255;
+
+/// The most weights of a row.
+const MAX_WEIGHTS: usize = 64;
+
+/// The greatest weight.
+const MAX_WEIGHT: u32 = 1_024;
+
+/// The table that a text is.
+pub fn document(alloc: Global, text: &[u8]) -> Result<Table, StrategyError>
+    ensures { Opens result text.now }
+{
+    match toml::table_from_slice(alloc, text) {
+        Ok(table) => Ok(table),
+        Err(error) if error.is_memory() => Err(StrategyError::Memory),
+        Err(_) => Err(StrategyError::Fault(StrategyFault::NotToml)),
+    }
+}
+
+/// The value under a key.
+fn member<'a>(table: &'a Table, key: &str) -> Option<&'a Value>
+    ensures { option_map (λ v. view v.now) result ≡ get_member key.now (table_view table.now) }
+{
+    table.get(key)
+}
+
+/// The value under a key that must be there.
+fn field(table: &Table, field: Field) -> Result<&Value, StrategyFault>
+    ensures { GivesField (λ v. view v.now) result (member_at (table_view table.now) field) }
+{
+    match member(table, field.key()) {
+        Some(value) => Ok(value),
+        None => Err(StrategyFault::Missing(field)),
+    }
+}
+
+/// A whole number of `low` to `high`.
+fn number_of(value: &Value, low: u32, high: u32) -> Result<u32, StrategyFault>
+    ensures number { result ≡ number_in low high (view value.now) }
+    ensures span { IfOk result (λ n. (low ≤ n) × (n ≤ high)) }
+{
+    let Some(whole) = value.as_integer() else {
+        return Err(StrategyFault::BadNumber);
+    };
+    if i64::from(low) <= whole && whole <= i64::from(high) {
+        return Ok(whole as u32);
+    }
+    Err(StrategyFault::BadNumber)
+}
+
+/// A whole number of `low` to `high` under a key.
+fn number(table: &Table, key: Field, low: u32, high: u32) -> Result<u32, StrategyFault>
+    ensures number { result ≡ number_at (table_view table.now) key low high }
+    ensures span { IfOk result (λ n. (low ≤ n) × (n ≤ high)) }
+{
+    number_of(field(table, key)?, low, high)
+}
+
+/// The array that a value is.
+fn array_of(value: &Value) -> Result<&Array, StrategyFault>
+    ensures { GivesField (λ array. array_view array.now) result (array_in (view value.now)) }
+{
+    value.as_array().ok_or(StrategyFault::RowAction)
+}
+
+/// The array of 2 to 64 values that a value is.
+fn few_of(value: &Value) -> Result<&Array, StrategyFault>
+    ensures array { GivesField (λ array. array_view array.now) result (few_in (view value.now)) }
+    ensures few { IfOk result (λ array. (2 ≤ length array.now.items) × (length array.now.items ≤ 64)) }
+{
+    let array = array_of(value)?;
+    if array.len() < 2 || array.len() > MAX_WEIGHTS {
+        return Err(StrategyFault::RowAction);
+    }
+    Ok(array)
+}
+
+/// The weights of an array of 2 to 64.
+fn weights_of(alloc: Global, array: &Array) -> Result<Weights, StrategyError>
+    requires { (2 ≤ length array.now.items) × (length array.now.items ≤ 64) }
+    ensures { Gives (λ weights. weights) result (weights_in (array_view array.now)) }
+{
+    let mut weights = Vec::new(alloc);
+    let mut total = 0;
+    for value in array {
+        let weight = number_of(value, 1, MAX_WEIGHT)?;
+        total += weight;
+        weights.push(weight)?;
+    }
+    Ok(Weights::new(weights, total))
+}
+
+/// The weights under `split`.
+fn split_of(alloc: Global, value: &Value) -> Result<Rule, StrategyError>
+    ensures { Gives act_of result (split_in (view value.now)) }
+{
+    Ok(Rule::Split(weights_of(alloc, few_of(value)?)?))
+}
+
+/// The word `true` under `list`.
+fn list_of(value: &Value) -> Result<Rule, StrategyError>
+    ensures { Gives act_of result (list_in (view value.now)) }
+{
+    match value.as_bool() {
+        Some(true) => Ok(Rule::List),
+        _ => Err(StrategyError::Fault(StrategyFault::RowAction)),
+    }
+}
+
+/// What a row does: exactly one of `list` and `split` is there.
+fn rule_of(alloc: Global, entry: &Table) -> Result<Rule, StrategyError>
+    ensures { Gives act_of result (act_at (table_view entry.now)) }
+{
+    match (member(entry, "list"), member(entry, "split")) {
+        (Some(list), None) => list_of(list),
+        (None, Some(split)) => split_of(alloc, split),
+        _ => Err(StrategyError::Fault(StrategyFault::RowAction)),
+    }
+}
+
+/// The `upto` of a row behind one of this `upto`.
+fn upto_of(entry: &Table, cap: u32, before: Option<u32>) -> Result<u32, StrategyFault>
+    ensures { result ≡ upto_in cap before (table_view entry.now) }
+{
+    let upto = number(entry, Field::Upto, 0, cap)?;
+    if before.is_some_and(|before| upto <= before) {
+        return Err(StrategyFault::RowOrder);
+    }
+    Ok(upto)
+}
+
+/// A row behind one of this `upto`.
+fn row_of(alloc: Global, entry: &Value, cap: u32, before: Option<u32>) -> Result<Row, StrategyError>
+    ensures { Gives (λ row. row) result (row_in cap before (view entry.now)) }
+{
+    let Some(entry) = entry.as_table() else {
+        return Err(StrategyError::Fault(StrategyFault::RowAction));
+    };
+    let upto = upto_of(entry, cap, before)?;
+    Ok(Row::new(upto, rule_of(alloc, entry)?))
+}
+
+/// The rows of an array.
+fn rows_of(alloc: Global, entries: &Array, cap: u32) -> Result<Vec<Row>, StrategyError>
+    ensures { Gives (λ rows. rows.items) result (rows_in cap None (array_view entries.now)) }
+{
+    let mut rows = Vec::new(alloc);
+    let mut before = None;
+    for entry in entries {
+        let row = row_of(alloc, entry, cap, before)?;
+        before = Some(row.upto());
+        rows.push(row)?;
+    }
+    Ok(rows)
+}
+
+/// The array of rows, which is not empty.
+fn entries(table: &Table) -> Result<&Array, StrategyFault>
+    ensures { GivesField (λ array. array_view array.now) result (entries_at (table_view table.now)) }
+{
+    let array = array_of(field(table, Field::Row)?)?;
+    if array.is_empty() {
+        return Err(StrategyFault::Missing(Field::Row));
+    }
+    Ok(array)
+}
+
+/// The last `upto`.
+fn last_upto(rows: &[Row]) -> u32
+    ensures { result ≡ last_upto rows.now }
+{
+    rows.last().map_or(0, Row::upto)
+}
+
+/// The strategy of a table, or the first fault.
+pub fn strategy_of(alloc: Global, table: &Table) -> Result<Strategy, StrategyError>
+    ensures { Gives (λ strategy. strategy) result (table_in (table_view table.now)) }
+{
+    let cap = number(table, Field::Cap, 1, MAX_CAP)?;
+    let limit = number(table, Field::Limit, 0, cap)?;
+    let rounds = number(table, Field::Rounds, 0, MAX_ROUNDS)?;
+    let array = entries(table)?;
+    let rows = rows_of(alloc, array, cap)?;
+    if last_upto(&rows) != cap {
+        return Err(StrategyError::Fault(StrategyFault::CapMismatch));
+    }
+    Ok(Strategy {
+        cap,
+        limit,
+        rounds,
+        rows,
+    })
+}
