@@ -5,6 +5,10 @@ pub use Rattle.definitions.specs.Wire
 pub use Rattle.definitions.specs.Faults
 pub use Rattle.store_core.specs.Flat
 pub use Rattle.wire_core.specs.Refused
+pub use Rattle.definitions.specs.Placing
+pub use Rattle.definitions.specs.Talks
+pub mod Learning
+pub mod Cutting
 pub mod ListPeer
 pub mod Inputs
 pub mod Answered

@@ -64,10 +64,7 @@ fn reply_to(alloc: Global, store: &FlatStore, part: &Part) -> Result<Option<Part
     if store.sum(range) == *sum {
         return Ok(None);
     }
-    match Part::list(*range, store.items(alloc, range)?) {
-        Ok(listing) => Ok(Some(listing)),
-        Err(_) => unreachable!(),
-    }
+    Ok(Some(Part::listing(*range, store.items(alloc, range)?)))
 }
 
 /// The reply to a message under the table that lists every range, by the items of the store.

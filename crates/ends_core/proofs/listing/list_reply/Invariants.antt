@@ -1,5 +1,5 @@
 use Rattle.std.proofs.Common.{◌≡◌, ◌≤◌, length, take}
-use Rattle.std.specs.Prelude.{flat_map, IsTrue}
+use Rattle.std.specs.Prelude.{IsTrue}
 use Rattle.definitions.specs.Fingerprints.{two_lanes}
 use Rattle.definitions.specs.Replies as replies
 use Rattle.store_core.specs.Flat.{flat_items}

@@ -1,0 +1,139 @@
+//! The cursor: where the placing of a message stands in the message that it answers.
+
+ghost use Rattle.std.specs.Prelude.{◌≡◌, drop};
+ghost use Rattle.std.specs.List.{list_any};
+ghost use Rattle.definitions.specs.Fingerprints.{Lanes};
+ghost use Rattle.definitions.specs.Messages.{Message, open_parts};
+ghost use Rattle.definitions.specs.Placing as placing;
+ghost use Rattle.place_core.specs.PlaceFaults.{fault_in};
+ghost use Rattle.place_core.specs.Cursors.{place_at, refusal_of};
+
+use crate::fault::PlaceFault;
+use crate::fit::{Fit, meet, rest_behind};
+use item_core::Range;
+use wire_core::{Part, PartKind};
+
+/// Where the placing of a message stands in the own message that it answers. Each call is lent the parts of that
+/// message, so that a cursor can be kept beside it. No call takes memory.
+#[derive(Clone, Copy, Debug, PartialEq, Eq)]
+pub enum Cursor {
+    /// Nothing has come of the first message of all, which answers none.
+    First,
+    /// The own parts before a place are done, and inside a partition this of its range is still to come.
+    Behind(usize, Option<Range>),
+    /// The message is refused.
+    Refused(PlaceFault),
+}
+
+impl Cursor {
+    /// Before the first part of a message that answers an own message.
+    pub fn start() -> Cursor
+        ensures { (sent : Message Lanes) → place_at sent result ≡ placing.behind sent }
+    {
+        Cursor::Behind(0, None)
+    }
+
+    /// Places the next part. A refusal stays.
+    pub fn next(&mut self, sent: &[Part], part: &Part) -> Result<(), PlaceFault>
+        ensures place { place_at sent.now self.new ≡ placing.next (place_at sent.now self.old) part.now }
+        ensures fault { fault_in result ≡ refusal_of (place_at sent.now self.new) }
+    {
+        *self = match *self {
+            Cursor::First => next_first(sent, part),
+            Cursor::Behind(at, None) => next_outside(sent, at, part),
+            Cursor::Behind(at, Some(rest)) => next_inside(at, &rest, part),
+            Cursor::Refused(fault) => Cursor::Refused(fault),
+        };
+        self.refused()
+    }
+
+    /// The refusal, if there is one.
+    fn refused(&self) -> Result<(), PlaceFault>
+        ensures { (sent : Message Lanes) → fault_in result ≡ refusal_of (place_at sent self.now) }
+    {
+        match self {
+            Cursor::Refused(fault) => Err(*fault),
+            _ => Ok(()),
+        }
+    }
+
+    /// Whether the message may end here.
+    pub fn finish(&self, sent: &[Part]) -> Result<(), PlaceFault>
+        ensures { fault_in result ≡ placing.finish (place_at sent.now self.now) }
+    {
+        match self {
+            Cursor::First => Err(PlaceFault::Misplaced),
+            Cursor::Behind(_, Some(_)) => Err(PlaceFault::Gap),
+            Cursor::Behind(at, None) => finish_outside(rest_of(sent, *at)),
+            Cursor::Refused(fault) => Err(*fault),
+        }
+    }
+}
+
+/// The parts from a place on.
+fn rest_of(sent: &[Part], at: usize) -> &[Part]
+    ensures { result.now ≡ drop at sent.now }
+{
+    &sent[at.min(sent.len())..]
+}
+
+/// Whether a part is a List.
+fn has_list(parts: &[Part]) -> bool
+    ensures { result ≡ list_any placing.is_list parts.now }
+{
+    parts.iter().any(|part| part.kind() == PartKind::List)
+}
+
+/// Outside a partition no List may be left without an Answer.
+fn finish_outside(left: &[Part]) -> Result<(), PlaceFault>
+    ensures { fault_in result ≡ placing.finish (placing.placed (open_parts left.now)) }
+{
+    if has_list(left) {
+        return Err(PlaceFault::MissingAnswer);
+    }
+    Ok(())
+}
+
+/// The first part of all: a Sum over everything, behind which nothing may come.
+fn next_first(sent: &[Part], part: &Part) -> Cursor
+    ensures { place_at sent.now result ≡ placing.next_first part.now }
+{
+    if part.kind() == PartKind::Sum && *part.range() == Range::whole() {
+        Cursor::Behind(sent.len(), None)
+    } else {
+        Cursor::Refused(PlaceFault::Misplaced)
+    }
+}
+
+/// Outside a partition the own parts are looked at in order.
+fn next_outside(sent: &[Part], start: usize, part: &Part) -> Cursor
+    ensures { place_at sent.now result ≡ placing.next_outside (open_parts (drop start sent.now)) part.now }
+{
+    let mut at = start;
+    'skipped: while let Some(own) = sent.get(at) {
+        at += 1;
+        match meet(own, part) {
+            Fit::Skipped => {}
+            Fit::Placed(inside) => return Cursor::Behind(at, inside),
+            Fit::Refused(fault) => return Cursor::Refused(fault),
+        }
+    }
+    Cursor::Refused(PlaceFault::Misplaced)
+}
+
+/// Inside a partition, of which a rest is still to come.
+fn next_inside(at: usize, rest: &Range, part: &Part) -> Cursor
+    ensures { (sent : Message Lanes) → place_at sent result ≡ placing.next_inside (open_parts (drop at sent)) rest.now part.now }
+{
+    if part.kind() != PartKind::Sum {
+        return Cursor::Refused(PlaceFault::Gap);
+    }
+    let range = part.range();
+    if range == rest {
+        return Cursor::Behind(at, None);
+    }
+    match rest_behind(range, rest) {
+        Some(inside) if range.lower() == rest.lower() => Cursor::Behind(at, Some(inside)),
+        _ => Cursor::Refused(PlaceFault::Gap),
+    }
+}

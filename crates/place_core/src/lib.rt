@@ -1,0 +1,17 @@
+//! Placing: whether a message may follow the message that it answers, told part by part.
+#![tactic(auto)]
+
+mod cursor;
+mod fault;
+mod fit;
+mod listed;
+mod place;
+mod placing;
+#[cfg(test)]
+mod tests;
+
+pub use cursor::Cursor;
+pub use fault::PlaceFault;
+pub use listed::is_listed;
+pub use place::Place;
+pub use placing::{place_message, place_opening};

@@ -1,0 +1,50 @@
+//! Placing a whole message.
+
+ghost use Rattle.std.specs.Prelude.{◌≡◌, ◌↔◌, IsOk, fold};
+ghost use Rattle.definitions.specs.Items.{Apart};
+ghost use Rattle.definitions.specs.Messages.{RangesRise, IsOpening, open_ranges};
+ghost use Rattle.definitions.specs.Placing as placing;
+ghost use Rattle.place_core.specs.PlaceFaults.{fault_in};
+
+use crate::fault::PlaceFault;
+use crate::place::Place;
+use digest_core::Fingerprint;
+use wire_core::{Message, Part};
+
+/// Places each of the parts. Of parts behind a refusal nothing is looked at.
+fn place_parts(place: &mut Place<'_>, parts: &[Part])
+    ensures place { place.new ≡ fold placing.next place.old parts.now }
+    ensures rise { RangesRise parts.now }
+{
+    for part in parts {
+        // reading it tells that it rises
+        let _ = part.range();
+        let _ = place.next(part);
+    }
+}
+
+/// Whether the message may follow the own message that it answers.
+///
+/// Refused 20 to 25 by the first thing that is out of place.
+pub fn place_message(sent: &Message, message: &Message) -> Result<(), PlaceFault>
+    ensures fault { fault_in result ≡ placing.place_fault sent.now message.now }
+    ensures placed { Apart (open_ranges sent.now) → IsOk result ↔ placing.Placed sent.now message.now }
+{
+    laws::placing_is_exact::<Fingerprint>();
+    let mut place = Place::after(sent);
+    place_parts(&mut place, message.parts());
+    place.finish()
+}
+
+/// Whether the message may be the first of all: one Sum over everything.
+///
+/// Refused 20 else.
+pub fn place_opening(message: &Message) -> Result<(), PlaceFault>
+    ensures fault { fault_in result ≡ placing.opening_fault message.now }
+    ensures opening { IsOk result ↔ IsOpening message.now }
+{
+    laws::opening_is_exact::<Fingerprint>();
+    let mut place = Place::opening();
+    place_parts(&mut place, message.parts());
+    place.finish()
+}
