@@ -1,7 +1,8 @@
 -- Why a run is refused, by what refused, and its status.
---     of_answer, of_input, of_decoding, of_listing      the fault of what a lower call answers
+--     of_answer, of_input, of_decoding, of_listing, of_settings, of_check      the fault of what a lower call answers
+--     IsWordsStatus f status                            the status of a call whose words ask for nothing that is done
 --     status_of f                                       the status of a run that ends so
-use Rattle.std.specs.Prelude.{ℕ}
+use Rattle.std.specs.Prelude.{ℕ, ◌≡◌, ◌⊎◌}
 use Rattle.wire_core.specs.declared.fault.DecodeError.{DecodeError}
 use Rattle.wire_core.specs.declared.fault.DecodeError.TheVariants as errors
 use Rattle.ends_core.specs.declared.input.InputFault.{InputFault}
@@ -10,8 +11,14 @@ use Rattle.ends_core.specs.declared.listing.ListReplyFault.{ListReplyFault}
 use Rattle.ends_core.specs.declared.listing.ListReplyFault.TheVariants as lists
 use Rattle.ends_core.specs.declared.answering.AnswerFault.{AnswerFault}
 use Rattle.ends_core.specs.declared.answering.AnswerFault.TheVariants as answers
+use Rattle.settings_core.specs.declared.fault.SettingsFault.{SettingsFault}
+use Rattle.settings_core.specs.declared.fault.SettingsFault.TheVariants as settings
+use Rattle.settings_core.specs.declared.words.WordsFault.{WordsFault}
+use Rattle.settings_core.specs.declared.words.WordsFault.TheVariants as words
+use Rattle.strategy_check.specs.declared.fault.CheckError.{CheckError}
+use Rattle.strategy_check.specs.declared.fault.CheckError.TheVariants as checks
 use Rattle.rangesync.specs.declared.fault.Fault.{Fault}
-use Rattle.rangesync.specs.declared.fault.Fault.TheVariants.{CannotRead, BadItemLine, TooManyItems, Wire, Misplaced, WriterFailed, Memory}
+use Rattle.rangesync.specs.declared.fault.Fault.TheVariants.{CannotRead, BadItemLine, TooManyItems, Strategy, Check, Wire, Misplaced, WriterFailed, Memory}
 
 abbrev pub of_answer : AnswerFault → Fault
 of_answer answers.CannotRead = CannotRead
@@ -32,12 +39,31 @@ abbrev pub of_listing : ListReplyFault → Fault
 of_listing lists.Misplaced = Misplaced
 of_listing lists.Memory = Memory
 
+abbrev pub of_settings : SettingsFault → Fault
+of_settings settings.CannotRead = CannotRead
+of_settings (settings.BadItemLine line) = BadItemLine line
+of_settings settings.TooManyItems = TooManyItems
+of_settings (settings.Strategy f) = Strategy f
+of_settings settings.Memory = Memory
+
+abbrev pub of_check : CheckError → Fault
+of_check (checks.Fault f) = Check f
+of_check checks.Memory = Memory
+
 -- 1 where something given is refused, 3 for a file, an input, an output or memory
 abbrev pub status_of : Fault → ℕ
 status_of CannotRead = 3
 status_of (BadItemLine line) = 1
 status_of TooManyItems = 1
+status_of (Strategy f) = 1
+status_of (Check f) = 1
 status_of (Wire f) = 1
 status_of Misplaced = 1
 status_of WriterFailed = 3
 status_of Memory = 3
+
+-- 2 for words that the program does not know; 0 for help that was printed, 3 where it was not, or for memory
+abbrev pub IsWordsStatus : WordsFault → ℕ → Type 0
+IsWordsStatus (words.Usage text) status = status ≡ 2
+IsWordsStatus (words.Help text) status = (status ≡ 0) ⊎ (status ≡ 3)
+IsWordsStatus words.Memory status = status ≡ 3

@@ -1,14 +1,19 @@
 //! Why a run is refused.
 
 ghost use Rattle.std.specs.Prelude.{◌≡◌};
-ghost use Rattle.rangesync.specs.FaultsOf.{of_answer, of_input, of_decoding, of_listing};
+ghost use Rattle.rangesync.specs.FaultsOf.{of_answer, of_input, of_decoding, of_listing, of_settings, of_check};
 ghost use Rattle.rangesync.specs.declared.fault.Fault.TheVariants as faults;
 
 use ends_core::{AnswerFault, InputFault, ListReplyFault, WriterFailed};
+use settings_core::SettingsFault;
 use std::alloc::{AllocError, AllocFailed};
+use strategy_check::{CheckError, CheckFault};
+use strategy_core::StrategyFault;
 use wire_core::{DecodeError, WireFault};
 
 /// Why a run does not end with status 0, its words being known.
+///
+/// It prints as the line for standard error: `refused`, the number, the name and the values, or `io write`.
 #[derive(Clone, Copy, Debug, PartialEq, Eq)]
 pub enum Fault {
     /// A file or the input was not opened or not read, or is above 16,777,216 bytes.
@@ -17,6 +22,10 @@ pub enum Fault {
     BadItemLine { line: usize },
     /// There are more than 65,536 different items.
     TooManyItems,
+    /// A strategy file holds no strategy.
+    Strategy(StrategyFault),
+    /// A strategy is not accepted.
+    Check(CheckFault),
     /// The input spells no message.
     Wire(WireFault),
     /// A part of the message is no Sum.
@@ -70,6 +79,31 @@ impl From<ListReplyFault> for Fault {
         match fault {
             ListReplyFault::Misplaced => Fault::Misplaced,
             ListReplyFault::Memory => Fault::Memory,
+        }
+    }
+}
+
+impl From<SettingsFault> for Fault {
+    ghost from_gives = { λ f e. e ≡ of_settings f };
+
+    fn from(fault: SettingsFault) -> Fault {
+        match fault {
+            SettingsFault::CannotRead => Fault::CannotRead,
+            SettingsFault::BadItemLine { line } => Fault::BadItemLine { line },
+            SettingsFault::TooManyItems => Fault::TooManyItems,
+            SettingsFault::Strategy(fault) => Fault::Strategy(fault),
+            SettingsFault::Memory => Fault::Memory,
+        }
+    }
+}
+
+impl From<CheckError> for Fault {
+    ghost from_gives = { λ f e. e ≡ of_check f };
+
+    fn from(error: CheckError) -> Fault {
+        match error {
+            CheckError::Fault(fault) => Fault::Check(fault),
+            CheckError::Memory => Fault::Memory,
         }
     }
 }

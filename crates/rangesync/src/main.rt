@@ -1,39 +1,29 @@
 //! The program `rangesync`.
 #![tactic(auto)]
 
+mod accepted;
 mod fault;
 mod hexed;
-mod items;
 mod printed;
 mod run;
 #[cfg(test)]
 mod tests;
-mod words;
 
 use crate::fault::Fault;
-use std::alloc::AllocError;
-use std::env;
 use std::process::ExitCode;
+use std::{env, io};
 
-/// Runs the program on these words, without the program's own name first.
-fn run_words(rt: &HostRuntime, words: &[String]) -> Result<u8, AllocError> {
-    let mut lent: Vec<&str> = Vec::with_capacity(rt.alloc(), words.len())?;
-    for word in words.iter().skip(1) {
-        lent.push(word.as_str())?;
-    }
-    Ok(run::run(rt, &lent, rt.stdin(), rt.stdout(), rt.stderr()))
-}
-
-/// The status of the run on the environment's words. Words that are no text are none that the program knows.
+/// The status of the run on the environment's words.
 fn status(rt: &HostRuntime) -> u8 {
-    let Ok(words) = env::args(rt) else {
-        return printed::tell_usage(rt.stderr());
+    let words = match env::args(rt) {
+        Ok(words) => words,
+        Err(error) if error.kind() == io::ErrorKind::OutOfMemory => {
+            return printed::tell(rt.stderr(), Fault::Memory);
+        }
+        Err(_) => return printed::tell_no_text(rt.stderr()),
     };
     match words.collect::<Vec<String>>(rt.alloc()) {
-        Ok(words) => match run_words(rt, &words) {
-            Ok(status) => status,
-            Err(refused) => printed::tell(rt.stderr(), Fault::from(refused)),
-        },
+        Ok(words) => run::run(rt, words.as_slice(), rt.stdin(), rt.stdout(), rt.stderr()),
         Err(refused) => printed::tell(rt.stderr(), Fault::from(refused)),
     }
 }

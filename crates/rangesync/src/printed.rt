@@ -1,21 +1,24 @@
 //! What is printed on standard error, and the status of a run.
 
-ghost use Rattle.std.specs.Prelude.{◌≡◌};
-ghost use Rattle.rangesync.specs.FaultsOf.{status_of};
+ghost use Rattle.std.specs.Prelude.{◌≡◌, Some};
+ghost use Rattle.rangesync.specs.FaultsOf.{status_of, IsWordsStatus};
+ghost use Rattle.rangesync.specs.Lines.{wire_name, strategy_line, check_line, fault_line};
 
 use crate::fault::Fault;
+use settings_core::WordsFault;
 use std::fmt;
 use std::io::Write;
+use strategy_check::CheckFault;
+use strategy_core::StrategyFault;
 use wire_core::WireFault;
 
-/// What a call whose words are not known is told.
-const USAGE: &str = "usage: rangesync answer [--hex] ITEMS";
-
-/// The status of such a call.
+/// The status of a call whose words ask for nothing.
 const USAGE_STATUS: u8 = 2;
 
 /// The name of a refusal on the wire.
-fn wire_name(fault: WireFault) -> &'static str {
+fn wire_name(fault: WireFault) -> &'static str
+    ensures { result.now ≡ wire_name fault }
+{
     match fault {
         WireFault::FrameLength => "FrameLength",
         WireFault::Truncated => "Truncated",
@@ -40,18 +43,60 @@ impl Fault {
             Fault::CannotRead | Fault::WriterFailed | Fault::Memory => 3,
             Fault::BadItemLine { line: _ }
             | Fault::TooManyItems
+            | Fault::Strategy(_)
+            | Fault::Check(_)
             | Fault::Wire(_)
             | Fault::Misplaced => 1,
         }
     }
 }
 
+/// The line of a text or a table that is no strategy.
+#[derive(Clone, Copy)]
+struct StrategyLine(StrategyFault);
+
+impl fmt::Display for StrategyLine {
+    ghost output = { λ line. Some (strategy_line line.0) };
+
+    fn fmt<W: fmt::Write>(&self, f: &mut fmt::Formatter<W>) -> fmt::Result {
+        match self.0 {
+            StrategyFault::NotToml => write!(f, "refused 30 NotToml"),
+            StrategyFault::Missing(field) => write!(f, "refused 31 Missing {}", field.key()),
+            StrategyFault::BadNumber => write!(f, "refused 32 BadNumber"),
+            StrategyFault::RowOrder => write!(f, "refused 33 RowOrder"),
+            StrategyFault::RowAction => write!(f, "refused 34 RowAction"),
+            StrategyFault::CapMismatch => write!(f, "refused 35 CapMismatch"),
+        }
+    }
+}
+
+/// The line of a strategy that is not accepted.
+#[derive(Clone, Copy)]
+struct CheckLine(CheckFault);
+
+impl fmt::Display for CheckLine {
+    ghost output = { λ line. Some (check_line line.0) };
+
+    fn fmt<W: fmt::Write>(&self, f: &mut fmt::Formatter<W>) -> fmt::Result {
+        match self.0 {
+            CheckFault::NoDescent { count } => write!(f, "refused 36 NoDescent {count}"),
+            CheckFault::ListTooLong { upto } => write!(f, "refused 37 ListTooLong {upto}"),
+            CheckFault::TooDeep { count, rank } => write!(f, "refused 38 TooDeep {count} {rank}"),
+            CheckFault::BadCertificate { count } => write!(f, "refused 39 BadCertificate {count}"),
+        }
+    }
+}
+
 impl fmt::Display for Fault {
+    ghost output = { λ f. Some (fault_line f) };
+
     fn fmt<W: fmt::Write>(&self, f: &mut fmt::Formatter<W>) -> fmt::Result {
         match self {
             Fault::CannotRead => write!(f, "refused 80 CannotRead"),
             Fault::BadItemLine { line } => write!(f, "refused 81 BadItemLine {line}"),
             Fault::TooManyItems => write!(f, "refused 82 TooManyItems"),
+            Fault::Strategy(fault) => write!(f, "{}", StrategyLine(*fault)),
+            Fault::Check(fault) => write!(f, "{}", CheckLine(*fault)),
             Fault::Wire(fault) => write!(f, "refused {} {}", fault.number(), wire_name(*fault)),
             Fault::Misplaced => write!(f, "refused 20 Misplaced"),
             Fault::WriterFailed => write!(f, "io write"),
@@ -69,11 +114,30 @@ pub fn tell<E: Write + Drop>(err: E, fault: Fault) -> u8
     fault.status()
 }
 
-/// Prints the usage line, and gives the status.
-pub fn tell_usage<E: Write + Drop>(err: E) -> u8
+/// Prints that a word is no text, and gives the status.
+pub fn tell_no_text<E: Write + Drop>(err: E) -> u8
     ensures { result ≡ 2 }
 {
     let mut err = err;
-    let _told = writeln!(err, "{USAGE}");
+    let _told = writeln!(err, "error: a word is not UTF-8 text");
     USAGE_STATUS
+}
+
+/// Prints what words that are no command are told, and gives the status: 0 for help, which goes to standard output.
+pub fn tell_words<O: Write + Drop, E: Write + Drop>(out: O, err: E, fault: WordsFault) -> u8
+    ensures { IsWordsStatus fault result }
+{
+    let mut out = out;
+    let mut err = err;
+    match fault {
+        WordsFault::Usage(text) => {
+            let _told = write!(err, "{text}");
+            USAGE_STATUS
+        }
+        WordsFault::Help(text) => match write!(out, "{text}") {
+            Ok(()) => 0,
+            Err(_) => tell(err, Fault::WriterFailed),
+        },
+        WordsFault::Memory => tell(err, Fault::Memory),
+    }
 }

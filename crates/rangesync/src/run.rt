@@ -3,16 +3,20 @@
 ghost use Rattle.std.specs.Prelude.{◌≤◌, length};
 ghost use Rattle.store_core.specs.Flat.{flat_items};
 
+use crate::accepted::checked_text;
 use crate::fault::Fault;
-use crate::items::read_items;
-use crate::words::{Command, read_words};
 use crate::{hexed, printed};
 use ends_core::{answer, list_reply, read_input, write_output};
+use settings_core::{Command, read_items, read_strategy, read_words};
 use std::alloc::Global;
+use std::convert::AsStr;
 use std::io::{Read, Write};
 use std::rt::Files;
 use store_core::FlatStore;
 use wire_core::{Watched, decode_message};
+
+/// The greatest number of different items of `answer`.
+const MAX_ITEMS: usize = 65_536;
 
 /// Answers hex text with hex text.
 fn answer_hex<I: Read + Drop, O: Write + Drop>(
@@ -30,21 +34,22 @@ fn answer_hex<I: Read + Drop, O: Write + Drop>(
     Ok(())
 }
 
-/// Does what the words ask for.
-fn obey<R: Files + AllocGlobal, I: Read + Drop, O: Write + Drop>(
-    rt: &R,
-    command: Command<'_>,
+/// Answers bytes with bytes, or hex text with hex text.
+fn answer_in<I: Read + Drop, O: Write + Drop>(
+    alloc: Global,
+    hexed: bool,
+    store: &FlatStore,
     reader: I,
     out: O,
-) -> Result<(), Fault> {
-    let Command::Answer { hexed, items } = command;
-    let store = read_items(rt, items)?;
+) -> Result<(), Fault>
+    requires few { length (flat_items store.now) ≤ 65536 }
+{
     if hexed {
-        answer_hex(rt.alloc(), &store, reader, out)
+        answer_hex(alloc, store, reader, out)
     } else {
         answer(
-            rt.alloc(),
-            &store,
+            alloc,
+            store,
             &mut Watched::new(reader),
             &mut Watched::new(out),
         )?;
@@ -52,19 +57,47 @@ fn obey<R: Files + AllocGlobal, I: Read + Drop, O: Write + Drop>(
     }
 }
 
-/// Runs the program on these words, its own name left out, and gives the status: 0 done, 1 refused, 2 for words that
-/// it does not know, 3 for a file, an input, an output or memory.
-pub fn run<R: Files + AllocGlobal, I: Read + Drop, O: Write + Drop, E: Write + Drop>(
+/// Checks the strategy in the file, and prints the steps of its least ranks where it is accepted.
+fn check_file<R: Files + AllocGlobal, O: Write + Drop>(
     rt: &R,
-    words: &[&str],
+    path: &str,
+    out: O,
+) -> Result<(), Fault> {
+    let text = checked_text(rt.alloc(), read_strategy(rt, path)?)?;
+    write_output(&mut Watched::new(out), text.as_bytes())?;
+    Ok(())
+}
+
+/// Does what the words ask for.
+fn obey<R: Files + AllocGlobal, I: Read + Drop, O: Write + Drop>(
+    rt: &R,
+    command: Command<'_>,
+    reader: I,
+    out: O,
+) -> Result<(), Fault> {
+    match command {
+        Command::Answer { hexed, items } => {
+            let store = read_items(rt, items, MAX_ITEMS)?;
+            answer_in(rt.alloc(), hexed, &store, reader, out)
+        }
+        Command::Check { file } => check_file(rt, file, out),
+    }
+}
+
+/// Runs the program on these words, of which the first is its own name, and gives the status: 0 done, 1 refused, 2 for
+/// words that it does not know, 3 for a file, an input, an output or memory.
+pub fn run<R: Files + AllocGlobal, W: AsStr, I: Read + Drop, O: Write + Drop, E: Write + Drop>(
+    rt: &R,
+    words: &[W],
     reader: I,
     out: O,
     err: E,
 ) -> u8
     ensures known { result ≤ 3 }
 {
-    let Some(command) = read_words(words) else {
-        return printed::tell_usage(err);
+    let command = match read_words(rt.alloc(), words) {
+        Ok(command) => command,
+        Err(fault) => return printed::tell_words(out, err, fault),
     };
     match obey(rt, command, reader, out) {
         Ok(()) => 0,

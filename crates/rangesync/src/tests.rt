@@ -1,5 +1,8 @@
 //! Runs over memory, on messages and replies that are typed in.
 
+mod checks;
+mod words;
+
 use crate::run::run;
 use std::io::Write;
 use std::process::Abort;
@@ -89,7 +92,12 @@ fn answers<R: Files + AllocGlobal + Abort>(
 ) -> io::Result<()> {
     let path = "answered.items";
     fs::write(rt, path, lines)?;
-    gives(rt, &["answer", "--hex", path], input.as_bytes(), wanted);
+    gives(
+        rt,
+        &["rangesync", "answer", "--hex", path],
+        input.as_bytes(),
+        wanted,
+    );
     fs::remove_file(rt, path)
 }
 
@@ -135,7 +143,7 @@ fn refusals(rt: HostRuntime) -> io::Result<()> {
 fn edges(rt: HostRuntime) -> io::Result<()> {
     let path = "edges.items";
     fs::write(&rt, path, "")?;
-    let words = ["answer", path];
+    let words = ["rangesync", "answer", path];
     // The longest frame is read, and its kind is none.
     let mut longest: Vec<u8> = vec![in rt.alloc(); 0u8; 8_388_612]?;
     longest[1] = 0x80;
@@ -160,7 +168,7 @@ fn edges(rt: HostRuntime) -> io::Result<()> {
     let above: Vec<u8> = vec![in rt.alloc(); b' '; 16_777_217]?;
     gives(
         &rt,
-        &["answer", "--hex", path],
+        &["rangesync", "answer", "--hex", path],
         &above,
         &refused(3, "refused 80 CannotRead\n"),
     );
@@ -168,15 +176,10 @@ fn edges(rt: HostRuntime) -> io::Result<()> {
 }
 
 #[test]
-fn files_and_words(rt: HostRuntime) {
+fn files(rt: HostRuntime) {
     let unread = refused(3, "refused 80 CannotRead\n");
-    let usage = refused(2, "usage: rangesync answer [--hex] ITEMS\n");
-    gives(&rt, &["answer", "missing.items"], &[], &unread);
-    gives(&rt, &["answer", "."], &[], &unread);
-    gives(&rt, &[], &[], &usage);
-    gives(&rt, &["answer", "--hex"], &[], &usage);
-    gives(&rt, &["answer", "items", "--hex"], &[], &usage);
-    gives(&rt, &["serve", "items"], &[], &usage);
+    gives(&rt, &["rangesync", "answer", "missing.items"], &[], &unread);
+    gives(&rt, &["rangesync", "answer", "."], &[], &unread);
 }
 
 #[test]
@@ -188,7 +191,7 @@ fn too_many_items(rt: HostRuntime) -> io::Result<()> {
     }
     lines.push_str("00000000\n")?;
     fs::write(&rt, path, lines.as_str())?;
-    let words = ["answer", "--hex", path];
+    let words = ["rangesync", "answer", "--hex", path];
     gives(&rt, &words, b"0", &refused(1, "refused 81 BadItemLine 1\n"));
     lines.push_str("00010000\n")?;
     fs::write(&rt, path, lines.as_str())?;

@@ -1,0 +1,146 @@
+//! Item files: one item a line, in hex.
+//!
+//! A carriage return at a line's end, then spaces and tabs at both its ends, and blank lines are ignored; an item
+//! given twice counts once.
+
+ghost use Rattle.std.specs.Prelude.{◌≡◌, ◌≢◌, ◌<◌, ◌≤◌, ℕ, List, [], ◌∷◌, ◌++◌, length, IfOk, IfErr, IfSome, OnOk, option_map, Some, None, Ok, Err};
+ghost use Rattle.definitions.specs.Items.{Item as Bytes};
+ghost use Rattle.hex.specs.Hex.{decode_of};
+ghost use Rattle.store_core.specs.Flat.{flat_items};
+ghost use Rattle.settings_core.specs.Faults.{IsStoreOf};
+ghost use Rattle.settings_core.specs.ItemFiles.{is_blank, without_front, without_end, digits_in, decoded, line_items, lines, lines_in, file_items};
+
+use crate::fault::SettingsFault;
+use crate::file::read_file;
+use item_core::Item;
+use memchr::memchr;
+use std::alloc::Global;
+use std::rt::Files;
+use store_core::{FlatStore, RangeStore};
+
+/// Whether a byte is a blank of an item line.
+fn is_blank(byte: u8) -> bool
+    ensures { result ≡ is_blank byte }
+{
+    byte == b' ' || byte == b'\t'
+}
+
+/// The line without the blanks at its front.
+fn without_front(line: &[u8]) -> &[u8]
+    ensures { result.now ≡ without_front line.now }
+{
+    let mut rest = line;
+    while let Some((first, others)) = rest.split_first() {
+        if !is_blank(*first) {
+            break;
+        }
+        rest = others;
+    }
+    rest
+}
+
+/// The line without the blanks at its end.
+fn without_end(line: &[u8]) -> &[u8]
+    ensures { result.now ≡ without_end line.now }
+{
+    let mut rest = line;
+    while let Some((last, others)) = rest.split_last() {
+        if !is_blank(*last) {
+            break;
+        }
+        rest = others;
+    }
+    rest
+}
+
+/// The line without one carriage return at its end, and then without the blanks at both ends.
+fn digits_in(line: &[u8]) -> &[u8]
+    ensures { result.now ≡ digits_in line.now }
+{
+    without_front(without_end(line.strip_suffix(b"\r").unwrap_or(line)))
+}
+
+/// The item that hex digits spell, if they spell one.
+fn item_of(digits: &[u8]) -> Option<Item>
+    ensures { option_map (λ x. x ∷ []) result ≡ decoded (decode_of digits.now) }
+{
+    if digits.len() > 128 {
+        return None;
+    }
+    let mut bytes = [0u8; 64];
+    let room = &mut bytes[..digits.len() / 2];
+    hex::decode_to_slice(digits, room).ok()?;
+    Item::new(room).ok()
+}
+
+/// Appends the item of a line, if it is not blank.
+fn push_line(items: &mut Vec<Item>, line: &[u8], number: usize) -> Result<(), SettingsFault>
+    ensures item { OnOk result ((xs : List Bytes) × (line_items line.now ≡ Some xs) × (items.new.items ≡ items.old.items ++ xs)) }
+    ensures bad { IfErr result (λ e. e ≢ SettingsFault.Memory → (e ≡ SettingsFault.BadItemLine number) × (line_items line.now ≡ None)) }
+{
+    let digits = digits_in(line);
+    if digits.is_empty() {
+        return Ok(());
+    }
+    let Some(item) = item_of(digits) else {
+        return Err(SettingsFault::BadItemLine { line: number });
+    };
+    items.push(item)?;
+    Ok(())
+}
+
+/// The first line of the text, and what follows its line feed, if it ends with one.
+fn first_line(text: &[u8]) -> (&[u8], Option<&[u8]>)
+    ensures lines { lines text.now ≡ result.0.now ∷ lines_in (option_map (λ rest. rest.now) result.1) }
+    ensures shorter { IfSome result.1 (λ rest. length rest.now < length text.now) }
+{
+    match memchr(b'\n', text) {
+        None => (text, None),
+        Some(end) => (&text[..end], Some(&text[end + 1..])),
+    }
+}
+
+/// The items of the lines in order.
+fn items_of(alloc: Global, text: &[u8]) -> Result<Vec<Item>, SettingsFault>
+    ensures items { IfOk result (λ v. file_items text.now ≡ Ok v.items) }
+    ensures refused { IfErr result (λ e. e ≢ SettingsFault.Memory → (line : ℕ) × (e ≡ SettingsFault.BadItemLine line) × (file_items text.now ≡ Err line)) }
+{
+    let mut items = Vec::new(alloc);
+    let mut rest = Some(text);
+    let mut number = 0;
+    while let Some(left) = rest {
+        let (line, after) = first_line(left);
+        number += 1;
+        push_line(&mut items, line, number)?;
+        rest = after;
+    }
+    Ok(items)
+}
+
+/// The store of the items of a file's text.
+///
+/// Refused 81 by its first bad line, and then 82 where it has more than `cap` different items.
+pub fn store_of(alloc: Global, text: &[u8], cap: usize) -> Result<FlatStore, SettingsFault>
+    ensures { IsStoreOf text.now cap result }
+{
+    let items = items_of(alloc, text)?;
+    let store = FlatStore::from_items(alloc, items)?;
+    if store.len() > cap {
+        return Err(SettingsFault::TooManyItems);
+    }
+    Ok(store)
+}
+
+/// The store of the items in the file.
+///
+/// Refused 80 where the file is not read, 81 by its first bad line, and then 82 where there are more than `cap`
+/// different items.
+pub fn read_items<R: Files + AllocGlobal>(
+    rt: &R,
+    path: &str,
+    cap: usize,
+) -> Result<FlatStore, SettingsFault>
+    ensures few { IfOk result (λ s. length (flat_items s) ≤ cap) }
+{
+    store_of(rt.alloc(), &read_file(rt, path)?, cap)
+}

@@ -1,0 +1,13 @@
+//! The settings of the program: the words of a call, item files and strategy files.
+#![tactic(auto)]
+
+mod fault;
+mod file;
+mod item_file;
+mod strategy_file;
+mod words;
+
+pub use fault::SettingsFault;
+pub use item_file::{read_items, store_of};
+pub use strategy_file::read_strategy;
+pub use words::{Command, WordsFault, read_words};
