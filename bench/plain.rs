@@ -1,12 +1,16 @@
 //! What `rangesync answer` does, in plain Rust over std alone, to time the proved program beside it.
 //!
-//!     plain make DIR             writes DIR/items, DIR/message and DIR/equal
-//!     plain run DIR [ROUNDS]     prints the least time of each step in microseconds, and writes DIR/reply
+//!     plain make DIR               writes DIR/items, DIR/message, DIR/equal, DIR/sums and DIR/list
+//!     plain run DIR [ROUNDS]       prints the least time of each step in microseconds, and writes DIR/reply
+//!     plain codec DIR [ROUNDS]     the same of reading and of writing the messages DIR/sums and DIR/list
 //!
 //! `items` has 65,536 lines of 32-byte items in hex, in no order. `message` is one Sum over everything
-//! with a fingerprint of 32 zero bytes, `equal` the same with the fingerprint of the items.
+//! with a fingerprint of 32 zero bytes, `equal` the same with the fingerprint of the items. `sums` is a message
+//! of 131,072 Sums, whose ranges follow one another and have bounds of 32 bytes, and `list` one List of the items.
 
-use std::cmp::Ordering;
+mod short;
+
+use short::Short;
 use std::env;
 use std::fs;
 use std::hint::black_box;
@@ -101,45 +105,6 @@ fn sha256(message: &[u8]) -> [u8; 32] {
 }
 
 // ---- items, ranges, fingerprints
-
-/// 0 to 64 bytes, kept inline.
-#[derive(Clone, Copy)]
-struct Short {
-    bytes: [u8; MAX_ITEM],
-    length: u8,
-}
-
-impl Short {
-    fn new(bytes: &[u8]) -> Short {
-        let mut held = [0; MAX_ITEM];
-        held[..bytes.len()].copy_from_slice(bytes);
-        Short { bytes: held, length: bytes.len() as u8 }
-    }
-
-    fn bytes(&self) -> &[u8] {
-        &self.bytes[..self.length as usize]
-    }
-}
-
-impl PartialEq for Short {
-    fn eq(&self, other: &Short) -> bool {
-        self.bytes() == other.bytes()
-    }
-}
-
-impl Eq for Short {}
-
-impl PartialOrd for Short {
-    fn partial_cmp(&self, other: &Short) -> Option<Ordering> {
-        Some(self.cmp(other))
-    }
-}
-
-impl Ord for Short {
-    fn cmp(&self, other: &Short) -> Ordering {
-        self.bytes().cmp(other.bytes())
-    }
-}
 
 type Item = Short;
 
@@ -486,24 +451,46 @@ fn opening(sum: Fingerprint) -> Result<Vec<u8>, Refusal> {
     encode_message(&[Part::Sum(whole, sum)])
 }
 
-fn make(folder: &Path) -> Result<(), Refusal> {
-    let mut numbers = Numbers(1);
-    let mut text = String::new();
-    let mut sum = Fingerprint::ZERO;
-    for _ in 0..MAX_ITEMS {
+/// So many items of 32 bytes, in no order.
+fn random_items(numbers: &mut Numbers, count: usize) -> Vec<Item> {
+    let item = |_| {
         let mut bytes = [0u8; 32];
         for chunk in bytes.chunks_exact_mut(8) {
             chunk.copy_from_slice(&numbers.next().to_be_bytes());
         }
-        sum = sum.join(Fingerprint::of_item(&Short::new(&bytes)));
-        for byte in bytes {
+        Short::new(&bytes)
+    };
+    (0..count).map(item).collect()
+}
+
+/// As many Sums as a message may have, each from where the one before it ends.
+fn many_sums(numbers: &mut Numbers) -> Vec<Part> {
+    let mut bounds = random_items(numbers, MAX_PARTS - 1);
+    bounds.sort_unstable();
+    let lowers = std::iter::once(Short::new(&[])).chain(bounds.iter().copied());
+    let uppers = bounds.iter().copied().map(Some).chain(std::iter::once(None));
+    lowers.zip(uppers).map(|(lower, upper)| Part::Sum(Range { lower, upper }, Fingerprint::of_item(&lower))).collect()
+}
+
+fn make(folder: &Path) -> Result<(), Refusal> {
+    let mut numbers = Numbers(1);
+    let mut items = random_items(&mut numbers, MAX_ITEMS);
+    let mut text = String::new();
+    let mut sum = Fingerprint::ZERO;
+    for item in &items {
+        sum = sum.join(Fingerprint::of_item(item));
+        for byte in item.bytes() {
             text.push_str(&format!("{byte:02x}"));
         }
         text.push('\n');
     }
     write(&folder.join("items"), text.as_bytes())?;
     write(&folder.join("message"), &opening(Fingerprint::ZERO)?)?;
-    write(&folder.join("equal"), &opening(sum)?)
+    write(&folder.join("equal"), &opening(sum)?)?;
+    write(&folder.join("sums"), &encode_message(&many_sums(&mut numbers))?)?;
+    items.sort_unstable();
+    let whole = Range { lower: Short::new(&[]), upper: None };
+    write(&folder.join("list"), &encode_message(&[Part::List(whole, items)])?)
 }
 
 fn read(path: &Path) -> Result<Vec<u8>, Refusal> {
@@ -573,18 +560,39 @@ fn run(folder: &Path, rounds: usize) -> Result<(), Refusal> {
     write(&folder.join("reply"), &text)
 }
 
+/// Times the reading and the writing of the messages `sums` and `list`.
+fn run_codec(folder: &Path, rounds: usize) -> Result<(), Refusal> {
+    let mut times = Times(Vec::new());
+    for (name, decode, encode) in [("sums", "sums_decode", "sums_encode"), ("list", "list_decode", "list_encode")] {
+        for _ in 0..rounds {
+            let text = read(&folder.join(name))?;
+            let parts = times.time(decode, || decode_message(&text))?;
+            let again = times.time(encode, || encode_message(&parts))?;
+            if again != text {
+                return Err(Refusal(2));
+            }
+        }
+    }
+    for (name, took) in &times.0 {
+        println!("{name} {:.1}", took.as_secs_f64() * 1e6);
+    }
+    Ok(())
+}
+
 fn main() {
     let words: Vec<String> = env::args().skip(1).collect();
     let words: Vec<&str> = words.iter().map(String::as_str).collect();
     let done = match words.as_slice() {
         ["make", folder] => make(Path::new(folder)),
         ["run", folder] => run(Path::new(folder), 9),
-        ["run", folder, rounds] => match rounds.parse() {
-            Ok(rounds) => run(Path::new(folder), rounds),
-            Err(_) => exit(2),
+        ["codec", folder] => run_codec(Path::new(folder), 9),
+        [command @ ("run" | "codec"), folder, rounds] => match (*command, rounds.parse()) {
+            ("run", Ok(rounds)) => run(Path::new(folder), rounds),
+            (_, Ok(rounds)) => run_codec(Path::new(folder), rounds),
+            (_, Err(_)) => exit(2),
         },
         _ => {
-            eprintln!("plain make DIR | plain run DIR [ROUNDS]");
+            eprintln!("plain make DIR | plain run DIR [ROUNDS] | plain codec DIR [ROUNDS]");
             exit(2)
         }
     };

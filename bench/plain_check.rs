@@ -1,0 +1,125 @@
+//! The least ranks of two strategies, found in plain Rust over std alone, to time the proved program beside it.
+//!
+//!     plain_check make DIR             writes DIR/even.toml and DIR/steep.toml
+//!     plain_check run DIR [ROUNDS]     prints the least time for each in microseconds, and writes DIR/even.steps and DIR/steep.steps
+//!
+//! Both have a cap of 65,536 and rows of 64 weights. `even` cuts into equal parts; `steep` has one great part, so its ranks are high.
+
+use std::env;
+use std::fs;
+use std::hint::black_box;
+use std::path::Path;
+use std::process::exit;
+use std::time::{Duration, Instant};
+
+enum Act {
+    List,
+    /// The weights, and their sum.
+    Split(Vec<u32>, u32),
+}
+
+struct Row {
+    upto: u32,
+    act: Act,
+}
+
+struct Table {
+    cap: u32,
+    rows: Vec<Row>,
+}
+
+impl Table {
+    /// Lists up to so many items, and cuts more by these weights.
+    fn new(listed: u32, weights: Vec<u32>) -> Table {
+        let cap = 65_536;
+        let total = weights.iter().sum();
+        let rows = vec![
+            Row { upto: listed, act: Act::List },
+            Row { upto: cap, act: Act::Split(weights, total) },
+        ];
+        Table { cap, rows }
+    }
+
+    fn text(&self) -> String {
+        let mut text = format!("cap = {}\nlimit = {}\nrounds = 255\n", self.cap, self.rows[0].upto);
+        for row in &self.rows {
+            let act = match &row.act {
+                Act::List => "list = true".to_string(),
+                Act::Split(weights, _) => format!("split = {weights:?}"),
+            };
+            text += &format!("[[row]]\nupto = {}\n{act}\n", row.upto);
+        }
+        text
+    }
+
+    /// Whether n is cut, into how many shares, and the greatest share.
+    fn cutting(&self, n: u32) -> (bool, usize, u32) {
+        let row = &self.rows[self.rows.partition_point(|row| row.upto < n)];
+        let Act::Split(weights, total) = &row.act else {
+            return (false, 0, 0);
+        };
+        let (mut reached, mut cut, mut count, mut greatest) = (0u32, 0u32, 0, 0);
+        for weight in weights {
+            reached += weight;
+            let next = (u64::from(n) * u64::from(reached) / u64::from(*total)) as u32;
+            count += usize::from(next > cut);
+            greatest = greatest.max(next - cut);
+            cut = next;
+        }
+        (true, count, greatest)
+    }
+
+    /// The staircase of the least ranks, or the least count that is cut into fewer than two shares.
+    fn ranks(&self) -> Result<Vec<u32>, u32> {
+        let mut steps: Vec<u32> = Vec::new();
+        for n in 0..=self.cap {
+            let (cuts, count, greatest) = self.cutting(n);
+            if cuts && count < 2 {
+                return Err(n);
+            }
+            if count > 0 && steps.partition_point(|step| *step < greatest) == steps.len() {
+                steps.push(n - 1);
+            }
+        }
+        steps.push(self.cap);
+        Ok(steps)
+    }
+}
+
+fn tables() -> [(&'static str, Table); 2] {
+    let mut steep = vec![1; 63];
+    steep.push(1_024);
+    [("even", Table::new(1, vec![1; 64])), ("steep", Table::new(17, steep))]
+}
+
+fn least(rounds: usize, table: &Table) -> Duration {
+    (0..rounds)
+        .map(|_| {
+            let start = Instant::now();
+            black_box(black_box(table).ranks()).ok();
+            start.elapsed()
+        })
+        .min()
+        .unwrap_or_default()
+}
+
+fn main() {
+    let words: Vec<String> = env::args().skip(1).collect();
+    let (command, folder) = match words.as_slice() {
+        [command, folder, ..] => (command.as_str(), Path::new(folder)),
+        _ => exit(2),
+    };
+    for (name, table) in tables() {
+        match command {
+            "make" => fs::write(folder.join(format!("{name}.toml")), table.text()).expect("the table is written"),
+            "run" => {
+                let rounds = words.get(2).and_then(|word| word.parse().ok()).unwrap_or(9);
+                let steps = table.ranks().expect("the table has ranks");
+                let text: String = steps.iter().map(|step| format!("{step}\n")).collect();
+                fs::write(folder.join(format!("{name}.steps")), text).expect("the steps are written");
+                println!("{name} {}", least(rounds, &table).as_micros());
+            }
+            _ => exit(2),
+        }
+    }
+}
