@@ -105,16 +105,21 @@ none_is o e = grind arith
 IsSumUnder-from_open : {F : Type 0} (f : List ℕ) (A : List Item) (n : ℕ) (p : Part F) → IsOpenUnder f A n p → IsSumUnder f A n p
 IsSumUnder-from_open f A n p h = grind arith
 
-has_open-under : {F : Type 0} (f : List ℕ) (A : List Item) (n : ℕ) (M : Message F) → AllByRecursion (IsOpenUnder f A n) M → has_open M ≡ true → 0 < n
+pub has_open-under : {F : Type 0} (f : List ℕ) (A : List Item) (n : ℕ) (M : Message F) → AllByRecursion (IsOpenUnder f A n) M → has_open M ≡ true → 0 < n
 has_open-under f A n [] h e = absurd (false≢true e)
 has_open-under f A n (Sum X g ∷ ps) h e = omega (arith, h.0)
 has_open-under f A n (Listing X items ∷ ps) h e = h.0
 has_open-under f A n (Answer X marks items ∷ ps) h e = has_open-under f A n ps h.1 e
 
 -- so the reply to what is heard compares ranges of lower ranks
-reply-under : {F : Type 0} (S : Summary F) (P : Peer) (f : List ℕ) → Ready P f → (n : ℕ) (M : Message F) → AllByRecursion (IsOpenUnder f P.items n) M →
+pub reply-under : {F : Type 0} (S : Summary F) (P : Peer) (f : List ℕ) → Ready P f → (n : ℕ) (M : Message F) → AllByRecursion (IsOpenUnder f P.items n) M →
     SumsUnder f P.items (n - 1) (reply S P M)
 reply-under S P f r n M h = reply-own S P f r n M (All-map (IsOpenUnder f P.items n) (IsSumUnder f P.items n) (IsSumUnder-from_open f P.items n) M h)
+
+-- what is placed behind an own message compares no ranges of higher ranks
+pub placed-OpenUnder : {F : Type 0} {P : Peer} {f : List ℕ} → Ready P f → (n : ℕ) (sent M : Message F) → SumsUnder f P.items n sent → RangesRise M → place_fault sent M ≡ None →
+    AllByRecursion (IsOpenUnder f P.items n) M
+placed-OpenUnder {F} {P} {f} r n sent M h k e = all-OpenUnder r n (open_parts sent) M (All-kept (IsSumUnder f P.items n) is_open sent h) k (Placed-from_accepted sent M e)
 
 length-replies : {F : Type 0} (S : Summary F) (P : Peer) (f : List ℕ) → Ready P f → (n : ℕ) (sent : Message F) (Ms : List (Message F)) →
     SumsUnder f P.items n sent → AllByRecursion RangesRise Ms → length (replies S P sent Ms) ≤ n
@@ -124,20 +129,23 @@ length-replies {F} S P f r n sent (M ∷ Ms) h k =
     (λ e.
     let some = and_parts (has_open sent && nat_le (length sent) max_parts && is_none (place_fault sent M)) (has_open M) e in
     let fits = (and_parts (has_open sent && nat_le (length sent) max_parts) (is_none (place_fault sent M)) some.0).1 in
-    let heard = all-OpenUnder r n (open_parts sent) M (All-kept (IsSumUnder f P.items n) is_open sent h) k.0 (Placed-from_accepted sent M (none_is (place_fault sent M) fits)) in
+    let heard = placed-OpenUnder r n sent M h k.0 (none_is (place_fault sent M) fits) in
     omega (arith, has_open-under f P.items n M heard some.1, length-replies S P f r (n - 1) (reply S P M) Ms (reply-under S P f r n M heard) k.1))
     (λ e. omega arith)
 
 pub initiator_stops : {F : Type 0} (S : Summary F) → InitiatorStops S
 initiator_stops S P f Ms r k = omega (arith, length-replies S P f r (rank f P + 1) (opening S P.items) Ms (whole-IsUnder r, tt) k)
 
+-- an opening compares everything
+pub opening-OpenUnder : {F : Type 0} {P : Peer} {f : List ℕ} → Ready P f → (M : Message F) → opening_fault M ≡ None → AllByRecursion (IsOpenUnder f P.items (rank f P + 1)) M
+opening-OpenUnder {F} {P} {f} r M e = subst (AllByRecursion (IsOpenUnder f P.items (rank f P + 1))) (sym ((opening_exact M).0 e).1) (whole-IsUnder r, tt)
+
 pub responder_stops : {F : Type 0} (S : Summary F) → ResponderStops S
 responder_stops S P f [] r k = omega arith
 responder_stops {F} S P f (M ∷ Ms) r k =
     cond_both (is_none (opening_fault M)) (reply S P M ∷ replies S P (reply S P M) Ms) [] (λ Ns. length Ns ≤ rank f P + 1)
     (λ e.
-    let opens = (opening_exact M).0 (none_is (opening_fault M) e) in
-    let heard = subst (AllByRecursion (IsOpenUnder f P.items (rank f P + 1))) (sym opens.1) (whole-IsUnder r, tt) in
+    let heard = opening-OpenUnder r M (none_is (opening_fault M) e) in
     omega (arith, length-replies S P f r (rank f P + 1 - 1) (reply S P M) Ms (reply-under S P f r (rank f P + 1) M heard) k.1))
     (λ e. omega arith)
 

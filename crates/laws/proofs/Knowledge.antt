@@ -331,7 +331,7 @@ sound_knowledge S I R (suc k) left right =
 abbrev Grown : {F : Type 0} → Summary F → Peer → Peer → Message F → ℕ → Message F → Type 0
 Grown S P Q M k N = talk_from S P Q M (suc (suc k)) ≡ talk_from S P Q M (suc k) ++ (if has_open N then reply S (sender P Q (suc k)) N ∷ [] else [])
 
-some_is : {X : Type 0} (x y : X) → Some x ≡ Some y → x ≡ y
+pub some_is : {X : Type 0} (x y : X) → Some x ≡ Some y → x ≡ y
 some_is x y e = cc
 
 first_reply : {F : Type 0} (S : Summary F) (P Q : Peer) (M : Message F) → Grown S P Q M zero M
@@ -351,10 +351,10 @@ talks_grow S I R k M h =
 
 -- ---- knowledge
 
-then_nothing : (k : Knowledge) → and_then k nothing ≡ k
+pub then_nothing : (k : Knowledge) → and_then k nothing ≡ k
 then_nothing k i = record { ours = append-nil k.ours i; theirs = append-nil k.theirs i }
 
-then_then : (j k l : Knowledge) → and_then (and_then j k) l ≡ and_then j (and_then k l)
+pub then_then : (j k l : Knowledge) → and_then (and_then j k) l ≡ and_then j (and_then k l)
 then_then j k l i = record { ours = append_assoc j.ours k.ours l.ours i; theirs = append_assoc j.theirs k.theirs l.theirs i }
 
 -- what A knows of messages that it begins, and of messages that the other begins and of which the first answers sent
@@ -364,13 +364,13 @@ begun A Ms = knows A (of_first Ms) (of_second Ms)
 abbrev heard : {F : Type 0} → List Item → Message F → List (Message F) → Knowledge
 heard A sent Ms = knows A (sent ∷ of_second Ms) (of_first Ms)
 
-of_first-cons : {F : Type 0} (M : Message F) (Ms : List (Message F)) → of_first (M ∷ Ms) ≡ M ∷ of_second Ms
+pub of_first-cons : {F : Type 0} (M : Message F) (Ms : List (Message F)) → of_first (M ∷ Ms) ≡ M ∷ of_second Ms
 of_first-cons M Ms = grind arith
 
-begun-cons : {F : Type 0} (A : List Item) (M : Message F) (Ms : List (Message F)) → begun A (M ∷ Ms) ≡ heard A M Ms
+pub begun-cons : {F : Type 0} (A : List Item) (M : Message F) (Ms : List (Message F)) → begun A (M ∷ Ms) ≡ heard A M Ms
 begun-cons A M Ms = ap (λ Os. knows A Os (of_first Ms)) (of_first-cons M Ms)
 
-heard-cons : {F : Type 0} (A : List Item) (sent M : Message F) (Ms : List (Message F)) → heard A sent (M ∷ Ms) ≡ and_then (learn A sent M) (begun A Ms)
+pub heard-cons : {F : Type 0} (A : List Item) (sent M : Message F) (Ms : List (Message F)) → heard A sent (M ∷ Ms) ≡ and_then (learn A sent M) (begun A Ms)
 heard-cons A sent M Ms = ap (λ Os. knows A (sent ∷ of_first Ms) Os) (of_first-cons M Ms)
 
 abbrev BegunGrows : {F : Type 0} → ℕ → List Item → List (Message F) → Message F → Type 0
@@ -379,7 +379,7 @@ BegunGrows k A Ms M = begun A (take (suc k) Ms) ≡ (if is_even k then begun A (
 abbrev HeardGrows : {F : Type 0} → ℕ → List Item → Message F → List (Message F) → Message F → Type 0
 HeardGrows k A sent Ms M = heard A sent (take (suc k) Ms) ≡ (if is_even k then and_then (heard A sent (take k Ms)) (learn A (get_or (sent ∷ Ms) k []) M) else heard A sent (take k Ms))
 
-turned : (b : Bool) (x y : Knowledge) → (if b then y else x) ≡ (if not b then x else y)
+pub turned : {X : Type 0} (b : Bool) (x y : X) → (if b then y else x) ≡ (if not b then x else y)
 turned b x y = grind arith
 
 regrouped : (j k l m : Knowledge) (b : Bool) → (b ≡ false → l ≡ m) → and_then j (if b then k else and_then k l) ≡ (if not b then and_then (and_then j k) m else and_then j k)

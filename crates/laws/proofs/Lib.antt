@@ -4,6 +4,11 @@ pub mod Placing
 pub mod Ends
 pub mod Knowledge
 pub mod Once
+pub mod Firm
+pub mod Turns
 pub mod Few
 pub mod Runs
+pub mod Sessions
+pub mod Staying
+pub mod Telling
 pub mod Refuted

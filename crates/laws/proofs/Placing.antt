@@ -424,7 +424,7 @@ placed_are_apart sent M a r h = pieces-Apart (open_ranges sent) (open_ranges M) 
 
 -- ---- replies, which are placed
 
-open-rise : {F : Type 0} (M : Message F) → Apart (open_ranges M) → AllByRecursion (λ p. is_open p ≡ true → Rises (range_of p)) M
+pub open-rise : {F : Type 0} (M : Message F) → Apart (open_ranges M) → AllByRecursion (λ p. is_open p ≡ true → Rises (range_of p)) M
 open-rise [] a = tt
 open-rise (Sum X g ∷ ps) a = (λ e. a.0, open-rise ps a.2)
 open-rise (Listing X items ∷ ps) a = (λ e. a.0, open-rise ps a.2)

@@ -1,3 +1,5 @@
 pub mod Cutting
 pub mod Growing
+pub mod Turns
+pub mod Sessions
 pub mod Weaker

@@ -1,12 +1,17 @@
 //! Laws of replies, talks and runs, for every fingerprint. Each is the contract of a function with an empty body.
 #![tactic(auto)]
 
+ghost use Rattle.std.specs.Prelude.{◌≡◌, List};
+ghost use Rattle.definitions.specs.Items.{Item, whole};
+ghost use Rattle.definitions.specs.Sets.{items_in};
 ghost use Rattle.definitions.specs.Fingerprints.{Summary, IsExact, two_lanes, counted_lanes};
 ghost use Rattle.definitions.specs.Messages.{Message, RangesRise};
 ghost use Rattle.definitions.specs.Wire.{Profile, IsMessage};
-ghost use Rattle.definitions.specs.Theorems.{RepliesArePlaced, RepliesAreShort, EndsKeepLimits, PlacingIsExact, OpeningIsExact, MessagesAreFew, MessagesFit, TalksAreApart, RepliesAreApart, PlacedAreApart, RepliesAreHonest, LearnsOnce, InitiatorStops, ResponderStops, ListsAreShort, KnowledgeIsExact, KnowledgeIsSound, PartsAreFew, Headline, CostClaim, HistoryClaim, AbsorbClaim};
+ghost use Rattle.definitions.specs.Theorems.{RepliesArePlaced, RepliesAreShort, EndsKeepLimits, PlacingIsExact, OpeningIsExact, MessagesAreFew, MessagesFit, TalksAreApart, RepliesAreApart, PlacedAreApart, RepliesAreHonest, LearnsOnce, InitiatorStops, ResponderStops, EndsStandFirm, EndsHearOn, EndsKeepPeers, ListsAreShort, KnowledgeIsExact, KnowledgeIsSound, PartsAreFew, Headline, CostClaim, HistoryClaim, AbsorbClaim};
 ghost use Rattle.laws.specs.Cutting.{CutsAreExact, TalksHaveRanges};
 ghost use Rattle.laws.specs.Growing.{TalksGrow, KnowledgeGrows};
+ghost use Rattle.laws.specs.Turns.{TalksBegin, TalksGoOn, EndsHear, EndsTalk};
+ghost use Rattle.laws.specs.Sessions.{SessionsOpen, SessionsGoOn, SessionsStay, SessionsKeepNodes, SessionsTell};
 ghost use Rattle.laws.specs.Weaker.{InitiatorStopsAnyhow, ResponderStopsAnyhow, ListsAreShortAnyhow, KnowledgeIsExactAnyhow, count_summary, blind};
 
 // ---- fingerprints
@@ -21,6 +26,13 @@ pub fn lanes_are_exact()
 #[tactic(auto, using(crate::proofs::Refuted::counted_lanes_exact))]
 pub fn counted_lanes_are_exact()
     ensures { IsExact counted_lanes }
+{}
+
+// ---- ranges
+
+/// Each item lies in the range of everything.
+pub fn whole_has_all()
+    ensures { (A : List Item) → items_in A whole ≡ A }
 {}
 
 // ---- replies
@@ -95,12 +107,50 @@ pub fn ends_keep_limits<F>()
     ensures { (S : Summary F) → EndsKeepLimits S }
 {}
 
+/// Whatever an end hears: what its own message opens does not overlap, it sends few messages, and it learns nothing twice.
+pub fn ends_stand_firm<F>()
+    ensures { (S : Summary F) → EndsStandFirm S }
+{}
+
+/// The end behind one message more.
+#[tactic(auto, using(crate::proofs::Firm::ends_hear_on))]
+pub fn ends_hear_on<F>()
+    ensures { (S : Summary F) → EndsHearOn S }
+{}
+
+/// No message changes who speaks.
+#[tactic(auto, using(crate::proofs::Firm::ends_keep_peers))]
+pub fn ends_keep_peers<F>()
+    ensures { (S : Summary F) → EndsKeepPeers S }
+{}
+
 // ---- talks
 
 /// A talk grows by the reply to its last message.
 #[tactic(auto, using(crate::proofs::Knowledge::talks_grow))]
 pub fn talks_grow<F>()
     ensures { (S : Summary F) → TalksGrow S }
+{}
+
+/// The talk so far is how the longer one begins.
+#[tactic(auto, using(crate::proofs::Turns::talks_begin))]
+pub fn talks_begin<F>()
+    ensures { (S : Summary F) → TalksBegin S }
+{}
+
+/// Message number k is the last of the first k + 1, and the reply to it is the next.
+pub fn talks_go_on<F>()
+    ensures { (S : Summary F) → TalksGoOn S }
+{}
+
+/// Each message changes the end that hears it, and not the other.
+pub fn ends_hear<F>()
+    ensures { (S : Summary F) → EndsHear S }
+{}
+
+/// Two honest ends hand each other exactly the talk.
+pub fn ends_talk<F>()
+    ensures { (S : Summary F) → EndsTalk S }
 {}
 
 /// Only its hearer learns from a message.
@@ -179,6 +229,33 @@ pub fn history_claim<F>()
 #[tactic(auto, using(crate::proofs::Runs::absorb_claim))]
 pub fn absorb_claim<F>()
     ensures { (S : Summary F) → AbsorbClaim S }
+{}
+
+// ---- what is kept of a session
+
+/// What is kept of a session that is opened is what the world says of it.
+pub fn sessions_open<F>()
+    ensures { (S : Summary F) → SessionsOpen S }
+{}
+
+/// A delivery makes of it what is kept behind the delivery, and the message made last is not refused.
+pub fn sessions_go_on<F>()
+    ensures { (S : Summary F) → SessionsGoOn S }
+{}
+
+/// No step touches what is kept of a session, but that a delivery changes the numbers of its own.
+pub fn sessions_stay<F>()
+    ensures { (S : Summary F) → SessionsStay S }
+{}
+
+/// What is kept of a session stays where the nodes stay.
+pub fn sessions_keep_nodes<F>()
+    ensures { (S : Summary F) → SessionsKeepNodes S }
+{}
+
+/// What is kept of a session tells what the world says of it.
+pub fn sessions_tell<F>()
+    ensures { (S : Summary F) → SessionsTell S }
 {}
 
 // ---- no premise can be left out

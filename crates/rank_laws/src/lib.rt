@@ -105,6 +105,11 @@ pub fn staircase_and_back()
     ensures steps { (steps : List ℕ) (cap : ℕ) → IsStaircase steps → slice_index steps (length steps - 1) ≡ cap → staircase (ranks_by steps cap) ≡ steps }
 {}
 
+/// The rank table that a staircase keeps has the ranks that are read from it.
+pub fn ranks_are_read()
+    ensures { (steps : List ℕ) (cap n : ℕ) → n ≤ cap → slice_index (ranks_by steps cap) n ≡ rank_by steps n }
+{}
+
 /// A list of numbers without a fault is a staircase.
 #[tactic(auto, using(crate::proofs::Staircases::no_steps_fault, crate::proofs::Staircases::staircase_no_fault))]
 pub fn steps_are_tested()

@@ -4,7 +4,9 @@ use Rattle.definitions.specs.Items.{Item, Range, whole}
 use Rattle.definitions.specs.Messages.{Part, Sum, Listing, Answer, Message}
 use Rattle.definitions.specs.Replies.{Peer}
 use Rattle.definitions.specs.Ranks.{least_ranks}
-use Rattle.definitions.specs.Talks.{talk, Knowledge, initiator_knows, responder_knows}
+use Rattle.definitions.specs.Talks.{talk, Knowledge, nothing, initiator_knows, responder_knows}
+use Rattle.definitions.specs.Refusals.{missing_answer}
+use Rattle.definitions.specs.Ends.{Over, Spent, Replies, Refuses, answer, after, initiator_at, responder_at}
 use Rattle.definitions.specs.Cost.{part_bound}
 use Rattle.definitions.specs.Theorems.{rank}
 use Rattle.definitions.specs.Worlds.{message_bound}
@@ -73,6 +75,24 @@ two_pairs_that_cross_bound = refl
 
 pub two_pairs_that_cross_parts : part_bound cd ab ≡ 8
 two_pairs_that_cross_parts = refl
+
+-- the same by two ends
+
+pub the_responder_replies : answer itself (responder_at itself cd ab 0) (first (codes "cd")) ≡ Replies (sum (below (codes "b")) (codes "a") ∷ sum (from (codes "b")) (codes "b") ∷ [])
+the_responder_replies = refl
+
+pub the_initiator_ends : initiator_at itself cd ab 5 ≡ record { peer = cd; stage = Over; sent = 3; learned = knows_letters (codes "cd") (codes "ab") }
+the_initiator_ends = refl
+
+pub the_responder_ends : responder_at itself cd ab 5 ≡ record { peer = ab; stage = Over; sent = 2; learned = knows_letters (codes "ab") (codes "cd") }
+the_responder_ends = refl
+
+-- an opening that comes again is refused, and nothing stays learned
+pub an_opening_again : answer itself (responder_at itself cd ab 3) (first (codes "cd")) ≡ Refuses missing_answer
+an_opening_again = refl
+
+pub spent_by_it : after itself (responder_at itself cd ab 3) (first (codes "cd")) ≡ record { peer = ab; stage = Spent; sent = 2; learned = nothing }
+spent_by_it = refl
 
 -- one missing of eight
 
