@@ -4,3 +4,4 @@ pub mod Bodies
 pub mod Messages
 pub mod Streams
 pub mod Made
+pub mod Kept

@@ -2,19 +2,19 @@
 --     ItemsFaultIsExact, PartFaultIsExact P      items and parts that are made: no fault where they have a spelling
 --     SetsFit P, AnswersFit P                    lists of a set's items, and its answers to lists
 --     MarksComeBack, PaddingIsLast               marks and their bytes
---     FeedsJoin P                                readings of streams in steps
+--     FeedsJoin P, FeedsRest P                   readings of streams in steps, and what is kept between them
 --     HeardAreMessages P, SessionsAreHeard P     what a stream spells
-use Rattle.std.specs.Prelude.{◌≡◌, ◌↔◌, ℕ, ◌/◌, ◌%◌, ◌^◌, ◌<◌, ◌≤◌, ◌==◌, ◌||◌, Bool, List, ◌++◌, length, None, bytes_eq, slice_index}
+use Rattle.std.specs.Prelude.{◌≡◌, ◌↔◌, ℕ, ◌+◌, ◌/◌, ◌%◌, ◌^◌, ◌<◌, ◌≤◌, ◌==◌, ◌||◌, Bool, List, ◌++◌, length, None, bytes_eq, slice_index}
 use Rattle.std.specs.List.{AllByRecursion}
 use Rattle.definitions.specs.Items.{IsBytes, Item, IsItem, Range, IsRange}
 use Rattle.definitions.specs.Sets.{IsSet, items_in}
 use Rattle.definitions.specs.Messages.{Part, Sum, Listing, Answer, Message}
 use Rattle.definitions.specs.Replies.{answer_to}
-use Rattle.definitions.specs.Wire.{Profile, AreItemsOf, IsFingerprint, IsPart, IsMessage, session_text, mark_bytes, mark_bytes_for}
+use Rattle.definitions.specs.Wire.{Profile, AreItemsOf, IsFingerprint, IsPart, IsMessage, session_text, mark_bytes, mark_bytes_for, max_body}
 use Rattle.definitions.specs.Faults.{items_fault, part_fault}
 use Rattle.definitions.specs.Reading.{marks_in}
 use Rattle.definitions.specs.Engines.{heard}
-use Rattle.definitions.specs.Streams.{Standing, Fed, feed}
+use Rattle.definitions.specs.Streams.{Standing, Fed, stays, feed}
 
 -- so few items that their number can be written
 abbrev pub ItemsFaultIsExact : Type 0
@@ -46,6 +46,14 @@ joined a b = record { events = a.events ++ b.events; to = b.to; kept = b.kept }
 abbrev pub FeedsJoin : {F : Type 0} → Profile F → Type 0
 FeedsJoin {F} P = (from : Standing) (front back : List ℕ) → IsBytes front → IsBytes back →
     feed P from (front ++ back) ≡ (let a = feed P from front in joined a (feed P a.to (a.kept ++ back)))
+
+abbrev pub IsEndOf : List ℕ → List ℕ → Type 0
+IsEndOf bytes kept = (front : List ℕ) × (bytes ≡ front ++ kept)
+
+-- what is kept is the end of what came, has no event or fault, and is no whole frame
+abbrev pub FeedsRest : {F : Type 0} → Profile F → Type 0
+FeedsRest {F} P = (from : Standing) (bytes : List ℕ) → IsBytes bytes → (let fed = feed P from bytes in
+    (feed P fed.to fed.kept ≡ stays fed.to fed.kept) × IsEndOf bytes fed.kept × (length fed.kept < 4 + max_body))
 
 -- the items that a set has in a range fit a frame
 abbrev pub SetsFit : {F : Type 0} → Profile F → Type 0

@@ -7,7 +7,7 @@ ghost use Rattle.definitions.specs.Wire.{Profile, IsProfile, short_text, upper_t
 ghost use Rattle.definitions.specs.Faults.{NoLower, NoUpper, NoItem, IsCount, Stops};
 ghost use Rattle.definitions.specs.Reading.{lower_at, upper_at, text_at, number_at};
 ghost use Rattle.codec_laws.specs.Codec.{FieldIsExact, BodyIsExact, NextIsExact, MessageIsExact, SpellingsStandAlone, FeedIsExact};
-ghost use Rattle.codec_laws.specs.Parts.{ItemsFaultIsExact, PartFaultIsExact, MarksComeBack, PaddingIsLast, FeedsJoin, HeardAreMessages, SessionsAreHeard, SetsFit, AnswersFit};
+ghost use Rattle.codec_laws.specs.Parts.{ItemsFaultIsExact, PartFaultIsExact, MarksComeBack, PaddingIsLast, FeedsJoin, FeedsRest, HeardAreMessages, SessionsAreHeard, SetsFit, AnswersFit};
 
 /// Numbers are bytes where each that is read from them is below 256.
 #[tactic(auto, using(crate::proofs::Fields::reads_fit, crate::proofs::Fields::byte_fits))]
@@ -104,6 +104,11 @@ pub fn padding_is_last()
 #[tactic(auto, using(crate::proofs::Streams::feeds_joined))]
 pub fn feeds_join<F>()
     ensures { (P : Profile F) → IsProfile P → FeedsJoin P }
+{}
+
+/// What is kept of a stream between its pieces has been read, and is no whole frame.
+pub fn feeds_rest<F>()
+    ensures { (P : Profile F) → IsProfile P → FeedsRest P }
 {}
 
 /// What a set of 65,536 items or fewer has in a range is listed in one frame.

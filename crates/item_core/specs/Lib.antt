@@ -1,2 +1,3 @@
 pub use Rattle.definitions.specs.Items
+pub use Rattle.definitions.specs.Sets
 pub mod Bounds

@@ -2,6 +2,7 @@
 #![tactic(auto)]
 
 mod item;
+mod listed;
 mod lower;
 mod range;
 mod short;
@@ -10,6 +11,7 @@ mod tests;
 mod upper;
 
 pub use item::{Item, LengthFault};
+pub use listed::is_listed;
 pub use lower::Lower;
 pub use range::{EmptyRange, Range};
 pub use upper::Upper;

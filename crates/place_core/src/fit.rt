@@ -10,8 +10,7 @@ ghost use Rattle.definitions.specs.Placing.{next_outside, next_sum};
 ghost use Rattle.place_core.specs.Fits.{rest_between, after_fit};
 
 use crate::fault::PlaceFault;
-use crate::listed::is_listed;
-use item_core::{Item, Lower, Range, Upper};
+use item_core::{Item, Lower, Range, Upper, is_listed};
 use wire_core::{Part, PartKind};
 
 /// How a part meets one part of the message that it answers.

@@ -4,7 +4,6 @@
 mod cursor;
 mod fault;
 mod fit;
-mod listed;
 mod place;
 mod placing;
 #[cfg(test)]
@@ -12,6 +11,5 @@ mod tests;
 
 pub use cursor::Cursor;
 pub use fault::PlaceFault;
-pub use listed::is_listed;
 pub use place::Place;
 pub use placing::{place_message, place_opening};

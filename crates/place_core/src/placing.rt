@@ -2,7 +2,7 @@
 
 ghost use Rattle.std.specs.Prelude.{◌≡◌, ◌↔◌, IsOk, fold};
 ghost use Rattle.definitions.specs.Items.{Apart};
-ghost use Rattle.definitions.specs.Messages.{RangesRise, IsOpening, open_ranges};
+ghost use Rattle.definitions.specs.Messages.{IsOpening, open_ranges};
 ghost use Rattle.definitions.specs.Placing as placing;
 ghost use Rattle.place_core.specs.PlaceFaults.{fault_in};
 
@@ -13,12 +13,9 @@ use wire_core::{Message, Part};
 
 /// Places each of the parts. Of parts behind a refusal nothing is looked at.
 fn place_parts(place: &mut Place<'_>, parts: &[Part])
-    ensures place { place.new ≡ fold placing.next place.old parts.now }
-    ensures rise { RangesRise parts.now }
+    ensures { place.new ≡ fold placing.next place.old parts.now }
 {
     for part in parts {
-        // reading it tells that it rises
-        let _ = part.range();
         let _ = place.next(part);
     }
 }
@@ -31,6 +28,7 @@ pub fn place_message(sent: &Message, message: &Message) -> Result<(), PlaceFault
     ensures placed { Apart (open_ranges sent.now) → IsOk result ↔ placing.Placed sent.now message.now }
 {
     laws::placing_is_exact::<Fingerprint>();
+    laws::messages_have_ranges::<Fingerprint>();
     let mut place = Place::after(sent);
     place_parts(&mut place, message.parts());
     place.finish()

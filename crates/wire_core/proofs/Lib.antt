@@ -4,3 +4,5 @@ pub mod Read
 pub mod Messages
 pub mod Exact
 pub mod Same
+pub mod Feeding
+pub mod Held

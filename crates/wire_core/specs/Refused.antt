@@ -5,12 +5,13 @@
 --     IfFault                    something of the fault's number
 use Rattle.std.specs.Prelude.{◌≡◌, ℕ, Result, Ok, Err, ⊤}
 use Rattle.wire_core.specs.declared.fault.WireFault.{WireFault}
-use Rattle.wire_core.specs.declared.fault.WireFault.TheVariants.{FrameLength, Truncated, BadKind, BadBound, EmptyRange, ItemLength, ItemOrder, ItemOutside, MarkPadding, Trailing, TooManyParts}
+use Rattle.wire_core.specs.declared.fault.WireFault.TheVariants.{BadHello, FrameLength, Truncated, BadKind, BadBound, EmptyRange, ItemLength, ItemOrder, ItemOutside, MarkPadding, Trailing, TooManyParts}
 use Rattle.wire_core.specs.declared.fault.DecodeError.{DecodeError}
 use Rattle.wire_core.specs.declared.fault.DecodeError.TheVariants as errors
 use Rattle.definitions.specs.Refusals as codes
 
 abbrev pub fault_number : WireFault → ℕ
+fault_number BadHello = codes.bad_hello
 fault_number FrameLength = codes.frame_length
 fault_number Truncated = codes.truncated
 fault_number BadKind = codes.bad_kind

@@ -1,4 +1,4 @@
-ghost use Rattle.std.specs.Prelude.{◌≡◌, ◌↔◌, IsTrue, ◌+◌, ◌≤◌, ◌<◌, ◌*◌, ◌^◌, None, length, sum_by, option_map};
+ghost use Rattle.std.specs.Prelude.{◌≡◌, ◌↔◌, IsTrue, ◌+◌, ◌≤◌, ◌<◌, ◌*◌, ◌^◌, None, length, sum_by, option_map, IfOk};
 ghost use Rattle.std.specs.Bool.{OnFalse};
 ghost use Rattle.std.specs.List.{AllByRecursion};
 ghost use Rattle.definitions.specs.Items.{IsItem};
@@ -14,6 +14,7 @@ use crate::field::rises_from;
 use crate::marks::Marks;
 use digest_core::Fingerprint;
 use item_core::{Item, Range, Upper};
+use std::alloc::{AllocError, Global};
 
 /// The greatest length of a frame's body in bytes.
 pub const MAX_BODY: usize = 8_388_608;
@@ -46,6 +47,20 @@ impl Body {
             Body::Sum(_) => &[],
             Body::List(items) => items,
             Body::Answer(_, items) => items,
+        }
+    }
+
+    /// The same body again.
+    pub fn copy(&self, alloc: Global) -> Result<Body, AllocError>
+        ensures { IfOk result (λ b. (X : _) → part_of X b ≡ part_of X self.now) }
+    {
+        match self {
+            Body::Sum(sum) => Ok(Body::Sum(*sum)),
+            Body::List(items) => Ok(Body::List(Vec::from_slice(alloc, items)?)),
+            Body::Answer(marks, items) => {
+                let marks = marks.copy(alloc)?;
+                Ok(Body::Answer(marks, Vec::from_slice(alloc, items)?))
+            }
         }
     }
 

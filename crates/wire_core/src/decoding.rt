@@ -1,4 +1,4 @@
-ghost use Rattle.std.specs.Prelude.{◌≡◌, ◌<◌, ◌≤◌, length, IfOk, IfSome, OnOk, IfErr, Ok, option_map};
+ghost use Rattle.std.specs.Prelude.{◌≡◌, ◌<◌, ◌≤◌, length, IfOk, IfSome, IfNone, OnOk, IfErr, Ok, option_map};
 ghost use Rattle.definitions.specs.Messages as messages;
 ghost use Rattle.definitions.specs.Fingerprints.{Lanes};
 ghost use Rattle.definitions.specs.Wire.{two_lane_profile, max_body, max_parts, Spells};
@@ -18,10 +18,11 @@ use digest_core::Fingerprint;
 use std::alloc::Global;
 
 /// Takes a frame off the front and gives its body, if a whole one has come.
-fn take_frame<'a>(bytes: &mut &'a [u8]) -> Result<Option<&'a [u8]>, WireFault>
+pub fn take_frame<'a>(bytes: &mut &'a [u8]) -> Result<Option<&'a [u8]>, WireFault>
     ensures read { GivesField (λ x. option_map (λ body. (body.now, bytes.new.now)) x) result (reading.frame_at bytes.old.now) }
     ensures short { IfOk result (λ x. IfSome x (λ body. length body.now ≤ max_body)) }
     ensures shorter { IfOk result (λ x. IfSome x (λ _. length bytes.new.now < length bytes.old.now)) }
+    ensures same { IfOk result (λ x. IfNone x (bytes.new.now ≡ bytes.old.now)) }
 {
     if bytes.len() < 4 {
         return Ok(None);
@@ -75,6 +76,9 @@ fn parts_in(alloc: Global, bytes: &[u8]) -> Result<Vec<Part>, DecodeError>
 fn message_of(alloc: Global, bytes: &[u8]) -> Result<Message, DecodeError>
     ensures { Gives (λ message. message) result (message_in two_lane_profile bytes.now) }
 {
+    codec_laws::two_lanes_are_real();
+    codec_laws::reads_are_bytes();
+    codec_laws::message_is_exact::<Fingerprint>();
     Ok(Message::of_parts(parts_in(alloc, bytes)?))
 }
 

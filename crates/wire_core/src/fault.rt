@@ -5,9 +5,11 @@ ghost use Rattle.wire_core.specs.declared.fault.DecodeError.TheVariants as error
 
 use std::alloc::{AllocError, AllocFailed};
 
-/// What is wrong with bytes that should spell a message: the first fault from left to right.
+/// What is wrong with bytes that should spell a message or a stream: the first fault from left to right.
 #[derive(Clone, Copy, Debug, PartialEq, Eq)]
 pub enum WireFault {
+    /// The first four bytes of a stream are another hello.
+    BadHello,
     /// The length of a body is 0 or above 8,388,608, or the body ends before a field does.
     FrameLength,
     /// The input ends before the message does.
@@ -33,11 +35,12 @@ pub enum WireFault {
 }
 
 impl WireFault {
-    /// The number of the refusal, 2 to 12.
+    /// The number of the refusal, 1 to 12.
     pub fn number(self) -> u8
         ensures { result ≡ fault_number self }
     {
         match self {
+            WireFault::BadHello => 1,
             WireFault::FrameLength => 2,
             WireFault::Truncated => 3,
             WireFault::BadKind => 4,
@@ -77,17 +80,17 @@ impl PartFault {
     }
 }
 
-/// Why a message could not be read.
+/// Why bytes could not be read.
 #[derive(Clone, Copy, Debug, PartialEq, Eq)]
 pub enum DecodeError {
-    /// The bytes spell no message.
+    /// They spell no message, or are in no stream.
     Fault(WireFault),
     /// Memory ran out.
     Memory,
 }
 
 impl DecodeError {
-    /// The number of the refusal: 2 to 12, or 90.
+    /// The number of the refusal: 1 to 12, or 90.
     pub fn number(self) -> u8
         ensures { result ≡ decode_error_number self }
     {

@@ -3,19 +3,26 @@
 
 mod body;
 mod decoding;
+mod event;
 mod fault;
+mod feed;
 mod field;
 mod marks;
 mod message;
 mod part;
+mod pieces;
 mod reading;
 mod spelling;
+mod standing;
+mod stream;
 #[cfg(test)]
 mod tests;
 mod watched;
 
 pub use decoding::decode_message;
+pub use event::Event;
 pub use fault::{DecodeError, PartFault, WireFault};
+pub use feed::Feed;
 pub use marks::Marks;
 pub use message::{MAX_PARTS, Message, TooManyParts};
 pub use part::{Part, PartKind};

@@ -53,6 +53,13 @@ impl Marks {
         })
     }
 
+    /// The same marks again.
+    pub fn copy(&self, alloc: Global) -> Result<Marks, AllocError>
+        ensures { IfOk result (λ m. m ≡ self.now) }
+    {
+        Marks::of_packed(alloc, self.bytes.as_slice(), self.count)
+    }
+
     /// The number of marks.
     pub fn len(&self) -> usize
         ensures length { result ≡ length self.now }

@@ -1,10 +1,12 @@
 ghost use Rattle.std.specs.Prelude.{◌≡◌, ◌↔◌, ◌≤◌, IfOk, IsOk, length};
+ghost use Rattle.std.specs.List.{AllByRecursion};
 ghost use Rattle.std.specs.Cmp.{partial_equiv_from_equiv};
 ghost use Rattle.std.specs.Cmp.Lexicographic.{pointwise, lists_equiv};
-ghost use Rattle.definitions.specs.Wire.{max_parts};
+ghost use Rattle.definitions.specs.Wire.{max_parts, two_lane_profile, IsPart, IsMessage};
 ghost use Rattle.wire_core.specs.Same.{same_part, same_part_equiv};
 
 use crate::part::Part;
+use std::alloc::{AllocError, Global};
 use std::marker::Model;
 
 /// The greatest number of parts of a message.
@@ -30,16 +32,15 @@ pub struct Message {
 }
 
 impl Model for Message {
-    ghost use Rattle.std.specs.Prelude.{◌≤◌, length};
     ghost use Rattle.definitions.specs.Messages as messages;
     ghost use Rattle.definitions.specs.Fingerprints.{Lanes};
-    ghost use Rattle.definitions.specs.Wire.{max_parts};
+    ghost use Rattle.definitions.specs.Wire.{two_lane_profile, IsMessage};
 
     ghost Value = { messages.Message Lanes };
 
     ghost view = { λ a. a.parts.items };
 
-    ghost invariant = { λ a. length a.parts.items ≤ max_parts };
+    ghost invariant = { λ a. IsMessage two_lane_profile a.parts.items };
 }
 
 impl Message {
@@ -51,23 +52,44 @@ impl Message {
         if parts.len() > MAX_PARTS {
             return Err(TooManyParts);
         }
+        have_spellings(&parts);
         Ok(Message { parts })
     }
 
-    /// The message of so few parts.
+    /// The message of parts that are known to be one.
     pub(crate) fn of_parts(parts: Vec<Part>) -> Message
-        requires { length parts.items ≤ max_parts }
+        requires { IsMessage two_lane_profile parts.items }
         ensures { result ≡ parts.items }
     {
         Message { parts }
     }
 
+    /// The same message again.
+    pub fn copy(&self, alloc: Global) -> Result<Message, AllocError>
+        ensures { IfOk result (λ m. m ≡ self.now) }
+    {
+        let mut parts = Vec::with_capacity(alloc, self.parts.len())?;
+        for part in self.parts() {
+            parts.push(part.copy(alloc)?)?;
+        }
+        Ok(Message { parts })
+    }
+
     /// The parts in order.
     pub fn parts(&self) -> &[Part]
         ensures parts { result.now ≡ self.now }
-        ensures few { length self.now ≤ max_parts }
+        ensures message { IsMessage two_lane_profile self.now }
     {
         &self.parts
+    }
+}
+
+/// Each of the parts has a spelling, as reading it tells.
+fn have_spellings(parts: &[Part])
+    ensures { AllByRecursion (IsPart two_lane_profile) parts.now }
+{
+    for part in parts {
+        let _ = part.range();
     }
 }
 

@@ -15,7 +15,7 @@ use crate::marks::Marks;
 use crate::spelling::push_frame;
 use digest_core::Fingerprint;
 use item_core::{Item, Range};
-use std::alloc::AllocError;
+use std::alloc::{AllocError, Global};
 use std::marker::Model;
 
 /// The kinds of part.
@@ -95,6 +95,16 @@ impl Part {
         Part::checked(range, Body::Answer(marks, items))
     }
 
+    /// The same part again.
+    pub fn copy(&self, alloc: Global) -> Result<Part, AllocError>
+        ensures { IfOk result (λ p. p ≡ self.now) }
+    {
+        Ok(Part {
+            range: self.range,
+            body: self.body.copy(alloc)?,
+        })
+    }
+
     /// The kind.
     pub fn kind(&self) -> PartKind
         ensures { result ≡ kind_of self.now }
@@ -147,8 +157,7 @@ impl Part {
 
     /// Appends the frame of the part.
     pub(crate) fn push(&self, out: &mut Vec<u8>) -> Result<(), AllocError>
-        ensures part { IsPart two_lane_profile self.now }
-        ensures ok { OnOk result (out.new.items ≡ out.old.items ++ part_text two_lane_profile self.now) }
+        ensures { OnOk result (out.new.items ≡ out.old.items ++ part_text two_lane_profile self.now) }
     {
         push_frame(out, &self.range, &self.body)
     }

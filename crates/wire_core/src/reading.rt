@@ -1,13 +1,15 @@
 //! Reading what follows the kind of a part, and a whole body.
 
 ghost use Rattle.std.specs.Prelude.{◌≡◌, ◌<◌, ◌≤◌, None, [], OnOk, IfErr, length};
-ghost use Rattle.definitions.specs.Wire.{two_lane_profile, max_body, One_message};
+ghost use Rattle.definitions.specs.Wire.{two_lane_profile, max_body, One_message, Stream};
 ghost use Rattle.definitions.specs.Reading as reading;
 ghost use Rattle.wire_core.specs.Refused.{GivesField, Gives};
 ghost use Rattle.wire_core.specs.Bodies.{part_of, fields_event};
-ghost use Rattle.wire_core.specs.Readers.{event_of, fingerprint_at};
+ghost use Rattle.wire_core.specs.Events.{event_value};
+ghost use Rattle.wire_core.specs.Readers.{event_of, fingerprint_at, code_at};
 
 use crate::body::Body;
+use crate::event::Event;
 use crate::fault::{DecodeError, WireFault};
 use crate::field::{take_byte, take_bytes, take_items, take_number, take_range};
 use crate::marks::{Marks, has_padding};
@@ -125,4 +127,39 @@ pub fn part_in(alloc: Global, body: &[u8]) -> Result<Option<Part>, DecodeError>
         Some(fields) => Ok(Some(Part::of_fields(fields))),
         None => Ok(None),
     }
+}
+
+/// What follows the kind of a fault frame: its code.
+fn code_in(rest: &[u8]) -> Result<u8, WireFault>
+    ensures { GivesField (λ code. code) result (code_at rest.now) }
+{
+    let mut bytes = rest;
+    let code = take_byte(&mut bytes)?;
+    ends(bytes)?;
+    Ok(code)
+}
+
+/// What the body of a part's frame says, or that of a message's end.
+fn part_event_in(alloc: Global, body: &[u8]) -> Result<Event, DecodeError>
+    requires { length body.now ≤ max_body }
+    ensures { Gives event_value result (reading.event_in two_lane_profile One_message body.now) }
+{
+    match part_in(alloc, body)? {
+        Some(part) => Ok(Event::Part(part)),
+        None => Ok(Event::End),
+    }
+}
+
+/// What a frame's body says in a stream.
+pub fn event_in(alloc: Global, body: &[u8]) -> Result<Event, DecodeError>
+    requires { length body.now ≤ max_body }
+    ensures { Gives event_value result (reading.event_in two_lane_profile Stream body.now) }
+{
+    let Some((&kind, rest)) = body.split_first() else {
+        return Err(DecodeError::Fault(WireFault::FrameLength));
+    };
+    if kind == 5 {
+        return Ok(Event::Fault(code_in(rest)?));
+    }
+    part_event_in(alloc, body)
 }

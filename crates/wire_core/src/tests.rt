@@ -1,6 +1,6 @@
 use crate::{
-    DecodeError, Marks, Message, Part, PartFault, TooManyParts, Watched, decode_message,
-    encode_message, encode_part,
+    DecodeError, Event, Feed, Marks, Message, Part, PartFault, TooManyParts, Watched, WireFault,
+    decode_message, encode_message, encode_part,
 };
 use digest_core::{Fingerprint, Summary};
 use item_core::{Item, Range, Upper};
@@ -228,6 +228,25 @@ fn nine_marks(rt: HostRuntime) -> Result<(), Fail> {
     Ok(())
 }
 
+#[test]
+fn copies(rt: HostRuntime) -> Result<(), Fail> {
+    let alloc = rt.alloc();
+    let marks = Marks::new(alloc, &[true, false])?;
+    let answer = Part::answer(Range::whole(), marks, vec![in alloc; item(&rt, b"a")]?)
+        .ok()
+        .expect(&rt, "a part");
+    assert_eq!(rt; answer.copy(alloc)?, answer);
+    let list = Part::list(Range::whole(), vec![in alloc; item(&rt, b"b")]?)
+        .ok()
+        .expect(&rt, "a part");
+    let sum = Part::sum(Range::whole(), Fingerprint::zero());
+    let message = Message::new(vec![in alloc; sum, list, answer]?)
+        .ok()
+        .expect(&rt, "a message");
+    assert_eq!(rt; message.copy(alloc)?, message);
+    Ok(())
+}
+
 /// A List of so many items of 64 bytes: its body has 7 bytes, and 65 for each item.
 fn long_list(alloc: Global, count: u32) -> Result<Result<Part, PartFault>, Fail> {
     let mut items: Vec<Item> = Vec::new(alloc);
@@ -323,4 +342,86 @@ fn the_end_of_the_input(rt: HostRuntime) -> Result<(), Fail> {
         "Watched { inner: [], failed: false, ended: true }"
     );
     Ok(())
+}
+
+/// A feed of a stream, and the events that it gave.
+#[derive(Drop)]
+struct Fed {
+    feed: Feed,
+    events: Vec<Event>,
+}
+
+impl Fed {
+    fn new(alloc: Global) -> Fed {
+        Fed {
+            feed: Feed::new(alloc),
+            events: Vec::new(alloc),
+        }
+    }
+
+    /// The number of the refusal, if the piece meets one.
+    fn refusal(&mut self, alloc: Global, piece: &[u8]) -> Option<u8> {
+        let result = self.feed.feed(alloc, piece, &mut self.events);
+        result.err().map(DecodeError::number)
+    }
+
+    /// The number of the refusal, if the stream may not end here.
+    fn end(&self) -> Option<u8> {
+        self.feed.finish().err().map(WireFault::number)
+    }
+}
+
+/// The number of the refusal that the bytes meet behind a hello.
+fn refusal_behind_hello(alloc: Global, bytes: &[u8]) -> Option<u8> {
+    let mut fed = Fed::new(alloc);
+    let _ = fed.refusal(alloc, b"RRS1");
+    fed.refusal(alloc, bytes)
+}
+
+#[test]
+fn stream_of_another_profile(rt: HostRuntime) {
+    let alloc = rt.alloc();
+    let mut fed = Fed::new(alloc);
+    assert_eq!(rt; fed.refusal(alloc, &[0x52, 0x52, 0x53]), None);
+    assert_eq!(rt; fed.refusal(alloc, &[0x30]), Some(1));
+    assert_eq!(rt; fed.refusal(alloc, &[]), Some(1));
+    assert_eq!(rt; fed.end(), Some(1));
+}
+
+#[test]
+fn stream_cut_inside_a_frame(rt: HostRuntime) {
+    let alloc = rt.alloc();
+    let mut fed = Fed::new(alloc);
+    let bytes = [0x52, 0x52, 0x53, 0x31, 0, 0, 0, 0x23, 1, 0];
+    assert_eq!(rt; fed.refusal(alloc, &bytes), None);
+    assert!(rt; fed.events.is_empty());
+    assert_eq!(rt; fed.end(), Some(3));
+}
+
+#[test]
+fn lengths_of_frames_in_a_stream(rt: HostRuntime) -> Result<(), Fail> {
+    let alloc = rt.alloc();
+    assert_eq!(rt; refusal_behind_hello(alloc, &[0, 0, 0, 0]), Some(2));
+    assert_eq!(rt; refusal_behind_hello(alloc, &[0, 0x80, 0, 1]), Some(2));
+    let mut longest = vec![in alloc; 0u8; 4 + 8_388_608]?;
+    longest[1] = 0x80;
+    assert_eq!(rt; refusal_behind_hello(alloc, &longest), Some(4));
+    Ok(())
+}
+
+#[test]
+fn message_byte_by_byte(rt: HostRuntime) {
+    let alloc = rt.alloc();
+    let mut bytes = [0u8; 54];
+    bytes[..9].copy_from_slice(&[0x52, 0x52, 0x53, 0x31, 0, 0, 0, 0x23, 1]);
+    bytes[10] = 0xFF;
+    bytes[43..].copy_from_slice(&[0, 0, 0, 1, 4, 0, 0, 0, 2, 5, 0x15]);
+    let mut fed = Fed::new(alloc);
+    for byte in bytes {
+        assert_eq!(rt; fed.refusal(alloc, &[byte]), None);
+    }
+    let sum = Event::Part(Part::sum(Range::whole(), Fingerprint::zero()));
+    let events = [sum, Event::End, Event::Fault(0x15)];
+    assert_eq!(rt; fed.events.as_slice(), events.as_slice());
+    assert_eq!(rt; fed.end(), None);
 }

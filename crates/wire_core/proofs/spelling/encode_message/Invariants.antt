@@ -1,12 +1,10 @@
 use Rattle.std.proofs.Common.{◌≡◌, take}
 use Rattle.std.specs.Prelude.{flat_map}
-use Rattle.std.specs.List.{AllByRecursion}
-use Rattle.definitions.specs.Wire.{two_lane_profile, part_text, IsPart}
+use Rattle.definitions.specs.Wire.{two_lane_profile, part_text}
 use Rattle.wire_core.proofs.spelling.encode_message.Given as goal
 
 abbrev pub invariant-loop-part : goal.invariant-loop-part
 invariant-loop-part l = record {
   same : l.part-items ≡ l.message;
   written : l.out.items ≡ flat_map (part_text two_lane_profile) (take l.part-index l.part-items);
-  each : AllByRecursion (IsPart two_lane_profile) (take l.part-index l.part-items);
 }

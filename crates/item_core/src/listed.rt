@@ -1,7 +1,7 @@
 ghost use Rattle.std.specs.Prelude.{◌≡◌};
 ghost use Rattle.definitions.specs.Sets.{IsSet, has};
 
-use item_core::Item;
+use crate::item::Item;
 
 /// Whether the item is one of these, which rise strictly. By binary search.
 pub fn is_listed(listed: &[Item], item: &Item) -> bool

@@ -1,0 +1,121 @@
+-- Reading a stream frame by frame, as a loop does.
+use Rattle.std.proofs.Common.{rules, ◌≡◌, ℕ, zero, suc, ◌+◌, ◌<◌, ◌≤◌, Result, Ok, Err, IfOk, List, [], ◌∷◌, ◌++◌, length, take, drop, ◌-◌, refl, sym, ap, subst, append_assoc, ◌∙◌, arith}
+use Rattle.std.proofs.lemmas.List.{append-nil, length-append, length-drop, take_all, take-append-drop}
+use Rattle.definitions.specs.Fingerprints.{Lanes}
+use Rattle.definitions.specs.Wire.{two_lane_profile, Stream}
+use Rattle.definitions.specs.Wire as wire
+use Rattle.definitions.specs.Reading.{event_at}
+use Rattle.definitions.specs.Items.{IsBytes}
+use Rattle.definitions.specs.Streams as streams
+use Rattle.definitions.specs.Streams.{Fed, fed_by, feed_frames, feed, stays}
+use Rattle.codec_laws.specs.Parts.{FeedsJoin, FeedsRest, IsEndOf, joined}
+use Rattle.wire_core.specs.Events.{event_values}
+use Rattle.wire_core.specs.Standings.{standing_of, left_at, behind, goes_on, fed_as}
+use Rattle.wire_core.specs.declared.event.Event as declared
+use Rattle.wire_core.specs.declared.standing.Standing.{Standing}
+use Rattle.wire_core.specs.declared.standing.Step.{Step}
+use Rattle.wire_core.specs.declared.standing.Step.TheVariants as steps
+
+-- the events so far, in front of those that are still to be read, are all
+abbrev pub IsReached : List (wire.Event Lanes) → ℕ → List ℕ → List (wire.Event Lanes) → ℕ → List ℕ → Type 0
+IsReached events parts rest before first bytes = (fuel : ℕ) → length bytes ≤ fuel →
+    (left : ℕ) × (length rest ≤ left) × (behind events (feed_frames two_lane_profile left parts rest) ≡ behind before (feed_frames two_lane_profile fuel first bytes))
+
+-- one frame, whatever comes behind it
+abbrev pub IsStep : List (wire.Event Lanes) → ℕ → List ℕ → List (wire.Event Lanes) → Step → List ℕ → Type 0
+IsStep events parts rest more_events step after = (more : ℕ → List ℕ → Fed Lanes) →
+    behind events (fed_by (event_at two_lane_profile Stream parts rest) parts rest more) ≡ behind more_events (goes_on step after more)
+
+a_step : (events : List (wire.Event Lanes)) (parts : ℕ) (rest : List ℕ) (more_events : List (wire.Event Lanes)) (step : Step) (after : List ℕ) → IsStep events parts rest more_events step after →
+    (fuel : ℕ) → length rest ≤ fuel →
+    (left : ℕ) × (length rest ≤ left + 1) × (behind events (feed_frames two_lane_profile fuel parts rest) ≡ behind more_events (goes_on step after (feed_frames two_lane_profile left)))
+a_step events parts [] more_events step after h zero le = (0, omega arith, h (feed_frames two_lane_profile 0))
+a_step events parts (b ∷ rest) more_events step after h zero le = absurd (omega arith)
+a_step events parts rest more_events step after h (suc fuel) le = (fuel, omega arith, h (feed_frames two_lane_profile fuel))
+
+pub frames_begin : (events : List (wire.Event Lanes)) (parts : ℕ) (bytes : List ℕ) → IsReached events parts bytes events parts bytes
+frames_begin events parts bytes fuel le = (fuel, le, refl)
+
+pub frames_go_on : (events : List (wire.Event Lanes)) (parts : ℕ) (rest : List ℕ) (before : List (wire.Event Lanes)) (first : ℕ) (bytes : List ℕ) (more_events : List (wire.Event Lanes)) (count : ℕ) (after : List ℕ) →
+    IsReached events parts rest before first bytes → IsStep events parts rest more_events (steps.More count) after → length after < length rest →
+    IsReached more_events count after before first bytes
+frames_go_on events parts rest before first bytes more_events count after so_far h shorter fuel le =
+    let r = so_far fuel le in
+    let s = a_step events parts rest more_events (steps.More count) after h r.0 r.1 in
+    let room = s.1 in
+    (s.0, omega arith, sym s.2 ∙ r.2)
+
+pub frames_rest : (events : List (wire.Event Lanes)) (parts : ℕ) (rest : List ℕ) (before : List (wire.Event Lanes)) (first : ℕ) (bytes : List ℕ) (out : List declared.Event) (standing : Standing) (after : List ℕ) →
+    IsReached events parts rest before first bytes → IsStep events parts rest (event_values out) (steps.Rest standing) after →
+    (fuel : ℕ) → length bytes ≤ fuel → behind before (feed_frames two_lane_profile fuel first bytes) ≡ fed_as out standing (left_at standing after)
+frames_rest events parts rest before first bytes out standing after so_far h fuel le =
+    let r = so_far fuel le in
+    let s = a_step events parts rest (event_values out) (steps.Rest standing) after h r.0 r.1 in
+    sym r.2 ∙ s.2 ∙ (λ i. record { events = append-nil (event_values out) i; to = standing_of standing; kept = left_at standing after })
+
+pub before_both : {X : Type 0} (a b c : List X) → take (length a) b ≡ a → take (length b) c ≡ b → take (length a) c ≡ a
+before_both [] b c h k = refl
+before_both (x ∷ a) [] c h k = absurd cc
+before_both (x ∷ a) (y ∷ b) [] h k = absurd cc
+before_both {X} (x ∷ a) (y ∷ b) (z ∷ c) h k =
+    let head_h : y ≡ x = cc in
+    let tail_h : take (length a) b ≡ a = cc in
+    let head_k : z ≡ y = cc in
+    let tail_k : take (length b) c ≡ b = cc in
+    let rest = before_both a b c tail_h tail_k in
+    λ i. (head_k ∙ head_h) i ∷ rest i
+
+-- ---- in pieces
+
+fed_parts : (before : List (wire.Event Lanes)) (fed : Fed Lanes) (out : List declared.Event) (s : Standing) (kept : List ℕ) → behind before fed ≡ fed_as out s kept →
+    (before ++ fed.events ≡ event_values out) × (fed.to ≡ standing_of s) × (fed.kept ≡ kept)
+fed_parts before fed out s kept h = (ap (λ (f : Fed Lanes). f.events) h, ap (λ (f : Fed Lanes). f.to) h, ap (λ (f : Fed Lanes). f.kept) h)
+
+pub piece_joined : FeedsJoin two_lane_profile → (before : List (wire.Event Lanes)) (from : streams.Standing) (front : List ℕ) (out : List declared.Event) (s : Standing) (kept : List ℕ) → IsBytes front →
+    behind before (feed two_lane_profile from front) ≡ fed_as out s kept →
+    (back : List ℕ) → IsBytes back → behind before (feed two_lane_profile from (front ++ back)) ≡ behind (event_values out) (feed two_lane_profile (standing_of s) (kept ++ back))
+piece_joined join before from front out s kept fits h back more =
+    let a : Fed Lanes = feed two_lane_profile from front in
+    let p = fed_parts before a out s kept h in
+    let b : Fed Lanes = feed two_lane_profile a.to (a.kept ++ back) in
+    ap (behind before) (join from front back fits more)
+    ∙ (λ i. record { events = sym (append_assoc before a.events b.events) i; to = b.to; kept = b.kept })
+    ∙ (λ i. behind (p.0 i) (feed two_lane_profile (p.1 i) (p.2 i ++ back)))
+
+pub piece_rests : FeedsRest two_lane_profile → (before : List (wire.Event Lanes)) (from : streams.Standing) (front : List ℕ) (out : List declared.Event) (s : Standing) (kept : List ℕ) → IsBytes front →
+    behind before (feed two_lane_profile from front) ≡ fed_as out s kept →
+    (feed two_lane_profile (standing_of s) kept ≡ stays (standing_of s) kept) × IsEndOf front kept
+piece_rests rests before from front out s kept fits h =
+    let a : Fed Lanes = feed two_lane_profile from front in
+    let p = fed_parts before a out s kept h in
+    let r = rests from front fits in
+    (sym (λ i. feed two_lane_profile (p.1 i) (p.2 i)) ∙ r.0 ∙ (λ i. stays (p.1 i) (p.2 i)), subst (λ (t : List ℕ). IsEndOf front t) p.2 r.1)
+
+pub if_ok : {X E : Type 0} (r : Result X E) (P Q : X → Type 0) → ((x : X) → P x → Q x) → IfOk r P → IfOk r Q
+if_ok (Ok x) P Q goes h = goes x h
+if_ok (Err e) P Q goes h = tt
+
+-- ---- the end of a list
+
+drop_front : (front back : List ℕ) → drop (length front) (front ++ back) ≡ back
+drop_front [] back = refl
+drop_front (x ∷ front) back = drop_front front back
+
+pub end_dropped : (bytes back : List ℕ) → IsEndOf bytes back → drop (length bytes - length back) bytes ≡ back
+end_dropped bytes back (front, is) =
+    let l = ap length is in
+    let a = length-append front back in
+    let count : length bytes - length back ≡ length front = omega arith in
+    (λ i. drop (count i) (is i)) ∙ drop_front front back
+
+pub end_of_dropped : (bytes back : List ℕ) (taken : ℕ) → IsEndOf (drop taken bytes) back → IsEndOf bytes back
+end_of_dropped bytes back taken (front, is) =
+    (take taken bytes ++ front, sym (take-append-drop taken bytes) ∙ ap (λ (t : List ℕ). take taken bytes ++ t) is ∙ sym (append_assoc (take taken bytes) front back))
+
+pub drop_kept : (taken : ℕ) (kept back : List ℕ) → taken ≤ length kept → drop taken (kept ++ back) ≡ drop taken kept ++ back
+drop_kept zero kept back le = refl
+drop_kept (suc taken) [] back le = absurd (omega arith)
+drop_kept (suc taken) (x ∷ kept) back le = drop_kept taken kept back (omega arith)
+
+pub slice_back : (taken : ℕ) (bytes : List ℕ) → take (length bytes - taken) (drop taken bytes) ≡ drop taken bytes
+slice_back taken bytes = search (rules, take_all, length-drop)

@@ -1,0 +1,33 @@
+use Rattle.std.proofs.Common.{rules, ◌≡◌, ◌++◌, List, ℕ}
+use Rattle.definitions.specs.Items.{IsBytes}
+use Rattle.definitions.specs.Wire.{two_lane_profile}
+use Rattle.definitions.specs.Streams.{feed, stays}
+use Rattle.codec_laws.specs.Parts.{IsEndOf}
+use Rattle.wire_core.specs.Events.{event_values}
+use Rattle.wire_core.specs.Standings.{standing_of, behind, fed_as}
+use Rattle.wire_core.proofs.Feeding.{if_ok, piece_joined, piece_rests}
+use Rattle.wire_core.proofs.stream.read_piece.Goals as goal
+
+pub returns-clause-joined : goal.returns-clause-joined
+returns-clause-joined c =
+    let join = c.feeds_join.ensures two_lane_profile c.two_lanes_are_real.ensures in
+    let fits = c.are_bytes.ensures in
+    if_ok c.read_on.result _ _
+    (λ s h. piece_joined join (event_values c.args.out.now.items) (standing_of c.args.standing) c.args.bytes.now.now c.read_on.new.out.items s c.read_on.new.bytes.now fits h)
+    c.read_on.ensures.fed
+
+pub returns-clause-rest : goal.returns-clause-rest
+returns-clause-rest c =
+    let rests = c.feeds_rest.ensures two_lane_profile c.two_lanes_are_real.ensures in
+    let fits = c.are_bytes.ensures in
+    if_ok c.read_on.result _ _
+    (λ s h. (piece_rests rests (event_values c.args.out.now.items) (standing_of c.args.standing) c.args.bytes.now.now c.read_on.new.out.items s c.read_on.new.bytes.now fits h).0)
+    c.read_on.ensures.fed
+
+pub returns-clause-end : goal.returns-clause-end
+returns-clause-end c =
+    let rests = c.feeds_rest.ensures two_lane_profile c.two_lanes_are_real.ensures in
+    let fits = c.are_bytes.ensures in
+    if_ok c.read_on.result _ (λ _. IsEndOf c.args.bytes.now.now c.read_on.new.bytes.now)
+    (λ s h. (piece_rests rests (event_values c.args.out.now.items) (standing_of c.args.standing) c.args.bytes.now.now c.read_on.new.out.items s c.read_on.new.bytes.now fits h).1)
+    c.read_on.ensures.fed

@@ -1,0 +1,45 @@
+-- Where a stream stands, as the definitions have it, and reading on from there.
+--     standing_of standing           as the definitions have it
+--     left_at standing bytes         what is kept there of bytes that are not read yet
+--     behind before fed              events that came before, and what is fed then
+--     goes_on step bytes more        what is fed behind a step: more frames, or nothing
+--     IfMore step Q                  something of the number of parts, where more frames come
+--     fed_as events standing bytes   events that were given, where the stream stands then, and what is kept
+use Rattle.std.specs.Prelude.{ℕ, List, [], ◌++◌, ⊤}
+use Rattle.definitions.specs.Fingerprints.{Lanes}
+use Rattle.definitions.specs.Wire.{Event}
+use Rattle.definitions.specs.Streams as streams
+use Rattle.definitions.specs.Streams.{Fed, stays}
+use Rattle.wire_core.specs.Refused.{fault_number}
+use Rattle.wire_core.specs.Events.{event_values}
+use Rattle.wire_core.specs.declared.event.Event as declared
+use Rattle.wire_core.specs.declared.standing.Standing.{Standing}
+use Rattle.wire_core.specs.declared.standing.Standing.TheVariants as standings
+use Rattle.wire_core.specs.declared.standing.Step.{Step}
+use Rattle.wire_core.specs.declared.standing.Step.TheVariants as steps
+
+abbrev pub standing_of : Standing → streams.Standing
+standing_of standings.BeforeHello = streams.Before_hello
+standing_of (standings.InMessage parts) = streams.In_message parts
+standing_of standings.MeaningOver = streams.Meaning_over
+standing_of (standings.Faulted f) = streams.Faulted (fault_number f)
+
+abbrev pub left_at : Standing → List ℕ → List ℕ
+left_at standings.BeforeHello bytes = bytes
+left_at (standings.InMessage parts) bytes = bytes
+left_at standings.MeaningOver bytes = []
+left_at (standings.Faulted f) bytes = []
+
+abbrev pub behind : {F : Type 0} → List (Event F) → Fed F → Fed F
+behind before fed = record { events = before ++ fed.events; to = fed.to; kept = fed.kept }
+
+abbrev pub goes_on : Step → List ℕ → (ℕ → List ℕ → Fed Lanes) → Fed Lanes
+goes_on (steps.More parts) bytes more = more parts bytes
+goes_on (steps.Rest standing) bytes more = stays (standing_of standing) (left_at standing bytes)
+
+abbrev pub IfMore : Step → (ℕ → Type 0) → Type 0
+IfMore (steps.More parts) Q = Q parts
+IfMore (steps.Rest standing) Q = ⊤
+
+abbrev pub fed_as : List declared.Event → Standing → List ℕ → Fed Lanes
+fed_as events standing bytes = record { events = event_values events; to = standing_of standing; kept = bytes }

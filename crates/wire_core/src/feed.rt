@@ -1,0 +1,105 @@
+ghost use Rattle.std.specs.Prelude.{◌≡◌, ℕ, [], List, ◌++◌, ◌+◌, ◌<◌, length, take};
+ghost use Rattle.definitions.specs.Items.{IsBytes};
+ghost use Rattle.definitions.specs.Fingerprints.{Lanes};
+ghost use Rattle.definitions.specs.Wire.{two_lane_profile, max_body};
+ghost use Rattle.definitions.specs.Wire as wire;
+ghost use Rattle.definitions.specs.Streams.{Before_hello, feed, finish_fault};
+ghost use Rattle.wire_core.specs.Events.{event_values};
+ghost use Rattle.wire_core.specs.Standings.{behind};
+ghost use Rattle.wire_core.specs.Feeds.{fed_into, Holds, fault_at, fault_in, refusal_in, UnlessMemory, IfMemory};
+
+use crate::event::Event;
+use crate::fault::{DecodeError, WireFault};
+use crate::pieces::{are_few, read_behind};
+use crate::standing::Standing;
+use crate::stream::are_bytes;
+use digest_core::Fingerprint;
+use std::alloc::Global;
+use std::marker::Model;
+
+/// A stream that comes in pieces: a hello, and then frames. Keeps the bytes of an unfinished hello or frame, and no more.
+#[derive(Debug, Drop)]
+pub struct Feed {
+    standing: Standing,
+    kept: Vec<u8>,
+}
+
+impl Model for Feed {
+    ghost use Rattle.std.specs.Prelude.{◌≡◌};
+    ghost use Rattle.definitions.specs.Wire.{two_lane_profile};
+    ghost use Rattle.definitions.specs.Streams.{feed, stays};
+    ghost use Rattle.wire_core.specs.Feeds.{StreamState};
+
+    ghost Value = { StreamState };
+
+    ghost use Rattle.wire_core.specs.Standings.{standing_of};
+
+    ghost view = { λ a. record { standing = standing_of a.standing; kept = a.kept.items } };
+
+    ghost invariant = { λ a. feed two_lane_profile (standing_of a.standing) a.kept.items ≡ stays (standing_of a.standing) a.kept.items };
+}
+
+impl Feed {
+    /// Before the hello.
+    pub fn new(alloc: Global) -> Feed
+        ensures { result ≡ record { standing = Before_hello; kept = [] } }
+    {
+        Feed {
+            standing: Standing::BeforeHello,
+            kept: Vec::new(alloc),
+        }
+    }
+
+    /// Reads on in the stream, and appends the events that the piece completes.
+    ///
+    /// The first fault, 1 to 12, is answered at the byte that tells it, behind the events before it, and at every later
+    /// call. Where memory runs out, the feed and the events are as before the call.
+    pub fn feed(
+        &mut self,
+        alloc: Global,
+        piece: &[u8],
+        out: &mut Vec<Event>,
+    ) -> Result<(), DecodeError>
+        // The kept bytes and the piece are fed from where the stream stood.
+        ensures fed { UnlessMemory result (behind (event_values out.old.items) (feed two_lane_profile self.old.standing (self.old.kept ++ piece.now)) ≡ fed_into (event_values out.new.items) self.new) }
+        ensures before { take (length out.old.items) out.new.items ≡ out.old.items }
+        ensures fault { UnlessMemory result (refusal_in result ≡ fault_at self.new.standing) }
+        ensures memory { IfMemory result ((self.new ≡ self.old) × (out.new.items ≡ out.old.items)) }
+        // The cutting does not matter: the events of all calls are those of the stream.
+        ensures joined { UnlessMemory result ((bytes : List ℕ) (events : List (wire.Event Lanes)) → IsBytes bytes → Holds self.old bytes events → Holds self.new (bytes ++ piece.now) (events ++ (feed two_lane_profile self.old.standing (self.old.kept ++ piece.now)).events)) }
+    {
+        codec_laws::two_lanes_are_real();
+        codec_laws::feeds_join::<Fingerprint>();
+        are_bytes(piece);
+        let kept = self.kept.len();
+        let events = out.len();
+        match read_behind(alloc, &mut self.kept, piece, self.standing, out) {
+            Ok(standing) => {
+                self.standing = standing;
+                Ok(standing.fault()?)
+            }
+            Err(refused) => {
+                self.kept.truncate(kept);
+                out.truncate(events);
+                Err(DecodeError::from(refused))
+            }
+        }
+    }
+
+    /// Whether the stream may end here.
+    ///
+    /// It may not inside the hello or a frame, and not after a part whose message has no end yet (3); a fault stays.
+    pub fn finish(&self) -> Result<(), WireFault>
+        ensures fault { fault_in result ≡ finish_fault self.now.standing self.now.kept }
+        // Less than the longest frame is kept.
+        ensures few { length self.now.kept < 4 + max_body }
+    {
+        are_few(&self.kept, self.standing);
+        match self.standing {
+            Standing::MeaningOver => Ok(()),
+            Standing::Faulted(fault) => Err(fault),
+            Standing::InMessage(0) if self.kept.is_empty() => Ok(()),
+            _ => Err(WireFault::Truncated),
+        }
+    }
+}

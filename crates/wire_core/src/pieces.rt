@@ -1,0 +1,129 @@
+//! A stream that comes in pieces: the bytes that are kept of an unfinished hello or frame, and a piece behind them.
+
+ghost use Rattle.std.specs.Prelude.{◌≡◌, ℕ, ◌+◌, ◌<◌, ◌≤◌, List, ◌++◌, IfOk, OnOk, OnErr, length, take, drop};
+ghost use Rattle.std.specs.Int.{w32, from_be_bytes};
+ghost use Rattle.definitions.specs.Items.{IsBytes};
+ghost use Rattle.definitions.specs.Wire.{two_lane_profile, max_body};
+ghost use Rattle.definitions.specs.Streams.{feed, stays};
+ghost use Rattle.wire_core.specs.Events.{event_values};
+ghost use Rattle.wire_core.specs.Standings.{standing_of, behind, fed_as};
+
+use crate::event::Event;
+use crate::standing::Standing;
+use crate::stream::{are_bytes, read_piece};
+use digest_core::Fingerprint;
+use std::alloc::{AllocError, Global};
+
+/// How many bytes an unfinished hello or frame wants beside those that have come, as far as these tell: at least 1.
+fn wanted(kept: &[u8]) -> usize
+    ensures some { 0 < result }
+    ensures short { length kept.now < 4 → length kept.now + result ≡ 4 }
+    ensures frame { 4 ≤ length kept.now → length kept.now < 4 + from_be_bytes w32 (take 4 kept.now) → length kept.now + result ≡ 4 + from_be_bytes w32 (take 4 kept.now) }
+{
+    if kept.len() < 4 {
+        return 4 - kept.len();
+    }
+    let length = u32::from_be_bytes([kept[0], kept[1], kept[2], kept[3]]) as usize;
+    (4 + length).saturating_sub(kept.len()).max(1)
+}
+
+/// Tells that bytes that are kept and were read are less than the longest frame; nothing is done.
+pub fn are_few(kept: &[u8], standing: Standing)
+    requires { feed two_lane_profile (standing_of standing) kept.now ≡ stays (standing_of standing) kept.now }
+    ensures { length kept.now < 4 + max_body }
+{
+    codec_laws::two_lanes_are_real();
+    codec_laws::feeds_rest::<Fingerprint>();
+    are_bytes(kept);
+    let _ = standing;
+}
+
+/// Gives up so many bytes at the front.
+fn give_up(kept: &mut Vec<u8>, taken: usize)
+    requires { taken ≤ length kept.old.items }
+    ensures { kept.new.items ≡ drop taken kept.old.items }
+{
+    if taken > 0 {
+        kept.drain(..taken);
+    }
+}
+
+/// Reads the kept bytes behind those that are taken, and the front of a piece, and tells which are taken then.
+fn read_kept(
+    alloc: Global,
+    kept: &mut Vec<u8>,
+    taken: &mut usize,
+    front: &[u8],
+    standing: Standing,
+    out: &mut Vec<Event>,
+) -> Result<Standing, AllocError>
+    requires { taken.old ≤ length kept.old.items }
+    ensures joined { IfOk result (λ s. (back : List ℕ) → IsBytes back → behind (event_values out.old.items) (feed two_lane_profile (standing_of standing) ((drop taken.old kept.old.items ++ front.now) ++ back)) ≡ behind (event_values out.new.items) (feed two_lane_profile (standing_of s) (drop taken.new kept.new.items ++ back))) }
+    ensures rest { IfOk result (λ s. feed two_lane_profile (standing_of s) (drop taken.new kept.new.items) ≡ stays (standing_of s) (drop taken.new kept.new.items)) }
+    ensures within { OnOk result (taken.new ≤ length kept.new.items) }
+    ensures kept { take (length kept.old.items) kept.new.items ≡ kept.old.items }
+    ensures before { take (length out.old.items) out.new.items ≡ out.old.items }
+{
+    kept.extend_from_slice(front)?;
+    let mut left = &kept[*taken..];
+    let there = read_piece(alloc, &mut left, standing, out)?;
+    *taken = kept.len() - left.len();
+    Ok(there)
+}
+
+/// Reads the rest of a piece where it lies, once all kept bytes are taken, and keeps what is left of it.
+fn read_rest(
+    alloc: Global,
+    kept: &mut Vec<u8>,
+    taken: usize,
+    rest: &[u8],
+    standing: Standing,
+    out: &mut Vec<Event>,
+) -> Result<Standing, AllocError>
+    requires within { taken ≤ length kept.old.items }
+    requires done { taken < length kept.old.items → length rest.now ≡ 0 }
+    requires read { feed two_lane_profile (standing_of standing) (drop taken kept.old.items) ≡ stays (standing_of standing) (drop taken kept.old.items) }
+    ensures fed { IfOk result (λ s. behind (event_values out.old.items) (feed two_lane_profile (standing_of standing) (drop taken kept.old.items ++ rest.now)) ≡ fed_as out.new.items s kept.new.items) }
+    ensures rest { IfOk result (λ s. feed two_lane_profile (standing_of s) kept.new.items ≡ stays (standing_of s) kept.new.items) }
+    ensures kept { OnErr result (take (length kept.old.items) kept.new.items ≡ kept.old.items) }
+    ensures before { take (length out.old.items) out.new.items ≡ out.old.items }
+{
+    if taken < kept.len() {
+        give_up(kept, taken);
+        return Ok(standing);
+    }
+    let mut left = rest;
+    let there = read_piece(alloc, &mut left, standing, out)?;
+    kept.extend_from_slice(left)?;
+    give_up(kept, taken);
+    Ok(there)
+}
+
+/// Reads a piece behind the bytes that are kept of the stream, and keeps what is left.
+///
+/// Where memory runs out the kept bytes and the events begin as before.
+pub fn read_behind(
+    alloc: Global,
+    kept: &mut Vec<u8>,
+    piece: &[u8],
+    standing: Standing,
+    out: &mut Vec<Event>,
+) -> Result<Standing, AllocError>
+    requires { feed two_lane_profile (standing_of standing) kept.old.items ≡ stays (standing_of standing) kept.old.items }
+    ensures fed { IfOk result (λ s. behind (event_values out.old.items) (feed two_lane_profile (standing_of standing) (kept.old.items ++ piece.now)) ≡ fed_as out.new.items s kept.new.items) }
+    ensures rest { IfOk result (λ s. feed two_lane_profile (standing_of s) kept.new.items ≡ stays (standing_of s) kept.new.items) }
+    ensures kept { OnErr result (take (length kept.old.items) kept.new.items ≡ kept.old.items) }
+    ensures before { take (length out.old.items) out.new.items ≡ out.old.items }
+{
+    let mut there = standing;
+    let mut taken = 0;
+    let mut rest = piece;
+    'pieces: while taken < kept.len() && !rest.is_empty() {
+        let count = wanted(&kept[taken..]).min(rest.len());
+        let (front, back) = rest.split_at(count);
+        are_bytes(back);
+        there = read_kept(alloc, kept, &mut taken, front, there, out)?;
+        rest = back;
+    }
+    read_rest(alloc, kept, taken, rest, there, out)
+}

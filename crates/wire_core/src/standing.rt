@@ -1,0 +1,49 @@
+ghost use Rattle.std.specs.Prelude.{◌≡◌};
+ghost use Rattle.wire_core.specs.Standings.{standing_of, left_at};
+ghost use Rattle.wire_core.specs.Feeds.{fault_at, fault_in};
+
+use crate::fault::WireFault;
+
+/// Where a stream stands.
+#[derive(Clone, Copy, Debug, PartialEq, Eq)]
+pub enum Standing {
+    /// The hello is due.
+    BeforeHello,
+    /// So many parts of the message have come.
+    InMessage(usize),
+    /// A fault frame came: what follows counts no more.
+    MeaningOver,
+    /// What came is in no stream.
+    Faulted(WireFault),
+}
+
+/// Where reading goes on.
+#[derive(Clone, Copy, Debug, PartialEq, Eq)]
+pub enum Step {
+    /// At the next frame, behind so many parts of the message.
+    More(usize),
+    /// Nowhere, until more bytes come.
+    Rest(Standing),
+}
+
+impl Standing {
+    /// What is kept of bytes that are not read yet.
+    pub fn left(self, bytes: &[u8]) -> &[u8]
+        ensures { result.now ≡ left_at self bytes.now }
+    {
+        match self {
+            Standing::BeforeHello | Standing::InMessage(_) => bytes,
+            Standing::MeaningOver | Standing::Faulted(_) => &[],
+        }
+    }
+
+    /// The fault, if the stream has one.
+    pub fn fault(self) -> Result<(), WireFault>
+        ensures { fault_in result ≡ fault_at (standing_of self) }
+    {
+        match self {
+            Standing::Faulted(fault) => Err(fault),
+            _ => Ok(()),
+        }
+    }
+}
