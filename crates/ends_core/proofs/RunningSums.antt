@@ -1,5 +1,6 @@
 -- The inner cuts of sizes are their running sums: they rise, and are below the sum of all.
-use Rattle.std.proofs.Common.{◌≡◌, ℕ, zero, suc, ◌+◌, ◌<◌, ◌≤◌, List, [], ◌∷◌, length, take, sum, get_or, sym, arith}
+use Rattle.std.proofs.Common.{◌≡◌, ℕ, zero, suc, ◌+◌, ◌-◌, ◌<◌, ◌≤◌, List, [], ◌∷◌, ◌++◌, length, take, sum, get_or, refl, sym, ap, ◌∙◌, arith, take_all}
+use Rattle.std.proofs.lemmas.List.{take_more}
 use Rattle.std.specs.List.{AllByRecursion}
 use Rattle.std.specs.List.Sorted.{IsStrictlySortedBy}
 use Rattle.std.proofs.lemmas.List.Sums.{sum_by-cons}
@@ -38,3 +39,23 @@ cut_at start (s ∷ []) j d low = absurd (omega arith)
 cut_at start (s ∷ t ∷ ss) zero d low = omega (arith, sum-cons s [])
 cut_at start (s ∷ t ∷ ss) (suc j) d low = let rest : get_or (inner_cuts start (s ∷ t ∷ ss)) (suc j) d ≡ start + s + sum (take (suc j) (t ∷ ss)) = cut_at (start + s) (t ∷ ss) j d (omega arith) in
     omega (arith, sum-cons s (take (suc j) (t ∷ ss)))
+
+pub length-inner_cuts : (start : ℕ) (sizes : List ℕ) → length (inner_cuts start sizes) ≡ length sizes - 1
+length-inner_cuts start [] = refl
+length-inner_cuts start (s ∷ []) = refl
+length-inner_cuts start (s ∷ t ∷ ss) = omega (arith, length-inner_cuts (start + s) (t ∷ ss))
+
+-- one cut more
+pub cuts_more : (sizes : List ℕ) (j : ℕ) → 1 ≤ j → j < length sizes → take (j - 1) (inner_cuts 0 sizes) ++ sum (take j sizes) ∷ [] ≡ take (j + 1 - 1) (inner_cuts 0 sizes)
+cuts_more sizes zero some low = absurd (omega arith)
+cuts_more sizes (suc i) some low =
+    let cuts = inner_cuts 0 sizes in
+    let before : suc i - 1 ≡ i = omega arith in
+    let next : suc i + 1 - 1 ≡ i + 1 = omega arith in
+    let inside : i < length cuts = omega (arith, length-inner_cuts 0 sizes) in
+    let here : get_or cuts i 0 ≡ sum (take (suc i) sizes) = omega (arith, cut_at 0 sizes i 0 low) in
+    rw (before, next) (ap (λ (x : ℕ). take i cuts ++ x ∷ []) (sym here) ∙ sym (take_more cuts i 0 inside))
+
+-- these are all of them
+pub cuts_all : (sizes : List ℕ) (j : ℕ) → length sizes ≤ j → take (j - 1) (inner_cuts 0 sizes) ≡ inner_cuts 0 sizes
+cuts_all sizes j all = take_all (j - 1) (inner_cuts 0 sizes) (omega (arith, length-inner_cuts 0 sizes))

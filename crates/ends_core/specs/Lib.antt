@@ -13,3 +13,9 @@ pub mod ListPeer
 pub mod Inputs
 pub mod Answered
 pub mod FaultsOf
+pub use Rattle.definitions.specs.Ends
+pub use Rattle.strategy_check.specs.Checked
+pub use Rattle.place_core.specs.PlaceFaults
+pub mod Held
+pub mod Turns
+pub mod Standing

@@ -10,8 +10,7 @@ ghost use Rattle.definitions.specs.Talks as talks;
 ghost use Rattle.ends_core.specs.Learning.{listings, first_of, rest_of, ours_next, lists_left, ours_along};
 
 use crate::learned::Learned;
-use item_core::Item;
-use place_core::is_listed;
+use item_core::{Item, is_listed};
 use std::alloc::{AllocError, Global};
 use std::marker::Model;
 use store_core::RangeStore;
@@ -38,7 +37,11 @@ fn push_marked(ours: &mut Vec<Item>, marks: &Marks, listed: &[Item]) -> Result<(
 }
 
 /// Appends the items that are not listed.
-fn push_unlisted(ours: &mut Vec<Item>, items: &[Item], listed: &[Item]) -> Result<(), AllocError>
+pub(crate) fn push_unlisted(
+    ours: &mut Vec<Item>,
+    items: &[Item],
+    listed: &[Item],
+) -> Result<(), AllocError>
     requires { IsSet listed.now }
     ensures { OnOk result (ours.new.items ≡ ours.old.items ++ difference items.now listed.now) }
 {

@@ -3,15 +3,24 @@
 
 mod answering;
 mod cutting;
+mod end;
+mod initiator;
 mod input;
 mod learned;
 mod learning;
 mod listing;
 mod output;
+mod replying;
+mod responder;
+mod stage;
+mod turn;
 
 pub use answering::{AnswerFault, answer};
+pub use initiator::Initiator;
 pub use input::{InputFault, MAX_INPUT, read_input};
 pub use learned::Learned;
 pub use learning::learn;
 pub use listing::{ListReplyFault, list_reply};
 pub use output::{WriterFailed, write_output};
+pub use responder::Responder;
+pub use turn::{EndFault, Turn};

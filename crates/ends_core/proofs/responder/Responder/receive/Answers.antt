@@ -1,0 +1,18 @@
+use Rattle.std.proofs.Common.{arith}
+use Rattle.definitions.specs.Fingerprints.{two_lanes}
+use Rattle.definitions.specs.Wire.{two_lane_profile}
+use Rattle.definitions.specs.Ends.{responder}
+use Rattle.ends_core.specs.Turns.{answer_in}
+use Rattle.ends_core.proofs.Standing.{able, countable, stands-received}
+use Rattle.ends_core.proofs.responder.Responder.receive.Goals as goal
+
+pub receive-requires-clause-able : goal.receive-requires-clause-able
+receive-requires-clause-able g c = able responder 1 c.self.inside.end (λ P f Ms r a. (c.ends_stand_firm.ensures two_lanes two_lane_profile P f Ms r a).1) c.self.invariant
+
+pub receive-requires-clause-room : goal.receive-requires-clause-room
+receive-requires-clause-room g c = countable responder 1 c.self.inside.end (omega arith) (λ P f Ms r a. (c.ends_stand_firm.ensures two_lanes two_lane_profile P f Ms r a).1) c.ranks_are_read.ensures c.self.invariant
+
+pub invariant_of-self : goal.invariant_of-self
+invariant_of-self g c =
+    stands-received responder c.self.inside.end c.receive.new.self c.args.message.now (answer_in c.receive.result) (c.ends_hear_on.ensures two_lanes) (c.ends_keep_peers.ensures two_lanes)
+    c.parts-parts.ensures.message c.receive.ensures.behind c.receive.ensures.memory c.self.invariant

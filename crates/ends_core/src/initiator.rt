@@ -1,0 +1,141 @@
+//! The end of a session that speaks first.
+
+ghost use Rattle.std.specs.Prelude.{◌≡◌, ◌≤◌, ◌+◌, [], ◌∷◌, length, IfOk, IfErr, IfSome, IfNone};
+ghost use Rattle.std.specs.List.{IsDistinct};
+ghost use Rattle.definitions.specs.Items.{same_item};
+ghost use Rattle.definitions.specs.Fingerprints.{two_lanes};
+ghost use Rattle.definitions.specs.Items.{whole};
+ghost use Rattle.definitions.specs.Messages.{Sum, opening};
+ghost use Rattle.definitions.specs.Ranks.{rank_by};
+ghost use Rattle.definitions.specs.Ends as ends;
+ghost use Rattle.definitions.specs.Ends.{is_over};
+ghost use Rattle.ends_core.specs.Turns.{KeepsLimit, answer_in, behind};
+
+use crate::end::End;
+use crate::learned::Learned;
+use crate::turn::{EndFault, Turn};
+use digest_core::Fingerprint;
+use item_core::Range;
+use std::alloc::{AllocError, Global};
+use std::marker::Model;
+use store_core::RangeStore;
+use strategy_check::Accepted;
+use wire_core::{Message, Part};
+
+/// The end of a session that speaks first.
+#[derive(Drop)]
+pub struct Initiator<'a, S: RangeStore> {
+    end: End<'a, S>,
+}
+
+impl<'a, S: RangeStore> Model for Initiator<'a, S> {
+    ghost use Rattle.definitions.specs.Ends as ends;
+    ghost use Rattle.definitions.specs.Fingerprints.{two_lanes};
+    ghost use Rattle.ends_core.specs.Held.{Held};
+    ghost use Rattle.ends_core.specs.Standing.{Stands};
+
+    ghost Value = { Held };
+
+    ghost view = { λ a. a.end };
+
+    ghost invariant = { λ a. Stands (ends.initiator two_lanes) a.end };
+}
+
+/// The message of one Sum over everything.
+fn opening(alloc: Global, sum: Fingerprint) -> Result<Message, AllocError>
+    ensures { IfOk result (λ m. m ≡ Sum whole sum ∷ []) }
+{
+    let mut parts = Vec::with_capacity(alloc, 1)?;
+    parts.push(Part::sum(Range::whole(), sum))?;
+    match Message::new(parts) {
+        Ok(message) => Ok(message),
+        Err(_) => unreachable!(),
+    }
+}
+
+/// The first message, to be kept and to be sent.
+fn twice(alloc: Global, sum: Fingerprint) -> Result<(Message, Message), AllocError>
+    ensures { IfOk result (λ r. (r.0 ≡ Sum whole sum ∷ []) × (r.1 ≡ Sum whole sum ∷ [])) }
+{
+    Ok((opening(alloc, sum)?, opening(alloc, sum)?))
+}
+
+impl<'a, S: RangeStore> Initiator<'a, S> {
+    /// The end, and its first message, which is to be sent: one Sum over everything. Where memory runs out the store is
+    /// given back.
+    pub fn start(
+        alloc: Global,
+        accepted: &'a Accepted,
+        store: S,
+    ) -> Result<(Initiator<'a, S>, Message), S>
+        requires { length (S.content store) ≤ accepted.now.table.cap }
+        ensures end { IfOk result (λ r. r.0 ≡ record { steps = accepted.now.steps; end = ends.initiator two_lanes (record { table = accepted.now.table; items = S.content store }) }) }
+        ensures message { IfOk result (λ r. r.1 ≡ opening two_lanes (S.content store)) }
+        ensures memory { IfErr result (λ s. s ≡ store) }
+    {
+        laws::whole_has_all();
+        let _ = accepted.cap();
+        match twice(alloc, store.sum(&Range::whole())) {
+            Ok((own, first)) => Ok((
+                Initiator {
+                    end: End::initiating(alloc, accepted, store, own),
+                },
+                first,
+            )),
+            Err(AllocError) => Err(store),
+        }
+    }
+
+    /// What the end answers to a message, which may be any: the reply, or that the session is over.
+    ///
+    /// Refused 20 to 25 where the message is not placed behind the own one, 12 where the reply would have more than 131,072
+    /// parts: the end is spent then, and nothing is learned. Refused 26 where a message was refused before, or the session
+    /// is over, and 90 where memory ran out: the end is as before.
+    pub fn receive(&mut self, alloc: Global, message: &Message) -> Result<Turn, EndFault>
+        ensures answer { IfSome (answer_in result) (λ a. a ≡ ends.answer two_lanes self.old.end message.now) }
+        ensures behind { IfSome (answer_in result) (λ _. self.new ≡ behind self.old message.now) }
+        ensures memory { IfNone (answer_in result) (self.new ≡ self.old) }
+        ensures short { KeepsLimit self.old result }
+    {
+        laws::ends_stand_firm::<Fingerprint>();
+        laws::ends_hear_on::<Fingerprint>();
+        laws::ends_keep_peers::<Fingerprint>();
+        rank_laws::ranks_are_read();
+        let _parts = message.parts(); // which tells that they have a spelling
+        self.end.receive(alloc, message)
+    }
+
+    /// The greatest number of messages that it sends, whatever its peer sends: the rank of the number of its items, and 2.
+    pub fn bound(&self) -> u32
+        ensures { result ≡ rank_by self.now.steps (length self.now.end.peer.items) + 2 }
+    {
+        self.end.accepted().bound_as_initiator(self.end.count())
+    }
+
+    /// How many messages were sent, which is never more than `bound()`.
+    pub fn sent(&self) -> u32
+        ensures sent { result ≡ self.now.end.sent }
+        ensures few { result ≤ rank_by self.now.steps (length self.now.end.peer.items) + 2 }
+    {
+        laws::ends_stand_firm::<Fingerprint>();
+        rank_laws::ranks_are_read();
+        self.end.sent()
+    }
+
+    /// Whether the session is over: a message without open part was sent or received.
+    pub fn is_over(&self) -> bool
+        ensures { result ≡ is_over self.now.end.stage }
+    {
+        self.end.is_over()
+    }
+
+    /// What was learned, each item once.
+    pub fn learned(&self) -> &Learned
+        ensures learned { result.now ≡ self.now.end.learned }
+        ensures ours { IsDistinct same_item self.now.end.learned.ours }
+        ensures theirs { IsDistinct same_item self.now.end.learned.theirs }
+    {
+        laws::ends_stand_firm::<Fingerprint>();
+        self.end.learned()
+    }
+}

@@ -1,0 +1,225 @@
+//! The reply to a message under a strategy.
+
+ghost use Rattle.std.specs.Prelude.{◌≡◌, ◌++◌, ◌<◌, ◌≤◌, ◌^◌, map, length, not, Err, IfOk, OnOk, IsTrue, IsFalse};
+ghost use Rattle.definitions.specs.Engines.{is_sendable};
+ghost use Rattle.definitions.specs.Fingerprints.{two_lanes};
+ghost use Rattle.definitions.specs.Messages.{Sum, Listing};
+ghost use Rattle.definitions.specs.Replies as replies;
+ghost use Rattle.definitions.specs.Sets.{has, items_in};
+ghost use Rattle.definitions.specs.Strategies.{IsTable, act, shares, is_split};
+ghost use Rattle.definitions.specs.Wire.{two_lane_profile, IsPart};
+ghost use Rattle.ends_core.specs.declared.replying.ReplyFault.TheVariants as faults;
+
+use crate::cutting::cut_range;
+use crate::learning::push_unlisted;
+use digest_core::Fingerprint;
+use item_core::{Item, Range};
+use std::alloc::{AllocError, Global};
+use store_core::RangeStore;
+use strategy_core::{Act, Strategy};
+use wire_core::{MAX_PARTS, Marks, Message, Part, PartKind, TooManyParts};
+
+/// Why a message has no reply.
+#[derive(Clone, Copy, Debug, PartialEq, Eq)]
+pub(crate) enum ReplyFault {
+    /// The reply would have more than 131,072 parts.
+    TooManyParts,
+    /// Memory ran out.
+    Memory,
+}
+
+impl From<AllocError> for ReplyFault {
+    ghost from_gives = { λ _ e. e ≡ faults.Memory };
+
+    fn from(_refused: AllocError) -> ReplyFault {
+        ReplyFault::Memory
+    }
+}
+
+impl From<TooManyParts> for ReplyFault {
+    ghost from_gives = { λ _ e. e ≡ faults.TooManyParts };
+
+    fn from(_fault: TooManyParts) -> ReplyFault {
+        ReplyFault::TooManyParts
+    }
+}
+
+/// A mark for each listed item that the store lacks.
+fn marks_of<S: RangeStore>(alloc: Global, store: &S, listed: &[Item]) -> Result<Marks, AllocError>
+    requires { length listed.now < 2 ^ 32 }
+    ensures { IfOk result (λ marks. marks ≡ map (λ x. not (has (S.content store.now) x)) listed.now) }
+{
+    let mut marks = Vec::new(alloc);
+    for item in listed {
+        marks.push(!store.has(item))?;
+    }
+    Marks::new(alloc, &marks)
+}
+
+/// The answer to the list of a range.
+fn answer_to<S: RangeStore>(
+    alloc: Global,
+    store: &S,
+    range: &Range,
+    listed: &[Item],
+) -> Result<Part, AllocError>
+    requires few { length (S.content store.now) ≤ 65536 }
+    requires part { IsPart two_lane_profile (Listing range.now listed.now) }
+    ensures { IfOk result (λ part. part ≡ replies.answer_to (S.content store.now) range.now listed.now) }
+{
+    codec_laws::answers_fit::<Fingerprint>();
+    let marks = marks_of(alloc, store, listed)?;
+    let mut unlisted = Vec::new(alloc);
+    push_unlisted(&mut unlisted, &store.items(alloc, range)?, listed)?;
+    match Part::answer(*range, marks, unlisted) {
+        Ok(answer) => Ok(answer),
+        Err(_) => unreachable!(),
+    }
+}
+
+/// The list of a range.
+fn list_of<S: RangeStore>(alloc: Global, store: &S, range: Range) -> Result<Part, AllocError>
+    requires { length (S.content store.now) ≤ 65536 }
+    ensures { IfOk result (λ part. part ≡ Listing range (items_in (S.content store.now) range)) }
+{
+    codec_laws::sets_fit::<Fingerprint>();
+    Ok(Part::listing(range, store.items(alloc, &range)?))
+}
+
+/// Where the parts of n items end but for the last one: the places, from 0, where a range of them is cut.
+fn places_of(alloc: Global, strategy: &Strategy, n: u32) -> Result<Vec<usize>, AllocError>
+    requires { n ≤ strategy.now.cap }
+    ensures { IfOk result (λ places. places.items ≡ replies.inner_cuts 0 (shares strategy.now n)) }
+{
+    let mut places = Vec::new(alloc);
+    for before in 1..strategy.share_count(n) {
+        places.push(strategy.cut(n, before) as usize)?;
+    }
+    Ok(places)
+}
+
+/// Appends the Sum of each range.
+fn push_sums<S: RangeStore>(
+    parts: &mut Vec<Part>,
+    store: &S,
+    ranges: &[Range],
+) -> Result<(), AllocError>
+    ensures { OnOk result (parts.new.items ≡ parts.old.items ++ map (replies.sum_of two_lanes (S.content store.now)) ranges.now) }
+{
+    for range in ranges {
+        parts.push(Part::sum(*range, store.sum(range)))?;
+    }
+    Ok(())
+}
+
+/// How many own items the range holds: no more than the strategy serves.
+fn count_in<S: RangeStore>(strategy: &Strategy, store: &S, range: &Range) -> u32
+    requires { length (S.content store.now) ≤ strategy.now.cap }
+    ensures count { result ≡ length (items_in (S.content store.now) range.now) }
+    ensures served { result ≤ strategy.now.cap }
+    ensures table { IsTable strategy.now }
+{
+    let _cap = strategy.cap();
+    store.count(range) as u32
+}
+
+/// Appends the Sums of the parts that the strategy cuts the range into.
+fn push_cut<S: RangeStore>(
+    alloc: Global,
+    strategy: &Strategy,
+    store: &S,
+    range: &Range,
+    parts: &mut Vec<Part>,
+) -> Result<(), AllocError>
+    requires few { length (S.content store.now) ≤ strategy.now.cap }
+    requires split { IsTrue (is_split (act strategy.now (length (items_in (S.content store.now) range.now)))) }
+    ensures { OnOk result (parts.new.items ≡ parts.old.items ++ map (replies.sum_of two_lanes (S.content store.now)) (replies.cutup (S.content store.now) range.now (shares strategy.now (length (items_in (S.content store.now) range.now))))) }
+{
+    rank_laws::shares_are_parts();
+    let places = places_of(alloc, strategy, count_in(strategy, store, range))?;
+    let ranges = cut_range(alloc, store, range, &places)?;
+    push_sums(parts, store, &ranges)
+}
+
+/// Appends what is said of a range that differs: its list, or the Sums of its parts.
+fn push_differing<S: RangeStore>(
+    alloc: Global,
+    strategy: &Strategy,
+    store: &S,
+    range: &Range,
+    parts: &mut Vec<Part>,
+) -> Result<(), AllocError>
+    requires { length (S.content store.now) ≤ strategy.now.cap }
+    ensures { OnOk result (parts.new.items ≡ parts.old.items ++ replies.differing two_lanes (record { table = strategy.now; items = S.content store.now }) range.now) }
+{
+    if strategy.act(count_in(strategy, store, range)) == Act::Split {
+        return push_cut(alloc, strategy, store, range, parts);
+    }
+    parts.push(list_of(alloc, store, *range)?)?;
+    Ok(())
+}
+
+/// Appends the reply to a Sum: nothing where the own fingerprint is the same.
+fn push_compared<S: RangeStore>(
+    alloc: Global,
+    strategy: &Strategy,
+    store: &S,
+    range: &Range,
+    sum: &Fingerprint,
+    parts: &mut Vec<Part>,
+) -> Result<(), AllocError>
+    requires { length (S.content store.now) ≤ strategy.now.cap }
+    ensures { OnOk result (parts.new.items ≡ parts.old.items ++ replies.reply_to two_lanes (record { table = strategy.now; items = S.content store.now }) (Sum range.now sum.now)) }
+{
+    if store.sum(range) == *sum {
+        return Ok(());
+    }
+    push_differing(alloc, strategy, store, range, parts)
+}
+
+/// Appends the reply to a part.
+fn push_reply<S: RangeStore>(
+    alloc: Global,
+    strategy: &Strategy,
+    store: &S,
+    part: &Part,
+    parts: &mut Vec<Part>,
+) -> Result<(), AllocError>
+    requires { length (S.content store.now) ≤ strategy.now.cap }
+    ensures { OnOk result (parts.new.items ≡ parts.old.items ++ replies.reply_to two_lanes (record { table = strategy.now; items = S.content store.now }) part.now) }
+{
+    if let Some(sum) = part.fingerprint() {
+        return push_compared(alloc, strategy, store, part.range(), sum, parts);
+    }
+    let (PartKind::List, Some(listed)) = (part.kind(), part.items()) else {
+        return Ok(());
+    };
+    let _cap = strategy.cap();
+    parts.push(answer_to(alloc, store, part.range(), listed)?)?;
+    Ok(())
+}
+
+/// The reply to a message.
+///
+/// Refused where it would have more than 131,072 parts. It is given up at the part of the message that makes them too
+/// many, so that no more than that and one part's reply are ever held.
+pub(crate) fn reply<S: RangeStore>(
+    alloc: Global,
+    strategy: &Strategy,
+    store: &S,
+    message: &Message,
+) -> Result<Message, ReplyFault>
+    requires { length (S.content store.now) ≤ strategy.now.cap }
+    ensures reply { IfOk result (λ m. m ≡ replies.reply two_lanes (record { table = strategy.now; items = S.content store.now }) message.now) }
+    ensures sendable { OnOk result (IsTrue (is_sendable (replies.reply two_lanes (record { table = strategy.now; items = S.content store.now }) message.now))) }
+    ensures many { result ≡ Err ReplyFault.TooManyParts → IsFalse (is_sendable (replies.reply two_lanes (record { table = strategy.now; items = S.content store.now }) message.now)) }
+{
+    let mut parts = Vec::new(alloc);
+    for part in message.parts() {
+        push_reply(alloc, strategy, store, part, &mut parts)?;
+        if parts.len() > MAX_PARTS {
+            return Err(ReplyFault::TooManyParts);
+        }
+    }
+    Ok(Message::new(parts)?)
+}
