@@ -1,0 +1,4 @@
+mod Seated
+mod Keeps
+mod Turns
+mod Prefixes

@@ -1,0 +1,12 @@
+pub use Rattle.definitions.specs.Refusals
+pub use Rattle.definitions.specs.Items
+pub use Rattle.definitions.specs.Sets
+pub use Rattle.definitions.specs.Histories
+pub use Rattle.version_log.specs.Logs
+pub mod Beginnings
+pub mod Views
+pub mod Lawful
+pub mod Steps
+pub mod Seats
+pub mod Calls
+pub mod Faults

@@ -1,0 +1,20 @@
+//! A lock round one published log. Each thread calls it with a seat, whose view says what it has seen.
+#![tactic(auto)]
+
+mod calls;
+mod fault;
+pub mod laws;
+mod lock;
+mod pin;
+mod seat;
+mod steps;
+#[cfg(test)]
+mod tests;
+mod view;
+
+pub use fault::{InsertFault, PinFault};
+pub use lock::VersionLock;
+pub use pin::Pin;
+pub use seat::Seat;
+pub use steps::OneHistory;
+pub use view::View;

@@ -1,0 +1,13 @@
+//! Published versions: a history of items and their writers, beside a store of its items.
+#![tactic(auto)]
+
+mod answer;
+mod entry;
+mod opening;
+mod published;
+#[cfg(test)]
+mod tests;
+
+pub use answer::{Added, LogFault, WritersSpent};
+pub use entry::Entry;
+pub use published::Published;

@@ -1,0 +1,29 @@
+//! The history that a log opens with.
+
+ghost use Rattle.std.specs.Prelude.{◌≡◌, length, IfOk};
+ghost use Rattle.definitions.specs.Histories.{IsHistory, opening_history};
+ghost use Rattle.definitions.specs.Sets.{set_of};
+
+use crate::entry::Entry;
+use item_core::Item;
+use std::alloc::{AllocError, Global};
+use std::collections::BTreeSet;
+use store_core::laws;
+
+/// The entries of the items, each item once, where it stands first, by writer 0.
+pub(crate) fn opening(alloc: Global, items: &[Item]) -> Result<Vec<Entry>, AllocError>
+    ensures entries { IfOk result (λ entries. entries.items ≡ opening_history items.now) }
+    ensures once { IfOk result (λ entries. IsHistory entries.items) }
+    ensures count { IfOk result (λ entries. length entries.items ≡ length (set_of items.now)) }
+{
+    laws::set_of_a_list();
+    laws::adding_an_item();
+    let mut seen = BTreeSet::new(alloc);
+    let mut entries = Vec::new(alloc);
+    for item in items {
+        if seen.insert(*item)? {
+            entries.push(Entry::new(0, *item))?;
+        }
+    }
+    Ok(entries)
+}

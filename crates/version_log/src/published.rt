@@ -1,0 +1,185 @@
+ghost use Rattle.std.specs.Prelude.{◌≡◌, ◌+◌, ◌<◌, ◌≤◌, length, slice_get, Some, Err, IfOk, IfErr, IfSome};
+ghost use Rattle.definitions.specs.Sets.{set_of};
+ghost use Rattle.definitions.specs.Histories.{content, version, insertion, New};
+ghost use Rattle.version_log.specs.Logs.{IsLog, IsCap, IsNextWriter, max_next_writer, opened, log_after, with_writer_given};
+ghost use Rattle.version_log.specs.Answers.{insertion_in};
+
+use crate::answer::{Added, LogFault, WritersSpent};
+use crate::entry::{Entry, items_of};
+use crate::opening::opening;
+use item_core::Item;
+use std::alloc::{AllocError, Global};
+use std::marker::Model;
+use store_core::{RangeStore, With, laws};
+
+/// Who brought which item, in order, and a store of the items. Each item stands once.
+///
+/// A version is the number of the first entries that it has. Contracts see a log as its cap, its history and the next
+/// writer number.
+#[derive(Drop)]
+pub struct Published<S: RangeStore> {
+    cap: u32,
+    entries: Vec<Entry>,
+    store: S,
+    next_writer: u64,
+}
+
+impl<S: RangeStore> Model for Published<S> {
+    ghost use Rattle.std.specs.Prelude.{◌≡◌};
+    ghost use Rattle.definitions.specs.Histories.{content};
+    ghost use Rattle.version_log.specs.Logs.{Log, IsLog, log};
+
+    ghost Value = { Log };
+
+    ghost view = { λ p. log p.cap p.entries.items p.next_writer };
+
+    ghost invariant = { λ p. (S.content p.store ≡ content p.entries.items) × IsLog (log p.cap p.entries.items p.next_writer) };
+}
+
+impl<S: RangeStore> Published<S> {
+    /// The log of these items, each once, where it stands first, by writer 0. The next writer number is 1.
+    ///
+    /// Else 40 where there are more items than the cap, each counted once, or 90; memory may run out before 40 is found.
+    pub fn new(alloc: Global, cap: u32, items: &[Item]) -> Result<Published<S>, LogFault>
+        requires { IsCap cap }
+        ensures log { IfOk result (λ p. p ≡ opened cap items.now 1) }
+        ensures fits { IfOk result (λ _. length (set_of items.now) ≤ cap) }
+        ensures full { IfErr result (λ e. e ≡ LogFault.Full → cap < length (set_of items.now)) }
+    {
+        Published::starting_at(alloc, cap, items, 1)
+    }
+
+    /// The same log with another next writer number, 1 to 4,294,967,296.
+    pub fn starting_at(
+        alloc: Global,
+        cap: u32,
+        items: &[Item],
+        next_writer: u64,
+    ) -> Result<Published<S>, LogFault>
+        requires cap { IsCap cap }
+        requires next { IsNextWriter next_writer }
+        ensures log { IfOk result (λ p. p ≡ opened cap items.now next_writer) }
+        ensures fits { IfOk result (λ _. length (set_of items.now) ≤ cap) }
+        ensures full { IfErr result (λ e. e ≡ LogFault.Full → cap < length (set_of items.now)) }
+    {
+        let entries = opening(alloc, items)?;
+        if entries.len() > cap as usize {
+            return Err(LogFault::Full);
+        }
+        let store = S::from_items(alloc, items_of(alloc, &entries)?)?;
+        Ok(Published {
+            cap,
+            entries,
+            store,
+            next_writer,
+        })
+    }
+
+    /// Adds an item that this writer brought, unless it is there already.
+    ///
+    /// Else 40 where it is new and there are as many items as the cap, or 90, where it is new; nothing is changed then.
+    pub fn add(&mut self, alloc: Global, writer: u32, item: Item) -> Result<Added, LogFault>
+        requires { writer < self.old.next_writer }
+        ensures answer { IfSome (insertion_in result) (λ answer. answer ≡ insertion self.old.cap self.old.history item) }
+        ensures log { self.new ≡ log_after self.old writer item (insertion_in result) }
+        ensures full { result ≡ Err LogFault.Full → length self.old.history ≡ self.old.cap }
+        ensures memory { result ≡ Err LogFault.Memory → insertion self.old.cap self.old.history item ≡ New (length self.old.history + 1) }
+    {
+        laws::set_of_a_list();
+        if self.store.has(&item) {
+            return Ok(Added::Already);
+        }
+        if self.store.len() >= self.cap as usize {
+            return Err(LogFault::Full);
+        }
+        let With::New(store) = self.store.with(alloc, item)? else {
+            return Ok(Added::Already);
+        };
+        self.entries.reserve(1)?;
+        self.entries.push_reserved(Entry::new(writer, item));
+        self.store = store;
+        Ok(Added::New(self.entries.len()))
+    }
+
+    /// Gives out the next writer number, which rises by one. Else 42, exactly where it is 4,294,967,296.
+    pub fn give_writer(&mut self) -> Result<u32, WritersSpent>
+        ensures given { IfOk result (λ writer. (writer ≡ self.old.next_writer) × (writer < max_next_writer) × (self.new ≡ with_writer_given self.old)) }
+        ensures spent { IfErr result (λ _. (self.old.next_writer ≡ max_next_writer) × (self.new ≡ self.old)) }
+    {
+        let next = &mut self.next_writer;
+        let Ok(writer) = u32::try_from(*next) else {
+            return Err(WritersSpent);
+        };
+        *next += 1;
+        Ok(writer)
+    }
+
+    /// A store of the first so many entries' items. The newest version is copied; of an older one each item is hashed.
+    pub fn version_at(&self, alloc: Global, number: usize) -> Result<S, AllocError>
+        requires { number ≤ length self.now.history }
+        ensures { IfOk result (λ s. S.content s ≡ version self.now.history number) }
+    {
+        if number == self.entries.len() {
+            return self.store.copy(alloc);
+        }
+        S::from_items(alloc, items_of(alloc, &self.entries[..number])?)
+    }
+
+    /// The same log again.
+    pub fn copy(&self, alloc: Global) -> Result<Published<S>, AllocError>
+        ensures { IfOk result (λ p. p ≡ self.now) }
+    {
+        Ok(Published {
+            cap: self.cap,
+            entries: Vec::from_slice(alloc, &self.entries)?,
+            store: self.store.copy(alloc)?,
+            next_writer: self.next_writer,
+        })
+    }
+
+    /// The newest version: the number of entries, which is the number of items.
+    pub fn version(&self) -> usize
+        ensures version { result ≡ length self.now.history }
+        ensures count { result ≡ length (content self.now.history) }
+    {
+        self.entries.len()
+    }
+
+    /// The number of items, which is the number of entries.
+    pub fn count(&self) -> usize
+        ensures count { result ≡ length (content self.now.history) }
+        ensures version { result ≡ length self.now.history }
+    {
+        self.store.len()
+    }
+
+    /// The greatest number of items, 1 to 65,536.
+    pub fn cap(&self) -> u32
+        ensures cap { result ≡ self.now.cap }
+        ensures log { IsLog self.now }
+    {
+        self.cap
+    }
+
+    /// The writer number that is given out next, 1 to 4,294,967,296.
+    pub fn next_writer(&self) -> u64
+        ensures { result ≡ self.now.next_writer }
+    {
+        self.next_writer
+    }
+
+    /// The entry at this place, from 0.
+    pub fn entry(&self, index: usize) -> &Entry
+        requires { index < length self.now.history }
+        ensures { slice_get self.now.history index ≡ Some result.now }
+    {
+        &self.entries[index]
+    }
+
+    /// The store of all items.
+    pub fn store(&self) -> &S
+        ensures { S.content result.now ≡ content self.now.history }
+    {
+        &self.store
+    }
+}

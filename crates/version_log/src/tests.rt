@@ -1,0 +1,95 @@
+ghost use Rattle.std.specs.Prelude.{◌≡◌, ◌<◌, true, false, OnOk, OnErr, IfOk};
+ghost use Rattle.definitions.specs.Histories.{insertion, history_after, New, Already};
+
+use crate::{Added, LogFault, Published};
+use item_core::Item;
+use std::alloc::Global;
+use std::process::Abort;
+use store_core::{FlatStore, RangeStore};
+
+// What a caller learns of an insert, in the words of the definitions.
+
+fn insert(alloc: Global, log: &mut Published<FlatStore>, item: Item) -> Result<bool, LogFault>
+    requires { 0 < log.old.next_writer }
+    ensures history { OnOk result (log.new.history ≡ history_after log.old.history 0 item (insertion log.old.cap log.old.history item)) }
+    ensures there { IfOk result (λ new. new ≡ false → insertion log.old.cap log.old.history item ≡ Already) }
+    ensures unchanged { OnErr result (log.new.history ≡ log.old.history) }
+{
+    Ok(log.add(alloc, 0, item)? != Added::Already)
+}
+
+fn item(rt: &impl Abort, bytes: &[u8]) -> Item {
+    Item::new(bytes).ok().expect(rt, "an item")
+}
+
+fn add<S: RangeStore>(
+    rt: &impl Abort,
+    alloc: Global,
+    log: &mut Published<S>,
+    bytes: &[u8],
+) -> Result<Added, LogFault> {
+    assert!(rt; log.next_writer() > 0);
+    log.add(alloc, 0, item(rt, bytes))
+}
+
+fn version_at<S: RangeStore>(
+    rt: &impl Abort,
+    alloc: Global,
+    log: &Published<S>,
+    number: usize,
+) -> S {
+    assert!(rt; number <= log.version());
+    log.version_at(alloc, number).expect(rt, "memory")
+}
+
+// A repeat, a new item, one that is there, and one for which there is no room.
+fn two_items<S: RangeStore>(rt: &impl Abort, alloc: Global) {
+    let a = item(rt, b"a");
+    let b = item(rt, b"b");
+    let mut log: Published<S> = Published::new(alloc, 2, &[a, a]).ok().expect(rt, "a log");
+    assert!(rt; log.version() == 1 && log.cap() == 2 && log.next_writer() == 1);
+    assert_eq!(rt; add(rt, alloc, &mut log, b"b"), Ok(Added::New(2)));
+    assert_eq!(rt; add(rt, alloc, &mut log, b"a"), Ok(Added::Already));
+    assert_eq!(rt;
+        add(rt, alloc, &mut log, b"c").map_err(LogFault::number),
+        Err(40)
+    );
+    assert!(rt; version_at(rt, alloc, &log, 0).is_empty());
+    let first = version_at(rt, alloc, &log, 1);
+    assert!(rt; first.len() == 1 && first.has(&a) && !first.has(&b));
+    assert!(rt; version_at(rt, alloc, &log, 2).has(&b) && log.count() == 2 && log.store().has(&b));
+}
+
+#[test]
+fn flat_store(rt: HostRuntime) {
+    two_items::<FlatStore>(&rt, rt.alloc());
+}
+
+#[test]
+fn more_items_than_the_cap(rt: HostRuntime) {
+    let a = item(&rt, b"a");
+    let b = item(&rt, b"b");
+    let two: Result<Published<FlatStore>, LogFault> = Published::new(rt.alloc(), 1, &[a, b]);
+    assert!(rt; matches!(two, Err(LogFault::Full)));
+    let one: Result<Published<FlatStore>, LogFault> = Published::new(rt.alloc(), 1, &[a, a]);
+    assert!(rt; one.is_ok());
+}
+
+#[test]
+fn entries_in_order(rt: HostRuntime) {
+    let b = item(&rt, b"b");
+    let a = item(&rt, b"a");
+    let opened: Result<Published<FlatStore>, LogFault> = Published::starting_at(
+        rt.alloc(),
+        3,
+        &[b, a, b],
+        4_294_967_296,
+    );
+    let mut log = opened.ok().expect(&rt, "a log");
+    assert!(rt; log.next_writer() == 4_294_967_296 && log.version() == 2);
+    let c = log.add(rt.alloc(), 4_294_967_295, item(&rt, b"c"));
+    assert_eq!(rt; c, Ok(Added::New(3)));
+    assert!(rt; log.version() == 3);
+    assert!(rt; *log.entry(0).item() == b && *log.entry(1).item() == a);
+    assert!(rt; log.entry(1).writer() == 0 && log.entry(2).writer() == 4_294_967_295);
+}
