@@ -1,0 +1,6 @@
+mod Running
+mod Parity
+mod Delivering
+mod Absorbing
+mod Ended
+mod Runs

@@ -1,0 +1,12 @@
+pub use Rattle.definitions.specs.Histories
+pub use Rattle.definitions.specs.Worlds
+pub use Rattle.definitions.specs.Theorems
+pub use Rattle.definitions.specs.Fingerprints
+pub use Rattle.strategy_check.specs.Checked
+pub mod SetupFaults
+pub mod Steps
+pub mod Nodes
+pub mod Live
+pub mod Reports
+pub mod Shown
+pub mod Runs

@@ -1,0 +1,19 @@
+-- What is shown of a session, as the definitions have it.
+use Rattle.definitions.specs.Talks.{Knowledge}
+use Rattle.definitions.specs.Worlds as worlds
+use Rattle.world_core.specs.declared.report.Lists.{Lists}
+use Rattle.world_core.specs.declared.report.Report.{Report}
+
+abbrev pub knowledge_of : Lists → Knowledge
+knowledge_of k = record { ours = k.ours.now; theirs = k.theirs.now }
+
+abbrev pub report_of : Report → worlds.Report
+report_of r = record {
+  initiator = r.initiator;
+  responder = r.responder;
+  messages = r.messages;
+  bound = r.bound;
+  ended = r.ended;
+  initiator_learned = knowledge_of r.initiator_learned;
+  responder_learned = knowledge_of r.responder_learned;
+}

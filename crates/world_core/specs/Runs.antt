@@ -1,0 +1,56 @@
+-- What holds of each session of a run.
+--     HasFewMessages w s, IsWithinBound w s, KeepsLimits w s, LearnsBoth w s, LearnsNothingWrong w s
+--     ComesFrom nodes steps w      where the items of the histories come from
+--     AbsorbsAll w e v             an ended session that was absorbed below the cap
+use Rattle.std.specs.Prelude.{◌≡◌, ℕ, ◌<◌, ◌≤◌, ◌||◌, ◌⊎◌, List, length, slice_get, Some, IsTrue, ⊤}
+use Rattle.std.specs.List.{list_any}
+use Rattle.definitions.specs.Items.{Item}
+use Rattle.definitions.specs.Sets.{has}
+use Rattle.definitions.specs.Fingerprints.{two_lanes}
+use Rattle.definitions.specs.Histories.{content, items_of}
+use Rattle.definitions.specs.Ranks.{IsRankTable}
+use Rattle.definitions.specs.Talks.{IsClear}
+use Rattle.definitions.specs.Theorems.{rank, KeepLimits, KnowsDifference, KnowsNothingWrong, inserts, node_of}
+use Rattle.definitions.specs.Worlds as worlds
+use Rattle.definitions.specs.Worlds.{World, Node, Session, node_at, messages, has_ended, initiator_of, responder_of, initiator_knowledge, responder_knowledge, message_bound, report_of}
+
+-- by whatever ranks f and g of the two tables
+abbrev pub HasFewMessages : World → Session → Type 0
+HasFewMessages w s = (f g : List ℕ) → IsRankTable (initiator_of w s).table f → IsRankTable (responder_of w s).table g →
+    length (messages two_lanes w s) ≤ message_bound (rank f (initiator_of w s)) (rank g (responder_of w s))
+
+-- the bound that is shown is one
+abbrev pub IsWithinBound : World → Session → Type 0
+IsWithinBound w s = (bound : ℕ) → (report_of two_lanes w s).bound ≡ Some bound → length (messages two_lanes w s) ≤ bound
+
+-- no list is longer than its sender's limit
+abbrev pub KeepsLimits : World → Session → Type 0
+KeepsLimits w s = KeepLimits (initiator_of w s).table.limit (responder_of w s).table.limit (messages two_lanes w s)
+
+-- once it has ended, where no unequal compared ranges share a fingerprint, each side knows both differences
+abbrev pub LearnsBoth : World → Session → Type 0
+LearnsBoth w s = IsTrue (has_ended two_lanes w s) → IsClear two_lanes (initiator_of w s).items (responder_of w s).items (messages two_lanes w s) →
+    KnowsDifference (initiator_knowledge two_lanes w s) (initiator_of w s).items (responder_of w s).items
+    × KnowsDifference (responder_knowledge two_lanes w s) (responder_of w s).items (initiator_of w s).items
+
+-- at any time, whether or not fingerprints clash
+abbrev pub LearnsNothingWrong : World → Session → Type 0
+LearnsNothingWrong w s = KnowsNothingWrong (initiator_knowledge two_lanes w s) (initiator_of w s).items (responder_of w s).items
+    × KnowsNothingWrong (responder_knowledge two_lanes w s) (responder_of w s).items (initiator_of w s).items
+
+-- each item of a history was there at the start, or was inserted
+abbrev pub ComesFrom : List Node → List worlds.Step → World → Type 0
+ComesFrom nodes steps w = (n : ℕ) (x : Item) → IsTrue (has (items_of (node_at w n).history) x) →
+    IsTrue (list_any (λ m. has (items_of m.history) x) nodes) ⊎ IsTrue (list_any (inserts x) steps)
+
+-- behind the Absorb of an ended session, where there is still room, the node has both versions
+abbrev pub AbsorbsAll : World → worlds.Step → World → Type 0
+AbsorbsAll w (worlds.Insert n x) v = ⊤
+AbsorbsAll w (worlds.Open i r) v = ⊤
+AbsorbsAll w (worlds.Deliver k) v = ⊤
+AbsorbsAll w (worlds.Absorb k side) v = (s : Session) (x : Item) →
+    let after = content (node_at v (node_of s side)).history in
+    slice_get w.sessions k ≡ Some s → IsTrue (has_ended two_lanes w s) →
+    IsClear two_lanes (initiator_of w s).items (responder_of w s).items (messages two_lanes w s) →
+    length after < (node_at w (node_of s side)).table.cap →
+    IsTrue (has (initiator_of w s).items x || has (responder_of w s).items x) → IsTrue (has after x)

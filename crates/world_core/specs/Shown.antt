@@ -1,0 +1,35 @@
+-- What is shown of a session, by what is kept of it.
+--     learned_by l side, bound_by l, shown l
+use Rattle.std.specs.Prelude.{ℕ, ◌==◌, Option, option_map, unwrap_or, length}
+use Rattle.definitions.specs.Ranks.{rank_by}
+use Rattle.definitions.specs.Talks.{Knowledge, nothing}
+use Rattle.definitions.specs.Worlds as worlds
+use Rattle.definitions.specs.Worlds.{message_bound}
+use Rattle.ends_core.specs.Held.{Held}
+use Rattle.world_core.specs.Live.{kept_of, made}
+use Rattle.world_core.specs.declared.session.Session.{Session}
+
+abbrev pub learned_in : Option Held → Knowledge
+learned_in second = unwrap_or (option_map (λ e. e.learned) (option_map (λ h. h.end) second)) nothing
+
+abbrev pub learned_by : Session → worlds.Side → Knowledge
+learned_by l worlds.Initiator = (kept_of l).initiator.learned
+learned_by l worlds.Responder = learned_in l.second
+
+-- the rank of the number of an end's items
+abbrev pub rank_held : Held → ℕ
+rank_held h = rank_by h.steps (length h.end.peer.items)
+
+abbrev pub bound_by : Session → Option ℕ
+bound_by l = option_map (λ h. message_bound (rank_held l.first) (rank_held h)) l.second
+
+abbrev pub shown : Session → worlds.Report
+shown l = record {
+  initiator = l.initiator;
+  responder = l.responder;
+  messages = made l;
+  bound = bound_by l;
+  ended = made l == l.delivered;
+  initiator_learned = learned_by l worlds.Initiator;
+  responder_learned = learned_by l worlds.Responder;
+}

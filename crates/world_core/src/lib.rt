@@ -1,0 +1,16 @@
+//! Runs of nodes and sessions.
+#![tactic(auto)]
+
+mod node;
+mod report;
+mod session;
+mod setup;
+mod step;
+#[cfg(test)]
+mod tests;
+mod world;
+
+pub use report::{Lists, Report};
+pub use setup::{Setup, SetupFault};
+pub use step::{Did, Side, Step};
+pub use world::{World, run};

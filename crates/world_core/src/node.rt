@@ -1,0 +1,99 @@
+//! A node of a run.
+
+ghost use Rattle.std.specs.Prelude.{◌≡◌, length, IfOk, OnOk, OnErr};
+ghost use Rattle.definitions.specs.Fingerprints.{two_lanes};
+ghost use Rattle.definitions.specs.Histories.{insertion, history_after};
+ghost use Rattle.definitions.specs.Messages.{opening};
+ghost use Rattle.definitions.specs.Worlds.{told};
+ghost use Rattle.definitions.specs.Ends as ends;
+ghost use Rattle.strategy_check.specs.Checked.{Checked};
+ghost use Rattle.world_core.specs.Nodes.{node_by, newest};
+ghost use Rattle.world_core.specs.Steps.{did_of};
+
+use crate::step::Did;
+use ends_core::{Initiator, Responder};
+use item_core::Item;
+use std::alloc::{AllocError, Global};
+use std::marker::Model;
+use store_core::{FlatStore, RangeStore};
+use strategy_check::Accepted;
+use version_log::{Added, LogFault, Published};
+use wire_core::Message;
+
+/// A node of a run: a table of the setup, and a log of its own.
+#[derive(Drop)]
+pub(crate) struct Node<'a> {
+    accepted: &'a Accepted,
+    log: Published<FlatStore>,
+}
+
+impl<'a> Model for Node<'a> {
+    ghost use Rattle.std.specs.Prelude.{◌≡◌};
+    ghost use Rattle.definitions.specs.Worlds as worlds;
+    ghost use Rattle.world_core.specs.Nodes.{node_by};
+
+    ghost Value = { worlds.Node };
+
+    ghost view = { λ a. node_by a.accepted.now a.log.history };
+
+    ghost invariant = { λ a. a.log.cap ≡ a.accepted.now.table.cap };
+}
+
+impl<'a> Node<'a> {
+    /// The node of this table and this log.
+    pub(crate) fn new(accepted: &'a Accepted, log: Published<FlatStore>) -> Node<'a>
+        requires { log.cap ≡ accepted.now.table.cap }
+        ensures { result ≡ node_by accepted.now log.history }
+    {
+        Node { accepted, log }
+    }
+
+    /// The newest version.
+    pub(crate) fn version(&self) -> usize
+        ensures { result ≡ length self.now.history }
+    {
+        self.log.version()
+    }
+
+    /// Puts an item in.
+    pub(crate) fn insert(&mut self, alloc: Global, item: Item) -> Result<Did, AllocError>
+        ensures node { OnOk result (self.new ≡ record self.old { history = history_after self.old.history 0 item (insertion self.old.table.cap self.old.history item) }) }
+        ensures did { IfOk result (λ did. did_of did ≡ told (insertion self.old.table.cap self.old.history item)) }
+        ensures refused { OnErr result (self.new ≡ self.old) }
+    {
+        let _ = self.log.cap();
+        match self.log.add(alloc, 0, item) {
+            Ok(Added::New(version)) => Ok(Did::Added(version)),
+            Ok(Added::Already) => Ok(Did::Already),
+            Err(LogFault::Full) => Ok(Did::Full),
+            Err(LogFault::Memory) => Err(AllocError),
+        }
+    }
+
+    /// An initiator with the newest version, and its first message.
+    pub(crate) fn initiator(
+        &self,
+        alloc: Global,
+    ) -> Result<(Initiator<'a, FlatStore>, Message), AllocError>
+        ensures end { IfOk result (λ r. r.0 ≡ record { steps = self.now.steps; end = ends.initiator two_lanes (newest self.now) }) }
+        ensures message { IfOk result (λ r. r.1 ≡ opening two_lanes (newest self.now).items) }
+    {
+        let _ = self.log.cap();
+        let _ = self.log.count();
+        let store = self.log.store().copy(alloc)?;
+        match Initiator::start(alloc, self.accepted, store) {
+            Ok(started) => Ok(started),
+            Err(_) => Err(AllocError),
+        }
+    }
+
+    /// A responder with the newest version.
+    pub(crate) fn responder(&self, alloc: Global) -> Result<Responder<'a, FlatStore>, AllocError>
+        ensures { IfOk result (λ r. r ≡ record { steps = self.now.steps; end = ends.responder (newest self.now) }) }
+    {
+        let _ = self.log.cap();
+        let _ = self.log.count();
+        let store = self.log.store().copy(alloc)?;
+        Ok(Responder::new(alloc, self.accepted, store))
+    }
+}

@@ -1,0 +1,160 @@
+//! The nodes that a run begins with.
+
+ghost use Rattle.std.specs.Prelude.{◌≡◌, ◌<◌, ◌≤◌, [], ◌∷◌, ◌++◌, length, IfOk, IfErr, OnOk, OnErr};
+ghost use Rattle.definitions.specs.Sets.{set_of};
+ghost use Rattle.definitions.specs.Histories.{opening_history};
+ghost use Rattle.definitions.specs.Theorems.{IsNode};
+ghost use Rattle.std.specs.List.{AllByRecursion};
+ghost use Rattle.version_log.specs.Logs.{opened};
+ghost use Rattle.world_core.specs.Nodes.{node_by};
+ghost use Rattle.world_core.specs.SetupFaults.{setup_fault_number, of_log};
+
+use crate::node::Node;
+use item_core::Item;
+use std::alloc::{AllocError, Global};
+use std::marker::Model;
+use store_core::FlatStore;
+use strategy_check::Accepted;
+use version_log::{LogFault, Published};
+
+/// Why there is no new node.
+#[derive(Clone, Copy, Debug, PartialEq, Eq)]
+pub enum SetupFault {
+    /// There are more items than the table's cap.
+    Full,
+    /// Memory ran out.
+    Memory,
+}
+
+impl SetupFault {
+    /// The number of the refusal: 40 or 90.
+    pub fn number(self) -> u8
+        ensures { result ≡ setup_fault_number self }
+    {
+        match self {
+            SetupFault::Full => 40,
+            SetupFault::Memory => 90,
+        }
+    }
+}
+
+impl From<LogFault> for SetupFault {
+    ghost from_gives = { λ f e. e ≡ of_log f };
+
+    fn from(fault: LogFault) -> SetupFault {
+        match fault {
+            LogFault::Full => SetupFault::Full,
+            LogFault::Memory => SetupFault::Memory,
+        }
+    }
+}
+
+/// A table that was accepted, and a log that it has room for.
+#[derive(Drop)]
+pub(crate) struct Prepared {
+    accepted: Accepted,
+    log: Published<FlatStore>,
+}
+
+impl Model for Prepared {
+    ghost use Rattle.std.specs.Prelude.{◌≡◌};
+    ghost use Rattle.definitions.specs.Worlds.{Node};
+    ghost use Rattle.world_core.specs.Nodes.{node_by};
+
+    ghost Value = { Node };
+
+    ghost view = { λ a. node_by a.accepted a.log.history };
+
+    ghost invariant = { λ a. a.log.cap ≡ a.accepted.table.cap };
+}
+
+impl Prepared {
+    /// A node of a run, with a copy of the log.
+    pub(crate) fn live<'a>(&'a self, alloc: Global) -> Result<Node<'a>, AllocError>
+        ensures { IfOk result (λ n. n ≡ self.now) }
+    {
+        Ok(Node::new(&self.accepted, self.log.copy(alloc)?))
+    }
+}
+
+/// The log of these items, by a table's cap.
+fn log_of(
+    alloc: Global,
+    accepted: &Accepted,
+    items: &[Item],
+) -> Result<Published<FlatStore>, SetupFault>
+    ensures log { IfOk result (λ p. p ≡ opened accepted.now.table.cap items.now 1) }
+    ensures node { IfOk result (λ p. IsNode (node_by accepted.now p.history)) }
+    ensures fits { IfOk result (λ _. length (set_of items.now) ≤ accepted.now.table.cap) }
+    ensures full { IfErr result (λ e. e ≡ SetupFault.Full → accepted.now.table.cap < length (set_of items.now)) }
+{
+    let log: Published<FlatStore> = Published::new(alloc, accepted.cap(), items)?;
+    let _ = log.count();
+    let _ = log.cap();
+    Ok(log)
+}
+
+/// The nodes that a run begins with: tables that were accepted, and items.
+#[derive(Drop)]
+pub struct Setup {
+    nodes: Vec<Prepared>,
+}
+
+impl Model for Setup {
+    ghost use Rattle.std.specs.Prelude.{List};
+    ghost use Rattle.std.specs.List.{AllByRecursion};
+    ghost use Rattle.definitions.specs.Worlds.{Node};
+    ghost use Rattle.definitions.specs.Theorems.{IsNode};
+
+    ghost Value = { List Node };
+
+    ghost view = { λ a. a.nodes.items };
+
+    ghost invariant = { λ a. AllByRecursion IsNode a.nodes.items };
+}
+
+impl Setup {
+    /// No node.
+    pub fn new(alloc: Global) -> Setup
+        ensures { result ≡ [] }
+    {
+        Setup {
+            nodes: Vec::new(alloc),
+        }
+    }
+
+    /// Adds a node with these items, each once, where it stands first.
+    ///
+    /// Refused 40 where there are more items than the table's cap, or 90: the table is given back, and nothing is changed.
+    pub fn add_node(
+        &mut self,
+        alloc: Global,
+        accepted: Accepted,
+        items: &[Item],
+    ) -> Result<(), (Accepted, SetupFault)>
+        ensures node { OnOk result (self.new ≡ self.old ++ node_by accepted (opening_history items.now) ∷ []) }
+        ensures fits { OnOk result (length (set_of items.now) ≤ accepted.table.cap) }
+        ensures back { IfErr result (λ e. e.0 ≡ accepted) }
+        ensures full { IfErr result (λ e. e.1 ≡ SetupFault.Full → accepted.table.cap < length (set_of items.now)) }
+        ensures refused { OnErr result (self.new ≡ self.old) }
+    {
+        if self.nodes.reserve(1).is_err() {
+            return Err((accepted, SetupFault::Memory));
+        }
+        match log_of(alloc, &accepted, items) {
+            Ok(log) => {
+                self.nodes.push_reserved(Prepared { accepted, log });
+                Ok(())
+            }
+            Err(fault) => Err((accepted, fault)),
+        }
+    }
+
+    /// The nodes.
+    pub(crate) fn nodes(&self) -> &[Prepared]
+        ensures nodes { result.now ≡ self.now }
+        ensures are { AllByRecursion IsNode self.now }
+    {
+        &self.nodes
+    }
+}

@@ -1,0 +1,261 @@
+//! A run of nodes and sessions.
+
+ghost use Rattle.std.specs.Prelude.{◌≡◌, ◌<◌, ℕ, length, slice_get, take, map, option_map, IfOk, OnOk, OnErr};
+ghost use Rattle.std.specs.List.{AllByRecursion};
+ghost use Rattle.definitions.specs.Fingerprints.{two_lanes};
+ghost use Rattle.definitions.specs.Theorems.{IsNode};
+ghost use Rattle.definitions.specs.Worlds as worlds;
+ghost use Rattle.world_core.specs.Live.{IsRunning, world_of};
+ghost use Rattle.definitions.specs.Sets.{set_of};
+ghost use Rattle.world_core.specs.Reports.{report_of};
+ghost use Rattle.world_core.specs.Runs.{HasFewMessages, IsWithinBound, KeepsLimits, LearnsBoth, LearnsNothingWrong, ComesFrom, AbsorbsAll};
+ghost use Rattle.world_core.specs.Steps.{did_of, side_of, step_of, added_in, absorbed_at, absorbing, AbsorbsSome, IsCutShort};
+
+use crate::node::Node;
+use crate::report::Report;
+use crate::session::Session;
+use crate::setup::{Prepared, Setup};
+use crate::step::{Did, Side, Step};
+use digest_core::Fingerprint;
+use item_core::{Item, Range};
+use std::alloc::{AllocError, Global};
+use std::marker::Model;
+use store_core::{FlatStore, RangeStore};
+
+/// A run of nodes and sessions.
+#[derive(Drop)]
+pub struct World<'a> {
+    nodes: Vec<Node<'a>>,
+    sessions: Vec<Session<'a>>,
+}
+
+impl<'a> Model for World<'a> {
+    ghost use Rattle.definitions.specs.Worlds as worlds;
+    ghost use Rattle.world_core.specs.Live.{world_of, IsRunning};
+
+    ghost Value = { worlds.World };
+
+    ghost view = { λ a. world_of a.nodes.items a.sessions.items };
+
+    ghost invariant = { λ a. IsRunning a.nodes.items a.sessions.items };
+}
+
+/// The nodes of a run that begins.
+fn live_nodes<'a>(alloc: Global, prepared: &'a [Prepared]) -> Result<Vec<Node<'a>>, AllocError>
+    ensures { IfOk result (λ nodes. nodes.items ≡ prepared.now) }
+{
+    let mut nodes = Vec::with_capacity(alloc, prepared.len())?;
+    for node in prepared {
+        nodes.push(node.live(alloc)?)?;
+    }
+    Ok(nodes)
+}
+
+impl<'a> World<'a> {
+    /// The nodes of the setup, and no session.
+    pub fn new(alloc: Global, setup: &'a Setup) -> Result<World<'a>, AllocError>
+        ensures { IfOk result (λ w. w ≡ worlds.start setup.now) }
+    {
+        Ok(World {
+            nodes: live_nodes(alloc, setup.nodes())?,
+            sessions: Vec::new(alloc),
+        })
+    }
+
+    /// The number of sessions.
+    pub fn sessions(&self) -> usize
+        ensures { result ≡ length self.now.sessions }
+    {
+        self.sessions.len()
+    }
+
+    /// Puts an item into the history of a node.
+    fn insert(&mut self, alloc: Global, node: usize, item: Item) -> Result<Did, AllocError>
+        ensures world { OnOk result (self.new ≡ (worlds.insert_at self.old node item (slice_get self.old.nodes node)).0) }
+        ensures did { IfOk result (λ did. did_of did ≡ (worlds.insert_at self.old node item (slice_get self.old.nodes node)).1) }
+        ensures memory { OnErr result (self.new ≡ self.old) }
+    {
+        laws::sessions_stay::<Fingerprint>();
+        laws::sessions_keep_nodes::<Fingerprint>();
+        let Some(node) = self.nodes.get_mut(node) else {
+            return Ok(Did::Idle);
+        };
+        node.insert(alloc, item)
+    }
+
+    /// Opens a session of two nodes.
+    fn open(&mut self, alloc: Global, initiator: usize, responder: usize) -> Result<Did, AllocError>
+        ensures world { OnOk result (self.new ≡ (worlds.open_at self.old initiator responder (slice_get self.old.nodes initiator) (slice_get self.old.nodes responder)).0) }
+        ensures did { IfOk result (λ did. did_of did ≡ (worlds.open_at self.old initiator responder (slice_get self.old.nodes initiator) (slice_get self.old.nodes responder)).1) }
+        ensures memory { OnErr result (self.new ≡ self.old) }
+    {
+        laws::sessions_open::<Fingerprint>();
+        laws::sessions_keep_nodes::<Fingerprint>();
+        if initiator == responder {
+            return Ok(Did::Idle);
+        }
+        if initiator >= self.nodes.len() {
+            return Ok(Did::Idle);
+        }
+        if responder >= self.nodes.len() {
+            return Ok(Did::Idle);
+        }
+        let session = Session::open(alloc, &self.nodes[initiator], initiator, responder)?;
+        let number = self.sessions.len();
+        self.sessions.push(session)?;
+        Ok(Did::Opened(number))
+    }
+
+    /// Delivers the message of a session that was made last.
+    fn deliver(&mut self, alloc: Global, number: usize) -> Result<Did, AllocError>
+        ensures world { OnOk result (self.new ≡ (worlds.deliver_at two_lanes self.old number (slice_get self.old.sessions number)).0) }
+        ensures did { IfOk result (λ did. did_of did ≡ (worlds.deliver_at two_lanes self.old number (slice_get self.old.sessions number)).1) }
+        ensures memory { OnErr result (self.new ≡ self.old) }
+    {
+        laws::lanes_are_exact();
+        laws::sessions_go_on::<Fingerprint>();
+        laws::sessions_keep_nodes::<Fingerprint>();
+        laws::sessions_tell::<Fingerprint>();
+        let Some(session) = self.sessions.get_mut(number) else {
+            return Ok(Did::Idle);
+        };
+        if session.delivered >= session.messages() {
+            return Ok(Did::Idle);
+        }
+        session.deliver(alloc, &self.nodes[session.responder])
+    }
+
+    /// Puts items into the history of a node, one after another, until there is no room.
+    fn absorb_items(
+        &mut self,
+        alloc: Global,
+        node: usize,
+        items: &[Item],
+    ) -> Result<Did, AllocError>
+        requires { node < length self.old.nodes }
+        ensures world { OnOk result (self.new ≡ absorbing self.old node (worlds.node_at self.old node) items.now) }
+        ensures added { IfOk result (λ did. did_of did ≡ worlds.Absorbed (absorbed_at self.old node items.now).added) }
+        ensures memory { OnErr result ((count : ℕ) × (self.new ≡ absorbing self.old node (worlds.node_at self.old node) (take count items.now))) }
+    {
+        let mut added = 0;
+        for item in items {
+            let did = self.insert(alloc, node, *item)?;
+            let Some(new) = added_by(did) else {
+                return Ok(Did::Absorbed(added));
+            };
+            added += new;
+        }
+        Ok(Did::Absorbed(added))
+    }
+
+    /// Puts what a side of an ended session learned into the history of its node.
+    fn absorb(&mut self, alloc: Global, number: usize, side: Side) -> Result<Did, AllocError>
+        ensures world { OnOk result (self.new ≡ (worlds.absorb_at two_lanes self.old (side_of side) (slice_get self.old.sessions number)).0) }
+        ensures did { IfOk result (λ did. did_of did ≡ (worlds.absorb_at two_lanes self.old (side_of side) (slice_get self.old.sessions number)).1) }
+        ensures memory { OnErr result (AbsorbsSome self.old number (side_of side) self.new) }
+    {
+        laws::lanes_are_exact();
+        laws::sessions_tell::<Fingerprint>();
+        let Some(session) = self.sessions.get(number) else {
+            return Ok(Did::Idle);
+        };
+        if session.delivered < session.messages() {
+            return Ok(Did::Idle);
+        }
+        let node = session.node(side);
+        let items = rising(alloc, session.learned(side).theirs)?;
+        self.absorb_items(alloc, node, &items)
+    }
+
+    /// Does a step, and says what it did. Where memory runs out nothing is changed, but that an Absorb keeps what it put
+    /// in before.
+    pub fn step(&mut self, alloc: Global, step: Step) -> Result<Did, AllocError>
+        ensures world { OnOk result (self.new ≡ (worlds.step two_lanes self.old (step_of step)).0) }
+        ensures did { IfOk result (λ did. did_of did ≡ (worlds.step two_lanes self.old (step_of step)).1) }
+        ensures memory { OnErr result (IsCutShort self.old (step_of step) self.new) }
+        ensures absorbed { OnOk result (AbsorbsAll self.old (step_of step) self.new) }
+    {
+        laws::lanes_are_exact();
+        laws::absorb_claim::<Fingerprint>();
+        self.do_step(alloc, step)
+    }
+
+    /// Does a step, and says what it did.
+    fn do_step(&mut self, alloc: Global, step: Step) -> Result<Did, AllocError>
+        ensures world { OnOk result (self.new ≡ (worlds.step two_lanes self.old (step_of step)).0) }
+        ensures did { IfOk result (λ did. did_of did ≡ (worlds.step two_lanes self.old (step_of step)).1) }
+        ensures memory { OnErr result (IsCutShort self.old (step_of step) self.new) }
+    {
+        match step {
+            Step::Insert(node, item) => self.insert(alloc, node, item),
+            Step::Open(initiator, responder) => self.open(alloc, initiator, responder),
+            Step::Deliver(session) => self.deliver(alloc, session),
+            Step::Absorb(session, side) => self.absorb(alloc, session, side),
+        }
+    }
+
+    /// What is shown of a session, if there is one with this number.
+    pub fn report(&self, session: usize) -> Option<Report<'_>>
+        ensures { option_map report_of result ≡ worlds.report two_lanes self.now session }
+    {
+        laws::lanes_are_exact();
+        laws::sessions_tell::<Fingerprint>();
+        let session = self.sessions.get(session)?;
+        Some(session.report())
+    }
+}
+
+/// How many items an insert put in, unless there is no room.
+fn added_by(did: Did) -> Option<usize>
+    ensures { result ≡ added_in (did_of did) }
+{
+    match did {
+        Did::Added(_) => Some(1),
+        Did::Full => None,
+        _ => Some(0),
+    }
+}
+
+/// The items in rising order, each one once.
+fn rising(alloc: Global, items: &[Item]) -> Result<Vec<Item>, AllocError>
+    ensures { IfOk result (λ sorted. sorted.items ≡ set_of items.now) }
+{
+    laws::whole_has_all();
+    let store = FlatStore::from_items(alloc, Vec::from_slice(alloc, items)?)?;
+    store.items(alloc, &Range::whole())
+}
+
+/// The world behind these steps, from the setup on.
+fn run_steps<'a>(alloc: Global, setup: &'a Setup, steps: &[Step]) -> Result<World<'a>, AllocError>
+    ensures { IfOk result (λ w. w ≡ worlds.run two_lanes (worlds.start setup.now) (map step_of steps.now)) }
+{
+    let mut world = World::new(alloc, setup)?;
+    for step in steps {
+        world.step(alloc, *step)?;
+    }
+    Ok(world)
+}
+
+/// The world behind these steps, from the setup on.
+///
+/// Each session of it has few messages, by the ranks of both tables and by the bound that its report shows; no list in it
+/// is longer than its sender's limit; nothing wrong is learned, and once it has ended, where no unequal compared ranges
+/// share a fingerprint, both differences. Each item of a history was there at the start, or was inserted.
+pub fn run<'a>(alloc: Global, setup: &'a Setup, steps: &[Step]) -> Result<World<'a>, AllocError>
+    ensures world { IfOk result (λ w. w ≡ worlds.run two_lanes (worlds.start setup.now) (map step_of steps.now)) }
+    ensures few { IfOk result (λ w. AllByRecursion (HasFewMessages w) w.sessions) }
+    ensures bound { IfOk result (λ w. AllByRecursion (IsWithinBound w) w.sessions) }
+    ensures short { IfOk result (λ w. AllByRecursion (KeepsLimits w) w.sessions) }
+    ensures both { IfOk result (λ w. AllByRecursion (LearnsBoth w) w.sessions) }
+    ensures sound { IfOk result (λ w. AllByRecursion (LearnsNothingWrong w) w.sessions) }
+    ensures items { IfOk result (λ w. ComesFrom setup.now (map step_of steps.now) w) }
+{
+    laws::lanes_are_exact();
+    laws::headline::<Fingerprint>();
+    laws::knowledge_is_sound::<Fingerprint>();
+    laws::talks_begin::<Fingerprint>();
+    laws::history_claim::<Fingerprint>();
+    store_core::laws::set_of_a_list();
+    let _nodes = setup.nodes(); // which tells that each is one
+    run_steps(alloc, setup, steps)
+}
