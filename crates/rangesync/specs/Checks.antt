@@ -8,7 +8,7 @@ use Rattle.definitions.specs.Ranks.{check_fault, found}
 use Rattle.strategy_check.specs.Refused.{fault_of}
 use Rattle.rangesync.specs.Lines.{accepted_text}
 use Rattle.rangesync.specs.declared.fault.Fault.{Fault}
-use Rattle.rangesync.specs.declared.fault.Fault.TheVariants.{CannotRead, BadItemLine, TooManyItems, Strategy, Check, Wire, Misplaced, WriterFailed, Memory}
+use Rattle.rangesync.specs.declared.fault.Fault.TheVariants.{CannotRead, BadItemLine, TooManyItems, BadScenario, BadStep, Strategy, Check, Wire, Misplaced, WriterFailed, Memory}
 
 abbrev pub IsReason : Table → Fault → Type 0
 IsReason T (Check f) = check_fault T ≡ Some (fault_of f)
@@ -16,6 +16,8 @@ IsReason T Memory = ⊤
 IsReason T CannotRead = ⊥
 IsReason T (BadItemLine line) = ⊥
 IsReason T TooManyItems = ⊥
+IsReason T BadScenario = ⊥
+IsReason T (BadStep step) = ⊥
 IsReason T (Strategy f) = ⊥
 IsReason T (Wire f) = ⊥
 IsReason T Misplaced = ⊥

@@ -1,5 +1,5 @@
 -- Why a run is refused, by what refused, and its status.
---     of_answer, of_input, of_decoding, of_listing, of_settings, of_check      the fault of what a lower call answers
+--     of_answer, of_input, of_decoding, of_listing, of_settings, of_scenario, of_check      the fault of what a lower call answers
 --     IsWordsStatus f status                            the status of a call whose words ask for nothing that is done
 --     status_of f                                       the status of a run that ends so
 use Rattle.std.specs.Prelude.{ℕ, ◌≡◌, ◌⊎◌}
@@ -13,12 +13,15 @@ use Rattle.ends_core.specs.declared.answering.AnswerFault.{AnswerFault}
 use Rattle.ends_core.specs.declared.answering.AnswerFault.TheVariants as answers
 use Rattle.settings_core.specs.declared.fault.SettingsFault.{SettingsFault}
 use Rattle.settings_core.specs.declared.fault.SettingsFault.TheVariants as settings
+use Rattle.settings_core.specs.declared.scenario_fault.ScenarioFault.TheVariants as scenarios
+use Rattle.settings_core.specs.declared.scenario_fault.ScenarioError.{ScenarioError}
+use Rattle.settings_core.specs.declared.scenario_fault.ScenarioError.TheVariants as scenario_errors
 use Rattle.settings_core.specs.declared.words.WordsFault.{WordsFault}
 use Rattle.settings_core.specs.declared.words.WordsFault.TheVariants as words
 use Rattle.strategy_check.specs.declared.fault.CheckError.{CheckError}
 use Rattle.strategy_check.specs.declared.fault.CheckError.TheVariants as checks
 use Rattle.rangesync.specs.declared.fault.Fault.{Fault}
-use Rattle.rangesync.specs.declared.fault.Fault.TheVariants.{CannotRead, BadItemLine, TooManyItems, Strategy, Check, Wire, Misplaced, WriterFailed, Memory}
+use Rattle.rangesync.specs.declared.fault.Fault.TheVariants.{CannotRead, BadItemLine, TooManyItems, BadScenario, BadStep, Strategy, Check, Wire, Misplaced, WriterFailed, Memory}
 
 abbrev pub of_answer : AnswerFault → Fault
 of_answer answers.CannotRead = CannotRead
@@ -46,6 +49,14 @@ of_settings settings.TooManyItems = TooManyItems
 of_settings (settings.Strategy f) = Strategy f
 of_settings settings.Memory = Memory
 
+abbrev pub of_scenario : ScenarioError → Fault
+of_scenario scenario_errors.Memory = Memory
+of_scenario (scenario_errors.Fault (scenarios.Strategy f)) = Strategy f
+of_scenario (scenario_errors.Fault (scenarios.Check f)) = Check f
+of_scenario (scenario_errors.Fault scenarios.TooManyItems) = TooManyItems
+of_scenario (scenario_errors.Fault scenarios.BadScenario) = BadScenario
+of_scenario (scenario_errors.Fault (scenarios.BadStep step)) = BadStep step
+
 abbrev pub of_check : CheckError → Fault
 of_check (checks.Fault f) = Check f
 of_check checks.Memory = Memory
@@ -55,6 +66,8 @@ abbrev pub status_of : Fault → ℕ
 status_of CannotRead = 3
 status_of (BadItemLine line) = 1
 status_of TooManyItems = 1
+status_of BadScenario = 1
+status_of (BadStep step) = 1
 status_of (Strategy f) = 1
 status_of (Check f) = 1
 status_of (Wire f) = 1

@@ -8,16 +8,17 @@ use Rattle.std.specs.Prelude.{ℕ, List, [], ◌∷◌, ◌++◌, codes, flat_ma
 use Rattle.std.specs.Fmt.{decimal}
 use Rattle.wire_core.specs.Refused.{fault_number}
 use Rattle.wire_core.specs.declared.fault.WireFault.{WireFault}
-use Rattle.wire_core.specs.declared.fault.WireFault.TheVariants.{FrameLength, Truncated, BadKind, BadBound, EmptyRange, ItemLength, ItemOrder, ItemOutside, MarkPadding, Trailing, TooManyParts}
+use Rattle.wire_core.specs.declared.fault.WireFault.TheVariants.{BadHello, FrameLength, Truncated, BadKind, BadBound, EmptyRange, ItemLength, ItemOrder, ItemOutside, MarkPadding, Trailing, TooManyParts}
 use Rattle.strategy_core.specs.Texts.{key_of}
 use Rattle.strategy_core.specs.declared.fault.StrategyFault.{StrategyFault}
 use Rattle.strategy_core.specs.declared.fault.StrategyFault.TheVariants.{NotToml, Missing, BadNumber, RowOrder, RowAction, CapMismatch}
 use Rattle.strategy_check.specs.declared.fault.CheckFault.{CheckFault}
 use Rattle.strategy_check.specs.declared.fault.CheckFault.TheVariants.{NoDescent, ListTooLong, TooDeep, BadCertificate}
 use Rattle.rangesync.specs.declared.fault.Fault.{Fault}
-use Rattle.rangesync.specs.declared.fault.Fault.TheVariants.{CannotRead, BadItemLine, TooManyItems, Strategy, Check, Wire, Misplaced, WriterFailed, Memory}
+use Rattle.rangesync.specs.declared.fault.Fault.TheVariants.{CannotRead, BadItemLine, TooManyItems, BadScenario, BadStep, Strategy, Check, Wire, Misplaced, WriterFailed, Memory}
 
 abbrev pub wire_name : WireFault → List ℕ
+wire_name BadHello = codes "BadHello"
 wire_name FrameLength = codes "FrameLength"
 wire_name Truncated = codes "Truncated"
 wire_name BadKind = codes "BadKind"
@@ -49,6 +50,8 @@ abbrev pub fault_line : Fault → List ℕ
 fault_line CannotRead = codes "refused 80 CannotRead"
 fault_line (BadItemLine line) = codes "refused 81 BadItemLine " ++ decimal line
 fault_line TooManyItems = codes "refused 82 TooManyItems"
+fault_line BadScenario = codes "refused 83 BadScenario"
+fault_line (BadStep step) = codes "refused 84 BadStep " ++ decimal step
 fault_line (Strategy f) = strategy_line f
 fault_line (Check f) = check_line f
 fault_line (Wire f) = codes "refused " ++ (decimal (fault_number f) ++ (codes " " ++ wire_name f))

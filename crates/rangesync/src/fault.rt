@@ -1,11 +1,11 @@
 //! Why a run is refused.
 
 ghost use Rattle.std.specs.Prelude.{◌≡◌};
-ghost use Rattle.rangesync.specs.FaultsOf.{of_answer, of_input, of_decoding, of_listing, of_settings, of_check};
+ghost use Rattle.rangesync.specs.FaultsOf.{of_answer, of_input, of_decoding, of_listing, of_settings, of_scenario, of_check};
 ghost use Rattle.rangesync.specs.declared.fault.Fault.TheVariants as faults;
 
 use ends_core::{AnswerFault, InputFault, ListReplyFault, WriterFailed};
-use settings_core::SettingsFault;
+use settings_core::{ScenarioError, ScenarioFault, SettingsFault};
 use std::alloc::{AllocError, AllocFailed};
 use strategy_check::{CheckError, CheckFault};
 use strategy_core::StrategyFault;
@@ -20,8 +20,12 @@ pub enum Fault {
     CannotRead,
     /// A line, from 1, of the item file is bad; or the input is not hex.
     BadItemLine { line: usize },
-    /// There are more than 65,536 different items.
+    /// There are more than 65,536 different items, or more than the cap of a scenario's node.
     TooManyItems,
+    /// The input has no nodes, steps or items of a scenario.
+    BadScenario,
+    /// A text of a scenario, from 0, spells no step.
+    BadStep { step: usize },
     /// A strategy file holds no strategy.
     Strategy(StrategyFault),
     /// A strategy is not accepted.
@@ -93,6 +97,21 @@ impl From<SettingsFault> for Fault {
             SettingsFault::TooManyItems => Fault::TooManyItems,
             SettingsFault::Strategy(fault) => Fault::Strategy(fault),
             SettingsFault::Memory => Fault::Memory,
+        }
+    }
+}
+
+impl From<ScenarioError> for Fault {
+    ghost from_gives = { λ f e. e ≡ of_scenario f };
+
+    fn from(error: ScenarioError) -> Fault {
+        match error {
+            ScenarioError::Memory => Fault::Memory,
+            ScenarioError::Fault(ScenarioFault::Strategy(fault)) => Fault::Strategy(fault),
+            ScenarioError::Fault(ScenarioFault::Check(fault)) => Fault::Check(fault),
+            ScenarioError::Fault(ScenarioFault::TooManyItems) => Fault::TooManyItems,
+            ScenarioError::Fault(ScenarioFault::BadScenario) => Fault::BadScenario,
+            ScenarioError::Fault(ScenarioFault::BadStep { step }) => Fault::BadStep { step },
         }
     }
 }

@@ -5,7 +5,9 @@ mod accepted;
 mod fault;
 mod hexed;
 mod printed;
+mod reports;
 mod run;
+mod sim;
 #[cfg(test)]
 mod tests;
 

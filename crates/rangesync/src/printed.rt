@@ -20,6 +20,7 @@ fn wire_name(fault: WireFault) -> &'static str
     ensures { result.now ≡ wire_name fault }
 {
     match fault {
+        WireFault::BadHello => "BadHello",
         WireFault::FrameLength => "FrameLength",
         WireFault::Truncated => "Truncated",
         WireFault::BadKind => "BadKind",
@@ -43,6 +44,8 @@ impl Fault {
             Fault::CannotRead | Fault::WriterFailed | Fault::Memory => 3,
             Fault::BadItemLine { line: _ }
             | Fault::TooManyItems
+            | Fault::BadScenario
+            | Fault::BadStep { step: _ }
             | Fault::Strategy(_)
             | Fault::Check(_)
             | Fault::Wire(_)
@@ -95,6 +98,8 @@ impl fmt::Display for Fault {
             Fault::CannotRead => write!(f, "refused 80 CannotRead"),
             Fault::BadItemLine { line } => write!(f, "refused 81 BadItemLine {line}"),
             Fault::TooManyItems => write!(f, "refused 82 TooManyItems"),
+            Fault::BadScenario => write!(f, "refused 83 BadScenario"),
+            Fault::BadStep { step } => write!(f, "refused 84 BadStep {step}"),
             Fault::Strategy(fault) => write!(f, "{}", StrategyLine(*fault)),
             Fault::Check(fault) => write!(f, "{}", CheckLine(*fault)),
             Fault::Wire(fault) => write!(f, "refused {} {}", fault.number(), wire_name(*fault)),

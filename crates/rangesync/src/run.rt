@@ -5,9 +5,10 @@ ghost use Rattle.store_core.specs.Flat.{flat_items};
 
 use crate::accepted::checked_text;
 use crate::fault::Fault;
+use crate::sim::sim_text;
 use crate::{hexed, printed};
 use ends_core::{answer, list_reply, read_input, write_output};
-use settings_core::{Command, read_items, read_strategy, read_words};
+use settings_core::{Command, read_items, read_strategy, read_words, scenario_of};
 use std::alloc::Global;
 use std::convert::AsStr;
 use std::io::{Read, Write};
@@ -68,6 +69,14 @@ fn check_file<R: Files + AllocGlobal, O: Write + Drop>(
     Ok(())
 }
 
+/// Runs the scenario of the input, and prints what is shown of its sessions.
+fn sim<I: Read + Drop, O: Write + Drop>(alloc: Global, reader: I, out: O) -> Result<(), Fault> {
+    let input = read_input(alloc, &mut Watched::new(reader))?;
+    let text = sim_text(alloc, scenario_of(alloc, &input)?)?;
+    write_output(&mut Watched::new(out), text.as_bytes())?;
+    Ok(())
+}
+
 /// Does what the words ask for.
 fn obey<R: Files + AllocGlobal, I: Read + Drop, O: Write + Drop>(
     rt: &R,
@@ -81,6 +90,7 @@ fn obey<R: Files + AllocGlobal, I: Read + Drop, O: Write + Drop>(
             answer_in(rt.alloc(), hexed, &store, reader, out)
         }
         Command::Check { file } => check_file(rt, file, out),
+        Command::Sim => sim(rt.alloc(), reader, out),
     }
 }
 

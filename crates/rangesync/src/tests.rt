@@ -1,6 +1,7 @@
 //! Runs over memory, on messages and replies that are typed in.
 
 mod checks;
+mod sims;
 mod words;
 
 use crate::run::run;

@@ -4,7 +4,7 @@
 --     line_items line    no item where nothing is left, else the item that the digits spell; None where they spell none
 --     items_from n ls    the items of these lines, of which the first has the number n, or the number of the first bad line
 --     file_items text    the items of a file, or the number of its first bad line, from 1
-use Rattle.std.specs.Prelude.{ℕ, ◌+◌, ◌==◌, Bool, ◌&&◌, ◌||◌, List, [], ◌∷◌, ◌++◌, reverse, length, nat_le, if◌then◌else◌, Option, Some, None, Result, Ok, Err}
+use Rattle.std.specs.Prelude.{ℕ, ◌+◌, ◌==◌, Bool, ◌&&◌, ◌||◌, List, [], ◌∷◌, ◌++◌, reverse, length, nat_le, if◌then◌else◌, Option, Some, None, option_map, Result, Ok, Err}
 use Rattle.std.specs.List.{slice_split}
 use Rattle.std.specs.Io.BufRead.{strip_last}
 use Rattle.hex.specs.Hex.{decode_of}
@@ -34,16 +34,16 @@ abbrev pub digits_in : List ℕ → List ℕ
 digits_in line = without_front (without_end (strip_last 13 line))
 
 -- bytes that are an item
-abbrev pub one_item : List ℕ → Option (List Item)
-one_item bytes = if nat_le 1 (length bytes) && nat_le (length bytes) 64 then Some (bytes ∷ []) else None
+abbrev pub one_item : List ℕ → Option Item
+one_item bytes = if nat_le 1 (length bytes) && nat_le (length bytes) 64 then Some bytes else None
 
-abbrev pub decoded : Result (List ℕ) FromHexError → Option (List Item)
+abbrev pub decoded : Result (List ℕ) FromHexError → Option Item
 decoded (Ok bytes) = one_item bytes
 decoded (Err _) = None
 
 abbrev pub digits_items : List ℕ → Option (List Item)
 digits_items [] = Some []
-digits_items (b ∷ bs) = decoded (decode_of (b ∷ bs))
+digits_items (b ∷ bs) = option_map (λ x. x ∷ []) (decoded (decode_of (b ∷ bs)))
 
 abbrev pub line_items : List ℕ → Option (List Item)
 line_items line = digits_items (digits_in line)

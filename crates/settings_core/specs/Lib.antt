@@ -1,2 +1,7 @@
 pub mod Faults
 pub mod ItemFiles
+pub mod Nodes
+pub mod ScenarioFaults
+pub mod ScenarioOpens
+pub mod Scenarios
+pub mod StepTexts

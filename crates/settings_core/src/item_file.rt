@@ -61,8 +61,8 @@ fn digits_in(line: &[u8]) -> &[u8]
 }
 
 /// The item that hex digits spell, if they spell one.
-fn item_of(digits: &[u8]) -> Option<Item>
-    ensures { option_map (λ x. x ∷ []) result ≡ decoded (decode_of digits.now) }
+pub(crate) fn item_of(digits: &[u8]) -> Option<Item>
+    ensures { result ≡ decoded (decode_of digits.now) }
 {
     if digits.len() > 128 {
         return None;

@@ -20,6 +20,8 @@ pub enum Command<'a> {
         /// The path of the strategy file.
         file: &'a str,
     },
+    /// The run of a scenario.
+    Sim,
 }
 
 /// Why words ask for nothing that is done.
@@ -70,6 +72,13 @@ fn check_words<'a>(alloc: Global) -> Result<clap::Command<'a>, AllocError> {
         .arg(file)
 }
 
+/// The words of `sim`.
+fn sim_words<'a>(alloc: Global) -> clap::Command<'a> {
+    clap::Command::new(alloc, "sim").about(
+        "Run a scenario from standard input and print what its sessions learned",
+    )
+}
+
 /// All words of the program.
 fn program_words<'a>(alloc: Global) -> Result<clap::Command<'a>, AllocError> {
     clap::Command::new(alloc, "rangesync")
@@ -77,7 +86,8 @@ fn program_words<'a>(alloc: Global) -> Result<clap::Command<'a>, AllocError> {
         .version("0.1.0")
         .subcommand_required(true)
         .subcommand(answer_words(alloc)?)?
-        .subcommand(check_words(alloc)?)
+        .subcommand(check_words(alloc)?)?
+        .subcommand(sim_words(alloc))
 }
 
 /// What words that fit ask for.
@@ -90,6 +100,7 @@ fn command_in<'a>(matches: &ArgMatches<'a>) -> Option<Command<'a>> {
         ("check", inner) => Some(Command::Check {
             file: inner.get_str("FILE")?,
         }),
+        ("sim", _) => Some(Command::Sim),
         _ => None,
     }
 }

@@ -12,6 +12,7 @@ Usage: rangesync <COMMAND>
 Commands:
   answer  Answer one message with the lists of the ranges that differ
   check   Check a strategy and print the steps of its least ranks
+  sim     Run a scenario from standard input and print what its sessions learned
   help    Print this message or the help of the given subcommand(s)
 
 Options:
@@ -44,6 +45,16 @@ Options:
   -h, --help  Print help
 ",
     );
+    let sim = answered(
+        "Run a scenario from standard input and print what its sessions learned
+
+Usage: rangesync sim
+
+Options:
+  -h, --help  Print help
+",
+    );
+    gives(&rt, &["rangesync", "sim", "--help"], &[], &sim);
     gives(&rt, &["rangesync", "--help"], &[], &program);
     gives(&rt, &["rangesync", "-h"], &[], &program);
     gives(&rt, &["rangesync", "answer", "--help"], &[], &answer);
@@ -61,7 +72,7 @@ Options:
 #[test]
 fn usage_faults(rt: HostRuntime) {
     let nothing = "error: 'rangesync' requires a subcommand but one was not provided
-  [subcommands: answer, check, help]
+  [subcommands: answer, check, sim, help]
 
 Usage: rangesync <COMMAND>
 
@@ -103,7 +114,19 @@ Usage: rangesync check <FILE>
 
 For more information, try '--help'.
 ";
+    let no_file_for_sim = "error: unexpected argument 'scenario.toml' found
+
+Usage: rangesync sim
+
+For more information, try '--help'.
+";
     gives(&rt, &["rangesync"], &[], &refused(2, nothing));
+    gives(
+        &rt,
+        &["rangesync", "sim", "scenario.toml"],
+        &[],
+        &refused(2, no_file_for_sim),
+    );
     gives(&rt, &["rangesync", "chekc", "f"], &[], &refused(2, unknown));
     gives(&rt, &["rangesync", "answer"], &[], &refused(2, no_items));
     gives(

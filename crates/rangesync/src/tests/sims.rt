@@ -1,0 +1,213 @@
+//! Scenarios, through the program.
+
+use super::{Wanted, answered, gives, refused};
+use std::alloc::AllocError;
+use std::process::Abort;
+use std::rt::Files;
+
+/// Nodes of at most 16 items that list one and cut more in half: a to h, and a to g.
+const NEARLY_EQUAL: &str = r#"
+[[node]]
+cap = 16
+limit = 1
+rounds = 4
+row = [{upto = 1, list = true}, {upto = 16, split = [1, 1]}]
+items = ["61", "62", "63", "64", "65", "66", "67", "68"]
+[[node]]
+cap = 16
+limit = 1
+rounds = 4
+row = [{upto = 1, list = true}, {upto = 16, split = [1, 1]}]
+items = ["61", "62", "63", "64", "65", "66", "67"]
+"#;
+
+/// Nodes of at most two items, which they have: c and d, and a and b.
+const FULL: &str = r#"
+[[node]]
+cap = 2
+limit = 1
+rounds = 1
+row = [{upto = 1, list = true}, {upto = 2, split = [1, 1]}]
+items = ["63", "64"]
+[[node]]
+cap = 2
+limit = 1
+rounds = 1
+row = [{upto = 1, list = true}, {upto = 2, split = [1, 1]}]
+items = ["61", "62"]
+"#;
+
+/// Runs these steps on these nodes.
+fn runs<R: Files + AllocGlobal + Abort>(
+    rt: &R,
+    steps: &str,
+    nodes: &str,
+    wanted: &Wanted<'_>,
+) -> Result<(), AllocError> {
+    let text = format!(in rt.alloc(); "steps = [{steps}]\n{nodes}")?;
+    gives(rt, &["rangesync", "sim"], text.as_bytes(), wanted);
+    Ok(())
+}
+
+#[test]
+fn inserts_between_deliveries(rt: HostRuntime) -> Result<(), AllocError> {
+    let steps =
+        r#""open 0 1", "deliver 0", "insert 0 69", "insert 1 6a", "finish 0", "open 0 1", "finish 1""#;
+    let wanted = answered(
+        "session 0 messages 7 bound 9 ended
+initiator ours 68 theirs -
+responder ours - theirs 68
+session 1 messages 7 bound 9 ended
+initiator ours 68 69 theirs 6a
+responder ours 6a theirs 68 69
+",
+    );
+    runs(&rt, steps, NEARLY_EQUAL, &wanted)
+}
+
+#[test]
+fn learned_items_absorbed(rt: HostRuntime) -> Result<(), AllocError> {
+    let steps =
+        r#""open 0 1", "deliver 0", "insert 0 69", "insert 1 6a", "finish 0", "open 0 1", "finish 1",
+        "absorb 1 initiator", "absorb 1 responder", "open 0 1", "finish 2""#;
+    let wanted = answered(
+        "session 0 messages 7 bound 9 ended
+initiator ours 68 theirs -
+responder ours - theirs 68
+session 1 messages 7 bound 9 ended
+initiator ours 68 69 theirs 6a
+responder ours 6a theirs 68 69
+session 2 messages 2 bound 11 ended
+initiator ours - theirs -
+responder ours - theirs -
+",
+    );
+    runs(&rt, steps, NEARLY_EQUAL, &wanted)
+}
+
+#[test]
+fn full_nodes_absorb_nothing(rt: HostRuntime) -> Result<(), AllocError> {
+    let steps =
+        r#""open 0 1", "absorb 0 initiator", "finish 0", "absorb 0 initiator", "open 0 1", "finish 1""#;
+    let wanted = answered(
+        "session 0 messages 5 bound 5 ended
+initiator ours 63 64 theirs 61 62
+responder ours 61 62 theirs 63 64
+session 1 messages 5 bound 5 ended
+initiator ours 63 64 theirs 61 62
+responder ours 61 62 theirs 63 64
+",
+    );
+    runs(&rt, steps, FULL, &wanted)
+}
+
+#[test]
+fn opened_and_not_delivered(rt: HostRuntime) -> Result<(), AllocError> {
+    let wanted = answered(
+        "session 0 messages 1 bound - open
+initiator ours - theirs -
+responder ours - theirs -
+",
+    );
+    runs(&rt, r#""open 0 1""#, NEARLY_EQUAL, &wanted)
+}
+
+#[test]
+fn steps_that_do_nothing(rt: HostRuntime) -> Result<(), AllocError> {
+    let steps =
+        r#""open 0 0", "deliver 9", "insert 7 61", "finish 9", "absorb 4294967295 responder""#;
+    runs(&rt, steps, FULL, &answered(""))?;
+    runs(&rt, "", FULL, &answered(""))
+}
+
+#[test]
+fn texts_that_are_no_steps(rt: HostRuntime) -> Result<(), AllocError> {
+    let second = refused(1, "refused 84 BadStep 1\n");
+    let first = refused(1, "refused 84 BadStep 0\n");
+    runs(&rt, r#""open 0 1", "deliver 00""#, FULL, &second)?;
+    runs(&rt, r#""open 0 1", "deliver 4294967296""#, FULL, &second)?;
+    runs(&rt, r#""deliver +0""#, FULL, &first)?;
+    runs(&rt, r#""open 0  1""#, FULL, &first)?;
+    runs(&rt, r#""insert 0 6""#, FULL, &first)?;
+    runs(&rt, r#""absorb 0 both", "none""#, FULL, &first)
+}
+
+#[test]
+fn inputs_that_are_no_scenarios(rt: HostRuntime) -> Result<(), AllocError> {
+    let none = refused(1, "refused 83 BadScenario\n");
+    let words = ["rangesync", "sim"];
+    gives(&rt, &words, b"steps = []\n", &none);
+    gives(
+        &rt,
+        &words,
+        b"steps =\n",
+        &refused(1, "refused 30 NotToml\n"),
+    );
+    runs(&rt, "1", FULL, &none)?;
+    runs(&rt, "", "node = [1, 2]", &none)?;
+    runs(&rt, "", "[[node]]\ncap = 2\n", &none)
+}
+
+#[test]
+fn nodes_refused_in_order(rt: HostRuntime) -> Result<(), AllocError> {
+    let deep = r#"
+[[node]]
+cap = 3
+limit = 1
+rounds = 1
+row = [{upto = 1, list = true}, {upto = 3, split = [1, 1]}]
+items = ["6"]
+[[node]]
+"#;
+    let crowded = r#"
+[[node]]
+cap = 1
+limit = 1
+rounds = 0
+row = [{upto = 1, list = true}]
+items = ["61", "62", "61"]
+[[node]]
+"#;
+    let unread = r#"
+[[node]]
+cap = 1
+limit = 1
+rounds = 0
+row = [{upto = 1, list = true}]
+items = ["61", ""]
+[[node]]
+"#;
+    let bare = r#"
+[[node]]
+cap = 1
+limit = 1
+rounds = 0
+row = [{upto = 1, list = true}]
+items = ["61", "61"]
+[[node]]
+"#;
+    runs(
+        &rt,
+        r#""none""#,
+        deep,
+        &refused(1, "refused 38 TooDeep 3 2\n"),
+    )?;
+    runs(
+        &rt,
+        r#""none""#,
+        crowded,
+        &refused(1, "refused 82 TooManyItems\n"),
+    )?;
+    runs(
+        &rt,
+        r#""none""#,
+        unread,
+        &refused(1, "refused 83 BadScenario\n"),
+    )?;
+    runs(
+        &rt,
+        r#""none""#,
+        bare,
+        &refused(1, "refused 31 Missing cap\n"),
+    )
+}
