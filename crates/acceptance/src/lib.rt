@@ -4,4 +4,12 @@
 #[cfg(test)]
 mod answers;
 #[cfg(test)]
-mod learning;
+mod floods;
+#[cfg(test)]
+mod letters;
+#[cfg(test)]
+mod sessions;
+#[cfg(test)]
+mod shown;
+#[cfg(test)]
+mod tables;

@@ -1,0 +1,53 @@
+//! Strategies and the ends that follow them, shared by the tests.
+
+use ends_core::{Initiator, Responder};
+use item_core::Item;
+use std::alloc::Global;
+use std::process::Abort;
+use std::test::Fail;
+use store_core::{FlatStore, RangeStore};
+use strategy_check::{Accepted, check};
+use strategy_core::Strategy;
+use wire_core::Message;
+
+/// Cap 8: lists one item, halves what is more.
+pub(crate) const BINARY_EIGHT: &[u8] =
+    b"cap = 8\nlimit = 1\nrounds = 3\nrow = [{upto = 1, list = true}, {upto = 8, split = [1, 1]}]";
+
+/// Cap 2: lists one item, halves two.
+pub(crate) const BINARY_TWO: &[u8] =
+    b"cap = 2\nlimit = 1\nrounds = 1\nrow = [{upto = 1, list = true}, {upto = 2, split = [1, 1]}]";
+
+/// Cap 2: lists everything.
+pub(crate) const LISTS_TWO: &[u8] =
+    b"cap = 2\nlimit = 2\nrounds = 0\nrow = [{upto = 2, list = true}]";
+
+pub(crate) fn accepted(rt: &impl Abort, alloc: Global, text: &[u8]) -> Accepted {
+    let strategy = Strategy::read(alloc, text).ok().expect(rt, "a strategy");
+    check(alloc, strategy).ok().expect(rt, "accepted")
+}
+
+/// An initiator with these items, and its first message.
+pub(crate) fn initiator<'a>(
+    rt: &impl Abort,
+    alloc: Global,
+    accepted: &'a Accepted,
+    items: Vec<Item>,
+) -> Result<(Initiator<'a, FlatStore>, Message), Fail> {
+    let store = FlatStore::from_items(alloc, items)?;
+    assert!(rt; store.len() <= accepted.cap() as usize);
+    let started = Initiator::start(alloc, accepted, store);
+    Ok(started.ok().expect(rt, "started"))
+}
+
+/// A responder with these items.
+pub(crate) fn responder<'a>(
+    rt: &impl Abort,
+    alloc: Global,
+    accepted: &'a Accepted,
+    items: Vec<Item>,
+) -> Result<Responder<'a, FlatStore>, Fail> {
+    let store = FlatStore::from_items(alloc, items)?;
+    assert!(rt; store.len() <= accepted.cap() as usize);
+    Ok(Responder::new(alloc, accepted, store))
+}
