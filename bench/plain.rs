@@ -3,13 +3,16 @@
 //!     plain make DIR               writes DIR/items, DIR/message, DIR/equal, DIR/sums and DIR/list
 //!     plain run DIR [ROUNDS]       prints the least time of each step in microseconds, and writes DIR/reply
 //!     plain codec DIR [ROUNDS]     the same of reading and of writing the messages DIR/sums and DIR/list
+//!     plain feed DIR [ROUNDS]      the same of reading them again and again as a stream of 64 MB in pieces
 //!
 //! `items` has 65,536 lines of 32-byte items in hex, in no order. `message` is one Sum over everything
 //! with a fingerprint of 32 zero bytes, `equal` the same with the fingerprint of the items. `sums` is a message
 //! of 131,072 Sums, whose ranges follow one another and have bounds of 32 bytes, and `list` one List of the items.
 
+mod sha256;
 mod short;
 
+use sha256::sha256;
 use short::Short;
 use std::env;
 use std::fs;
@@ -27,82 +30,6 @@ const MAX_PARTS: usize = 131_072;
 /// The number of a refusal.
 #[derive(Debug, Clone, Copy, PartialEq, Eq)]
 struct Refusal(u8);
-
-// ---- SHA-256
-
-const ROUND_CONSTANTS: [u32; 64] = [
-    0x428a2f98, 0x71374491, 0xb5c0fbcf, 0xe9b5dba5, 0x3956c25b, 0x59f111f1, 0x923f82a4, 0xab1c5ed5,
-    0xd807aa98, 0x12835b01, 0x243185be, 0x550c7dc3, 0x72be5d74, 0x80deb1fe, 0x9bdc06a7, 0xc19bf174,
-    0xe49b69c1, 0xefbe4786, 0x0fc19dc6, 0x240ca1cc, 0x2de92c6f, 0x4a7484aa, 0x5cb0a9dc, 0x76f988da,
-    0x983e5152, 0xa831c66d, 0xb00327c8, 0xbf597fc7, 0xc6e00bf3, 0xd5a79147, 0x06ca6351, 0x14292967,
-    0x27b70a85, 0x2e1b2138, 0x4d2c6dfc, 0x53380d13, 0x650a7354, 0x766a0abb, 0x81c2c92e, 0x92722c85,
-    0xa2bfe8a1, 0xa81a664b, 0xc24b8b70, 0xc76c51a3, 0xd192e819, 0xd6990624, 0xf40e3585, 0x106aa070,
-    0x19a4c116, 0x1e376c08, 0x2748774c, 0x34b0bcb5, 0x391c0cb3, 0x4ed8aa4a, 0x5b9cca4f, 0x682e6ff3,
-    0x748f82ee, 0x78a5636f, 0x84c87814, 0x8cc70208, 0x90befffa, 0xa4506ceb, 0xbef9a3f7, 0xc67178f2,
-];
-
-const INITIAL_HASH: [u32; 8] = [
-    0x6a09e667, 0xbb67ae85, 0x3c6ef372, 0xa54ff53a, 0x510e527f, 0x9b05688c, 0x1f83d9ab, 0x5be0cd19,
-];
-
-fn compress(hash: &mut [u32; 8], block: &[u8; 64]) {
-    let mut words = [0u32; 64];
-    for (word, bytes) in words.iter_mut().zip(block.chunks_exact(4)) {
-        *word = u32::from_be_bytes(bytes.try_into().expect("4 bytes"));
-    }
-    for t in 16..64 {
-        let s0 = words[t - 15].rotate_right(7) ^ words[t - 15].rotate_right(18) ^ (words[t - 15] >> 3);
-        let s1 = words[t - 2].rotate_right(17) ^ words[t - 2].rotate_right(19) ^ (words[t - 2] >> 10);
-        words[t] = words[t - 16].wrapping_add(s0).wrapping_add(words[t - 7]).wrapping_add(s1);
-    }
-    let [mut a, mut b, mut c, mut d, mut e, mut f, mut g, mut h] = *hash;
-    for t in 0..64 {
-        let big1 = e.rotate_right(6) ^ e.rotate_right(11) ^ e.rotate_right(25);
-        let choice = (e & f) ^ (!e & g);
-        let first = h
-            .wrapping_add(big1)
-            .wrapping_add(choice)
-            .wrapping_add(ROUND_CONSTANTS[t])
-            .wrapping_add(words[t]);
-        let big0 = a.rotate_right(2) ^ a.rotate_right(13) ^ a.rotate_right(22);
-        let majority = (a & b) ^ (a & c) ^ (b & c);
-        let second = big0.wrapping_add(majority);
-        h = g;
-        g = f;
-        f = e;
-        e = d.wrapping_add(first);
-        d = c;
-        c = b;
-        b = a;
-        a = first.wrapping_add(second);
-    }
-    for (word, value) in hash.iter_mut().zip([a, b, c, d, e, f, g, h]) {
-        *word = word.wrapping_add(value);
-    }
-}
-
-fn sha256(message: &[u8]) -> [u8; 32] {
-    let mut hash = INITIAL_HASH;
-    let mut blocks = message.chunks_exact(64);
-    for block in &mut blocks {
-        compress(&mut hash, block.try_into().expect("64 bytes"));
-    }
-    let rest = blocks.remainder();
-    let mut block = [0u8; 64];
-    block[..rest.len()].copy_from_slice(rest);
-    block[rest.len()] = 0x80;
-    if rest.len() >= 56 {
-        compress(&mut hash, &block);
-        block = [0; 64];
-    }
-    block[56..].copy_from_slice(&(message.len() as u64 * 8).to_be_bytes());
-    compress(&mut hash, &block);
-    let mut digest = [0u8; 32];
-    for (bytes, word) in digest.chunks_exact_mut(4).zip(hash) {
-        bytes.copy_from_slice(&word.to_be_bytes());
-    }
-    digest
-}
 
 // ---- items, ranges, fingerprints
 
@@ -355,6 +282,90 @@ fn decode_message(bytes: &[u8]) -> Result<Vec<Part>, Refusal> {
     }
 }
 
+// ---- a stream in pieces
+
+const HELLO: [u8; 4] = *b"RRS1";
+
+/// What a frame of a stream says.
+#[allow(dead_code)]
+enum Event {
+    Part(Part),
+    End,
+}
+
+/// A stream that comes in pieces: whether its hello came, the parts of the message so far, and the bytes of an
+/// unfinished hello or frame.
+struct Feed {
+    begun: bool,
+    parts: usize,
+    kept: Vec<u8>,
+}
+
+impl Feed {
+    fn new() -> Feed {
+        Feed { begun: false, parts: 0, kept: Vec::new() }
+    }
+
+    /// How many bytes the unfinished hello or frame wants beside those that have come.
+    fn wanted(&self) -> usize {
+        match self.kept.first_chunk::<4>() {
+            None => 4 - self.kept.len(),
+            Some(length) => 4 + u32::from_be_bytes(*length) as usize - self.kept.len(),
+        }
+    }
+
+    /// Reads on, and gives what is no whole frame yet.
+    fn read_on<'a>(&mut self, bytes: &'a [u8], out: &mut Vec<Event>) -> Result<&'a [u8], Refusal> {
+        let mut rest = bytes;
+        if !self.begun {
+            let Some((hello, after)) = rest.split_first_chunk::<4>() else { return Ok(rest) };
+            if *hello != HELLO {
+                return Err(Refusal(1));
+            }
+            self.begun = true;
+            rest = after;
+        }
+        loop {
+            let Some((length, after)) = rest.split_first_chunk::<4>() else { return Ok(rest) };
+            let length = u32::from_be_bytes(*length) as usize;
+            if length == 0 || length > MAX_BODY {
+                return Err(Refusal(2));
+            }
+            let Some((body, after)) = after.split_at_checked(length) else { return Ok(rest) };
+            match decode_body(body)? {
+                None => {
+                    out.push(Event::End);
+                    self.parts = 0;
+                }
+                Some(_) if self.parts == MAX_PARTS => return Err(Refusal(12)),
+                Some(part) => {
+                    out.push(Event::Part(part));
+                    self.parts += 1;
+                }
+            }
+            rest = after;
+        }
+    }
+
+    fn feed(&mut self, piece: &[u8], out: &mut Vec<Event>) -> Result<(), Refusal> {
+        let mut rest = piece;
+        while !self.kept.is_empty() && !rest.is_empty() {
+            let (front, back) = rest.split_at(self.wanted().min(rest.len()));
+            let mut kept = std::mem::take(&mut self.kept);
+            kept.extend_from_slice(front);
+            let taken = kept.len() - self.read_on(&kept, out)?.len();
+            kept.drain(..taken);
+            self.kept = kept;
+            rest = back;
+        }
+        if self.kept.is_empty() {
+            let left = self.read_on(rest, out)?;
+            self.kept.extend_from_slice(left);
+        }
+        Ok(())
+    }
+}
+
 fn write_short(short: &Short, out: &mut Vec<u8>) {
     out.push(short.length);
     out.extend_from_slice(short.bytes());
@@ -579,6 +590,41 @@ fn run_codec(folder: &Path, rounds: usize) -> Result<(), Refusal> {
     Ok(())
 }
 
+/// Times a stream of 64 MB of the message `sums`, or `list`, again and again, in pieces of three sizes.
+fn run_feed(folder: &Path, rounds: usize) -> Result<(), Refusal> {
+    let names = [
+        ("sums", ["sums_1", "sums_1400", "sums_65536"]),
+        ("list", ["list_1", "list_1400", "list_65536"]),
+    ];
+    let mut times = Times(Vec::new());
+    for (name, steps) in names {
+        let message = read(&folder.join(name))?;
+        let mut stream = HELLO.to_vec();
+        while stream.len() < 1 << 26 {
+            stream.extend_from_slice(&message);
+        }
+        for (step, size) in steps.into_iter().zip([1, 1_400, 65_536]) {
+            let mut count = 0;
+            for _ in 0..rounds {
+                count = times.time(step, || {
+                    let (mut feed, mut events, mut count) = (Feed::new(), Vec::new(), 0);
+                    for piece in stream.chunks(size) {
+                        feed.feed(piece, &mut events)?;
+                        count += black_box(&events).len();
+                        events.clear();
+                    }
+                    Ok(count)
+                })?;
+            }
+            println!("{step}_events {count}");
+        }
+    }
+    for (name, took) in &times.0 {
+        println!("{name} {:.1}", took.as_secs_f64() * 1e6);
+    }
+    Ok(())
+}
+
 fn main() {
     let words: Vec<String> = env::args().skip(1).collect();
     let words: Vec<&str> = words.iter().map(String::as_str).collect();
@@ -586,13 +632,15 @@ fn main() {
         ["make", folder] => make(Path::new(folder)),
         ["run", folder] => run(Path::new(folder), 9),
         ["codec", folder] => run_codec(Path::new(folder), 9),
-        [command @ ("run" | "codec"), folder, rounds] => match (*command, rounds.parse()) {
+        ["feed", folder] => run_feed(Path::new(folder), 5),
+        [command @ ("run" | "codec" | "feed"), folder, rounds] => match (*command, rounds.parse()) {
             ("run", Ok(rounds)) => run(Path::new(folder), rounds),
+            ("feed", Ok(rounds)) => run_feed(Path::new(folder), rounds),
             (_, Ok(rounds)) => run_codec(Path::new(folder), rounds),
             (_, Err(_)) => exit(2),
         },
         _ => {
-            eprintln!("plain make DIR | plain run DIR [ROUNDS] | plain codec DIR [ROUNDS]");
+            eprintln!("plain make DIR | plain run DIR [ROUNDS] | plain codec DIR [ROUNDS] | plain feed DIR [ROUNDS]");
             exit(2)
         }
     };
