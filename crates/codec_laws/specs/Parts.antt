@@ -13,7 +13,7 @@ use Rattle.definitions.specs.Replies.{answer_to}
 use Rattle.definitions.specs.Wire.{Profile, AreItemsOf, IsFingerprint, IsPart, IsMessage, session_text, mark_bytes, mark_bytes_for, max_body}
 use Rattle.definitions.specs.Faults.{items_fault, part_fault}
 use Rattle.definitions.specs.Reading.{marks_in}
-use Rattle.definitions.specs.Engines.{heard}
+use Rattle.definitions.specs.Engines.{messages_in}
 use Rattle.definitions.specs.Streams.{Standing, Fed, stays, feed}
 
 -- so few items that their number can be written
@@ -65,8 +65,8 @@ AnswersFit P = (A : List Item) (X : Range) (listed : List Item) → IsSet A → 
 
 -- the whole messages of a stream have a spelling
 abbrev pub HeardAreMessages : {F : Type 0} → Profile F → Type 0
-HeardAreMessages P = (bytes : List ℕ) → IsBytes bytes → AllByRecursion (IsMessage P) (heard P bytes)
+HeardAreMessages P = (bytes : List ℕ) → IsBytes bytes → AllByRecursion (IsMessage P) (messages_in P bytes)
 
 -- a session's text spells its messages
 abbrev pub SessionsAreHeard : {F : Type 0} → Profile F → Type 0
-SessionsAreHeard {F} P = (Ms : List (Message F)) → AllByRecursion (IsMessage P) Ms → heard P (session_text P Ms) ≡ Ms
+SessionsAreHeard {F} P = (Ms : List (Message F)) → AllByRecursion (IsMessage P) Ms → messages_in P (session_text P Ms) ≡ Ms

@@ -1,8 +1,8 @@
 -- What the proofs of the laws speak of, in one place.
 pub use Rattle.definitions.specs.Climbs.{At, Climbing, Stuck_at, above_all_by, check_by_steps, climb_to, climbing_next, deep_by_steps, find_steps, push_step}
 pub use Rattle.definitions.specs.Cost.{part_bound}
-pub use Rattle.definitions.specs.Ends.{End, Ends, Fresh, Over, Refuses, Replies, Spent, Stage, Waits, after, after_answer, answer, answer_unless, gained, heard, initiator, initiator_at, is_live, own_of, reply_or_refuse, responder, responder_at, stage_behind, stage_fault}
-pub use Rattle.definitions.specs.Engines.{is_sendable, is_taken, replies, responder_says}
+pub use Rattle.definitions.specs.Ends.{End, Ends, Fresh, Over, Refuses, Replies, Spent, Stage, Waits, after, after_answer, answer, answer_unless, gained, heard, initiator, initiator_at, is_live, is_sendable, own_of, reply_or_refuse, responder, responder_at, stage_behind, stage_fault}
+pub use Rattle.definitions.specs.Engines.{Speaker, answers, initiating, replied, responding, says, session}
 pub use Rattle.definitions.specs.Faults.{Begins, FaultyAnswer, FaultyBody, FaultyBounds, FaultyBytes, FaultyFields, FaultyFrame, FaultyItem, FaultyItems, FaultyList, FaultyMarks, FaultyMessage, FaultyRange, FaultyUpper, IsBodyLength, IsCount, IsItemLength, IsPadded, IsPartial, NoItem, NoLower, NoUpper, Stands, Stops, Trails, body_fault, items_fault, rises_from}
 pub use Rattle.definitions.specs.Fingerprints.{IsExact, Lanes, Summary, counted_lanes, same_lanes, two_lanes}
 pub use Rattle.definitions.specs.Histories.{Already, Full, History, Insertion, New, content, history_after, insertion, items_of, version}

@@ -5,13 +5,13 @@
 --     heard S e Ms                    the end behind these messages
 --     is_over s                       whether the session is over
 --     initiator_at S I R k, responder_at S I R k      the two ends of a talk, which heard their share of its first k messages
-use Rattle.std.specs.Prelude.{ℕ, ◌+◌, Bool, true, false, List, [], Option, Some, None, fold, if◌then◌else◌}
+use Rattle.std.specs.Prelude.{ℕ, ◌+◌, nat_le, length, Bool, true, false, List, [], Option, Some, None, fold, if◌then◌else◌}
 use Rattle.definitions.specs.Fingerprints.{Summary}
 use Rattle.definitions.specs.Messages.{Message, has_open, opening}
 use Rattle.definitions.specs.Replies.{Peer, reply}
 use Rattle.definitions.specs.Placing.{place_fault, opening_fault}
 use Rattle.definitions.specs.Talks.{Knowledge, nothing, and_then, learn, talk, of_first, of_second}
-use Rattle.definitions.specs.Engines.{is_sendable}
+use Rattle.definitions.specs.Wire.{max_parts}
 use Rattle.definitions.specs.Refusals.{too_many_parts, spent}
 
 pub data Stage (F : Type 0) : Type 0 where
@@ -55,6 +55,10 @@ own_of Fresh = []
 own_of (Waits own) = own
 own_of Over = []
 own_of Spent = []
+
+-- the message has no more parts than a message may have
+abbrev pub is_sendable : {F : Type 0} → Message F → Bool
+is_sendable M = nat_le (length M) max_parts
 
 abbrev pub reply_or_refuse : {F : Type 0} → Message F → Answer F
 reply_or_refuse N = if is_sendable N then Replies N else Refuses too_many_parts

@@ -1,12 +1,13 @@
--- What ranks bound: the messages of a talk and of one end. What the limit bounds: lists.
-use Rattle.std.proofs.Common.{rules, ◌≡◌, ℕ, zero, suc, ◌≤◌, true, List, [], ◌∷◌, length, refl, ◌+◌, ◌-◌, ◌*◌, false, min, arith, cond, ◌<◌, Bool, ◌&&◌, Option, None, sym, subst, inl, inr}
-use Rattle.std.specs.Prelude.{⊤, nat_le, is_none}
+-- What ranks bound: the messages of a talk, and what one end is led to compare. What the limit bounds: lists.
+use Rattle.std.proofs.Common.{◌≡◌, ℕ, zero, suc, ◌≤◌, true, List, [], ◌∷◌, length, refl, ◌+◌, ◌-◌, ◌*◌, false, min, arith, cond, ◌<◌, Bool, None, sym, subst, inl, inr}
+use Rattle.std.specs.Prelude.{⊤, nat_le}
 use Rattle.std.specs.List.{filter}
-use Rattle.definitions.proofs.Words.{AllByRecursion, list_any, list_all, Rises, Item, Range, whole, items_in, Summary, Part, Sum, Listing, Answer, Message, range_of, has_open, opening, RangesRise, is_open, Profile, IsPart, IsMessage, max_parts, Peer, reply, talk_from, Ready, rank, MessagesAreFew, InitiatorStops, ResponderStops, IsShort, KeepLimits, ListsAreShort, RepliesAreShort, EndsKeepLimits, place_fault, opening_fault, is_taken, replies, responder_says, Row, act_in, is_split, IsTable, keeps_limit, Accepted, AreSums, Follows, FollowsAll, cut_range, open_parts}
+use Rattle.definitions.proofs.Words.{AllByRecursion, list_any, list_all, Rises, Item, Range, whole, items_in, Summary, Part, Sum, Listing, Answer, Message, range_of, has_open, opening, RangesRise, is_open, Profile, IsPart, IsMessage, Peer, reply, talk_from, Ready, rank, MessagesAreFew, IsShort, KeepLimits, ListsAreShort, RepliesAreShort, EndsKeepLimits, place_fault, opening_fault, End, answers, initiator, responder, Row, act_in, is_split, IsTable, keeps_limit, Accepted, AreSums, Follows, FollowsAll, cut_range, open_parts}
 use Rattle.definitions.proofs.Lemmas.{cond_both, false≢true, and_parts, or_cases, leb-true, leb-false, All-map, All-every, All-append}
 use Rattle.laws.specs.Cutting.{CutsAreExact, TalksHaveRanges}
 use Rattle.rank_laws.proofs.Tables.{covers}
 use Rattle.laws.proofs.Placing.{rises_append, sums-cuts, Placed-from_accepted, opening_exact}
+use Rattle.laws.proofs.Saying.{answers-All}
 use Rattle.laws.proofs.Cuts.{ranges-IsWithin, IsWithin, length-items_in-le, ranges-rise, flat_map-ranges, peer_cuts, peer_cutup, peer_cutup-AreCuts, peer_cutup-IsWithin, reply-each, reply-rises, talk_from-All, length-items_in-le_all, slice_index-le, IsUnder, SumsUnder, reply-own, reply-other, reply-no_sums, within-IsUnder, IsSumUnder}
 
 -- ==== What a cut is, and that honest ranges rise
@@ -59,7 +60,7 @@ pub messages_are_few : {F : Type 0} (S : Summary F) → MessagesAreFew S
 messages_are_few S I R f g k i r =
     omega (arith, length-talk_from S I R f g i r (opening S I.items) (rank f I + 1) (rank g R + 1) k (whole-IsUnder i, tt) (whole-IsUnder r, tt))
 
--- ==== One end stops: what is placed compares only parts of what the own message compared
+-- ==== What is placed compares only parts of what the own message compared
 
 -- a compared range has a rank below n, and where something is listed n is not 0
 abbrev pub IsOpenUnder : {F : Type 0} → List ℕ → List Item → ℕ → Part F → Type 0
@@ -95,12 +96,9 @@ all-OpenUnder {F} {P} {f} r n (p ∷ left) M u k (front, rest, is, follows, more
     subst (AllByRecursion (IsOpenUnder f P.items n)) (sym is)
     (All-append (IsOpenUnder f P.items n) front rest (follows-OpenUnder r n p front both.0 follows u.0) (all-OpenUnder r n left rest u.1 both.1 more))
 
-pub All-kept : {X : Type 0} (P : X → Type 0) (q : X → Bool) (xs : List X) → AllByRecursion P xs → AllByRecursion P (filter q xs)
+All-kept : {X : Type 0} (P : X → Type 0) (q : X → Bool) (xs : List X) → AllByRecursion P xs → AllByRecursion P (filter q xs)
 All-kept P q [] h = tt
 All-kept P q (x ∷ xs) h = grind (arith, All-kept P q xs h.1)
-
-none_is : (o : Option ℕ) → is_none o ≡ true → o ≡ None
-none_is o e = grind arith
 
 IsSumUnder-from_open : {F : Type 0} (f : List ℕ) (A : List Item) (n : ℕ) (p : Part F) → IsOpenUnder f A n p → IsSumUnder f A n p
 IsSumUnder-from_open f A n p h = grind arith
@@ -121,33 +119,9 @@ pub placed-OpenUnder : {F : Type 0} {P : Peer} {f : List ℕ} → Ready P f → 
     AllByRecursion (IsOpenUnder f P.items n) M
 placed-OpenUnder {F} {P} {f} r n sent M h k e = all-OpenUnder r n (open_parts sent) M (All-kept (IsSumUnder f P.items n) is_open sent h) k (Placed-from_accepted sent M e)
 
-length-replies : {F : Type 0} (S : Summary F) (P : Peer) (f : List ℕ) → Ready P f → (n : ℕ) (sent : Message F) (Ms : List (Message F)) →
-    SumsUnder f P.items n sent → AllByRecursion RangesRise Ms → length (replies S P sent Ms) ≤ n
-length-replies S P f r n sent [] h k = omega arith
-length-replies {F} S P f r n sent (M ∷ Ms) h k =
-    cond_both (is_taken sent M && has_open M) (reply S P M ∷ replies S P (reply S P M) Ms) [] (λ Ns. length Ns ≤ n)
-    (λ e.
-    let some = and_parts (has_open sent && nat_le (length sent) max_parts && is_none (place_fault sent M)) (has_open M) e in
-    let fits = (and_parts (has_open sent && nat_le (length sent) max_parts) (is_none (place_fault sent M)) some.0).1 in
-    let heard = placed-OpenUnder r n sent M h k.0 (none_is (place_fault sent M) fits) in
-    omega (arith, has_open-under f P.items n M heard some.1, length-replies S P f r (n - 1) (reply S P M) Ms (reply-under S P f r n M heard) k.1))
-    (λ e. omega arith)
-
-pub initiator_stops : {F : Type 0} (S : Summary F) → InitiatorStops S
-initiator_stops S P f Ms r k = omega (arith, length-replies S P f r (rank f P + 1) (opening S P.items) Ms (whole-IsUnder r, tt) k)
-
 -- an opening compares everything
 pub opening-OpenUnder : {F : Type 0} {P : Peer} {f : List ℕ} → Ready P f → (M : Message F) → opening_fault M ≡ None → AllByRecursion (IsOpenUnder f P.items (rank f P + 1)) M
 opening-OpenUnder {F} {P} {f} r M e = subst (AllByRecursion (IsOpenUnder f P.items (rank f P + 1))) (sym ((opening_exact M).0 e).1) (whole-IsUnder r, tt)
-
-pub responder_stops : {F : Type 0} (S : Summary F) → ResponderStops S
-responder_stops S P f [] r k = omega arith
-responder_stops {F} S P f (M ∷ Ms) r k =
-    cond_both (is_none (opening_fault M)) (reply S P M ∷ replies S P (reply S P M) Ms) [] (λ Ns. length Ns ≤ rank f P + 1)
-    (λ e.
-    let heard = opening-OpenUnder r M (none_is (opening_fault M) e) in
-    omega (arith, length-replies S P f r (rank f P + 1 - 1) (reply S P M) Ms (reply-under S P f r (rank f P + 1) M heard) k.1))
-    (λ e. omega arith)
 
 -- ==== Each sender keeps its limit
 
@@ -184,17 +158,7 @@ talk_from-KeepLimits {F} S P Q M (suc k) s a t b i j h = (
 pub lists_are_short : {F : Type 0} (S : Summary F) → ListsAreShort S
 lists_are_short S I R k t u a b i j = talk_from-KeepLimits S I R (opening S I.items) k t a u b i j (tt, tt)
 
--- ---- one end
-
-replies-short : {F : Type 0} (S : Summary F) (P : Peer) → ((M : Message F) → AllByRecursion (IsShort P.table.limit) (reply S P M)) → (sent : Message F) (Ms : List (Message F)) →
-    AllByRecursion (AllByRecursion (IsShort P.table.limit)) (replies S P sent Ms)
-replies-short S P short sent [] = tt
-replies-short S P short sent (M ∷ Ms) = grind (arith, replies-short S P short (reply S P M) Ms)
-
-responder-short : {F : Type 0} (S : Summary F) (P : Peer) → ((M : Message F) → AllByRecursion (IsShort P.table.limit) (reply S P M)) → (Ms : List (Message F)) →
-    AllByRecursion (AllByRecursion (IsShort P.table.limit)) (responder_says S P Ms)
-responder-short S P short [] = tt
-responder-short S P short (M ∷ Ms) = grind (arith, cond_both, replies-short)
-
 pub ends_keep_limits : {F : Type 0} (S : Summary F) → EndsKeepLimits S
-ends_keep_limits S P Ms t a room = search (rules, replies_are_short, room, replies-short, responder-short)
+ends_keep_limits {F} S P Ms t a room = (((tt, tt), said (initiator S P) refl), said (responder P) refl) where
+  said : (e : End F) → e.peer ≡ P → AllByRecursion (AllByRecursion (IsShort P.table.limit)) (answers S e Ms)
+  said e is = answers-All S P (AllByRecursion (IsShort P.table.limit)) (λ M. replies_are_short S P M t a room) e Ms is

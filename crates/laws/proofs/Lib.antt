@@ -1,7 +1,9 @@
 pub mod Times
 pub mod Cuts
 pub mod Placing
+pub mod Saying
 pub mod Ends
+pub mod Stops
 pub mod Knowledge
 pub mod Once
 pub mod Firm

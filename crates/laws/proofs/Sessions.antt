@@ -9,7 +9,7 @@ use Rattle.laws.specs.Growing.{is_even}
 use Rattle.laws.specs.Turns.{TakeTurns, hearer_at}
 use Rattle.laws.specs.Sessions.{Kept, Keeps, SessionsOpen, responder_now, hearer_now, kept_behind, SessionsGoOn}
 use Rattle.laws.proofs.Runs.{peer_at-IsSet, length-version}
-use Rattle.laws.proofs.Firm.{ends_keep_peers}
+use Rattle.laws.proofs.Saying.{ends_keep_peers}
 use Rattle.laws.proofs.Turns.{talks_go_on, ends_hear, ends_talk}
 use Rattle.laws.proofs.Knowledge.{turned, talks_grow}
 

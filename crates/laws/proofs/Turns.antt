@@ -8,7 +8,7 @@ use Rattle.laws.proofs.Cuts.{reply-rises}
 use Rattle.laws.proofs.Placing.{placing_is_exact, replies_are_placed, replies_are_apart, open-rise}
 use Rattle.laws.proofs.Knowledge.{some_is, then_nothing, then_then, of_first-cons, begun-cons, heard-cons, turned}
 use Rattle.laws.proofs.Few.{messages_fit}
-use Rattle.laws.proofs.Firm.{ends_hear_on}
+use Rattle.laws.proofs.Saying.{ends_hear_on}
 
 -- ==== A talk
 
@@ -144,8 +144,8 @@ fits_on {S = S} {e = e} {d = d} {M = M} m o k =
     subst (λ b. AllByRecursion (λ N. length N ≤ max_parts) (if b then talk_from S d.peer e.peer (reply S d.peer M) k else [])) o (m.fits (suc k)).1
 
 -- the message is not refused
-answers : {F : Type 0} {S : Summary F} {f g : List ℕ} {e d : End F} {M : Message F} → Meets S f g e d M → answer S d M ≡ (if has_open M then Replies (reply S d.peer M) else Ends)
-answers {S = S} {d = d} {M = M} m = ap (answer_unless S d.peer M) m.taken ∙ by (has_open M) refl where
+not_refused : {F : Type 0} {S : Summary F} {f g : List ℕ} {e d : End F} {M : Message F} → Meets S f g e d M → answer S d M ≡ (if has_open M then Replies (reply S d.peer M) else Ends)
+not_refused {S = S} {d = d} {M = M} m = ap (answer_unless S d.peer M) m.taken ∙ by (has_open M) refl where
   by : (b : Bool) → has_open M ≡ b → (if b then reply_or_refuse (reply S d.peer M) else Ends) ≡ (if b then Replies (reply S d.peer M) else Ends)
   by true o = ap (λ fit. if fit then Replies (reply S d.peer M) else Refuses too_many_parts) (le-leb (length (reply S d.peer M)) max_parts (fits_on m o 1).0)
   by false o = refl
@@ -153,7 +153,7 @@ answers {S = S} {d = d} {M = M} m = ap (answer_unless S d.peer M) m.taken ∙ by
 hears : {F : Type 0} {S : Summary F} {f g : List ℕ} {e d : End F} {M : Message F} → Meets S f g e d M → (b : Bool) → has_open M ≡ b →
     after S d M ≡ after_answer d M (if b then Replies (reply S d.peer M) else Ends)
 hears {S = S} {d = d} {M = M} m b o =
-    ap (λ live. if live then after_answer d M (answer S d M) else d) m.live ∙ ap (after_answer d M) (answers m ∙ ap (λ b. if b then Replies (reply S d.peer M) else Ends) o)
+    ap (λ live. if live then after_answer d M (answer S d M) else d) m.live ∙ ap (after_answer d M) (not_refused m ∙ ap (λ b. if b then Replies (reply S d.peer M) else Ends) o)
 
 -- and the reply is met in turn
 meets_on : {F : Type 0} {S : Summary F} {f g : List ℕ} {e d : End F} {M : Message F} → Meets S f g e d M → has_open M ≡ true →
@@ -171,7 +171,7 @@ meets_on {F} {S} {f} {g} {e} {d} {M} m o = record {
 
 turns : {F : Type 0} (S : Summary F) (f g : List ℕ) (k : ℕ) (e d : End F) (M : Message F) → Meets S f g e d M →
     Turn S e d (talk_from S e.peer d.peer M k) (talk_from S e.peer d.peer M (suc k)) k
-turns S f g zero e d M m = turn_first S e d M (if has_open M then [] else []) (grind arith) m.spoken (answers m)
+turns S f g zero e d M m = turn_first S e d M (if has_open M then [] else []) (grind arith) m.spoken (not_refused m)
 turns {F} S f g (suc k) e d M m = by (λ o. turns S g f k (after_answer d M (Replies (reply S d.peer M))) e (reply S d.peer M) (meets_on m o)) (has_open M) refl where
   rest : Bool → ℕ → List (Message F)
   rest b k = if b then talk_from S d.peer e.peer (reply S d.peer M) k else []

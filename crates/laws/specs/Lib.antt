@@ -1,5 +1,6 @@
 pub mod Cutting
 pub mod Growing
 pub mod Turns
+pub mod Saying
 pub mod Sessions
 pub mod Weaker

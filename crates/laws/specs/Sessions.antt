@@ -8,7 +8,7 @@ use Rattle.definitions.specs.Fingerprints.{Summary, IsExact}
 use Rattle.definitions.specs.Messages.{Message, has_open, opening}
 use Rattle.definitions.specs.Replies.{Peer, reply}
 use Rattle.definitions.specs.Talks.{nothing}
-use Rattle.definitions.specs.Ends.{End, Stage, Over, Replies, Ends, initiator, responder, answer, after, initiator_at, responder_at, is_over}
+use Rattle.definitions.specs.Ends.{End, Replies, Ends, initiator, responder, answer, after, initiator_at, responder_at, is_over}
 use Rattle.definitions.specs.Worlds.{World, Session, Step, node_at, peer_at, initiator_of, responder_of, messages, has_ended, initiator_knowledge, responder_knowledge, after_delivery, step}
 use Rattle.definitions.specs.Theorems.{IsNode}
 use Rattle.laws.specs.Growing.{is_even}

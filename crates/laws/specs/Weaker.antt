@@ -10,16 +10,16 @@ use Rattle.definitions.specs.Messages.{Message}
 use Rattle.definitions.specs.Ranks.{Accepted}
 use Rattle.definitions.specs.Replies.{Peer}
 use Rattle.definitions.specs.Talks.{talk, initiator_knows, IsClear}
-use Rattle.definitions.specs.Engines.{initiator_says, responder_says}
+use Rattle.definitions.specs.Engines.{says, initiating, responding}
 use Rattle.definitions.specs.Theorems.{Ready, rank, KeepLimits, KnowsDifference}
 
 abbrev pub InitiatorStopsAnyhow : {F : Type 0} → Summary F → Type 0
 InitiatorStopsAnyhow {F} S = (P : Peer) (f : List ℕ) (Ms : List (Message F)) → Ready P f →
-    length (initiator_says S P Ms) ≤ rank f P + 2
+    length (says S (initiating S P) Ms) ≤ rank f P + 2
 
 abbrev pub ResponderStopsAnyhow : {F : Type 0} → Summary F → Type 0
 ResponderStopsAnyhow {F} S = (P : Peer) (f : List ℕ) (Ms : List (Message F)) → Ready P f →
-    length (responder_says S P Ms) ≤ rank f P + 1
+    length (says S (responding P) Ms) ≤ rank f P + 1
 
 abbrev pub ListsAreShortAnyhow : {F : Type 0} → Summary F → Type 0
 ListsAreShortAnyhow S = (I R : Peer) (k : ℕ) → Accepted I.table → Accepted R.table →

@@ -11,6 +11,7 @@ ghost use Rattle.definitions.specs.Theorems.{RepliesArePlaced, RepliesAreShort, 
 ghost use Rattle.laws.specs.Cutting.{CutsAreExact, TalksHaveRanges};
 ghost use Rattle.laws.specs.Growing.{TalksGrow, KnowledgeGrows};
 ghost use Rattle.laws.specs.Turns.{TalksBegin, TalksGoOn, EndsHear, EndsTalk};
+ghost use Rattle.laws.specs.Saying.{EndsSay};
 ghost use Rattle.laws.specs.Sessions.{SessionsOpen, SessionsGoOn, SessionsStay, SessionsKeepNodes, SessionsTell};
 ghost use Rattle.laws.specs.Weaker.{InitiatorStopsAnyhow, ResponderStopsAnyhow, ListsAreShortAnyhow, KnowledgeIsExactAnyhow, count_summary, blind};
 
@@ -91,13 +92,13 @@ pub fn messages_have_ranges<F>()
 // ---- one end
 
 /// An initiator stops, whatever well-placed messages its peer sends.
-#[tactic(auto, using(crate::proofs::Ends::initiator_stops))]
+#[tactic(auto, using(crate::proofs::Stops::initiator_stops))]
 pub fn initiator_stops<F>()
     ensures { (S : Summary F) → InitiatorStops S }
 {}
 
 /// So does a responder.
-#[tactic(auto, using(crate::proofs::Ends::responder_stops))]
+#[tactic(auto, using(crate::proofs::Stops::responder_stops))]
 pub fn responder_stops<F>()
     ensures { (S : Summary F) → ResponderStops S }
 {}
@@ -113,15 +114,20 @@ pub fn ends_stand_firm<F>()
 {}
 
 /// The end behind one message more.
-#[tactic(auto, using(crate::proofs::Firm::ends_hear_on))]
+#[tactic(auto, using(crate::proofs::Saying::ends_hear_on))]
 pub fn ends_hear_on<F>()
     ensures { (S : Summary F) → EndsHearOn S }
 {}
 
 /// No message changes who speaks.
-#[tactic(auto, using(crate::proofs::Firm::ends_keep_peers))]
+#[tactic(auto, using(crate::proofs::Saying::ends_keep_peers))]
 pub fn ends_keep_peers<F>()
     ensures { (S : Summary F) → EndsKeepPeers S }
+{}
+
+/// Each message that an end says is counted as sent, and behind the end of its session it says nothing more.
+pub fn ends_say<F>()
+    ensures { (S : Summary F) → EndsSay S }
 {}
 
 // ---- talks

@@ -5,7 +5,8 @@ use Rattle.definitions.specs.Fingerprints.{two_lanes, Lanes}
 use Rattle.definitions.specs.Messages.{Listing}
 use Rattle.definitions.specs.Wire.{two_lane_profile, Came, Ended, Failed}
 use Rattle.definitions.specs.Streams.{Standing, Before_hello, In_message, Meaning_over, Faulted, Fed, feed, finish_fault}
-use Rattle.definitions.specs.Engines.{text, heard, initiator_says, initiator_learns, initiator_ends, responder_says, responder_learns, responder_ends}
+use Rattle.definitions.specs.Ends.{is_over}
+use Rattle.definitions.specs.Engines.{text, messages_in, fault_frame, initiating, responding, says, session}
 use Rattle.definitions.specs.Sha256.{sha256, digest_bytes, hash_after, compress, rounds, schedule, first_words}
 use Rattle.definitions.proofs.Cases.Examples.{abc, no_items, has_abc}
 use Rattle.definitions.proofs.Cases.Spellings.{number, everything, opening_of_none, list_of_abc, answer_to_abc}
@@ -67,6 +68,9 @@ items_that_fall = refl
 pub fault_frame_received : fed (hello ++ number 2 ++ 5 ∷ 0x63 ∷ 9 ∷ []) ≡ record { events = Failed 0x63 ∷ []; to = Meaning_over; kept = [] }
 fault_frame_received = refl
 
+pub fault_frame_told : fault_frame two_lane_profile (hello ++ list_of_abc ++ number 2 ++ 5 ∷ 0x63 ∷ 9 ∷ []) ≡ Some 0x63
+fault_frame_told = refl
+
 -- ---- an end and its bytes: empty meets abc
 
 abbrev pub initiator_reads : List ℕ
@@ -75,27 +79,27 @@ initiator_reads = hello ++ list_of_abc
 abbrev pub initiator_writes : List ℕ
 initiator_writes = hello ++ opening_of_none ++ answer_to_abc
 
-pub empty_meets_abc_initiator_writes : text two_lane_profile 2 (initiator_says two_lanes no_items (heard two_lane_profile initiator_reads)) ≡ initiator_writes
+pub empty_meets_abc_initiator_writes : text two_lane_profile 2 (says two_lanes (initiating two_lanes no_items) (messages_in two_lane_profile initiator_reads)) ≡ initiator_writes
 empty_meets_abc_initiator_writes = refl
 
-pub empty_meets_abc_initiator_learns : initiator_learns two_lanes no_items (heard two_lane_profile initiator_reads) ≡ record { ours = []; theirs = abc }
+pub empty_meets_abc_initiator_learns : (session two_lanes (initiating two_lanes no_items) (messages_in two_lane_profile initiator_reads)).learned ≡ record { ours = []; theirs = abc }
 empty_meets_abc_initiator_learns = refl
 
-pub empty_meets_abc_initiator_ends : initiator_ends two_lanes no_items (heard two_lane_profile initiator_reads) ≡ true
+pub empty_meets_abc_initiator_ends : is_over (session two_lanes (initiating two_lanes no_items) (messages_in two_lane_profile initiator_reads)).stage ≡ true
 empty_meets_abc_initiator_ends = refl
 
 -- what comes behind the end of the session counts no more
-pub nothing_behind_the_end : initiator_learns two_lanes no_items (heard two_lane_profile (initiator_reads ++ list_of_abc)) ≡ record { ours = []; theirs = abc }
+pub nothing_behind_the_end : (session two_lanes (initiating two_lanes no_items) (messages_in two_lane_profile (initiator_reads ++ list_of_abc))).learned ≡ record { ours = []; theirs = abc }
 nothing_behind_the_end = refl
 
-pub empty_meets_abc_responder_writes : text two_lane_profile 1 (responder_says two_lanes has_abc (heard two_lane_profile initiator_writes)) ≡ hello ++ list_of_abc
+pub empty_meets_abc_responder_writes : text two_lane_profile 1 (says two_lanes (responding has_abc) (messages_in two_lane_profile initiator_writes)) ≡ hello ++ list_of_abc
 unfolding sha256 digest_bytes hash_after compress rounds schedule first_words
 empty_meets_abc_responder_writes = refl
 
-pub empty_meets_abc_responder_learns : responder_learns two_lanes has_abc (heard two_lane_profile initiator_writes) ≡ record { ours = abc; theirs = [] }
+pub empty_meets_abc_responder_learns : (session two_lanes (responding has_abc) (messages_in two_lane_profile initiator_writes)).learned ≡ record { ours = abc; theirs = [] }
 unfolding sha256 digest_bytes hash_after compress rounds schedule first_words
 empty_meets_abc_responder_learns = refl
 
-pub empty_meets_abc_responder_ends : responder_ends two_lanes has_abc (heard two_lane_profile initiator_writes) ≡ true
+pub empty_meets_abc_responder_ends : is_over (session two_lanes (responding has_abc) (messages_in two_lane_profile initiator_writes)).stage ≡ true
 unfolding sha256 digest_bytes hash_after compress rounds schedule first_words
 empty_meets_abc_responder_ends = refl

@@ -1,0 +1,65 @@
+-- One end stops: what is placed compares no ranges of higher ranks than its own message, and each reply compares lower ones.
+use Rattle.std.proofs.Common.{◌≡◌, ℕ, ◌+◌, ◌-◌, ◌≤◌, ◌∙◌, List, [], ◌∷◌, length, Option, Some, None, refl, sym, subst, arith}
+use Rattle.std.specs.Prelude.{⊤}
+use Rattle.definitions.proofs.Words.{AllByRecursion, Summary, Message, has_open, RangesRise, opening_fault, place_fault, Peer, reply, Ready, rank, InitiatorStops, ResponderStops, End, Fresh, Over, Spent, Stage, Waits, after, after_answer, answer, answer_unless, answers, initiator, replied, responder}
+use Rattle.definitions.specs.Ends.{Answer}
+use Rattle.definitions.proofs.Lemmas.{cond_both, length-append}
+use Rattle.laws.proofs.Cuts.{SumsUnder}
+use Rattle.laws.proofs.Saying.{answer-cases, after-peer}
+use Rattle.laws.proofs.Ends.{whole-IsUnder, IsOpenUnder, placed-OpenUnder, opening-OpenUnder, has_open-under, reply-under}
+
+-- an end at this stage may still reply so often
+abbrev MayReply : {F : Type 0} → Peer → List ℕ → ℕ → Stage F → Type 0
+MayReply P f n Fresh = rank f P + 1 ≤ n
+MayReply P f n (Waits own) = SumsUnder f P.items n own
+MayReply P f n Over = ⊤
+MayReply P f n Spent = ⊤
+
+-- behind this answer to M it may reply so often that all in all it is no more than n
+abbrev MayReplyBehind : {F : Type 0} → List ℕ → ℕ → End F → Message F → Answer F → Type 0
+MayReplyBehind f n e M a = (k : ℕ) × (length (replied a) + k ≤ n) × MayReply e.peer f k (after_answer e M a).stage
+
+answered-few : {F : Type 0} (S : Summary F) (f : List ℕ) (n : ℕ) (e : End F) (M : Message F) → Ready e.peer f → AllByRecursion (IsOpenUnder f e.peer.items n) M →
+    MayReplyBehind f n e M (answer_unless S e.peer M None)
+answered-few S f n e M r under =
+    let N = reply S e.peer M in
+    answer-cases S e.peer M (MayReplyBehind f n e M)
+    (λ o. (
+      n - 1,
+      omega (arith, has_open-under f e.peer.items n M under o),
+      cond_both (has_open N) (Waits N) Over (MayReply e.peer f (n - 1)) (λ more. reply-under S e.peer f r n M under) (λ none. tt),
+    ))
+    (0, omega arith, tt)
+    (0, omega arith, tt)
+
+after-few : {F : Type 0} (S : Summary F) (f : List ℕ) (n : ℕ) (e : End F) (M : Message F) → Ready e.peer f → RangesRise M → MayReply e.peer f n e.stage →
+    (k : ℕ) × (length (replied (answer S e M)) + k ≤ n) × MayReply e.peer f k (after S e M).stage
+after-few {F} S f n e M r rises h = by e.stage h where
+  by : (s : Stage F) → MayReply e.peer f n s → (k : ℕ) × (length (replied (answer S (record e { stage = s }) M)) + k ≤ n) × MayReply e.peer f k (after S (record e { stage = s }) M).stage
+  by Fresh h = fault (opening_fault M) refl where
+    fault : (o : Option ℕ) → opening_fault M ≡ o → MayReplyBehind f n (record e { stage = Fresh }) M (answer_unless S e.peer M o)
+    fault (Some code) p = (0, omega arith, tt)
+    fault None p =
+        let (k, few, more) = answered-few S f (rank f e.peer + 1) (record e { stage = Fresh }) M r (opening-OpenUnder r M p) in
+        (k, omega (arith, few, h), more)
+  by (Waits own) h = fault (place_fault own M) refl where
+    fault : (o : Option ℕ) → place_fault own M ≡ o → MayReplyBehind f n (record e { stage = Waits own }) M (answer_unless S e.peer M o)
+    fault (Some code) p = (0, omega arith, tt)
+    fault None p = answered-few S f n (record e { stage = Waits own }) M r (placed-OpenUnder r n own M h rises p)
+  by Over h = (0, omega arith, tt)
+  by Spent h = (0, omega arith, tt)
+
+answers-few : {F : Type 0} (S : Summary F) (P : Peer) (f : List ℕ) (n : ℕ) (e : End F) (Ms : List (Message F)) → Ready P f → AllByRecursion RangesRise Ms → e.peer ≡ P →
+    MayReply e.peer f n e.stage → length (answers S e Ms) ≤ n
+answers-few S P f n e [] r rise is h = omega arith
+answers-few S P f n e (M ∷ Ms) r rise is h =
+    let (k, few, more) = after-few S f n e M (subst (λ Q. Ready Q f) (sym is) r) rise.0 h in
+    let same = after-peer S e M in
+    let later = answers-few S P f k (after S e M) Ms r rise.1 (same ∙ is) (subst (λ Q. MayReply Q f k (after S e M).stage) (sym same) more) in
+    omega (arith, few, later, length-append (replied (answer S e M)) (answers S (after S e M) Ms))
+
+pub initiator_stops : {F : Type 0} (S : Summary F) → InitiatorStops S
+initiator_stops S P f Ms r rise = omega (arith, answers-few S P f (rank f P + 1) (initiator S P) Ms r rise refl (whole-IsUnder r, tt))
+
+pub responder_stops : {F : Type 0} (S : Summary F) → ResponderStops S
+responder_stops S P f Ms r rise = answers-few S P f (rank f P + 1) (responder P) Ms r rise refl (omega arith)
