@@ -6,3 +6,4 @@ pub mod Exact
 pub mod Same
 pub mod Feeding
 pub mod Held
+pub mod Waiting

@@ -2,10 +2,11 @@
 --     StreamState                    where a stream stands, and the bytes that are kept of it
 --     fed_into events state          what is fed: events, and the state behind them
 --     Holds state bytes events       all that came so far: its bytes, from the hello on, and its events
+--     is_before_hello standing       whether the hello is due
 --     fault_at standing              the fault that a stream has, if any
 --     refusal_in, fault_in           the number of a refusal
 --     UnlessMemory, IfMemory         what holds unless memory ran out, and where it did
-use Rattle.std.specs.Prelude.{◌≡◌, ℕ, List, Option, Some, None, Result, Ok, Err, ⊤}
+use Rattle.std.specs.Prelude.{◌≡◌, ℕ, Bool, true, false, List, Option, Some, None, Result, Ok, Err, ⊤}
 use Rattle.definitions.specs.Fingerprints.{Lanes}
 use Rattle.definitions.specs.Wire.{two_lane_profile, Event}
 use Rattle.definitions.specs.Streams.{Standing, Before_hello, In_message, Meaning_over, Faulted, Fed, feed}
@@ -24,6 +25,13 @@ fed_into events state = record { events = events; to = state.standing; kept = st
 -- the bytes of a stream so far, from the hello on, are these events and then this state
 abbrev pub Holds : StreamState → List ℕ → List (Event Lanes) → Type 0
 Holds state bytes events = feed two_lane_profile Before_hello bytes ≡ fed_into events state
+
+-- the hello is due
+abbrev pub is_before_hello : Standing → Bool
+is_before_hello Before_hello = true
+is_before_hello (In_message parts) = false
+is_before_hello Meaning_over = false
+is_before_hello (Faulted code) = false
 
 abbrev pub fault_at : Standing → Option ℕ
 fault_at Before_hello = None

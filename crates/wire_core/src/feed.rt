@@ -6,7 +6,7 @@ ghost use Rattle.definitions.specs.Wire as wire;
 ghost use Rattle.definitions.specs.Streams.{Before_hello, feed, finish_fault};
 ghost use Rattle.wire_core.specs.Events.{event_values};
 ghost use Rattle.wire_core.specs.Standings.{behind};
-ghost use Rattle.wire_core.specs.Feeds.{fed_into, Holds, fault_at, fault_in, refusal_in, UnlessMemory, IfMemory};
+ghost use Rattle.wire_core.specs.Feeds.{fed_into, Holds, fault_at, fault_in, refusal_in, UnlessMemory, IfMemory, is_before_hello};
 
 use crate::event::Event;
 use crate::fault::{DecodeError, WireFault};
@@ -84,6 +84,13 @@ impl Feed {
                 Err(DecodeError::from(refused))
             }
         }
+    }
+
+    /// Whether not all of the four bytes of the hello have come.
+    pub fn hello_is_due(&self) -> bool
+        ensures { result ≡ is_before_hello self.now.standing }
+    {
+        matches!(self.standing, Standing::BeforeHello)
     }
 
     /// Whether the stream may end here.

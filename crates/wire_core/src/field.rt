@@ -84,7 +84,10 @@ pub fn take_range(bytes: &mut &[u8]) -> Result<Range, WireFault>
 {
     let lower = take_lower(bytes)?;
     let upper = take_upper(bytes)?;
-    Range::new(lower, upper).map_err(|_| WireFault::EmptyRange)
+    let Ok(range) = Range::new(lower, upper) else {
+        return Err(WireFault::EmptyRange);
+    };
+    Ok(range)
 }
 
 /// An item: its length, 1 to 64, and its bytes.
@@ -96,7 +99,10 @@ pub fn take_text(bytes: &mut &[u8]) -> Result<Item, WireFault>
         return Err(WireFault::ItemLength);
     }
     let text = take_bytes(bytes, length as usize)?;
-    Item::new(text).map_err(|_| WireFault::ItemLength)
+    let Ok(item) = Item::new(text) else {
+        return Err(WireFault::ItemLength);
+    };
+    Ok(item)
 }
 
 /// Whether the item is greater than the one before it, if there is one.

@@ -26,5 +26,5 @@ pub use feed::Feed;
 pub use marks::Marks;
 pub use message::{MAX_PARTS, Message, TooManyParts};
 pub use part::{Part, PartKind};
-pub use spelling::{encode_message, encode_part};
+pub use spelling::{encode_fault, encode_hello, encode_message, encode_part};
 pub use watched::Watched;

@@ -1,6 +1,6 @@
 //! A stream that comes in pieces: the bytes that are kept of an unfinished hello or frame, and a piece behind them.
 
-ghost use Rattle.std.specs.Prelude.{◌≡◌, ℕ, ◌+◌, ◌<◌, ◌≤◌, List, ◌++◌, IfOk, OnOk, OnErr, length, take, drop};
+ghost use Rattle.std.specs.Prelude.{◌≡◌, ℕ, ◌+◌, ◌-◌, ◌<◌, ◌≤◌, List, ◌++◌, IfOk, OnOk, OnErr, length, take, drop};
 ghost use Rattle.std.specs.Int.{w32, from_be_bytes};
 ghost use Rattle.definitions.specs.Items.{IsBytes};
 ghost use Rattle.definitions.specs.Wire.{two_lane_profile, max_body};
@@ -14,17 +14,16 @@ use crate::stream::{are_bytes, read_piece};
 use digest_core::Fingerprint;
 use std::alloc::{AllocError, Global};
 
-/// How many bytes an unfinished hello or frame wants beside those that have come, as far as these tell: at least 1.
+/// How many bytes an unfinished hello or frame wants beside those that have come, as far as these tell.
 fn wanted(kept: &[u8]) -> usize
-    ensures some { 0 < result }
     ensures short { length kept.now < 4 → length kept.now + result ≡ 4 }
-    ensures frame { 4 ≤ length kept.now → length kept.now < 4 + from_be_bytes w32 (take 4 kept.now) → length kept.now + result ≡ 4 + from_be_bytes w32 (take 4 kept.now) }
+    ensures frame { 4 ≤ length kept.now → result ≡ 4 + from_be_bytes w32 (take 4 kept.now) - length kept.now }
 {
     if kept.len() < 4 {
         return 4 - kept.len();
     }
     let length = u32::from_be_bytes([kept[0], kept[1], kept[2], kept[3]]) as usize;
-    (4 + length).saturating_sub(kept.len()).max(1)
+    (4 + length).saturating_sub(kept.len())
 }
 
 /// Tells that bytes that are kept and were read are less than the longest frame; nothing is done.
@@ -100,9 +99,7 @@ fn read_rest(
 }
 
 /// Reads a piece behind the bytes that are kept of the stream, and keeps what is left.
-///
-/// Where memory runs out the kept bytes and the events begin as before.
-pub fn read_behind(
+fn read_through(
     alloc: Global,
     kept: &mut Vec<u8>,
     piece: &[u8],
@@ -119,11 +116,34 @@ pub fn read_behind(
     let mut taken = 0;
     let mut rest = piece;
     'pieces: while taken < kept.len() && !rest.is_empty() {
-        let count = wanted(&kept[taken..]).min(rest.len());
+        let count = wanted(&kept[taken..]).max(1).min(rest.len());
         let (front, back) = rest.split_at(count);
         are_bytes(back);
         there = read_kept(alloc, kept, &mut taken, front, there, out)?;
         rest = back;
     }
     read_rest(alloc, kept, taken, rest, there, out)
+}
+
+/// The same. A piece that does not end the unfinished hello or frame is only kept.
+///
+/// Where memory runs out the kept bytes and the events begin as before.
+pub fn read_behind(
+    alloc: Global,
+    kept: &mut Vec<u8>,
+    piece: &[u8],
+    standing: Standing,
+    out: &mut Vec<Event>,
+) -> Result<Standing, AllocError>
+    requires { feed two_lane_profile (standing_of standing) kept.old.items ≡ stays (standing_of standing) kept.old.items }
+    ensures fed { IfOk result (λ s. behind (event_values out.old.items) (feed two_lane_profile (standing_of standing) (kept.old.items ++ piece.now)) ≡ fed_as out.new.items s kept.new.items) }
+    ensures rest { IfOk result (λ s. feed two_lane_profile (standing_of s) kept.new.items ≡ stays (standing_of s) kept.new.items) }
+    ensures kept { OnErr result (take (length kept.old.items) kept.new.items ≡ kept.old.items) }
+    ensures before { take (length out.old.items) out.new.items ≡ out.old.items }
+{
+    if !kept.is_empty() && piece.len() < wanted(kept) {
+        kept.extend_from_slice(piece)?;
+        return Ok(standing);
+    }
+    read_through(alloc, kept, piece, standing, out)
 }

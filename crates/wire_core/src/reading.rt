@@ -123,10 +123,10 @@ pub fn part_in(alloc: Global, body: &[u8]) -> Result<Option<Part>, DecodeError>
     codec_laws::two_lanes_are_real();
     codec_laws::reads_are_bytes();
     codec_laws::body_is_exact::<Fingerprint>();
-    match fields_in(alloc, body)? {
-        Some(fields) => Ok(Some(Part::of_fields(fields))),
-        None => Ok(None),
-    }
+    let Some(fields) = fields_in(alloc, body)? else {
+        return Ok(None);
+    };
+    Ok(Some(Part::of_fields(fields)))
 }
 
 /// What follows the kind of a fault frame: its code.
@@ -144,10 +144,10 @@ fn part_event_in(alloc: Global, body: &[u8]) -> Result<Event, DecodeError>
     requires { length body.now ≤ max_body }
     ensures { Gives event_value result (reading.event_in two_lane_profile One_message body.now) }
 {
-    match part_in(alloc, body)? {
-        Some(part) => Ok(Event::Part(part)),
-        None => Ok(Event::End),
-    }
+    let Some(part) = part_in(alloc, body)? else {
+        return Ok(Event::End);
+    };
+    Ok(Event::Part(part))
 }
 
 /// What a frame's body says in a stream.

@@ -2,7 +2,7 @@
 
 ghost use Rattle.std.specs.Prelude.{◌≡◌, ◌++◌, ◌≤◌, ◌<◌, ◌^◌, length, IfOk, OnOk};
 ghost use Rattle.definitions.specs.Wire as wire;
-ghost use Rattle.definitions.specs.Wire.{two_lane_profile, part_text, IsPart, Spells};
+ghost use Rattle.definitions.specs.Wire.{two_lane_profile, part_text, fault_text, IsPart, Spells};
 ghost use Rattle.item_core.specs.Bounds.{upper_value};
 ghost use Rattle.wire_core.specs.Bodies.{part_of, items_in, fields_text};
 
@@ -12,6 +12,9 @@ use crate::message::Message;
 use crate::part::Part;
 use item_core::{Item, Range, Upper};
 use std::alloc::{AllocError, Global};
+
+/// The first four bytes of a stream.
+pub const HELLO: [u8; 4] = [0x52, 0x52, 0x53, 0x31];
 
 /// The frame of a message's end.
 const END: [u8; 5] = [0, 0, 0, 1, 4];
@@ -127,4 +130,18 @@ pub fn encode_message(alloc: Global, message: &Message) -> Result<Vec<u8>, Alloc
     }
     out.extend_from_slice(&END)?;
     Ok(out)
+}
+
+/// The four bytes with which each side's stream begins.
+pub fn encode_hello() -> [u8; 4]
+    ensures { result ≡ two_lane_profile.hello }
+{
+    HELLO
+}
+
+/// The frame by which a side refuses, with this number.
+pub fn encode_fault(code: u8) -> [u8; 6]
+    ensures { result ≡ fault_text code }
+{
+    [0, 0, 0, 2, 5, code]
 }

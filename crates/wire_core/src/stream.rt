@@ -16,12 +16,10 @@ use crate::event::Event;
 use crate::fault::{DecodeError, WireFault};
 use crate::message::MAX_PARTS;
 use crate::reading::event_in;
+use crate::spelling::HELLO;
 use crate::standing::{Standing, Step};
 use digest_core::Fingerprint;
 use std::alloc::{AllocError, Global};
-
-/// The first four bytes of a stream.
-const HELLO: [u8; 4] = [0x52, 0x52, 0x53, 0x31];
 
 /// Takes the next frame off the front, behind so many parts of its message, and gives its event, if a whole one has come.
 fn take_event(alloc: Global, bytes: &mut &[u8], parts: usize) -> Result<Option<Event>, DecodeError>
