@@ -4,7 +4,7 @@ use Rattle.std.specs.Prelude.{IsFalse}
 use Rattle.std.proofs.lemmas.Grind.{flat_map-append}
 use Rattle.std.proofs.lemmas.List.{take-append-drop, take_more, length-append}
 use Rattle.std.proofs.lemmas.List.Sums.{count_by-le-length, length-filter}
-use Rattle.definitions.specs.Engines.{is_sendable}
+use Rattle.definitions.specs.Ends.{is_sendable}
 use Rattle.definitions.specs.Fingerprints.{Summary}
 use Rattle.definitions.specs.Items.{Item, Range, contains}
 use Rattle.definitions.specs.Messages.{Message, Part}

@@ -3,8 +3,7 @@ use Rattle.std.proofs.Common.{◌≡◌, true, IsTrue, IsFalse, None, Result, Ok
 use Rattle.definitions.specs.Fingerprints.{Summary, Lanes, two_lanes}
 use Rattle.definitions.specs.Messages.{Message, has_open}
 use Rattle.definitions.specs.Replies.{reply}
-use Rattle.definitions.specs.Engines.{is_sendable}
-use Rattle.definitions.specs.Ends.{End, Replies, Refuses, answer, stage_fault}
+use Rattle.definitions.specs.Ends.{End, Replies, Refuses, answer, is_sendable, stage_fault}
 use Rattle.definitions.specs.Refusals.{too_many_parts}
 use Rattle.std.specs.List.{AllByRecursion}
 use Rattle.definitions.specs.Theorems.{RepliesAreShort, IsShort}

@@ -144,6 +144,13 @@ impl<'a, S: RangeStore> End<'a, S> {
         &self.learned
     }
 
+    /// What was learned, for good.
+    pub(crate) fn into_learned(self) -> Learned
+        ensures { result ≡ self.entry.end.learned }
+    {
+        self.learned
+    }
+
     /// Whether the message may come now.
     fn judge(&self, message: &Message) -> Result<(), EndFault>
         ensures fault { judged_in result ≡ ends.stage_fault self.now.end.stage message.now }

@@ -138,4 +138,11 @@ impl<'a, S: RangeStore> Initiator<'a, S> {
         laws::ends_stand_firm::<Fingerprint>();
         self.end.learned()
     }
+
+    /// What was learned, for good.
+    pub fn into_learned(self) -> Learned
+        ensures { result ≡ self.entry.end.learned }
+    {
+        self.end.into_learned()
+    }
 }

@@ -1,7 +1,7 @@
 //! The reply to a message under a strategy.
 
 ghost use Rattle.std.specs.Prelude.{◌≡◌, ◌++◌, ◌<◌, ◌≤◌, ◌^◌, map, length, not, Err, IfOk, OnOk, IsTrue, IsFalse};
-ghost use Rattle.definitions.specs.Engines.{is_sendable};
+ghost use Rattle.definitions.specs.Ends.{is_sendable};
 ghost use Rattle.definitions.specs.Fingerprints.{two_lanes};
 ghost use Rattle.definitions.specs.Messages.{Sum, Listing};
 ghost use Rattle.definitions.specs.Replies as replies;

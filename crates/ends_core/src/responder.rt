@@ -101,4 +101,11 @@ impl<'a, S: RangeStore> Responder<'a, S> {
         laws::ends_stand_firm::<Fingerprint>();
         self.end.learned()
     }
+
+    /// What was learned, for good.
+    pub fn into_learned(self) -> Learned
+        ensures { result ≡ self.entry.end.learned }
+    {
+        self.end.into_learned()
+    }
 }
