@@ -1,0 +1,46 @@
+-- Few messages, and short lists, whatever the bytes are.
+use Rattle.std.proofs.Common.{◌≡◌, ℕ, ◌≤◌, ◌+◌, List, [], ◌∷◌, length, slice_index, sym, ap, ◌∙◌, subst, arith}
+use Rattle.std.specs.List.{AllByRecursion}
+use Rattle.definitions.specs.Fingerprints.{Lanes, two_lanes}
+use Rattle.definitions.specs.Items.{IsBytes, Item}
+use Rattle.definitions.specs.Sets.{IsSet}
+use Rattle.definitions.specs.Messages.{Message, RangesRise}
+use Rattle.definitions.specs.Ranks.{ranks_by, rank_by}
+use Rattle.definitions.specs.Replies.{Peer}
+use Rattle.definitions.specs.Wire.{two_lane_profile, IsMessage}
+use Rattle.definitions.specs.Engines.{Speaker, says, initiating, responding, messages_in}
+use Rattle.definitions.specs.Theorems.{Ready, rank, InitiatorStops, ResponderStops, EndsKeepLimits, IsShort}
+use Rattle.codec_laws.specs.Parts.{HeardAreMessages}
+use Rattle.strategy_check.specs.Checked.{Checked, IsChecked}
+use Rattle.peer_threads.specs.Outcomes.{IsModest, peer_of}
+
+abbrev pub HaveRanges : Type 0
+HaveRanges = (M : Message Lanes) → IsMessage two_lane_profile M → RangesRise M
+
+abbrev pub ReadsRanks : Type 0
+ReadsRanks = (steps : List ℕ) (cap n : ℕ) → n ≤ cap → slice_index (ranks_by steps cap) n ≡ rank_by steps n
+
+each-rises : (Ms : List (Message Lanes)) → HaveRanges → AllByRecursion (IsMessage two_lane_profile) Ms → AllByRecursion RangesRise Ms
+each-rises [] law all = tt
+each-rises (M ∷ Ms) law all = (law M all.0, each-rises Ms law all.1)
+
+-- the messages in bytes have ranges that rise
+pub rise : (bytes : List ℕ) → HeardAreMessages two_lane_profile → HaveRanges → IsBytes bytes → AllByRecursion RangesRise (messages_in two_lane_profile bytes)
+rise bytes heard ranges are = each-rises (messages_in two_lane_profile bytes) ranges (heard bytes are)
+
+pub ready : (a : Checked) (A : List Item) → IsChecked a → IsSet A → length A ≤ a.table.cap → Ready (peer_of a A) (ranks_by a.steps a.table.cap)
+ready a A checked set room = record { ranks = checked.serving.ranks; set = set; room = room }
+
+pub first_modest : (a : Checked) (A : List Item) (bytes : List ℕ) → IsChecked a → ReadsRanks → HeardAreMessages two_lane_profile → HaveRanges → InitiatorStops two_lanes → EndsKeepLimits two_lanes →
+    IsSet A → IsBytes bytes → length A ≤ a.table.cap → IsModest (initiating two_lanes (peer_of a A)) bytes (rank_by a.steps (length A) + 2) a.table.limit
+first_modest a A bytes checked read heard ranges stops limits set are room = record {
+  few = omega (arith, stops (peer_of a A) (ranks_by a.steps a.table.cap) (messages_in two_lane_profile bytes) (ready a A checked set room) (rise bytes heard ranges are), read a.steps a.table.cap (length A) room);
+  short = (limits (peer_of a A) (messages_in two_lane_profile bytes) checked.is_table checked.accepted room).0;
+}
+
+pub second_modest : (a : Checked) (A : List Item) (bytes : List ℕ) → IsChecked a → ReadsRanks → HeardAreMessages two_lane_profile → HaveRanges → ResponderStops two_lanes → EndsKeepLimits two_lanes →
+    IsSet A → IsBytes bytes → length A ≤ a.table.cap → IsModest (responding (peer_of a A)) bytes (rank_by a.steps (length A) + 1) a.table.limit
+second_modest a A bytes checked read heard ranges stops limits set are room = record {
+  few = omega (arith, stops (peer_of a A) (ranks_by a.steps a.table.cap) (messages_in two_lane_profile bytes) (ready a A checked set room) (rise bytes heard ranges are), read a.steps a.table.cap (length A) room);
+  short = (limits (peer_of a A) (messages_in two_lane_profile bytes) checked.is_table checked.accepted room).1;
+}

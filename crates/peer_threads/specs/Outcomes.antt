@@ -1,0 +1,88 @@
+-- What an outcome says of the bytes that a session read and wrote.
+--     Traffic                  what a reader has left and a writer holds, before and after
+--     said_to s bytes          all that a side says to these bytes
+--     session_at s bytes       its end then
+--     peer_of a items          who speaks: the accepted table, and a set
+--     peer_at a w              who speaks: the accepted table, and the set of the history that the view w found
+--     Bears s t bytes o        what the outcome o says
+--     IsModest s bytes bound limit     few own messages, and short lists, whatever was read
+--     Speaks s bound limit t o     all of it, of the bytes that were read
+use Rattle.std.specs.Prelude.{◌≡◌, ℕ, ◌≤◌, List, Option, Some, length, IsTrue, ⊤}
+use Rattle.std.specs.List.{AllByRecursion}
+use Rattle.std.specs.Io.KnownBytes.{Appends, Consumes}
+use Rattle.definitions.specs.Fingerprints.{Lanes, two_lanes}
+use Rattle.definitions.specs.Items.{Item}
+use Rattle.definitions.specs.Messages.{Message}
+use Rattle.definitions.specs.Replies.{Peer}
+use Rattle.definitions.specs.Histories.{content}
+use Rattle.definitions.specs.Wire.{two_lane_profile}
+use Rattle.definitions.specs.Ends.{End, is_over}
+use Rattle.definitions.specs.Engines.{Speaker, says, session, messages_in, fault_frame, text}
+use Rattle.definitions.specs.Theorems.{IsShort}
+use Rattle.strategy_check.specs.Checked.{Checked}
+use Rattle.version_lock.specs.declared.view.View.{View}
+use Rattle.peer_threads.specs.declared.outcome.Outcome.{Outcome}
+use Rattle.peer_threads.specs.declared.outcome.Outcome.TheVariants.{Ended, Refused, PeerRefused, Io, Memory}
+
+pub record Traffic : Type 0 where
+  pub unread : Option (List ℕ)
+  pub left : Option (List ℕ)
+  pub held : Option (List ℕ)
+  pub holds : Option (List ℕ)
+
+abbrev pub traffic : Option (List ℕ) → Option (List ℕ) → Option (List ℕ) → Option (List ℕ) → Traffic
+traffic unread left held holds = record { unread = unread; left = left; held = held; holds = holds }
+
+abbrev pub said_to : Speaker Lanes → List ℕ → List (Message Lanes)
+said_to s bytes = says two_lanes s (messages_in two_lane_profile bytes)
+
+abbrev pub session_at : Speaker Lanes → List ℕ → End Lanes
+session_at s bytes = session two_lanes s (messages_in two_lane_profile bytes)
+
+abbrev pub peer_of : Checked → List Item → Peer
+peer_of a items = record { table = a.table; items = items }
+
+abbrev pub peer_at : Checked → View → Peer
+peer_at a w = peer_of a (content w.base)
+
+abbrev pub sent_in : Outcome → ℕ
+sent_in (Ended learned sent version) = sent
+sent_in (Refused code sent) = sent
+sent_in (PeerRefused code sent) = sent
+sent_in (Io side sent) = sent
+sent_in (Memory sent) = sent
+
+-- the side has written all that it says to these bytes: so many messages, behind its hello
+pub record SaidAll (s : Speaker Lanes) (t : Traffic) (bytes : List ℕ) (sent : ℕ) : Type 0 where
+  pub written : Appends t.held t.holds (text two_lane_profile sent (said_to s bytes))
+  pub count : length (said_to s bytes) ≡ sent
+
+-- of a session that was refused here, or for which memory, the reader or the writer failed, this says nothing yet
+abbrev pub Bears : Speaker Lanes → Traffic → List ℕ → Outcome → Type 0
+Bears s t bytes (Ended learned sent version) =
+    SaidAll s t bytes sent × IsTrue (is_over (session_at s bytes).stage) × (learned ≡ (session_at s bytes).learned)
+Bears s t bytes (PeerRefused code sent) = SaidAll s t bytes sent × (fault_frame two_lane_profile bytes ≡ Some code)
+Bears s t bytes (Refused code sent) = ⊤
+Bears s t bytes (Io side sent) = ⊤
+Bears s t bytes (Memory sent) = ⊤
+
+-- whatever the bytes are, there are few own messages, and no list in them is longer than the limit
+pub record IsModest (s : Speaker Lanes) (bytes : List ℕ) (bound limit : ℕ) : Type 0 where
+  pub few : length (said_to s bytes) ≤ bound
+  pub short : AllByRecursion (AllByRecursion (IsShort limit)) (said_to s bytes)
+
+-- the bytes that were read, and what the outcome says of them
+pub record Speaks (s : Speaker Lanes) (bound limit : ℕ) (t : Traffic) (o : Outcome) : Type 0 where
+  pub bytes : List ℕ
+  pub read : Consumes t.unread t.left bytes
+  pub bears : Bears s t bytes o
+  pub sent : sent_in o ≤ bound
+  pub modest : length s.start.peer.items ≤ s.start.peer.table.cap → IsModest s bytes bound limit
+
+-- the version of a session that ended
+abbrev pub HasVersion : Outcome → ℕ → Type 0
+HasVersion (Ended learned sent version) v = version ≡ v
+HasVersion (Refused code sent) v = ⊤
+HasVersion (PeerRefused code sent) v = ⊤
+HasVersion (Io side sent) v = ⊤
+HasVersion (Memory sent) v = ⊤

@@ -1,0 +1,59 @@
+//! How a session ends: the one place that makes an outcome, and that refuses on the wire.
+
+ghost use Rattle.std.specs.Prelude.{◌≡◌, ◌≤◌, ℕ, List, Option};
+ghost use Rattle.definitions.specs.Fingerprints.{Lanes};
+ghost use Rattle.definitions.specs.Engines.{Speaker};
+ghost use Rattle.peer_threads.specs.Outcomes.{traffic, HasVersion};
+ghost use Rattle.peer_threads.specs.Stops.{outcome_of};
+ghost use Rattle.peer_threads.specs.Underway.{Talked, Spoke, Leaves};
+
+use crate::outbox::Outbox;
+use crate::outcome::Outcome;
+use crate::party::Party;
+use crate::stop::Stop;
+use std::io::Write;
+use wire_core::Watched;
+
+/// The number of the refusal for want of memory.
+const NO_MEMORY: u8 = 90;
+
+/// The outcome of a session that stopped. Where this side refuses, one fault frame is written.
+pub(crate) fn stopped<W: Write>(outbox: Outbox, writer: &mut Watched<W>, stop: Stop) -> Outcome
+    ensures outcome { result ≡ outcome_of outbox.sent stop }
+    ensures leaves { Leaves outbox (W.contents writer.old.inner) (W.contents writer.new.inner) stop }
+{
+    let sent = outbox.sent();
+    match stop {
+        Stop::Refused(code) => {
+            outbox.refuse(writer, code);
+            Outcome::Refused { code, sent }
+        }
+        Stop::Memory => {
+            outbox.refuse(writer, NO_MEMORY);
+            Outcome::Memory { sent }
+        }
+        Stop::PeerRefused(code) => Outcome::PeerRefused { code, sent },
+        Stop::Io(side) => Outcome::Io { side, sent },
+    }
+}
+
+/// The outcome of a session that was talked to its end, or stopped.
+pub(crate) fn concluded<P: Party, W: Write>(
+    party: P,
+    version: usize,
+    outbox: Outbox,
+    writer: &mut Watched<W>,
+    talked: Result<(), Stop>,
+) -> Outcome
+    ensures bytes { (s : Speaker Lanes) (bound : ℕ) (unread left held : Option (List ℕ)) → Talked s (P.held party).end outbox (traffic unread left held (W.contents writer.old.inner)) talked → outbox.sent ≤ bound → Spoke s bound (traffic unread left held (W.contents writer.new.inner)) result }
+    ensures version { HasVersion result version }
+{
+    match talked {
+        Ok(()) => Outcome::Ended {
+            learned: party.into_learned(),
+            sent: outbox.sent(),
+            version,
+        },
+        Err(stop) => stopped(outbox, writer, stop),
+    }
+}

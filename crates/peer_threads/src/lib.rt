@@ -1,0 +1,25 @@
+//! Sessions over any reader and writer, and workers that serve them in threads.
+#![tactic(auto)]
+
+mod booking;
+mod ending;
+mod engines;
+mod gate;
+mod inbox;
+mod modesty;
+mod outbox;
+mod outcome;
+mod party;
+mod shared;
+mod source;
+mod stop;
+mod talk;
+mod worker;
+mod workers;
+
+pub use engines::{dial_one, serve_one};
+pub use gate::{Gate, OpenGate};
+pub use outcome::{Outcome, Side};
+pub use shared::Shared;
+pub use source::{Source, SourceFault};
+pub use workers::{Report, run_workers};
