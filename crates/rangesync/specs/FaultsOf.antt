@@ -1,7 +1,8 @@
 -- Why a run is refused, by what refused, and its status.
---     of_answer, of_input, of_decoding, of_listing, of_settings, of_scenario, of_check      the fault of what a lower call answers
---     IsWordsStatus f status                            the status of a call whose words ask for nothing that is done
---     status_of f                                       the status of a run that ends so
+--     of_answer, of_input, of_decoding, of_listing, of_settings, of_scenario, of_check, of_log, of_listen, of_connect, of_source
+--                                                   the fault of what a lower call answers
+--     IsWordsStatus f status                        the status of a call whose words ask for nothing that is done
+--     status_of f                                   the status of a run that ends so
 use Rattle.std.specs.Prelude.{ℕ, ◌≡◌, ◌⊎◌}
 use Rattle.wire_core.specs.declared.fault.DecodeError.{DecodeError}
 use Rattle.wire_core.specs.declared.fault.DecodeError.TheVariants as errors
@@ -20,8 +21,16 @@ use Rattle.settings_core.specs.declared.words.WordsFault.{WordsFault}
 use Rattle.settings_core.specs.declared.words.WordsFault.TheVariants as words
 use Rattle.strategy_check.specs.declared.fault.CheckError.{CheckError}
 use Rattle.strategy_check.specs.declared.fault.CheckError.TheVariants as checks
+use Rattle.version_log.specs.declared.answer.LogFault.{LogFault}
+use Rattle.version_log.specs.declared.answer.LogFault.TheVariants as logs
+use Rattle.tcp_front.specs.declared.fault.ListenFault.{ListenFault}
+use Rattle.tcp_front.specs.declared.fault.ListenFault.TheVariants as listens
+use Rattle.tcp_front.specs.declared.fault.ConnectFault.{ConnectFault}
+use Rattle.tcp_front.specs.declared.fault.ConnectFault.TheVariants as connects
+use Rattle.peer_threads.specs.declared.source.SourceFault.{SourceFault}
+use Rattle.peer_threads.specs.declared.source.SourceFault.TheVariants as sources
 use Rattle.rangesync.specs.declared.fault.Fault.{Fault}
-use Rattle.rangesync.specs.declared.fault.Fault.TheVariants.{CannotRead, BadItemLine, TooManyItems, BadScenario, BadStep, Strategy, Check, Wire, Misplaced, WriterFailed, Memory}
+use Rattle.rangesync.specs.declared.fault.Fault.TheVariants.{CannotRead, BadItemLine, TooManyItems, BadScenario, BadStep, Strategy, Check, Wire, Misplaced, Bind, Connect, Accept, Session, PeerRefused, ReaderFailed, WriterFailed, Memory}
 
 abbrev pub of_answer : AnswerFault → Fault
 of_answer answers.CannotRead = CannotRead
@@ -61,7 +70,23 @@ abbrev pub of_check : CheckError → Fault
 of_check (checks.Fault f) = Check f
 of_check checks.Memory = Memory
 
--- 1 where something given is refused, 3 for a file, an input, an output or memory
+abbrev pub of_log : LogFault → Fault
+of_log logs.Full = TooManyItems
+of_log logs.Memory = Memory
+
+abbrev pub of_listen : ListenFault → Fault
+of_listen listens.Bind = Bind
+of_listen listens.Memory = Memory
+
+abbrev pub of_connect : ConnectFault → Fault
+of_connect connects.Connect = Connect
+of_connect connects.Memory = Memory
+
+abbrev pub of_source : SourceFault → Fault
+of_source sources.Accept = Accept
+of_source sources.Memory = Memory
+
+-- 1 where something given, or a session, is refused, 3 for a file, an input, an output, the network or memory
 abbrev pub status_of : Fault → ℕ
 status_of CannotRead = 3
 status_of (BadItemLine line) = 1
@@ -72,6 +97,12 @@ status_of (Strategy f) = 1
 status_of (Check f) = 1
 status_of (Wire f) = 1
 status_of Misplaced = 1
+status_of Bind = 3
+status_of Connect = 3
+status_of Accept = 3
+status_of (Session code) = 1
+status_of (PeerRefused code) = 1
+status_of ReaderFailed = 3
 status_of WriterFailed = 3
 status_of Memory = 3
 

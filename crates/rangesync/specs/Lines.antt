@@ -1,10 +1,11 @@
 -- The line that a fault prints.
 --     wire_name f      the name of a refusal on the wire
+--     code_name n      the name of the refusal of a session, by its number
 --     accepted_text steps     the lines of a strategy that is accepted
 --     strategy_line f  the line of a text or a table that is no strategy
 --     check_line f     the line of a strategy that is not accepted
 --     fault_line f     the line, without its newline: `refused`, the number, the name and the values
-use Rattle.std.specs.Prelude.{ℕ, List, [], ◌∷◌, ◌++◌, codes, flat_map}
+use Rattle.std.specs.Prelude.{ℕ, List, [], ◌∷◌, ◌++◌, ◌==◌, if◌then◌else◌, codes, flat_map}
 use Rattle.std.specs.Fmt.{decimal}
 use Rattle.wire_core.specs.Refused.{fault_number}
 use Rattle.wire_core.specs.declared.fault.WireFault.{WireFault}
@@ -15,7 +16,7 @@ use Rattle.strategy_core.specs.declared.fault.StrategyFault.TheVariants.{NotToml
 use Rattle.strategy_check.specs.declared.fault.CheckFault.{CheckFault}
 use Rattle.strategy_check.specs.declared.fault.CheckFault.TheVariants.{NoDescent, ListTooLong, TooDeep, BadCertificate}
 use Rattle.rangesync.specs.declared.fault.Fault.{Fault}
-use Rattle.rangesync.specs.declared.fault.Fault.TheVariants.{CannotRead, BadItemLine, TooManyItems, BadScenario, BadStep, Strategy, Check, Wire, Misplaced, WriterFailed, Memory}
+use Rattle.rangesync.specs.declared.fault.Fault.TheVariants.{CannotRead, BadItemLine, TooManyItems, BadScenario, BadStep, Strategy, Check, Wire, Misplaced, Bind, Connect, Accept, Session, PeerRefused, ReaderFailed, WriterFailed, Memory}
 
 abbrev pub wire_name : WireFault → List ℕ
 wire_name BadHello = codes "BadHello"
@@ -45,6 +46,39 @@ check_line (ListTooLong upto) = codes "refused 37 ListTooLong " ++ decimal upto
 check_line (TooDeep count rank) = codes "refused 38 TooDeep " ++ (decimal count ++ (codes " " ++ decimal rank))
 check_line (BadCertificate count) = codes "refused 39 BadCertificate " ++ decimal count
 
+-- the refusals of an end, and those of a session's table and gate
+abbrev pub late_name : ℕ → List ℕ
+late_name n =
+    if n == 20 then codes "Misplaced"
+    else if n == 21 then codes "Stall"
+    else if n == 22 then codes "Gap"
+    else if n == 23 then codes "MissingAnswer"
+    else if n == 24 then codes "MarkCount"
+    else if n == 25 then codes "AnswerRepeats"
+    else if n == 26 then codes "Spent"
+    else if n == 50 then codes "TableFull"
+    else if n == 51 then codes "Unknown"
+    else if n == 52 then codes "OverBound"
+    else if n == 53 then codes "SerialsSpent"
+    else if n == 54 then codes "GateClosed"
+    else codes "Other"
+
+abbrev pub code_name : ℕ → List ℕ
+code_name n =
+    if n == 1 then codes "BadHello"
+    else if n == 2 then codes "FrameLength"
+    else if n == 3 then codes "Truncated"
+    else if n == 4 then codes "BadKind"
+    else if n == 5 then codes "BadBound"
+    else if n == 6 then codes "EmptyRange"
+    else if n == 7 then codes "ItemLength"
+    else if n == 8 then codes "ItemOrder"
+    else if n == 9 then codes "ItemOutside"
+    else if n == 10 then codes "MarkPadding"
+    else if n == 11 then codes "Trailing"
+    else if n == 12 then codes "TooManyParts"
+    else late_name n
+
 -- the line of every fault
 abbrev pub fault_line : Fault → List ℕ
 fault_line CannotRead = codes "refused 80 CannotRead"
@@ -56,6 +90,12 @@ fault_line (Strategy f) = strategy_line f
 fault_line (Check f) = check_line f
 fault_line (Wire f) = codes "refused " ++ (decimal (fault_number f) ++ (codes " " ++ wire_name f))
 fault_line Misplaced = codes "refused 20 Misplaced"
+fault_line Bind = codes "refused 60 Bind"
+fault_line Connect = codes "refused 61 Connect"
+fault_line Accept = codes "refused 62 Accept"
+fault_line (Session code) = codes "refused " ++ (decimal code ++ (codes " " ++ code_name code))
+fault_line (PeerRefused code) = codes "peer refused " ++ decimal code
+fault_line ReaderFailed = codes "io read"
 fault_line WriterFailed = codes "io write"
 fault_line Memory = codes "refused 90 Memory"
 

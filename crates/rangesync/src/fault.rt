@@ -1,26 +1,30 @@
 //! Why a run is refused.
 
 ghost use Rattle.std.specs.Prelude.{◌≡◌};
-ghost use Rattle.rangesync.specs.FaultsOf.{of_answer, of_input, of_decoding, of_listing, of_settings, of_scenario, of_check};
+ghost use Rattle.rangesync.specs.FaultsOf.{of_answer, of_input, of_decoding, of_listing, of_settings, of_scenario, of_check, of_log, of_listen, of_connect, of_source};
 ghost use Rattle.rangesync.specs.declared.fault.Fault.TheVariants as faults;
 
 use ends_core::{AnswerFault, InputFault, ListReplyFault, WriterFailed};
+use peer_threads::SourceFault;
 use settings_core::{ScenarioError, ScenarioFault, SettingsFault};
 use std::alloc::{AllocError, AllocFailed};
 use strategy_check::{CheckError, CheckFault};
 use strategy_core::StrategyFault;
+use tcp_front::{ConnectFault, ListenFault};
+use version_log::LogFault;
 use wire_core::{DecodeError, WireFault};
 
 /// Why a run does not end with status 0, its words being known.
 ///
-/// It prints as the line for standard error: `refused`, the number, the name and the values, or `io write`.
+/// It prints as the line for standard error: `refused`, the number, the name and the values; `peer refused` and the code;
+/// `io read` or `io write`.
 #[derive(Clone, Copy, Debug, PartialEq, Eq)]
 pub enum Fault {
     /// A file or the input was not opened or not read, or is above 16,777,216 bytes.
     CannotRead,
     /// A line, from 1, of the item file is bad; or the input is not hex.
     BadItemLine { line: usize },
-    /// There are more than 65,536 different items, or more than the cap of a scenario's node.
+    /// There are more than 65,536 different items, or more than the cap of a strategy.
     TooManyItems,
     /// The input has no nodes, steps or items of a scenario.
     BadScenario,
@@ -34,7 +38,19 @@ pub enum Fault {
     Wire(WireFault),
     /// A part of the message is no Sum.
     Misplaced,
-    /// The writer failed: a beginning of the reply was written.
+    /// No listener was made.
+    Bind,
+    /// No connection was made.
+    Connect,
+    /// A connection could not be accepted.
+    Accept,
+    /// A session was refused here, with this number.
+    Session { code: u8 },
+    /// The peer refused a session, with this number.
+    PeerRefused { code: u8 },
+    /// The reader of a session failed.
+    ReaderFailed,
+    /// The writer failed: a beginning of what was to be written was.
     WriterFailed,
     /// Memory ran out.
     Memory,
@@ -123,6 +139,50 @@ impl From<CheckError> for Fault {
         match error {
             CheckError::Fault(fault) => Fault::Check(fault),
             CheckError::Memory => Fault::Memory,
+        }
+    }
+}
+
+impl From<LogFault> for Fault {
+    ghost from_gives = { λ f e. e ≡ of_log f };
+
+    fn from(fault: LogFault) -> Fault {
+        match fault {
+            LogFault::Full => Fault::TooManyItems,
+            LogFault::Memory => Fault::Memory,
+        }
+    }
+}
+
+impl From<ListenFault> for Fault {
+    ghost from_gives = { λ f e. e ≡ of_listen f };
+
+    fn from(fault: ListenFault) -> Fault {
+        match fault {
+            ListenFault::Bind => Fault::Bind,
+            ListenFault::Memory => Fault::Memory,
+        }
+    }
+}
+
+impl From<ConnectFault> for Fault {
+    ghost from_gives = { λ f e. e ≡ of_connect f };
+
+    fn from(fault: ConnectFault) -> Fault {
+        match fault {
+            ConnectFault::Connect => Fault::Connect,
+            ConnectFault::Memory => Fault::Memory,
+        }
+    }
+}
+
+impl From<SourceFault> for Fault {
+    ghost from_gives = { λ f e. e ≡ of_source f };
+
+    fn from(fault: SourceFault) -> Fault {
+        match fault {
+            SourceFault::Accept => Fault::Accept,
+            SourceFault::Memory => Fault::Memory,
         }
     }
 }

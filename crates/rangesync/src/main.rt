@@ -4,32 +4,56 @@
 mod accepted;
 mod fault;
 mod hexed;
+mod opening;
 mod printed;
 mod reports;
 mod run;
+mod serve;
+mod session_texts;
 mod sim;
+mod sync;
 #[cfg(test)]
 mod tests;
 
 use crate::fault::Fault;
+use std::env::Env;
+use std::io::{Read, Write};
+use std::net::{Net, TcpListener, TcpStream};
 use std::process::ExitCode;
+use std::rt::Files;
+use std::sync::Wait;
+use std::thread::Threads;
 use std::{env, io};
 
 /// The status of the run on the environment's words.
-fn status(rt: &HostRuntime) -> u8 {
+fn status<R, I: Read + Drop, O: Write + Drop, E: Write + Drop>(
+    rt: &R,
+    reader: I,
+    out: O,
+    err: E,
+) -> u8
+where
+    R: Env
+        + Files
+        + Net<Listener = TcpListener, Stream = TcpStream>
+        + Threads
+        + Wait
+        + AllocGlobal
+        + Sync,
+{
     let words = match env::args(rt) {
         Ok(words) => words,
         Err(error) if error.kind() == io::ErrorKind::OutOfMemory => {
-            return printed::tell(rt.stderr(), Fault::Memory);
+            return printed::tell(err, Fault::Memory);
         }
-        Err(_) => return printed::tell_no_text(rt.stderr()),
+        Err(_) => return printed::tell_no_text(err),
     };
     match words.collect::<Vec<String>>(rt.alloc()) {
-        Ok(words) => run::run(rt, words.as_slice(), rt.stdin(), rt.stdout(), rt.stderr()),
-        Err(refused) => printed::tell(rt.stderr(), Fault::from(refused)),
+        Ok(words) => run::run(rt, words.as_slice(), reader, out, err),
+        Err(refused) => printed::tell(err, Fault::from(refused)),
     }
 }
 
 fn main(rt: HostRuntime) -> ExitCode {
-    ExitCode::from(status(&rt))
+    ExitCode::from(status(&rt, rt.stdin(), rt.stdout(), rt.stderr()))
 }

@@ -2,12 +2,13 @@
 
 ghost use Rattle.std.specs.Prelude.{◌≡◌, Some};
 ghost use Rattle.rangesync.specs.FaultsOf.{status_of, IsWordsStatus};
-ghost use Rattle.rangesync.specs.Lines.{wire_name, strategy_line, check_line, fault_line};
+ghost use Rattle.rangesync.specs.Lines.{wire_name, late_name, code_name, strategy_line, check_line, fault_line};
 
 use crate::fault::Fault;
 use settings_core::WordsFault;
 use std::fmt;
 use std::io::Write;
+use std::net::SocketAddr;
 use strategy_check::CheckFault;
 use strategy_core::StrategyFault;
 use wire_core::WireFault;
@@ -35,13 +36,61 @@ fn wire_name(fault: WireFault) -> &'static str
     }
 }
 
+/// The name of a refusal by an end of a session, or by the table or the gate of its process.
+fn late_name(code: u8) -> &'static str
+    ensures { result.now ≡ late_name code }
+{
+    match code {
+        20 => "Misplaced",
+        21 => "Stall",
+        22 => "Gap",
+        23 => "MissingAnswer",
+        24 => "MarkCount",
+        25 => "AnswerRepeats",
+        26 => "Spent",
+        50 => "TableFull",
+        51 => "Unknown",
+        52 => "OverBound",
+        53 => "SerialsSpent",
+        54 => "GateClosed",
+        _ => "Other",
+    }
+}
+
+/// The name of the refusal of a session, by its number.
+fn code_name(code: u8) -> &'static str
+    ensures { result.now ≡ code_name code }
+{
+    match code {
+        1 => "BadHello",
+        2 => "FrameLength",
+        3 => "Truncated",
+        4 => "BadKind",
+        5 => "BadBound",
+        6 => "EmptyRange",
+        7 => "ItemLength",
+        8 => "ItemOrder",
+        9 => "ItemOutside",
+        10 => "MarkPadding",
+        11 => "Trailing",
+        12 => "TooManyParts",
+        _ => late_name(code),
+    }
+}
+
 impl Fault {
     /// The status of a run that ends so.
     pub fn status(self) -> u8
         ensures { result ≡ status_of self }
     {
         match self {
-            Fault::CannotRead | Fault::WriterFailed | Fault::Memory => 3,
+            Fault::CannotRead
+            | Fault::Bind
+            | Fault::Connect
+            | Fault::Accept
+            | Fault::ReaderFailed
+            | Fault::WriterFailed
+            | Fault::Memory => 3,
             Fault::BadItemLine { line: _ }
             | Fault::TooManyItems
             | Fault::BadScenario
@@ -49,7 +98,9 @@ impl Fault {
             | Fault::Strategy(_)
             | Fault::Check(_)
             | Fault::Wire(_)
-            | Fault::Misplaced => 1,
+            | Fault::Misplaced
+            | Fault::Session { code: _ }
+            | Fault::PeerRefused { code: _ } => 1,
         }
     }
 }
@@ -104,6 +155,12 @@ impl fmt::Display for Fault {
             Fault::Check(fault) => write!(f, "{}", CheckLine(*fault)),
             Fault::Wire(fault) => write!(f, "refused {} {}", fault.number(), wire_name(*fault)),
             Fault::Misplaced => write!(f, "refused 20 Misplaced"),
+            Fault::Bind => write!(f, "refused 60 Bind"),
+            Fault::Connect => write!(f, "refused 61 Connect"),
+            Fault::Accept => write!(f, "refused 62 Accept"),
+            Fault::Session { code } => write!(f, "refused {code} {}", code_name(*code)),
+            Fault::PeerRefused { code } => write!(f, "peer refused {code}"),
+            Fault::ReaderFailed => write!(f, "io read"),
             Fault::WriterFailed => write!(f, "io write"),
             Fault::Memory => write!(f, "refused 90 Memory"),
         }
@@ -117,6 +174,13 @@ pub fn tell<E: Write + Drop>(err: E, fault: Fault) -> u8
     let mut err = err;
     let _told = writeln!(err, "{fault}");
     fault.status()
+}
+
+/// Prints the address that is listened at, if it is known. A line that is not taken changes nothing.
+pub fn tell_address<E: Write>(err: &mut E, address: Option<SocketAddr>) {
+    if let Some(address) = address {
+        let _told = writeln!(err, "listening {address}");
+    }
 }
 
 /// Prints that a word is no text, and gives the status.

@@ -2,17 +2,24 @@
 
 ghost use Rattle.std.specs.Prelude.{◌≤◌, length};
 ghost use Rattle.store_core.specs.Flat.{flat_items};
+ghost use Rattle.settings_core.specs.Spans.{AreInSpan};
 
 use crate::accepted::checked_text;
 use crate::fault::Fault;
+use crate::opening::read_opening;
+use crate::serve::{Serving, serve};
 use crate::sim::sim_text;
+use crate::sync::sync;
 use crate::{hexed, printed};
 use ends_core::{answer, list_reply, read_input, write_output};
 use settings_core::{Command, read_items, read_strategy, read_words, scenario_of};
 use std::alloc::Global;
 use std::convert::AsStr;
 use std::io::{Read, Write};
+use std::net::{Net, TcpListener, TcpStream};
 use std::rt::Files;
+use std::sync::Wait;
+use std::thread::Threads;
 use store_core::FlatStore;
 use wire_core::{Watched, decode_message};
 
@@ -78,12 +85,22 @@ fn sim<I: Read + Drop, O: Write + Drop>(alloc: Global, reader: I, out: O) -> Res
 }
 
 /// Does what the words ask for.
-fn obey<R: Files + AllocGlobal, I: Read + Drop, O: Write + Drop>(
+fn obey<R, I: Read + Drop, O: Write + Drop, E: Write>(
     rt: &R,
     command: Command<'_>,
     reader: I,
     out: O,
-) -> Result<(), Fault> {
+    err: &mut E,
+) -> Result<(), Fault>
+where
+    R: Files
+        + Net<Listener = TcpListener, Stream = TcpStream>
+        + Threads
+        + Wait
+        + AllocGlobal
+        + Sync,
+    requires { AreInSpan command }
+{
     match command {
         Command::Answer { hexed, items } => {
             let store = read_items(rt, items, MAX_ITEMS)?;
@@ -91,25 +108,52 @@ fn obey<R: Files + AllocGlobal, I: Read + Drop, O: Write + Drop>(
         }
         Command::Check { file } => check_file(rt, file, out),
         Command::Sim => sim(rt.alloc(), reader, out),
+        Command::Serve {
+            table,
+            address,
+            workers,
+            sessions,
+            items,
+        } => {
+            let serving = Serving {
+                address,
+                workers,
+                sessions,
+            };
+            serve(rt, read_opening(rt, table, items)?, serving, out, err)
+        }
+        Command::Sync {
+            table,
+            address,
+            items,
+        } => sync(rt, read_opening(rt, table, items)?, address, out),
     }
 }
 
 /// Runs the program on these words, of which the first is its own name, and gives the status: 0 done, 1 refused, 2 for
-/// words that it does not know, 3 for a file, an input, an output or memory.
-pub fn run<R: Files + AllocGlobal, W: AsStr, I: Read + Drop, O: Write + Drop, E: Write + Drop>(
+/// words that it does not know, 3 for a file, an input, an output, the network or memory.
+pub fn run<R, W: AsStr, I: Read + Drop, O: Write + Drop, E: Write + Drop>(
     rt: &R,
     words: &[W],
     reader: I,
     out: O,
     err: E,
 ) -> u8
+where
+    R: Files
+        + Net<Listener = TcpListener, Stream = TcpStream>
+        + Threads
+        + Wait
+        + AllocGlobal
+        + Sync,
     ensures known { result ≤ 3 }
 {
+    let mut err = err;
     let command = match read_words(rt.alloc(), words) {
         Ok(command) => command,
         Err(fault) => return printed::tell_words(out, err, fault),
     };
-    match obey(rt, command, reader, out) {
+    match obey(rt, command, reader, out, &mut err) {
         Ok(()) => 0,
         Err(fault) => printed::tell(err, fault),
     }

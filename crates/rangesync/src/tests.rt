@@ -1,13 +1,17 @@
 //! Runs over memory, on messages and replies that are typed in.
 
 mod checks;
+mod sessions;
 mod sims;
 mod words;
 
 use crate::run::run;
 use std::io::Write;
+use std::net::{Net, TcpListener, TcpStream};
 use std::process::Abort;
 use std::rt::Files;
+use std::sync::Wait;
+use std::thread::Threads;
 use std::{fs, io};
 
 /// The first message of an empty set, in hex.
@@ -49,12 +53,16 @@ struct Wanted<'a> {
 }
 
 /// Runs the words on the input, and compares what comes of it.
-fn gives<R: Files + AllocGlobal + Abort>(
-    rt: &R,
-    words: &[&str],
-    input: &[u8],
-    wanted: &Wanted<'_>,
-) {
+fn gives<R>(rt: &R, words: &[&str], input: &[u8], wanted: &Wanted<'_>)
+where
+    R: Files
+        + Net<Listener = TcpListener, Stream = TcpStream>
+        + Threads
+        + Wait
+        + AllocGlobal
+        + Sync
+        + Abort,
+{
     let mut out: Vec<u8> = Vec::new(rt.alloc());
     let mut err: Vec<u8> = Vec::new(rt.alloc());
     let status = run(rt, words, input, &mut out, &mut err);
@@ -85,12 +93,16 @@ fn answered(out: &str) -> Wanted<'_> {
 }
 
 /// Answers the hex under an item file of these lines.
-fn answers<R: Files + AllocGlobal + Abort>(
-    rt: &R,
-    lines: &str,
-    input: &str,
-    wanted: &Wanted<'_>,
-) -> io::Result<()> {
+fn answers<R>(rt: &R, lines: &str, input: &str, wanted: &Wanted<'_>) -> io::Result<()>
+where
+    R: Files
+        + Net<Listener = TcpListener, Stream = TcpStream>
+        + Threads
+        + Wait
+        + AllocGlobal
+        + Sync
+        + Abort,
+{
     let path = "answered.items";
     fs::write(rt, path, lines)?;
     gives(

@@ -4,4 +4,5 @@ pub mod Nodes
 pub mod ScenarioFaults
 pub mod ScenarioOpens
 pub mod Scenarios
+pub mod Spans
 pub mod StepTexts

@@ -1,9 +1,18 @@
 //! The words of a call, read by `clap`.
 
+ghost use Rattle.std.specs.Prelude.{IfOk, IfSome};
+ghost use Rattle.settings_core.specs.Spans.{IsWorkerCount, IsSessionCount, AreInSpan};
+
 use clap::error::ErrorKind;
-use clap::{Arg, ArgAction, ArgMatches};
+use clap::{Arg, ArgAction, ArgMatches, value_parser};
 use std::alloc::{AllocError, AllocFailed, Global};
 use std::convert::AsStr;
+
+/// The greatest number of workers.
+const MAX_WORKERS: u8 = 16;
+
+/// The greatest number of connections that can be asked for.
+const MAX_SESSIONS: u32 = 1_000_000;
 
 /// What a call asks for.
 #[derive(Clone, Copy, Debug, PartialEq, Eq)]
@@ -22,6 +31,28 @@ pub enum Command<'a> {
     },
     /// The run of a scenario.
     Sim,
+    /// Sessions with those who connect.
+    Serve {
+        /// The path of the strategy file.
+        table: &'a str,
+        /// The address to listen at.
+        address: &'a str,
+        /// How many sessions there are at once, 1 to 16.
+        workers: u8,
+        /// After how many connections it ends, 1 to 1,000,000; `None` where it has no end.
+        sessions: Option<u32>,
+        /// The path of the item file.
+        items: &'a str,
+    },
+    /// One session with who listens.
+    Sync {
+        /// The path of the strategy file.
+        table: &'a str,
+        /// The address to connect to.
+        address: &'a str,
+        /// The path of the item file.
+        items: &'a str,
+    },
 }
 
 /// Why words ask for nothing that is done.
@@ -47,19 +78,41 @@ impl<T: Drop> From<AllocFailed<T>> for WordsFault {
     }
 }
 
+/// The word for an item file.
+fn items_word<'a>(alloc: Global) -> Arg<'a> {
+    Arg::new(alloc, "ITEMS")
+        .help("A file of items, one a line in hex")
+        .required(true)
+}
+
+/// The word for the strategy of a session.
+fn table_word<'a>(alloc: Global) -> Arg<'a> {
+    Arg::new(alloc, "table")
+        .long("table")
+        .value_name("FILE")
+        .help("A strategy in TOML")
+        .required(true)
+}
+
+/// The word for an address, with what is done there.
+fn address_word<'a>(alloc: Global, help: &'a str) -> Arg<'a> {
+    Arg::new(alloc, "addr")
+        .long("addr")
+        .value_name("A")
+        .help(help)
+        .default_value("127.0.0.1:7700")
+}
+
 /// The words of `answer`.
 fn answer_words<'a>(alloc: Global) -> Result<clap::Command<'a>, AllocError> {
     let hex = Arg::new(alloc, "hex")
         .long("hex")
         .help("Read and write hex text, one frame a line [default: bytes]")
         .action(ArgAction::SetTrue);
-    let items = Arg::new(alloc, "ITEMS")
-        .help("A file of items, one a line in hex")
-        .required(true);
     clap::Command::new(alloc, "answer")
         .about("Answer one message with the lists of the ranges that differ")
         .arg(hex)?
-        .arg(items)
+        .arg(items_word(alloc))
 }
 
 /// The words of `check`.
@@ -79,6 +132,45 @@ fn sim_words<'a>(alloc: Global) -> clap::Command<'a> {
     )
 }
 
+/// The word for the number of workers.
+fn workers_word<'a>(alloc: Global) -> Arg<'a> {
+    Arg::new(alloc, "workers")
+        .long("workers")
+        .value_name("N")
+        .help("How many sessions there are at once, 1 to 16")
+        .value_parser(value_parser!(u8).range(1..=i64::from(MAX_WORKERS)))
+        .default_value("4")
+}
+
+/// The word for the number of connections.
+fn sessions_word<'a>(alloc: Global) -> Arg<'a> {
+    Arg::new(alloc, "sessions")
+        .long("sessions")
+        .value_name("N")
+        .help("End after so many connections, 1 to 1,000,000 [default: no end]")
+        .value_parser(value_parser!(u32).range(1..=i64::from(MAX_SESSIONS)))
+}
+
+/// The words of `serve`.
+fn serve_words<'a>(alloc: Global) -> Result<clap::Command<'a>, AllocError> {
+    clap::Command::new(alloc, "serve")
+        .about("Answer the sessions of those who connect")
+        .arg(table_word(alloc))?
+        .arg(address_word(alloc, "The address to listen at"))?
+        .arg(workers_word(alloc))?
+        .arg(sessions_word(alloc))?
+        .arg(items_word(alloc))
+}
+
+/// The words of `sync`.
+fn sync_words<'a>(alloc: Global) -> Result<clap::Command<'a>, AllocError> {
+    clap::Command::new(alloc, "sync")
+        .about("Run one session and print which items each side lacks")
+        .arg(table_word(alloc))?
+        .arg(address_word(alloc, "The address to connect to"))?
+        .arg(items_word(alloc))
+}
+
 /// All words of the program.
 fn program_words<'a>(alloc: Global) -> Result<clap::Command<'a>, AllocError> {
     clap::Command::new(alloc, "rangesync")
@@ -87,11 +179,55 @@ fn program_words<'a>(alloc: Global) -> Result<clap::Command<'a>, AllocError> {
         .subcommand_required(true)
         .subcommand(answer_words(alloc)?)?
         .subcommand(check_words(alloc)?)?
-        .subcommand(sim_words(alloc))
+        .subcommand(sim_words(alloc))?
+        .subcommand(serve_words(alloc)?)?
+        .subcommand(sync_words(alloc)?)
+}
+
+/// The number of workers, which `clap` has read in its span.
+fn workers_in(matches: &ArgMatches<'_>) -> Option<u8>
+    ensures { IfSome result IsWorkerCount }
+{
+    let workers = matches.get_one::<u8>("workers")?;
+    (1..=MAX_WORKERS).contains(&workers).then_some(workers)
+}
+
+/// The number of connections, if one is given, which `clap` has read in its span.
+fn sessions_in(matches: &ArgMatches<'_>) -> Option<u32>
+    ensures { IfSome result IsSessionCount }
+{
+    let sessions = matches.get_one::<u32>("sessions")?;
+    (1..=MAX_SESSIONS).contains(&sessions).then_some(sessions)
+}
+
+/// What the words of `serve` ask for.
+fn serve_in<'a>(matches: &ArgMatches<'a>) -> Option<Command<'a>>
+    ensures { IfSome result AreInSpan }
+{
+    Some(Command::Serve {
+        table: matches.get_str("table")?,
+        address: matches.get_str("addr")?,
+        workers: workers_in(matches)?,
+        sessions: sessions_in(matches),
+        items: matches.get_str("ITEMS")?,
+    })
+}
+
+/// What the words of `sync` ask for.
+fn sync_in<'a>(matches: &ArgMatches<'a>) -> Option<Command<'a>>
+    ensures { IfSome result AreInSpan }
+{
+    Some(Command::Sync {
+        table: matches.get_str("table")?,
+        address: matches.get_str("addr")?,
+        items: matches.get_str("ITEMS")?,
+    })
 }
 
 /// What words that fit ask for.
-fn command_in<'a>(matches: &ArgMatches<'a>) -> Option<Command<'a>> {
+fn command_in<'a>(matches: &ArgMatches<'a>) -> Option<Command<'a>>
+    ensures { IfSome result AreInSpan }
+{
     match matches.subcommand()? {
         ("answer", inner) => Some(Command::Answer {
             hexed: inner.get_flag("hex"),
@@ -101,6 +237,8 @@ fn command_in<'a>(matches: &ArgMatches<'a>) -> Option<Command<'a>> {
             file: inner.get_str("FILE")?,
         }),
         ("sim", _) => Some(Command::Sim),
+        ("serve", inner) => serve_in(inner),
+        ("sync", inner) => sync_in(inner),
         _ => None,
     }
 }
@@ -117,8 +255,10 @@ fn words_fault(alloc: Global, error: &clap::Error) -> WordsFault {
     }
 }
 
-/// What the words ask for. The first is the program's own name.
-pub fn read_words<'a, W: AsStr>(alloc: Global, words: &'a [W]) -> Result<Command<'a>, WordsFault> {
+/// What the words ask for. The first is the program's own name. Numbers out of their span ask for nothing.
+pub fn read_words<'a, W: AsStr>(alloc: Global, words: &'a [W]) -> Result<Command<'a>, WordsFault>
+    ensures { IfOk result AreInSpan }
+{
     match program_words(alloc)?.try_get_matches_from(words) {
         Err(error) => Err(words_fault(alloc, &error)),
         Ok(matches) => command_in(&matches).ok_or(WordsFault::Memory),

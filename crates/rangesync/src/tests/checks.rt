@@ -1,8 +1,11 @@
 //! Strategies that are accepted or refused, through the program.
 
 use super::{Wanted, answered, gives, refused};
+use std::net::{Net, TcpListener, TcpStream};
 use std::process::Abort;
 use std::rt::Files;
+use std::sync::Wait;
+use std::thread::Threads;
 use std::{fs, io};
 
 /// The strategy of at most eight items that lists one and cuts more in half.
@@ -18,12 +21,16 @@ split = [1, 1]
 ";
 
 /// Checks a file of this text.
-fn checks<R: Files + AllocGlobal + Abort>(
-    rt: &R,
-    path: &str,
-    text: &str,
-    wanted: &Wanted<'_>,
-) -> io::Result<()> {
+fn checks<R>(rt: &R, path: &str, text: &str, wanted: &Wanted<'_>) -> io::Result<()>
+where
+    R: Files
+        + Net<Listener = TcpListener, Stream = TcpStream>
+        + Threads
+        + Wait
+        + AllocGlobal
+        + Sync
+        + Abort,
+{
     fs::write(rt, path, text)?;
     gives(rt, &["rangesync", "check", path], &[], wanted);
     fs::remove_file(rt, path)

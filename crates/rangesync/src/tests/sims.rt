@@ -2,8 +2,11 @@
 
 use super::{Wanted, answered, gives, refused};
 use std::alloc::AllocError;
+use std::net::{Net, TcpListener, TcpStream};
 use std::process::Abort;
 use std::rt::Files;
+use std::sync::Wait;
+use std::thread::Threads;
 
 /// Nodes of at most 16 items that list one and cut more in half: a to h, and a to g.
 const NEARLY_EQUAL: &str = r#"
@@ -38,12 +41,16 @@ items = ["61", "62"]
 "#;
 
 /// Runs these steps on these nodes.
-fn runs<R: Files + AllocGlobal + Abort>(
-    rt: &R,
-    steps: &str,
-    nodes: &str,
-    wanted: &Wanted<'_>,
-) -> Result<(), AllocError> {
+fn runs<R>(rt: &R, steps: &str, nodes: &str, wanted: &Wanted<'_>) -> Result<(), AllocError>
+where
+    R: Files
+        + Net<Listener = TcpListener, Stream = TcpStream>
+        + Threads
+        + Wait
+        + AllocGlobal
+        + Sync
+        + Abort,
+{
     let text = format!(in rt.alloc(); "steps = [{steps}]\n{nodes}")?;
     gives(rt, &["rangesync", "sim"], text.as_bytes(), wanted);
     Ok(())

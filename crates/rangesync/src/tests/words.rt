@@ -1,6 +1,11 @@
 //! Helps and usage faults, as `clap` words them.
 
 use super::{answered, gives, refused};
+use std::net::{Net, TcpListener, TcpStream};
+use std::process::Abort;
+use std::rt::Files;
+use std::sync::Wait;
+use std::thread::Threads;
 
 #[test]
 fn helps(rt: HostRuntime) {
@@ -13,6 +18,8 @@ Commands:
   answer  Answer one message with the lists of the ranges that differ
   check   Check a strategy and print the steps of its least ranks
   sim     Run a scenario from standard input and print what its sessions learned
+  serve   Answer the sessions of those who connect
+  sync    Run one session and print which items each side lacks
   help    Print this message or the help of the given subcommand(s)
 
 Options:
@@ -72,7 +79,7 @@ Options:
 #[test]
 fn usage_faults(rt: HostRuntime) {
     let nothing = "error: 'rangesync' requires a subcommand but one was not provided
-  [subcommands: answer, check, sim, help]
+  [subcommands: answer, check, sim, serve, sync, help]
 
 Usage: rangesync <COMMAND>
 
@@ -142,4 +149,88 @@ For more information, try '--help'.
         &refused(2, no_option),
     );
     gives(&rt, &["rangesync", "check"], &[], &refused(2, no_file));
+}
+
+#[test]
+fn helps_of_the_network(rt: HostRuntime) {
+    let serve = answered(
+        "Answer the sessions of those who connect
+
+Usage: rangesync serve [OPTIONS] --table <FILE> <ITEMS>
+
+Arguments:
+  <ITEMS>  A file of items, one a line in hex
+
+Options:
+      --table <FILE>  A strategy in TOML
+      --addr <A>      The address to listen at [default: 127.0.0.1:7700]
+      --workers <N>   How many sessions there are at once, 1 to 16 [default: 4]
+      --sessions <N>  End after so many connections, 1 to 1,000,000 [default: no end]
+  -h, --help          Print help
+",
+    );
+    let sync = answered(
+        "Run one session and print which items each side lacks
+
+Usage: rangesync sync [OPTIONS] --table <FILE> <ITEMS>
+
+Arguments:
+  <ITEMS>  A file of items, one a line in hex
+
+Options:
+      --table <FILE>  A strategy in TOML
+      --addr <A>      The address to connect to [default: 127.0.0.1:7700]
+  -h, --help          Print help
+",
+    );
+    gives(&rt, &["rangesync", "serve", "--help"], &[], &serve);
+    gives(&rt, &["rangesync", "sync", "-h"], &[], &sync);
+}
+
+/// Words of `serve` with this number, and the line of it.
+fn numbers<R>(rt: &R, word: &str, number: &str, line: &str)
+where
+    R: Files
+        + Net<Listener = TcpListener, Stream = TcpStream>
+        + Threads
+        + Wait
+        + AllocGlobal
+        + Sync
+        + Abort,
+{
+    gives(
+        rt,
+        &["rangesync", "serve", "--table", "t", word, number, "i"],
+        &[],
+        &refused(2, line),
+    );
+}
+
+#[test]
+fn numbers_out_of_their_span(rt: HostRuntime) {
+    let none = "error: invalid value '0' for '--workers <N>': 0 is not in 1..=16
+
+For more information, try '--help'.
+";
+    let many = "error: invalid value '17' for '--workers <N>': 17 is not in 1..=16
+
+For more information, try '--help'.
+";
+    let word = "error: invalid value 'x' for '--workers <N>': invalid digit found in string
+
+For more information, try '--help'.
+";
+    let no_session = "error: invalid value '0' for '--sessions <N>': 0 is not in 1..=1000000
+
+For more information, try '--help'.
+";
+    let above = "error: invalid value '1000001' for '--sessions <N>': 1000001 is not in 1..=1000000
+
+For more information, try '--help'.
+";
+    numbers(&rt, "--workers", "0", none);
+    numbers(&rt, "--workers", "17", many);
+    numbers(&rt, "--workers", "x", word);
+    numbers(&rt, "--sessions", "0", no_session);
+    numbers(&rt, "--sessions", "1000001", above);
 }

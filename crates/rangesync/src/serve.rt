@@ -1,0 +1,97 @@
+//! Sessions with those who connect.
+
+ghost use Rattle.std.specs.Prelude.{◌≡◌};
+ghost use Rattle.settings_core.specs.Spans.{IsWorkerCount};
+ghost use Rattle.rangesync.specs.Openings.{report_fault, fault_in};
+
+use crate::fault::Fault;
+use crate::opening::Opening;
+use crate::printed::tell_address;
+use crate::session_texts::{listening_line, served_text};
+use ends_core::{WriterFailed, write_output};
+use peer_threads::{OpenGate, Report, Shared, run_workers};
+use session_table::SessionTable;
+use std::alloc::Global;
+use std::io::Write;
+use std::net::{Net, TcpListener, TcpStream};
+use std::sync::{Mutex, Wait};
+use std::thread::Threads;
+use tcp_front::{Listener, listen};
+use version_lock::VersionLock;
+use wire_core::Watched;
+
+/// How sessions are served.
+#[derive(Clone, Copy)]
+pub struct Serving<'a> {
+    /// The address to listen at.
+    pub address: &'a str,
+    /// How many sessions there are at once, 1 to 16.
+    pub workers: u8,
+    /// After how many connections it ends, if it does.
+    pub sessions: Option<u32>,
+}
+
+/// Says at once that this address is listened at. Where the system chose the port, the real address goes to standard
+/// error.
+fn announce<O: Write, E: Write>(
+    alloc: Global,
+    address: &str,
+    listener: &Listener,
+    out: &mut O,
+    err: &mut E,
+) -> Result<(), Fault> {
+    let line = listening_line(alloc, address)?;
+    write_output(&mut Watched::new(&mut *out), line.as_bytes())?;
+    out.flush().map_err(|_| WriterFailed)?;
+    if address.ends_with(":0") {
+        tell_address(err, listener.local_addr());
+    }
+    Ok(())
+}
+
+/// The refusal of workers that ended: the source's fault, or 90 where no worker started.
+fn refusal(report: Report) -> Result<(), Fault>
+    ensures { fault_in result ≡ report_fault report }
+{
+    match report.fault {
+        Some(fault) => Err(Fault::from(fault)),
+        None if report.started == 0 => Err(Fault::Memory),
+        None => Ok(()),
+    }
+}
+
+/// Serves sessions until there are no more connections, and prints what was counted.
+///
+/// Else 90, 60, or `io write`; and behind what was counted 62, or 90 where no worker started.
+pub fn serve<R, O: Write + Drop, E: Write>(
+    rt: &R,
+    opening: Opening,
+    serving: Serving<'_>,
+    out: O,
+    err: &mut E,
+) -> Result<(), Fault>
+where
+    R: Net<Listener = TcpListener, Stream = TcpStream> + Threads + Wait + AllocGlobal + Sync,
+    requires cap { opening.log.cap ≡ opening.accepted.table.cap }
+    requires workers { IsWorkerCount serving.workers }
+{
+    let alloc = rt.alloc();
+    let mut out = out;
+    let Opening { accepted, log } = opening;
+    let (lock, mut seat) = VersionLock::new(alloc, log)?;
+    let sessions = Mutex::new(SessionTable::new(alloc, usize::from(serving.workers))?);
+    let listener = listen(rt, serving.address, serving.sessions)?;
+    announce(alloc, serving.address, &listener, &mut out, err)?;
+    let shared = Shared {
+        lock: &lock,
+        accepted: &accepted,
+        sessions: &sessions,
+        gate: &OpenGate,
+    };
+    let report = run_workers(rt, alloc, &shared, &mut seat, &listener, serving.workers);
+    let totals = sessions.into_inner().totals();
+    let items = lock.close_with(rt, seat).count();
+    let text = served_text(alloc, totals, items)?;
+    write_output(&mut Watched::new(out), text.as_bytes())?;
+    refusal(report)
+}

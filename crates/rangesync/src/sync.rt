@@ -1,0 +1,46 @@
+//! One session with who listens.
+
+ghost use Rattle.std.specs.Prelude.{◌≡◌};
+
+use crate::fault::Fault;
+use crate::opening::Opening;
+use crate::session_texts::outcome_text;
+use ends_core::write_output;
+use peer_threads::{OpenGate, Shared, dial_one};
+use session_table::SessionTable;
+use std::io::Write;
+use std::net::{Net, TcpStream};
+use std::sync::{Mutex, Wait};
+use tcp_front::connect;
+use version_lock::VersionLock;
+use wire_core::Watched;
+
+/// Runs one session as the initiator, and prints what was learned.
+///
+/// Else 90, 61, the number of the refusal of this side or of the peer, or `io read` or `io write`.
+pub fn sync<R: Net<Stream = TcpStream> + Wait + AllocGlobal, O: Write + Drop>(
+    rt: &R,
+    opening: Opening,
+    address: &str,
+    out: O,
+) -> Result<(), Fault>
+    requires cap { opening.log.cap ≡ opening.accepted.table.cap }
+{
+    let alloc = rt.alloc();
+    let Opening { accepted, log } = opening;
+    let (lock, mut seat) = VersionLock::new(alloc, log)?;
+    let sessions = Mutex::new(SessionTable::new(alloc, 1)?);
+    let stream = connect(rt, address)?;
+    let shared = Shared {
+        lock: &lock,
+        accepted: &accepted,
+        sessions: &sessions,
+        gate: &OpenGate,
+    };
+    let mut reader = Watched::new(&stream);
+    let mut writer = Watched::new(&stream);
+    let outcome = dial_one(rt, alloc, &shared, &mut seat, &mut reader, &mut writer);
+    let text = outcome_text(alloc, &outcome)?;
+    write_output(&mut Watched::new(out), text.as_bytes())?;
+    Ok(())
+}

@@ -1,0 +1,355 @@
+//! Sessions over the loopback, through the program.
+
+use super::{Wanted, gives, refused};
+use crate::run::run;
+use peer_threads::Source;
+use std::alloc::AllocError;
+use std::io::{Read, Write};
+use std::net::{Net, TcpListener, TcpStream};
+use std::process::Abort;
+use std::rt::Files;
+use std::sync::Wait;
+use std::thread::{Threads, join};
+use std::{fs, io};
+use tcp_front::{Listener, listen};
+
+/// The strategy of at most eight items that lists one and cuts more in half.
+const BINARY_EIGHT: &str = "cap = 8
+limit = 1
+rounds = 3
+[[row]]
+upto = 1
+list = true
+[[row]]
+upto = 8
+split = [1, 1]
+";
+
+/// How often `sync` is run anew while nobody listens.
+const MAX_TRIES: u32 = 1_000_000;
+
+/// What a run gave: its status, and what it wrote.
+#[derive(Drop)]
+struct Given {
+    status: u8,
+    out: Vec<u8>,
+    err: Vec<u8>,
+}
+
+/// Runs the words on no input.
+fn run_words<R>(rt: &R, words: &[&str]) -> Given
+where
+    R: Files
+        + Net<Listener = TcpListener, Stream = TcpStream>
+        + Threads
+        + Wait
+        + AllocGlobal
+        + Sync,
+{
+    let mut out: Vec<u8> = Vec::new(rt.alloc());
+    let mut err: Vec<u8> = Vec::new(rt.alloc());
+    let input: &[u8] = &[];
+    let status = run(rt, words, input, &mut out, &mut err);
+    Given { status, out, err }
+}
+
+/// Runs the words again and again while nobody listens.
+fn run_late<R>(rt: &R, words: &[&str]) -> Given
+where
+    R: Files
+        + Net<Listener = TcpListener, Stream = TcpStream>
+        + Threads
+        + Wait
+        + AllocGlobal
+        + Sync,
+{
+    for _ in 0..MAX_TRIES {
+        let given = run_words(rt, words);
+        if given.err.as_slice() != b"refused 61 Connect\n".as_slice() {
+            return given;
+        }
+    }
+    run_words(rt, words)
+}
+
+/// Compares what a run gave.
+fn compare<R: Abort>(rt: &R, given: &Given, status: u8, out: &str, err: &str) {
+    assert!(rt; given.err.as_slice() == err.as_bytes(), "{:?}", given.err);
+    assert!(rt; given.out.as_slice() == out.as_bytes(), "{:?}", given.out);
+    assert_eq!(rt; given.status, status);
+}
+
+#[test]
+fn one_session(rt: HostRuntime) -> io::Result<()> {
+    fs::write(&rt, "one.toml", BINARY_EIGHT)?;
+    fs::write(&rt, "one.items", "616263\n")?;
+    let serve = [
+        "rangesync",
+        "serve",
+        "--table",
+        "one.toml",
+        "--sessions",
+        "1",
+        "one.items",
+    ];
+    let sync = ["rangesync", "sync", "--table", "one.toml", "/dev/null"];
+    let (served, synced) = join(&rt, || run_words(&rt, &serve), || run_late(&rt, &sync));
+    let lines = "listening 127.0.0.1:7700
+opened 1 ended 1 refused 0 io 0 memory 0 messages 1
+items 1
+";
+    compare(&rt, &served, 0, lines, "");
+    compare(&rt, &synced, 0, "version 0\nsent 2\ntheirs 616263\n", "");
+    fs::remove_file(&rt, "one.toml")?;
+    fs::remove_file(&rt, "one.items")
+}
+
+/// A listener for one connection at a port that the system chose, and its address.
+fn opened<R>(rt: &R) -> Result<(Listener, String), AllocError>
+where
+    R: Files
+        + Net<Listener = TcpListener, Stream = TcpStream>
+        + Threads
+        + Wait
+        + AllocGlobal
+        + Sync
+        + Abort,
+{
+    let listener = listen(rt, "127.0.0.1:0", Some(1))
+        .ok()
+        .expect(rt, "a listener");
+    let address = listener.local_addr().expect(rt, "an address");
+    let text = format!(in rt.alloc(); "{address}")?;
+    Ok((listener, text))
+}
+
+/// Takes the connection, reads hello and message 1 of no items, which are 48 bytes, writes these bytes, and lets go of it.
+fn reply<R>(rt: &R, listener: &Listener, bytes: &[u8])
+where
+    R: Files
+        + Net<Listener = TcpListener, Stream = TcpStream>
+        + Threads
+        + Wait
+        + AllocGlobal
+        + Sync
+        + Abort,
+{
+    let next = listener.take().ok().expect(rt, "no fault");
+    let (mut reader, mut writer) = next.expect(rt, "a connection");
+    let mut read = [0u8; 48];
+    reader.read_exact(&mut read).ok().expect(rt, "the bytes");
+    writer.write_all(bytes).ok().expect(rt, "a peer");
+}
+
+/// Runs `sync` on no items at this address.
+fn syncs<R>(rt: &R, table: &str, address: &str, wanted: &Wanted<'_>)
+where
+    R: Files
+        + Net<Listener = TcpListener, Stream = TcpStream>
+        + Threads
+        + Wait
+        + AllocGlobal
+        + Sync
+        + Abort,
+{
+    let words = [
+        "rangesync",
+        "sync",
+        "--table",
+        table,
+        "--addr",
+        address,
+        "/dev/null",
+    ];
+    gives(rt, &words, &[], wanted);
+}
+
+/// Runs `serve` on no items at this address.
+fn serves<R>(rt: &R, table: &str, address: &str, wanted: &Wanted<'_>)
+where
+    R: Files
+        + Net<Listener = TcpListener, Stream = TcpStream>
+        + Threads
+        + Wait
+        + AllocGlobal
+        + Sync
+        + Abort,
+{
+    let words = [
+        "rangesync",
+        "serve",
+        "--table",
+        table,
+        "--addr",
+        address,
+        "/dev/null",
+    ];
+    gives(rt, &words, &[], wanted);
+}
+
+#[test]
+fn another_hello(rt: HostRuntime) -> io::Result<()> {
+    let table = "other_hello.toml";
+    let wanted = refused(1, "refused 1 BadHello\n");
+    fs::write(&rt, table, BINARY_EIGHT)?;
+    let (listener, address) = opened(&rt)?;
+    join(
+        &rt,
+        || reply(&rt, &listener, b"\x52\x52\x53\x30"),
+        || syncs(&rt, table, &address, &wanted),
+    );
+    fs::remove_file(&rt, table)
+}
+
+#[test]
+fn a_peer_that_says_nothing(rt: HostRuntime) -> io::Result<()> {
+    let table = "nothing.toml";
+    let wanted = refused(1, "refused 3 Truncated\n");
+    fs::write(&rt, table, BINARY_EIGHT)?;
+    let (listener, address) = opened(&rt)?;
+    join(
+        &rt,
+        || reply(&rt, &listener, b""),
+        || syncs(&rt, table, &address, &wanted),
+    );
+    fs::remove_file(&rt, table)
+}
+
+#[test]
+fn a_peer_that_refuses(rt: HostRuntime) -> io::Result<()> {
+    let table = "refusing.toml";
+    let wanted = refused(1, "peer refused 99\n");
+    fs::write(&rt, table, BINARY_EIGHT)?;
+    let (listener, address) = opened(&rt)?;
+    join(
+        &rt,
+        || reply(&rt, &listener, b"\x52\x52\x53\x31\0\0\0\x02\x05\x63"),
+        || syncs(&rt, table, &address, &wanted),
+    );
+    fs::remove_file(&rt, table)
+}
+
+#[test]
+fn a_peer_with_the_same_items(rt: HostRuntime) -> io::Result<()> {
+    let table = "equal.toml";
+    let wanted = Wanted {
+        status: 0,
+        out: b"version 0\nsent 1\n",
+        err: "",
+    };
+    fs::write(&rt, table, BINARY_EIGHT)?;
+    let (listener, address) = opened(&rt)?;
+    join(
+        &rt,
+        || reply(&rt, &listener, b"\x52\x52\x53\x31\0\0\0\x01\x04"),
+        || syncs(&rt, table, &address, &wanted),
+    );
+    fs::remove_file(&rt, table)
+}
+
+/// Runs `serve` and `sync` on these files, at an address that is none.
+fn both<R>(rt: &R, table: &str, items: &str, status: u8, line: &str)
+where
+    R: Files
+        + Net<Listener = TcpListener, Stream = TcpStream>
+        + Threads
+        + Wait
+        + AllocGlobal
+        + Sync
+        + Abort,
+{
+    let wanted = refused(status, line);
+    let serve = [
+        "rangesync",
+        "serve",
+        "--table",
+        table,
+        "--addr",
+        "none",
+        items,
+    ];
+    let sync = [
+        "rangesync",
+        "sync",
+        "--table",
+        table,
+        "--addr",
+        "none",
+        items,
+    ];
+    gives(rt, &serve, &[], &wanted);
+    gives(rt, &sync, &[], &wanted);
+}
+
+#[test]
+fn the_table_before_the_items(rt: HostRuntime) -> io::Result<()> {
+    let deep = "order_deep.toml";
+    let none = "order_none.toml";
+    let one_round_too_few = "cap = 8
+limit = 1
+rounds = 2
+row = [{upto = 1, list = true}, {upto = 8, split = [1, 1]}]
+";
+    fs::write(&rt, deep, one_round_too_few)?;
+    fs::write(&rt, none, "cap =\n")?;
+    both(
+        &rt,
+        "missing.toml",
+        "missing.items",
+        3,
+        "refused 80 CannotRead\n",
+    );
+    both(&rt, none, "missing.items", 1, "refused 30 NotToml\n");
+    both(&rt, deep, "missing.items", 1, "refused 38 TooDeep 5 3\n");
+    fs::remove_file(&rt, deep)?;
+    fs::remove_file(&rt, none)
+}
+
+#[test]
+fn the_items_before_the_network(rt: HostRuntime) -> io::Result<()> {
+    let table = "order.toml";
+    let items = "order.items";
+    fs::write(&rt, table, BINARY_EIGHT)?;
+    both(&rt, table, "missing.items", 3, "refused 80 CannotRead\n");
+    fs::write(&rt, items, "61\n6\n")?;
+    both(&rt, table, items, 1, "refused 81 BadItemLine 2\n");
+    fs::write(&rt, items, "61\n62\n63\n64\n65\n66\n67\n68\n69\n")?;
+    both(&rt, table, items, 1, "refused 82 TooManyItems\n");
+    fs::remove_file(&rt, table)?;
+    fs::remove_file(&rt, items)
+}
+
+#[test]
+fn an_address_in_use(rt: HostRuntime) -> io::Result<()> {
+    let table = "in_use.toml";
+    fs::write(&rt, table, BINARY_EIGHT)?;
+    let (_listener, address) = opened(&rt)?;
+    serves(&rt, table, &address, &refused(3, "refused 60 Bind\n"));
+    fs::remove_file(&rt, table)
+}
+
+/// An address where nobody listens any more.
+fn left<R>(rt: &R) -> Result<String, AllocError>
+where
+    R: Files
+        + Net<Listener = TcpListener, Stream = TcpStream>
+        + Threads
+        + Wait
+        + AllocGlobal
+        + Sync
+        + Abort,
+{
+    let (_listener, address) = opened(rt)?;
+    Ok(address)
+}
+
+#[test]
+fn an_address_of_nobody(rt: HostRuntime) -> io::Result<()> {
+    let table = "nobody.toml";
+    let wanted = refused(3, "refused 61 Connect\n");
+    fs::write(&rt, table, BINARY_EIGHT)?;
+    let address = left(&rt)?;
+    syncs(&rt, table, &address, &wanted);
+    syncs(&rt, table, "none", &wanted);
+    fs::remove_file(&rt, table)
+}

@@ -1,0 +1,18 @@
+-- The numbers that words may give.
+--     AreInSpan c      the numbers of the command are in their spans
+use Rattle.std.specs.Prelude.{ℕ, ◌≤◌, IfSome, ⊤}
+use Rattle.settings_core.specs.declared.words.Command.{Command}
+use Rattle.settings_core.specs.declared.words.Command.TheVariants.{Answer, Check, Sim, Serve, Sync}
+
+abbrev pub IsWorkerCount : ℕ → Type 0
+IsWorkerCount n = (1 ≤ n) × (n ≤ 16)
+
+abbrev pub IsSessionCount : ℕ → Type 0
+IsSessionCount n = (1 ≤ n) × (n ≤ 1000000)
+
+abbrev pub AreInSpan : Command → Type 0
+AreInSpan (Answer hexed items) = ⊤
+AreInSpan (Check file) = ⊤
+AreInSpan Sim = ⊤
+AreInSpan (Serve table address workers sessions items) = IsWorkerCount workers × IfSome sessions IsSessionCount
+AreInSpan (Sync table address items) = ⊤

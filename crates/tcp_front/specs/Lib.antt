@@ -1,0 +1,2 @@
+pub use Rattle.definitions.specs.Refusals
+pub mod Faults

@@ -1,0 +1,12 @@
+//! Connections over TCP: a listener that workers share, and a connection that is made.
+#![tactic(auto)]
+
+mod connecting;
+mod fault;
+mod listener;
+#[cfg(test)]
+mod tests;
+
+pub use connecting::connect;
+pub use fault::{ConnectFault, ListenFault};
+pub use listener::{Listener, listen};

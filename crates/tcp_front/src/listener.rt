@@ -1,0 +1,111 @@
+//! A listener that workers share.
+
+ghost use Rattle.std.specs.Prelude.{◌≡◌, ◌≢◌};
+ghost use Rattle.std.specs.IoError.{error_kind};
+
+use crate::fault::ListenFault;
+use peer_threads::{Source, SourceFault};
+use std::io;
+use std::io::ErrorKind;
+use std::net::{Net, SocketAddr, TcpListener, TcpStream};
+use std::sync::atomic::{AtomicU64, Ordering};
+
+/// A listener that workers share, and how many connections they may still wait for.
+///
+/// A worker counts its connection before it waits to accept, so none waits for one beyond the number. After a failed
+/// accept no connection is left.
+#[derive(Drop)]
+pub struct Listener {
+    socket: TcpListener,
+    left: AtomicU64,
+}
+
+/// Why a listener was not made.
+fn listen_fault(error: &io::Error) -> ListenFault
+    ensures memory { error_kind error.now ≡ ErrorKind.OutOfMemory → result ≡ ListenFault.Memory }
+    ensures bind { error_kind error.now ≢ ErrorKind.OutOfMemory → result ≡ ListenFault.Bind }
+{
+    match error.kind() {
+        ErrorKind::OutOfMemory => ListenFault::Memory,
+        _ => ListenFault::Bind,
+    }
+}
+
+/// Why a connection was not accepted.
+fn accept_fault(error: &io::Error) -> SourceFault
+    ensures memory { error_kind error.now ≡ ErrorKind.OutOfMemory → result ≡ SourceFault.Memory }
+    ensures accept { error_kind error.now ≢ ErrorKind.OutOfMemory → result ≡ SourceFault.Accept }
+{
+    match error.kind() {
+        ErrorKind::OutOfMemory => SourceFault::Memory,
+        _ => SourceFault::Accept,
+    }
+}
+
+/// Listens at an address: an IP address or a host's name, and a port, as `127.0.0.1:7700`; at port 0 the system chooses
+/// one. After so many connections the listener gives no more; with none it has no end.
+///
+/// Else 60 where the text is no address, or the address is in use or may not be listened at, or 90.
+pub fn listen<R: Net<Listener = TcpListener, Stream = TcpStream>>(
+    rt: &R,
+    address: &str,
+    connections: Option<u32>,
+) -> Result<Listener, ListenFault> {
+    match TcpListener::bind(rt, address) {
+        Ok(socket) => Ok(Listener {
+            socket,
+            left: AtomicU64::new(connections.map_or(u64::MAX, u64::from)),
+        }),
+        Err(error) => Err(listen_fault(&error)),
+    }
+}
+
+impl Listener {
+    /// The address that is listened at, with its real port, if the system tells it.
+    pub fn local_addr(&self) -> Option<SocketAddr> {
+        self.socket.local_addr().ok()
+    }
+
+    /// Counts one connection more, if one is left.
+    fn count(&self) -> bool {
+        self.left
+            .fetch_update(Ordering::SeqCst, Ordering::SeqCst, |left| {
+                left.checked_sub(1)
+            })
+            .is_ok()
+    }
+
+    /// Waits for a connection: its reader and its writer are two handles of one socket.
+    fn accept(&self) -> io::Result<(TcpStream, TcpStream)> {
+        let (stream, _peer) = self.socket.accept()?;
+        let _set = stream.set_nodelay(true);
+        Ok((stream.try_clone()?, stream))
+    }
+}
+
+impl Source for Listener {
+    type In = TcpStream;
+
+    type Out = TcpStream;
+
+    fn take(&self) -> Result<Option<(TcpStream, TcpStream)>, SourceFault> {
+        if !self.count() {
+            return Ok(None);
+        }
+        match self.accept() {
+            Ok(ends) => Ok(Some(ends)),
+            Err(error) => {
+                self.left.store(0, Ordering::SeqCst);
+                Err(accept_fault(&error))
+            }
+        }
+    }
+}
+
+#[cfg(test)]
+impl Listener {
+    // From now on an accept with no connection there fails, and does not wait.
+    pub(crate) fn never_wait(&self) -> io::Result<()> {
+        self.socket.set_nonblocking(true)
+    }
+}

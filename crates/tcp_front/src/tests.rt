@@ -1,0 +1,91 @@
+//! Connections over the loopback, at ports that the system chooses.
+
+use crate::{ConnectFault, ListenFault, Listener, connect, listen};
+use peer_threads::{Source, SourceFault};
+use std::alloc::Alloc;
+use std::io;
+use std::io::{Read, Write};
+use std::net::{Net, TcpListener, TcpStream};
+use std::process::Abort;
+
+/// A listener for so many connections, and its address.
+fn opened<R: Net<Listener = TcpListener, Stream = TcpStream> + AllocGlobal + Abort>(
+    rt: &R,
+    connections: Option<u32>,
+) -> io::Result<(Listener, String)> {
+    let listener = listen(rt, "127.0.0.1:0", connections)
+        .ok()
+        .expect(rt, "a listener");
+    let address = listener.local_addr().expect(rt, "an address");
+    Ok((listener, format!(in rt.alloc(); "{address}")?))
+}
+
+/// The two ends of the next connection.
+fn taken<R: Abort>(rt: &R, listener: &Listener) -> (TcpStream, TcpStream) {
+    let next = listener.take().ok().expect(rt, "no fault");
+    next.expect(rt, "a connection")
+}
+
+#[test]
+fn bytes_both_ways(rt: HostRuntime) -> io::Result<()> {
+    let (listener, address) = opened(&rt, Some(1))?;
+    let mut near = connect(&rt, &address).ok().expect(&rt, "a connection");
+    let (mut reader, mut writer) = taken(&rt, &listener);
+    let mut bytes = [0u8; 5];
+    near.write_all(b"there")?;
+    reader.read_exact(&mut bytes)?;
+    assert!(rt; bytes == *b"there");
+    writer.write_all(b"back.")?;
+    near.read_exact(&mut bytes)?;
+    assert!(rt; bytes == *b"back.");
+    assert!(rt; near.nodelay()? && reader.nodelay()? && writer.nodelay()?);
+    Ok(())
+}
+
+#[test]
+fn connections_are_counted(rt: HostRuntime) -> io::Result<()> {
+    let (two, address) = opened(&rt, Some(2))?;
+    let _first = connect(&rt, &address).ok().expect(&rt, "a connection");
+    let _second = connect(&rt, &address).ok().expect(&rt, "a connection");
+    let _third = connect(&rt, &address).ok().expect(&rt, "a connection");
+    let _one = taken(&rt, &two);
+    let _other = taken(&rt, &two);
+    assert!(rt; matches!(two.take(), Ok(None)));
+    assert!(rt; matches!(two.take(), Ok(None)));
+    let (none, _) = opened(&rt, Some(0))?;
+    assert!(rt; matches!(none.take(), Ok(None)));
+    Ok(())
+}
+
+#[test]
+fn after_a_failed_accept(rt: HostRuntime) -> io::Result<()> {
+    let (listener, address) = opened(&rt, None)?;
+    listener.never_wait()?;
+    let failed = listener.take().err().expect(&rt, "a fault");
+    assert_eq!(rt; failed, SourceFault::Accept);
+    assert_eq!(rt; failed.number(), 62);
+    let _late = connect(&rt, &address).ok().expect(&rt, "a connection");
+    assert!(rt; matches!(listener.take(), Ok(None)));
+    Ok(())
+}
+
+#[test]
+fn addresses_in_use_or_of_nobody(rt: HostRuntime) -> io::Result<()> {
+    let (listener, address) = opened(&rt, None)?;
+    let again = listen(&rt, &address, None).err().map(ListenFault::number);
+    assert_eq!(rt; again, Some(60));
+    drop(listener);
+    let nobody = connect(&rt, &address).err().map(ConnectFault::number);
+    assert_eq!(rt; nobody, Some(61));
+    Ok(())
+}
+
+#[test]
+fn texts_that_are_no_addresses(rt: HostRuntime) {
+    for text in ["", "127.0.0.1", "127.0.0.1:65536", "127.0.0.1:x", "none"] {
+        let here = listen(&rt, text, None).err().map(ListenFault::number);
+        assert_eq!(rt; here, Some(60));
+        let there = connect(&rt, text).err().map(ConnectFault::number);
+        assert_eq!(rt; there, Some(61));
+    }
+}
