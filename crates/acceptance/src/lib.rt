@@ -4,7 +4,13 @@
 #[cfg(test)]
 mod answers;
 #[cfg(test)]
+mod devices;
+#[cfg(test)]
+mod engines;
+#[cfg(test)]
 mod floods;
+#[cfg(test)]
+mod frames;
 #[cfg(test)]
 mod letters;
 #[cfg(test)]
@@ -13,3 +19,5 @@ mod sessions;
 mod shown;
 #[cfg(test)]
 mod tables;
+#[cfg(test)]
+mod workers;

@@ -1,0 +1,150 @@
+//! Readers and writers that do little at a time, gates, and outcomes as text, for the tests of sessions in threads.
+
+use crate::shown::shown_learned;
+use peer_threads::{Gate, Outcome, Side};
+use std::alloc::{AllocError, Global};
+use std::io;
+use std::io::{ErrorKind, Read, Write};
+use std::sync::atomic::{AtomicU64, Ordering};
+use std::sync::{Mutex, OnceLock};
+use std::thread::yield_now;
+
+/// A reader that gives at most so many bytes a call.
+#[derive(Drop)]
+pub(crate) struct PieceReader {
+    pub(crate) bytes: Vec<u8>,
+    pub(crate) taken: usize,
+    pub(crate) piece: usize,
+}
+
+impl Read for PieceReader {
+    fn read(&mut self, buf: &mut [u8]) -> io::Result<usize> {
+        let from = self.taken.min(self.bytes.len());
+        let rest = &self.bytes[from..];
+        let count = rest.len().min(buf.len()).min(self.piece);
+        buf[..count].copy_from_slice(&rest[..count]);
+        self.taken = from + count;
+        Ok(count)
+    }
+}
+
+/// A writer that takes at most so many bytes a call, and keeps them where others can see them.
+#[derive(Drop)]
+pub(crate) struct PieceWriter<'a> {
+    pub(crate) held: &'a Mutex<Vec<u8>>,
+    pub(crate) piece: usize,
+}
+
+impl Write for PieceWriter<'_> {
+    fn write(&mut self, buf: &[u8]) -> io::Result<usize> {
+        let count = buf.len().min(self.piece);
+        // no other thread has it while this one writes
+        let Some(mut held) = self.held.try_lock() else {
+            return Err(io::Error::from(ErrorKind::WouldBlock));
+        };
+        held.extend_from_slice(&buf[..count])?;
+        Ok(count)
+    }
+
+    fn flush(&mut self) -> io::Result<()> {
+        Ok(())
+    }
+}
+
+/// When a gate lets a session go on.
+#[derive(Clone, Copy, Debug, PartialEq, Eq)]
+pub(crate) enum Rule {
+    Always,
+    Never,
+    /// The session with the serial 1 once that with the serial 2 has ended; never, if that does not come.
+    SecondFirst,
+}
+
+/// A gate that keeps how each session ended, as text, and how often it was told of an end.
+#[derive(Drop)]
+pub(crate) struct Witness {
+    pub(crate) alloc: Global,
+    pub(crate) rule: Rule,
+    pub(crate) first: OnceLock<String>,
+    pub(crate) second: OnceLock<String>,
+    pub(crate) told: AtomicU64,
+}
+
+impl Witness {
+    pub(crate) fn new(alloc: Global, rule: Rule) -> Witness {
+        Witness {
+            alloc,
+            rule,
+            first: OnceLock::new(),
+            second: OnceLock::new(),
+            told: AtomicU64::new(0),
+        }
+    }
+
+    // Looks 100,000,000 times whether the second session has ended.
+    fn waits_for_second(&self) -> bool {
+        for turn in 0..100_000_000u32 {
+            if self.second.get().is_some() {
+                return true;
+            }
+            if turn % 1_000 == 0 {
+                yield_now();
+            }
+        }
+        false
+    }
+}
+
+impl Gate for Witness {
+    fn pass(&self, serial: u64, _sent: u32) -> bool {
+        match self.rule {
+            Rule::Always => true,
+            Rule::Never => false,
+            Rule::SecondFirst => serial != 1 || self.waits_for_second(),
+        }
+    }
+
+    fn ended(&self, serial: u64, outcome: &Outcome) {
+        self.told.fetch_add(1, Ordering::SeqCst);
+        let Ok(text) = shown_outcome(self.alloc, outcome) else {
+            return;
+        };
+        let place = if serial == 1 {
+            &self.first
+        } else {
+            &self.second
+        };
+        let _there = place.try_set(text);
+    }
+}
+
+fn shown_end(alloc: Global, outcome: &Outcome) -> Result<String, AllocError> {
+    match outcome {
+        Outcome::Ended {
+            learned,
+            version,
+            ..
+        } => {
+            let learned = shown_learned(alloc, learned)?;
+            format!(in alloc; "Ended {learned} version {version}")
+        }
+        Outcome::Refused { code, .. } => format!(in alloc; "Refused {code}"),
+        Outcome::PeerRefused { code, .. } => format!(in alloc; "PeerRefused {code}"),
+        Outcome::Io {
+            side: Side::Read,
+            ..
+        } => format!(in alloc; "Io Read"),
+        Outcome::Io {
+            side: Side::Write,
+            ..
+        } => format!(in alloc; "Io Write"),
+        Outcome::Memory { .. } => format!(in alloc; "Memory"),
+    }
+}
+
+/// The kind of the outcome with its numbers and what was learned, and then how many messages were sent.
+pub(crate) fn shown_outcome(alloc: Global, outcome: &Outcome) -> Result<String, AllocError> {
+    let mut text = shown_end(alloc, outcome)?;
+    write!(text, " sent {}", outcome.sent())?;
+    Ok(text)
+}

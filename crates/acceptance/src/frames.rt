@@ -1,0 +1,62 @@
+//! The bytes of sessions between a side with no items and a side with abc, shared by the tests.
+
+use std::alloc::{AllocError, Global};
+
+/// What a side writes first of all.
+pub(crate) const HELLO: &[u8] = &[0x52, 0x52, 0x53, 0x31];
+
+/// What ends a message.
+pub(crate) const END: &[u8] = &[0, 0, 0, 1, 4];
+
+/// A Sum over everything of the fingerprint of no items.
+pub(crate) const SUM_OF_NOTHING: &[u8] = &[
+    0, 0, 0, 0x23, 1, 0, 0xFF, 0, 0, 0, 0, 0, 0, 0, 0, 0, 0, 0, 0, 0, 0, 0, 0, 0, 0, 0, 0, 0, 0, 0,
+    0, 0, 0, 0, 0, 0, 0, 0, 0,
+];
+
+/// A Sum over everything of 32 bytes 01, which is the fingerprint of none of these sets.
+pub(crate) const SUM_OF_ONES: &[u8] = &[
+    0, 0, 0, 0x23, 1, 0, 0xFF, 1, 1, 1, 1, 1, 1, 1, 1, 1, 1, 1, 1, 1, 1, 1, 1, 1, 1, 1, 1, 1, 1, 1,
+    1, 1, 1, 1, 1, 1, 1, 1, 1,
+];
+
+/// A Sum over everything of the fingerprint of abc.
+pub(crate) const SUM_OF_ABC: &[u8] = &[
+    0, 0, 0, 0x23, 1, 0, 0xFF, 0xba, 0x78, 0x16, 0xbf, 0x8f, 0x01, 0xcf, 0xea, 0x41, 0x41, 0x40,
+    0xde, 0x5d, 0xae, 0x22, 0x23, 0xb0, 0x03, 0x61, 0xa3, 0x96, 0x17, 0x7a, 0x9c, 0xb4, 0x10, 0xff,
+    0x61, 0xf2, 0x00, 0x15, 0xad,
+];
+
+/// A List over everything of no items.
+pub(crate) const LIST_OF_NOTHING: &[u8] = &[0, 0, 0, 7, 2, 0, 0xFF, 0, 0, 0, 0];
+
+/// A List over everything of abc.
+pub(crate) const LIST_OF_ABC: &[u8] = &[0, 0, 0, 0x0B, 2, 0, 0xFF, 0, 0, 0, 1, 3, 0x61, 0x62, 0x63];
+
+/// An Answer over everything that has one mark, which is set, and no items.
+pub(crate) const ABC_IS_LACKED: &[u8] = &[0, 0, 0, 0x0C, 3, 0, 0xFF, 0, 0, 0, 1, 1, 0, 0, 0, 0];
+
+/// An Answer over everything that has no marks, and the item abc.
+pub(crate) const ABC_IS_NEW: &[u8] = &[
+    0, 0, 0, 0x0F, 3, 0, 0xFF, 0, 0, 0, 0, 0, 0, 0, 1, 3, 0x61, 0x62, 0x63,
+];
+
+/// All that a side with no items says to a side with abc, where it speaks first: 69 bytes.
+pub(crate) const EMPTY_TO_ABC: &[&[u8]] = &[HELLO, SUM_OF_NOTHING, END, ABC_IS_LACKED, END];
+
+/// All that a side with abc says to a side with no items that speaks first: 24 bytes.
+pub(crate) const ABC_TO_EMPTY: &[&[u8]] = &[HELLO, LIST_OF_ABC, END];
+
+/// A fault frame with this number.
+pub(crate) const fn fault(code: u8) -> [u8; 6] {
+    [0, 0, 0, 2, 5, code]
+}
+
+/// These bytes one behind the other.
+pub(crate) fn joined(alloc: Global, pieces: &[&[u8]]) -> Result<Vec<u8>, AllocError> {
+    let mut bytes = Vec::new(alloc);
+    for piece in pieces {
+        bytes.extend_from_slice(piece)?;
+    }
+    Ok(bytes)
+}

@@ -1,0 +1,175 @@
+//! Workers over memory: what they report, what they add to the log, and two sessions at a time.
+
+ghost use Rattle.std.specs.Prelude.{◌≡◌, ◌≤◌};
+
+use crate::devices::{PieceReader, PieceWriter, Rule, Witness};
+use crate::engines::opened;
+use crate::frames::{
+    ABC_IS_NEW, ABC_TO_EMPTY, EMPTY_TO_ABC, END, HELLO, LIST_OF_NOTHING, SUM_OF_ABC, joined,
+};
+use crate::letters::item;
+use crate::tables::{BINARY_EIGHT, accepted};
+use item_core::Item;
+use peer_threads::{Report, Shared, Source, SourceFault, run_workers};
+use session_table::SessionTable;
+use std::alloc::Global;
+use std::process::Abort;
+use std::sync::atomic::{AtomicU64, Ordering};
+use std::sync::{Mutex, OnceLock, Wait};
+use std::test::Fail;
+use std::thread::Threads;
+use store_core::FlatStore;
+use version_log::Published;
+
+/// Connections whose peers all say the same, 0 to 2 of them; behind them there is none, or a fault.
+#[derive(Drop)]
+struct Peers<'a> {
+    alloc: Global,
+    input: &'a [&'a [u8]],
+    count: u64,
+    fault: Option<SourceFault>,
+    taken: AtomicU64,
+    /// What was written to the first connection, and to the second.
+    first: Mutex<Vec<u8>>,
+    second: Mutex<Vec<u8>>,
+}
+
+impl<'a> Peers<'a> {
+    fn new(
+        alloc: Global,
+        input: &'a [&'a [u8]],
+        count: u64,
+        fault: Option<SourceFault>,
+    ) -> Peers<'a> {
+        Peers {
+            alloc,
+            input,
+            count,
+            fault,
+            taken: AtomicU64::new(0),
+            first: Mutex::new(Vec::new(alloc)),
+            second: Mutex::new(Vec::new(alloc)),
+        }
+    }
+}
+
+impl<'a> Source for &'a Peers<'a> {
+    type In = PieceReader;
+
+    type Out = PieceWriter<'a>;
+
+    fn take(&self) -> Result<Option<(PieceReader, PieceWriter<'a>)>, SourceFault> {
+        let number = self.taken.fetch_add(1, Ordering::SeqCst);
+        if number >= self.count {
+            return match self.fault {
+                Some(fault) => Err(fault),
+                None => Ok(None),
+            };
+        }
+        let Ok(bytes) = joined(self.alloc, self.input) else {
+            return Err(SourceFault::Memory);
+        };
+        let held = if number == 0 {
+            &self.first
+        } else {
+            &self.second
+        };
+        let input = PieceReader {
+            bytes,
+            taken: 0,
+            piece: 7,
+        };
+        Ok(Some((input, PieceWriter { held, piece: 7 })))
+    }
+}
+
+/// What came of workers over a log of these items: their report, and the log.
+fn worked<T: Threads + Wait + Abort + Sync>(
+    rt: &T,
+    alloc: Global,
+    items: &[Item],
+    next_writer: u64,
+    peers: &Peers<'_>,
+    gate: &Witness,
+    workers: u8,
+) -> Result<(Report, Published<FlatStore>), Fail> {
+    assert!(rt; 1 <= workers && workers <= 16);
+    let accepted = accepted(rt, alloc, BINARY_EIGHT);
+    let (lock, mut seat) = opened(rt, alloc, &accepted, items, next_writer);
+    let sessions = Mutex::new(SessionTable::new(alloc, 2)?);
+    let shared = Shared {
+        lock: &lock,
+        accepted: &accepted,
+        sessions: &sessions,
+        gate,
+    };
+    let report = run_workers(rt, alloc, &shared, &mut seat, &peers, workers);
+    Ok((report, lock.close_with(rt, seat)))
+}
+
+/// Compares what was told of a session's end.
+fn told(rt: &impl Abort, end: &OnceLock<String>, wanted: &str) {
+    let text = end.get().expect(rt, "a session that ended");
+    assert_eq!(rt; text.as_str(), wanted);
+}
+
+/// Compares a report.
+fn reports(rt: &impl Abort, report: Report, started: u8, fault: Option<SourceFault>) {
+    assert_eq!(rt; report, Report { started, fault });
+}
+
+/// Compares the log's only entry.
+fn has_one(rt: &impl Abort, log: &Published<FlatStore>, writer: u32, bytes: &[u8]) {
+    assert!(rt; log.version() == 1);
+    assert!(rt; log.entry(0).writer() == writer && *log.entry(0).item() == item(rt, bytes));
+}
+
+// An invented report, and workers that take nothing or drop what was learned, fail in this test.
+#[test]
+fn one_writer_number_is_left(rt: HostRuntime) -> Result<(), Fail> {
+    let alloc = rt.alloc();
+    let input: &[&[u8]] = &[HELLO, SUM_OF_ABC, END, ABC_IS_NEW, END];
+    let peers = Peers::new(alloc, input, 1, None);
+    let gate = Witness::new(alloc, Rule::Always);
+    let (report, log) = worked(&rt, alloc, &[], 4_294_967_295, &peers, &gate, 3)?;
+    reports(&rt, report, 1, None);
+    told(&rt, &gate.first, "Ended ours - theirs abc version 0 sent 1");
+    has_one(&rt, &log, 4_294_967_295, b"abc");
+    let written = joined(alloc, &[HELLO, LIST_OF_NOTHING, END])?;
+    assert_eq!(rt; *peers.first.lock(&rt), written);
+    Ok(())
+}
+
+#[test]
+fn source_that_fails_at_once(rt: HostRuntime) -> Result<(), Fail> {
+    let alloc = rt.alloc();
+    let peers = Peers::new(alloc, &[], 0, Some(SourceFault::Accept));
+    let gate = Witness::new(alloc, Rule::Always);
+    let (report, log) = worked(&rt, alloc, &[], 1, &peers, &gate, 3)?;
+    reports(&rt, report, 3, Some(SourceFault::Accept));
+    assert_eq!(rt; SourceFault::Accept.number(), 62);
+    assert!(rt; log.version() == 0 && gate.told.load(Ordering::SeqCst) == 0);
+    Ok(())
+}
+
+// The gate holds the first session until the second has ended, so workers that serve one connection after the other get
+// Refused 54 for the first.
+#[test]
+fn two_sessions_at_a_time(rt: HostRuntime) -> Result<(), Fail> {
+    let alloc = rt.alloc();
+    let peers = Peers::new(alloc, EMPTY_TO_ABC, 2, None);
+    let gate = Witness::new(alloc, Rule::SecondFirst);
+    let abc = [item(&rt, b"abc")];
+    let (report, log) = worked(&rt, alloc, &abc, 1, &peers, &gate, 2)?;
+    reports(&rt, report, 2, None);
+    told(&rt, &gate.first, "Ended ours abc theirs - version 1 sent 1");
+    told(
+        &rt,
+        &gate.second,
+        "Ended ours abc theirs - version 1 sent 1",
+    );
+    has_one(&rt, &log, 0, b"abc");
+    let written = joined(alloc, ABC_TO_EMPTY)?;
+    assert!(rt; *peers.first.lock(&rt) == written && *peers.second.lock(&rt) == written);
+    Ok(())
+}
