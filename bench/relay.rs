@@ -1,0 +1,93 @@
+// Stands between a peer that speaks first and a server, or in the place of the first, over TCP.
+//
+//     relay count SERVER FILE           passes one connection on, keeps in FILE what its peer says, and prints the bytes
+//                                       of the peer and of the server; the address to connect to is the first line
+//     relay replay SERVER FILE COUNT THREADS
+//                                       says the bytes of FILE to the server, COUNT times by so many threads, each to the
+//                                       end of the connection; prints the seconds, and the bytes of each side
+
+use std::fs;
+use std::io::{self, Read, Write};
+use std::net::{Shutdown, TcpListener, TcpStream};
+use std::thread;
+use std::time::Instant;
+
+/// Copies to the end of the reader, and gives the bytes.
+fn copy(from: &mut TcpStream, to: &mut TcpStream) -> io::Result<Vec<u8>> {
+    let mut all = Vec::new();
+    let mut buffer = [0u8; 65_536];
+    loop {
+        let count = from.read(&mut buffer)?;
+        if count == 0 {
+            let _ = to.shutdown(Shutdown::Write);
+            return Ok(all);
+        }
+        to.write_all(&buffer[..count])?;
+        all.extend_from_slice(&buffer[..count]);
+    }
+}
+
+fn count(server: &str, file: &str) -> io::Result<()> {
+    let listener = TcpListener::bind("127.0.0.1:0")?;
+    println!("{}", listener.local_addr()?);
+    let (mut near, _) = listener.accept()?;
+    let mut far = TcpStream::connect(server)?;
+    near.set_nodelay(true)?;
+    far.set_nodelay(true)?;
+    let (mut from_far, mut to_near) = (far.try_clone()?, near.try_clone()?);
+    let back = thread::spawn(move || copy(&mut from_far, &mut to_near));
+    let said = copy(&mut near, &mut far)?;
+    let answered = back.join().expect("a thread")?;
+    fs::write(file, &said)?;
+    println!("{} {}", said.len(), answered.len());
+    Ok(())
+}
+
+/// One session: all of the bytes are said, and all that the server says is read. How many bytes that is.
+fn session(server: &str, said: &[u8]) -> io::Result<usize> {
+    let mut stream = TcpStream::connect(server)?;
+    stream.set_nodelay(true)?;
+    let mut writer = stream.try_clone()?;
+    thread::scope(|scope| {
+        scope.spawn(move || writer.write_all(said));
+        let mut answered = Vec::new();
+        stream.read_to_end(&mut answered)?;
+        Ok(answered.len())
+    })
+}
+
+fn replay(server: &str, file: &str, count: usize, threads: usize) -> io::Result<()> {
+    let said = fs::read(file)?;
+    let start = Instant::now();
+    let answered = thread::scope(|scope| {
+        let said = &said;
+        let shares: Vec<_> = (0..threads)
+            .map(|index| {
+                let share = count / threads + usize::from(index < count % threads);
+                scope.spawn(move || (0..share).map(|_| session(server, said)).sum::<io::Result<usize>>())
+            })
+            .collect();
+        shares
+            .into_iter()
+            .map(|share| share.join().expect("a thread"))
+            .sum::<io::Result<usize>>()
+    })?;
+    let seconds = start.elapsed().as_secs_f64();
+    println!("{seconds:.3} {} {answered}", said.len() * count);
+    Ok(())
+}
+
+fn main() -> io::Result<()> {
+    let words: Vec<String> = std::env::args().collect();
+    let words: Vec<&str> = words.iter().map(String::as_str).collect();
+    match words[1..] {
+        ["count", server, file] => count(server, file),
+        ["replay", server, file, many, threads] => replay(
+            server,
+            file,
+            many.parse().expect("a number"),
+            threads.parse().expect("a number"),
+        ),
+        _ => panic!("count SERVER FILE, or replay SERVER FILE COUNT THREADS"),
+    }
+}
