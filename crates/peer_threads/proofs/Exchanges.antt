@@ -1,11 +1,10 @@
 -- How a session goes on, and where it stands when it is over.
-use Rattle.std.proofs.Common.{◌≡◌, ℕ, ◌<◌, ◌+◌, Bool, true, false, List, [], ◌∷◌, ◌++◌, length, flat_map, take, Option, Some, None, refl, sym, ap, ◌∙◌, subst, append_assoc, append-nil, IsTrue, arith}
+use Rattle.std.proofs.Common.{◌≡◌, ℕ, ◌<◌, ◌+◌, false, List, [], ◌∷◌, ◌++◌, length, flat_map, take, Option, Some, refl, sym, ap, ◌∙◌, subst, append_assoc, append-nil, IsTrue}
 use Rattle.std.proofs.lemmas.Bool.{false≢true}
 use Rattle.std.proofs.lemmas.List.{length-append}
 use Rattle.std.proofs.lemmas.Grind.{flat_map-append}
 use Rattle.std.proofs.Math.Seq.{take-length}
-use Rattle.std.proofs.KnownBytes.{Appends-trans, Appends-nil, Consumes-trans, Consumes-nil}
-use Rattle.std.specs.List.{AllByRecursion}
+use Rattle.std.proofs.KnownBytes.{Appends-trans, Consumes-trans}
 use Rattle.std.specs.Io.KnownBytes.{Appends, Consumes}
 use Rattle.definitions.proofs.Lemmas.{All-append}
 use Rattle.definitions.specs.Fingerprints.{Lanes, two_lanes}
@@ -14,10 +13,10 @@ use Rattle.definitions.specs.Messages.{Message}
 use Rattle.definitions.specs.Wire.{two_lane_profile, message_text, session_text}
 use Rattle.definitions.specs.Ends.{End, Stage, Fresh, Waits, Over, Spent, answer, after, is_over, is_live}
 use Rattle.definitions.specs.Streams.{messages_of}
-use Rattle.definitions.specs.Engines.{Speaker, says, session, answers, replied, messages_in, fault_frame, text}
+use Rattle.definitions.specs.Engines.{Speaker, says, session, answers, replied, messages_in, fault_frame}
 use Rattle.definitions.specs.Theorems.{EndsHearOn}
 use Rattle.laws.specs.Saying.{EndsSay}
-use Rattle.peer_threads.specs.Outcomes.{Traffic, traffic, SaidAll, said_to, session_at}
+use Rattle.peer_threads.specs.Outcomes.{Traffic, traffic, SaidAll, said_to}
 use Rattle.peer_threads.specs.Inboxes.{InboxState, HasRead, IsRefused}
 use Rattle.peer_threads.specs.Outboxes.{OutboxState, HasWritten, Adds}
 use Rattle.peer_threads.specs.Underway.{Exchanged, Underway, Finished}

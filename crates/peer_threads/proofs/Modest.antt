@@ -1,15 +1,14 @@
 -- Few messages, and short lists, whatever the bytes are.
-use Rattle.std.proofs.Common.{◌≡◌, ℕ, ◌≤◌, ◌+◌, List, [], ◌∷◌, length, slice_index, sym, ap, ◌∙◌, subst, arith}
+use Rattle.std.proofs.Common.{◌≡◌, ℕ, ◌≤◌, ◌+◌, List, [], ◌∷◌, length, slice_index, arith}
 use Rattle.std.specs.List.{AllByRecursion}
 use Rattle.definitions.specs.Fingerprints.{Lanes, two_lanes}
 use Rattle.definitions.specs.Items.{IsBytes, Item}
 use Rattle.definitions.specs.Sets.{IsSet}
 use Rattle.definitions.specs.Messages.{Message, RangesRise}
 use Rattle.definitions.specs.Ranks.{ranks_by, rank_by}
-use Rattle.definitions.specs.Replies.{Peer}
 use Rattle.definitions.specs.Wire.{two_lane_profile, IsMessage}
-use Rattle.definitions.specs.Engines.{Speaker, says, initiating, responding, messages_in}
-use Rattle.definitions.specs.Theorems.{Ready, rank, InitiatorStops, ResponderStops, EndsKeepLimits, IsShort}
+use Rattle.definitions.specs.Engines.{initiating, responding, messages_in}
+use Rattle.definitions.specs.Theorems.{Ready, InitiatorStops, ResponderStops, EndsKeepLimits}
 use Rattle.codec_laws.specs.Parts.{HeardAreMessages}
 use Rattle.strategy_check.specs.Checked.{Checked, IsChecked}
 use Rattle.peer_threads.specs.Outcomes.{IsModest, peer_of}

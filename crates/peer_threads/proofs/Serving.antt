@@ -1,7 +1,7 @@
 -- The side that is spoken to first, before its first message.
 use Rattle.std.proofs.Common.{◌≡◌, ℕ, ◌+◌, true, false, List, [], length, Option, Result, Err, IfErr, refl, sym, ap, ◌∙◌, subst}
 use Rattle.std.specs.Io.KnownBytes.{Appends, Consumes}
-use Rattle.definitions.specs.Fingerprints.{Lanes, two_lanes}
+use Rattle.definitions.specs.Fingerprints.{Lanes}
 use Rattle.definitions.specs.Items.{IsBytes, Item}
 use Rattle.definitions.specs.Ranks.{rank_by}
 use Rattle.definitions.specs.Strategies.{Table}
@@ -11,7 +11,7 @@ use Rattle.definitions.specs.Ends.{responder}
 use Rattle.definitions.specs.Engines.{Speaker, responding}
 use Rattle.peer_threads.specs.Outcomes.{Traffic, traffic}
 use Rattle.peer_threads.specs.Inboxes.{InboxState, HasRead}
-use Rattle.peer_threads.specs.Outboxes.{OutboxState, outbox_state, hello_due, HasWritten}
+use Rattle.peer_threads.specs.Outboxes.{OutboxState, outbox_state, hello_due}
 use Rattle.peer_threads.specs.Stops.{IsOwn}
 use Rattle.ends_core.specs.Held.{Held}
 use Rattle.peer_threads.specs.Underway.{Exchanged, Underway, Stopped, Spoke, most_sent}

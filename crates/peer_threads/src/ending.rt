@@ -45,7 +45,9 @@ pub(crate) fn concluded<P: Party, W: Write>(
     writer: &mut Watched<W>,
     talked: Result<(), Stop>,
 ) -> Outcome
-    ensures bytes { (s : Speaker Lanes) (bound : ℕ) (unread left held : Option (List ℕ)) → Talked s (P.held party).end outbox (traffic unread left held (W.contents writer.old.inner)) talked → outbox.sent ≤ bound → Spoke s bound (traffic unread left held (W.contents writer.new.inner)) result }
+    ensures bytes { (s : Speaker Lanes) (bound : ℕ) (unread left held : Option (List ℕ)) →
+        Talked s (P.held party).end outbox (traffic unread left held (W.contents writer.old.inner)) talked →
+        outbox.sent ≤ bound → Spoke s bound (traffic unread left held (W.contents writer.new.inner)) result }
     ensures version { HasVersion result version }
 {
     match talked {

@@ -49,9 +49,13 @@ fn meet<R: Read, W: Write>(
 ) -> Result<Opening, Stop>
     requires fine { writer.old.failed ≡ false }
     requires new { outbox.old ≡ outbox_state false 0 }
-    ensures met { IfOk result (λ o. Exchanged o.inbox outbox.new (traffic (R.remaining reader.old.inner) (R.remaining reader.new.inner) (W.contents writer.old.inner) (W.contents writer.new.inner)) (o.first ∷ []) []) }
+    ensures met { IfOk result
+        (λ o. Exchanged o.inbox outbox.new (traffic (R.remaining reader.old.inner) (R.remaining reader.new.inner)
+        (W.contents writer.old.inner) (W.contents writer.new.inner)) (o.first ∷ []) []) }
     ensures fine { IfOk result (λ _. writer.new.failed ≡ false) }
-    ensures stopped { IfErr result (λ stop. (P : Peer) → Stopped (responding P) outbox.new (traffic (R.remaining reader.old.inner) (R.remaining reader.new.inner) (W.contents writer.old.inner) (W.contents writer.new.inner)) stop) }
+    ensures stopped { IfErr result (λ stop. (P : Peer) → Stopped (responding P) outbox.new
+        (traffic (R.remaining reader.old.inner) (R.remaining reader.new.inner) (W.contents writer.old.inner)
+        (W.contents writer.new.inner)) stop) }
     ensures none { outbox.new.sent ≡ 0 }
 {
     let mut inbox = Inbox::new(alloc)?;
@@ -73,7 +77,11 @@ fn answer<T: Wait, G: Gate, P: Party, R: Read, W: Write>(
 ) -> Result<(), Stop>
     requires fine { writer.old.failed ≡ false }
     requires count { outbox.old.sent ≡ (P.held party.old).end.sent }
-    ensures talked { (p : Peer) (unread held : Option (List ℕ)) → (P.held party.old).end ≡ ends.responder p → Exchanged opening.inbox outbox.old (traffic unread (R.remaining reader.old.inner) held (W.contents writer.old.inner)) (opening.first ∷ []) [] → Talked (responding p) (P.held party.new).end outbox.new (traffic unread (R.remaining reader.new.inner) held (W.contents writer.new.inner)) result }
+    ensures talked { (p : Peer) (unread held : Option (List ℕ)) → (P.held party.old).end ≡ ends.responder p →
+        Exchanged opening.inbox outbox.old (traffic unread (R.remaining reader.old.inner) held
+        (W.contents writer.old.inner)) (opening.first ∷ []) [] →
+        Talked (responding p) (P.held party.new).end outbox.new
+        (traffic unread (R.remaining reader.new.inner) held (W.contents writer.new.inner)) result }
     ensures few { outbox.new.sent ≤ most_sent P.most (P.held party.old) }
 {
     laws::ends_hear_on::<Fingerprint>();
@@ -95,7 +103,12 @@ fn respond<T: Wait, S: RangeStore, G: Gate, R: Read, W: Write>(
     requires fits { length pin.items ≤ host.now.accepted.now.table.cap }
     requires fine { writer.old.failed ≡ false }
     requires none { outbox.sent ≡ 0 }
-    ensures bytes { (unread held : Option (List ℕ)) → Exchanged opening.inbox outbox (traffic unread (R.remaining reader.old.inner) held (W.contents writer.old.inner)) (opening.first ∷ []) [] → Spoke (responding (peer_of host.now.accepted.now pin.items)) (rank_by host.now.accepted.now.steps (length pin.items) + 1) (traffic unread (R.remaining reader.new.inner) held (W.contents writer.new.inner)) result }
+    ensures bytes { (unread held : Option (List ℕ)) →
+        Exchanged opening.inbox outbox (traffic unread (R.remaining reader.old.inner) held
+        (W.contents writer.old.inner)) (opening.first ∷ []) [] →
+        Spoke (responding (peer_of host.now.accepted.now pin.items))
+        (rank_by host.now.accepted.now.steps (length pin.items) + 1)
+        (traffic unread (R.remaining reader.new.inner) held (W.contents writer.new.inner)) result }
     ensures version { HasVersion result pin.version }
 {
     let version = pin.version();
@@ -122,7 +135,11 @@ fn speak<T: Wait, G: Gate, P: Party, R: Read, W: Write>(
     requires fine { writer.old.failed ≡ false }
     requires new { outbox.old ≡ outbox_state false 0 }
     requires one { (P.held party.old).end.sent ≡ 1 }
-    ensures talked { (p : Peer) → (P.held party.old).end ≡ ends.initiator two_lanes p → first.now ≡ opening two_lanes p.items → Talked (initiating two_lanes p) (P.held party.new).end outbox.new (traffic (R.remaining reader.old.inner) (R.remaining reader.new.inner) (W.contents writer.old.inner) (W.contents writer.new.inner)) result }
+    ensures talked { (p : Peer) → (P.held party.old).end ≡ ends.initiator two_lanes p →
+        first.now ≡ opening two_lanes p.items →
+        Talked (initiating two_lanes p) (P.held party.new).end outbox.new
+        (traffic (R.remaining reader.old.inner) (R.remaining reader.new.inner) (W.contents writer.old.inner)
+        (W.contents writer.new.inner)) result }
     ensures few { outbox.new.sent ≤ most_sent P.most (P.held party.old) }
 {
     let mut inbox = Inbox::new(booking.alloc())?;
@@ -141,7 +158,10 @@ fn initiate<T: Wait, S: RangeStore, G: Gate, R: Read, W: Write>(
 ) -> Outcome
     requires fits { length pin.items ≤ host.now.accepted.now.table.cap }
     requires fine { writer.old.failed ≡ false }
-    ensures bytes { Spoke (initiating two_lanes (peer_of host.now.accepted.now pin.items)) (rank_by host.now.accepted.now.steps (length pin.items) + 2) (traffic (R.remaining reader.old.inner) (R.remaining reader.new.inner) (W.contents writer.old.inner) (W.contents writer.new.inner)) result }
+    ensures bytes { Spoke (initiating two_lanes (peer_of host.now.accepted.now pin.items))
+        (rank_by host.now.accepted.now.steps (length pin.items) + 2)
+        (traffic (R.remaining reader.old.inner) (R.remaining reader.new.inner) (W.contents writer.old.inner)
+        (W.contents writer.new.inner)) result }
     ensures version { HasVersion result pin.version }
 {
     let version = pin.version();
@@ -176,7 +196,10 @@ pub fn serve_one<T: Wait, S: RangeStore, G: Gate, R: Read, W: Write>(
     ensures seat { seat.new.table_id ≡ seat.old.table_id }
     // The seat is as before, or as one `pin` leaves it.
     ensures view { (seat.new.view ≡ seat.old.view) ⊎ Looked seat.old.view seat.new.view }
-    ensures bytes { Speaks (responding (peer_at shared.now.accepted.now seat.new.view)) (rank_by shared.now.accepted.now.steps (length (peer_at shared.now.accepted.now seat.new.view).items) + 1) shared.now.accepted.now.table.limit (traffic (R.remaining reader.old.inner) (R.remaining reader.new.inner) (W.contents writer.old.inner) (W.contents writer.new.inner)) result }
+    ensures bytes { Speaks (responding (peer_at shared.now.accepted.now seat.new.view))
+        (rank_by shared.now.accepted.now.steps (length (peer_at shared.now.accepted.now seat.new.view).items) + 1)
+        shared.now.accepted.now.table.limit (traffic (R.remaining reader.old.inner) (R.remaining reader.new.inner)
+        (W.contents writer.old.inner) (W.contents writer.new.inner)) result }
     ensures version { HasVersion result (length seat.new.view.base) }
 {
     sides_are_modest(shared.accepted);
@@ -206,7 +229,10 @@ pub fn dial_one<T: Wait, S: RangeStore, G: Gate, R: Read, W: Write>(
     requires fresh { (reader.old.failed ≡ false) × (reader.old.ended ≡ false) × (writer.old.failed ≡ false) }
     ensures seat { seat.new.table_id ≡ seat.old.table_id }
     ensures view { Looked seat.old.view seat.new.view }
-    ensures bytes { Speaks (initiating two_lanes (peer_at shared.now.accepted.now seat.new.view)) (rank_by shared.now.accepted.now.steps (length (peer_at shared.now.accepted.now seat.new.view).items) + 2) shared.now.accepted.now.table.limit (traffic (R.remaining reader.old.inner) (R.remaining reader.new.inner) (W.contents writer.old.inner) (W.contents writer.new.inner)) result }
+    ensures bytes { Speaks (initiating two_lanes (peer_at shared.now.accepted.now seat.new.view))
+        (rank_by shared.now.accepted.now.steps (length (peer_at shared.now.accepted.now seat.new.view).items) + 2)
+        shared.now.accepted.now.table.limit (traffic (R.remaining reader.old.inner) (R.remaining reader.new.inner)
+        (W.contents writer.old.inner) (W.contents writer.new.inner)) result }
     ensures version { HasVersion result (length seat.new.view.base) }
 {
     sides_are_modest(shared.accepted);

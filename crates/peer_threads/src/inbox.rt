@@ -49,9 +49,15 @@ impl Model for Inbox {
 
     ghost Value = { InboxState };
 
-    ghost view = { λ a. record { feed = a.feed; events = event_values a.events.items; parts = a.parts.items; reads = a.reads } };
+    ghost view = { λ a. record {
+      feed = a.feed;
+      events = event_values a.events.items;
+      parts = a.parts.items;
+      reads = a.reads;
+    } };
 
-    ghost invariant = { λ a. IfSome a.fault (λ f. a.feed.standing ≡ Faulted (fault_number f)) × (0 < vec_len a.piece) };
+    ghost invariant = { λ a. IfSome a.fault (λ f. a.feed.standing ≡ Faulted (fault_number f))
+        × (0 < vec_len a.piece) };
 }
 
 /// Room for so many bytes.
@@ -107,7 +113,8 @@ fn feed_piece(
     events: &mut VecDeque<Event>,
 ) -> Result<Option<WireFault>, Stop>
     ensures fits { IsBytes piece.now }
-    ensures grows { OnOk result (Grows feed.old feed.new piece.now (event_values events.old.items) (event_values events.new.items)) }
+    ensures grows { OnOk result (Grows feed.old feed.new piece.now (event_values events.old.items)
+        (event_values events.new.items)) }
     ensures fault { IfOk result (λ fault. option_map fault_number fault ≡ fault_at feed.new.standing) }
     ensures memory { IfErr result (λ stop. stop ≡ stops.Memory) }
     ensures waiting { OnErr result (events.new.items ≡ events.old.items) }
@@ -140,7 +147,11 @@ impl Inbox {
         alloc: Global,
         reader: &mut Watched<R>,
     ) -> Result<(), Stop>
-        ensures { (before : List ℕ) (Ms : List (messages.Message Lanes)) → IsBytes before → HasRead self.old before Ms → (bytes : List ℕ) × IsBytes bytes × Consumes (R.remaining reader.old.inner) (R.remaining reader.new.inner) bytes × Greeted (R.remaining reader.new.inner) self.new (before ++ bytes) Ms result }
+        ensures { (before : List ℕ) (Ms : List (messages.Message Lanes)) → IsBytes before →
+            HasRead self.old before Ms →
+            (bytes : List ℕ) × IsBytes bytes
+            × Consumes (R.remaining reader.old.inner) (R.remaining reader.new.inner) bytes
+            × Greeted (R.remaining reader.new.inner) self.new (before ++ bytes) Ms result }
     {
         'hello: while self.feed.hello_is_due() {
             self.read_more(alloc, reader)?;
@@ -156,7 +167,11 @@ impl Inbox {
         alloc: Global,
         reader: &mut Watched<R>,
     ) -> Result<Message, Stop>
-        ensures { (before : List ℕ) (Ms : List (messages.Message Lanes)) → IsBytes before → HasRead self.old before Ms → (bytes : List ℕ) × IsBytes bytes × Consumes (R.remaining reader.old.inner) (R.remaining reader.new.inner) bytes × Next (R.remaining reader.new.inner) self.new (before ++ bytes) Ms result }
+        ensures { (before : List ℕ) (Ms : List (messages.Message Lanes)) → IsBytes before →
+            HasRead self.old before Ms →
+            (bytes : List ℕ) × IsBytes bytes
+            × Consumes (R.remaining reader.old.inner) (R.remaining reader.new.inner) bytes
+            × Next (R.remaining reader.new.inner) self.new (before ++ bytes) Ms result }
     {
         'reads: loop {
             match self.next_held(alloc)? {
@@ -168,7 +183,8 @@ impl Inbox {
 
     /// The next message that the events which wait make whole, if they do.
     fn next_held(&mut self, alloc: Global) -> Result<Option<Message>, Stop>
-        ensures held { (bytes : List ℕ) (Ms : List (messages.Message Lanes)) → IsBytes bytes → HasRead self.old bytes Ms → Held self.new bytes Ms result }
+        ensures held { (bytes : List ℕ) (Ms : List (messages.Message Lanes)) → IsBytes bytes →
+            HasRead self.old bytes Ms → Held self.new bytes Ms result }
         ensures none { IfOk result (λ made. IfNone made (self.new.events ≡ [])) }
         ensures reads { self.new.reads ≡ self.old.reads }
     {
@@ -184,7 +200,8 @@ impl Inbox {
 
     /// Reads once, and feeds what came.
     fn read_more<R: Read>(&mut self, alloc: Global, reader: &mut Watched<R>) -> Result<(), Stop>
-        ensures read { Reads (R.remaining reader.old.inner) (R.remaining reader.new.inner) self.old (λ bytes Ms. Greeted (R.remaining reader.new.inner) self.new bytes Ms result) }
+        ensures read { Reads (R.remaining reader.old.inner) (R.remaining reader.new.inner) self.old
+            (λ bytes Ms. Greeted (R.remaining reader.new.inner) self.new bytes Ms result) }
         ensures waiting { OnErr result (self.new.events ≡ self.old.events) }
         ensures reads { OnOk result (2 ^ 32 - self.new.reads < 2 ^ 32 - self.old.reads) }
     {

@@ -13,8 +13,14 @@ use strategy_check::Accepted;
 
 /// A side that goes by an accepted strategy sends few messages and short lists, whatever the bytes are that it reads.
 pub(crate) fn sides_are_modest(accepted: &Accepted)
-    ensures initiator { (h : History) (bytes : List ℕ) → IsBytes bytes → length (content h) ≤ accepted.now.table.cap → IsModest (initiating two_lanes (peer_of accepted.now (content h))) bytes (rank_by accepted.now.steps (length (content h)) + 2) accepted.now.table.limit }
-    ensures responder { (h : History) (bytes : List ℕ) → IsBytes bytes → length (content h) ≤ accepted.now.table.cap → IsModest (responding (peer_of accepted.now (content h))) bytes (rank_by accepted.now.steps (length (content h)) + 1) accepted.now.table.limit }
+    ensures initiator { (h : History) (bytes : List ℕ) → IsBytes bytes →
+        length (content h) ≤ accepted.now.table.cap →
+        IsModest (initiating two_lanes (peer_of accepted.now (content h))) bytes
+        (rank_by accepted.now.steps (length (content h)) + 2) accepted.now.table.limit }
+    ensures responder { (h : History) (bytes : List ℕ) → IsBytes bytes →
+        length (content h) ≤ accepted.now.table.cap →
+        IsModest (responding (peer_of accepted.now (content h))) bytes
+        (rank_by accepted.now.steps (length (content h)) + 1) accepted.now.table.limit }
 {
     codec_laws::two_lanes_are_real();
     codec_laws::heard_are_messages::<Fingerprint>();

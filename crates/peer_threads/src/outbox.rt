@@ -45,10 +45,12 @@ impl Outbox {
     /// Writes the hello, if it was not written.
     pub(crate) fn greet<W: Write>(&mut self, writer: &mut Watched<W>) -> Result<(), WriterFailed>
         requires { writer.old.failed ≡ false }
-        ensures whole { OnOk result (Appends (W.contents writer.old.inner) (W.contents writer.new.inner) (hello_due self.old)) }
+        ensures whole { OnOk result (Appends (W.contents writer.old.inner) (W.contents writer.new.inner)
+            (hello_due self.old)) }
         ensures greeted { OnOk result (self.new ≡ outbox_state true self.old.sent) }
         ensures fine { OnOk result (writer.new.failed ≡ false) }
-        ensures front { OnErr result (Begins (W.contents writer.old.inner) (W.contents writer.new.inner) (hello_due self.old)) }
+        ensures front { OnErr result (Begins (W.contents writer.old.inner) (W.contents writer.new.inner)
+            (hello_due self.old)) }
         ensures same { OnErr result (self.new ≡ self.old) }
         ensures failed { OnErr result (IsTrue writer.new.failed) }
     {
@@ -98,8 +100,10 @@ impl Outbox {
         code: u8,
     ) -> Result<(), WriterFailed>
         requires { writer.old.failed ≡ false }
-        ensures whole { OnOk result (Appends (W.contents writer.old.inner) (W.contents writer.new.inner) (refusal_text self code)) }
-        ensures front { OnErr result (Begins (W.contents writer.old.inner) (W.contents writer.new.inner) (refusal_text self code)) }
+        ensures whole { OnOk result (Appends (W.contents writer.old.inner) (W.contents writer.new.inner)
+            (refusal_text self code)) }
+        ensures front { OnErr result (Begins (W.contents writer.old.inner) (W.contents writer.new.inner)
+            (refusal_text self code)) }
     {
         self.greet(writer)?;
         write_output(writer, &encode_fault(code))

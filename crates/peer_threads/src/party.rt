@@ -23,7 +23,8 @@ pub(crate) trait Party: Drop + Sized {
 
     /// What the end answers to a message, which may be any. Else 20 to 25, 12, 26 or 90.
     fn receive(&mut self, alloc: Global, message: &Message) -> Result<Turn, EndFault>
-        ensures answer { IfSome (answer_in result) (λ a. a ≡ ends.answer two_lanes (held self.old).end message.now) }
+        ensures answer { IfSome (answer_in result) (λ a. a ≡ ends.answer two_lanes (held self.old).end
+            message.now) }
         ensures behind { IfSome (answer_in result) (λ _. held self.new ≡ behind (held self.old) message.now) }
         ensures memory { IfNone (answer_in result) (held self.new ≡ held self.old) };
 

@@ -47,6 +47,7 @@ pub fn run_workers<
     requires count { (1 ≤ workers) × (workers ≤ 16) }
     ensures seat { seat.new.table_id ≡ seat.old.table_id }
     ensures view { Outlives seat.old.view seat.new.view }
+    ensures started { result.started ≤ workers }
 {
     let intake = Intake::new(source);
     let first = shared.lock.split_seat(seat);
@@ -106,11 +107,13 @@ fn run_half<T: Threads + Wait + Sync, S: RangeStore + Send, G: Gate + Sync, C: S
     let (mut first, second) = join(
         rt,
         move || -> Team<S>
-            requires { IsSync T.row × (seat.table_id ≡ shared.now.lock.now) × MayWork shared.now.accepted.now.table.cap seat.view × (1 ≤ half) }
+            requires { IsSync T.row × (seat.table_id ≡ shared.now.lock.now)
+                × MayWork shared.now.accepted.now.table.cap seat.view × (1 ≤ half) }
             ensures { (result.seat.table_id ≡ shared.entry.now.lock.now) × (result.started ≤ half) }
         { run_half(rt, alloc, shared, intake, seat, half) },
         move || -> Team<S>
-            requires { IsSync T.row × (other.table_id ≡ shared.now.lock.now) × MayWork shared.now.accepted.now.table.cap other.view × (half < workers) }
+            requires { IsSync T.row × (other.table_id ≡ shared.now.lock.now)
+                × MayWork shared.now.accepted.now.table.cap other.view × (half < workers) }
             ensures { (result.seat.table_id ≡ shared.entry.now.lock.now) × (result.started ≤ workers - half) }
         { run_half(rt, alloc, shared, intake, other, workers - half) },
     );

@@ -1,7 +1,5 @@
-use Rattle.std.proofs.Common.{◌+◌, length}
-use Rattle.definitions.specs.Ranks.{rank_by}
 use Rattle.definitions.specs.Engines.{responding}
-use Rattle.peer_threads.specs.Outcomes.{traffic, peer_of}
+use Rattle.peer_threads.specs.Outcomes.{peer_of}
 use Rattle.peer_threads.proofs.Serving.{responds, spoke-within}
 use Rattle.peer_threads.proofs.engines.respond.Goals as goal
 

@@ -1,4 +1,4 @@
-use Rattle.std.proofs.Common.{rules, arith}
+use Rattle.std.proofs.Common.{arith}
 use Rattle.definitions.specs.Engines.{responding}
 use Rattle.peer_threads.specs.Outcomes.{traffic, peer_at}
 use Rattle.peer_threads.proofs.Endings.{stops, speaks}

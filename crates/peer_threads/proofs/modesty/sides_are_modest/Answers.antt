@@ -1,5 +1,3 @@
-use Rattle.peer_threads.proofs.Exchanges.{finished}
-use Rattle.peer_threads.proofs.Endings.{speaks}
 use Rattle.definitions.specs.Fingerprints.{two_lanes}
 use Rattle.definitions.specs.Wire.{two_lane_profile}
 use Rattle.definitions.specs.Histories.{content, items_of}

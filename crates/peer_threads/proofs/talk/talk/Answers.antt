@@ -1,4 +1,4 @@
-use Rattle.std.proofs.Common.{rules, arith, ap, sym, ◌∙◌}
+use Rattle.std.proofs.Common.{rules, ap, ◌∙◌}
 use Rattle.definitions.specs.Fingerprints.{two_lanes}
 use Rattle.peer_threads.proofs.Endings.{next-stops, own-stops, goes-on}
 use Rattle.peer_threads.proofs.Exchanges.{finished}
