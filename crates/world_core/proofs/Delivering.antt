@@ -7,7 +7,7 @@ use Rattle.std.proofs.lemmas.Bool.{ne_eqb}
 use Rattle.definitions.proofs.Words.{AllByRecursion, World, Node, node_at, no_node, has_ended, IsExact, Lanes, Message, has_open, two_lanes, answer, after, Replies, Ends, Refuses, responder, reply}
 use Rattle.definitions.proofs.Lemmas.{cond-true, cond-false, eq-eqb, get_or_from_slice_get}
 use Rattle.definitions.specs.Ends.{Answer}
-use Rattle.definitions.specs.Worlds.{deliver_at, after_delivery}
+use Rattle.definitions.specs.Worlds.{Deliver, deliver_at, after_delivery}
 use Rattle.definitions.specs.Worlds as worlds
 use Rattle.laws.specs.Growing.{is_even}
 use Rattle.laws.specs.Sessions.{Kept, Keeps, GoesOnBy, Tells, SessionsGoOn, SessionsKeepNodes, SessionsTell, hearer_now, kept_behind}
@@ -15,7 +15,7 @@ use Rattle.ends_core.specs.Held.{Held}
 use Rattle.world_core.specs.declared.session.Session.{Session}
 use Rattle.world_core.specs.Nodes.{newest}
 use Rattle.world_core.specs.Live.{session_of, kept_of, made, IsKept, world_of, IsRunning, IsTaken, last_by, did_by, responder_from, hearer, heard_by}
-use Rattle.world_core.proofs.Running.{IsKept-stays, All-kept}
+use Rattle.world_core.proofs.Running.{came_on, IsKept-stays, All-kept}
 
 -- what the laws say of a session that is looked at
 pub record Laws : Type 0 where
@@ -30,7 +30,8 @@ pub record DeliveryLaws : Type 0 where
 
 -- ==== Lists
 
-All-found : {X : Type 0} (P : X → Type 0) (xs : List X) (k : ℕ) (x : X) → slice_get xs k ≡ Some x → AllByRecursion P xs → P x
+pub All-found : {X : Type 0} (P : X → Type 0) (xs : List X) (k : ℕ) (x : X) →
+    slice_get xs k ≡ Some x → AllByRecursion P xs → P x
 All-found P [] k x e h = absurd cc
 All-found P (y ∷ ys) zero x e h = let same : y ≡ x = cc in subst P same h.0
 All-found P (y ∷ ys) (suc k) x e h = All-found P ys k x e h.1
@@ -143,27 +144,6 @@ deliver_taken laws nodes lives k l node at more = (goes_at laws nodes lives k l 
 
 -- ==== The world behind it
 
-heard_runs : DeliveryLaws → (nodes : List Node) (lives : List Session) (k : ℕ) (l : Session) (node : Node) → IsAt nodes lives k l node → l.delivered < made l →
-    IsRunning nodes (set lives k (heard_by l node))
-heard_runs laws nodes lives k l node at more =
-    let w : World = world_of nodes lives in
-    let l' : Session = heard_by l node in
-    let v : World = world_of nodes (set lives k l') in
-    let both = goes_at laws nodes lives k l node at more in
-    let was = kept_at nodes lives k l at.runs at.here in
-    let stays : (m : Session) → IsKept w m → IsKept v m = λ m h. IsKept-stays w v m (λ s g. laws.keep w v s (kept_of m) refl g) (λ n. refl) h in
-    let new : IsKept w l' = record {
-      keeps = rw (both.1.session, both.1.kept) both.0.keeps;
-      first = both.1.first ∙ was.first ∙ ap (λ n. (node_at w n).steps) (sym both.1.initiator);
-      second = subst (λ r. IfSome l'.second (λ h. h.steps ≡ (node_at w r).steps)) (sym both.1.responder) (subst (λ n. IfSome l'.second (λ h. h.steps ≡ n.steps)) (sym at.it) (both.1.second (subst (λ n. IfSome l.second (λ h. h.steps ≡ n.steps)) at.it was.second)));
-    } in
-    record { ready = at.runs.ready; kept = All-set (IsKept v) lives k l' (stays l' new) (All-kept w v stays lives at.runs.kept) }
-
-pub deliver_runs : {D E : Type 0} (r : Result D E) → DeliveryLaws → (nodes : List Node) (lives : List Session) (k : ℕ) (l m : Session) (node : Node) → IsAt nodes lives k l node → l.delivered < made l →
-    OnOk r (m ≡ heard_by l node) → OnErr r (m ≡ l) → IsRunning nodes (set lives k m)
-deliver_runs (Ok d) laws nodes lives k l m node at more ok err = subst (λ z. IsRunning nodes (set lives k z)) (sym ok) (heard_runs laws nodes lives k l node at more)
-deliver_runs (Err d) laws nodes lives k l m node at more ok err = subst (IsRunning nodes) (sym (ap (set lives k) err ∙ set_found lives k l at.here)) at.runs
-
 abbrev delivered_to : World → ℕ → worlds.Session → World
 delivered_to w k s = record w { sessions = slice_set w.sessions k (after_delivery w s) }
 
@@ -189,6 +169,31 @@ both_made laws nodes lives k l node at more =
     deliver_some w k (session_of l) (found_at nodes lives k l at.here) going
     ∙ ap (λ d. (delivered_to w k (session_of l), d)) (sym both.0.did)
     ∙ ap (λ ss. (with_sessions nodes ss, did_by (answer two_lanes (hearer l node).end l.last))) (sym same)
+
+heard_runs : DeliveryLaws → (nodes : List Node) (lives : List Session) (k : ℕ) (l : Session) (node : Node) → IsAt nodes lives k l node → l.delivered < made l →
+    IsRunning nodes (set lives k (heard_by l node))
+heard_runs laws nodes lives k l node at more =
+    let w : World = world_of nodes lives in
+    let l' : Session = heard_by l node in
+    let v : World = world_of nodes (set lives k l') in
+    let both = goes_at laws nodes lives k l node at more in
+    let was = kept_at nodes lives k l at.runs at.here in
+    let stays : (m : Session) → IsKept w m → IsKept v m = λ m h. IsKept-stays w v m (λ s g. laws.keep w v s (kept_of m) refl g) (λ n. refl) h in
+    let new : IsKept w l' = record {
+      keeps = rw (both.1.session, both.1.kept) both.0.keeps;
+      first = both.1.first ∙ was.first ∙ ap (λ n. (node_at w n).steps) (sym both.1.initiator);
+      second = subst (λ r. IfSome l'.second (λ h. h.steps ≡ (node_at w r).steps)) (sym both.1.responder) (subst (λ n. IfSome l'.second (λ h. h.steps ≡ n.steps)) (sym at.it) (both.1.second (subst (λ n. IfSome l.second (λ h. h.steps ≡ n.steps)) at.it was.second)));
+    } in
+    record {
+      ready = at.runs.ready;
+      kept = All-set (IsKept v) lives k l' (stays l' new) (All-kept w v stays lives at.runs.kept);
+      came = came_on w v (Deliver k) (sym (ap (λ p. p.0) (both_made laws nodes lives k l node at more))) at.runs.came;
+    }
+
+pub deliver_runs : {D E : Type 0} (r : Result D E) → DeliveryLaws → (nodes : List Node) (lives : List Session) (k : ℕ) (l m : Session) (node : Node) → IsAt nodes lives k l node → l.delivered < made l →
+    OnOk r (m ≡ heard_by l node) → OnErr r (m ≡ l) → IsRunning nodes (set lives k m)
+deliver_runs (Ok d) laws nodes lives k l m node at more ok err = subst (λ z. IsRunning nodes (set lives k z)) (sym ok) (heard_runs laws nodes lives k l node at more)
+deliver_runs (Err d) laws nodes lives k l m node at more ok err = subst (IsRunning nodes) (sym (ap (set lives k) err ∙ set_found lives k l at.here)) at.runs
 
 pub deliver_world : {D E : Type 0} (r : Result D E) → DeliveryLaws → (w : World) (nodes : List Node) (lives : List Session) (k : ℕ) (l m : Session) (node : Node) → world_of nodes lives ≡ w →
     IsAt nodes lives k l node → l.delivered < made l → OnOk r (m ≡ heard_by l node) → OnOk r (world_of nodes (set lives k m) ≡ (deliver_at two_lanes w k (slice_get w.sessions k)).0)

@@ -4,14 +4,14 @@ use Rattle.std.specs.Prelude.{slice_get, slice_index_or, IfSome, ◌==◌, Resul
 use Rattle.std.proofs.lemmas.List.{set-get_or}
 use Rattle.std.proofs.lemmas.Option.{slice_get-get_or}
 use Rattle.std.proofs.lemmas.Bool.{ne_eqb}
-use Rattle.definitions.proofs.Words.{AllByRecursion, World, Node, History, node_at, no_node, with_history, insert_at, step, Item, IsNode, two_lanes, insertion, history_after}
-use Rattle.definitions.proofs.Lemmas.{cond-false, map-append, length-map, cases_eq, cases_lt, get_or-set_same, get_or-set_other, set_past, get_or_from_slice_get, All-map, All-append}
+use Rattle.definitions.proofs.Words.{AllByRecursion, World, Node, History, node_at, no_node, with_history, insert_at, step, start, Item, IsNode, two_lanes, insertion, history_after}
+use Rattle.definitions.proofs.Lemmas.{cond-false, map-append, length-map, cases_eq, cases_lt, get_or-set_same, get_or-set_other, set_past, get_or_from_slice_get, All-map, All-append, fold-append}
 use Rattle.definitions.specs.Worlds.{Insert, Open, Deliver, told, open_at}
 use Rattle.definitions.specs.Worlds as worlds
 use Rattle.laws.specs.Sessions.{Keeps, SessionsStay, SessionsOpen, SessionsKeepNodes}
 use Rattle.ends_core.specs.Held.{Held}
 use Rattle.world_core.specs.declared.session.Session.{Session}
-use Rattle.world_core.specs.Live.{session_of, kept_of, IsKept, world_of, IsRunning, beginning}
+use Rattle.world_core.specs.Live.{session_of, kept_of, IsKept, world_of, Came, IsRunning, beginning}
 
 -- ==== Nodes keep their staircases
 
@@ -23,6 +23,18 @@ insert_at-steps : (w : World) (n : ℕ) (x : Item) (found : Option Node) → sli
     (node_at (insert_at w n x found).0 m).steps ≡ (node_at w m).steps
 insert_at-steps w n x None e m = refl
 insert_at-steps w n x (Some node) e m = with_history-steps w n node _ m (get_or_from_slice_get w.nodes n node no_node e)
+
+-- ==== What some steps made
+
+-- one step more
+pub came_on : (w v : World) (e : worlds.Step) → v ≡ (step two_lanes w e).0 → Came w → Came v
+came_on w v e is c = record {
+  nodes = c.nodes;
+  steps = c.steps ++ e ∷ [];
+  ready = c.ready;
+  is = is ∙ ap (λ u. (step two_lanes u e).0) c.is
+      ∙ sym (fold-append (λ u s. (step two_lanes u s).0) (start c.nodes) c.steps (e ∷ []));
+}
 
 -- ==== What is kept stays
 
@@ -41,7 +53,16 @@ IsKept-stays w v l stays same h = record {
 pub All-kept : (w v : World) → ((l : Session) → IsKept w l → IsKept v l) → (lives : List Session) → AllByRecursion (IsKept w) lives → AllByRecursion (IsKept v) lives
 All-kept w v stays lives h = All-map (IsKept w) (IsKept v) stays lives h
 
+abbrev the_world : List Node → List worlds.Session → World
+the_world nodes ss = record { nodes = nodes; sessions = ss }
+
 -- ==== An item that is put in
+
+-- an insert changes the nodes alone
+insert_at-nodes : (w : World) (n : ℕ) (x : Item) (found : Option Node) →
+    the_world (insert_at w n x found).0.nodes w.sessions ≡ (insert_at w n x found).0
+insert_at-nodes w n x None = refl
+insert_at-nodes w n x (Some node) = refl
 
 pub insert_keeps : SessionsStay two_lanes → SessionsKeepNodes two_lanes → (nodes after : List Node) (lives : List Session) (n : ℕ) (x : Item) →
     after ≡ (insert_at (world_of nodes lives) n x (slice_get nodes n)).0.nodes → IsRunning nodes lives → IsRunning after lives
@@ -54,6 +75,8 @@ insert_keeps stay keep nodes after lives n x e h =
       kept = All-kept w v (λ l k. IsKept-stays w v l
           (λ s h. keep (step two_lanes w (Insert n x)).0 v s (kept_of l) e (behind.kept s (kept_of l) h))
           (λ m. ap (λ ns. (slice_index_or ns m no_node).steps) e ∙ insert_at-steps w n x (slice_get nodes n) refl m) k) lives h.kept;
+      came = came_on w v (Insert n x)
+          (ap (λ ns. the_world ns w.sessions) e ∙ insert_at-nodes w n x (slice_get nodes n)) h.came;
     }
 
 -- the node behind an insert
@@ -96,24 +119,6 @@ insert_same (Err d) w nodes lives n node m v e err = ap (λ ns. world_of ns live
 
 -- ==== A session that is opened
 
-pub open_runs : SessionsOpen two_lanes → SessionsKeepNodes two_lanes → (nodes : List Node) (lives : List Session) (i r : ℕ) (node : Node) →
-    slice_get nodes i ≡ Some node → i < length nodes → r < length nodes → IsRunning nodes lives → IsRunning nodes (lives ++ beginning i r node ∷ [])
-open_runs begin keep nodes lives i r node e here there h =
-    let w : World = world_of nodes lives in
-    let v : World = world_of nodes (lives ++ beginning i r node ∷ []) in
-    let it : node_at w i ≡ node = get_or_from_slice_get nodes i node no_node e in
-    let stays : (l : Session) → IsKept w l → IsKept v l = λ l k. IsKept-stays w v l (λ s h. keep w v s (kept_of l) refl h) (λ m. refl) k in
-    let new : Keeps two_lanes w (session_of (beginning i r node)) (kept_of (beginning i r node)) =
-    subst (λ m. Keeps two_lanes w (session_of (beginning i r m)) (kept_of (beginning i r m))) it (begin w i r here there) in
-    record {
-      ready = h.ready;
-      kept = All-append (IsKept v) lives (beginning i r node ∷ []) (All-kept w v stays lives h.kept)
-          (stays (beginning i r node) (record { keeps = new; first = ap (λ m. m.steps) (sym it); second = tt }), tt);
-    }
-
-abbrev the_world : List Node → List worlds.Session → World
-the_world nodes ss = record { nodes = nodes; sessions = ss }
-
 open_there : (w : World) (i r : ℕ) (a b : Node) → (i ≡ r → ⊥) →
     open_at w i r (Some a) (Some b) ≡ (record w { sessions = w.sessions ++ record { initiator = i; responder = r; initiator_version = length a.history; responder_version = None; delivered = 0 } ∷ [] }, worlds.Opened (length w.sessions))
 open_there w i r a b apart = cond-false (i == r) _ _ (ne_eqb i r apart)
@@ -133,3 +138,20 @@ open_world w nodes lives i r node v e apart there =
     ∙ ap (λ ss. (the_world nodes ss, worlds.Opened (length (map session_of lives)))) joined
     ∙ ap (λ n. (world_of nodes (lives ++ beginning i r node ∷ []), worlds.Opened n)) (length-map lives session_of) in
     subst (λ t. open_at t i r (slice_get t.nodes i) (slice_get t.nodes r) ≡ (world_of nodes (lives ++ beginning i r node ∷ []), worlds.Opened (length lives))) v opened
+
+pub open_runs : SessionsOpen two_lanes → SessionsKeepNodes two_lanes → (nodes : List Node) (lives : List Session) (i r : ℕ) (node : Node) →
+    slice_get nodes i ≡ Some node → (i ≡ r → ⊥) → i < length nodes → r < length nodes →
+    IsRunning nodes lives → IsRunning nodes (lives ++ beginning i r node ∷ [])
+open_runs begin keep nodes lives i r node e apart here there h =
+    let w : World = world_of nodes lives in
+    let v : World = world_of nodes (lives ++ beginning i r node ∷ []) in
+    let it : node_at w i ≡ node = get_or_from_slice_get nodes i node no_node e in
+    let stays : (l : Session) → IsKept w l → IsKept v l = λ l k. IsKept-stays w v l (λ s h. keep w v s (kept_of l) refl h) (λ m. refl) k in
+    let new : Keeps two_lanes w (session_of (beginning i r node)) (kept_of (beginning i r node)) =
+    subst (λ m. Keeps two_lanes w (session_of (beginning i r m)) (kept_of (beginning i r m))) it (begin w i r here there) in
+    record {
+      ready = h.ready;
+      kept = All-append (IsKept v) lives (beginning i r node ∷ []) (All-kept w v stays lives h.kept)
+          (stays (beginning i r node) (record { keeps = new; first = ap (λ m. m.steps) (sym it); second = tt }), tt);
+      came = came_on w v (Open i r) (sym (ap (λ p. p.0) (open_world w nodes lives i r node refl e apart there))) h.came;
+    }

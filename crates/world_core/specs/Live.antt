@@ -1,6 +1,7 @@
 -- What a world keeps of its sessions beside what the definitions say: their ends, and the message made last.
 --     session_of l, kept_of l, made l
 --     IsKept w l, IsRunning nodes lives        what holds of each world
+--     Came w                                   a world is what some steps make of nodes
 --     beginning i r node, heard_by l node      a session that is opened; one whose message made last is heard
 use Rattle.std.specs.Prelude.{◌≡◌, ℕ, ◌+◌, List, length, map, Option, Some, None, IfSome, option_map, unwrap_or, if◌then◌else◌, ⊤}
 use Rattle.std.specs.List.{AllByRecursion}
@@ -9,7 +10,7 @@ use Rattle.definitions.specs.Messages.{Message, opening}
 use Rattle.definitions.specs.Ends.{Answer, Replies, Ends, Refuses, answer, initiator, responder}
 use Rattle.definitions.specs.Theorems.{IsNode}
 use Rattle.definitions.specs.Worlds as worlds
-use Rattle.definitions.specs.Worlds.{World, Node, node_at}
+use Rattle.definitions.specs.Worlds.{World, Node, Step, node_at, run, start}
 use Rattle.laws.specs.Growing.{is_even}
 use Rattle.laws.specs.Sessions.{Kept, Keeps}
 use Rattle.ends_core.specs.Held.{Held}
@@ -38,9 +39,17 @@ pub record IsKept (w : World) (l : Session) : Type 0 where
 abbrev pub world_of : List Node → List Session → World
 world_of nodes lives = record { nodes = nodes; sessions = map session_of lives }
 
+-- some steps made the world of nodes that may stand in a setup
+pub record Came (w : World) : Type 0 where
+  pub nodes : List Node
+  pub steps : List Step
+  pub ready : AllByRecursion IsNode nodes
+  pub is : w ≡ run two_lanes (start nodes) steps
+
 pub record IsRunning (nodes : List Node) (lives : List Session) : Type 0 where
   pub ready : AllByRecursion IsNode nodes
   pub kept : AllByRecursion (IsKept (world_of nodes lives)) lives
+  pub came : Came (world_of nodes lives)
 
 -- ---- a session's steps
 

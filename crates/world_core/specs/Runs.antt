@@ -1,5 +1,6 @@
 -- What holds of each session of a run.
 --     HasFewMessages w s, IsWithinBound w s, KeepsLimits w s, LearnsBoth w s, LearnsNothingWrong w s
+--     Holds w s                    these five
 --     ComesFrom nodes steps w      where the items of the histories come from
 --     AbsorbsAll w e v             an ended session that was absorbed below the cap
 use Rattle.std.specs.Prelude.{◌≡◌, ℕ, ◌<◌, ◌≤◌, ◌||◌, ◌⊎◌, List, length, slice_get, Some, IsTrue, ⊤}
@@ -37,6 +38,14 @@ LearnsBoth w s = IsTrue (has_ended two_lanes w s) → IsClear two_lanes (initiat
 abbrev pub LearnsNothingWrong : World → Session → Type 0
 LearnsNothingWrong w s = KnowsNothingWrong (initiator_knowledge two_lanes w s) (initiator_of w s).items (responder_of w s).items
     × KnowsNothingWrong (responder_knowledge two_lanes w s) (responder_of w s).items (initiator_of w s).items
+
+-- all of these
+pub record Holds (w : World) (s : Session) : Type 0 where
+  pub few : HasFewMessages w s
+  pub bound : IsWithinBound w s
+  pub short : KeepsLimits w s
+  pub both : LearnsBoth w s
+  pub sound : LearnsNothingWrong w s
 
 -- each item of a history was there at the start, or was inserted
 abbrev pub ComesFrom : List Node → List worlds.Step → World → Type 0

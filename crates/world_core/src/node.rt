@@ -57,7 +57,11 @@ impl<'a> Node<'a> {
 
     /// Puts an item in.
     pub(crate) fn insert(&mut self, alloc: Global, item: Item) -> Result<Did, AllocError>
-        ensures node { OnOk result (self.new ≡ record self.old { history = history_after self.old.history 0 item (insertion self.old.table.cap self.old.history item) }) }
+        ensures node { OnOk result
+            (self.new ≡ record self.old {
+              history = history_after self.old.history 0 item
+                  (insertion self.old.table.cap self.old.history item);
+            }) }
         ensures did { IfOk result (λ did. did_of did ≡ told (insertion self.old.table.cap self.old.history item)) }
         ensures refused { OnErr result (self.new ≡ self.old) }
     {
@@ -75,7 +79,8 @@ impl<'a> Node<'a> {
         &self,
         alloc: Global,
     ) -> Result<(Initiator<'a, FlatStore>, Message), AllocError>
-        ensures end { IfOk result (λ r. r.0 ≡ record { steps = self.now.steps; end = ends.initiator two_lanes (newest self.now) }) }
+        ensures end { IfOk result
+            (λ r. r.0 ≡ record { steps = self.now.steps; end = ends.initiator two_lanes (newest self.now) }) }
         ensures message { IfOk result (λ r. r.1 ≡ opening two_lanes (newest self.now).items) }
     {
         let _ = self.log.cap();

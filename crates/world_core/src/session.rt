@@ -81,7 +81,8 @@ fn hear_at<'a>(
     message: &Message,
 ) -> Result<Turn, AllocError>
     requires { IsTaken (answer two_lanes (responder_from node.now second.old).end message.now) }
-    ensures turn { IfOk result (λ turn. answer_of turn ≡ answer two_lanes (responder_from node.now second.old).end message.now) }
+    ensures turn { IfOk result (λ turn. answer_of turn ≡ answer two_lanes (responder_from node.now second.old).end
+        message.now) }
     ensures end { OnOk result (second.new ≡ Some (behind (responder_from node.now second.old) message.now)) }
     ensures memory { OnErr result (second.new ≡ second.old) }
 {
@@ -205,8 +206,12 @@ impl<'a> Session<'a> {
     fn deliver_to_responder(&mut self, alloc: Global, node: &Node<'a>) -> Result<Did, AllocError>
         requires few { self.old.delivered < 2 ^ 33 }
         requires taken { IsTaken (answer two_lanes (responder_from node.now self.old.second).end self.old.last) }
-        ensures session { OnOk result (self.new ≡ advanced (heard_by_responder self.old node.now) (length node.now.history) (answer two_lanes (responder_from node.now self.old.second).end self.old.last)) }
-        ensures did { IfOk result (λ did. did_of did ≡ did_by (answer two_lanes (responder_from node.now self.old.second).end self.old.last)) }
+        ensures session { OnOk result (self.new ≡ advanced (heard_by_responder self.old node.now)
+            (length node.now.history) (answer two_lanes (responder_from node.now self.old.second).end
+            self.old.last)) }
+        ensures did { IfOk result
+            (λ did. did_of did ≡ did_by (answer two_lanes (responder_from node.now self.old.second).end
+            self.old.last)) }
         ensures memory { OnErr result (self.new ≡ self.old) }
     {
         let turn = hear_at(alloc, &mut self.second, node, &self.last)?;
@@ -217,7 +222,8 @@ impl<'a> Session<'a> {
     fn deliver_to_initiator(&mut self, alloc: Global, newest: usize) -> Result<Did, AllocError>
         requires few { self.old.delivered < 2 ^ 33 }
         requires taken { IsTaken (answer two_lanes self.old.first.end self.old.last) }
-        ensures session { OnOk result (self.new ≡ advanced (heard_by_initiator self.old) newest (answer two_lanes self.old.first.end self.old.last)) }
+        ensures session { OnOk result (self.new ≡ advanced (heard_by_initiator self.old) newest
+            (answer two_lanes self.old.first.end self.old.last)) }
         ensures did { IfOk result (λ did. did_of did ≡ did_by (answer two_lanes self.old.first.end self.old.last)) }
         ensures memory { OnErr result (self.new ≡ self.old) }
     {
@@ -230,7 +236,8 @@ impl<'a> Session<'a> {
         requires few { self.old.delivered < 2 ^ 33 }
         requires taken { IsTaken (answer two_lanes (hearer self.old node.now).end self.old.last) }
         ensures session { OnOk result (self.new ≡ heard_by self.old node.now) }
-        ensures did { IfOk result (λ did. did_of did ≡ did_by (answer two_lanes (hearer self.old node.now).end self.old.last)) }
+        ensures did { IfOk result
+            (λ did. did_of did ≡ did_by (answer two_lanes (hearer self.old node.now).end self.old.last)) }
         ensures memory { OnErr result (self.new ≡ self.old) }
     {
         if is_even(self.delivered) {

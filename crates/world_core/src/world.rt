@@ -8,7 +8,7 @@ ghost use Rattle.definitions.specs.Worlds as worlds;
 ghost use Rattle.world_core.specs.Live.{IsRunning, world_of};
 ghost use Rattle.definitions.specs.Sets.{set_of};
 ghost use Rattle.world_core.specs.Reports.{report_of};
-ghost use Rattle.world_core.specs.Runs.{HasFewMessages, IsWithinBound, KeepsLimits, LearnsBoth, LearnsNothingWrong, ComesFrom, AbsorbsAll};
+ghost use Rattle.world_core.specs.Runs.{HasFewMessages, IsWithinBound, KeepsLimits, LearnsBoth, LearnsNothingWrong, Holds, ComesFrom, AbsorbsAll};
 ghost use Rattle.world_core.specs.Steps.{did_of, side_of, step_of, added_in, absorbed_at, absorbing, AbsorbsSome, IsCutShort};
 
 use crate::node::Node;
@@ -63,16 +63,26 @@ impl<'a> World<'a> {
     }
 
     /// The number of sessions.
+    ///
+    /// What `run` says of each session holds of each of them: see `report`.
     pub fn sessions(&self) -> usize
-        ensures { result ≡ length self.now.sessions }
+        ensures count { result ≡ length self.now.sessions }
+        ensures hold { AllByRecursion (Holds self.now) self.now.sessions }
     {
+        laws::lanes_are_exact();
+        laws::headline::<Fingerprint>();
+        laws::knowledge_is_sound::<Fingerprint>();
+        laws::talks_begin::<Fingerprint>();
+        store_core::laws::set_of_a_list();
         self.sessions.len()
     }
 
     /// Puts an item into the history of a node.
     fn insert(&mut self, alloc: Global, node: usize, item: Item) -> Result<Did, AllocError>
-        ensures world { OnOk result (self.new ≡ (worlds.insert_at self.old node item (slice_get self.old.nodes node)).0) }
-        ensures did { IfOk result (λ did. did_of did ≡ (worlds.insert_at self.old node item (slice_get self.old.nodes node)).1) }
+        ensures world { OnOk result
+            (self.new ≡ (worlds.insert_at self.old node item (slice_get self.old.nodes node)).0) }
+        ensures did { IfOk result
+            (λ did. did_of did ≡ (worlds.insert_at self.old node item (slice_get self.old.nodes node)).1) }
         ensures memory { OnErr result (self.new ≡ self.old) }
     {
         laws::sessions_stay::<Fingerprint>();
@@ -85,8 +95,12 @@ impl<'a> World<'a> {
 
     /// Opens a session of two nodes.
     fn open(&mut self, alloc: Global, initiator: usize, responder: usize) -> Result<Did, AllocError>
-        ensures world { OnOk result (self.new ≡ (worlds.open_at self.old initiator responder (slice_get self.old.nodes initiator) (slice_get self.old.nodes responder)).0) }
-        ensures did { IfOk result (λ did. did_of did ≡ (worlds.open_at self.old initiator responder (slice_get self.old.nodes initiator) (slice_get self.old.nodes responder)).1) }
+        ensures world { OnOk result
+            (self.new ≡ (worlds.open_at self.old initiator responder (slice_get self.old.nodes initiator)
+            (slice_get self.old.nodes responder)).0) }
+        ensures did { IfOk result
+            (λ did. did_of did ≡ (worlds.open_at self.old initiator responder (slice_get self.old.nodes initiator)
+            (slice_get self.old.nodes responder)).1) }
         ensures memory { OnErr result (self.new ≡ self.old) }
     {
         laws::sessions_open::<Fingerprint>();
@@ -108,8 +122,11 @@ impl<'a> World<'a> {
 
     /// Delivers the message of a session that was made last.
     fn deliver(&mut self, alloc: Global, number: usize) -> Result<Did, AllocError>
-        ensures world { OnOk result (self.new ≡ (worlds.deliver_at two_lanes self.old number (slice_get self.old.sessions number)).0) }
-        ensures did { IfOk result (λ did. did_of did ≡ (worlds.deliver_at two_lanes self.old number (slice_get self.old.sessions number)).1) }
+        ensures world { OnOk result
+            (self.new ≡ (worlds.deliver_at two_lanes self.old number (slice_get self.old.sessions number)).0) }
+        ensures did { IfOk result
+            (λ did. did_of did ≡ (worlds.deliver_at two_lanes self.old number
+            (slice_get self.old.sessions number)).1) }
         ensures memory { OnErr result (self.new ≡ self.old) }
     {
         laws::lanes_are_exact();
@@ -134,8 +151,11 @@ impl<'a> World<'a> {
     ) -> Result<Did, AllocError>
         requires { node < length self.old.nodes }
         ensures world { OnOk result (self.new ≡ absorbing self.old node (worlds.node_at self.old node) items.now) }
-        ensures added { IfOk result (λ did. did_of did ≡ worlds.Absorbed (absorbed_at self.old node items.now).added) }
-        ensures memory { OnErr result ((count : ℕ) × (self.new ≡ absorbing self.old node (worlds.node_at self.old node) (take count items.now))) }
+        ensures added { IfOk result (λ did. did_of did ≡ worlds.Absorbed
+            (absorbed_at self.old node items.now).added) }
+        ensures memory { OnErr result
+            ((count : ℕ)
+            × (self.new ≡ absorbing self.old node (worlds.node_at self.old node) (take count items.now))) }
     {
         let mut added = 0;
         for item in items {
@@ -150,8 +170,12 @@ impl<'a> World<'a> {
 
     /// Puts what a side of an ended session learned into the history of its node.
     fn absorb(&mut self, alloc: Global, number: usize, side: Side) -> Result<Did, AllocError>
-        ensures world { OnOk result (self.new ≡ (worlds.absorb_at two_lanes self.old (side_of side) (slice_get self.old.sessions number)).0) }
-        ensures did { IfOk result (λ did. did_of did ≡ (worlds.absorb_at two_lanes self.old (side_of side) (slice_get self.old.sessions number)).1) }
+        ensures world { OnOk result
+            (self.new ≡ (worlds.absorb_at two_lanes self.old (side_of side)
+            (slice_get self.old.sessions number)).0) }
+        ensures did { IfOk result
+            (λ did. did_of did ≡ (worlds.absorb_at two_lanes self.old (side_of side)
+            (slice_get self.old.sessions number)).1) }
         ensures memory { OnErr result (AbsorbsSome self.old number (side_of side) self.new) }
     {
         laws::lanes_are_exact();
@@ -195,9 +219,15 @@ impl<'a> World<'a> {
     }
 
     /// What is shown of a session, if there is one with this number.
+    ///
+    /// The session has few messages, by the ranks of both tables and by the bound that is shown; no list in it is
+    /// longer than its sender's limit; nothing wrong is learned, and once it has ended, where no unequal compared
+    /// ranges share a fingerprint, both differences.
     pub fn report(&self, session: usize) -> Option<Report<'_>>
-        ensures { option_map report_of result ≡ worlds.report two_lanes self.now session }
+        ensures report { option_map report_of result ≡ worlds.report two_lanes self.now session }
+        ensures holds { (s : worlds.Session) → slice_get self.now.sessions session ≡ Some s → Holds self.now s }
     {
+        let _count = self.sessions(); // which tells what holds of each
         laws::lanes_are_exact();
         laws::sessions_tell::<Fingerprint>();
         let session = self.sessions.get(session)?;
@@ -250,12 +280,8 @@ pub fn run<'a>(alloc: Global, setup: &'a Setup, steps: &[Step]) -> Result<World<
     ensures sound { IfOk result (λ w. AllByRecursion (LearnsNothingWrong w) w.sessions) }
     ensures items { IfOk result (λ w. ComesFrom setup.now (map step_of steps.now) w) }
 {
-    laws::lanes_are_exact();
-    laws::headline::<Fingerprint>();
-    laws::knowledge_is_sound::<Fingerprint>();
-    laws::talks_begin::<Fingerprint>();
     laws::history_claim::<Fingerprint>();
-    store_core::laws::set_of_a_list();
-    let _nodes = setup.nodes(); // which tells that each is one
-    run_steps(alloc, setup, steps)
+    let world = run_steps(alloc, setup, steps)?;
+    let _count = world.sessions(); // which tells what holds of each
+    Ok(world)
 }

@@ -1,26 +1,37 @@
-use Rattle.std.specs.List.{AllByRecursion}
-use Rattle.std.proofs.Common.{map}
+use Rattle.std.proofs.Common.{map, sym, subst}
+use Rattle.definitions.proofs.Lemmas.{All-map}
 use Rattle.definitions.specs.Fingerprints.{two_lanes}
-use Rattle.definitions.specs.Worlds.{run, start}
 use Rattle.world_core.specs.Steps.{step_of}
-use Rattle.world_core.specs.Runs.{HasFewMessages, IsWithinBound, KeepsLimits, LearnsBoth, LearnsNothingWrong, ComesFrom}
-use Rattle.world_core.proofs.Runs.{of_run, few_messages, within_bound, keeps_limits, learns_both, none_wrong}
+use Rattle.world_core.specs.Runs.{Holds, HasFewMessages, IsWithinBound, KeepsLimits, LearnsBoth, LearnsNothingWrong, ComesFrom}
 use Rattle.world_core.proofs.world.run.Goals as goal
 
 pub returns-clause-few : goal.returns-clause-few
-returns-clause-few c = of_run (λ w. AllByRecursion (HasFewMessages w) w.sessions) c.run_steps.result (run two_lanes (start c.args.setup.now) (map step_of c.args.steps.now)) c.run_steps.ensures (few_messages (c.headline.ensures two_lanes) c.args.setup.now (map step_of c.args.steps.now) c.nodes-nodes.ensures.are)
+returns-clause-few c =
+    let w = c.in_ok-world.world in
+    All-map (Holds w) (HasFewMessages w) (λ s h. h.few) w.sessions c.sessions-count.ensures.hold
 
 pub returns-clause-bound : goal.returns-clause-bound
-returns-clause-bound c = of_run (λ w. AllByRecursion (IsWithinBound w) w.sessions) c.run_steps.result (run two_lanes (start c.args.setup.now) (map step_of c.args.steps.now)) c.run_steps.ensures (within_bound (c.headline.ensures two_lanes) c.args.setup.now (map step_of c.args.steps.now) c.nodes-nodes.ensures.are)
+returns-clause-bound c =
+    let w = c.in_ok-world.world in
+    All-map (Holds w) (IsWithinBound w) (λ s h. h.bound) w.sessions c.sessions-count.ensures.hold
 
 pub returns-clause-short : goal.returns-clause-short
-returns-clause-short c = of_run (λ w. AllByRecursion (KeepsLimits w) w.sessions) c.run_steps.result (run two_lanes (start c.args.setup.now) (map step_of c.args.steps.now)) c.run_steps.ensures (keeps_limits (c.headline.ensures two_lanes) c.args.setup.now (map step_of c.args.steps.now) c.nodes-nodes.ensures.are)
+returns-clause-short c =
+    let w = c.in_ok-world.world in
+    All-map (Holds w) (KeepsLimits w) (λ s h. h.short) w.sessions c.sessions-count.ensures.hold
 
 pub returns-clause-both : goal.returns-clause-both
-returns-clause-both c = of_run (λ w. AllByRecursion (LearnsBoth w) w.sessions) c.run_steps.result (run two_lanes (start c.args.setup.now) (map step_of c.args.steps.now)) c.run_steps.ensures (learns_both c.lanes_are_exact.ensures (c.headline.ensures two_lanes) c.args.setup.now (map step_of c.args.steps.now) c.nodes-nodes.ensures.are)
+returns-clause-both c =
+    let w = c.in_ok-world.world in
+    All-map (Holds w) (LearnsBoth w) (λ s h. h.both) w.sessions c.sessions-count.ensures.hold
 
 pub returns-clause-sound : goal.returns-clause-sound
-returns-clause-sound c = of_run (λ w. AllByRecursion (LearnsNothingWrong w) w.sessions) c.run_steps.result (run two_lanes (start c.args.setup.now) (map step_of c.args.steps.now)) c.run_steps.ensures (none_wrong (c.knowledge_is_sound.ensures two_lanes) (c.talks_begin.ensures two_lanes) c.set_of_a_list.ensures.set (run two_lanes (start c.args.setup.now) (map step_of c.args.steps.now)))
+returns-clause-sound c =
+    let w = c.in_ok-world.world in
+    All-map (Holds w) (LearnsNothingWrong w) (λ s h. h.sound) w.sessions c.sessions-count.ensures.hold
 
 pub returns-clause-items : goal.returns-clause-items
-returns-clause-items c = of_run (ComesFrom c.args.setup.now (map step_of c.args.steps.now)) c.run_steps.result (run two_lanes (start c.args.setup.now) (map step_of c.args.steps.now)) c.run_steps.ensures (c.history_claim.ensures two_lanes c.args.setup.now (map step_of c.args.steps.now))
+returns-clause-items c =
+    let steps = map step_of c.args.steps.now in
+    subst (ComesFrom c.args.setup.now steps) (sym c.in_ok-world.ensures)
+    (c.history_claim.ensures two_lanes c.args.setup.now steps)

@@ -29,7 +29,8 @@ after c = pushed c ∙ ap (λ l. c.self.inside.sessions.items ++ l ∷ []) (star
 pub invariant_of-self-2 : goal.invariant_of-self-2
 invariant_of-self-2 c =
     subst (IsRunning c.self.inside.nodes.items) (sym (after c)) (open_runs (c.sessions_open.ensures two_lanes) (c.sessions_keep_nodes.ensures two_lanes)
-    c.self.inside.nodes.items c.self.inside.sessions.items c.args.initiator c.args.responder c.index.result.now (there c) (slice_get_within _ _ _ (there c)) (room c) c.self.invariant)
+    c.self.inside.nodes.items c.self.inside.sessions.items c.args.initiator c.args.responder c.index.result.now (there c)
+    c.if-initiator-responder.false (slice_get_within _ _ _ (there c)) (room c) c.self.invariant)
 
 opened : (c : goal.In_ok-push) → open_at c.args.self.now c.args.initiator c.args.responder (slice_get c.args.self.now.nodes c.args.initiator) (slice_get c.args.self.now.nodes c.args.responder)
     ≡ (world_of c.self.inside.nodes.items (c.self.inside.sessions.items ++ beginning c.args.initiator c.args.responder c.index.result.now ∷ []), worlds.Opened (length c.self.inside.sessions.items))

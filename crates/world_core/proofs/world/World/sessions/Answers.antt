@@ -1,0 +1,14 @@
+use Rattle.definitions.specs.Fingerprints.{two_lanes}
+use Rattle.world_core.proofs.Runs.{RunLaws, all_hold}
+use Rattle.world_core.proofs.world.World.sessions.Goals as goal
+
+pub returns-clause-hold : goal.returns-clause-hold
+returns-clause-hold c =
+    let laws : RunLaws = record {
+      exact = c.lanes_are_exact.ensures;
+      headline = c.headline.ensures two_lanes;
+      knowledge = c.knowledge_is_sound.ensures two_lanes;
+      begin = c.talks_begin.ensures two_lanes;
+      sets = c.set_of_a_list.ensures.set;
+    } in
+    all_hold laws c.args.self.now c.self.inside.nodes.items c.self.inside.sessions.items c.self.view_is c.self.invariant
