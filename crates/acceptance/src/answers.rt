@@ -1,5 +1,8 @@
 //! `answer` over readers and writers that do little at a time, and that fail.
 
+ghost use Rattle.std.specs.Prelude.{◌≤◌, length};
+ghost use Rattle.store_core.specs.Flat.{flat_items};
+
 use ends_core::{AnswerFault, answer};
 use item_core::Item;
 use std::alloc::Global;
@@ -81,15 +84,15 @@ fn letters(rt: &impl Abort, alloc: Global) -> Result<FlatStore, Fail> {
     Ok(FlatStore::from_items(alloc, vec![in alloc; b, a]?)?)
 }
 
-/// The answer to the message, and what was written.
-fn answered(
-    rt: &impl Abort,
+/// The answer to the message by these items, and what was written.
+fn answered_by(
     alloc: Global,
+    store: &FlatStore,
     read_fails_at: usize,
     write_fails_at: usize,
-) -> Result<(Result<(), AnswerFault>, Vec<u8>), Fail> {
-    let store = letters(rt, alloc)?;
-    assert!(rt; store.len() <= 65_536);
+) -> (Result<(), AnswerFault>, Vec<u8>)
+    requires { length (flat_items store.now) ≤ 65536 }
+{
     let mut reader = Watched::new(Drip {
         bytes: &MESSAGE,
         calls: 0,
@@ -100,8 +103,20 @@ fn answered(
         calls: 0,
         fail_at: write_fails_at,
     });
-    let result = answer(alloc, &store, &mut reader, &mut writer);
-    Ok((result, writer.into_inner().held))
+    let result = answer(alloc, store, &mut reader, &mut writer);
+    (result, writer.into_inner().held)
+}
+
+/// The answer to the message by the items a and b, and what was written.
+fn answered(
+    rt: &impl Abort,
+    alloc: Global,
+    read_fails_at: usize,
+    write_fails_at: usize,
+) -> Result<(Result<(), AnswerFault>, Vec<u8>), Fail> {
+    let store = letters(rt, alloc)?;
+    assert!(rt; store.len() <= 65_536);
+    Ok(answered_by(alloc, &store, read_fails_at, write_fails_at))
 }
 
 #[test]

@@ -89,6 +89,36 @@ fn called<T: Wait>(
     }
 }
 
+/// The outcome of the case, shown, over a log of its own.
+fn shown_call<T: Wait + Abort>(
+    rt: &T,
+    alloc: Global,
+    case: &Case<'_>,
+    accepted: &Accepted,
+    sessions: &Mutex<SessionTable>,
+    gate: &Witness,
+    held: &Mutex<Vec<u8>>,
+) -> Result<String, Fail> {
+    let (lock, mut seat) = opened(rt, alloc, accepted, case.items, 1);
+    let shared = Shared {
+        lock: &lock,
+        accepted,
+        sessions,
+        gate,
+    };
+    let input = PieceReader {
+        bytes: joined(alloc, case.input)?,
+        taken: 0,
+        piece: case.piece,
+    };
+    let output = PieceWriter {
+        held,
+        piece: case.piece,
+    };
+    let outcome = called(rt, alloc, case.engine, &shared, &mut seat, input, output);
+    Ok(shown_outcome(alloc, &outcome)?)
+}
+
 /// What came of the case at this table of sessions, by this gate.
 fn outcome_at<T: Wait + Abort>(
     rt: &T,
@@ -98,27 +128,11 @@ fn outcome_at<T: Wait + Abort>(
     gate: &Witness,
 ) -> Result<Told, Fail> {
     let accepted = accepted(rt, alloc, BINARY_EIGHT);
-    let (lock, mut seat) = opened(rt, alloc, &accepted, case.items, 1);
     let sessions = Mutex::new(table);
     let held = Mutex::new(Vec::new(alloc));
-    let shared = Shared {
-        lock: &lock,
-        accepted: &accepted,
-        sessions: &sessions,
-        gate,
-    };
-    let input = PieceReader {
-        bytes: joined(alloc, case.input)?,
-        taken: 0,
-        piece: case.piece,
-    };
-    let output = PieceWriter {
-        held: &held,
-        piece: case.piece,
-    };
-    let outcome = called(rt, alloc, case.engine, &shared, &mut seat, input, output);
+    let outcome = shown_call(rt, alloc, case, &accepted, &sessions, gate, &held)?;
     Ok(Told {
-        outcome: shown_outcome(alloc, &outcome)?,
+        outcome,
         written: held.into_inner(),
         totals: sessions.into_inner().totals(),
         ended: gate.told.load(Ordering::SeqCst),

@@ -10,7 +10,6 @@ use std::alloc::Global;
 use std::process::Abort;
 use std::test::Fail;
 use store_core::FlatStore;
-use strategy_check::Accepted;
 use wire_core::{Marks, Message, Part};
 
 /// A Sum of 0 in lane 0 and 1 in lane 1, which is the fingerprint of none of these sets.
@@ -28,20 +27,17 @@ fn both(rt: &impl Abort, alloc: Global, first: Part, second: Part) -> Result<Mes
     Ok(message(rt, vec![in alloc; first, second]?))
 }
 
-/// A responder with these items that has replied to a Sum over everything, and that reply.
-fn waiting<'a>(
+/// The reply of a responder to a Sum over everything.
+fn first_reply(
     rt: &impl Abort,
     alloc: Global,
-    accepted: &'a Accepted,
-    letters: &[u8],
-) -> Result<(Responder<'a, FlatStore>, String), Fail> {
-    let mut end = responder(rt, alloc, accepted, items(rt, alloc, letters)?)?;
+    end: &mut Responder<'_, FlatStore>,
+) -> Result<String, Fail> {
     let opening = alone(rt, alloc, sum(Range::whole()))?;
     let Ok(Turn::Reply(reply)) = end.receive(alloc, &opening) else {
         panic!(rt; "no reply");
     };
-    let reply = shown(alloc, &vec![in alloc; reply]?)?;
-    Ok((end, reply))
+    Ok(shown(alloc, &vec![in alloc; reply]?)?)
 }
 
 /// The number by which a message is refused; none where it is taken.
@@ -56,6 +52,18 @@ fn refusal_at_start(rt: &impl Abort, alloc: Global, message: &Message) -> Result
     Ok(number(end.receive(alloc, message)))
 }
 
+/// The number by which a responder refuses the message behind this reply to a Sum over everything.
+fn refusal_behind(
+    rt: &impl Abort,
+    alloc: Global,
+    end: &mut Responder<'_, FlatStore>,
+    reply: &str,
+    message: &Message,
+) -> Result<Option<u8>, Fail> {
+    assert_eq!(rt; first_reply(rt, alloc, end)?.as_str(), reply);
+    Ok(number(end.receive(alloc, message)))
+}
+
 /// The number by which a responder that has sent a List of a and b refuses the message.
 fn refusal_after_list(
     rt: &impl Abort,
@@ -63,9 +71,8 @@ fn refusal_after_list(
     message: &Message,
 ) -> Result<Option<u8>, Fail> {
     let accepted = accepted(rt, alloc, LISTS_TWO);
-    let (mut end, sent) = waiting(rt, alloc, &accepted, b"ab")?;
-    assert_eq!(rt; sent.as_str(), "1 List S..E ab\n");
-    Ok(number(end.receive(alloc, message)))
+    let mut end = responder(rt, alloc, &accepted, items(rt, alloc, b"ab")?)?;
+    refusal_behind(rt, alloc, &mut end, "1 List S..E ab\n", message)
 }
 
 /// The number by which a responder that has sent Sums before b and from b on refuses the message.
@@ -75,9 +82,8 @@ fn refusal_after_sums(
     message: &Message,
 ) -> Result<Option<u8>, Fail> {
     let accepted = accepted(rt, alloc, BINARY_TWO);
-    let (mut end, sent) = waiting(rt, alloc, &accepted, b"ab")?;
-    assert_eq!(rt; sent.as_str(), "1 Sum S..b Sum b..E\n");
-    Ok(number(end.receive(alloc, message)))
+    let mut end = responder(rt, alloc, &accepted, items(rt, alloc, b"ab")?)?;
+    refusal_behind(rt, alloc, &mut end, "1 Sum S..b Sum b..E\n", message)
 }
 
 #[test]
@@ -167,15 +173,20 @@ fn a_sum_over_an_open_range_or_past_it(rt: HostRuntime) -> Result<(), Fail> {
     Ok(())
 }
 
-/// The numbers by which an initiator refuses a Sum over everything, and then the same again.
-fn refusals_of_a_stall(
+/// Asserts that an initiator refuses a Sum over everything, and then the same again, and that it has learned nothing.
+fn refuses_a_stall(
     rt: &impl Abort,
     alloc: Global,
     end: &mut Initiator<'_, FlatStore>,
-) -> Result<(Option<u8>, Option<u8>), Fail> {
+) -> Result<(), Fail> {
     let stalls = alone(rt, alloc, sum(Range::whole()))?;
-    let first = number(end.receive(alloc, &stalls));
-    Ok((first, number(end.receive(alloc, &stalls))))
+    assert_eq!(rt; number(end.receive(alloc, &stalls)), Some(21));
+    assert_eq!(rt; number(end.receive(alloc, &stalls)), Some(26));
+    assert_eq!(rt;
+        shown_learned(alloc, end.learned())?.as_str(),
+        "ours - theirs -"
+    );
+    Ok(())
 }
 
 #[test]
@@ -183,13 +194,7 @@ fn a_peer_that_stalls(rt: HostRuntime) -> Result<(), Fail> {
     let alloc = rt.alloc();
     let accepted = accepted(&rt, alloc, BINARY_EIGHT);
     let (mut end, _first) = initiator(&rt, alloc, &accepted, items(&rt, alloc, b"cd")?)?;
-    let refusals = refusals_of_a_stall(&rt, alloc, &mut end)?;
-    assert_eq!(rt; refusals, (Some(21), Some(26)));
-    assert_eq!(rt;
-        shown_learned(alloc, end.learned())?.as_str(),
-        "ours - theirs -"
-    );
-    Ok(())
+    refuses_a_stall(&rt, alloc, &mut end)
 }
 
 /// The item of the letter e and a number of three bytes.
@@ -237,20 +242,33 @@ fn length(taken: Result<Turn, EndFault>) -> Result<usize, u8> {
 }
 
 /// What comes of a flood up to this number at a responder with the items a to d, which is spent where it refuses it.
+fn flooded(
+    rt: &impl Abort,
+    alloc: Global,
+    end: &mut Responder<'_, FlatStore>,
+    last: u32,
+) -> Result<Result<usize, u8>, Fail> {
+    assert_eq!(rt;
+        first_reply(rt, alloc, end)?.as_str(),
+        "1 Sum S..c Sum c..E\n"
+    );
+    let flood = flood(rt, alloc, last)?;
+    let length = length(end.receive(alloc, &flood));
+    if length.is_err() {
+        is_spent(rt, alloc, end, &flood)?;
+    }
+    Ok(length)
+}
+
+/// What comes of a flood up to this number at a responder that has heard nothing before.
 fn length_behind_flood(
     rt: &impl Abort,
     alloc: Global,
     last: u32,
 ) -> Result<Result<usize, u8>, Fail> {
     let accepted = accepted(rt, alloc, BINARY_EIGHT);
-    let (mut end, sent) = waiting(rt, alloc, &accepted, b"abcd")?;
-    assert_eq!(rt; sent.as_str(), "1 Sum S..c Sum c..E\n");
-    let flood = flood(rt, alloc, last)?;
-    let length = length(end.receive(alloc, &flood));
-    if length.is_err() {
-        is_spent(rt, alloc, &mut end, &flood)?;
-    }
-    Ok(length)
+    let mut end = responder(rt, alloc, &accepted, items(rt, alloc, b"abcd")?)?;
+    flooded(rt, alloc, &mut end, last)
 }
 
 #[test]

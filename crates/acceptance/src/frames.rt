@@ -1,4 +1,4 @@
-//! The bytes of sessions between a side with no items and a side with abc, shared by the tests.
+//! The bytes that sides of a session say, shared by the tests.
 
 use std::alloc::{AllocError, Global};
 
@@ -39,6 +39,14 @@ pub(crate) const ABC_IS_LACKED: &[u8] = &[0, 0, 0, 0x0C, 3, 0, 0xFF, 0, 0, 0, 1,
 /// An Answer over everything that has no marks, and the item abc.
 pub(crate) const ABC_IS_NEW: &[u8] = &[
     0, 0, 0, 0x0F, 3, 0, 0xFF, 0, 0, 0, 0, 0, 0, 0, 1, 3, 0x61, 0x62, 0x63,
+];
+
+/// A List of aa before d.
+pub(crate) const AA_BEFORE_D: &[u8] = &[0, 0, 0, 0x0B, 2, 0, 1, 0x64, 0, 0, 0, 1, 2, 0x61, 0x61];
+
+/// A List of x and y from d on.
+pub(crate) const X_AND_Y_FROM_D: &[u8] = &[
+    0, 0, 0, 0x0C, 2, 1, 0x64, 0xFF, 0, 0, 0, 2, 1, 0x78, 1, 0x79,
 ];
 
 /// All that a side with no items says to a side with abc, where it speaks first: 69 bytes.

@@ -9,6 +9,7 @@ use std::alloc::Global;
 use std::process::Abort;
 use std::test::Fail;
 use store_core::FlatStore;
+use strategy_check::Accepted;
 use wire_core::{Message, encode_message};
 
 /// What came of a session for one of its ends: what it learned, how many messages it sent, and the most that it may.
@@ -78,6 +79,35 @@ fn talk(
     panic!(rt; "a session of more than 20 messages")
 }
 
+/// The session of two ends, both of which are over then.
+fn session_of(
+    rt: &impl Abort,
+    alloc: Global,
+    first: Message,
+    initiator: &mut Initiator<'_, FlatStore>,
+    responder: &mut Responder<'_, FlatStore>,
+) -> Result<Told, Fail> {
+    let messages = talk(rt, alloc, first, initiator, responder)?;
+    Ok(Told {
+        messages,
+        initiator: of_initiator(rt, alloc, initiator)?,
+        responder: of_responder(rt, alloc, responder)?,
+    })
+}
+
+/// The session of an initiator with a responder that has these items.
+fn session_with(
+    rt: &impl Abort,
+    alloc: Global,
+    accepted: &Accepted,
+    first: Message,
+    initiator: &mut Initiator<'_, FlatStore>,
+    items: Vec<Item>,
+) -> Result<Told, Fail> {
+    let mut responder = responder(rt, alloc, accepted, items)?;
+    session_of(rt, alloc, first, initiator, &mut responder)
+}
+
 /// The session of two ends with these items, both of which are over then.
 fn session(
     rt: &impl Abort,
@@ -88,13 +118,7 @@ fn session(
 ) -> Result<Told, Fail> {
     let accepted = accepted(rt, alloc, table);
     let (mut initiator, opening) = initiator(rt, alloc, &accepted, first)?;
-    let mut responder = responder(rt, alloc, &accepted, second)?;
-    let messages = talk(rt, alloc, opening, &mut initiator, &mut responder)?;
-    Ok(Told {
-        messages,
-        initiator: of_initiator(rt, alloc, &initiator)?,
-        responder: of_responder(rt, alloc, &responder)?,
-    })
+    session_with(rt, alloc, &accepted, opening, &mut initiator, second)
 }
 
 /// Compares what came of a session with the text of its messages, and of what the initiator and the responder learned.

@@ -5,9 +5,10 @@ ghost use Rattle.std.specs.Prelude.{◌≡◌, ◌≤◌};
 use crate::devices::{PieceReader, PieceWriter, Rule, Witness};
 use crate::engines::opened;
 use crate::frames::{
-    ABC_IS_NEW, ABC_TO_EMPTY, EMPTY_TO_ABC, END, HELLO, LIST_OF_NOTHING, SUM_OF_ABC, joined,
+    AA_BEFORE_D, ABC_IS_NEW, ABC_TO_EMPTY, EMPTY_TO_ABC, END, HELLO, LIST_OF_NOTHING, SUM_OF_ABC,
+    SUM_OF_ONES, X_AND_Y_FROM_D, joined,
 };
-use crate::letters::item;
+use crate::letters::{item, items};
 use crate::tables::{BINARY_EIGHT, accepted};
 use item_core::Item;
 use peer_threads::{Report, Shared, Source, SourceFault, run_workers};
@@ -118,10 +119,11 @@ fn reports(rt: &impl Abort, report: Report, started: u8, fault: Option<SourceFau
     assert_eq!(rt; report, Report { started, fault });
 }
 
-/// Compares the log's only entry.
-fn has_one(rt: &impl Abort, log: &Published<FlatStore>, writer: u32, bytes: &[u8]) {
-    assert!(rt; log.version() == 1);
-    assert!(rt; log.entry(0).writer() == writer && *log.entry(0).item() == item(rt, bytes));
+/// Compares how many entries the log has, one at least, and the last of them.
+fn ends_with(rt: &impl Abort, log: &Published<FlatStore>, count: usize, writer: u32, bytes: &[u8]) {
+    assert!(rt; 0 < count && log.version() == count);
+    let last = log.entry(count - 1);
+    assert!(rt; last.writer() == writer && *last.item() == item(rt, bytes));
 }
 
 // An invented report, and workers that take nothing or drop what was learned, fail in this test.
@@ -134,7 +136,7 @@ fn one_writer_number_is_left(rt: HostRuntime) -> Result<(), Fail> {
     let (report, log) = worked(&rt, alloc, &[], 4_294_967_295, &peers, &gate, 3)?;
     reports(&rt, report, 1, None);
     told(&rt, &gate.first, "Ended ours - theirs abc version 0 sent 1");
-    has_one(&rt, &log, 4_294_967_295, b"abc");
+    ends_with(&rt, &log, 1, 4_294_967_295, b"abc");
     let written = joined(alloc, &[HELLO, LIST_OF_NOTHING, END])?;
     assert_eq!(rt; *peers.first.lock(&rt), written);
     Ok(())
@@ -149,6 +151,20 @@ fn source_that_fails_at_once(rt: HostRuntime) -> Result<(), Fail> {
     reports(&rt, report, 3, Some(SourceFault::Accept));
     assert_eq!(rt; SourceFault::Accept.number(), 62);
     assert!(rt; log.version() == 0 && gate.told.load(Ordering::SeqCst) == 0);
+    Ok(())
+}
+
+// Of aa, x and y, in the order learned, the log has room for one. Workers that add them in another order fail in this test.
+#[test]
+fn room_for_one_of_three(rt: HostRuntime) -> Result<(), Fail> {
+    let alloc = rt.alloc();
+    let input: &[&[u8]] = &[HELLO, SUM_OF_ONES, END, AA_BEFORE_D, X_AND_Y_FROM_D, END];
+    let peers = Peers::new(alloc, input, 1, None);
+    let gate = Witness::new(alloc, Rule::Always);
+    let seven = items(&rt, alloc, b"abcdefg")?;
+    let (report, log) = worked(&rt, alloc, &seven, 1, &peers, &gate, 1)?;
+    reports(&rt, report, 1, None);
+    ends_with(&rt, &log, 8, 1, b"aa");
     Ok(())
 }
 
@@ -168,7 +184,7 @@ fn two_sessions_at_a_time(rt: HostRuntime) -> Result<(), Fail> {
         &gate.second,
         "Ended ours abc theirs - version 1 sent 1",
     );
-    has_one(&rt, &log, 0, b"abc");
+    ends_with(&rt, &log, 1, 0, b"abc");
     let written = joined(alloc, ABC_TO_EMPTY)?;
     assert!(rt; *peers.first.lock(&rt) == written && *peers.second.lock(&rt) == written);
     Ok(())
