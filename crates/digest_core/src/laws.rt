@@ -21,12 +21,14 @@ pub fn lists_add_up()
 
 /// An item that a set lacks joins its fingerprint to the set's.
 pub fn new_item_adds()
-    ensures { (A : List Item) (x : Item) → IsFalse (has A x) → two_lanes.of (add_item A x) ≡ join_lanes (two_lanes.of (x ∷ [])) (two_lanes.of A) }
+    ensures { (A : List Item) (x : Item) → IsFalse (has A x) →
+        two_lanes.of (add_item A x) ≡ join_lanes (two_lanes.of (x ∷ [])) (two_lanes.of A) }
 {}
 
 /// The fingerprint of the union of two sets without a common item is the join of the two.
 pub fn disjoint_sets_add_up()
-    ensures { (A B : List Item) → IsSet B → AllByRecursion (λ x. IsFalse (has A x)) B → two_lanes.of (union A B) ≡ join_lanes (two_lanes.of A) (two_lanes.of B) }
+    ensures { (A B : List Item) → IsSet B → AllByRecursion (λ x. IsFalse (has A x)) B →
+        two_lanes.of (union A B) ≡ join_lanes (two_lanes.of A) (two_lanes.of B) }
 {}
 
 /// The test of two fingerprints answers whether they are equal.

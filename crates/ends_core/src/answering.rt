@@ -79,7 +79,12 @@ impl From<WriterFailed> for AnswerFault {
 /// The message that the input spells. The input itself is given up.
 fn asked<R: Read>(alloc: Global, reader: &mut Watched<R>) -> Result<Message, AnswerFault>
     requires { reader.old.failed ≡ false }
-    ensures { Asked (record { old = R.remaining reader.old.inner; new = R.remaining reader.new.inner; failed = reader.new.failed }) result }
+    ensures { Asked
+        (record {
+          old = R.remaining reader.old.inner;
+          new = R.remaining reader.new.inner;
+          failed = reader.new.failed;
+        }) result }
 {
     let input = read_input(alloc, reader)?;
     Ok(decode_message(alloc, &input)?)
@@ -93,7 +98,12 @@ fn reply_for<R: Read>(
 ) -> Result<Vec<u8>, AnswerFault>
     requires few { length (flat_items store.now) ≤ 65536 }
     requires fresh { reader.old.failed ≡ false }
-    ensures { Prepared (λ v. v.items) (flat_items store.now) (record { old = R.remaining reader.old.inner; new = R.remaining reader.new.inner; failed = reader.new.failed }) result }
+    ensures { Prepared (λ v. v.items) (flat_items store.now)
+        (record {
+          old = R.remaining reader.old.inner;
+          new = R.remaining reader.new.inner;
+          failed = reader.new.failed;
+        }) result }
 {
     let message = asked(alloc, reader)?;
     let reply = list_reply(alloc, store, &message)?;
@@ -113,7 +123,17 @@ pub fn answer<R: Read, W: Write>(
     requires few { length (flat_items store.now) ≤ 65536 }
     requires reader { reader.old.failed ≡ false }
     requires writer { writer.old.failed ≡ false }
-    ensures { Answered (flat_items store.now) (record { old = R.remaining reader.old.inner; new = R.remaining reader.new.inner; failed = reader.new.failed }) (record { old = W.contents writer.old.inner; new = W.contents writer.new.inner; failed = writer.new.failed }) result }
+    ensures { Answered (flat_items store.now)
+        (record {
+          old = R.remaining reader.old.inner;
+          new = R.remaining reader.new.inner;
+          failed = reader.new.failed;
+        })
+        (record {
+          old = W.contents writer.old.inner;
+          new = W.contents writer.new.inner;
+          failed = writer.new.failed;
+        }) result }
 {
     let text = reply_for(alloc, store, reader)?;
     write_output(writer, &text)?;

@@ -35,8 +35,10 @@ pub(crate) fn cut_range<S: RangeStore>(
     places: &[usize],
 ) -> Result<Vec<Range>, AllocError>
     requires rise { IsStrictlySortedBy nat_cmp (0 ∷ places.now) }
-    requires within { AllByRecursion (λ place. place < length (items_in (S.content store.now) range.now)) places.now }
-    ensures { IfOk result (λ parts. parts.items ≡ cut range.now (items_at (S.content store.now) range.now places.now)) }
+    requires within { AllByRecursion (λ place. place < length (items_in (S.content store.now) range.now))
+        places.now }
+    ensures { IfOk result
+        (λ parts. parts.items ≡ cut range.now (items_at (S.content store.now) range.now places.now)) }
 {
     let mut parts = Vec::with_capacity(alloc, places.len() + 1)?;
     let mut rest = *range;

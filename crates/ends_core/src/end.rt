@@ -40,7 +40,15 @@ impl<'a, S: RangeStore> Model for End<'a, S> {
 
     ghost Value = { Held };
 
-    ghost view = { λ a. record { steps = a.accepted.now.steps; end = record { peer = record { table = a.accepted.now.table; items = S.content a.store }; stage = stage_of a.stage; sent = a.sent; learned = a.learned } } };
+    ghost view = { λ a. record {
+      steps = a.accepted.now.steps;
+      end = record {
+        peer = record { table = a.accepted.now.table; items = S.content a.store };
+        stage = stage_of a.stage;
+        sent = a.sent;
+        learned = a.learned;
+      };
+    } };
 }
 
 /// Whether the part wants a reply.
@@ -78,7 +86,11 @@ struct Step {
 impl<'a, S: RangeStore> End<'a, S> {
     /// An end that has received nothing, and is spoken to first.
     pub(crate) fn responding(alloc: Global, accepted: &'a Accepted, store: S) -> End<'a, S>
-        ensures { result ≡ record { steps = accepted.now.steps; end = ends.responder (record { table = accepted.now.table; items = S.content store }) } }
+        ensures { result ≡ record {
+          steps = accepted.now.steps;
+          end = ends.responder
+              (record { table = accepted.now.table; items = S.content store });
+        } }
     {
         End {
             accepted,
@@ -96,7 +108,15 @@ impl<'a, S: RangeStore> End<'a, S> {
         store: S,
         own: Message,
     ) -> End<'a, S>
-        ensures { result ≡ record { steps = accepted.now.steps; end = record { peer = record { table = accepted.now.table; items = S.content store }; stage = ends.Waits own; sent = 1; learned = nothing } } }
+        ensures { result ≡ record {
+          steps = accepted.now.steps;
+          end = record {
+            peer = record { table = accepted.now.table; items = S.content store };
+            stage = ends.Waits own;
+            sent = 1;
+            learned = nothing;
+          };
+        } }
     {
         End {
             accepted,
@@ -154,7 +174,8 @@ impl<'a, S: RangeStore> End<'a, S> {
     /// Whether the message may come now.
     fn judge(&self, message: &Message) -> Result<(), EndFault>
         ensures fault { judged_in result ≡ ends.stage_fault self.now.end.stage message.now }
-        ensures comes { Apart (messages.open_ranges (ends.own_of self.now.end.stage)) → IsOk result → Comes self.now.end.stage message.now }
+        ensures comes { Apart (messages.open_ranges (ends.own_of self.now.end.stage)) → IsOk result →
+            Comes self.now.end.stage message.now }
     {
         match &self.stage {
             Stage::Fresh => Ok(place_opening(message)?),
@@ -167,7 +188,8 @@ impl<'a, S: RangeStore> End<'a, S> {
     fn learn(&self, alloc: Global, message: &Message) -> Result<Learned, AllocError>
         requires apart { Apart (messages.open_ranges (ends.own_of self.now.end.stage)) }
         requires comes { Comes self.now.end.stage message.now }
-        ensures { IfOk result (λ k. k ≡ talks.learn self.now.end.peer.items (ends.own_of self.now.end.stage) message.now) }
+        ensures { IfOk result (λ k. k ≡ talks.learn self.now.end.peer.items (ends.own_of self.now.end.stage)
+            message.now) }
     {
         match &self.stage {
             Stage::Waits(own) => learn(alloc, &self.store, own, message),

@@ -69,7 +69,12 @@ impl<'a, S: RangeStore> Initiator<'a, S> {
         store: S,
     ) -> Result<(Initiator<'a, S>, Message), S>
         requires { length (S.content store) ≤ accepted.now.table.cap }
-        ensures end { IfOk result (λ r. r.0 ≡ record { steps = accepted.now.steps; end = ends.initiator two_lanes (record { table = accepted.now.table; items = S.content store }) }) }
+        ensures end { IfOk result
+            (λ r. r.0 ≡ record {
+              steps = accepted.now.steps;
+              end = ends.initiator two_lanes
+                  (record { table = accepted.now.table; items = S.content store });
+            }) }
         ensures message { IfOk result (λ r. r.1 ≡ opening two_lanes (S.content store)) }
         ensures memory { IfErr result (λ s. s ≡ store) }
     {

@@ -46,7 +46,8 @@ fn read_more<R: Read>(
 ) -> Result<usize, InputFault>
     requires fresh { reader.old.failed ≡ false }
     requires room { 0 < length chunk.old }
-    ensures more { IfOk result (λ n. ReadsMore (R.remaining reader.old.inner) (R.remaining reader.new.inner) input.old.items input.new.items n) }
+    ensures more { IfOk result (λ n. ReadsMore (R.remaining reader.old.inner) (R.remaining reader.new.inner)
+        input.old.items input.new.items n) }
     ensures fine { OnOk result (reader.new.failed ≡ false) }
     ensures unread { result ≡ Err InputFault.CannotRead → IsTrue reader.new.failed }
 {
@@ -60,8 +61,10 @@ fn read_more<R: Read>(
 /// Reads to the end of an input that is within its limit.
 pub fn read_input<R: Read>(alloc: Global, reader: &mut Watched<R>) -> Result<Vec<u8>, InputFault>
     requires { reader.old.failed ≡ false }
-    ensures input { IfOk result (λ v. WasRead (R.remaining reader.old.inner) (R.remaining reader.new.inner) reader.new.failed v.items) }
-    ensures unread { result ≡ Err InputFault.CannotRead → IsTrue reader.new.failed ⊎ IsTooLong (R.remaining reader.old.inner) (R.remaining reader.new.inner) }
+    ensures input { IfOk result (λ v. WasRead (R.remaining reader.old.inner) (R.remaining reader.new.inner)
+        reader.new.failed v.items) }
+    ensures unread { result ≡ Err InputFault.CannotRead →
+        IsTrue reader.new.failed ⊎ IsTooLong (R.remaining reader.old.inner) (R.remaining reader.new.inner) }
 {
     let mut input = Vec::new(alloc);
     let mut chunk = room_for(alloc, CHUNK)?;

@@ -135,7 +135,8 @@ fn push_ours<S: RangeStore>(
     lists: &mut Lists<'_>,
     part: &Part,
 ) -> Result<(), AllocError>
-    ensures ours { OnOk result (ours.new.items ≡ ours.old.items ++ ours_next (S.content store.now) lists.old part.now) }
+    ensures ours { OnOk result (ours.new.items ≡ ours.old.items ++ ours_next (S.content store.now) lists.old
+        part.now) }
     ensures lists { OnOk result (lists.new ≡ lists_left lists.old part.now) }
 {
     if let Some(marks) = part.marks() {
@@ -177,7 +178,8 @@ pub fn learn<S: RangeStore>(
     sent: &Message,
     message: &Message,
 ) -> Result<Learned, AllocError>
-    ensures { Apart (open_ranges sent.now) → Placed sent.now message.now → IfOk result (λ k. k ≡ talks.learn (S.content store.now) sent.now message.now) }
+    ensures { Apart (open_ranges sent.now) → Placed sent.now message.now →
+        IfOk result (λ k. k ≡ talks.learn (S.content store.now) sent.now message.now) }
 {
     learn_along(alloc, store, sent, message)
 }

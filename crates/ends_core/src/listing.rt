@@ -52,7 +52,8 @@ impl<T: Drop> From<AllocFailed<T>> for ListReplyFault {
 /// The reply to one part: none, where the fingerprints are equal, and else the list of the range.
 fn reply_to(alloc: Global, store: &FlatStore, part: &Part) -> Result<Option<Part>, ListReplyFault>
     requires { length (flat_items store.now) ≤ 65536 }
-    ensures reply { IfOk result (λ r. option_to_list r ≡ replies.reply_to two_lanes (list_peer (flat_items store.now)) part.now) }
+    ensures reply { IfOk result (λ r. option_to_list r ≡ replies.reply_to two_lanes
+        (list_peer (flat_items store.now)) part.now) }
     ensures sum { OnOk result (IsTrue (is_sum part.now)) }
     ensures misplaced { result ≡ Err ListReplyFault.Misplaced → IsFalse (is_sum part.now) }
 {

@@ -15,7 +15,8 @@ pub fn write_output<W: Write>(writer: &mut Watched<W>, bytes: &[u8]) -> Result<(
     requires { writer.old.failed ≡ false }
     ensures whole { OnOk result (Appends (W.contents writer.old.inner) (W.contents writer.new.inner) bytes.now) }
     ensures fine { OnOk result (writer.new.failed ≡ false) }
-    ensures front { OnErr result ((n : ℕ) × Appends (W.contents writer.old.inner) (W.contents writer.new.inner) (take n bytes.now)) }
+    ensures front { OnErr result ((n : ℕ) × Appends (W.contents writer.old.inner) (W.contents writer.new.inner)
+        (take n bytes.now)) }
     ensures failed { OnErr result (IsTrue writer.new.failed) }
 {
     let mut written = 0;

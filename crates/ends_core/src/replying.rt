@@ -104,7 +104,8 @@ fn push_sums<S: RangeStore>(
     store: &S,
     ranges: &[Range],
 ) -> Result<(), AllocError>
-    ensures { OnOk result (parts.new.items ≡ parts.old.items ++ map (replies.sum_of two_lanes (S.content store.now)) ranges.now) }
+    ensures { OnOk result (parts.new.items ≡ parts.old.items ++ map (replies.sum_of two_lanes (S.content store.now))
+        ranges.now) }
 {
     for range in ranges {
         parts.push(Part::sum(*range, store.sum(range)))?;
@@ -133,7 +134,9 @@ fn push_cut<S: RangeStore>(
 ) -> Result<(), AllocError>
     requires few { length (S.content store.now) ≤ strategy.now.cap }
     requires split { IsTrue (is_split (act strategy.now (length (items_in (S.content store.now) range.now)))) }
-    ensures { OnOk result (parts.new.items ≡ parts.old.items ++ map (replies.sum_of two_lanes (S.content store.now)) (replies.cutup (S.content store.now) range.now (shares strategy.now (length (items_in (S.content store.now) range.now))))) }
+    ensures { OnOk result (parts.new.items ≡ parts.old.items ++ map (replies.sum_of two_lanes (S.content store.now))
+        (replies.cutup (S.content store.now) range.now
+        (shares strategy.now (length (items_in (S.content store.now) range.now))))) }
 {
     rank_laws::shares_are_parts();
     let places = places_of(alloc, strategy, count_in(strategy, store, range))?;
@@ -150,7 +153,8 @@ fn push_differing<S: RangeStore>(
     parts: &mut Vec<Part>,
 ) -> Result<(), AllocError>
     requires { length (S.content store.now) ≤ strategy.now.cap }
-    ensures { OnOk result (parts.new.items ≡ parts.old.items ++ replies.differing two_lanes (record { table = strategy.now; items = S.content store.now }) range.now) }
+    ensures { OnOk result (parts.new.items ≡ parts.old.items ++ replies.differing two_lanes
+        (record { table = strategy.now; items = S.content store.now }) range.now) }
 {
     if strategy.act(count_in(strategy, store, range)) == Act::Split {
         return push_cut(alloc, strategy, store, range, parts);
@@ -169,7 +173,8 @@ fn push_compared<S: RangeStore>(
     parts: &mut Vec<Part>,
 ) -> Result<(), AllocError>
     requires { length (S.content store.now) ≤ strategy.now.cap }
-    ensures { OnOk result (parts.new.items ≡ parts.old.items ++ replies.reply_to two_lanes (record { table = strategy.now; items = S.content store.now }) (Sum range.now sum.now)) }
+    ensures { OnOk result (parts.new.items ≡ parts.old.items ++ replies.reply_to two_lanes
+        (record { table = strategy.now; items = S.content store.now }) (Sum range.now sum.now)) }
 {
     if store.sum(range) == *sum {
         return Ok(());
@@ -186,7 +191,8 @@ fn push_reply<S: RangeStore>(
     parts: &mut Vec<Part>,
 ) -> Result<(), AllocError>
     requires { length (S.content store.now) ≤ strategy.now.cap }
-    ensures { OnOk result (parts.new.items ≡ parts.old.items ++ replies.reply_to two_lanes (record { table = strategy.now; items = S.content store.now }) part.now) }
+    ensures { OnOk result (parts.new.items ≡ parts.old.items ++ replies.reply_to two_lanes
+        (record { table = strategy.now; items = S.content store.now }) part.now) }
 {
     if let Some(sum) = part.fingerprint() {
         return push_compared(alloc, strategy, store, part.range(), sum, parts);
@@ -210,9 +216,12 @@ pub(crate) fn reply<S: RangeStore>(
     message: &Message,
 ) -> Result<Message, ReplyFault>
     requires { length (S.content store.now) ≤ strategy.now.cap }
-    ensures reply { IfOk result (λ m. m ≡ replies.reply two_lanes (record { table = strategy.now; items = S.content store.now }) message.now) }
-    ensures sendable { OnOk result (IsTrue (is_sendable (replies.reply two_lanes (record { table = strategy.now; items = S.content store.now }) message.now))) }
-    ensures many { result ≡ Err ReplyFault.TooManyParts → IsFalse (is_sendable (replies.reply two_lanes (record { table = strategy.now; items = S.content store.now }) message.now)) }
+    ensures reply { IfOk result (λ m. m ≡ replies.reply two_lanes
+        (record { table = strategy.now; items = S.content store.now }) message.now) }
+    ensures sendable { OnOk result (IsTrue (is_sendable (replies.reply two_lanes
+        (record { table = strategy.now; items = S.content store.now }) message.now))) }
+    ensures many { result ≡ Err ReplyFault.TooManyParts → IsFalse (is_sendable (replies.reply two_lanes
+        (record { table = strategy.now; items = S.content store.now }) message.now)) }
 {
     let mut parts = Vec::new(alloc);
     for part in message.parts() {

@@ -41,7 +41,11 @@ impl<'a, S: RangeStore> Responder<'a, S> {
     /// An end that has received nothing.
     pub fn new(alloc: Global, accepted: &'a Accepted, store: S) -> Responder<'a, S>
         requires { length (S.content store) ≤ accepted.now.table.cap }
-        ensures { result ≡ record { steps = accepted.now.steps; end = ends.responder (record { table = accepted.now.table; items = S.content store }) } }
+        ensures { result ≡ record {
+          steps = accepted.now.steps;
+          end = ends.responder
+              (record { table = accepted.now.table; items = S.content store });
+        } }
     {
         let _ = accepted.cap();
         Responder {

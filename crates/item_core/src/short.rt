@@ -32,7 +32,8 @@ impl Model for Short {
 
     ghost view = { λ a. take a.length a.bytes };
 
-    ghost invariant = { λ a. (a.length ≤ 64) × (len a.bytes ≡ 64) × (a.bytes ≡ take a.length a.bytes ++ replicate (64 - a.length) 0) × IsBytes (take a.length a.bytes) };
+    ghost invariant = { λ a. (a.length ≤ 64) × (len a.bytes ≡ 64)
+        × (a.bytes ≡ take a.length a.bytes ++ replicate (64 - a.length) 0) × IsBytes (take a.length a.bytes) };
 
     ghost inverse = { λ xs. record { bytes = xs ++ replicate (64 - len xs) 0; length = len xs } };
 

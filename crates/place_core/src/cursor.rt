@@ -123,7 +123,8 @@ fn next_outside(sent: &[Part], start: usize, part: &Part) -> Cursor
 
 /// Inside a partition, of which a rest is still to come.
 fn next_inside(at: usize, rest: &Range, part: &Part) -> Cursor
-    ensures { (sent : Message Lanes) → place_at sent result ≡ placing.next_inside (open_parts (drop at sent)) rest.now part.now }
+    ensures { (sent : Message Lanes) →
+        place_at sent result ≡ placing.next_inside (open_parts (drop at sent)) rest.now part.now }
 {
     if part.kind() != PartKind::Sum {
         return Cursor::Refused(PlaceFault::Gap);

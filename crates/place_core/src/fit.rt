@@ -45,7 +45,8 @@ fn repeats(listed: &[Item], items: &[Item]) -> bool
 /// A part where a List of the range is open.
 fn list_fit(range: &Range, listed: &[Item], part: &Part) -> Fit
     requires { IsSet listed.now }
-    ensures { (left : Message Lanes) → next_outside (Listing range.now listed.now ∷ left) part.now ≡ after_fit result left part.now }
+    ensures { (left : Message Lanes) →
+        next_outside (Listing range.now listed.now ∷ left) part.now ≡ after_fit result left part.now }
 {
     let (Some(marks), Some(items)) = (part.marks(), part.items()) else {
         return Fit::Refused(PlaceFault::MissingAnswer);
@@ -64,7 +65,8 @@ fn list_fit(range: &Range, listed: &[Item], part: &Part) -> Fit
 
 /// A Sum that begins where an open Sum of the range begins.
 fn cut_fit(range: &Range, part: &Range) -> Fit
-    ensures { (left : Message Lanes) (p : messages.Part Lanes) → next_sum left range.now part.now ≡ after_fit result left p }
+    ensures { (left : Message Lanes) (p : messages.Part Lanes) →
+        next_sum left range.now part.now ≡ after_fit result left p }
 {
     if range.upper() == part.upper() {
         return Fit::Refused(PlaceFault::Stall);
@@ -77,7 +79,8 @@ fn cut_fit(range: &Range, part: &Range) -> Fit
 
 /// A part where a Sum of the range is open.
 fn sum_fit(range: &Range, part: &Part) -> Fit
-    ensures { (f : Lanes) (left : Message Lanes) → next_outside (Sum range.now f ∷ left) part.now ≡ after_fit result left part.now }
+    ensures { (f : Lanes) (left : Message Lanes) →
+        next_outside (Sum range.now f ∷ left) part.now ≡ after_fit result left part.now }
 {
     match part.kind() {
         PartKind::List if part.range() == range => Fit::Placed(None),
@@ -88,7 +91,8 @@ fn sum_fit(range: &Range, part: &Part) -> Fit
 
 /// A part where this part of the own message is the next one; an Answer is open to nothing.
 pub fn meet(own: &Part, part: &Part) -> Fit
-    ensures { (left : Message Lanes) → next_outside (open_parts (own.now ∷ left)) part.now ≡ after_fit result (open_parts left) part.now }
+    ensures { (left : Message Lanes) →
+        next_outside (open_parts (own.now ∷ left)) part.now ≡ after_fit result (open_parts left) part.now }
 {
     if own.kind() == PartKind::Answer {
         return Fit::Skipped;

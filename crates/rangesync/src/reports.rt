@@ -74,7 +74,8 @@ fn push_side(
     name: &str,
     learned: Lists<'_>,
 ) -> Result<(), AllocError>
-    ensures { OnOk result (string_bytes text.new ≡ string_bytes text.old ++ side_line name.now (knowledge_of learned.entry)) }
+    ensures { OnOk result (string_bytes text.new ≡ string_bytes text.old ++ side_line name.now
+        (knowledge_of learned.entry)) }
 {
     text.push_str(name)?;
     text.push_str(" ours")?;
@@ -91,7 +92,8 @@ fn push_report(
     session: usize,
     report: Report<'_>,
 ) -> Result<(), AllocError>
-    ensures { OnOk result (string_bytes text.new ≡ string_bytes text.old ++ report_text session (report_of report.entry)) }
+    ensures { OnOk result (string_bytes text.new ≡ string_bytes text.old ++ report_text session
+        (report_of report.entry)) }
 {
     let messages = report.messages;
     let bound = Bound(report.bound);
@@ -111,7 +113,8 @@ fn push_shown(
     world: &World<'_>,
     session: usize,
 ) -> Result<(), AllocError>
-    ensures { OnOk result (string_bytes text.new ≡ string_bytes text.old ++ shown session (worlds.report two_lanes world.now session)) }
+    ensures { OnOk result (string_bytes text.new ≡ string_bytes text.old ++ shown session
+        (worlds.report two_lanes world.now session)) }
 {
     match world.report(session) {
         Some(report) => push_report(alloc, text, session, report),

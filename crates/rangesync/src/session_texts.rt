@@ -56,7 +56,8 @@ fn push_lines(
     name: &str,
     items: &[Item],
 ) -> Result<(), AllocError>
-    ensures { OnOk result (string_bytes text.new ≡ string_bytes text.old ++ flat_map (named_line name.now) items.now) }
+    ensures { OnOk result (string_bytes text.new ≡ string_bytes text.old ++ flat_map (named_line name.now)
+        items.now) }
 {
     for item in items {
         push_named(alloc, text, name, item)?;
@@ -71,7 +72,8 @@ fn push_rising(
     name: &str,
     items: &[Item],
 ) -> Result<(), AllocError>
-    ensures { OnOk result (string_bytes text.new ≡ string_bytes text.old ++ flat_map (named_line name.now) (set_of items.now)) }
+    ensures { OnOk result (string_bytes text.new ≡ string_bytes text.old ++ flat_map (named_line name.now)
+        (set_of items.now)) }
 {
     let rising = distinct(Vec::from_slice(alloc, items)?);
     push_lines(alloc, text, name, &rising)

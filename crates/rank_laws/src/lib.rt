@@ -60,13 +60,15 @@ pub fn staircase_keeps()
 #[tactic(auto, using(crate::proofs::Staircases::staircase_IsStaircase, crate::proofs::Staircases::staircase_last))]
 pub fn staircase_is_one()
     ensures rises { (f : List ℕ) → 0 < length f → IsStaircase (staircase f) }
-    ensures ends { (f : List ℕ) → 0 < length f → slice_index (staircase f) (length (staircase f) - 1) ≡ length f - 1 }
+    ensures ends { (f : List ℕ) → 0 < length f →
+        slice_index (staircase f) (length (staircase f) - 1) ≡ length f - 1 }
 {}
 
 /// Entry j is the greatest count of rank at most j.
 #[tactic(auto, using(crate::proofs::Staircases::entries_are_greatest))]
 pub fn entries_are_greatest()
-    ensures { (f : List ℕ) → IsGradual f → (j : ℕ) → j < length (staircase f) → IsGreatest f j (slice_index (staircase f) j) }
+    ensures { (f : List ℕ) → IsGradual f → (j : ℕ) → j < length (staircase f) →
+        IsGreatest f j (slice_index (staircase f) j) }
 {}
 
 /// The least ranks begin at 0 and leave out no number.
@@ -102,7 +104,8 @@ pub fn rows_cover()
 #[tactic(auto, using(crate::proofs::Staircases::ranks_by_staircase, crate::proofs::Staircases::staircase_ranks_by))]
 pub fn staircase_and_back()
     ensures ranks { (f : List ℕ) (cap : ℕ) → IsGradual f → length f ≡ cap + 1 → ranks_by (staircase f) cap ≡ f }
-    ensures steps { (steps : List ℕ) (cap : ℕ) → IsStaircase steps → slice_index steps (length steps - 1) ≡ cap → staircase (ranks_by steps cap) ≡ steps }
+    ensures steps { (steps : List ℕ) (cap : ℕ) → IsStaircase steps → slice_index steps (length steps - 1) ≡ cap →
+        staircase (ranks_by steps cap) ≡ steps }
 {}
 
 /// The rank table that a staircase keeps has the ranks that are read from it.
@@ -119,8 +122,10 @@ pub fn steps_are_tested()
 /// The first count that is too deep is the one after an entry of the staircase.
 #[tactic(auto, using(crate::proofs::Staircases::too_deep_by_steps, crate::proofs::Staircases::least_too_deep))]
 pub fn deep_by_the_steps()
-    ensures brought { (T : Table) (steps : List ℕ) → IsStrictlyIncreasing steps → deep_fault T (ranks_by steps T.cap) ≡ deep_by_steps T.cap T.rounds steps }
-    ensures least { (T : Table) → first_stuck T ≡ None → deep_fault T (least_ranks T) ≡ deep_by_steps T.cap T.rounds (staircase (least_ranks T)) }
+    ensures brought { (T : Table) (steps : List ℕ) → IsStrictlyIncreasing steps →
+        deep_fault T (ranks_by steps T.cap) ≡ deep_by_steps T.cap T.rounds steps }
+    ensures least { (T : Table) → first_stuck T ≡ None →
+        deep_fault T (least_ranks T) ≡ deep_by_steps T.cap T.rounds (staircase (least_ranks T)) }
 {}
 
 /// The check needs the loop's steps alone.

@@ -32,7 +32,8 @@ impl Model for SessionTable {
 
     ghost view = { λ t. table_of t.capacity t.next t.sessions t.totals };
 
-    ghost invariant = { λ t. (t.capacity ≤ t.sessions.capacity) × IsTable (table_of t.capacity t.next t.sessions t.totals) };
+    ghost invariant = { λ t. (t.capacity ≤ t.sessions.capacity)
+        × IsTable (table_of t.capacity t.next t.sessions t.totals) };
 }
 
 impl SessionTable {

@@ -75,8 +75,10 @@ pub(crate) fn item_of(digits: &[u8]) -> Option<Item>
 
 /// Appends the item of a line, if it is not blank.
 fn push_line(items: &mut Vec<Item>, line: &[u8], number: usize) -> Result<(), SettingsFault>
-    ensures item { OnOk result ((xs : List Bytes) × (line_items line.now ≡ Some xs) × (items.new.items ≡ items.old.items ++ xs)) }
-    ensures bad { IfErr result (λ e. e ≢ SettingsFault.Memory → (e ≡ SettingsFault.BadItemLine number) × (line_items line.now ≡ None)) }
+    ensures item { OnOk result ((xs : List Bytes) × (line_items line.now ≡ Some xs)
+        × (items.new.items ≡ items.old.items ++ xs)) }
+    ensures bad { IfErr result (λ e. e ≢ SettingsFault.Memory → (e ≡ SettingsFault.BadItemLine number)
+        × (line_items line.now ≡ None)) }
 {
     let digits = digits_in(line);
     if digits.is_empty() {
@@ -103,7 +105,8 @@ fn first_line(text: &[u8]) -> (&[u8], Option<&[u8]>)
 /// The items of the lines in order.
 fn items_of(alloc: Global, text: &[u8]) -> Result<Vec<Item>, SettingsFault>
     ensures items { IfOk result (λ v. file_items text.now ≡ Ok v.items) }
-    ensures refused { IfErr result (λ e. e ≢ SettingsFault.Memory → (line : ℕ) × (e ≡ SettingsFault.BadItemLine line) × (file_items text.now ≡ Err line)) }
+    ensures refused { IfErr result (λ e. e ≢ SettingsFault.Memory → (line : ℕ)
+        × (e ≡ SettingsFault.BadItemLine line) × (file_items text.now ≡ Err line)) }
 {
     let mut items = Vec::new(alloc);
     let mut rest = Some(text);

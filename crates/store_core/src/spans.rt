@@ -17,7 +17,8 @@ use std::alloc::{AllocError, Global};
 fn place(entries: &[Entry], lower: &Lower) -> usize
     requires { IsSet entries.now }
     ensures within { result ≤ length entries.now }
-    ensures parted { IsPartitionPoint (λ z. comes_before z lower.now ≡ true) (λ z. comes_before z lower.now ≡ false) entries.now result }
+    ensures parted { IsPartitionPoint (λ z. comes_before z lower.now ≡ true) (λ z. comes_before z lower.now ≡ false)
+        entries.now result }
 {
     entries.partition_point(|entry| lower.is_above(entry.item()))
 }
@@ -74,7 +75,8 @@ pub fn items(alloc: Global, entries: &[Entry]) -> Result<Vec<Item>, AllocError>
 pub fn gap_for(entries: &[Entry], item: &Item) -> Option<usize>
     requires { IsSet entries.now }
     ensures found { is_none result ≡ has entries.now item.now }
-    ensures gap { IfSome result (λ i. add_item entries.now item.now ≡ take i entries.now ++ item.now ∷ drop i entries.now) }
+    ensures gap { IfSome result (λ i. add_item entries.now item.now ≡ take i entries.now ++ item.now ∷ drop i
+        entries.now) }
     ensures within { IfSome result (λ i. i ≤ length entries.now) }
 {
     let place = place(entries, &Lower::from(*item));

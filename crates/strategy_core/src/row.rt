@@ -37,7 +37,8 @@ impl Model for Row {
 pub fn place(rows: &[Row], n: u32) -> usize
     requires { IsStrictlyIncreasing (map (λ row. row.upto) rows.now) }
     ensures within { result ≤ length rows.now }
-    ensures parted { IsPartitionPoint (λ row. nat_lt row.upto n ≡ true) (λ row. nat_lt row.upto n ≡ false) rows.now result }
+    ensures parted { IsPartitionPoint (λ row. nat_lt row.upto n ≡ true) (λ row. nat_lt row.upto n ≡ false) rows.now
+        result }
 {
     rows.partition_point(|row| row.ends_before(n))
 }

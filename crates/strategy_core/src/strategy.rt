@@ -29,7 +29,8 @@ impl Model for Strategy {
 
     ghost view = { λ a. record { cap = a.cap; limit = a.limit; rounds = a.rounds; rows = a.rows.items } };
 
-    ghost invariant = { λ a. strategies.IsTable (record { cap = a.cap; limit = a.limit; rounds = a.rounds; rows = a.rows.items }) };
+    ghost invariant = { λ a. strategies.IsTable
+        (record { cap = a.cap; limit = a.limit; rounds = a.rounds; rows = a.rows.items }) };
 }
 
 impl Strategy {

@@ -59,7 +59,8 @@ impl<S: RangeStore> VersionLock<S> {
     pub fn try_pin(&self, alloc: Global, seat: &mut Seat<S>) -> Result<Pin<S>, PinFault>
         requires { seat.old.table_id ≡ self.now }
         ensures seat { seat.new.table_id ≡ seat.old.table_id }
-        ensures view { MatchResult result (λ _. LookedAtOnce seat.old.view seat.new.view) (λ e. NoPin e seat.old.view seat.new.view) }
+        ensures view { MatchResult result (λ _. LookedAtOnce seat.old.view seat.new.view)
+            (λ e. NoPin e seat.old.view seat.new.view) }
         ensures pin { IfOk result (λ p. IsPinOf p seat.new.view) }
     {
         if !self.try_lock(&mut seat.place) {
@@ -76,7 +77,8 @@ impl<S: RangeStore> VersionLock<S> {
         requires { (seat.old.table_id ≡ self.now) × (seat.old.view.writer ≡ None) }
         ensures seat { seat.new.table_id ≡ seat.old.table_id }
         ensures given { IfOk result (λ n. GotNumber seat.old.view seat.new.view × (n ≡ seat.new.view.next_writer)) }
-        ensures spent { IfErr result (λ _. Looked seat.old.view seat.new.view × (seat.new.view.next_writer ≡ max_next_writer)) }
+        ensures spent { IfErr result (λ _. Looked seat.old.view seat.new.view
+            × (seat.new.view.next_writer ≡ max_next_writer)) }
     {
         self.lock(rt, &mut seat.place);
         let writer = self.numbered(&mut seat.place)?;
@@ -117,7 +119,8 @@ impl<S: RangeStore> VersionLock<S> {
         requires { (seat.old.table_id ≡ self.now) × IsSome seat.old.view.writer }
         ensures seat { seat.new.table_id ≡ seat.old.table_id }
         ensures kept { (seat.new.view.writer ≡ seat.old.view.writer) × (seat.new.view.cap ≡ seat.old.view.cap) }
-        ensures did { IfOk result (λ a. DidInsert item seat.old.view a seat.new.view × (seat.new.view.busy ≡ seat.old.view.busy)) }
+        ensures did { IfOk result (λ a. DidInsert item seat.old.view a seat.new.view
+            × (seat.new.view.busy ≡ seat.old.view.busy)) }
         ensures did_not { IfErr result (λ e. TriedInsert item seat.old.view e seat.new.view) }
     {
         let Some(writer) = seat.writer else {

@@ -13,11 +13,15 @@ use version_log::Published;
 
 /// What holds between any two steps at a lock: there is one history, in which each view that is not spent has its place.
 pub fn one_history<S: RangeStore>()
-    ensures { (opened : _) (table : _) → ⟦<OneHistory as TableRule<Option<Published<S>>, View, Snapshot<Published<S>>>>⟧.holds opened table → Lawful table }
+    ensures { (opened : _) (table : _) →
+        ⟦<OneHistory as TableRule<Option<Published<S>>, View, Snapshot<Published<S>>>>⟧.holds opened table →
+        Lawful table }
 {}
 
 /// A history begins with what a beginning of it begins with, and its entries of a writer with those of the beginning.
 pub fn beginnings()
-    ensures again { (h seen earlier : History) → StartsWith h seen → StartsWith seen earlier → StartsWith h earlier }
-    ensures writers { (n : ℕ) (h seen : History) → StartsWith h seen → StartsWith (entries_by n h) (entries_by n seen) }
+    ensures again { (h seen earlier : History) → StartsWith h seen → StartsWith seen earlier →
+        StartsWith h earlier }
+    ensures writers { (n : ℕ) (h seen : History) → StartsWith h seen →
+        StartsWith (entries_by n h) (entries_by n seen) }
 {}

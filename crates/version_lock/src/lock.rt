@@ -55,7 +55,8 @@ impl<S: RangeStore> VersionLock<S> {
     pub(crate) fn lock<R: Wait>(&self, rt: &R, seat: &mut TableSeat<S>)
         requires { IsReady self.now seat.old }
         ensures same { IsSame seat.old seat.new }
-        ensures took { (busy : ℕ) × ((view seat.old).busy ≤ busy) × Took (waited busy (view seat.old), []) seat.new.me }
+        ensures took { (busy : ℕ) × ((view seat.old).busy ≤ busy)
+            × Took (waited busy (view seat.old), []) seat.new.me }
     {
         for _ in rt.forever() {
             if self.try_lock(seat) {
@@ -152,10 +153,12 @@ impl<S: RangeStore> VersionLock<S> {
         writer: u32,
         item: Item,
     ) -> Result<Added, LogFault>
-        requires holds { Holds self.now (Some (found (view seat.old))) seat.old × ((view seat.old).writer ≡ Some writer) }
+        requires holds { Holds self.now (Some (found (view seat.old))) seat.old
+            × ((view seat.old).writer ≡ Some writer) }
         requires below { writer < (view seat.old).next_writer }
         ensures seat { IsSame seat.old seat.new × (seat.new.me.1 ≡ []) }
-        ensures added { MatchResult result (λ a. Inserted writer item (view seat.old) a (view seat.new)) (λ e. NotInserted item (view seat.old) e (view seat.new)) }
+        ensures added { MatchResult result (λ a. Inserted writer item (view seat.old) a (view seat.new))
+            (λ e. NotInserted item (view seat.old) e (view seat.new)) }
     {
         let mut log = self.take(seat);
         match log.add(alloc, writer, item) {
@@ -178,8 +181,10 @@ impl<S: RangeStore> VersionLock<S> {
     pub(crate) fn numbered(&self, seat: &mut TableSeat<S>) -> Result<u32, WritersSpent>
         requires { Holds self.now (Some (found (view seat.old))) seat.old }
         ensures seat { IsSame seat.old seat.new × (seat.new.me.1 ≡ []) }
-        ensures given { IfOk result (λ n. (n ≡ (view seat.old).next_writer) × (view seat.new ≡ enrolled (view seat.old))) }
-        ensures spent { IfErr result (λ _. ((view seat.old).next_writer ≡ max_next_writer) × (view seat.new ≡ gave_back (view seat.old))) }
+        ensures given { IfOk result (λ n. (n ≡ (view seat.old).next_writer)
+            × (view seat.new ≡ enrolled (view seat.old))) }
+        ensures spent { IfErr result (λ _. ((view seat.old).next_writer ≡ max_next_writer)
+            × (view seat.new ≡ gave_back (view seat.old))) }
     {
         let mut log = self.take(seat);
         match log.give_writer() {

@@ -188,7 +188,8 @@ fn stand_in_order(rt: &impl Abort, log: &Published<FlatStore>, writer: u32, who:
 fn join_in<R: Wait>(rt: &R, lock: &Lock, first: &mut FlatSeat, mut other: FlatSeat)
     requires { (first.old.table_id ≡ lock.now) × (other.table_id ≡ lock.now) }
     ensures lock { first.new.table_id ≡ lock.now }
-    ensures others { (n : ℕ) → other.view.writer ≡ Some n → StartsWith (entries_by n first.new.view.seen) other.view.mine }
+    ensures others { (n : ℕ) → other.view.writer ≡ Some n →
+        StartsWith (entries_by n first.new.view.seen) other.view.mine }
 {
     lock.meet(rt, first, &mut other);
     lock.join_seat(first, other);

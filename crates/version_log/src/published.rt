@@ -33,7 +33,8 @@ impl<S: RangeStore> Model for Published<S> {
 
     ghost view = { λ p. log p.cap p.entries.items p.next_writer };
 
-    ghost invariant = { λ p. (S.content p.store ≡ content p.entries.items) × IsLog (log p.cap p.entries.items p.next_writer) };
+    ghost invariant = { λ p. (S.content p.store ≡ content p.entries.items)
+        × IsLog (log p.cap p.entries.items p.next_writer) };
 }
 
 impl<S: RangeStore> Published<S> {
@@ -80,10 +81,12 @@ impl<S: RangeStore> Published<S> {
     /// Else 40 where it is new and there are as many items as the cap, or 90, where it is new; nothing is changed then.
     pub fn add(&mut self, alloc: Global, writer: u32, item: Item) -> Result<Added, LogFault>
         requires { writer < self.old.next_writer }
-        ensures answer { IfSome (insertion_in result) (λ answer. answer ≡ insertion self.old.cap self.old.history item) }
+        ensures answer { IfSome (insertion_in result) (λ answer. answer ≡ insertion self.old.cap self.old.history
+            item) }
         ensures log { self.new ≡ log_after self.old writer item (insertion_in result) }
         ensures full { result ≡ Err LogFault.Full → length self.old.history ≡ self.old.cap }
-        ensures memory { result ≡ Err LogFault.Memory → insertion self.old.cap self.old.history item ≡ New (length self.old.history + 1) }
+        ensures memory { result ≡ Err LogFault.Memory →
+            insertion self.old.cap self.old.history item ≡ New (length self.old.history + 1) }
     {
         laws::set_of_a_list();
         if self.store.has(&item) {
@@ -103,7 +106,8 @@ impl<S: RangeStore> Published<S> {
 
     /// Gives out the next writer number, which rises by one. Else 42, exactly where it is 4,294,967,296.
     pub fn give_writer(&mut self) -> Result<u32, WritersSpent>
-        ensures given { IfOk result (λ writer. (writer ≡ self.old.next_writer) × (writer < max_next_writer) × (self.new ≡ with_writer_given self.old)) }
+        ensures given { IfOk result (λ writer. (writer ≡ self.old.next_writer) × (writer < max_next_writer)
+            × (self.new ≡ with_writer_given self.old)) }
         ensures spent { IfErr result (λ _. (self.old.next_writer ≡ max_next_writer) × (self.new ≡ self.old)) }
     {
         let next = &mut self.next_writer;

@@ -11,7 +11,8 @@ use store_core::{FlatStore, RangeStore};
 
 fn insert(alloc: Global, log: &mut Published<FlatStore>, item: Item) -> Result<bool, LogFault>
     requires { 0 < log.old.next_writer }
-    ensures history { OnOk result (log.new.history ≡ history_after log.old.history 0 item (insertion log.old.cap log.old.history item)) }
+    ensures history { OnOk result (log.new.history ≡ history_after log.old.history 0 item
+        (insertion log.old.cap log.old.history item)) }
     ensures there { IfOk result (λ new. new ≡ false → insertion log.old.cap log.old.history item ≡ Already) }
     ensures unchanged { OnErr result (log.new.history ≡ log.old.history) }
 {

@@ -68,7 +68,8 @@ impl Body {
     #[tactic(auto, using(crate::proofs::Lengths::lengths))]
     fn fields_length(&self) -> usize
         requires { length (items_in self.now) ≤ max_body }
-        ensures length { (X : _) → length (wire.body two_lane_profile (part_of X self.now)) ≡ 1 + length (wire.range_text X) + result }
+        ensures length { (X : _) →
+            length (wire.body two_lane_profile (part_of X self.now)) ≡ 1 + length (wire.range_text X) + result }
         ensures small { result < 2 ^ 32 }
         ensures each { AllByRecursion IsItem (items_in self.now) }
     {
@@ -91,7 +92,8 @@ impl Body {
     /// Whether a body with this range is above its limit.
     #[tactic(auto, using(crate::proofs::Lengths::lengths))]
     pub fn is_too_long(&self, range: &Range) -> bool
-        ensures long { IsTrue result ↔ (max_body < length (wire.body two_lane_profile (part_of range.now self.now))) }
+        ensures long { IsTrue result ↔
+            (max_body < length (wire.body two_lane_profile (part_of range.now self.now))) }
         ensures each { OnFalse result (AllByRecursion IsItem (items_in self.now)) }
     {
         self.items().len() > MAX_BODY || self.length(range) > MAX_BODY

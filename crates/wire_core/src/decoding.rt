@@ -19,7 +19,8 @@ use std::alloc::Global;
 
 /// Takes a frame off the front and gives its body, if a whole one has come.
 pub fn take_frame<'a>(bytes: &mut &'a [u8]) -> Result<Option<&'a [u8]>, WireFault>
-    ensures read { GivesField (λ x. option_map (λ body. (body.now, bytes.new.now)) x) result (reading.frame_at bytes.old.now) }
+    ensures read { GivesField (λ x. option_map (λ body. (body.now, bytes.new.now)) x) result
+        (reading.frame_at bytes.old.now) }
     ensures short { IfOk result (λ x. IfSome x (λ body. length body.now ≤ max_body)) }
     ensures shorter { IfOk result (λ x. IfSome x (λ _. length bytes.new.now < length bytes.old.now)) }
     ensures same { IfOk result (λ x. IfNone x (bytes.new.now ≡ bytes.old.now)) }
@@ -89,7 +90,8 @@ pub fn decode_message(alloc: Global, bytes: &[u8]) -> Result<Message, DecodeErro
     // What is read is spelled so.
     ensures found { IfOk result (λ message. Spells two_lane_profile message bytes.now) }
     // What is spelled so is read, unless memory runs out.
-    ensures only { (M : messages.Message Lanes) → Spells two_lane_profile M bytes.now → Gives (λ message. message) result (Ok M) }
+    ensures only { (M : messages.Message Lanes) → Spells two_lane_profile M bytes.now →
+        Gives (λ message. message) result (Ok M) }
     // Which fault it is.
     ensures fault { IfFault result (FaultyMessage two_lane_profile bytes.now) }
     ensures exact { Gives (λ message. message) result (message_in two_lane_profile bytes.now) }

@@ -36,7 +36,8 @@ impl Model for Feed {
 
     ghost view = { λ a. record { standing = standing_of a.standing; kept = a.kept.items } };
 
-    ghost invariant = { λ a. feed two_lane_profile (standing_of a.standing) a.kept.items ≡ stays (standing_of a.standing) a.kept.items };
+    ghost invariant = { λ a. feed two_lane_profile (standing_of a.standing) a.kept.items
+        ≡ stays (standing_of a.standing) a.kept.items };
 }
 
 impl Feed {
@@ -61,12 +62,17 @@ impl Feed {
         out: &mut Vec<Event>,
     ) -> Result<(), DecodeError>
         // The kept bytes and the piece are fed from where the stream stood.
-        ensures fed { UnlessMemory result (behind (event_values out.old.items) (feed two_lane_profile self.old.standing (self.old.kept ++ piece.now)) ≡ fed_into (event_values out.new.items) self.new) }
+        ensures fed { UnlessMemory result (behind (event_values out.old.items)
+            (feed two_lane_profile self.old.standing (self.old.kept ++ piece.now))
+            ≡ fed_into (event_values out.new.items) self.new) }
         ensures before { take (length out.old.items) out.new.items ≡ out.old.items }
         ensures fault { UnlessMemory result (refusal_in result ≡ fault_at self.new.standing) }
         ensures memory { IfMemory result ((self.new ≡ self.old) × (out.new.items ≡ out.old.items)) }
         // The cutting does not matter: the events of all calls are those of the stream.
-        ensures joined { UnlessMemory result ((bytes : List ℕ) (events : List (wire.Event Lanes)) → IsBytes bytes → Holds self.old bytes events → Holds self.new (bytes ++ piece.now) (events ++ (feed two_lane_profile self.old.standing (self.old.kept ++ piece.now)).events)) }
+        ensures joined { UnlessMemory result ((bytes : List ℕ) (events : List (wire.Event Lanes)) → IsBytes bytes →
+            Holds self.old bytes events →
+            Holds self.new (bytes ++ piece.now)
+            (events ++ (feed two_lane_profile self.old.standing (self.old.kept ++ piece.now)).events)) }
     {
         codec_laws::two_lanes_are_real();
         codec_laws::feeds_join::<Fingerprint>();

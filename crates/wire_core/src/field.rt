@@ -117,7 +117,8 @@ pub fn rises_from(before: Option<&Item>, item: &Item) -> bool
 
 /// An item of the range that is greater than the one before it, if there is one.
 pub fn take_item(bytes: &mut &[u8], range: &Range, before: Option<&Item>) -> Result<Item, WireFault>
-    ensures { GivesField (λ x. (x, bytes.new.now)) result (reading.item_at range.now (option_copied before.entry) bytes.old.now) }
+    ensures { GivesField (λ x. (x, bytes.new.now)) result
+        (reading.item_at range.now (option_copied before.entry) bytes.old.now) }
 {
     let item = take_text(bytes)?;
     if !rises_from(before, &item) {

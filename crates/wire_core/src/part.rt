@@ -68,7 +68,8 @@ impl Part {
     pub fn list(range: Range, items: Vec<Item>) -> Result<Part, PartFault>
         ensures part { IfOk result (λ p. p ≡ Listing range items.items) }
         ensures ok { IsOk result ↔ IsPart two_lane_profile (Listing range items.items) }
-        ensures fault { IfErr result (λ e. faults.part_fault two_lane_profile (Listing range items.items) ≡ Some (part_fault_number e)) }
+        ensures fault { IfErr result (λ e. faults.part_fault two_lane_profile (Listing range items.items)
+            ≡ Some (part_fault_number e)) }
     {
         Part::checked(range, Body::List(items))
     }
@@ -90,7 +91,8 @@ impl Part {
     pub fn answer(range: Range, marks: Marks, items: Vec<Item>) -> Result<Part, PartFault>
         ensures part { IfOk result (λ p. p ≡ Answer range marks items.items) }
         ensures ok { IsOk result ↔ IsPart two_lane_profile (Answer range marks items.items) }
-        ensures fault { IfErr result (λ e. faults.part_fault two_lane_profile (Answer range marks items.items) ≡ Some (part_fault_number e)) }
+        ensures fault { IfErr result (λ e. faults.part_fault two_lane_profile (Answer range marks items.items)
+            ≡ Some (part_fault_number e)) }
     {
         Part::checked(range, Body::Answer(marks, items))
     }
@@ -178,7 +180,8 @@ impl Part {
         requires { Lists body }
         ensures part { IfOk result (λ p. p ≡ part_of range body) }
         ensures ok { IsOk result ↔ IsPart two_lane_profile (part_of range body) }
-        ensures fault { IfErr result (λ e. faults.part_fault two_lane_profile (part_of range body) ≡ Some (part_fault_number e)) }
+        ensures fault { IfErr result (λ e. faults.part_fault two_lane_profile (part_of range body)
+            ≡ Some (part_fault_number e)) }
     {
         codec_laws::two_lanes_are_real();
         codec_laws::part_fault_is_exact::<Fingerprint>();

@@ -57,8 +57,13 @@ fn read_kept(
     out: &mut Vec<Event>,
 ) -> Result<Standing, AllocError>
     requires { taken.old ≤ length kept.old.items }
-    ensures joined { IfOk result (λ s. (back : List ℕ) → IsBytes back → behind (event_values out.old.items) (feed two_lane_profile (standing_of standing) ((drop taken.old kept.old.items ++ front.now) ++ back)) ≡ behind (event_values out.new.items) (feed two_lane_profile (standing_of s) (drop taken.new kept.new.items ++ back))) }
-    ensures rest { IfOk result (λ s. feed two_lane_profile (standing_of s) (drop taken.new kept.new.items) ≡ stays (standing_of s) (drop taken.new kept.new.items)) }
+    ensures joined { IfOk result (λ s. (back : List ℕ) → IsBytes back →
+        behind (event_values out.old.items) (feed two_lane_profile (standing_of standing)
+        ((drop taken.old kept.old.items ++ front.now) ++ back))
+        ≡ behind (event_values out.new.items) (feed two_lane_profile (standing_of s)
+        (drop taken.new kept.new.items ++ back))) }
+    ensures rest { IfOk result (λ s. feed two_lane_profile (standing_of s) (drop taken.new kept.new.items)
+        ≡ stays (standing_of s) (drop taken.new kept.new.items)) }
     ensures within { OnOk result (taken.new ≤ length kept.new.items) }
     ensures kept { take (length kept.old.items) kept.new.items ≡ kept.old.items }
     ensures before { take (length out.old.items) out.new.items ≡ out.old.items }
@@ -81,9 +86,13 @@ fn read_rest(
 ) -> Result<Standing, AllocError>
     requires within { taken ≤ length kept.old.items }
     requires done { taken < length kept.old.items → length rest.now ≡ 0 }
-    requires read { feed two_lane_profile (standing_of standing) (drop taken kept.old.items) ≡ stays (standing_of standing) (drop taken kept.old.items) }
-    ensures fed { IfOk result (λ s. behind (event_values out.old.items) (feed two_lane_profile (standing_of standing) (drop taken kept.old.items ++ rest.now)) ≡ fed_as out.new.items s kept.new.items) }
-    ensures rest { IfOk result (λ s. feed two_lane_profile (standing_of s) kept.new.items ≡ stays (standing_of s) kept.new.items) }
+    requires read { feed two_lane_profile (standing_of standing) (drop taken kept.old.items)
+        ≡ stays (standing_of standing) (drop taken kept.old.items) }
+    ensures fed { IfOk result (λ s. behind (event_values out.old.items)
+        (feed two_lane_profile (standing_of standing) (drop taken kept.old.items ++ rest.now))
+        ≡ fed_as out.new.items s kept.new.items) }
+    ensures rest { IfOk result (λ s. feed two_lane_profile (standing_of s) kept.new.items
+        ≡ stays (standing_of s) kept.new.items) }
     ensures kept { OnErr result (take (length kept.old.items) kept.new.items ≡ kept.old.items) }
     ensures before { take (length out.old.items) out.new.items ≡ out.old.items }
 {
@@ -106,9 +115,13 @@ fn read_through(
     standing: Standing,
     out: &mut Vec<Event>,
 ) -> Result<Standing, AllocError>
-    requires { feed two_lane_profile (standing_of standing) kept.old.items ≡ stays (standing_of standing) kept.old.items }
-    ensures fed { IfOk result (λ s. behind (event_values out.old.items) (feed two_lane_profile (standing_of standing) (kept.old.items ++ piece.now)) ≡ fed_as out.new.items s kept.new.items) }
-    ensures rest { IfOk result (λ s. feed two_lane_profile (standing_of s) kept.new.items ≡ stays (standing_of s) kept.new.items) }
+    requires { feed two_lane_profile (standing_of standing) kept.old.items
+        ≡ stays (standing_of standing) kept.old.items }
+    ensures fed { IfOk result (λ s. behind (event_values out.old.items)
+        (feed two_lane_profile (standing_of standing) (kept.old.items ++ piece.now))
+        ≡ fed_as out.new.items s kept.new.items) }
+    ensures rest { IfOk result (λ s. feed two_lane_profile (standing_of s) kept.new.items
+        ≡ stays (standing_of s) kept.new.items) }
     ensures kept { OnErr result (take (length kept.old.items) kept.new.items ≡ kept.old.items) }
     ensures before { take (length out.old.items) out.new.items ≡ out.old.items }
 {
@@ -135,9 +148,13 @@ pub fn read_behind(
     standing: Standing,
     out: &mut Vec<Event>,
 ) -> Result<Standing, AllocError>
-    requires { feed two_lane_profile (standing_of standing) kept.old.items ≡ stays (standing_of standing) kept.old.items }
-    ensures fed { IfOk result (λ s. behind (event_values out.old.items) (feed two_lane_profile (standing_of standing) (kept.old.items ++ piece.now)) ≡ fed_as out.new.items s kept.new.items) }
-    ensures rest { IfOk result (λ s. feed two_lane_profile (standing_of s) kept.new.items ≡ stays (standing_of s) kept.new.items) }
+    requires { feed two_lane_profile (standing_of standing) kept.old.items
+        ≡ stays (standing_of standing) kept.old.items }
+    ensures fed { IfOk result (λ s. behind (event_values out.old.items)
+        (feed two_lane_profile (standing_of standing) (kept.old.items ++ piece.now))
+        ≡ fed_as out.new.items s kept.new.items) }
+    ensures rest { IfOk result (λ s. feed two_lane_profile (standing_of s) kept.new.items
+        ≡ stays (standing_of s) kept.new.items) }
     ensures kept { OnErr result (take (length kept.old.items) kept.new.items ≡ kept.old.items) }
     ensures before { take (length out.old.items) out.new.items ≡ out.old.items }
 {

@@ -49,7 +49,8 @@ fn take_fingerprint(bytes: &mut &[u8]) -> Result<Fingerprint, WireFault>
 
 /// What follows the kind of a Sum.
 fn take_sum(bytes: &mut &[u8]) -> Result<(Range, Body), WireFault>
-    ensures { GivesField (λ x. (part_of x.0 x.1, bytes.new.now)) result (reading.sum_at two_lane_profile bytes.old.now) }
+    ensures { GivesField (λ x. (part_of x.0 x.1, bytes.new.now)) result
+        (reading.sum_at two_lane_profile bytes.old.now) }
 {
     let range = take_range(bytes)?;
     let sum = take_fingerprint(bytes)?;
@@ -93,7 +94,8 @@ fn take_fields(
     bytes: &mut &[u8],
     kind: u8,
 ) -> Result<Option<(Range, Body)>, DecodeError>
-    ensures { Gives (λ x. (fields_event x, bytes.new.now)) result (reading.fields_at two_lane_profile One_message kind bytes.old.now) }
+    ensures { Gives (λ x. (fields_event x, bytes.new.now)) result
+        (reading.fields_at two_lane_profile One_message kind bytes.old.now) }
 {
     match kind {
         1 => Ok(Some(take_sum(bytes)?)),

@@ -101,7 +101,8 @@ fn push_fields(out: &mut Vec<u8>, body: &Body) -> Result<(), AllocError>
 #[tactic(auto, using(crate::proofs::Lengths::lengths))]
 pub fn push_frame(out: &mut Vec<u8>, range: &Range, body: &Body) -> Result<(), AllocError>
     requires { IsPart two_lane_profile (part_of range.now body.now) }
-    ensures { OnOk result (out.new.items ≡ out.old.items ++ part_text two_lane_profile (part_of range.now body.now)) }
+    ensures { OnOk result (out.new.items ≡ out.old.items ++ part_text two_lane_profile
+        (part_of range.now body.now)) }
 {
     let length = body.length(range);
     out.reserve(4 + length)?;

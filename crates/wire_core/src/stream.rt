@@ -23,7 +23,8 @@ use std::alloc::{AllocError, Global};
 
 /// Takes the next frame off the front, behind so many parts of its message, and gives its event, if a whole one has come.
 fn take_event(alloc: Global, bytes: &mut &[u8], parts: usize) -> Result<Option<Event>, DecodeError>
-    ensures read { Gives (λ x. option_map (λ e. (event_value e, bytes.new.now)) x) result (reading.event_at two_lane_profile Stream parts bytes.old.now) }
+    ensures read { Gives (λ x. option_map (λ e. (event_value e, bytes.new.now)) x) result
+        (reading.event_at two_lane_profile Stream parts bytes.old.now) }
     ensures shorter { IfOk result (λ x. IfSome x (λ _. length bytes.new.now < length bytes.old.now)) }
     ensures same { IfOk result (λ x. IfNone x (bytes.new.now ≡ bytes.old.now)) }
     ensures room { IfOk result (λ x. IfSome x (λ e. Counts parts (event_value e))) }
@@ -41,7 +42,9 @@ fn take_event(alloc: Global, bytes: &mut &[u8], parts: usize) -> Result<Option<E
 /// Where reading goes on behind an event that came behind so many parts of its message.
 fn step_behind(event: &Event, parts: usize) -> Step
     requires { Counts parts (event_value event.now) }
-    ensures { (rest : List ℕ) (more : ℕ → List ℕ → Fed Lanes) → go_on (event_value event.now) parts (λ n. more n rest) ≡ with_event (event_value event.now) (goes_on result rest more) }
+    ensures { (rest : List ℕ) (more : ℕ → List ℕ → Fed Lanes) →
+        go_on (event_value event.now) parts (λ n. more n rest)
+        ≡ with_event (event_value event.now) (goes_on result rest more) }
 {
     match event {
         Event::Part(_) => Step::More(parts + 1),
@@ -57,7 +60,9 @@ fn take_one(
     parts: usize,
     out: &mut Vec<Event>,
 ) -> Result<Step, AllocError>
-    ensures step { IfOk result (λ step. (more : ℕ → List ℕ → Fed Lanes) → behind (event_values out.old.items) (fed_by (reading.event_at two_lane_profile Stream parts bytes.old.now) parts bytes.old.now more) ≡ behind (event_values out.new.items) (goes_on step bytes.new.now more)) }
+    ensures step { IfOk result (λ step. (more : ℕ → List ℕ → Fed Lanes) →
+        behind (event_values out.old.items) (fed_by (reading.event_at two_lane_profile Stream parts bytes.old.now)
+        parts bytes.old.now more) ≡ behind (event_values out.new.items) (goes_on step bytes.new.now more)) }
     ensures before { take (length out.old.items) out.new.items ≡ out.old.items }
     ensures shorter { IfOk result (λ step. IfMore step (λ _. length bytes.new.now < length bytes.old.now)) }
 {
@@ -80,7 +85,9 @@ fn take_frames(
     parts: usize,
     out: &mut Vec<Event>,
 ) -> Result<Standing, AllocError>
-    ensures fed { IfOk result (λ s. (fuel : ℕ) → length bytes.old.now ≤ fuel → behind (event_values out.old.items) (feed_frames two_lane_profile fuel parts bytes.old.now) ≡ fed_as out.new.items s (left_at s bytes.new.now)) }
+    ensures fed { IfOk result (λ s. (fuel : ℕ) → length bytes.old.now ≤ fuel →
+        behind (event_values out.old.items) (feed_frames two_lane_profile fuel parts bytes.old.now)
+        ≡ fed_as out.new.items s (left_at s bytes.new.now)) }
     ensures before { take (length out.old.items) out.new.items ≡ out.old.items }
 {
     let mut parts = parts;
@@ -94,7 +101,8 @@ fn take_frames(
 
 /// Takes the hello off the front, if its four bytes have come.
 fn take_hello(bytes: &mut &[u8]) -> Step
-    ensures step { feed_start two_lane_profile bytes.old.now ≡ goes_on result bytes.new.now (feed_frames two_lane_profile (length bytes.old.now)) }
+    ensures step { feed_start two_lane_profile bytes.old.now
+        ≡ goes_on result bytes.new.now (feed_frames two_lane_profile (length bytes.old.now)) }
     ensures shorter { length bytes.new.now ≤ length bytes.old.now }
 {
     if bytes.len() < 4 {
@@ -110,7 +118,8 @@ fn take_hello(bytes: &mut &[u8]) -> Step
 
 /// Takes the hello off the front, where it is due.
 fn take_start(bytes: &mut &[u8], standing: Standing) -> Step
-    ensures step { feed two_lane_profile (standing_of standing) bytes.old.now ≡ goes_on result bytes.new.now (feed_frames two_lane_profile (length bytes.old.now)) }
+    ensures step { feed two_lane_profile (standing_of standing) bytes.old.now
+        ≡ goes_on result bytes.new.now (feed_frames two_lane_profile (length bytes.old.now)) }
     ensures shorter { length bytes.new.now ≤ length bytes.old.now }
 {
     match standing {
@@ -127,7 +136,8 @@ pub fn read_on(
     standing: Standing,
     out: &mut Vec<Event>,
 ) -> Result<Standing, AllocError>
-    ensures fed { IfOk result (λ s. behind (event_values out.old.items) (feed two_lane_profile (standing_of standing) bytes.old.now) ≡ fed_as out.new.items s bytes.new.now) }
+    ensures fed { IfOk result (λ s. behind (event_values out.old.items)
+        (feed two_lane_profile (standing_of standing) bytes.old.now) ≡ fed_as out.new.items s bytes.new.now) }
     ensures before { take (length out.old.items) out.new.items ≡ out.old.items }
 {
     let there = match take_start(bytes, standing) {
@@ -153,11 +163,15 @@ pub fn read_piece(
     standing: Standing,
     out: &mut Vec<Event>,
 ) -> Result<Standing, AllocError>
-    ensures fed { IfOk result (λ s. behind (event_values out.old.items) (feed two_lane_profile (standing_of standing) bytes.old.now) ≡ fed_as out.new.items s bytes.new.now) }
+    ensures fed { IfOk result (λ s. behind (event_values out.old.items)
+        (feed two_lane_profile (standing_of standing) bytes.old.now) ≡ fed_as out.new.items s bytes.new.now) }
     // Reading goes on from here as from there.
-    ensures joined { IfOk result (λ s. (back : List ℕ) → IsBytes back → behind (event_values out.old.items) (feed two_lane_profile (standing_of standing) (bytes.old.now ++ back)) ≡ behind (event_values out.new.items) (feed two_lane_profile (standing_of s) (bytes.new.now ++ back))) }
+    ensures joined { IfOk result (λ s. (back : List ℕ) → IsBytes back →
+        behind (event_values out.old.items) (feed two_lane_profile (standing_of standing) (bytes.old.now ++ back))
+        ≡ behind (event_values out.new.items) (feed two_lane_profile (standing_of s) (bytes.new.now ++ back))) }
     // What is left has been read, and is the end of the bytes.
-    ensures rest { IfOk result (λ s. feed two_lane_profile (standing_of s) bytes.new.now ≡ stays (standing_of s) bytes.new.now) }
+    ensures rest { IfOk result (λ s. feed two_lane_profile (standing_of s) bytes.new.now
+        ≡ stays (standing_of s) bytes.new.now) }
     ensures end { OnOk result (IsEndOf bytes.old.now bytes.new.now) }
     ensures before { take (length out.old.items) out.new.items ≡ out.old.items }
 {
