@@ -1,5 +1,6 @@
 -- What a feed holds, call after call.
-use Rattle.std.proofs.Common.{◌≡◌, ℕ, ◌+◌, ◌<◌, Result, Ok, Err, List, ◌++◌, length, ap, subst, ◌∙◌}
+use Rattle.std.proofs.Common.{◌≡◌, ℕ, ◌+◌, ◌<◌, Result, Ok, Err, List, ◌++◌, length, sym, ap, subst, ◌∙◌}
+use Rattle.std.proofs.lemmas.List.{append-nil}
 use Rattle.definitions.specs.Items.{IsBytes}
 use Rattle.definitions.specs.Fingerprints.{Lanes}
 use Rattle.definitions.specs.Wire.{two_lane_profile, max_body, Event}
@@ -20,6 +21,14 @@ held_joined join old piece right before after new fed bytes events fits holds =
     join Before_hello bytes piece fits right
     ∙ ap (λ (a : Fed Lanes). joined a (feed two_lane_profile a.to (a.kept ++ piece))) holds
     ∙ (λ i. record { events = events ++ b.events; to = to i; kept = kept i })
+
+-- bytes that are only kept
+pub kept_alone : (events : List (Event Lanes)) (old : StreamState) (piece kept : List ℕ) → kept ≡ old.kept ++ piece → feed two_lane_profile old.standing kept ≡ stays old.standing kept →
+    behind events (feed two_lane_profile old.standing (old.kept ++ piece)) ≡ fed_into events (record { standing = old.standing; kept = kept })
+kept_alone events old piece kept is waits =
+    ap (λ (bytes : List ℕ). behind events (feed two_lane_profile old.standing bytes)) (sym is)
+    ∙ ap (behind events) waits
+    ∙ (λ i. record { events = append-nil events i; to = old.standing; kept = kept })
 
 pub kept_few : FeedsRest two_lane_profile → (standing : Standing) (kept : List ℕ) → IsBytes kept → feed two_lane_profile standing kept ≡ stays standing kept → length kept < 4 + max_body
 kept_few rests standing kept fits read =

@@ -1,17 +1,14 @@
 -- Bytes behind the beginning of a hello or a frame, fewer than it wants.
 use Rattle.std.proofs.Common.{rules, ◌≡◌, ℕ, zero, suc, ◌+◌, ◌-◌, ◌<◌, ◌≤◌, ◌==◌, ◌||◌, Bool, true, false, Result, Ok, Err, Option, Some, None, List, [], ◌∷◌, ◌++◌, length, take, drop, nat_lt, if◌then◌else◌, bytes_eq, refl, sym, ap, subst, ◌∙◌, arith}
-use Rattle.std.proofs.lemmas.List.{append-nil, length-append, length-drop}
+use Rattle.std.proofs.lemmas.List.{length-append, length-drop}
 use Rattle.std.proofs.lemmas.Bool.{ltb-true, ltb-false}
 use Rattle.std.specs.Int.{w32, from_be_bytes}
 use Rattle.definitions.specs.Wire.{Profile, Event, Came, Ended, Failed, Stream, max_body}
 use Rattle.definitions.specs.Refusals.{bad_hello}
-use Rattle.definitions.specs.Reading.{event_at, frame_at, frame_of}
+use Rattle.definitions.specs.Reading.{event_at}
 use Rattle.definitions.specs.Streams as streams
 use Rattle.definitions.specs.Streams.{Before_hello, In_message, Meaning_over, Faulted, Fed, fed_by, feed_frames, feed_start, feed, stays}
-use Rattle.wire_core.specs.Events.{event_values}
-use Rattle.wire_core.specs.Standings.{standing_of, behind, fed_as}
-use Rattle.wire_core.specs.declared.event.Event as declared
-use Rattle.wire_core.specs.declared.standing.Standing.{Standing}
+use Rattle.wire_core.specs.Feeds.{fault_at}
 
 abbrev is_hello : streams.Standing → Bool
 is_hello Before_hello = true
@@ -114,5 +111,9 @@ wants_more kept same more wanted is short frame some less =
     subst (λ (t : List ℕ). (length t < 4 → length t + wanted ≡ 4) × (4 ≤ length t → wanted ≡ 4 + number t - length t)) is (short, frame) in
     (some, (λ few. let all = told.0 few in omega arith), (λ four. let all = told.1 four in omega arith))
 
-pub only_kept : (out : List declared.Event) (standing : Standing) (bytes kept : List ℕ) → kept ≡ bytes → behind (event_values out) (stays (standing_of standing) bytes) ≡ fed_as out standing kept
-only_kept out standing bytes kept same i = record { events = append-nil (event_values out) i; to = standing_of standing; kept = sym same i }
+-- where bytes are kept, there is no fault
+pub no_fault : {F : Type 0} (P : Profile F) (s : streams.Standing) (kept : List ℕ) → feed P s kept ≡ stays s kept → 0 < length kept → fault_at s ≡ None
+no_fault P Before_hello kept read some = refl
+no_fault P (In_message parts) kept read some = refl
+no_fault P Meaning_over kept read some = refl
+no_fault P (Faulted code) kept read some = absurd (nothing_kept (Faulted code) kept some read)

@@ -10,7 +10,7 @@ ghost use Rattle.wire_core.specs.Feeds.{fed_into, Holds, fault_at, fault_in, ref
 
 use crate::event::Event;
 use crate::fault::{DecodeError, WireFault};
-use crate::pieces::{are_few, read_behind};
+use crate::pieces::{are_few, keep, read_behind};
 use crate::standing::Standing;
 use crate::stream::are_bytes;
 use digest_core::Fingerprint;
@@ -77,6 +77,9 @@ impl Feed {
         codec_laws::two_lanes_are_real();
         codec_laws::feeds_join::<Fingerprint>();
         are_bytes(piece);
+        if keep(&mut self.kept, piece, self.standing)? {
+            return Ok(());
+        }
         let kept = self.kept.len();
         let events = out.len();
         match read_behind(alloc, &mut self.kept, piece, self.standing, out) {

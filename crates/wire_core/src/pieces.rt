@@ -1,12 +1,13 @@
 //! A stream that comes in pieces: the bytes that are kept of an unfinished hello or frame, and a piece behind them.
 
-ghost use Rattle.std.specs.Prelude.{◌≡◌, ℕ, ◌+◌, ◌-◌, ◌<◌, ◌≤◌, List, ◌++◌, IfOk, OnOk, OnErr, length, take, drop};
+ghost use Rattle.std.specs.Prelude.{◌≡◌, ℕ, ◌+◌, ◌-◌, ◌<◌, ◌≤◌, true, false, None, List, ◌++◌, IfOk, OnOk, OnErr, length, take, drop};
 ghost use Rattle.std.specs.Int.{w32, from_be_bytes};
 ghost use Rattle.definitions.specs.Items.{IsBytes};
 ghost use Rattle.definitions.specs.Wire.{two_lane_profile, max_body};
 ghost use Rattle.definitions.specs.Streams.{feed, stays};
 ghost use Rattle.wire_core.specs.Events.{event_values};
 ghost use Rattle.wire_core.specs.Standings.{standing_of, behind, fed_as};
+ghost use Rattle.wire_core.specs.Feeds.{fault_at};
 
 use crate::event::Event;
 use crate::standing::Standing;
@@ -45,6 +46,25 @@ fn give_up(kept: &mut Vec<u8>, taken: usize)
     if taken > 0 {
         kept.drain(..taken);
     }
+}
+
+/// Keeps a piece that does not end the unfinished hello or frame, and tells whether it did.
+pub fn keep(kept: &mut Vec<u8>, piece: &[u8], standing: Standing) -> Result<bool, AllocError>
+    requires { feed two_lane_profile (standing_of standing) kept.old.items
+        ≡ stays (standing_of standing) kept.old.items }
+    // The piece is kept, and no event or fault comes of it.
+    ensures kept { IfOk result (λ is_kept. is_kept ≡ true → (kept.new.items ≡ kept.old.items ++ piece.now)
+        × (feed two_lane_profile (standing_of standing) kept.new.items
+        ≡ stays (standing_of standing) kept.new.items) × (fault_at (standing_of standing) ≡ None)) }
+    ensures same { IfOk result (λ is_kept. is_kept ≡ false → kept.new.items ≡ kept.old.items) }
+    ensures memory { OnErr result (kept.new.items ≡ kept.old.items) }
+{
+    let _ = standing;
+    if kept.is_empty() || piece.len() >= wanted(kept) {
+        return Ok(false);
+    }
+    kept.extend_from_slice(piece)?;
+    Ok(true)
 }
 
 /// Reads the kept bytes behind those that are taken, and the front of a piece, and tells which are taken then.
@@ -108,7 +128,9 @@ fn read_rest(
 }
 
 /// Reads a piece behind the bytes that are kept of the stream, and keeps what is left.
-fn read_through(
+///
+/// Where memory runs out the kept bytes and the events begin as before.
+pub fn read_behind(
     alloc: Global,
     kept: &mut Vec<u8>,
     piece: &[u8],
@@ -136,31 +158,4 @@ fn read_through(
         rest = back;
     }
     read_rest(alloc, kept, taken, rest, there, out)
-}
-
-/// The same. A piece that does not end the unfinished hello or frame is only kept.
-///
-/// Where memory runs out the kept bytes and the events begin as before.
-pub fn read_behind(
-    alloc: Global,
-    kept: &mut Vec<u8>,
-    piece: &[u8],
-    standing: Standing,
-    out: &mut Vec<Event>,
-) -> Result<Standing, AllocError>
-    requires { feed two_lane_profile (standing_of standing) kept.old.items
-        ≡ stays (standing_of standing) kept.old.items }
-    ensures fed { IfOk result (λ s. behind (event_values out.old.items)
-        (feed two_lane_profile (standing_of standing) (kept.old.items ++ piece.now))
-        ≡ fed_as out.new.items s kept.new.items) }
-    ensures rest { IfOk result (λ s. feed two_lane_profile (standing_of s) kept.new.items
-        ≡ stays (standing_of s) kept.new.items) }
-    ensures kept { OnErr result (take (length kept.old.items) kept.new.items ≡ kept.old.items) }
-    ensures before { take (length out.old.items) out.new.items ≡ out.old.items }
-{
-    if !kept.is_empty() && piece.len() < wanted(kept) {
-        kept.extend_from_slice(piece)?;
-        return Ok(standing);
-    }
-    read_through(alloc, kept, piece, standing, out)
 }

@@ -1,21 +1,24 @@
-use Rattle.std.proofs.Common.{rules, ◌≡◌, ◌++◌, length, sym, ap, ◌∙◌, subst}
+use Rattle.std.proofs.Common.{◌≡◌, ◌++◌, drop, sym, ap, ◌∙◌, append_assoc}
+use Rattle.std.proofs.lemmas.List.{take-append-drop}
 use Rattle.definitions.specs.Wire.{two_lane_profile}
-use Rattle.definitions.specs.Streams.{feed, stays}
+use Rattle.definitions.specs.Streams.{feed}
 use Rattle.wire_core.specs.Events.{event_values}
 use Rattle.wire_core.specs.Standings.{standing_of, behind}
-use Rattle.wire_core.proofs.Waiting.{still_waits, only_kept, wants_more}
+use Rattle.wire_core.proofs.Feeding.{before_both}
 use Rattle.wire_core.proofs.pieces.read_behind.Goals as goal
 
-pub returns-then-piece-wanted-clause-fed : goal.returns-then-piece-wanted-clause-fed
-returns-then-piece-wanted-clause-fed c =
-    let bytes = c.deref.ensures.value in
-    let wants = wants_more c.args.kept.now.items c.deref.result.now c.args.piece.now c.wanted.result bytes c.wanted.ensures.short c.wanted.ensures.frame (search rules) (search rules) in
-    let waits = still_waits two_lane_profile (standing_of c.args.standing) c.args.kept.now.items c.args.piece.now c.requires wants in
-    ap (behind (event_values c.args.out.now.items)) waits ∙ only_kept c.args.out.now.items c.args.standing _ c.extend_from_slice.new.self.items c.in_ok-extend_from_slice.ensures.items
-
-pub returns-then-piece-wanted-clause-rest : goal.returns-then-piece-wanted-clause-rest
-returns-then-piece-wanted-clause-rest c =
-    let bytes = c.deref.ensures.value in
-    let wants = wants_more c.args.kept.now.items c.deref.result.now c.args.piece.now c.wanted.result bytes c.wanted.ensures.short c.wanted.ensures.frame (search rules) (search rules) in
-    let waits = still_waits two_lane_profile (standing_of c.args.standing) c.args.kept.now.items c.args.piece.now c.requires wants in
-    subst (λ bytes. feed two_lane_profile (standing_of c.args.standing) bytes ≡ stays (standing_of c.args.standing) bytes) (sym c.in_ok-extend_from_slice.ensures.items) waits
+pub pieces-preserved : goal.pieces-preserved
+pieces-preserved c =
+    let live = drop c.pieces.taken c.pieces.kept.items in
+    let front = c.split_at.result.0.now in
+    let back = c.split_at.result.1.now in
+    let rest : front ++ back ≡ c.pieces.rest.now = (λ i. c.split_at.ensures.front i ++ c.split_at.ensures.back i) ∙ take-append-drop _ c.pieces.rest.now in
+    record {
+      so_far = sym (c.in_ok-there.ensures.joined back c.are_bytes.ensures)
+          ∙ ap (λ bytes. behind (event_values c.pieces.out.items) (feed two_lane_profile (standing_of c.pieces.there) bytes)) (append_assoc live front back ∙ ap (λ bytes. live ++ bytes) rest)
+          ∙ c.pieces.invariant.so_far;
+      read = c.in_ok-there.ensures.rest;
+      within = c.in_ok-there.ensures.within;
+      kept = before_both c.args.kept.now.items c.pieces.kept.items c.read_kept.new.kept.items c.pieces.invariant.kept c.read_kept.ensures.kept;
+      before = before_both c.args.out.now.items c.pieces.out.items c.read_kept.new.out.items c.pieces.invariant.before c.read_kept.ensures.before;
+    }

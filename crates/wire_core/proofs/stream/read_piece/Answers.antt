@@ -1,10 +1,7 @@
-use Rattle.std.proofs.Common.{rules, ◌≡◌, ◌++◌, List, ℕ}
-use Rattle.definitions.specs.Items.{IsBytes}
 use Rattle.definitions.specs.Wire.{two_lane_profile}
-use Rattle.definitions.specs.Streams.{feed, stays}
 use Rattle.codec_laws.specs.Parts.{IsEndOf}
 use Rattle.wire_core.specs.Events.{event_values}
-use Rattle.wire_core.specs.Standings.{standing_of, behind, fed_as}
+use Rattle.wire_core.specs.Standings.{standing_of}
 use Rattle.wire_core.proofs.Feeding.{if_ok, piece_joined, piece_rests}
 use Rattle.wire_core.proofs.stream.read_piece.Goals as goal
 

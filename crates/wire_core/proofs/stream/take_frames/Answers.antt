@@ -1,5 +1,4 @@
-use Rattle.std.proofs.Common.{rules, ◌<◌, take, length, subst}
-use Rattle.definitions.specs.Wire.{two_lane_profile}
+use Rattle.std.proofs.Common.{rules, ◌<◌, length, subst}
 use Rattle.wire_core.specs.Events.{event_values}
 use Rattle.wire_core.specs.Standings.{IfMore}
 use Rattle.wire_core.proofs.Feeding.{IsStep, frames_begin, frames_go_on, frames_rest, before_both}

@@ -3,7 +3,7 @@ use Rattle.definitions.specs.Wire.{two_lane_profile}
 use Rattle.definitions.specs.Streams.{feed, stays}
 use Rattle.wire_core.specs.Events.{event_values}
 use Rattle.wire_core.specs.Standings.{standing_of, behind}
-use Rattle.wire_core.proofs.pieces.read_through.Given as goal
+use Rattle.wire_core.proofs.pieces.read_behind.Given as goal
 
 -- the events so far, in front of those of the kept bytes and the rest of the piece, are all
 abbrev pub invariant-pieces : goal.invariant-pieces
