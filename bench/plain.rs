@@ -348,6 +348,10 @@ impl Feed {
     }
 
     fn feed(&mut self, piece: &[u8], out: &mut Vec<Event>) -> Result<(), Refusal> {
+        if !self.kept.is_empty() && piece.len() < self.wanted() {
+            keep(&mut self.kept, piece);
+            return Ok(());
+        }
         let mut rest = piece;
         while !self.kept.is_empty() && !rest.is_empty() {
             let (front, back) = rest.split_at(self.wanted().min(rest.len()));
@@ -363,6 +367,14 @@ impl Feed {
             self.kept.extend_from_slice(left);
         }
         Ok(())
+    }
+}
+
+/// Appends a piece. A byte alone is pushed.
+fn keep(kept: &mut Vec<u8>, piece: &[u8]) {
+    match piece {
+        [byte] => kept.push(*byte),
+        _ => kept.extend_from_slice(piece),
     }
 }
 
@@ -619,10 +631,27 @@ fn run_feed(folder: &Path, rounds: usize) -> Result<(), Refusal> {
             println!("{step}_events {count}");
         }
     }
+    let bytes = vec![7; 1 << 26];
+    for _ in 0..rounds {
+        times.time("kept_1", || only_kept(&bytes, black_box(1)));
+    }
     for (name, took) in &times.0 {
         println!("{name} {:.1}", took.as_secs_f64() * 1e6);
     }
     Ok(())
+}
+
+/// Keeps the bytes in pieces of this size, at most 100 bytes at a time, and reads none of them. No feed can take less.
+fn only_kept(bytes: &[u8], size: usize) -> usize {
+    let (mut kept, mut count) = (Vec::new(), 0);
+    for piece in bytes.chunks(size) {
+        if kept.len() + piece.len() > 100 {
+            count += black_box(&kept).len();
+            kept.clear();
+        }
+        keep(&mut kept, piece);
+    }
+    count
 }
 
 fn main() {

@@ -48,6 +48,18 @@ fn give_up(kept: &mut Vec<u8>, taken: usize)
     }
 }
 
+/// Appends a piece. A byte alone is pushed, as a copy costs more than the byte.
+fn append(kept: &mut Vec<u8>, piece: &[u8]) -> Result<(), AllocError>
+    ensures kept { OnOk result (kept.new.items ≡ kept.old.items ++ piece.now) }
+    ensures memory { OnErr result (kept.new.items ≡ kept.old.items) }
+{
+    match piece {
+        [byte] => kept.push(*byte)?,
+        _ => kept.extend_from_slice(piece)?,
+    }
+    Ok(())
+}
+
 /// Keeps a piece that does not end the unfinished hello or frame, and tells whether it did.
 pub fn keep(kept: &mut Vec<u8>, piece: &[u8], standing: Standing) -> Result<bool, AllocError>
     requires { feed two_lane_profile (standing_of standing) kept.old.items
@@ -63,7 +75,7 @@ pub fn keep(kept: &mut Vec<u8>, piece: &[u8], standing: Standing) -> Result<bool
     if kept.is_empty() || piece.len() >= wanted(kept) {
         return Ok(false);
     }
-    kept.extend_from_slice(piece)?;
+    append(kept, piece)?;
     Ok(true)
 }
 

@@ -9,5 +9,5 @@ pub returns-clause-kept : goal.returns-clause-kept
 returns-clause-kept c =
     let wants = wants_more c.args.kept.now.items c.deref.result.now c.args.piece.now c.wanted.result c.deref.ensures.value c.wanted.ensures.short c.wanted.ensures.frame (search rules) (search rules) in
     let waits = still_waits two_lane_profile (standing_of c.args.standing) c.args.kept.now.items c.args.piece.now c.requires wants in
-    let same = c.in_ok-extend_from_slice.ensures.items in
+    let same = c.in_ok-append.ensures.kept in
     λ told. (same, subst (λ bytes. feed two_lane_profile (standing_of c.args.standing) bytes ≡ stays (standing_of c.args.standing) bytes) (sym same) waits, no_fault two_lane_profile (standing_of c.args.standing) c.args.kept.now.items c.requires wants.0)
