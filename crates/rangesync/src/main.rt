@@ -1,21 +1,14 @@
 //! The program `rangesync`.
 #![tactic(auto)]
 
-mod accepted;
-mod fault;
-mod hexed;
 mod opening;
-mod printed;
-mod reports;
 mod run;
 mod serve;
-mod session_texts;
-mod sim;
 mod sync;
 #[cfg(test)]
 mod tests;
 
-use crate::fault::Fault;
+use printing_core::{Fault, tell, tell_no_text};
 use std::env::Env;
 use std::io::{Read, Write};
 use std::net::{Net, TcpListener, TcpStream};
@@ -44,13 +37,13 @@ where
     let words = match env::args(rt) {
         Ok(words) => words,
         Err(error) if error.kind() == io::ErrorKind::OutOfMemory => {
-            return printed::tell(err, Fault::Memory);
+            return tell(err, Fault::Memory);
         }
-        Err(_) => return printed::tell_no_text(err),
+        Err(_) => return tell_no_text(err),
     };
     match words.collect::<Vec<String>>(rt.alloc()) {
         Ok(words) => run::run(rt, words.as_slice(), reader, out, err),
-        Err(refused) => printed::tell(err, Fault::from(refused)),
+        Err(refused) => tell(err, Fault::from(refused)),
     }
 }
 

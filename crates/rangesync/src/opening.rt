@@ -2,8 +2,8 @@
 
 ghost use Rattle.std.specs.Prelude.{◌≡◌, IfOk};
 
-use crate::fault::Fault;
 use item_core::Range;
+use printing_core::Fault;
 use settings_core::{read_items, read_strategy};
 use std::alloc::Global;
 use std::rt::Files;

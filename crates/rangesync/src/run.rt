@@ -4,14 +4,11 @@ ghost use Rattle.std.specs.Prelude.{◌≤◌, length};
 ghost use Rattle.store_core.specs.Flat.{flat_items};
 ghost use Rattle.settings_core.specs.Spans.{AreInSpan};
 
-use crate::accepted::checked_text;
-use crate::fault::Fault;
 use crate::opening::read_opening;
 use crate::serve::{Serving, serve};
-use crate::sim::sim_text;
 use crate::sync::sync;
-use crate::{hexed, printed};
 use ends_core::{answer, list_reply, read_input, write_output};
+use printing_core::{Fault, checked_text, decode_text, encode_lines, sim_text, tell, tell_words};
 use settings_core::{Command, read_items, read_strategy, read_words, scenario_of};
 use std::alloc::Global;
 use std::convert::AsStr;
@@ -36,9 +33,9 @@ fn answer_hex<I: Read + Drop, O: Write + Drop>(
     requires few { length (flat_items store.now) ≤ 65536 }
 {
     let text = read_input(alloc, &mut Watched::new(reader))?;
-    let message = decode_message(alloc, &hexed::decode_text(alloc, &text)?)?;
+    let message = decode_message(alloc, &decode_text(alloc, &text)?)?;
     let reply = list_reply(alloc, store, &message)?;
-    write_output(&mut Watched::new(out), &hexed::encode_lines(alloc, &reply)?)?;
+    write_output(&mut Watched::new(out), &encode_lines(alloc, &reply)?)?;
     Ok(())
 }
 
@@ -151,10 +148,10 @@ where
     let mut err = err;
     let command = match read_words(rt.alloc(), words) {
         Ok(command) => command,
-        Err(fault) => return printed::tell_words(out, err, fault),
+        Err(fault) => return tell_words(out, err, fault),
     };
     match obey(rt, command, reader, out, &mut err) {
         Ok(()) => 0,
-        Err(fault) => printed::tell(err, fault),
+        Err(fault) => tell(err, fault),
     }
 }

@@ -2,14 +2,11 @@
 
 ghost use Rattle.std.specs.Prelude.{◌≡◌};
 ghost use Rattle.settings_core.specs.Spans.{IsWorkerCount};
-ghost use Rattle.rangesync.specs.Openings.{report_fault, fault_in};
 
-use crate::fault::Fault;
 use crate::opening::Opening;
-use crate::printed::tell_address;
-use crate::session_texts::{listening_line, served_text};
 use ends_core::{WriterFailed, write_output};
-use peer_threads::{OpenGate, Report, Shared, run_workers};
+use peer_threads::{OpenGate, Shared, run_workers};
+use printing_core::{Fault, listening_line, refusal_of, served_text, tell_address};
 use session_table::SessionTable;
 use std::alloc::Global;
 use std::io::Write;
@@ -49,17 +46,6 @@ fn announce<O: Write, E: Write>(
     Ok(())
 }
 
-/// The refusal of workers that ended: the source's fault, or 90 where no worker started.
-fn refusal(report: Report) -> Result<(), Fault>
-    ensures { fault_in result ≡ report_fault report }
-{
-    match report.fault {
-        Some(fault) => Err(Fault::from(fault)),
-        None if report.started == 0 => Err(Fault::Memory),
-        None => Ok(()),
-    }
-}
-
 /// Serves sessions until there are no more connections, and prints what was counted.
 ///
 /// Else 90, 60, or `io write`; and behind what was counted 62, or 90 where no worker started.
@@ -93,5 +79,5 @@ where
     let items = lock.close_with(rt, seat).count();
     let text = served_text(alloc, totals, items)?;
     write_output(&mut Watched::new(out), text.as_bytes())?;
-    refusal(report)
+    refusal_of(report)
 }

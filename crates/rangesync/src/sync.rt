@@ -2,11 +2,10 @@
 
 ghost use Rattle.std.specs.Prelude.{◌≡◌};
 
-use crate::fault::Fault;
 use crate::opening::Opening;
-use crate::session_texts::outcome_text;
 use ends_core::write_output;
 use peer_threads::{OpenGate, Shared, dial_one};
+use printing_core::{Fault, outcome_text};
 use session_table::SessionTable;
 use std::io::Write;
 use std::net::{Net, TcpStream};

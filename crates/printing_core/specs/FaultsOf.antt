@@ -1,0 +1,113 @@
+-- Why a run is refused, by what refused, and its status.
+--     of_answer, of_input, of_decoding, of_listing, of_settings, of_scenario, of_check, of_log, of_listen, of_connect, of_source
+--                                                   the fault of what a lower call answers
+--     IsWordsStatus f status                        the status of a call whose words ask for nothing that is done
+--     status_of f                                   the status of a run that ends so
+use Rattle.std.specs.Prelude.{ℕ, ◌≡◌, ◌⊎◌}
+use Rattle.wire_core.specs.declared.fault.DecodeError.{DecodeError}
+use Rattle.wire_core.specs.declared.fault.DecodeError.TheVariants as errors
+use Rattle.ends_core.specs.declared.input.InputFault.{InputFault}
+use Rattle.ends_core.specs.declared.input.InputFault.TheVariants as inputs
+use Rattle.ends_core.specs.declared.listing.ListReplyFault.{ListReplyFault}
+use Rattle.ends_core.specs.declared.listing.ListReplyFault.TheVariants as lists
+use Rattle.ends_core.specs.declared.answering.AnswerFault.{AnswerFault}
+use Rattle.ends_core.specs.declared.answering.AnswerFault.TheVariants as answers
+use Rattle.settings_core.specs.declared.fault.SettingsFault.{SettingsFault}
+use Rattle.settings_core.specs.declared.fault.SettingsFault.TheVariants as settings
+use Rattle.settings_core.specs.declared.scenario_fault.ScenarioFault.TheVariants as scenarios
+use Rattle.settings_core.specs.declared.scenario_fault.ScenarioError.{ScenarioError}
+use Rattle.settings_core.specs.declared.scenario_fault.ScenarioError.TheVariants as scenario_errors
+use Rattle.settings_core.specs.declared.words.WordsFault.{WordsFault}
+use Rattle.settings_core.specs.declared.words.WordsFault.TheVariants as words
+use Rattle.strategy_check.specs.declared.fault.CheckError.{CheckError}
+use Rattle.strategy_check.specs.declared.fault.CheckError.TheVariants as checks
+use Rattle.version_log.specs.declared.answer.LogFault.{LogFault}
+use Rattle.version_log.specs.declared.answer.LogFault.TheVariants as logs
+use Rattle.tcp_front.specs.declared.fault.ListenFault.{ListenFault}
+use Rattle.tcp_front.specs.declared.fault.ListenFault.TheVariants as listens
+use Rattle.tcp_front.specs.declared.fault.ConnectFault.{ConnectFault}
+use Rattle.tcp_front.specs.declared.fault.ConnectFault.TheVariants as connects
+use Rattle.peer_threads.specs.declared.source.SourceFault.{SourceFault}
+use Rattle.peer_threads.specs.declared.source.SourceFault.TheVariants as sources
+use Rattle.printing_core.specs.declared.fault.Fault.{Fault}
+use Rattle.printing_core.specs.declared.fault.Fault.TheVariants.{CannotRead, BadItemLine, TooManyItems, BadScenario, BadStep, Strategy, Check, Wire, Misplaced, Bind, Connect, Accept, Session, PeerRefused, ReaderFailed, WriterFailed, Memory}
+
+abbrev pub of_answer : AnswerFault → Fault
+of_answer answers.CannotRead = CannotRead
+of_answer (answers.Wire f) = Wire f
+of_answer answers.Misplaced = Misplaced
+of_answer answers.Io = WriterFailed
+of_answer answers.Memory = Memory
+
+abbrev pub of_input : InputFault → Fault
+of_input inputs.CannotRead = CannotRead
+of_input inputs.Memory = Memory
+
+abbrev pub of_decoding : DecodeError → Fault
+of_decoding (errors.Fault f) = Wire f
+of_decoding errors.Memory = Memory
+
+abbrev pub of_listing : ListReplyFault → Fault
+of_listing lists.Misplaced = Misplaced
+of_listing lists.Memory = Memory
+
+abbrev pub of_settings : SettingsFault → Fault
+of_settings settings.CannotRead = CannotRead
+of_settings (settings.BadItemLine line) = BadItemLine line
+of_settings settings.TooManyItems = TooManyItems
+of_settings (settings.Strategy f) = Strategy f
+of_settings settings.Memory = Memory
+
+abbrev pub of_scenario : ScenarioError → Fault
+of_scenario scenario_errors.Memory = Memory
+of_scenario (scenario_errors.Fault (scenarios.Strategy f)) = Strategy f
+of_scenario (scenario_errors.Fault (scenarios.Check f)) = Check f
+of_scenario (scenario_errors.Fault scenarios.TooManyItems) = TooManyItems
+of_scenario (scenario_errors.Fault scenarios.BadScenario) = BadScenario
+of_scenario (scenario_errors.Fault (scenarios.BadStep step)) = BadStep step
+
+abbrev pub of_check : CheckError → Fault
+of_check (checks.Fault f) = Check f
+of_check checks.Memory = Memory
+
+abbrev pub of_log : LogFault → Fault
+of_log logs.Full = TooManyItems
+of_log logs.Memory = Memory
+
+abbrev pub of_listen : ListenFault → Fault
+of_listen listens.Bind = Bind
+of_listen listens.Memory = Memory
+
+abbrev pub of_connect : ConnectFault → Fault
+of_connect connects.Connect = Connect
+of_connect connects.Memory = Memory
+
+abbrev pub of_source : SourceFault → Fault
+of_source sources.Accept = Accept
+of_source sources.Memory = Memory
+
+-- 1 where something given, or a session, is refused, 3 for a file, an input, an output, the network or memory
+abbrev pub status_of : Fault → ℕ
+status_of CannotRead = 3
+status_of (BadItemLine line) = 1
+status_of TooManyItems = 1
+status_of BadScenario = 1
+status_of (BadStep step) = 1
+status_of (Strategy f) = 1
+status_of (Check f) = 1
+status_of (Wire f) = 1
+status_of Misplaced = 1
+status_of Bind = 3
+status_of Connect = 3
+status_of Accept = 3
+status_of (Session code) = 1
+status_of (PeerRefused code) = 1
+status_of ReaderFailed = 3
+status_of WriterFailed = 3
+status_of Memory = 3
+
+-- 2 for words that the program does not know; 0 for help that was printed, 3 where it was not, or for memory
+abbrev pub IsWordsStatus : WordsFault → ℕ → Type 0
+IsWordsStatus (words.Usage text) status = status ≡ 2
+IsWordsStatus (words.Help text) status = (status ≡ 0) ⊎ (status ≡ 3)
+IsWordsStatus words.Memory status = status ≡ 3

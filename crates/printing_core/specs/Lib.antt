@@ -1,0 +1,9 @@
+pub mod Blanks
+pub mod Checks
+pub mod Endings
+pub mod FaultsOf
+pub mod HexLines
+pub mod Lines
+pub mod Reports
+pub mod Runs
+pub mod SessionTexts

@@ -1,0 +1,50 @@
+-- The run of a scenario.
+--     after_steps w steps      the world behind the steps of a scenario
+--     sim_text s               what is printed of a scenario that was run
+use Rattle.std.specs.Prelude.{ℕ, zero, suc, Bool, true, false, if◌then◌else◌, List, map, fold}
+use Rattle.definitions.specs.Fingerprints.{two_lanes}
+use Rattle.definitions.specs.Histories.{opening_history}
+use Rattle.definitions.specs.Worlds as worlds
+use Rattle.definitions.specs.Worlds.{World, Node, Did, step, start}
+use Rattle.world_core.specs.Nodes.{node_by}
+use Rattle.settings_core.specs.Nodes.{NodeText, ScenarioText}
+use Rattle.settings_core.specs.declared.scenario.Side.{Side}
+use Rattle.settings_core.specs.declared.scenario.Side.TheVariants as sides
+use Rattle.settings_core.specs.declared.scenario.ScenarioStep.{ScenarioStep}
+use Rattle.settings_core.specs.declared.scenario.ScenarioStep.TheVariants.{Insert, Open, Deliver, Finish, Absorb}
+use Rattle.printing_core.specs.Reports.{reports_text}
+
+abbrev pub node_of : NodeText → Node
+node_of n = node_by n.accepted (opening_history n.items)
+
+abbrev pub side_of : Side → worlds.Side
+side_of sides.Initiator = worlds.Initiator
+side_of sides.Responder = worlds.Responder
+
+-- the step of a world that is done, once, or for Finish again and again
+abbrev pub world_step : ScenarioStep → worlds.Step
+world_step (Insert n x) = worlds.Insert n x
+world_step (Open i r) = worlds.Open i r
+world_step (Deliver k) = worlds.Deliver k
+world_step (Finish k) = worlds.Deliver k
+world_step (Absorb k side) = worlds.Absorb k (side_of side)
+
+abbrev pub is_sent : Did → Bool
+is_sent worlds.Sent = true
+is_sent d = false
+
+-- a session's message made last is delivered until none follows, at most so many times
+abbrev pub delivered : ℕ → World → ℕ → World
+delivered zero w k = w
+delivered (suc n) w k = if is_sent (step two_lanes w (worlds.Deliver k)).1 then delivered n (step two_lanes w (worlds.Deliver k)).0 k else (step two_lanes w (worlds.Deliver k)).0
+
+-- no session has more than 3 + 2 * 255 messages
+abbrev pub after_step : World → ScenarioStep → World
+after_step w (Finish k) = delivered 513 w k
+after_step w e = (step two_lanes w (world_step e)).0
+
+abbrev pub after_steps : World → List ScenarioStep → World
+after_steps w es = fold after_step w es
+
+abbrev pub sim_text : ScenarioText → List ℕ
+sim_text s = reports_text (after_steps (start (map node_of s.nodes)) s.steps)

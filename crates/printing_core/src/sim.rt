@@ -1,0 +1,127 @@
+//! The run of a scenario.
+
+ghost use Rattle.std.specs.Prelude.{◌≡◌, [], ◌∷◌, ◌++◌, IfOk, OnOk, map, string_bytes};
+ghost use Rattle.definitions.specs.Fingerprints.{two_lanes};
+ghost use Rattle.definitions.specs.Worlds.{Deliver, step};
+ghost use Rattle.world_core.specs.Steps.{step_of, side_of as side_in_world};
+ghost use Rattle.printing_core.specs.Runs.{node_of, side_of, world_step, is_sent, delivered, after_step, after_steps, sim_text};
+
+use crate::fault::Fault;
+use crate::reports::reports_text;
+use settings_core::{Scenario, ScenarioNode, ScenarioStep, Side};
+use std::alloc::{AllocError, Global};
+use world_core::{Did, Setup, SetupFault, Step, World};
+
+/// The most messages of a session: 3 + 2 * 255, as no rank is above 255.
+const MAX_MESSAGES: usize = 513;
+
+/// Adds a node of a scenario.
+fn add_node(alloc: Global, setup: &mut Setup, node: ScenarioNode) -> Result<(), Fault>
+    ensures { OnOk result (setup.new ≡ setup.old ++ node_of node ∷ []) }
+{
+    let ScenarioNode { accepted, items } = node;
+    let Err(refused) = setup.add_node(alloc, accepted, &items) else {
+        return Ok(());
+    };
+    let (_accepted, fault) = refused;
+    match fault {
+        SetupFault::Full => Err(Fault::TooManyItems),
+        SetupFault::Memory => Err(Fault::Memory),
+    }
+}
+
+/// The nodes that the run begins with.
+fn setup_of(alloc: Global, nodes: Vec<ScenarioNode>) -> Result<Setup, Fault>
+    ensures { IfOk result (λ setup. setup ≡ map node_of nodes.items) }
+{
+    let mut setup = Setup::new(alloc);
+    for node in nodes {
+        add_node(alloc, &mut setup, node)?;
+    }
+    Ok(setup)
+}
+
+/// The side, as a world names it.
+fn world_side(side: Side) -> world_core::Side
+    ensures { side_in_world result ≡ side_of side }
+{
+    match side {
+        Side::Initiator => world_core::Side::Initiator,
+        Side::Responder => world_core::Side::Responder,
+    }
+}
+
+/// The step of a world that is done, once, or for `finish` again and again.
+fn world_step(step: &ScenarioStep) -> Step
+    ensures { step_of result ≡ world_step step.now }
+{
+    match step {
+        ScenarioStep::Insert(node, item) => Step::Insert(*node, *item),
+        ScenarioStep::Open(initiator, responder) => Step::Open(*initiator, *responder),
+        ScenarioStep::Deliver(session) => Step::Deliver(*session),
+        ScenarioStep::Finish(session) => Step::Deliver(*session),
+        ScenarioStep::Absorb(session, side) => Step::Absorb(*session, world_side(*side)),
+    }
+}
+
+/// Hands the last message of a session over. Whether it was answered.
+fn deliver(alloc: Global, world: &mut World<'_>, session: usize) -> Result<bool, AllocError>
+    ensures world { OnOk result (world.new ≡ (step two_lanes world.old (Deliver session)).0) }
+    ensures sent { IfOk result (λ sent. sent ≡ is_sent (step two_lanes world.old (Deliver session)).1) }
+{
+    match world.step(alloc, Step::Deliver(session))? {
+        Did::Sent => Ok(true),
+        _ => Ok(false),
+    }
+}
+
+/// Hands the last message of a session over again and again, until none follows, at most so many times.
+fn deliver_often(
+    alloc: Global,
+    world: &mut World<'_>,
+    session: usize,
+    times: usize,
+) -> Result<(), AllocError>
+    ensures { OnOk result (world.new ≡ delivered times world.old session) }
+{
+    let mut left = times;
+    while left > 0 {
+        left -= 1;
+        if !deliver(alloc, world, session)? {
+            return Ok(());
+        }
+    }
+    Ok(())
+}
+
+/// Does a step of a scenario.
+fn do_step(alloc: Global, world: &mut World<'_>, step: &ScenarioStep) -> Result<(), AllocError>
+    ensures { OnOk result (world.new ≡ after_step world.old step.now) }
+{
+    if let ScenarioStep::Finish(session) = step {
+        return deliver_often(alloc, world, *session, MAX_MESSAGES);
+    }
+    world.step(alloc, world_step(step))?;
+    Ok(())
+}
+
+/// Does the steps of a scenario in turn.
+fn do_steps(alloc: Global, world: &mut World<'_>, steps: &[ScenarioStep]) -> Result<(), AllocError>
+    ensures { OnOk result (world.new ≡ after_steps world.old steps.now) }
+{
+    for step in steps {
+        do_step(alloc, world, step)?;
+    }
+    Ok(())
+}
+
+/// The lines of the sessions of a scenario that was run.
+pub fn sim_text(alloc: Global, scenario: Scenario) -> Result<String, Fault>
+    ensures { IfOk result (λ text. string_bytes text ≡ sim_text scenario) }
+{
+    let Scenario { nodes, steps } = scenario;
+    let setup = setup_of(alloc, nodes)?;
+    let mut world = World::new(alloc, &setup)?;
+    do_steps(alloc, &mut world, &steps)?;
+    Ok(reports_text(alloc, &world)?)
+}

@@ -1,6 +1,0 @@
-use Rattle.std.proofs.Common.{◌≡◌, take}
-use Rattle.rangesync.specs.Runs.{after_steps}
-use Rattle.rangesync.proofs.sim.do_steps.Given as goal
-
-abbrev pub invariant-loop-step : goal.invariant-loop-step
-invariant-loop-step l = l.world ≡ after_steps l.fn.world (take l.step-index l.steps)
