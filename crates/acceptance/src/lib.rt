@@ -14,6 +14,12 @@ mod frames;
 #[cfg(test)]
 mod letters;
 #[cfg(test)]
+mod locks;
+#[cfg(test)]
+mod messages;
+#[cfg(test)]
+mod placing;
+#[cfg(test)]
 mod sessions;
 #[cfg(test)]
 mod shown;
@@ -21,3 +27,5 @@ mod shown;
 mod tables;
 #[cfg(test)]
 mod workers;
+#[cfg(test)]
+mod worlds;

@@ -6,8 +6,6 @@ mod fault;
 mod fit;
 mod place;
 mod placing;
-#[cfg(test)]
-mod tests;
 
 pub use cursor::Cursor;
 pub use fault::PlaceFault;

@@ -8,8 +8,6 @@ mod lock;
 mod pin;
 mod seat;
 mod steps;
-#[cfg(test)]
-mod tests;
 mod view;
 
 pub use fault::{InsertFault, PinFault};

@@ -15,8 +15,6 @@ mod reading;
 mod spelling;
 mod standing;
 mod stream;
-#[cfg(test)]
-mod tests;
 mod watched;
 
 pub use decoding::decode_message;

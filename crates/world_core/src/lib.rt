@@ -6,8 +6,6 @@ mod report;
 mod session;
 mod setup;
 mod step;
-#[cfg(test)]
-mod tests;
 mod world;
 
 pub use report::{Lists, Report};

@@ -1,7 +1,6 @@
-use crate::{
-    DecodeError, Event, Feed, Marks, Message, Part, PartFault, TooManyParts, Watched, WireFault,
-    decode_message, encode_message, encode_part,
-};
+//! Messages and streams, as bytes.
+
+use crate::letters::item;
 use digest_core::{Fingerprint, Summary};
 use item_core::{Item, Range, Upper};
 use std::alloc::Global;
@@ -9,10 +8,10 @@ use std::io;
 use std::io::{ErrorKind, Read, Write};
 use std::process::Abort;
 use std::test::Fail;
-
-fn item(rt: &impl Abort, bytes: &[u8]) -> Item {
-    Item::new(bytes).ok().expect(rt, "an item")
-}
+use wire_core::{
+    DecodeError, Event, Feed, Marks, Message, Part, PartFault, TooManyParts, Watched, WireFault,
+    decode_message, encode_message, encode_part,
+};
 
 fn range_before(rt: &impl Abort, bytes: &[u8]) -> Range {
     let upper = Upper::from(item(rt, bytes));

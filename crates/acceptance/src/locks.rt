@@ -1,22 +1,20 @@
+//! The lock, its seats, and two threads at one log.
+
 ghost use Rattle.std.specs.Prelude.{◌≡◌, ℕ, Some, None, IsSome};
 ghost use Rattle.version_lock.specs.Beginnings.{StartsWith, entries_by};
 
-use crate::{InsertFault, Seat, VersionLock};
-use item_core::Item;
+use crate::letters::item;
 use std::alloc::Global;
 use std::process::Abort;
 use std::sync::Wait;
 use std::thread::{Threads, join};
 use store_core::{FlatStore, RangeStore};
+use version_lock::{InsertFault, Seat, VersionLock};
 use version_log::{Added, LogFault, Published, WritersSpent};
 
 type Lock = VersionLock<FlatStore>;
 
 type FlatSeat = Seat<FlatStore>;
-
-fn item(rt: &impl Abort, bytes: &[u8]) -> Item {
-    Item::new(bytes).ok().expect(rt, "an item")
-}
 
 // An empty log of this cap, 1 to 65,536, with this next writer number, 1 to 4,294,967,296.
 fn empty(rt: &impl Abort, alloc: Global, cap: u32, next_writer: u64) -> Published<FlatStore> {

@@ -1,65 +1,20 @@
-use crate::{Cursor, Place, PlaceFault, place_message, place_opening};
+//! The placing of messages behind an own message.
+
+use crate::letters::{answer, item, list, message, range};
 use digest_core::{Fingerprint, Summary};
-use item_core::{Item, Lower, Range, Upper};
+use item_core::Range;
+use place_core::{Cursor, Place, PlaceFault, place_message, place_opening};
 use std::alloc::{AllocError, Global};
 use std::process::Abort;
 use std::test::Fail;
-use wire_core::{Marks, Message, Part};
-
-fn item(rt: &impl Abort, bytes: &[u8]) -> Item {
-    Item::new(bytes).ok().expect(rt, "an item")
-}
-
-/// The range between these bytes; no bytes are the start and the end.
-fn range(rt: &impl Abort, lower: &[u8], upper: &[u8]) -> Range {
-    let lower = Lower::new(lower).ok().expect(rt, "a lower bound");
-    let upper = if upper.is_empty() {
-        Upper::End
-    } else {
-        Upper::from(item(rt, upper))
-    };
-    Range::new(lower, upper).ok().expect(rt, "a range")
-}
+use wire_core::{Marks, Part};
 
 fn sum(rt: &impl Abort, lower: &[u8], upper: &[u8]) -> Part {
     Part::sum(range(rt, lower, upper), Fingerprint::zero())
 }
 
-/// A List of these items of one byte each.
-fn list(rt: &impl Abort, alloc: Global, range: Range, letters: &[u8]) -> Result<Part, Fail> {
-    let items = items(rt, alloc, letters)?;
-    Ok(Part::list(range, items).ok().expect(rt, "a List"))
-}
-
-fn answer(
-    rt: &impl Abort,
-    alloc: Global,
-    range: Range,
-    marks: Marks,
-    letters: &[u8],
-) -> Result<Part, Fail> {
-    let items = items(rt, alloc, letters)?;
-    Ok(
-        Part::answer(range, marks, items)
-            .ok()
-            .expect(rt, "an Answer"),
-    )
-}
-
 fn two_marks(alloc: Global) -> Result<Marks, AllocError> {
     Marks::new(alloc, &[true, false])
-}
-
-fn items(rt: &impl Abort, alloc: Global, letters: &[u8]) -> Result<Vec<Item>, Fail> {
-    let mut items = Vec::new(alloc);
-    for letter in letters {
-        items.push(item(rt, &[*letter]))?;
-    }
-    Ok(items)
-}
-
-fn message(rt: &impl Abort, parts: Vec<Part>) -> Message {
-    Message::new(parts).ok().expect(rt, "a message")
 }
 
 /// The number of the refusal, if there is one.

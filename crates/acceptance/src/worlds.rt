@@ -1,48 +1,41 @@
-use crate::{Did, Lists, Report, Setup, Side, Step, World, run};
+//! Runs of inserts and sessions over nodes that speak of their versions.
+
+use crate::letters::{item, items};
+use crate::tables::accepted;
 use item_core::Item;
 use std::alloc::Global;
 use std::process::Abort;
-use strategy_check::{Accepted, check};
-use strategy_core::Strategy;
+use std::test::Fail;
+use world_core::{Did, Lists, Report, Setup, Side, Step, World, run};
 
 const HALVES: &[u8] =
     b"cap = 16\nlimit = 1\nrounds = 4\nrow = [{upto = 1, list = true}, {upto = 16, split = [1, 1]}]";
 
 const ONE: &[u8] = b"cap = 1\nlimit = 1\nrounds = 0\nrow = [{upto = 1, list = true}]";
 
-fn accepted(rt: &impl Abort, alloc: Global, text: &[u8]) -> Accepted {
-    let strategy = Strategy::read(alloc, text).ok().expect(rt, "a strategy");
-    check(alloc, strategy).ok().expect(rt, "accepted")
-}
-
-fn item(rt: &impl Abort, byte: u8) -> Item {
-    Item::new(&[byte]).ok().expect(rt, "an item")
-}
-
-/// The items of one byte each.
-fn items(rt: &impl Abort, alloc: Global, bytes: &[u8]) -> Vec<Item> {
-    let mut items = Vec::new(alloc);
-    for byte in bytes {
-        items.push(item(rt, *byte)).ok().expect(rt, "memory");
-    }
-    items
-}
-
 /// Adds a node; the number of the refusal, or 0.
-fn add(rt: &impl Abort, alloc: Global, setup: &mut Setup, text: &[u8], bytes: &[u8]) -> u8 {
-    let items = items(rt, alloc, bytes);
-    match setup.add_node(alloc, accepted(rt, alloc, text), &items) {
-        Ok(()) => 0,
-        Err(refused) => refused.1.number(),
-    }
+fn add(
+    rt: &impl Abort,
+    alloc: Global,
+    setup: &mut Setup,
+    text: &[u8],
+    bytes: &[u8],
+) -> Result<u8, Fail> {
+    let items = items(rt, alloc, bytes)?;
+    Ok(
+        match setup.add_node(alloc, accepted(rt, alloc, text), &items) {
+            Ok(()) => 0,
+            Err(refused) => refused.1.number(),
+        },
+    )
 }
 
 /// Nodes of a to h and of a to g.
-fn two_nodes(rt: &impl Abort, alloc: Global) -> Setup {
+fn two_nodes(rt: &impl Abort, alloc: Global) -> Result<Setup, Fail> {
     let mut setup = Setup::new(alloc);
-    assert!(rt; add(rt, alloc, &mut setup, HALVES, b"abcdefgh") == 0);
-    assert!(rt; add(rt, alloc, &mut setup, HALVES, b"abcdefg") == 0);
-    setup
+    assert_eq!(rt; add(rt, alloc, &mut setup, HALVES, b"abcdefgh")?, 0);
+    assert_eq!(rt; add(rt, alloc, &mut setup, HALVES, b"abcdefg")?, 0);
+    Ok(setup)
 }
 
 fn step(rt: &impl Abort, alloc: Global, world: &mut World<'_>, step: Step) -> Did {
@@ -91,11 +84,11 @@ fn first_session(rt: &impl Abort, alloc: Global, world: &mut World<'_>) {
     assert_eq!(rt; step(rt, alloc, world, Step::Open(0, 1)), Did::Opened(0));
     assert_eq!(rt; step(rt, alloc, world, Step::Deliver(0)), Did::Sent);
     assert_eq!(rt;
-        step(rt, alloc, world, Step::Insert(0, item(rt, b'i'))),
+        step(rt, alloc, world, Step::Insert(0, item(rt, b"i"))),
         Did::Added(9)
     );
     assert_eq!(rt;
-        step(rt, alloc, world, Step::Insert(1, item(rt, b'j'))),
+        step(rt, alloc, world, Step::Insert(1, item(rt, b"j"))),
         Did::Added(8)
     );
     assert_eq!(rt; finish(rt, alloc, world, 0), 6);
@@ -128,9 +121,9 @@ fn shows(
 // A session speaks of the versions that were chosen at its opening and its first delivery; what the next one brings goes
 // into both histories.
 #[test]
-fn two_sessions(rt: HostRuntime) {
+fn two_sessions(rt: HostRuntime) -> Result<(), Fail> {
     let alloc = rt.alloc();
-    let setup = two_nodes(&rt, alloc);
+    let setup = two_nodes(&rt, alloc)?;
     let mut world = World::new(alloc, &setup).ok().expect(&rt, "memory");
     first_session(&rt, alloc, &mut world);
     second_session(&rt, alloc, &mut world);
@@ -138,34 +131,36 @@ fn two_sessions(rt: HostRuntime) {
     shows(&rt, alloc, &world, 1, b"hi", b"j");
     let lists = report(&rt, &world, 0).responder_learned;
     assert!(rt; learned(&rt, alloc, lists, b"", b"h") && world.sessions() == 2);
+    Ok(())
 }
 
 #[test]
-fn idle_steps(rt: HostRuntime) {
+fn idle_steps(rt: HostRuntime) -> Result<(), Fail> {
     let alloc = rt.alloc();
-    let setup = two_nodes(&rt, alloc);
+    let setup = two_nodes(&rt, alloc)?;
     let mut world = World::new(alloc, &setup).ok().expect(&rt, "memory");
     assert_eq!(rt; step(&rt, alloc, &mut world, Step::Open(0, 0)), Did::Idle);
     assert_eq!(rt; step(&rt, alloc, &mut world, Step::Deliver(9)), Did::Idle);
     assert_eq!(rt;
-        step(&rt, alloc, &mut world, Step::Insert(7, item(&rt, b'a'))),
+        step(&rt, alloc, &mut world, Step::Insert(7, item(&rt, b"a"))),
         Did::Idle
     );
     assert_eq!(rt;
-        step(&rt, alloc, &mut world, Step::Insert(0, item(&rt, b'a'))),
+        step(&rt, alloc, &mut world, Step::Insert(0, item(&rt, b"a"))),
         Did::Already
     );
     assert!(rt; world.sessions() == 0 && world.report(0).is_none());
+    Ok(())
 }
 
 // Of a node that is full nothing is absorbed, and its session has no bound before the first delivery.
 #[test]
-fn full_node(rt: HostRuntime) {
+fn full_node(rt: HostRuntime) -> Result<(), Fail> {
     let alloc = rt.alloc();
     let mut setup = Setup::new(alloc);
-    assert!(rt; add(&rt, alloc, &mut setup, ONE, b"ab") == 40);
-    assert!(rt; add(&rt, alloc, &mut setup, ONE, b"a") == 0);
-    assert!(rt; add(&rt, alloc, &mut setup, ONE, b"b") == 0);
+    assert!(rt; add(&rt, alloc, &mut setup, ONE, b"ab")? == 40);
+    assert!(rt; add(&rt, alloc, &mut setup, ONE, b"a")? == 0);
+    assert!(rt; add(&rt, alloc, &mut setup, ONE, b"b")? == 0);
     let opened = run(alloc, &setup, &[Step::Open(0, 1)]);
     let mut world = opened.ok().expect(&rt, "memory");
     assert!(rt; report(&rt, &world, 0).bound.is_none() && report(&rt, &world, 0).messages == 1);
@@ -179,7 +174,8 @@ fn full_node(rt: HostRuntime) {
         Did::Absorbed(0)
     );
     assert_eq!(rt;
-        step(&rt, alloc, &mut world, Step::Insert(1, item(&rt, b'c'))),
+        step(&rt, alloc, &mut world, Step::Insert(1, item(&rt, b"c"))),
         Did::Full
     );
+    Ok(())
 }
