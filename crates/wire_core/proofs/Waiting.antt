@@ -8,6 +8,7 @@ use Rattle.definitions.specs.Refusals.{bad_hello}
 use Rattle.definitions.specs.Reading.{event_at}
 use Rattle.definitions.specs.Streams as streams
 use Rattle.definitions.specs.Streams.{Before_hello, In_message, Meaning_over, Faulted, Fed, fed_by, feed_frames, feed_start, feed, stays}
+use Rattle.wire_core.specs.Standings.{is_over}
 use Rattle.wire_core.specs.Feeds.{fault_at}
 
 abbrev is_hello : streams.Standing → Bool
@@ -69,7 +70,7 @@ take_front (suc n) (x ∷ front) back le = ap (λ (t : List ℕ). x ∷ t) (take
 
 -- the beginning of a hello, or of a frame, wants more than so many bytes
 abbrev pub WantsMore : List ℕ → ℕ → Type 0
-WantsMore kept count = (0 < length kept) × (length kept < 4 → length kept + count < 4) × (4 ≤ length kept → length kept + count < 4 + number kept)
+WantsMore kept count = (length kept < 4 → length kept + count < 4) × (4 ≤ length kept → length kept + count < 4 + number kept)
 
 frame_waits : {F : Type 0} (P : Profile F) (parts : ℕ) (kept more : List ℕ) → feed_frames P (length kept) parts kept ≡ stays (In_message parts) kept → WantsMore kept (length more) →
     (fuel : ℕ) → feed_frames P fuel parts (kept ++ more) ≡ stays (In_message parts) (kept ++ more)
@@ -77,12 +78,12 @@ frame_waits P parts kept more read wants fuel = by_length (nat_lt (length kept) 
   by_length : (b : Bool) → nat_lt (length kept) 4 ≡ b → feed_frames P fuel parts (kept ++ more) ≡ stays (In_message parts) (kept ++ more)
   by_length true t =
       let few : length kept < 4 = ltb-true _ _ t in
-      let all = wants.1 few in
+      let all = wants.0 few in
       let l = length-append kept more in
       few_wait P fuel parts (kept ++ more) (omega arith)
   by_length false t =
       let four : 4 ≤ length kept = ltb-false _ _ t in
-      let all = wants.2 four in
+      let all = wants.1 four in
       let l = length-append kept more in
       let same : number (kept ++ more) ≡ number kept = ap (from_be_bytes w32) (take_front 4 kept more four) in
       let right = right_length P (length kept) parts kept four (omega arith) read in
@@ -92,28 +93,25 @@ frame_waits P parts kept more read wants fuel = by_length (nat_lt (length kept) 
 hello_waits : {F : Type 0} (P : Profile F) (bytes : List ℕ) → length bytes < 4 → feed_start P bytes ≡ stays Before_hello bytes
 hello_waits P bytes few = let short : nat_lt (length bytes) 4 ≡ true = search (rules, few) in rw short refl
 
-nothing_kept : {F : Type 0} (s : streams.Standing) (kept : List ℕ) → 0 < length kept → stays {F = F} s [] ≡ stays s kept → ⊥
-nothing_kept {F} s kept some same = let none : 0 ≡ length kept = ap (λ (f : Fed F). length f.kept) same in omega (arith, none)
-
-pub still_waits : {F : Type 0} (P : Profile F) (s : streams.Standing) (kept more : List ℕ) → feed P s kept ≡ stays s kept → WantsMore kept (length more) → feed P s (kept ++ more) ≡ stays s (kept ++ more)
-still_waits P Before_hello kept more read wants =
-    let all = wants.1 (hello_few P kept read) in
+pub still_waits : {F : Type 0} (P : Profile F) (s : streams.Standing) (kept more : List ℕ) → is_over s ≡ false → feed P s kept ≡ stays s kept → WantsMore kept (length more) → feed P s (kept ++ more) ≡ stays s (kept ++ more)
+still_waits P Before_hello kept more goes_on read wants =
+    let all = wants.0 (hello_few P kept read) in
     let l = length-append kept more in
     hello_waits P (kept ++ more) (omega arith)
-still_waits P (In_message parts) kept more read wants = frame_waits P parts kept more read wants (length (kept ++ more))
-still_waits P Meaning_over kept more read wants = absurd (nothing_kept Meaning_over kept wants.0 read)
-still_waits P (Faulted code) kept more read wants = absurd (nothing_kept (Faulted code) kept wants.0 read)
+still_waits P (In_message parts) kept more goes_on read wants = frame_waits P parts kept more read wants (length (kept ++ more))
+still_waits P Meaning_over kept more goes_on read wants = absurd cc
+still_waits P (Faulted code) kept more goes_on read wants = absurd cc
 
 pub wants_more : (kept same more : List ℕ) (wanted : ℕ) → same ≡ kept → (length same < 4 → length same + wanted ≡ 4) → (4 ≤ length same → wanted ≡ 4 + number same - length same) →
-    0 < length kept → length more < wanted → WantsMore kept (length more)
-wants_more kept same more wanted is short frame some less =
+    length more < wanted → WantsMore kept (length more)
+wants_more kept same more wanted is short frame less =
     let told : (length kept < 4 → length kept + wanted ≡ 4) × (4 ≤ length kept → wanted ≡ 4 + number kept - length kept) =
     subst (λ (t : List ℕ). (length t < 4 → length t + wanted ≡ 4) × (4 ≤ length t → wanted ≡ 4 + number t - length t)) is (short, frame) in
-    (some, (λ few. let all = told.0 few in omega arith), (λ four. let all = told.1 four in omega arith))
+    ((λ few. let all = told.0 few in omega arith), (λ four. let all = told.1 four in omega arith))
 
--- where bytes are kept, there is no fault
-pub no_fault : {F : Type 0} (P : Profile F) (s : streams.Standing) (kept : List ℕ) → feed P s kept ≡ stays s kept → 0 < length kept → fault_at s ≡ None
-no_fault P Before_hello kept read some = refl
-no_fault P (In_message parts) kept read some = refl
-no_fault P Meaning_over kept read some = refl
-no_fault P (Faulted code) kept read some = absurd (nothing_kept (Faulted code) kept some read)
+-- where more bytes count, there is no fault
+pub no_fault : (s : streams.Standing) → is_over s ≡ false → fault_at s ≡ None
+no_fault Before_hello goes_on = refl
+no_fault (In_message parts) goes_on = refl
+no_fault Meaning_over goes_on = absurd cc
+no_fault (Faulted code) goes_on = absurd cc

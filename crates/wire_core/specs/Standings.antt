@@ -1,11 +1,12 @@
 -- Where a stream stands, as the definitions have it, and reading on from there.
 --     standing_of standing           as the definitions have it
+--     is_over standing               whether what follows counts no more
 --     left_at standing bytes         what is kept there of bytes that are not read yet
 --     behind before fed              events that came before, and what is fed then
 --     goes_on step bytes more        what is fed behind a step: more frames, or nothing
 --     IfMore step Q                  something of the number of parts, where more frames come
 --     fed_as events standing bytes   events that were given, where the stream stands then, and what is kept
-use Rattle.std.specs.Prelude.{ℕ, List, [], ◌++◌, ⊤}
+use Rattle.std.specs.Prelude.{ℕ, Bool, true, false, List, [], ◌++◌, ⊤}
 use Rattle.definitions.specs.Fingerprints.{Lanes}
 use Rattle.definitions.specs.Wire.{Event}
 use Rattle.definitions.specs.Streams as streams
@@ -23,6 +24,12 @@ standing_of standings.BeforeHello = streams.Before_hello
 standing_of (standings.InMessage parts) = streams.In_message parts
 standing_of standings.MeaningOver = streams.Meaning_over
 standing_of (standings.Faulted f) = streams.Faulted (fault_number f)
+
+abbrev pub is_over : streams.Standing → Bool
+is_over streams.Before_hello = false
+is_over (streams.In_message parts) = false
+is_over streams.Meaning_over = true
+is_over (streams.Faulted code) = true
 
 abbrev pub left_at : Standing → List ℕ → List ℕ
 left_at standings.BeforeHello bytes = bytes

@@ -71,8 +71,7 @@ pub fn keep(kept: &mut Vec<u8>, piece: &[u8], standing: Standing) -> Result<bool
     ensures same { IfOk result (λ is_kept. is_kept ≡ false → kept.new.items ≡ kept.old.items) }
     ensures memory { OnErr result (kept.new.items ≡ kept.old.items) }
 {
-    let _ = standing;
-    if kept.is_empty() || piece.len() >= wanted(kept) {
+    if standing.is_over() || piece.len() >= wanted(kept) {
         return Ok(false);
     }
     append(kept, piece)?;

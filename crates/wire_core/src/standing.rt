@@ -1,5 +1,5 @@
 ghost use Rattle.std.specs.Prelude.{◌≡◌};
-ghost use Rattle.wire_core.specs.Standings.{standing_of, left_at};
+ghost use Rattle.wire_core.specs.Standings.{standing_of, is_over, left_at};
 ghost use Rattle.wire_core.specs.Feeds.{fault_at, fault_in};
 
 use crate::fault::WireFault;
@@ -35,6 +35,13 @@ impl Standing {
             Standing::BeforeHello | Standing::InMessage(_) => bytes,
             Standing::MeaningOver | Standing::Faulted(_) => &[],
         }
+    }
+
+    /// Whether what follows counts no more.
+    pub fn is_over(self) -> bool
+        ensures { result ≡ is_over (standing_of self) }
+    {
+        matches!(self, Standing::MeaningOver | Standing::Faulted(_))
     }
 
     /// The fault, if the stream has one.
