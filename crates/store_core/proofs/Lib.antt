@@ -1,3 +1,1 @@
-pub mod Additions
 pub mod Made
-pub mod Partitions

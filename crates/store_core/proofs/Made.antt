@@ -16,7 +16,7 @@ use Rattle.std.proofs.lemmas.List.Kept.{IsStrictlySortedBy-dedup, Contains-dedup
 use Rattle.std.proofs.lemmas.List.Sorted.{Contains-permutation, IsPermutation-sym}
 use Rattle.definitions.specs.Items.{Item, item_cmp, same_item}
 use Rattle.definitions.specs.Sets.{IsSet, has, add_item, union, set_of}
-use Rattle.store_core.proofs.Additions.{set_add}
+use Rattle.definitions.proofs.Additions.{set_add}
 
 is_equal : (x y : Item) → same_item x y ≡ true → x ≡ y
 is_equal x y = (bytes_eq-Decides x y).0

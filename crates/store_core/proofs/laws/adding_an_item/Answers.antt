@@ -1,4 +1,4 @@
-use Rattle.store_core.proofs.Additions.{set_add}
+use Rattle.definitions.proofs.Additions.{set_add}
 use Rattle.store_core.proofs.Made.{has_add, add_again}
 use Rattle.store_core.proofs.laws.adding_an_item.Goals as goal
 

@@ -2,7 +2,7 @@ use Rattle.std.proofs.Common.{Bool, rules, sym}
 use Rattle.std.proofs.lemmas.List.Sorted.{IsPartitionPoint-from_clause}
 use Rattle.definitions.specs.Items.{Item, is_below}
 use Rattle.item_core.specs.Bounds.{upper_value}
-use Rattle.store_core.proofs.Partitions.{filter_is_front, parted_by_upper}
+use Rattle.definitions.proofs.Partitions.{filter_is_front, parted_by_upper}
 use Rattle.store_core.proofs.spans.before_upper.Goals as goal
 
 pub returns : goal.returns

@@ -1,7 +1,7 @@
 use Rattle.std.proofs.Common.{◌∙◌, sym, arith, take_all}
 use Rattle.std.proofs.lemmas.Grind.{common_steps}
 use Rattle.definitions.specs.Items.{comes_before}
-use Rattle.store_core.proofs.Partitions.{filter_is_back}
+use Rattle.definitions.proofs.Partitions.{filter_is_back}
 use Rattle.store_core.proofs.spans.from_lower.Goals as goal
 
 pub returns : goal.returns

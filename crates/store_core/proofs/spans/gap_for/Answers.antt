@@ -1,6 +1,6 @@
 use Rattle.std.proofs.Common.{◌≡◌, ◌∙◌, sym, false, rules}
 use Rattle.std.specs.Option.{option_copied}
-use Rattle.store_core.proofs.Additions.{has_got, put_there, is_item}
+use Rattle.definitions.proofs.Additions.{has_got, put_there, is_item}
 use Rattle.store_core.proofs.spans.gap_for.Goals as goal
 
 pub returns-in_default-clause-found : goal.returns-in_default-clause-found

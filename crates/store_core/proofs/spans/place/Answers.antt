@@ -1,7 +1,7 @@
 use Rattle.std.proofs.Common.{Bool, rules}
 use Rattle.std.proofs.lemmas.List.Sorted.{IsPartitionPoint-from_clause}
 use Rattle.definitions.specs.Items.{Item, comes_before}
-use Rattle.store_core.proofs.Partitions.{parted_below}
+use Rattle.definitions.proofs.Partitions.{parted_below}
 use Rattle.store_core.proofs.spans.place.Goals as goal
 
 pub returns-clause-parted : goal.returns-clause-parted

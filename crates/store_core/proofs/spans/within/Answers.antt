@@ -1,7 +1,7 @@
 use Rattle.std.proofs.Common.{not}
 use Rattle.std.proofs.lemmas.List.Kept.{IsStrictlySortedBy-filter}
 use Rattle.definitions.specs.Items.{item_cmp, comes_before, is_below}
-use Rattle.store_core.proofs.Partitions.{filter_twice}
+use Rattle.definitions.proofs.Partitions.{filter_twice}
 use Rattle.store_core.proofs.spans.within.Goals as goal
 
 pub before_upper-requires : goal.before_upper-requires

@@ -1,7 +1,7 @@
 use Rattle.std.proofs.Common.{◌≡◌, rules}
 use Rattle.definitions.specs.Items.{IsItem}
 use Rattle.definitions.specs.Sets.{add_item}
-use Rattle.store_core.proofs.Additions.{set_add, all_add}
+use Rattle.definitions.proofs.Additions.{set_add, all_add}
 use Rattle.store_core.proofs.flat.FlatStoreRangeStore.with.Goals as goal
 
 pub invariant_of-result : goal.invariant_of-result

@@ -13,7 +13,7 @@ use Rattle.std.proofs.lemmas.Map.Keys.{sorted_head, sorted_tail}
 use Rattle.std.proofs.lemmas.Map.Text.{is_eq-slice_cmp}
 use Rattle.definitions.specs.Items.{Item, item_cmp, comes_before, same_item}
 use Rattle.definitions.specs.Sets.{IsSet, has, add_item}
-use Rattle.store_core.proofs.Partitions.{PassFirst, later, less_of}
+use Rattle.definitions.proofs.Partitions.{PassFirst, later, less_of}
 
 differs_below : (x y : Item) → item_cmp x y ≡ Less → same_item x y ≡ false
 differs_below x y e = sym (is_eq-slice_cmp x y) ∙ ap is_eq e
