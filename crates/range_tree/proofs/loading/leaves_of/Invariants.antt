@@ -1,0 +1,15 @@
+use Rattle.std.proofs.Common.{◌≡◌, ◌++◌, length, map}
+use Rattle.std.specs.Arc.{arc_value}
+use Rattle.range_tree.specs.Parts.{items_of}
+use Rattle.range_tree.specs.Leaves.{leaf_items, leaf_width}
+use Rattle.range_tree.proofs.Groups.{IsGrouped}
+use Rattle.range_tree.proofs.loading.leaves_of.Given as goal
+
+abbrev pub invariant-groups : goal.invariant-groups
+invariant-groups l = record {
+  items : items_of leaf_items l.held.items ++ l.rest ≡ l.entries;
+  grouped : IsGrouped leaf_width (map arc_value l.held.items) (length l.rest);
+}
+
+abbrev pub decreases-groups : goal.decreases-groups
+decreases-groups l = length l.rest

@@ -1,0 +1,9 @@
+use Rattle.std.proofs.Common.{drop, map}
+use Rattle.std.specs.List.{flat_map}
+use Rattle.std.specs.Arc.{arc_value}
+use Rattle.range_tree.specs.Parts.{span}
+use Rattle.range_tree.proofs.Sums.{IsSummed}
+use Rattle.range_tree.proofs.parts.sum_between.Given as goal
+
+abbrev pub invariant-loop-part : goal.invariant-loop-part
+invariant-loop-part g l = IsSummed l.total (span l.start l.end (flat_map g.P.Part.content (map arc_value (drop l.part-index l.parts)))) (span l.from l.to (flat_map g.P.Part.content (map arc_value l.parts)))

@@ -1,0 +1,19 @@
+//! Sets of items as persistent trees of three levels, whose parts are shared.
+#![tactic(auto)]
+
+mod branch;
+mod branch_part;
+mod leaf;
+mod leaf_part;
+mod loading;
+mod part;
+mod parts;
+mod search;
+mod spans;
+#[cfg(test)]
+mod tests;
+mod tree;
+mod tree_reads;
+mod tree_store;
+
+pub use tree::Tree;

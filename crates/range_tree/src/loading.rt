@@ -1,0 +1,84 @@
+//! A tree of many items at once.
+
+ghost use Rattle.std.specs.Prelude.{◌≡◌, ◌<◌, ◌≤◌, length, map, IfOk};
+ghost use Rattle.std.specs.Arc.{arc_value};
+ghost use Rattle.range_tree.specs.Parts.{items_of, IsFull};
+ghost use Rattle.range_tree.specs.Leaves.{leaf_items, leaf_width};
+ghost use Rattle.range_tree.specs.Branches.{branch_items, branch_width};
+
+use crate::branch::Branch;
+use crate::leaf::Leaf;
+use crate::parts;
+use std::alloc::{AllocError, Global};
+use std::sync::Arc;
+use store_core::Entry;
+
+/// How many of those that are left go together: 32, or all where they are fewer than 64. So each group has 32 to 63, but
+/// where there are fewer in all.
+fn together(left: usize) -> usize
+    ensures few { left < 64 → result ≡ left }
+    ensures many { 64 ≤ left → result ≡ 32 }
+{
+    if left < 64 { left } else { 32 }
+}
+
+/// The leaf of these entries.
+fn leaf_of(alloc: Global, entries: &[Entry]) -> Result<Arc<Leaf>, AllocError>
+    requires some { 0 < length entries.now }
+    requires small { length entries.now ≤ 64 }
+    ensures { IfOk result (λ leaf. leaf_items (arc_value leaf) ≡ entries.now) }
+{
+    Ok(Arc::new(alloc, Leaf::of(Vec::from_slice(alloc, entries)?))?)
+}
+
+/// The leaves of these entries.
+fn leaves_of(alloc: Global, entries: &[Entry]) -> Result<Vec<Arc<Leaf>>, AllocError>
+    ensures items { IfOk result (λ held. items_of leaf_items held.items ≡ entries.now) }
+    ensures full { IfOk result (λ held. IsFull leaf_width (map arc_value held.items)) }
+{
+    let mut held = Vec::new(alloc);
+    let mut rest = entries;
+    'groups: while !rest.is_empty() {
+        let (front, back) = rest.split_at(together(rest.len()));
+        held.push(leaf_of(alloc, front)?)?;
+        rest = back;
+    }
+    Ok(held)
+}
+
+/// The branch of these leaves, which it shares.
+fn branch_of(alloc: Global, leaves: &[Arc<Leaf>]) -> Result<Arc<Branch>, AllocError>
+    requires some { 0 < length leaves.now }
+    requires small { length leaves.now ≤ 64 }
+    requires full { IsFull leaf_width (map arc_value leaves.now) }
+    ensures items { IfOk result (λ branch. branch_items (arc_value branch) ≡ items_of leaf_items leaves.now) }
+    ensures width { IfOk result (λ branch. branch_width (arc_value branch) ≡ length leaves.now) }
+{
+    let mut held = Vec::with_capacity(alloc, leaves.len())?;
+    parts::share(&mut held, leaves)?;
+    Ok(Arc::new(alloc, Branch::of(held))?)
+}
+
+/// The branches of these leaves.
+fn branches_over(alloc: Global, leaves: &[Arc<Leaf>]) -> Result<Vec<Arc<Branch>>, AllocError>
+    requires { IsFull leaf_width (map arc_value leaves.now) }
+    ensures items { IfOk result (λ held. items_of branch_items held.items ≡ items_of leaf_items leaves.now) }
+    ensures full { IfOk result (λ held. IsFull branch_width (map arc_value held.items)) }
+{
+    let mut held = Vec::new(alloc);
+    let mut rest = leaves;
+    'groups: while !rest.is_empty() {
+        let (front, back) = rest.split_at(together(rest.len()));
+        held.push(branch_of(alloc, front)?)?;
+        rest = back;
+    }
+    Ok(held)
+}
+
+/// The branches of these entries.
+pub fn branches_of(alloc: Global, entries: &[Entry]) -> Result<Vec<Arc<Branch>>, AllocError>
+    ensures items { IfOk result (λ held. items_of branch_items held.items ≡ entries.now) }
+    ensures full { IfOk result (λ held. IsFull branch_width (map arc_value held.items)) }
+{
+    branches_over(alloc, &leaves_of(alloc, entries)?)
+}

@@ -1,0 +1,97 @@
+use crate::Tree;
+use digest_core::{Fingerprint, Summary};
+use item_core::{Item, Lower, Range, Upper};
+use std::alloc::Global;
+use std::process::Abort;
+use store_core::{RangeStore, With};
+
+fn item(rt: &impl Abort, number: u16) -> Item {
+    Item::new(&number.to_be_bytes()).ok().expect(rt, "an item")
+}
+
+fn from_to(rt: &impl Abort, lower: &[u8], upper: Upper) -> Range {
+    let lower = Lower::new(lower).ok().expect(rt, "a bound");
+    Range::new(lower, upper).ok().expect(rt, "a range")
+}
+
+fn added(rt: &impl Abort, alloc: Global, tree: &Tree, number: u16) -> Tree {
+    match tree.with(alloc, item(rt, number)).expect(rt, "memory") {
+        With::New(tree) => tree,
+        With::Already => panic!(rt; "there already"),
+    }
+}
+
+// The tree with the numbers put in in rising order.
+fn rising(rt: &impl Abort, alloc: Global, tree: Tree, start: u16, last: u16) -> Tree {
+    let mut tree = tree;
+    for number in start..=last {
+        tree = added(rt, alloc, &tree, number);
+    }
+    tree
+}
+
+fn falling(rt: &impl Abort, alloc: Global) -> Tree {
+    let mut tree = Tree::empty(alloc);
+    for number in 0..=u16::MAX {
+        tree = added(rt, alloc, &tree, u16::MAX - number);
+    }
+    tree
+}
+
+fn sixteen(rt: &impl Abort) -> Range {
+    from_to(rt, b"\x00\x10", Upper::Before(item(rt, 0x20)))
+}
+
+fn has_all(rt: &impl Abort, tree: &Tree) {
+    assert!(rt; tree.len() == 65_536 && tree.count(&Range::whole()) == 65_536);
+    let range = sixteen(rt);
+    assert!(rt; tree.count(&range) == 16);
+    assert!(rt; tree.nth(&range, 0) == item(rt, 0x10));
+    assert!(rt; tree.nth(&range, 15) == item(rt, 0x1f));
+}
+
+fn counts(rt: &impl Abort, tree: &Tree) {
+    let last = from_to(rt, b"\xff\xff", Upper::End);
+    assert!(rt; tree.sum_counted(&Range::whole()).1 <= 44);
+    assert!(rt; tree.sum_counted(&sixteen(rt)).1 <= 44);
+    assert!(rt; tree.sum_counted(&last).1 <= 44);
+    assert!(rt; tree.sum(&last) == Fingerprint::of_item(&item(rt, 0xffff)));
+}
+
+#[test]
+fn all_pairs_of_bytes(rt: HostRuntime) {
+    let alloc = rt.alloc();
+    let none = Tree::empty(alloc);
+    let one = added(&rt, alloc, &none, 0);
+    let first = one.sum(&Range::whole());
+    let hundred = rising(&rt, alloc, one.copy(alloc).expect(&rt, "memory"), 1, 99);
+    let sum = hundred.sum(&Range::whole());
+    let all = rising(
+        &rt,
+        alloc,
+        hundred.copy(alloc).expect(&rt, "memory"),
+        100,
+        65_535,
+    );
+    assert!(rt; none.len() == 0 && one.len() == 1 && hundred.len() == 100);
+    assert!(rt; one.sum(&Range::whole()) == first && hundred.sum(&Range::whole()) == sum);
+    has_all(&rt, &all);
+    counts(&rt, &all);
+    let other = falling(&rt, alloc);
+    has_all(&rt, &other);
+    counts(&rt, &other);
+    assert!(rt; all.sum(&Range::whole()) == other.sum(&Range::whole()));
+    assert!(rt; all.sum(&sixteen(&rt)) == other.sum(&sixteen(&rt)));
+}
+
+#[test]
+fn items_given_twice(rt: HostRuntime) {
+    let alloc = rt.alloc();
+    let items = vec![in alloc; item(&rt, 2), item(&rt, 1), item(&rt, 2)].expect(&rt, "memory");
+    let tree = Tree::from_items(alloc, items).expect(&rt, "memory");
+    assert!(rt; tree.len() == 2 && !tree.is_empty());
+    assert!(rt; tree.has(&item(&rt, 1)) && !tree.has(&item(&rt, 3)));
+    assert!(rt; matches!(tree.with(alloc, item(&rt, 2)), Ok(With::Already)));
+    let held = tree.items(alloc, &Range::whole()).expect(&rt, "memory");
+    assert!(rt; held.len() == 2 && held[0] == item(&rt, 1) && held[1] == item(&rt, 2));
+}

@@ -1,0 +1,86 @@
+ghost use Rattle.std.specs.Prelude.{◌≡◌, ◌≤◌, ◌<◌, ◌∷◌, ◌++◌, length, take, drop, IfSome, is_none};
+ghost use Rattle.definitions.specs.Items.{comes_before, is_below};
+ghost use Rattle.definitions.specs.Sets.{has, items_in, add_item};
+ghost use Rattle.definitions.specs.Fingerprints.{two_lanes};
+ghost use Rattle.item_core.specs.Bounds.{upper_value};
+ghost use Rattle.range_tree.specs.Parts.{span, PassFirst};
+ghost use Rattle.range_tree.specs.Trees.{tree_items};
+
+use crate::parts;
+use crate::tree::Tree;
+use digest_core::Fingerprint;
+use item_core::{Item, Lower, Range, Upper};
+
+impl Tree {
+    /// How many items come before this one, and how many comparisons with it were made.
+    fn rank(&self, item: &Item) -> (usize, usize)
+        ensures places { PassFirst (λ z. comes_before z item.now) (tree_items self.now) result.0 }
+        ensures within { result.0 ≤ length (tree_items self.now) }
+        ensures steps { length self.now.branches.items ≤ 64 → result.1 ≤ 21 }
+    {
+        let _count = self.count;
+        parts::rank(&self.branches, item)
+    }
+
+    /// How many items are below the bound, and how many comparisons with it were made.
+    fn below_lower(&self, lower: &Lower) -> (usize, usize)
+        ensures places { PassFirst (λ z. comes_before z lower.now) (tree_items self.now) result.0 }
+        ensures steps { length self.now.branches.items ≤ 64 → result.1 ≤ 21 }
+    {
+        match Item::new(lower.bytes()) {
+            Ok(item) => self.rank(&item),
+            Err(_) => (0, 0),
+        }
+    }
+
+    /// How many items are below the bound, and how many comparisons with it were made.
+    fn below_upper(&self, upper: &Upper) -> (usize, usize)
+        ensures places { PassFirst (λ z. is_below z (upper_value upper.now))
+            (tree_items self.now) result.0 }
+        ensures steps { length self.now.branches.items ≤ 64 → result.1 ≤ 21 }
+    {
+        match upper {
+            Upper::Before(item) => self.rank(item),
+            Upper::End => (self.count, 0),
+        }
+    }
+
+    /// The places from which on and before which the items of the range stand, and how many
+    /// comparisons with a bound were made.
+    pub(crate) fn places(&self, range: &Range) -> (usize, usize, usize)
+        ensures places { span result.0 result.1 (tree_items self.now)
+            ≡ items_in (tree_items self.now) range.now }
+        ensures steps { length self.now.branches.items ≤ 64 → result.2 ≤ 42 }
+    {
+        let (from, some) = self.below_lower(&range.lower());
+        let (to, more) = self.below_upper(&range.upper());
+        (from, to, some.saturating_add(more))
+    }
+
+    /// The fingerprint of the items in the range, and how many comparisons of a node's item with a
+    /// bound were made: at most 44 where there are at most 65,536 items.
+    pub fn sum_counted(&self, range: &Range) -> (Fingerprint, usize)
+        ensures sum { result.0 ≡ two_lanes.of (items_in (tree_items self.now) range.now) }
+        ensures steps { length (tree_items self.now) ≤ 65536 → result.1 ≤ 44 }
+    {
+        let (from, to, compared) = self.places(range);
+        (parts::sum_between(&self.branches, from, to), compared)
+    }
+
+    /// Where the item would go, unless it is there.
+    pub(crate) fn gap_for(&self, item: &Item) -> Option<usize>
+        ensures found { is_none result ≡ has (tree_items self.now) item.now }
+        ensures gap { IfSome result (λ i. add_item (tree_items self.now) item.now ≡
+            take i (tree_items self.now) ++ item.now ∷ drop i (tree_items self.now)) }
+        ensures within { IfSome result (λ i. i ≤ length (tree_items self.now)) }
+    {
+        let (place, _) = self.rank(item);
+        if place >= self.count {
+            return Some(place);
+        }
+        if *item == parts::item_at(&self.branches, place) {
+            return None;
+        }
+        Some(place)
+    }
+}

@@ -1,0 +1,133 @@
+ghost use Rattle.std.specs.Prelude.{◌≡◌, ◌≤◌, ◌∷◌, ◌++◌, [], length, take, drop, map, IfOk};
+ghost use Rattle.std.specs.Arc.{arc_value};
+ghost use Rattle.definitions.specs.Sets.{add_item, set_of};
+ghost use Rattle.range_tree.specs.Parts.{items_of, IsFull};
+ghost use Rattle.range_tree.specs.Branches.{branch_items, branch_width};
+ghost use Rattle.range_tree.specs.Trees.{tree_items};
+
+use crate::branch::Branch;
+use crate::leaf::Leaf;
+use crate::loading::branches_of;
+use crate::parts;
+use crate::tree::Tree;
+use digest_core::{Fingerprint, Summary, laws};
+use item_core::{Item, Range};
+use std::alloc::{AllocError, Global};
+use std::sync::Arc;
+use store_core::{Entry, RangeStore, With, spans};
+
+/// The one branch of one leaf of one entry.
+fn branches_of_one(alloc: Global, entry: Entry) -> Result<Vec<Arc<Branch>>, AllocError>
+    ensures items { IfOk result (λ held. items_of branch_items held.items ≡ entry ∷ []) }
+    ensures one { IfOk result (λ held. length held.items ≡ 1) }
+{
+    let mut entries = Vec::new(alloc);
+    entries.push(entry)?;
+    let mut leaves = Vec::new(alloc);
+    leaves.push(Arc::new(alloc, Leaf::of(entries))?)?;
+    let mut branches = Vec::new(alloc);
+    branches.push(Arc::new(alloc, Branch::of(leaves))?)?;
+    Ok(branches)
+}
+
+/// The branches with an entry at a place.
+fn branches_with(
+    alloc: Global,
+    branches: &[Arc<Branch>],
+    place: usize,
+    entry: Entry,
+) -> Result<Vec<Arc<Branch>>, AllocError>
+    requires { place ≤ length (items_of branch_items branches.now) }
+    ensures full { IfOk result (λ held. IsFull branch_width (map arc_value branches.now) →
+        IsFull branch_width (map arc_value held.items)) }
+    ensures items { IfOk result (λ held. items_of branch_items held.items ≡
+        take place (items_of branch_items branches.now) ++ entry
+        ∷ drop place (items_of branch_items branches.now)) }
+{
+    if branches.is_empty() {
+        return branches_of_one(alloc, entry);
+    }
+    parts::with_at(alloc, branches, place, entry)
+}
+
+impl RangeStore for Tree {
+    ghost content = { tree_items };
+
+    ghost rises = { λ t. t.rises };
+
+    ghost are_items = { λ t. t.are_items };
+
+    fn empty(alloc: Global) -> Tree {
+        Tree {
+            branches: Vec::new(alloc),
+            count: 0,
+            total: Fingerprint::zero(),
+        }
+    }
+
+    fn from_items(alloc: Global, items: Vec<Item>) -> Result<Tree, AllocError> {
+        store_core::laws::set_of_a_list();
+        let entries = spans::digested(alloc, &spans::distinct(items))?;
+        Ok(Tree {
+            branches: branches_of(alloc, &entries)?,
+            count: entries.len(),
+            total: spans::total(&entries),
+        })
+    }
+
+    fn len(&self) -> usize {
+        self.count
+    }
+
+    fn count(&self, range: &Range) -> usize {
+        let (from, to, _) = self.places(range);
+        to.min(self.count).saturating_sub(from)
+    }
+
+    fn sum(&self, range: &Range) -> Fingerprint {
+        self.sum_counted(range).0
+    }
+
+    fn nth(&self, range: &Range, place: usize) -> Item {
+        let (from, _, _) = self.places(range);
+        parts::item_at(&self.branches, from + place)
+    }
+
+    fn items(&self, alloc: Global, range: &Range) -> Result<Vec<Item>, AllocError> {
+        let (from, to, _) = self.places(range);
+        let mut held = Vec::new(alloc);
+        parts::push_between(&self.branches, &mut held, from, to)?;
+        Ok(held)
+    }
+
+    fn has(&self, item: &Item) -> bool {
+        self.gap_for(item).is_none()
+    }
+
+    fn with(&self, alloc: Global, item: Item) -> Result<With<Tree>, AllocError> {
+        let Some(place) = self.gap_for(&item) else {
+            return Ok(With::Already);
+        };
+        let Some(count) = self.count.checked_add(1) else {
+            return Err(AllocError);
+        };
+        laws::new_item_adds();
+        let entry = Entry::new(item);
+        let total = self.total.join(entry.fingerprint());
+        Ok(With::New(Tree {
+            branches: branches_with(alloc, &self.branches, place, entry)?,
+            count,
+            total,
+        }))
+    }
+
+    fn copy(&self, alloc: Global) -> Result<Tree, AllocError> {
+        let mut branches = Vec::with_capacity(alloc, self.branches.len())?;
+        parts::share(&mut branches, &self.branches)?;
+        Ok(Tree {
+            branches,
+            count: self.count,
+            total: self.total,
+        })
+    }
+}
