@@ -10,21 +10,21 @@ use crate::letters::item;
 use crate::tables::{BINARY_EIGHT, accepted};
 use item_core::Item;
 use peer_threads::{Outcome, Shared, dial_one, serve_one};
+use range_tree::Tree;
 use session_table::{SessionTable, Totals};
 use std::alloc::Global;
 use std::process::Abort;
 use std::sync::atomic::Ordering;
 use std::sync::{Mutex, Wait};
 use std::test::Fail;
-use store_core::FlatStore;
 use strategy_check::Accepted;
 use version_lock::{Seat, VersionLock};
 use version_log::Published;
 use wire_core::Watched;
 
-type Lock = VersionLock<FlatStore>;
+type Lock = VersionLock<Tree>;
 
-type FlatSeat = Seat<FlatStore>;
+type TreeSeat = Seat<Tree>;
 
 /// The lock over a log of these items under the cap 8 with this next writer number, 1 to 4,294,967,296, and its first seat.
 pub(crate) fn opened(
@@ -33,7 +33,7 @@ pub(crate) fn opened(
     accepted: &Accepted,
     items: &[Item],
     next_writer: u64,
-) -> (Lock, FlatSeat)
+) -> (Lock, TreeSeat)
     ensures { (result.1.table_id ≡ result.0) × (result.1.view.cap ≤ accepted.now.table.cap) }
 {
     assert!(rt; accepted.cap() == 8 && 1 <= next_writer && next_writer <= 1 << 32);
@@ -74,8 +74,8 @@ fn called<T: Wait>(
     rt: &T,
     alloc: Global,
     engine: Engine,
-    shared: &Shared<'_, FlatStore, Witness>,
-    seat: &mut FlatSeat,
+    shared: &Shared<'_, Tree, Witness>,
+    seat: &mut TreeSeat,
     input: PieceReader,
     output: PieceWriter<'_>,
 ) -> Outcome

@@ -4,34 +4,35 @@ ghost use Rattle.std.specs.Prelude.{◌≡◌, ℕ, Some, None, IsSome};
 ghost use Rattle.version_lock.specs.Beginnings.{StartsWith, entries_by};
 
 use crate::letters::item;
+use range_tree::Tree;
 use std::alloc::Global;
 use std::process::Abort;
 use std::sync::Wait;
 use std::thread::{Threads, join};
-use store_core::{FlatStore, RangeStore};
+use store_core::RangeStore;
 use version_lock::{InsertFault, Seat, VersionLock};
 use version_log::{Added, LogFault, Published, WritersSpent};
 
-type Lock = VersionLock<FlatStore>;
+type Lock = VersionLock<Tree>;
 
-type FlatSeat = Seat<FlatStore>;
+type TreeSeat = Seat<Tree>;
 
 // An empty log of this cap, 1 to 65,536, with this next writer number, 1 to 4,294,967,296.
-fn empty(rt: &impl Abort, alloc: Global, cap: u32, next_writer: u64) -> Published<FlatStore> {
+fn empty(rt: &impl Abort, alloc: Global, cap: u32, next_writer: u64) -> Published<Tree> {
     assert!(rt; 1 <= cap && cap <= 65_536 && 1 <= next_writer && next_writer <= 1 << 32);
     let log = Published::starting_at(alloc, cap, &[], next_writer);
     log.ok().expect(rt, "a log")
 }
 
 // The lock over an empty log, and its first seat.
-fn opened(rt: &impl Abort, alloc: Global, cap: u32, next_writer: u64) -> (Lock, FlatSeat)
+fn opened(rt: &impl Abort, alloc: Global, cap: u32, next_writer: u64) -> (Lock, TreeSeat)
     ensures { (result.1.table_id ≡ result.0) × (result.1.view.writer ≡ None) }
 {
     let lock = VersionLock::new(alloc, empty(rt, alloc, cap, next_writer));
     lock.ok().expect(rt, "a lock")
 }
 
-fn enroll<R: Wait + Abort>(rt: &R, lock: &Lock, seat: &mut FlatSeat) -> u32
+fn enroll<R: Wait + Abort>(rt: &R, lock: &Lock, seat: &mut TreeSeat) -> u32
     requires { (seat.old.table_id ≡ lock.now) × (seat.old.view.writer ≡ None) }
     ensures { (seat.new.table_id ≡ lock.now) × IsSome seat.new.view.writer }
 {
@@ -42,7 +43,7 @@ fn insert<R: Wait + Abort>(
     rt: &R,
     alloc: Global,
     lock: &Lock,
-    seat: &mut FlatSeat,
+    seat: &mut TreeSeat,
     bytes: &[u8],
 ) -> Result<Added, LogFault>
     requires { (seat.old.table_id ≡ lock.now) × IsSome seat.old.view.writer }
@@ -52,7 +53,7 @@ fn insert<R: Wait + Abort>(
 }
 
 // A pin has one entry, the item x, and so has one by one try.
-fn pins_x<R: Wait + Abort>(rt: &R, alloc: Global, lock: &Lock, seat: &mut FlatSeat)
+fn pins_x<R: Wait + Abort>(rt: &R, alloc: Global, lock: &Lock, seat: &mut TreeSeat)
     requires { seat.old.table_id ≡ lock.now }
     ensures { (seat.new.table_id ≡ lock.now) × (seat.new.view.writer ≡ seat.old.view.writer) }
 {
@@ -99,7 +100,7 @@ fn insert_all<R: Wait + Abort>(
     rt: &R,
     alloc: Global,
     lock: &Lock,
-    mut seat: FlatSeat,
+    mut seat: TreeSeat,
     who: u8,
 ) -> Worker
     requires { (seat.table_id ≡ lock.now) × IsSome seat.view.writer }
@@ -115,12 +116,12 @@ fn insert_all<R: Wait + Abort>(
 // A seat, and how many items the lock told it to be new: each byte below this number, behind the worker's own.
 #[derive(Drop)]
 struct Worker {
-    seat: FlatSeat,
+    seat: TreeSeat,
     added: u8,
 }
 
 // Tries 1,000 times, one item after the other, until 100 are added.
-fn try_all<R: Abort>(rt: &R, alloc: Global, lock: &Lock, mut seat: FlatSeat, who: u8) -> Worker
+fn try_all<R: Abort>(rt: &R, alloc: Global, lock: &Lock, mut seat: TreeSeat, who: u8) -> Worker
     requires { (seat.table_id ≡ lock.now) × IsSome seat.view.writer }
     ensures { result.seat.table_id ≡ lock.now }
 {
@@ -139,7 +140,7 @@ fn try_all<R: Abort>(rt: &R, alloc: Global, lock: &Lock, mut seat: FlatSeat, who
 }
 
 // Pins until the log has two entries, 100,000 times at most.
-fn wait_for_two<R: Wait + Abort>(rt: &R, alloc: Global, lock: &Lock, seat: &mut FlatSeat)
+fn wait_for_two<R: Wait + Abort>(rt: &R, alloc: Global, lock: &Lock, seat: &mut TreeSeat)
     requires { (seat.old.table_id ≡ lock.now) × IsSome seat.old.view.writer }
     ensures { (seat.new.table_id ≡ lock.now) × IsSome seat.new.view.writer }
 {
@@ -156,7 +157,7 @@ fn insert_two<R: Wait + Abort>(
     rt: &R,
     alloc: Global,
     lock: &Lock,
-    mut seat: FlatSeat,
+    mut seat: TreeSeat,
     who: u8,
 ) -> Worker
     requires { (seat.table_id ≡ lock.now) × IsSome seat.view.writer }
@@ -170,7 +171,7 @@ fn insert_two<R: Wait + Abort>(
 }
 
 // The entries of this writer are the worker's items, in order.
-fn stand_in_order(rt: &impl Abort, log: &Published<FlatStore>, writer: u32, who: u8, added: u8) {
+fn stand_in_order(rt: &impl Abort, log: &Published<Tree>, writer: u32, who: u8, added: u8) {
     let mut next = 0u8;
     for index in 0..log.version() {
         let entry = log.entry(index);
@@ -183,7 +184,7 @@ fn stand_in_order(rt: &impl Abort, log: &Published<FlatStore>, writer: u32, who:
 }
 
 // The first seat meets another and joins it. What it has seen then has all that the other added.
-fn join_in<R: Wait>(rt: &R, lock: &Lock, first: &mut FlatSeat, mut other: FlatSeat)
+fn join_in<R: Wait>(rt: &R, lock: &Lock, first: &mut TreeSeat, mut other: TreeSeat)
     requires { (first.old.table_id ≡ lock.now) × (other.table_id ≡ lock.now) }
     ensures lock { first.new.table_id ≡ lock.now }
     ensures others { (n : ℕ) → other.view.writer ≡ Some n →
@@ -194,7 +195,7 @@ fn join_in<R: Wait>(rt: &R, lock: &Lock, first: &mut FlatSeat, mut other: FlatSe
 }
 
 // The writer of the third entry, if the first two are of two writers.
-fn third_writer(rt: &impl Abort, log: &Published<FlatStore>) -> Option<u32> {
+fn third_writer(rt: &impl Abort, log: &Published<Tree>) -> Option<u32> {
     assert!(rt; log.version() > 2);
     if log.entry(0).writer() == log.entry(1).writer() {
         return None;
@@ -206,7 +207,7 @@ fn third_writer(rt: &impl Abort, log: &Published<FlatStore>) -> Option<u32> {
 fn close<R: Wait + Abort>(
     rt: &R,
     lock: Lock,
-    mut first: FlatSeat,
+    mut first: TreeSeat,
     one: Worker,
     two: Worker,
 ) -> Option<u32>
@@ -254,7 +255,7 @@ fn work<R: Wait + Abort>(
     rt: &R,
     alloc: Global,
     lock: &Lock,
-    seat: FlatSeat,
+    seat: TreeSeat,
     who: u8,
     task: Task,
 ) -> Worker

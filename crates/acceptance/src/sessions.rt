@@ -5,10 +5,10 @@ use crate::shown::{shown, shown_learned};
 use crate::tables::{BINARY_EIGHT, BINARY_TWO, accepted, initiator, responder};
 use ends_core::{Initiator, Responder, Turn};
 use item_core::Item;
+use range_tree::Tree;
 use std::alloc::Global;
 use std::process::Abort;
 use std::test::Fail;
-use store_core::FlatStore;
 use strategy_check::Accepted;
 use wire_core::{Message, encode_message};
 
@@ -28,11 +28,7 @@ struct Told {
     responder: Side,
 }
 
-fn of_initiator(
-    rt: &impl Abort,
-    alloc: Global,
-    end: &Initiator<'_, FlatStore>,
-) -> Result<Side, Fail> {
+fn of_initiator(rt: &impl Abort, alloc: Global, end: &Initiator<'_, Tree>) -> Result<Side, Fail> {
     assert!(rt; end.is_over());
     Ok(Side {
         learned: shown_learned(alloc, end.learned())?,
@@ -41,11 +37,7 @@ fn of_initiator(
     })
 }
 
-fn of_responder(
-    rt: &impl Abort,
-    alloc: Global,
-    end: &Responder<'_, FlatStore>,
-) -> Result<Side, Fail> {
+fn of_responder(rt: &impl Abort, alloc: Global, end: &Responder<'_, Tree>) -> Result<Side, Fail> {
     assert!(rt; end.is_over());
     Ok(Side {
         learned: shown_learned(alloc, end.learned())?,
@@ -59,8 +51,8 @@ fn talk(
     rt: &impl Abort,
     alloc: Global,
     first: Message,
-    initiator: &mut Initiator<'_, FlatStore>,
-    responder: &mut Responder<'_, FlatStore>,
+    initiator: &mut Initiator<'_, Tree>,
+    responder: &mut Responder<'_, Tree>,
 ) -> Result<Vec<Message>, Fail> {
     let mut messages = Vec::new(alloc);
     let mut last = first;
@@ -84,8 +76,8 @@ fn session_of(
     rt: &impl Abort,
     alloc: Global,
     first: Message,
-    initiator: &mut Initiator<'_, FlatStore>,
-    responder: &mut Responder<'_, FlatStore>,
+    initiator: &mut Initiator<'_, Tree>,
+    responder: &mut Responder<'_, Tree>,
 ) -> Result<Told, Fail> {
     let messages = talk(rt, alloc, first, initiator, responder)?;
     Ok(Told {
@@ -101,7 +93,7 @@ fn session_with(
     alloc: Global,
     accepted: &Accepted,
     first: Message,
-    initiator: &mut Initiator<'_, FlatStore>,
+    initiator: &mut Initiator<'_, Tree>,
     items: Vec<Item>,
 ) -> Result<Told, Fail> {
     let mut responder = responder(rt, alloc, accepted, items)?;

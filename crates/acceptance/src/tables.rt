@@ -2,10 +2,11 @@
 
 use ends_core::{Initiator, Responder};
 use item_core::Item;
+use range_tree::Tree;
 use std::alloc::Global;
 use std::process::Abort;
 use std::test::Fail;
-use store_core::{FlatStore, RangeStore};
+use store_core::RangeStore;
 use strategy_check::{Accepted, check};
 use strategy_core::Strategy;
 use wire_core::Message;
@@ -33,8 +34,8 @@ pub(crate) fn initiator<'a>(
     alloc: Global,
     accepted: &'a Accepted,
     items: Vec<Item>,
-) -> Result<(Initiator<'a, FlatStore>, Message), Fail> {
-    let store = FlatStore::from_items(alloc, items)?;
+) -> Result<(Initiator<'a, Tree>, Message), Fail> {
+    let store = Tree::from_items(alloc, items)?;
     assert!(rt; store.len() <= accepted.cap() as usize);
     let started = Initiator::start(alloc, accepted, store);
     Ok(started.ok().expect(rt, "started"))
@@ -46,8 +47,8 @@ pub(crate) fn responder<'a>(
     alloc: Global,
     accepted: &'a Accepted,
     items: Vec<Item>,
-) -> Result<Responder<'a, FlatStore>, Fail> {
-    let store = FlatStore::from_items(alloc, items)?;
+) -> Result<Responder<'a, Tree>, Fail> {
+    let store = Tree::from_items(alloc, items)?;
     assert!(rt; store.len() <= accepted.cap() as usize);
     Ok(Responder::new(alloc, accepted, store))
 }

@@ -4,10 +4,11 @@ ghost use Rattle.std.specs.Prelude.{◌≡◌, IfOk};
 
 use item_core::Range;
 use printing_core::Fault;
+use range_tree::Tree;
 use settings_core::{read_items, read_strategy};
 use std::alloc::Global;
 use std::rt::Files;
-use store_core::{FlatStore, RangeStore};
+use store_core::RangeStore;
 use strategy_check::{Accepted, check};
 use strategy_core::Strategy;
 use version_log::Published;
@@ -18,7 +19,7 @@ pub struct Opening {
     /// The strategy.
     pub accepted: Accepted,
     /// The log, whose cap is the strategy's.
-    pub log: Published<FlatStore>,
+    pub log: Published<Tree>,
 }
 
 /// The strategy, with its least ranks, where it is accepted: else 37, 36 or 38.

@@ -4,7 +4,7 @@ use Rattle.std.specs.Prelude.{slice_get, IfSome, IfOk, OnOk, OnErr, Result, Ok, 
 use Rattle.std.proofs.lemmas.List.{set-get_or}
 use Rattle.std.proofs.lemmas.Option.{slice_get-map}
 use Rattle.std.proofs.lemmas.Bool.{ne_eqb}
-use Rattle.definitions.proofs.Words.{World, Node, Item, Range, whole, items_in, End, Lanes, node_at, no_node, has_ended, initiator_of, responder_of, absorb_at, absorb_side, two_lanes, set_of, message_bound, rank_of, responder_at}
+use Rattle.definitions.proofs.Words.{World, Node, Item, End, Lanes, node_at, no_node, has_ended, initiator_of, responder_of, absorb_at, absorb_side, two_lanes, set_of, message_bound, rank_of, responder_at}
 use Rattle.definitions.proofs.Lemmas.{cond-true, cond-false, eq-eqb}
 use Rattle.definitions.specs.Ranks.{rank_by}
 use Rattle.definitions.specs.Theorems.{node_of}
@@ -131,9 +131,3 @@ absorbed_memory (Err d) laws w v nodes lives k l side n xs e runs here learned s
 pub OnErr-any : {D E : Type 0} (r : Result D E) (P : Type 0) → P → OnErr r P
 OnErr-any (Ok d) P p = tt
 OnErr-any (Err d) P p = p
-
--- the items of a store, all in order
-pub all_items : {V E : Type 0} (items : V → List Item) (r : Result V E) (held xs ys : List Item) (X : Range) → IfOk r (λ v. items v ≡ items_in held X) →
-    X ≡ whole → ((A : List Item) → items_in A whole ≡ A) → held ≡ set_of xs → xs ≡ ys → IfOk r (λ v. items v ≡ set_of ys)
-all_items items (Ok v) held xs ys X ok range law is same = ok ∙ ap (items_in held) range ∙ law held ∙ is ∙ ap set_of same
-all_items items (Err e) held xs ys X ok range law is same = tt

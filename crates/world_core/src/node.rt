@@ -13,9 +13,10 @@ ghost use Rattle.world_core.specs.Steps.{did_of};
 use crate::step::Did;
 use ends_core::{Initiator, Responder};
 use item_core::Item;
+use range_tree::Tree;
 use std::alloc::{AllocError, Global};
 use std::marker::Model;
-use store_core::{FlatStore, RangeStore};
+use store_core::RangeStore;
 use strategy_check::Accepted;
 use version_log::{Added, LogFault, Published};
 use wire_core::Message;
@@ -24,7 +25,7 @@ use wire_core::Message;
 #[derive(Drop)]
 pub(crate) struct Node<'a> {
     accepted: &'a Accepted,
-    log: Published<FlatStore>,
+    log: Published<Tree>,
 }
 
 impl<'a> Model for Node<'a> {
@@ -41,7 +42,7 @@ impl<'a> Model for Node<'a> {
 
 impl<'a> Node<'a> {
     /// The node of this table and this log.
-    pub(crate) fn new(accepted: &'a Accepted, log: Published<FlatStore>) -> Node<'a>
+    pub(crate) fn new(accepted: &'a Accepted, log: Published<Tree>) -> Node<'a>
         requires { log.cap ≡ accepted.now.table.cap }
         ensures { result ≡ node_by accepted.now log.history }
     {
@@ -78,7 +79,7 @@ impl<'a> Node<'a> {
     pub(crate) fn initiator(
         &self,
         alloc: Global,
-    ) -> Result<(Initiator<'a, FlatStore>, Message), AllocError>
+    ) -> Result<(Initiator<'a, Tree>, Message), AllocError>
         ensures end { IfOk result
             (λ r. r.0 ≡ record { steps = self.now.steps; end = ends.initiator two_lanes (newest self.now) }) }
         ensures message { IfOk result (λ r. r.1 ≡ opening two_lanes (newest self.now).items) }
@@ -93,7 +94,7 @@ impl<'a> Node<'a> {
     }
 
     /// A responder with the newest version.
-    pub(crate) fn responder(&self, alloc: Global) -> Result<Responder<'a, FlatStore>, AllocError>
+    pub(crate) fn responder(&self, alloc: Global) -> Result<Responder<'a, Tree>, AllocError>
         ensures { IfOk result (λ r. r ≡ record { steps = self.now.steps; end = ends.responder (newest self.now) }) }
     {
         let _ = self.log.cap();

@@ -15,8 +15,8 @@ use crate::node::Node;
 use crate::report::{Lists, Report};
 use crate::step::{Did, Side};
 use ends_core::{EndFault, Initiator, Responder, Turn};
+use range_tree::Tree;
 use std::alloc::{AllocError, Global};
-use store_core::FlatStore;
 use wire_core::Message;
 
 /// A session of a run: its numbers, its ends, and the message made last.
@@ -27,8 +27,8 @@ pub(crate) struct Session<'a> {
     pub(crate) initiator_version: usize,
     pub(crate) responder_version: Option<usize>,
     pub(crate) delivered: usize,
-    pub(crate) first: Initiator<'a, FlatStore>,
-    pub(crate) second: Option<Responder<'a, FlatStore>>,
+    pub(crate) first: Initiator<'a, Tree>,
+    pub(crate) second: Option<Responder<'a, Tree>>,
     pub(crate) last: Message,
 }
 
@@ -48,7 +48,7 @@ fn taken(answered: Result<Turn, EndFault>) -> Result<Turn, AllocError>
 /// The initiator hears a message.
 fn hear_first(
     alloc: Global,
-    end: &mut Initiator<'_, FlatStore>,
+    end: &mut Initiator<'_, Tree>,
     message: &Message,
 ) -> Result<Turn, AllocError>
     requires { IsTaken (answer two_lanes end.old.end message.now) }
@@ -62,7 +62,7 @@ fn hear_first(
 /// The responder hears a message.
 fn hear_second(
     alloc: Global,
-    end: &mut Responder<'_, FlatStore>,
+    end: &mut Responder<'_, Tree>,
     message: &Message,
 ) -> Result<Turn, AllocError>
     requires { IsTaken (answer two_lanes end.old.end message.now) }
@@ -76,7 +76,7 @@ fn hear_second(
 /// The responder hears a message. Where there is none yet it begins, with the newest version of its node.
 fn hear_at<'a>(
     alloc: Global,
-    second: &mut Option<Responder<'a, FlatStore>>,
+    second: &mut Option<Responder<'a, Tree>>,
     node: &Node<'a>,
     message: &Message,
 ) -> Result<Turn, AllocError>
@@ -96,7 +96,7 @@ fn hear_at<'a>(
 }
 
 /// What a responder learned so far.
-fn learned_second<'b>(second: &'b Option<Responder<'_, FlatStore>>) -> Lists<'b>
+fn learned_second<'b>(second: &'b Option<Responder<'_, Tree>>) -> Lists<'b>
     ensures { knowledge_of result ≡ learned_in second.now }
 {
     match second {

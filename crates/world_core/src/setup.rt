@@ -11,9 +11,9 @@ ghost use Rattle.world_core.specs.SetupFaults.{setup_fault_number, of_log};
 
 use crate::node::Node;
 use item_core::Item;
+use range_tree::Tree;
 use std::alloc::{AllocError, Global};
 use std::marker::Model;
-use store_core::FlatStore;
 use strategy_check::Accepted;
 use version_log::{LogFault, Published};
 
@@ -53,7 +53,7 @@ impl From<LogFault> for SetupFault {
 #[derive(Drop)]
 pub(crate) struct Prepared {
     accepted: Accepted,
-    log: Published<FlatStore>,
+    log: Published<Tree>,
 }
 
 impl Model for Prepared {
@@ -78,17 +78,13 @@ impl Prepared {
 }
 
 /// The log of these items, by a table's cap.
-fn log_of(
-    alloc: Global,
-    accepted: &Accepted,
-    items: &[Item],
-) -> Result<Published<FlatStore>, SetupFault>
+fn log_of(alloc: Global, accepted: &Accepted, items: &[Item]) -> Result<Published<Tree>, SetupFault>
     ensures log { IfOk result (λ p. p ≡ opened accepted.now.table.cap items.now 1) }
     ensures node { IfOk result (λ p. IsNode (node_by accepted.now p.history)) }
     ensures fits { IfOk result (λ _. length (set_of items.now) ≤ accepted.now.table.cap) }
     ensures full { IfErr result (λ e. e ≡ SetupFault.Full → accepted.now.table.cap < length (set_of items.now)) }
 {
-    let log: Published<FlatStore> = Published::new(alloc, accepted.cap(), items)?;
+    let log: Published<Tree> = Published::new(alloc, accepted.cap(), items)?;
     let _ = log.count();
     let _ = log.cap();
     Ok(log)

@@ -17,10 +17,10 @@ use crate::session::Session;
 use crate::setup::{Prepared, Setup};
 use crate::step::{Did, Side, Step};
 use digest_core::Fingerprint;
-use item_core::{Item, Range};
+use item_core::Item;
 use std::alloc::{AllocError, Global};
 use std::marker::Model;
-use store_core::{FlatStore, RangeStore};
+use store_core::spans::distinct;
 
 /// A run of nodes and sessions.
 #[derive(Drop)]
@@ -250,9 +250,7 @@ fn added_by(did: Did) -> Option<usize>
 fn rising(alloc: Global, items: &[Item]) -> Result<Vec<Item>, AllocError>
     ensures { IfOk result (λ sorted. sorted.items ≡ set_of items.now) }
 {
-    laws::whole_has_all();
-    let store = FlatStore::from_items(alloc, Vec::from_slice(alloc, items)?)?;
-    store.items(alloc, &Range::whole())
+    Ok(distinct(Vec::from_slice(alloc, items)?))
 }
 
 /// The world behind these steps, from the setup on.
