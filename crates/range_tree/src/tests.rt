@@ -3,6 +3,7 @@ use digest_core::{Fingerprint, Summary};
 use item_core::{Item, Lower, Range, Upper};
 use std::alloc::Global;
 use std::process::Abort;
+use std::test::Fail;
 use store_core::{RangeStore, With};
 
 fn item(rt: &impl Abort, number: u16) -> Item {
@@ -94,4 +95,20 @@ fn items_given_twice(rt: HostRuntime) {
     assert!(rt; matches!(tree.with(alloc, item(&rt, 2)), Ok(With::Already)));
     let held = tree.items(alloc, &Range::whole()).expect(&rt, "memory");
     assert!(rt; held.len() == 2 && held[0] == item(&rt, 1) && held[1] == item(&rt, 2));
+}
+
+// More than a leaf holds, and more than a branch.
+#[test]
+fn many_at_once(rt: HostRuntime) -> Result<(), Fail> {
+    let alloc = rt.alloc();
+    let mut items = Vec::new(alloc);
+    for number in 0..5_000u16 {
+        items.push(item(&rt, number))?;
+    }
+    let tree = Tree::from_items(alloc, items)?;
+    let other = rising(&rt, alloc, Tree::empty(alloc), 0, 4_999);
+    assert!(rt; tree.len() == 5_000 && tree.count(&sixteen(&rt)) == 16);
+    assert!(rt; tree.sum(&Range::whole()) == other.sum(&Range::whole()));
+    assert!(rt; tree.sum_counted(&sixteen(&rt)).1 <= 44);
+    Ok(())
 }
