@@ -1,9 +1,10 @@
-//! The least ranks of two strategies, found in plain Rust over std alone, to time the proved program beside it.
+//! The least ranks of four strategies, found in plain Rust over std alone, to time the proved program beside it.
 //!
-//!     plain_check make DIR             writes DIR/even.toml and DIR/steep.toml
-//!     plain_check run DIR [ROUNDS]     prints the least time for each in microseconds, and writes DIR/even.steps and DIR/steep.steps
+//!     plain_check make DIR             writes DIR/NAME.toml for each
+//!     plain_check run DIR [ROUNDS]     prints the least time for each in microseconds, and writes DIR/NAME.steps
 //!
-//! Both have a cap of 65,536 and rows of 64 weights. `even` cuts into equal parts; `steep` has one great part, so its ranks are high.
+//! All have a cap of 65,536. `even` has 64 equal weights; `steep` has 64 weights, one of them great, so its ranks are high.
+//! `peel_1` cuts one item off the front, so each count has a rank of its own, and `peel_300` cuts 300 off.
 
 use std::env;
 use std::fs;
@@ -16,6 +17,8 @@ enum Act {
     List,
     /// The weights, and their sum.
     Split(Vec<u32>, u32),
+    /// How many items are cut off the front.
+    Peel(u32),
 }
 
 struct Row {
@@ -29,13 +32,12 @@ struct Table {
 }
 
 impl Table {
-    /// Lists up to so many items, and cuts more by these weights.
-    fn new(listed: u32, weights: Vec<u32>) -> Table {
+    /// Lists up to this many items, and cuts more.
+    fn new(listed: u32, act: Act) -> Table {
         let cap = 65_536;
-        let total = weights.iter().sum();
         let rows = vec![
             Row { upto: listed, act: Act::List },
-            Row { upto: cap, act: Act::Split(weights, total) },
+            Row { upto: cap, act },
         ];
         Table { cap, rows }
     }
@@ -46,6 +48,7 @@ impl Table {
             let act = match &row.act {
                 Act::List => "list = true".to_string(),
                 Act::Split(weights, _) => format!("split = {weights:?}"),
+                Act::Peel(front) => format!("peel = {front}"),
             };
             text += &format!("[[row]]\nupto = {}\n{act}\n", row.upto);
         }
@@ -55,8 +58,11 @@ impl Table {
     /// Whether n is cut, into how many shares, and the greatest share.
     fn cutting(&self, n: u32) -> (bool, usize, u32) {
         let row = &self.rows[self.rows.partition_point(|row| row.upto < n)];
-        let Act::Split(weights, total) = &row.act else {
-            return (false, 0, 0);
+        let (weights, total) = match &row.act {
+            Act::List => return (false, 0, 0),
+            Act::Peel(front) if n > *front => return (true, 2, (*front).max(n - front)),
+            Act::Peel(_) => return (true, usize::from(n > 0), n),
+            Act::Split(weights, total) => (weights, total),
         };
         let (mut reached, mut cut, mut count, mut greatest) = (0u32, 0u32, 0, 0);
         for weight in weights {
@@ -86,10 +92,20 @@ impl Table {
     }
 }
 
-fn tables() -> [(&'static str, Table); 2] {
+fn split(weights: Vec<u32>) -> Act {
+    let total = weights.iter().sum();
+    Act::Split(weights, total)
+}
+
+fn tables() -> [(&'static str, Table); 4] {
     let mut steep = vec![1; 63];
     steep.push(1_024);
-    [("even", Table::new(1, vec![1; 64])), ("steep", Table::new(17, steep))]
+    [
+        ("even", Table::new(1, split(vec![1; 64]))),
+        ("steep", Table::new(17, split(steep))),
+        ("peel_1", Table::new(1, Act::Peel(1))),
+        ("peel_300", Table::new(300, Act::Peel(300))),
+    ]
 }
 
 fn least(rounds: usize, table: &Table) -> Duration {

@@ -2,7 +2,9 @@
 
 use crate::letters::{item, items};
 use crate::shown::{shown, shown_learned};
-use crate::tables::{BINARY_EIGHT, BINARY_TWO, accepted, initiator, responder};
+use crate::tables::{
+    BINARY_EIGHT, BINARY_TWO, THREE_OFF_THE_FRONT, accepted, initiator, responder,
+};
 use ends_core::{Initiator, Responder, Turn};
 use item_core::Item;
 use range_tree::Tree;
@@ -262,5 +264,30 @@ fn equal_eights(rt: HostRuntime) -> Result<(), Fail> {
     );
     let told = session(&rt, alloc, BINARY_EIGHT, first, second)?;
     assert_eq!(rt; shown(alloc, &told.messages)?.as_str(), "1 Sum S..E\n2\n");
+    Ok(())
+}
+
+#[test]
+fn one_missing_behind_six(rt: HostRuntime) -> Result<(), Fail> {
+    let alloc = rt.alloc();
+    let (first, second) = (
+        items(&rt, alloc, b"abcdefg")?,
+        items(&rt, alloc, b"abcdef")?,
+    );
+    let told = session(&rt, alloc, THREE_OFF_THE_FRONT, first, second)?;
+    let messages = "1 Sum S..E
+2 Sum S..d Sum d..E
+3 Sum d..g Sum g..E
+4 List g..E -
+5 Answer g..E - g
+";
+    tells(
+        &rt,
+        alloc,
+        &told,
+        messages,
+        ("ours g theirs -", "ours - theirs g"),
+    )?;
+    assert_eq!(rt; (told.initiator.bound, told.responder.bound), (4, 2));
     Ok(())
 }

@@ -19,6 +19,10 @@ pub(crate) const BINARY_EIGHT: &[u8] =
 pub(crate) const BINARY_TWO: &[u8] =
     b"cap = 2\nlimit = 1\nrounds = 1\nrow = [{upto = 1, list = true}, {upto = 2, split = [1, 1]}]";
 
+/// Cap 10: lists three items, cuts three off the front of more.
+pub(crate) const THREE_OFF_THE_FRONT: &[u8] =
+    b"cap = 10\nlimit = 3\nrounds = 3\nrow = [{upto = 3, list = true}, {upto = 10, peel = 3}]";
+
 /// Cap 2: lists everything.
 pub(crate) const LISTS_TWO: &[u8] =
     b"cap = 2\nlimit = 2\nrounds = 0\nrow = [{upto = 2, list = true}]";

@@ -72,11 +72,11 @@ fn report<'b>(rt: &impl Abort, world: &'b World<'_>, session: usize) -> Report<'
     world.report(session).expect(rt, "a session")
 }
 
-/// A session that has ended: its messages and its bound.
-fn ended(rt: &impl Abort, world: &World<'_>, session: usize) -> (usize, Option<usize>) {
+/// A session that has ended: its messages, their bound, and the most parts of one.
+fn ended(rt: &impl Abort, world: &World<'_>, session: usize) -> (usize, Option<usize>, usize) {
     let report = report(rt, world, session);
     assert!(rt; report.ended && report.initiator == 0 && report.responder == 1);
-    (report.messages, report.bound)
+    (report.messages, report.bound, report.parts)
 }
 
 /// The first session, in whose course each node gets an item.
@@ -104,16 +104,17 @@ fn second_session(rt: &impl Abort, alloc: Global, world: &mut World<'_>) {
     assert_eq!(rt; responder, Did::Absorbed(2));
 }
 
-/// Seven messages of at most nine, and what the initiator learned.
+/// Seven messages of at most nine, of at most so many parts, and what the initiator learned.
 fn shows(
     rt: &impl Abort,
     alloc: Global,
     world: &World<'_>,
     session: usize,
+    parts: usize,
     ours: &[u8],
     theirs: &[u8],
 ) {
-    assert_eq!(rt; ended(rt, world, session), (7, Some(9)));
+    assert_eq!(rt; ended(rt, world, session), (7, Some(9), parts));
     let lists = report(rt, world, session).initiator_learned;
     assert!(rt; learned(rt, alloc, lists, ours, theirs));
 }
@@ -127,8 +128,8 @@ fn two_sessions(rt: HostRuntime) -> Result<(), Fail> {
     let mut world = World::new(alloc, &setup).ok().expect(&rt, "memory");
     first_session(&rt, alloc, &mut world);
     second_session(&rt, alloc, &mut world);
-    shows(&rt, alloc, &world, 0, b"h", b"");
-    shows(&rt, alloc, &world, 1, b"hi", b"j");
+    shows(&rt, alloc, &world, 0, 2, b"h", b"");
+    shows(&rt, alloc, &world, 1, 3, b"hi", b"j");
     let lists = report(&rt, &world, 0).responder_learned;
     assert!(rt; learned(&rt, alloc, lists, b"", b"h") && world.sessions() == 2);
     Ok(())

@@ -1,8 +1,8 @@
 -- How many parts a message has: no range is asked about again unless an item in it differs, and then it is cut into no more than the width.
-use Rattle.std.proofs.Common.{rules, ◌≡◌, ℕ, ◌+◌, ◌*◌, ◌≤◌, Bool, true, false, not, ◌&&◌, zero, suc, List, [], ◌∷◌, ◌++◌, length, map, max, unwrap_or, ltb, Less, Equal, Greater, if◌then◌else◌, refl, sym, ap, ◌∙◌, arith}
+use Rattle.std.proofs.Common.{◌≡◌, ℕ, ◌+◌, ◌*◌, ◌≤◌, Bool, true, false, not, ◌&&◌, zero, suc, List, [], ◌∷◌, ◌++◌, length, map, max, unwrap_or, ltb, Less, Equal, Greater, if◌then◌else◌, refl, sym, ap, ◌∙◌, arith}
 use Rattle.std.specs.List.Sorted.{IsStrictlySortedBy}
 use Rattle.std.specs.declared.cmp.Ordering.{Ordering}
-use Rattle.definitions.proofs.Words.{AllByRecursion, ordering_reverse, Item, item_cmp, same_item, Range, contains, IsSet, has, items_in, difference, symmetric_difference, Summary, IsExact, Part, Sum, Listing, Answer, Message, has_open, opening, Table, shares, width, Peer, inner_cuts, cutup, sum_of, reply_to, reply, talk, talk_from, part_bound, start, PartsAreFew, CostClaim, MessagesFit, IsHonest}
+use Rattle.definitions.proofs.Words.{AllByRecursion, ordering_reverse, Item, item_cmp, same_item, Range, contains, IsSet, has, items_in, difference, symmetric_difference, Summary, IsExact, Part, Sum, Listing, Answer, Message, has_open, opening, Table, shares, width, Peer, inner_cuts, cutup, sum_of, reply_to, reply, talk, talk_from, part_bound, most_parts, start, messages, initiator_of, responder_of, PartsAreFew, CostClaim, CostsLittle, MessagesFit, IsHonest}
 use Rattle.definitions.proofs.Lemmas.{common_steps, length-append, mul-add, mul_comm, mul-le-mul_left, ltb-true, ltb-false, cases_lt, or_parts, nat_list_cmp_total, length-map, list_any-append, IsStrictlySortedBy-filter, filter-append, item_cmp-eq, same_item-itself, All-append, All-every}
 use Rattle.rank_laws.proofs.Tables.{length-shares, widest-positive, length-le-sum, sum-shares_by, shares_by-positive}
 use Rattle.laws.proofs.Times.{when, times, times-append, times-filter, has-times, has-filter, times_le_one, times_below, all_above}
@@ -198,5 +198,17 @@ messages_fit S exact I R k left right =
     talk-few S D 1 (max 1 (length I.items + length R.items)) exact (omega (arith, length-append I.items R.items)) (omega arith) k I R left right (HasDifference-both I.items R.items)
     (by_items D I (λ X. omega (arith, length-both I.items R.items X))) (by_items D R (λ X. omega (arith, length-both I.items R.items X)))
 
+-- ---- the most parts of a message
+
+most_parts_le : {F : Type 0} (Ms : List (Message F)) (b : ℕ) → AllByRecursion (λ M. length M ≤ b) Ms → most_parts Ms ≤ b
+most_parts_le [] b h = omega arith
+most_parts_le (M ∷ Ms) b h = omega (arith, h.0, most_parts_le Ms b h.1)
+
+pub most_parts-append : {F : Type 0} (Ms Ns : List (Message F)) → most_parts (Ms ++ Ns) ≡ max (most_parts Ms) (most_parts Ns)
+most_parts-append [] Ns = omega arith
+most_parts-append (M ∷ Ms) Ns = omega (arith, most_parts-append Ms Ns)
+
 pub cost_claim : {F : Type 0} (S : Summary F) → CostClaim S
-cost_claim S exact w = search (rules, All-every, few_parts, peer_at-IsSet, unwrap_or)
+cost_claim S exact w = All-every (CostsLittle S w) (λ s.
+    let few = few_parts S exact (initiator_of w s) (responder_of w s) (s.delivered + 1) (peer_at-IsSet w s.initiator s.initiator_version) (peer_at-IsSet w s.responder (unwrap_or s.responder_version 0)) in
+    record { few_parts = few; reported = most_parts_le (messages S w s) (part_bound (initiator_of w s) (responder_of w s)) few }) w.sessions

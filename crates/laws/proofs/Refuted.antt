@@ -4,7 +4,7 @@ use Rattle.std.specs.Prelude.{◌==◌}
 use Rattle.std.specs.List.Sorted.{IsStrictlySortedBy}
 use Rattle.definitions.proofs.Words.{IsNonDecreasing, IsExact, Lanes, same_lanes, two_lanes, counted_lanes, whole, IsSet, Sum, Message, Table, List_items, Split, list_only, Descends, Accepted, Peer, Ready}
 use Rattle.definitions.proofs.Lemmas.{eq-eqb, and_from, false≢true}
-use Rattle.laws.specs.Weaker.{InitiatorStopsAnyhow, ResponderStopsAnyhow, ListsAreShortAnyhow, KnowledgeIsExactAnyhow, count_summary, blind}
+use Rattle.laws.specs.Weaker.{InitiatorStopsAnyhow, ResponderStopsAnyhow, ListsAreShortAnyhow, KnowledgeIsExactAnyhow, PartsAreFewAnyhow, count_summary, blind, wary}
 
 -- ==== The tests of fingerprints are exact
 
@@ -100,3 +100,9 @@ knowledge_needs_exactness claim =
     let R : Peer = record { table = list_only; items = [] } in
     let wrong : false ≡ true = (claim I R 3 (one-IsSet (1 ∷ [])) none-IsSet (omega arith) ((λ e. e, tt), (tt, tt))).ours.same (1 ∷ []) in
     cc
+
+-- equal sets of two items are cut in halves, though nothing differs
+pub parts_need_exactness : PartsAreFewAnyhow wary → ⊥
+parts_need_exactness claim =
+    let said = claim pair pair 2 pair-IsSet pair-IsSet in
+    omega (arith, said.1.0)

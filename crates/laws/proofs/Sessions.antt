@@ -1,9 +1,9 @@
 -- What is kept of a session: how it begins, what a delivery makes of it, that no other step touches it, and what it tells.
-use Rattle.std.proofs.Common.{◌≡◌, ℕ, zero, suc, ◌+◌, ◌<◌, ◌≤◌, Bool, true, false, List, [], ◌∷◌, ◌++◌, length, slice_get, Option, Some, None, unwrap_or, if◌then◌else◌, refl, sym, ap, ◌∙◌, arith}
+use Rattle.std.proofs.Common.{◌≡◌, ℕ, zero, suc, ◌+◌, ◌<◌, ◌≤◌, Bool, true, false, List, [], ◌∷◌, ◌++◌, length, max, slice_get, Option, Some, None, unwrap_or, if◌then◌else◌, refl, sym, ap, ◌∙◌, arith}
 use Rattle.std.specs.Prelude.{IfSome, ◌==◌}
-use Rattle.definitions.proofs.Words.{AllByRecursion, of_first, of_second, Summary, IsExact, Message, has_open, Peer, reply, sender, talk, Ready, End, Ends, Replies, after, answer, initiator, initiator_at, responder, responder_at, IsNode, World, Session, node_at, peer_at, initiator_of, responder_of, messages, has_ended, no_node, ranks_by}
+use Rattle.definitions.proofs.Words.{AllByRecursion, of_first, of_second, Summary, IsExact, Message, has_open, Peer, reply, sender, talk, Ready, End, Ends, Replies, after, answer, initiator, initiator_at, responder, responder_at, IsNode, World, Session, node_at, peer_at, initiator_of, responder_of, messages, has_ended, most_parts, no_node, ranks_by}
 use Rattle.definitions.specs.Worlds.{after_delivery}
-use Rattle.definitions.proofs.Lemmas.{All-at, eq-eqb, eqb-true, length-append}
+use Rattle.definitions.proofs.Lemmas.{All-at, append-nil, eq-eqb, eqb-true, length-append}
 use Rattle.std.proofs.lemmas.Option.{slice_get_within}
 use Rattle.laws.specs.Growing.{is_even}
 use Rattle.laws.specs.Turns.{TakeTurns, hearer_at}
@@ -12,6 +12,7 @@ use Rattle.laws.proofs.Runs.{peer_at-IsSet, length-version}
 use Rattle.laws.proofs.Saying.{ends_keep_peers}
 use Rattle.laws.proofs.Turns.{talks_go_on, ends_hear, ends_talk}
 use Rattle.laws.proofs.Knowledge.{turned, talks_grow}
+use Rattle.laws.proofs.Few.{most_parts-append}
 
 -- ==== A session that is opened
 
@@ -25,6 +26,7 @@ sessions_open S w i r here there = record {
   initiator = refl;
   responder = refl;
   last = λ e. refl;
+  parts = refl;
 }
 
 -- ==== The two peers of a session are ready
@@ -54,6 +56,7 @@ record Holds {F : Type 0} (S : Summary F) (I R : Peer) (d : ℕ) (k : Kept F) (e
   responder : e ≡ responder_at S I R d
   begun : is_even d ≡ false → k.responder ≡ Some e
   last : slice_get (talk S I R (d + 1)) d ≡ Some k.last
+  parts : k.parts ≡ most_parts (talk S I R (d + 1))
 
 abbrev HoldsNow : {F : Type 0} → Summary F → World → Session → Kept F → Type 0
 HoldsNow S w s k = Keeps S w s k → has_ended S w s ≡ false → Holds S (initiator_of w s) (responder_of w (after_delivery w s)) s.delivered k (responder_now w s k)
@@ -65,12 +68,13 @@ holds_by : {F : Type 0} (S : Summary F) (w : World) (i r v : ℕ) (o : Option �
     HoldsNow S w record { initiator = i; responder = r; initiator_version = v; responder_version = o; delivered = d } k
 holds_by S w i r v (Some u) d k h going =
     let same = is_some k.responder _ (responder (peer_at w r (length (node_at w r).history))) h.responder in
-    record { initiator = h.initiator; responder = same; begun = λ odd. h.responder ∙ ap Some (sym same); last = h.last going }
+    record { initiator = h.initiator; responder = same; begun = λ odd. h.responder ∙ ap Some (sym same); last = h.last going; parts = h.parts }
 holds_by S w i r v None zero k h going = record {
   initiator = h.initiator;
   responder = ap (λ o. unwrap_or o (responder (peer_at w r (length (node_at w r).history)))) h.responder;
   begun = λ odd. absurd cc;
   last = h.last going;
+  parts = h.parts;
 }
 holds_by S w i r v None (suc d) k h going = absurd (omega (arith, h.unheard.0 refl))
 
@@ -110,35 +114,37 @@ held_answer {S = S} {I = I} {R = R} {d = d} {k = k} {e = e} h turn =
 
 -- ---- what is kept behind it
 
--- two ends, and the message made last
-record Is {F : Type 0} (k : Kept F) (d e : End F) (N : Message F) : Type 0 where
+-- two ends, the message made last, and the most parts of a message
+record Is {F : Type 0} (k : Kept F) (d e : End F) (N : Message F) (n : ℕ) : Type 0 where
   initiator : k.initiator ≡ d
   responder : k.responder ≡ Some e
   last : k.last ≡ N
+  parts : k.parts ≡ n
 
-abbrev kept_by : {F : Type 0} → Bool → Kept F → End F → Message F → Kept F
-kept_by b k e N = if b then record { initiator = k.initiator; responder = Some e; last = N } else record { initiator = e; responder = k.responder; last = N }
+abbrev kept_by : {F : Type 0} → Bool → Kept F → End F → Message F → ℕ → Kept F
+kept_by b k e N n = if b then record { initiator = k.initiator; responder = Some e; last = N; parts = n } else record { initiator = e; responder = k.responder; last = N; parts = n }
 
-kept_is : {F : Type 0} (S : Summary F) (b : Bool) (k : Kept F) (e i r j t : End F) (M N : Message F) → k.initiator ≡ i → e ≡ r → (b ≡ false → k.responder ≡ Some e) →
-    j ≡ (if b then i else after S i M) → t ≡ (if b then after S r M else r) → Is (kept_by b k (after S (if b then e else k.initiator) M) N) j t N
-kept_is S true k e i r j t M N here there begun p q = record { initiator = here ∙ sym p; responder = ap Some (ap (λ c. after S c M) there ∙ sym q); last = refl }
-kept_is S false k e i r j t M N here there begun p q = record { initiator = ap (λ c. after S c M) here ∙ sym p; responder = begun refl ∙ ap Some (there ∙ sym q); last = refl }
+kept_is : {F : Type 0} (S : Summary F) (b : Bool) (k : Kept F) (e i r j t : End F) (M N : Message F) (n : ℕ) → k.initiator ≡ i → e ≡ r → (b ≡ false → k.responder ≡ Some e) →
+    j ≡ (if b then i else after S i M) → t ≡ (if b then after S r M else r) → Is (kept_by b k (after S (if b then e else k.initiator) M) N n) j t N n
+kept_is S true k e i r j t M N n here there begun p q = record { initiator = here ∙ sym p; responder = ap Some (ap (λ c. after S c M) there ∙ sym q); last = refl; parts = refl }
+kept_is S false k e i r j t M N n here there begun p q = record { initiator = ap (λ c. after S c M) here ∙ sym p; responder = begun refl ∙ ap Some (there ∙ sym q); last = refl; parts = refl }
 
-held_behind : {F : Type 0} {S : Summary F} {I R : Peer} {d : ℕ} {k : Kept F} {e : End F} → Holds S I R d k e → (N : Message F) →
-    Is (kept_by (is_even d) k (after S (if is_even d then e else k.initiator) k.last) N) (initiator_at S I R (d + 1)) (responder_at S I R (d + 1)) N
-held_behind {S = S} {I = I} {R = R} {d = d} {k = k} {e = e} h N =
+held_behind : {F : Type 0} {S : Summary F} {I R : Peer} {d : ℕ} {k : Kept F} {e : End F} → Holds S I R d k e → (N : Message F) (n : ℕ) →
+    Is (kept_by (is_even d) k (after S (if is_even d then e else k.initiator) k.last) N n) (initiator_at S I R (d + 1)) (responder_at S I R (d + 1)) N n
+held_behind {S = S} {I = I} {R = R} {d = d} {k = k} {e = e} h N n =
     let hears = ends_hear S I R d k.last h.last in
-    kept_is S (is_even d) k e (initiator_at S I R d) (responder_at S I R d) (initiator_at S I R (d + 1)) (responder_at S I R (d + 1)) k.last N h.initiator h.responder h.begun hears.initiator hears.responder
+    kept_is S (is_even d) k e (initiator_at S I R d) (responder_at S I R d) (initiator_at S I R (d + 1)) (responder_at S I R (d + 1)) k.last N n h.initiator h.responder h.begun hears.initiator hears.responder
 
 -- the number of the version that is chosen, or was
 chosen : (o : Option ℕ) (top : ℕ) → IfSome o (λ v. v ≤ top) → unwrap_or o top ≤ top
 chosen None top h = omega arith
 chosen (Some v) top h = h
 
-keeps_next : {F : Type 0} (S : Summary F) (w : World) (s : Session) (k l : Kept F) (N : Message F) → Keeps S w s k →
-    Is l (initiator_at S (initiator_of w s) (responder_of w (after_delivery w s)) (s.delivered + 1)) (responder_at S (initiator_of w s) (responder_of w (after_delivery w s)) (s.delivered + 1)) N →
-    (has_ended S w (after_delivery w s) ≡ false → slice_get (messages S w (after_delivery w s)) (s.delivered + 1) ≡ Some N) → Keeps S w (after_delivery w s) l
-keeps_next S w s k l N h is last = record {
+keeps_next : {F : Type 0} (S : Summary F) (w : World) (s : Session) (k l : Kept F) (N : Message F) (n : ℕ) → Keeps S w s k →
+    Is l (initiator_at S (initiator_of w s) (responder_of w (after_delivery w s)) (s.delivered + 1)) (responder_at S (initiator_of w s) (responder_of w (after_delivery w s)) (s.delivered + 1)) N n →
+    (has_ended S w (after_delivery w s) ≡ false → slice_get (messages S w (after_delivery w s)) (s.delivered + 1) ≡ Some N) →
+    n ≡ most_parts (messages S w (after_delivery w s)) → Keeps S w (after_delivery w s) l
+keeps_next S w s k l N n h is last most = record {
   initiator_there = h.initiator_there;
   responder_there = h.responder_there;
   initiator_version = h.initiator_version;
@@ -147,6 +153,7 @@ keeps_next S w s k l N h is last = record {
   initiator = is.initiator;
   responder = is.responder;
   last = λ going. last going ∙ ap Some (sym is.last);
+  parts = is.parts ∙ most;
 }
 
 -- ---- the message behind it, if there is one
@@ -156,12 +163,23 @@ record Comes {F : Type 0} (S : Summary F) (I R : Peer) (d : ℕ) (M : Message F)
   more : has_open M ≡ true → slice_get (talk S I R (d + 1 + 1)) (d + 1) ≡ Some (reply S (sender I R (d + 1)) M)
   going : has_open M ≡ true → (length (talk S I R (d + 1 + 1)) == d + 1) ≡ false
   over : has_open M ≡ false → (length (talk S I R (d + 1 + 1)) == d + 1) ≡ true
+  -- so many parts the greatest of them has
+  most : has_open M ≡ true → most_parts (talk S I R (d + 1 + 1)) ≡ max (most_parts (talk S I R (d + 1))) (length (reply S (sender I R (d + 1)) M))
+  same : has_open M ≡ false → most_parts (talk S I R (d + 1 + 1)) ≡ most_parts (talk S I R (d + 1))
 
 pub more_than : (a b : ℕ) → b < a → (a == b) ≡ false
 more_than a b h = grind (arith, eqb-true)
 
 not_last : {X : Type 0} (xs : List X) (n : ℕ) (x : X) → slice_get xs n ≡ Some x → (length xs == n) ≡ false
 not_last xs n x h = more_than (length xs) n (slice_get_within xs n x h)
+
+most_parts_on : {F : Type 0} (Ms : List (Message F)) (N : Message F) (b : Bool) → b ≡ true → most_parts (Ms ++ (if b then N ∷ [] else [])) ≡ max (most_parts Ms) (length N)
+most_parts_on Ms N true e = omega (arith, most_parts-append Ms (N ∷ []))
+most_parts_on Ms N false e = absurd cc
+
+most_parts_still : {F : Type 0} (Ms : List (Message F)) (N : Message F) (b : Bool) → b ≡ false → most_parts (Ms ++ (if b then N ∷ [] else [])) ≡ most_parts Ms
+most_parts_still Ms N true e = absurd cc
+most_parts_still Ms N false e = ap most_parts (append-nil Ms)
 
 comes : {F : Type 0} (S : Summary F) (I R : Peer) (d : ℕ) (M : Message F) → slice_get (talk S I R (d + 1)) d ≡ Some M → Comes S I R d M
 comes S I R d M h =
@@ -177,6 +195,10 @@ comes S I R d M h =
           ap (talk S I R) two ∙ talks_grow S I R d M h ∙ (λ i. is.last i ++ (if o i then reply S (sender I R (d + 1)) M ∷ [] else [])) in
           let all : length (talk S I R (d + 1 + 1)) ≡ d + 1 = omega (arith, ap length grown, is.number, length-append (talk S I R d ++ M ∷ []) [], length-append (talk S I R d) (M ∷ [])) in
           eq-eqb (length (talk S I R (d + 1 + 1))) (d + 1) all;
+      most = λ o. ap (λ n. most_parts (talk S I R n)) two ∙ ap most_parts (talks_grow S I R d M h)
+          ∙ most_parts_on (talk S I R (d + 1)) (reply S (sender I R (d + 1)) M) (has_open M) o;
+      same = λ o. ap (λ n. most_parts (talk S I R n)) two ∙ ap most_parts (talks_grow S I R d M h)
+          ∙ most_parts_still (talk S I R (d + 1)) (reply S (sender I R (d + 1)) M) (has_open M) o;
     }
 
 -- what is answered tells which
@@ -202,12 +224,17 @@ sessions_go_on {F} S exact w s k nodes h going =
     record {
       replied = λ N e.
           let by = replies_if (has_open k.last) (reply S (sender I R (d + 1)) k.last) N (sym said ∙ ap (λ c. answer S c k.last) (sym hearer) ∙ e) in (
-            keeps_next S w s k (kept_behind s k (after S (hearer_now w s k) k.last) N) N h (held_behind held N) (λ on. next.more by.0 ∙ ap Some by.1),
+            keeps_next S w s k (kept_behind s k (after S (hearer_now w s k) k.last) N (max k.parts (length N))) N (max k.parts (length N)) h (held_behind held N (max k.parts (length N)))
+                (λ on. next.more by.0 ∙ ap Some by.1)
+                (ap (λ n. max n (length N)) held.parts ∙ sym (next.most by.0 ∙ ap (λ M. max (most_parts (talk S I R (d + 1))) (length M)) by.1)),
             next.going by.0,
           );
       ended = λ e.
           let by = ends_if (has_open k.last) (reply S (sender I R (d + 1)) k.last) (sym said ∙ ap (λ c. answer S c k.last) (sym hearer) ∙ e) in
-          let over = next.over by in
-          (keeps_next S w s k (kept_behind s k (after S (hearer_now w s k) k.last) k.last) k.last h (held_behind held k.last) (λ on. absurd cc), over);
+          let over = next.over by in (
+            keeps_next S w s k (kept_behind s k (after S (hearer_now w s k) k.last) k.last k.parts) k.last k.parts h (held_behind held k.last k.parts) (λ on. absurd cc)
+                (held.parts ∙ sym (next.same by)),
+            over,
+          );
       taken = taken;
     }

@@ -1,7 +1,7 @@
 -- No step touches what is kept of a session but its own delivery: histories only grow, and the versions of a session stay as they were.
 use Rattle.std.proofs.Common.{◌≡◌, ℕ, ◌+◌, ◌≤◌, false, List, [], ◌∷◌, ◌++◌, length, take, fold, slice_get, Option, Some, None, unwrap_or, if◌then◌else◌, inl, inr, refl, sym, ap, subst, ◌∙◌, arith, length-set}
 use Rattle.std.specs.Prelude.{IfSome, option_map, slice_index_or, ◌==◌}
-use Rattle.definitions.proofs.Words.{AllByRecursion, Item, Summary, History, content, version, Insertion, New, Already, Full, insertion, history_after, World, Session, Node, Side, Initiator, Responder, Step, no_node, node_at, peer_at, initiator_of, responder_of, has_ended, talk, initiator_knowledge, responder_knowledge, set_of, with_history, insert_at, Absorbing, absorb_one, absorb_all, absorb_into, absorb_side, absorb_at, step, initiator_at, responder_at, IsNode}
+use Rattle.definitions.proofs.Words.{AllByRecursion, Item, Summary, History, content, version, Insertion, New, Already, Full, insertion, history_after, World, Session, Node, Side, Initiator, Responder, Step, no_node, node_at, peer_at, initiator_of, responder_of, has_ended, talk, initiator_knowledge, responder_knowledge, set_of, with_history, insert_at, Absorbing, absorb_one, absorb_all, absorb_into, absorb_side, absorb_at, step, initiator_at, most_parts, responder_at, IsNode}
 use Rattle.definitions.specs.Worlds.{Did, open_at, deliver_at, Insert, Open, Deliver, Absorb}
 use Rattle.definitions.proofs.Lemmas.{All-at, append-nil, cases_eq, cases_lt, cond_both, get_or-set_other, get_or-set_same, get_or_from_slice_get, length-append, set_past}
 use Rattle.std.proofs.lemmas.List.{take-append-le}
@@ -104,6 +104,7 @@ keeps_grow S w v s k g h =
       initiator = h.initiator ∙ (λ i. initiator_at S (p i) (q i) s.delivered);
       responder = h.responder ∙ (λ i. option_map (λ u. responder_at S (p i) (q i) s.delivered) s.responder_version);
       last = subst (λ Ms. (length Ms == s.delivered) ≡ false → slice_get Ms s.delivered ≡ Some k.last) (λ i. talk S (p i) (q i) (s.delivered + 1)) h.last;
+      parts = h.parts ∙ (λ i. most_parts (talk S (p i) (q i) (s.delivered + 1)));
     }
 
 pub sessions_keep_nodes : {F : Type 0} (S : Summary F) → SessionsKeepNodes S

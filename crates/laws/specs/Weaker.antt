@@ -1,8 +1,9 @@
 -- What does not hold: claims with a premise less.
 --     InitiatorStopsAnyhow, ResponderStopsAnyhow      where an upper bound may come before the lower
 --     ListsAreShortAnyhow                             where a table's rows may end below the cap
---     KnowledgeIsExactAnyhow                          where the test of fingerprints may err
-use Rattle.std.specs.Prelude.{ℕ, ◌+◌, ◌≤◌, ◌<◌, ◌==◌, true, List, length}
+--     KnowledgeIsExactAnyhow, PartsAreFewAnyhow       where the test of fingerprints may err
+use Rattle.std.specs.Prelude.{ℕ, ◌+◌, ◌≤◌, ◌<◌, ◌==◌, true, false, List, length}
+use Rattle.std.specs.List.{AllByRecursion}
 use Rattle.definitions.specs.Items.{Item}
 use Rattle.definitions.specs.Sets.{IsSet}
 use Rattle.definitions.specs.Fingerprints.{Summary}
@@ -10,6 +11,7 @@ use Rattle.definitions.specs.Messages.{Message}
 use Rattle.definitions.specs.Ranks.{Accepted}
 use Rattle.definitions.specs.Replies.{Peer}
 use Rattle.definitions.specs.Talks.{talk, initiator_knows, IsClear}
+use Rattle.definitions.specs.Cost.{part_bound}
 use Rattle.definitions.specs.Engines.{says, initiating, responding}
 use Rattle.definitions.specs.Theorems.{Ready, rank, KeepLimits, KnowsDifference}
 
@@ -37,3 +39,10 @@ KnowledgeIsExactAnyhow S = (I R : Peer) (k : ℕ) → IsSet I.items → IsSet R.
 -- the fingerprint of a set is the set, and all are taken for equal
 abbrev pub blind : Summary (List Item)
 blind = record { of = λ A. A; same = λ f g. true }
+
+abbrev pub PartsAreFewAnyhow : {F : Type 0} → Summary F → Type 0
+PartsAreFewAnyhow S = (I R : Peer) (k : ℕ) → IsSet I.items → IsSet R.items → AllByRecursion (λ M. length M ≤ part_bound I R) (talk S I R k)
+
+-- the fingerprint of a set is the set, and none are taken for equal
+abbrev pub wary : Summary (List Item)
+wary = record { of = λ A. A; same = λ f g. false }

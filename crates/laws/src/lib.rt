@@ -13,7 +13,7 @@ ghost use Rattle.laws.specs.Growing.{TalksGrow, KnowledgeGrows};
 ghost use Rattle.laws.specs.Turns.{TalksBegin, TalksGoOn, EndsHear, EndsTalk};
 ghost use Rattle.laws.specs.Saying.{EndsSay};
 ghost use Rattle.laws.specs.Sessions.{SessionsOpen, SessionsGoOn, SessionsStay, SessionsKeepNodes, SessionsTell};
-ghost use Rattle.laws.specs.Weaker.{InitiatorStopsAnyhow, ResponderStopsAnyhow, ListsAreShortAnyhow, KnowledgeIsExactAnyhow, count_summary, blind};
+ghost use Rattle.laws.specs.Weaker.{InitiatorStopsAnyhow, ResponderStopsAnyhow, ListsAreShortAnyhow, KnowledgeIsExactAnyhow, PartsAreFewAnyhow, count_summary, blind, wary};
 
 // ---- fingerprints
 
@@ -220,7 +220,7 @@ pub fn headline<F>()
     ensures { (S : Summary F) → Headline S }
 {}
 
-/// The messages of a session have few parts.
+/// The messages of a session have few parts, and no more are shown.
 pub fn cost_claim<F>()
     ensures { (S : Summary F) → CostClaim S }
 {}
@@ -288,4 +288,10 @@ pub fn lists_need_tables()
 #[tactic(auto, using(crate::proofs::Refuted::knowledge_needs_exactness))]
 pub fn knowledge_needs_exactness()
     ensures { KnowledgeIsExactAnyhow blind → ⊥ }
+{}
+
+/// A message may have many parts where the test of fingerprints errs.
+#[tactic(auto, using(crate::proofs::Refuted::parts_need_exactness))]
+pub fn parts_need_exactness()
+    ensures { PartsAreFewAnyhow wary → ⊥ }
 {}

@@ -32,7 +32,7 @@ abbrev pub side_line : List ℕ → Knowledge → List ℕ
 side_line name k = name ++ (codes " ours" ++ (items_text (set_of k.ours) ++ (codes " theirs" ++ (items_text (set_of k.theirs) ++ codes "\n"))))
 
 abbrev pub session_line : ℕ → Report → List ℕ
-session_line k r = codes "session " ++ (decimal k ++ (codes " messages " ++ (decimal r.messages ++ (codes " bound " ++ (bound_text r.bound ++ (codes " " ++ (ending r.ended ++ codes "\n")))))))
+session_line k r = codes "session " ++ (decimal k ++ (codes " messages " ++ (decimal r.messages ++ (codes " bound " ++ (bound_text r.bound ++ (codes " parts " ++ (decimal r.parts ++ (codes " " ++ (ending r.ended ++ codes "\n")))))))))
 
 abbrev pub report_text : ℕ → Report → List ℕ
 report_text k r = session_line k r ++ (side_line (codes "initiator") r.initiator_learned ++ side_line (codes "responder") r.responder_learned)

@@ -97,10 +97,11 @@ fn push_report(
 {
     let messages = report.messages;
     let bound = Bound(report.bound);
+    let parts = report.parts;
     let ending = ending(report.ended);
     writeln!(
         text,
-        "session {session} messages {messages} bound {bound} {ending}"
+        "session {session} messages {messages} bound {bound} parts {parts} {ending}"
     )?;
     push_side(alloc, text, "initiator", report.initiator_learned)?;
     push_side(alloc, text, "responder", report.responder_learned)

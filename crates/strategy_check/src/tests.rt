@@ -100,6 +100,35 @@ fn one_round_too_few(rt: HostRuntime) {
 }
 
 #[test]
+fn three_off_the_front(rt: HostRuntime) {
+    let text =
+        b"cap = 10\nlimit = 3\nrounds = 3\nrow = [{upto = 3, list = true}, {upto = 10, peel = 3}]";
+    let accepted = accepted(&rt, rt.alloc(), text);
+    assert_eq!(rt; accepted.steps(), [3, 6, 9, 10].as_slice());
+    assert_eq!(rt; accepted.width(), 2);
+}
+
+#[test]
+fn three_off_the_front_in_two_rounds(rt: HostRuntime) {
+    let text =
+        b"cap = 10\nlimit = 3\nrounds = 2\nrow = [{upto = 3, list = true}, {upto = 10, peel = 3}]";
+    assert_eq!(rt;
+        refusal(&rt, rt.alloc(), text),
+        (10, CheckFault::TooDeep { count: 10, rank: 3 })
+    );
+}
+
+#[test]
+fn four_off_the_front_of_four(rt: HostRuntime) {
+    let text =
+        b"cap = 10\nlimit = 3\nrounds = 3\nrow = [{upto = 3, list = true}, {upto = 10, peel = 4}]";
+    assert_eq!(rt;
+        refusal(&rt, rt.alloc(), text),
+        (10, CheckFault::NoDescent { count: 4 })
+    );
+}
+
+#[test]
 fn list_row_above_the_limit(rt: HostRuntime) {
     let text =
         b"cap = 8\nlimit = 3\nrounds = 3\nrow = [{upto = 4, list = true}, {upto = 8, split = [1, 1024]}]";

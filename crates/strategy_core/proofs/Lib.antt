@@ -1,4 +1,5 @@
 pub mod Shares
+pub mod Peels
 pub mod Rows
 pub mod Readings
 pub mod Tables

@@ -2,8 +2,8 @@
 use Rattle.std.proofs.Common.{ℕ, Bool, true, false, Option, Some, None, List, ◌∷◌, subst}
 use Rattle.std.specs.Prelude.{Result, Ok, Err, codes, ◌&&◌, nat_lt, nat_le, nat_eq, ℤ, pos, negsuc}
 use Rattle.toml.specs.Data.{Data, Items, no_items, item, Members, as_integer, as_bool, as_array, as_table, get_member}
-use Rattle.definitions.specs.Strategies.{Table, List_items, Split}
-use Rattle.strategy_core.specs.Texts.{◌>>=◌, present, provided, key_of, in_span, number_in, member_at, number_at, weights_in, items_count, array_in, few_in, split_in, list_in, act_under, act_at, is_above, upto_in, row_at, row_in, rows_in, entries_at, last_upto, table_in, IsDocument}
+use Rattle.definitions.specs.Strategies.{Table, List_items, Split, Peel}
+use Rattle.strategy_core.specs.Texts.{◌>>=◌, present, provided, key_of, in_span, number_in, member_at, number_at, weights_in, items_count, array_in, few_in, split_in, list_in, peel_in, act_under, act_at, is_above, upto_in, row_at, row_in, rows_in, entries_at, last_upto, table_in, IsDocument}
 use Rattle.strategy_core.specs.Refused.{Gives, Reads}
 use Rattle.strategy_core.specs.declared.fault.StrategyFault.{StrategyFault}
 use Rattle.strategy_core.specs.declared.fault.StrategyFault.TheVariants.{NotToml, Missing, BadNumber, RowOrder, RowAction, CapMismatch}
@@ -58,18 +58,24 @@ split_spares d =
 list_spares : (d : Data) → Spares (list_in d)
 list_spares d = then_spares (present RowAction (as_bool d)) (λ yes. provided yes RowAction List_items) (present_spares RowAction (as_bool d) tt) (λ yes. provided_spares yes RowAction List_items tt)
 
-act_spares : (list split : Option Data) → Spares (act_under list split)
-act_spares (Some d) None = list_spares d
-act_spares None (Some d) = split_spares d
-act_spares (Some d) (Some e) = tt
-act_spares None None = tt
+peel_spares : (d : Data) → Spares (peel_in d)
+peel_spares d = then_spares (number_in 1 65536 d) (λ front. Ok (Peel front)) (number_spares 1 65536 d) (λ front. tt)
+
+act_spares : (list split peel : Option Data) → Spares (act_under list split peel)
+act_spares (Some d) None None = list_spares d
+act_spares None (Some d) None = split_spares d
+act_spares None None (Some d) = peel_spares d
+act_spares None None None = tt
+act_spares (Some d) (Some e) o = tt
+act_spares (Some d) None (Some e) = tt
+act_spares None (Some d) (Some e) = tt
 
 row_spares : (cap : ℕ) (before : Option ℕ) (d : Data) → Spares (row_in cap before d)
 row_spares cap before d =
     then_spares (present RowAction (as_table d)) (row_at cap before) (present_spares RowAction (as_table d) tt) (λ ms.
     then_spares (upto_in cap before ms) (λ upto. act_at ms >>= λ act. Ok (record { upto = upto; act = act }))
     (then_spares (number_at ms fields.Upto 0 cap) (λ n. provided (is_above n before) RowOrder n) (field_spares ms fields.Upto 0 cap) (λ n. provided_spares _ RowOrder n tt))
-    (λ upto. then_spares (act_at ms) (λ act. Ok (record { upto = upto; act = act })) (act_spares (get_member (codes "list") ms) (get_member (codes "split") ms)) (λ act. tt)))
+    (λ upto. then_spares (act_at ms) (λ act. Ok (record { upto = upto; act = act })) (act_spares (get_member (codes "list") ms) (get_member (codes "split") ms) (get_member (codes "peel") ms)) (λ act. tt)))
 
 rows_spares : (cap : ℕ) (before : Option ℕ) (ds : Items) → Spares (rows_in cap before ds)
 rows_spares cap before no_items = tt

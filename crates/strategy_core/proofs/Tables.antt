@@ -5,10 +5,10 @@ use Rattle.std.specs.List.{AllByRecursion}
 use Rattle.std.specs.List.Sorted.{IsStrictlyIncreasing}
 use Rattle.std.proofs.lemmas.Bool.{leb-true, ltb-true, and_parts}
 use Rattle.toml.specs.Data.{Data, Items, no_items, item, as_integer, as_bool, as_table, get_member}
-use Rattle.definitions.specs.Strategies.{Row, Table, Act, List_items, Split, IsAct, IsTable, uptos}
+use Rattle.definitions.specs.Strategies.{Row, Table, Act, List_items, Split, Peel, IsAct, IsTable, uptos}
 use Rattle.strategy_core.proofs.Rows.{length-uptos}
 use Rattle.strategy_core.specs.declared.field.Field.TheVariants as fields
-use Rattle.strategy_core.specs.Texts.{◌>>=◌, present, provided, in_span, number_in, weights_in, items_count, few_in, array_in, split_in, list_in, act_under, is_above, upto_in, act_at, row_at, row_in, rows_in, number_at, last_upto}
+use Rattle.strategy_core.specs.Texts.{◌>>=◌, present, provided, in_span, number_in, weights_in, items_count, few_in, array_in, split_in, list_in, peel_in, act_under, is_above, upto_in, act_at, row_at, row_in, rows_in, number_at, last_upto}
 use Rattle.strategy_core.specs.declared.fault.StrategyFault.{StrategyFault}
 use Rattle.strategy_core.specs.declared.fault.StrategyFault.TheVariants.{RowAction, RowOrder, BadNumber}
 
@@ -61,11 +61,25 @@ list_ok d act e =
     let word = bind_ok (present RowAction (as_bool d)) (λ yes. provided yes RowAction List_items) act e in
     subst IsAct (provided_ok word.0 RowAction List_items act word.2).1 tt
 
-act_ok : (list split : Option Data) (act : Act) → act_under list split ≡ Ok act → IsAct act
-act_ok (Some d) None act e = list_ok d act e
-act_ok None (Some d) act e = split_ok d act e
-act_ok (Some d) (Some s) act e = absurd (cc)
-act_ok None None act e = absurd (cc)
+number_ok : (low high : ℕ) (d : Data) (n : ℕ) → number_in low high d ≡ Ok n → (low ≤ n) × (n ≤ high)
+number_ok low high d n e =
+    let whole = bind_ok (present BadNumber (as_integer d)) (in_span low high) n e in
+    span_ok low high whole.0 n whole.2
+
+peel_ok : (d : Data) (act : Act) → peel_in d ≡ Ok act → IsAct act
+peel_ok d act e =
+    let front = bind_ok (number_in 1 65536 d) (λ k. Ok (Peel k)) act e in
+    let made : Peel front.0 ≡ act = cc (front.2) in
+    subst IsAct made (number_ok 1 65536 d front.0 front.1)
+
+act_ok : (list split peel : Option Data) (act : Act) → act_under list split peel ≡ Ok act → IsAct act
+act_ok (Some d) None None act e = list_ok d act e
+act_ok None (Some d) None act e = split_ok d act e
+act_ok None None (Some d) act e = peel_ok d act e
+act_ok None None None act e = absurd (cc)
+act_ok (Some d) (Some s) o act e = absurd (cc)
+act_ok (Some d) None (Some p) act e = absurd (cc)
+act_ok None (Some s) (Some p) act e = absurd (cc)
 
 -- the uptos rise, the first of them above before
 abbrev Rises : Option ℕ → List ℕ → Type 0
@@ -97,7 +111,7 @@ rows_ok cap before (item d ds) rows e =
     let above = provided_ok (is_above number.0 before) RowOrder number.0 upto.0 number.2 in
     let ih = rows_ok cap (Some first.0.upto) ds rest.0 rest.1 in
     subst (λ (rs : List Row). AllByRecursion (λ row. IsAct row.act) rs × Rises before (map (λ row. row.upto) rs)) all
-    ((subst (λ (r : Row). IsAct r.act) row (act_ok (get_member (codes "list") table.0) (get_member (codes "split") table.0) act.0 act.1), ih.0), (subst (λ (n : ℕ). is_above n before ≡ true) (above.1 ∙ ap (λ (r : Row). r.upto) row) above.0, ih.1))
+    ((subst (λ (r : Row). IsAct r.act) row (act_ok (get_member (codes "list") table.0) (get_member (codes "split") table.0) (get_member (codes "peel") table.0) act.0 act.1), ih.0), (subst (λ (n : ℕ). is_above n before ≡ true) (above.1 ∙ ap (λ (r : Row). r.upto) row) above.0, ih.1))
 
 -- the values that were read make a table
 pub made : (T : Table) (ds : Items) → (1 ≤ T.cap) × (T.cap ≤ 65536) → T.limit ≤ T.cap → T.rounds ≤ 255 → rows_in T.cap None ds ≡ Ok T.rows → last_upto T.rows ≡ T.cap → IsTable T

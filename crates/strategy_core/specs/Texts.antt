@@ -5,7 +5,7 @@
 use Rattle.std.specs.Prelude.{◌≡◌, ℕ, suc, ◌-◌, ℤ, pos, negsuc, codes, Bool, true, false, ◌&&◌, nat_lt, nat_le, nat_eq, List, [], ◌∷◌, length, map, slice_index, Option, Some, None, Result, Ok, Err, IsUtf8}
 use Rattle.toml.specs.Parse.{parse_document}
 use Rattle.toml.specs.Data.{Data, Items, no_items, item, Members, get_member, as_integer, as_bool, as_array, as_table}
-use Rattle.definitions.specs.Strategies.{Table, Row, Act, List_items, Split}
+use Rattle.definitions.specs.Strategies.{Table, Row, Act, List_items, Split, Peel}
 use Rattle.strategy_core.specs.declared.fault.StrategyFault.{StrategyFault}
 use Rattle.strategy_core.specs.declared.fault.StrategyFault.TheVariants.{Missing, BadNumber, RowOrder, RowAction, CapMismatch}
 use Rattle.strategy_core.specs.declared.field.Field.{Field}
@@ -74,12 +74,19 @@ split_in d = few_in d >>= λ ds. weights_in ds >>= λ weights. Ok (Split weights
 abbrev pub list_in : Data → Result Act StrategyFault
 list_in d = present RowAction (as_bool d) >>= λ yes. provided yes RowAction List_items
 
--- what is under the keys list and split: exactly one of them
-abbrev pub act_under : Option Data → Option Data → Result Act StrategyFault
-act_under (Some list) None = list_in list
-act_under None (Some split) = split_in split
-act_under (Some list) (Some split) = Err RowAction
-act_under None None = Err RowAction
+-- so many off the front
+abbrev pub peel_in : Data → Result Act StrategyFault
+peel_in d = number_in 1 65536 d >>= λ front. Ok (Peel front)
+
+-- what is under the keys list, split and peel: exactly one of them
+abbrev pub act_under : Option Data → Option Data → Option Data → Result Act StrategyFault
+act_under (Some list) None None = list_in list
+act_under None (Some split) None = split_in split
+act_under None None (Some peel) = peel_in peel
+act_under None None None = Err RowAction
+act_under (Some list) (Some split) peel = Err RowAction
+act_under (Some list) None (Some peel) = Err RowAction
+act_under None (Some split) (Some peel) = Err RowAction
 
 abbrev pub is_above : ℕ → Option ℕ → Bool
 is_above n None = true
@@ -90,7 +97,7 @@ abbrev pub upto_in : ℕ → Option ℕ → Members → Result ℕ StrategyFault
 upto_in cap before ms = number_at ms fields.Upto 0 cap >>= λ upto. provided (is_above upto before) RowOrder upto
 
 abbrev pub act_at : Members → Result Act StrategyFault
-act_at ms = act_under (get_member (codes "list") ms) (get_member (codes "split") ms)
+act_at ms = act_under (get_member (codes "list") ms) (get_member (codes "split") ms) (get_member (codes "peel") ms)
 
 abbrev pub row_at : ℕ → Option ℕ → Members → Result Row StrategyFault
 row_at cap before ms = do

@@ -4,6 +4,7 @@
 mod act;
 mod fault;
 mod field;
+mod peeling;
 mod reading;
 mod row;
 mod strategy;

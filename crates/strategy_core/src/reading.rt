@@ -3,7 +3,7 @@
 ghost use Rattle.std.specs.Prelude.{◌≡◌, ◌≤◌, IfOk, None, length, option_map};
 ghost use Rattle.toml.specs.View.{table_view, view, array_view};
 ghost use Rattle.toml.specs.Data.{get_member};
-ghost use Rattle.strategy_core.specs.Texts.{IsDocument, IsText, key_of, member_at, number_in, number_at, weights_in, array_in, few_in, split_in, list_in, act_at, row_in, upto_in, rows_in, entries_at, last_upto, table_in};
+ghost use Rattle.strategy_core.specs.Texts.{IsDocument, IsText, key_of, member_at, number_in, number_at, weights_in, array_in, few_in, split_in, list_in, peel_in, act_at, row_in, upto_in, rows_in, entries_at, last_upto, table_in};
 ghost use Rattle.strategy_core.specs.Refused.{Gives, GivesField, Opens};
 ghost use Rattle.strategy_core.specs.Rules.{act_of};
 
@@ -26,6 +26,9 @@ const MAX_WEIGHTS: usize = 64;
 
 /// The greatest weight.
 const MAX_WEIGHT: u32 = 1_024;
+
+/// The most items that a row cuts off the front.
+const MAX_FRONT: u32 = 65_536;
 
 /// The table that a text is.
 pub fn document(alloc: Global, text: &[u8]) -> Result<Table, StrategyError>
@@ -128,13 +131,25 @@ fn list_of(value: &Value) -> Result<Rule, StrategyError>
     }
 }
 
-/// What a row does: exactly one of `list` and `split` is there.
+/// How many items are cut off the front, under `peel`.
+fn peel_of(value: &Value) -> Result<Rule, StrategyError>
+    ensures { Gives act_of result (peel_in (view value.now)) }
+{
+    Ok(Rule::Peel(number_of(value, 1, MAX_FRONT)?))
+}
+
+/// What a row does: exactly one of `list`, `split` and `peel` is there.
 fn rule_of(alloc: Global, entry: &Table) -> Result<Rule, StrategyError>
     ensures { Gives act_of result (act_at (table_view entry.now)) }
 {
-    match (member(entry, "list"), member(entry, "split")) {
-        (Some(list), None) => list_of(list),
-        (None, Some(split)) => split_of(alloc, split),
+    match (
+        member(entry, "list"),
+        member(entry, "split"),
+        member(entry, "peel"),
+    ) {
+        (Some(list), None, None) => list_of(list),
+        (None, Some(split), None) => split_of(alloc, split),
+        (None, None, Some(front)) => peel_of(front),
         _ => Err(StrategyError::Fault(StrategyFault::RowAction)),
     }
 }

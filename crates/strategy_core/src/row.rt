@@ -5,6 +5,7 @@ ghost use Rattle.strategy_core.specs.Acts.{kind_of, greatest};
 ghost use Rattle.strategy_core.specs.Rules.{act_of};
 
 use crate::act::{Act, Cutting};
+use crate::peeling::{peeled, peeled_cut};
 use crate::weights::Weights;
 use std::marker::Model;
 
@@ -15,6 +16,8 @@ pub enum Rule {
     List,
     /// The range is cut by weights.
     Split(Weights),
+    /// So many items are cut off the front.
+    Peel(u32),
 }
 
 /// A row: up to how many items it serves, and what it does.
@@ -72,6 +75,7 @@ impl Row {
         match self.rule {
             Rule::List => Act::List,
             Rule::Split(_) => Act::Split,
+            Rule::Peel(_) => Act::Split,
         }
     }
 
@@ -82,6 +86,7 @@ impl Row {
         match &self.rule {
             Rule::List => 1,
             Rule::Split(weights) => weights.len(),
+            Rule::Peel(_) => 2,
         }
     }
 
@@ -94,6 +99,7 @@ impl Row {
         match &self.rule {
             Rule::List => Cutting::none(),
             Rule::Split(weights) => weights.cutting(n),
+            Rule::Peel(front) => peeled(*front, n),
         }
     }
 
@@ -106,6 +112,7 @@ impl Row {
         match &self.rule {
             Rule::List => 0,
             Rule::Split(weights) => weights.cut(n, j),
+            Rule::Peel(front) => peeled_cut(*front, n, j),
         }
     }
 }

@@ -97,6 +97,8 @@ fn numbers_out_of_range(rt: HostRuntime) {
         b"cap = 8\nlimit = 8\nrounds = 3\nrow = [{upto = 9, list = true}]".as_slice(),
         b"cap = 8\nlimit = 8\nrounds = 3\nrow = [{upto = 8, split = [1, 0]}]".as_slice(),
         b"cap = 8\nlimit = 8\nrounds = 3\nrow = [{upto = 8, split = [1, 1025]}]".as_slice(),
+        b"cap = 8\nlimit = 8\nrounds = 3\nrow = [{upto = 8, peel = 0}]".as_slice(),
+        b"cap = 8\nlimit = 8\nrounds = 3\nrow = [{upto = 8, peel = 65537}]".as_slice(),
     ];
     for text in texts {
         assert_eq!(rt; fault_in(&rt, alloc, text), StrategyFault::BadNumber);
@@ -110,7 +112,8 @@ fn rows_that_say_nothing_right(rt: HostRuntime) {
         b"cap = 8\nlimit = 8\nrounds = 3\nrow = 1".as_slice(),
         b"cap = 8\nlimit = 8\nrounds = 3\nrow = [1]".as_slice(),
         b"cap = 8\nlimit = 8\nrounds = 3\nrow = [{upto = 8}]".as_slice(),
-        b"cap = 8\nlimit = 8\nrounds = 3\nrow = [{upto = 8, peel = 3}]".as_slice(),
+        b"cap = 8\nlimit = 8\nrounds = 3\nrow = [{upto = 8, list = true, peel = 3}]".as_slice(),
+        b"cap = 8\nlimit = 8\nrounds = 3\nrow = [{upto = 8, split = [1, 1], peel = 3}]".as_slice(),
         b"cap = 8\nlimit = 8\nrounds = 3\nrow = [{upto = 8, list = false}]".as_slice(),
         b"cap = 8\nlimit = 8\nrounds = 3\nrow = [{upto = 8, split = [1]}]".as_slice(),
         b"cap = 8\nlimit = 8\nrounds = 3\nrow = [{upto = 8, split = 2}]".as_slice(),
@@ -146,7 +149,7 @@ fn the_first_fault_is_told(rt: HostRuntime) {
 #[test]
 fn another_key_is_ignored(rt: HostRuntime) {
     let text =
-        b"name = 'x'\ncap = 8\nlimit = 1\nrounds = 3\nrow = [{upto = 8, list = true, peel = 3}]";
+        b"name = 'x'\ncap = 8\nlimit = 1\nrounds = 3\nrow = [{upto = 8, list = true, colour = 3}]";
     assert_eq!(rt; strategy(&rt, rt.alloc(), text).cap(), 8);
 }
 
@@ -181,5 +184,18 @@ fn weights_of_three_and_one_and_one(rt: HostRuntime) {
     ];
     assert_eq!(rt; cuts, [0, 4, 5, 7]);
     assert_eq!(rt; (strategy.share_count(1), strategy.share_count(0)), (1, 0));
+    assert_eq!(rt; strategy.cutting(7).greatest, 4);
+}
+
+#[test]
+fn three_off_the_front(rt: HostRuntime) {
+    let text =
+        b"cap = 10\nlimit = 3\nrounds = 3\nrow = [{upto = 3, list = true}, {upto = 10, peel = 3}]";
+    let strategy = strategy(&rt, rt.alloc(), text);
+    assert!(rt; strategy.cap() == 10);
+    assert!(rt; strategy.share_count(7) == 2);
+    let cuts = [strategy.cut(7, 0), strategy.cut(7, 1), strategy.cut(7, 2)];
+    assert_eq!(rt; cuts, [0, 3, 7]);
+    assert_eq!(rt; (strategy.act(7), strategy.width()), (Act::Split, 2));
     assert_eq!(rt; strategy.cutting(7).greatest, 4);
 }

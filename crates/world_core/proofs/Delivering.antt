@@ -14,7 +14,7 @@ use Rattle.laws.specs.Sessions.{Kept, Keeps, GoesOnBy, Tells, SessionsGoOn, Sess
 use Rattle.ends_core.specs.Held.{Held}
 use Rattle.world_core.specs.declared.session.Session.{Session}
 use Rattle.world_core.specs.Nodes.{newest}
-use Rattle.world_core.specs.Live.{session_of, kept_of, made, IsKept, world_of, IsRunning, IsTaken, last_by, did_by, responder_from, hearer, heard_by}
+use Rattle.world_core.specs.Live.{session_of, kept_of, made, IsKept, world_of, IsRunning, IsTaken, last_by, parts_by, did_by, responder_from, hearer, heard_by}
 use Rattle.world_core.proofs.Running.{came_on, IsKept-stays, All-kept}
 
 -- what the laws say of a session that is looked at
@@ -58,7 +58,7 @@ from_steps node (Some x) h = h
 pub record IsHeard (w : World) (l : Session) (node : Node) : Type 0 where
   pub hears : (hearer l node).end ≡ hearer_now w (session_of l) (kept_of l)
   pub session : session_of (heard_by l node) ≡ after_delivery w (session_of l)
-  pub kept : kept_of (heard_by l node) ≡ kept_behind (session_of l) (kept_of l) (after two_lanes (hearer_now w (session_of l) (kept_of l)) l.last) (last_by l.last (answer two_lanes (hearer l node).end l.last))
+  pub kept : kept_of (heard_by l node) ≡ kept_behind (session_of l) (kept_of l) (after two_lanes (hearer_now w (session_of l) (kept_of l)) l.last) (last_by l.last (answer two_lanes (hearer l node).end l.last)) (parts_by l.parts (answer two_lanes (hearer l node).end l.last))
   pub first : (heard_by l node).first.steps ≡ l.first.steps
   pub second : IfSome l.second (λ h. h.steps ≡ node.steps) → IfSome (heard_by l node).second (λ h. h.steps ≡ node.steps)
   pub responder : (heard_by l node).responder ≡ l.responder
@@ -94,7 +94,7 @@ refused_if false M code e = cc
 
 pub record Goes (w : World) (s : worlds.Session) (k : Kept Lanes) (a : Answer Lanes) : Type 0 where
   pub taken : IsTaken a
-  pub keeps : Keeps two_lanes w (after_delivery w s) (kept_behind s k (after two_lanes (hearer_now w s k) k.last) (last_by k.last a))
+  pub keeps : Keeps two_lanes w (after_delivery w s) (kept_behind s k (after two_lanes (hearer_now w s k) k.last) (last_by k.last a) (parts_by k.parts a))
   pub did : did_by a ≡ (if has_ended two_lanes w (after_delivery w s) then worlds.Over else worlds.Sent)
 
 goes : (w : World) (s : worlds.Session) (k : Kept Lanes) (a : Answer Lanes) → GoesOnBy two_lanes w s k → answer two_lanes (hearer_now w s k) k.last ≡ a → Goes w s k a

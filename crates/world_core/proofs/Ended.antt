@@ -88,9 +88,9 @@ bounds_same w s i None (Some v) f e a b = absurd cc
 bounds_same w s i (Some h) None f e a b = absurd cc
 bounds_same w s i (Some h) (Some v) f e a b = ap (λ r. Some (message_bound i r)) (ap (λ steps. rank_by steps (length h.end.peer.items)) a ∙ ap (λ p. rank_by (node_at w s.responder).steps (length p.items)) b)
 
-same_report : (a b : worlds.Report) → a.initiator ≡ b.initiator → a.responder ≡ b.responder → a.messages ≡ b.messages → a.bound ≡ b.bound → a.ended ≡ b.ended →
+same_report : (a b : worlds.Report) → a.initiator ≡ b.initiator → a.responder ≡ b.responder → a.messages ≡ b.messages → a.bound ≡ b.bound → a.parts ≡ b.parts → a.ended ≡ b.ended →
     a.initiator_learned ≡ b.initiator_learned → a.responder_learned ≡ b.responder_learned → a ≡ b
-same_report a b e f g h i j k = λ t. record { initiator = e t; responder = f t; messages = g t; bound = h t; ended = i t; initiator_learned = j t; responder_learned = k t }
+same_report a b e f g h p i j k = λ t. record { initiator = e t; responder = f t; messages = g t; bound = h t; parts = p t; ended = i t; initiator_learned = j t; responder_learned = k t }
 
 shown_is : (w : World) (l : Session) → IsKept w l → Tells two_lanes w (session_of l) (kept_of l) → shown l ≡ worlds.report_of two_lanes w (session_of l)
 shown_is w l k t =
@@ -100,7 +100,7 @@ shown_is w l k t =
     let bound : bound_by l ≡ (worlds.report_of two_lanes w s).bound =
     bounds_same w s (rank_held l.first) l.second l.responder_version (λ v. responder_at two_lanes (initiator_of w s) (responder_of w s) s.delivered) k.keeps.responder k.second t.responder
     ∙ ap (λ i. option_map (λ v. message_bound i (rank_of (node_at w l.responder).steps (responder_of w s))) l.responder_version) first in
-    same_report (shown l) (worlds.report_of two_lanes w s) refl refl t.count bound (ap (λ n. n == l.delivered) t.count) t.initiator_learned t.responder_learned
+    same_report (shown l) (worlds.report_of two_lanes w s) refl refl t.count bound k.keeps.parts (ap (λ n. n == l.delivered) t.count) t.initiator_learned t.responder_learned
 
 pub report_is : Laws → (w : World) (nodes : List Node) (lives : List Session) (k : ℕ) (l : Session) → world_of nodes lives ≡ w → IsRunning nodes lives → slice_get lives k ≡ Some l →
     Some (shown l) ≡ worlds.report two_lanes w k

@@ -1,8 +1,8 @@
 -- What holds of each run, and of each step, by the laws.
 use Rattle.std.proofs.Common.{◌≡◌, sym, subst, arith, ◌+◌, List, take}
 use Rattle.std.specs.Prelude.{Result, Ok, Err, OnOk, unwrap_or}
-use Rattle.definitions.proofs.Words.{AllByRecursion, World, Session, Node, Step, IsExact, two_lanes, run, start, step, Headline, AbsorbClaim, KnowledgeIsSound, KnowsNothingWrong, IsSound, IsSet, Item, set_of, node_at, items_of, messages, initiator_of, responder_of, initiator_knows, responder_knows, talk}
-use Rattle.definitions.proofs.Lemmas.{All-map}
+use Rattle.definitions.proofs.Words.{AllByRecursion, World, Session, Node, Step, IsExact, two_lanes, run, start, step, Headline, AbsorbClaim, CostClaim, CostsLittle, KnowledgeIsSound, KnowsNothingWrong, IsSound, IsSet, Item, set_of, node_at, items_of, messages, initiator_of, responder_of, initiator_knows, responder_knows, talk}
+use Rattle.definitions.proofs.Lemmas.{All-both}
 use Rattle.definitions.specs.Worlds as worlds
 use Rattle.laws.specs.Turns.{TalksBegin}
 use Rattle.world_core.specs.declared.session.Session as live
@@ -26,20 +26,22 @@ pub record RunLaws : Type 0 where
   pub headline : Headline two_lanes
   pub knowledge : KnowledgeIsSound two_lanes
   pub begin : TalksBegin two_lanes
+  pub cost : CostClaim two_lanes
   pub sets : (xs : List Item) → IsSet (set_of xs)
 
 came_hold : RunLaws → (w : World) → Came w → AllByRecursion (Holds w) w.sessions
 came_hold laws w c =
     let u : World = run two_lanes (start c.nodes) c.steps in
-    let each : (s : Session) → IsSound two_lanes u s → Holds u s = λ s h. record {
+    let each : (s : Session) → IsSound two_lanes u s → CostsLittle two_lanes u s → Holds u s = λ s h c. record {
       few = h.few_messages;
       bound = h.reported;
       short = h.short_lists;
       both = h.exact_knowledge laws.exact;
       sound = nothing_wrong laws.knowledge laws.begin laws.sets u s;
+      cost = c;
     } in
     subst (λ v. AllByRecursion (Holds v) v.sessions) (sym c.is)
-    (All-map (IsSound two_lanes u) (Holds u) each u.sessions (laws.headline c.nodes c.steps c.ready))
+    (All-both (IsSound two_lanes u) (CostsLittle two_lanes u) (Holds u) each u.sessions (laws.headline c.nodes c.steps c.ready) (laws.cost laws.exact u))
 
 -- of each session of a world that runs
 pub all_hold : RunLaws → (w : World) (nodes : List Node) (lives : List live.Session) → world_of nodes lives ≡ w →

@@ -1,9 +1,9 @@
--- What a world keeps of its sessions beside what the definitions say: their ends, and the message made last.
+-- What a world keeps of its sessions beside what the definitions say: their ends, the message made last, and the most parts of a message.
 --     session_of l, kept_of l, made l
 --     IsKept w l, IsRunning nodes lives        what holds of each world
 --     Came w                                   a world is what some steps make of nodes
 --     beginning i r node, heard_by l node      a session that is opened; one whose message made last is heard
-use Rattle.std.specs.Prelude.{◌≡◌, ℕ, ◌+◌, List, length, map, Option, Some, None, IfSome, option_map, unwrap_or, if◌then◌else◌, ⊤}
+use Rattle.std.specs.Prelude.{◌≡◌, ℕ, ◌+◌, List, length, max, map, Option, Some, None, IfSome, option_map, unwrap_or, if◌then◌else◌, ⊤}
 use Rattle.std.specs.List.{AllByRecursion}
 use Rattle.definitions.specs.Fingerprints.{Lanes, two_lanes}
 use Rattle.definitions.specs.Messages.{Message, opening}
@@ -22,7 +22,7 @@ abbrev pub session_of : Session → worlds.Session
 session_of l = record { initiator = l.initiator; responder = l.responder; initiator_version = l.initiator_version; responder_version = l.responder_version; delivered = l.delivered }
 
 abbrev pub kept_of : Session → Kept Lanes
-kept_of l = record { initiator = l.first.end; responder = option_map (λ h. h.end) l.second; last = l.last }
+kept_of l = record { initiator = l.first.end; responder = option_map (λ h. h.end) l.second; last = l.last; parts = l.parts }
 
 -- how many messages both ends sent
 abbrev pub made : Session → ℕ
@@ -64,6 +64,7 @@ beginning i r node = record {
   first = record { steps = node.steps; end = initiator two_lanes (newest node) };
   second = None;
   last = opening two_lanes (newest node).items;
+  parts = 1;
 }
 
 -- the responder; where there is none it begins at its node
@@ -87,6 +88,12 @@ last_by last (Replies N) = N
 last_by last Ends = last
 last_by last (Refuses code) = last
 
+-- and the most parts of a message
+abbrev pub parts_by : ℕ → Answer Lanes → ℕ
+parts_by n (Replies N) = max n (length N)
+parts_by n Ends = n
+parts_by n (Refuses code) = n
+
 abbrev pub did_by : Answer Lanes → worlds.Did
 did_by (Replies N) = worlds.Sent
 did_by Ends = worlds.Over
@@ -94,7 +101,7 @@ did_by (Refuses code) = worlds.Over
 
 -- one message more was delivered, which was answered so
 abbrev pub advanced : Session → ℕ → Answer Lanes → Session
-advanced l newest a = record l { responder_version = Some (unwrap_or l.responder_version newest); delivered = l.delivered + 1; last = last_by l.last a }
+advanced l newest a = record l { responder_version = Some (unwrap_or l.responder_version newest); delivered = l.delivered + 1; last = last_by l.last a; parts = parts_by l.parts a }
 
 abbrev pub heard_by_responder : Session → Node → Session
 heard_by_responder l node = record l { second = Some (behind (responder_from node l.second) l.last) }

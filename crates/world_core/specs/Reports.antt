@@ -13,6 +13,7 @@ report_of r = record {
   responder = r.responder;
   messages = r.messages;
   bound = r.bound;
+  parts = r.parts;
   ended = r.ended;
   initiator_learned = knowledge_of r.initiator_learned;
   responder_learned = knowledge_of r.responder_learned;

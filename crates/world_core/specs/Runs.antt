@@ -1,6 +1,6 @@
 -- What holds of each session of a run.
---     HasFewMessages w s, IsWithinBound w s, KeepsLimits w s, LearnsBoth w s, LearnsNothingWrong w s
---     Holds w s                    these five
+--     HasFewMessages w s, IsWithinBound w s, KeepsLimits w s, LearnsBoth w s, LearnsNothingWrong w s, HasFewParts w s
+--     Holds w s                    these six
 --     ComesFrom nodes steps w      where the items of the histories come from
 --     AbsorbsAll w e v             an ended session that was absorbed below the cap
 use Rattle.std.specs.Prelude.{◌≡◌, ℕ, ◌<◌, ◌≤◌, ◌||◌, ◌⊎◌, List, length, slice_get, Some, IsTrue, ⊤}
@@ -11,7 +11,7 @@ use Rattle.definitions.specs.Fingerprints.{two_lanes}
 use Rattle.definitions.specs.Histories.{content, items_of}
 use Rattle.definitions.specs.Ranks.{IsRankTable}
 use Rattle.definitions.specs.Talks.{IsClear}
-use Rattle.definitions.specs.Theorems.{rank, KeepLimits, KnowsDifference, KnowsNothingWrong, inserts, node_of}
+use Rattle.definitions.specs.Theorems.{rank, CostsLittle, KeepLimits, KnowsDifference, KnowsNothingWrong, inserts, node_of}
 use Rattle.definitions.specs.Worlds as worlds
 use Rattle.definitions.specs.Worlds.{World, Node, Session, node_at, messages, has_ended, initiator_of, responder_of, initiator_knowledge, responder_knowledge, message_bound, report_of}
 
@@ -39,6 +39,10 @@ abbrev pub LearnsNothingWrong : World → Session → Type 0
 LearnsNothingWrong w s = KnowsNothingWrong (initiator_knowledge two_lanes w s) (initiator_of w s).items (responder_of w s).items
     × KnowsNothingWrong (responder_knowledge two_lanes w s) (responder_of w s).items (initiator_of w s).items
 
+-- each message has at most max 1 (d w) parts, and no more are shown, whether or not fingerprints clash
+abbrev pub HasFewParts : World → Session → Type 0
+HasFewParts w s = CostsLittle two_lanes w s
+
 -- all of these
 pub record Holds (w : World) (s : Session) : Type 0 where
   pub few : HasFewMessages w s
@@ -46,6 +50,7 @@ pub record Holds (w : World) (s : Session) : Type 0 where
   pub short : KeepsLimits w s
   pub both : LearnsBoth w s
   pub sound : LearnsNothingWrong w s
+  pub cost : HasFewParts w s
 
 -- each item of a history was there at the start, or was inserted
 abbrev pub ComesFrom : List Node → List worlds.Step → World → Type 0

@@ -29,6 +29,7 @@ shown l = record {
   responder = l.responder;
   messages = made l;
   bound = bound_by l;
+  parts = l.parts;
   ended = made l == l.delivered;
   initiator_learned = learned_by l worlds.Initiator;
   responder_learned = learned_by l worlds.Responder;

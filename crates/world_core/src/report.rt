@@ -47,6 +47,8 @@ pub struct Report<'a> {
     pub messages: usize,
     /// How many messages there may be, once the responder's version is chosen: 3 + min(2r, 2i + 1) by the ranks of both.
     pub bound: Option<usize>,
+    /// The greatest number of parts of a message.
+    pub parts: usize,
     /// Whether each message was handed over, and none follows.
     pub ended: bool,
     /// What the initiator learned so far.

@@ -19,7 +19,7 @@ use range_tree::Tree;
 use std::alloc::{AllocError, Global};
 use wire_core::Message;
 
-/// A session of a run: its numbers, its ends, and the message made last.
+/// A session of a run: its numbers, its ends, the message made last, and the greatest number of parts of a message.
 #[derive(Drop)]
 pub(crate) struct Session<'a> {
     pub(crate) initiator: usize,
@@ -30,6 +30,7 @@ pub(crate) struct Session<'a> {
     pub(crate) first: Initiator<'a, Tree>,
     pub(crate) second: Option<Responder<'a, Tree>>,
     pub(crate) last: Message,
+    pub(crate) parts: usize,
 }
 
 /// What an end answered that does not refuse.
@@ -125,6 +126,7 @@ impl<'a> Session<'a> {
             first,
             second: None,
             last,
+            parts: 1,
         })
     }
 
@@ -179,6 +181,7 @@ impl<'a> Session<'a> {
             responder: self.responder,
             messages: self.messages(),
             bound: self.bound(),
+            parts: self.parts,
             ended: self.messages() == self.delivered,
             initiator_learned: self.learned(Side::Initiator),
             responder_learned: self.learned(Side::Responder),
@@ -195,6 +198,7 @@ impl<'a> Session<'a> {
         self.delivered += 1;
         match turn {
             Turn::Reply(message) => {
+                self.parts = self.parts.max(message.parts().len());
                 self.last = message;
                 Did::Sent
             }

@@ -8,7 +8,7 @@ ghost use Rattle.definitions.specs.Worlds as worlds;
 ghost use Rattle.world_core.specs.Live.{IsRunning, world_of};
 ghost use Rattle.definitions.specs.Sets.{set_of};
 ghost use Rattle.world_core.specs.Reports.{report_of};
-ghost use Rattle.world_core.specs.Runs.{HasFewMessages, IsWithinBound, KeepsLimits, LearnsBoth, LearnsNothingWrong, Holds, ComesFrom, AbsorbsAll};
+ghost use Rattle.world_core.specs.Runs.{HasFewMessages, IsWithinBound, KeepsLimits, LearnsBoth, LearnsNothingWrong, HasFewParts, Holds, ComesFrom, AbsorbsAll};
 ghost use Rattle.world_core.specs.Steps.{did_of, side_of, step_of, added_in, absorbed_at, absorbing, AbsorbsSome, IsCutShort};
 
 use crate::node::Node;
@@ -73,6 +73,7 @@ impl<'a> World<'a> {
         laws::headline::<Fingerprint>();
         laws::knowledge_is_sound::<Fingerprint>();
         laws::talks_begin::<Fingerprint>();
+        laws::cost_claim::<Fingerprint>();
         store_core::laws::set_of_a_list();
         self.sessions.len()
     }
@@ -222,7 +223,8 @@ impl<'a> World<'a> {
     ///
     /// The session has few messages, by the ranks of both tables and by the bound that is shown; no list in it is
     /// longer than its sender's limit; nothing wrong is learned, and once it has ended, where no unequal compared
-    /// ranges share a fingerprint, both differences.
+    /// ranges share a fingerprint, both differences. No message has more parts than the widths of both tables allow for
+    /// each item that only one of the two versions has, or one, and no more are shown.
     pub fn report(&self, session: usize) -> Option<Report<'_>>
         ensures report { option_map report_of result ≡ worlds.report two_lanes self.now session }
         ensures holds { (s : worlds.Session) → slice_get self.now.sessions session ≡ Some s → Holds self.now s }
@@ -268,7 +270,8 @@ fn run_steps<'a>(alloc: Global, setup: &'a Setup, steps: &[Step]) -> Result<Worl
 ///
 /// Each session of it has few messages, by the ranks of both tables and by the bound that its report shows; no list in it
 /// is longer than its sender's limit; nothing wrong is learned, and once it has ended, where no unequal compared ranges
-/// share a fingerprint, both differences. Each item of a history was there at the start, or was inserted.
+/// share a fingerprint, both differences. No message has more parts than the widths of both tables allow for each item
+/// that only one of the two versions has, or one. Each item of a history was there at the start, or was inserted.
 pub fn run<'a>(alloc: Global, setup: &'a Setup, steps: &[Step]) -> Result<World<'a>, AllocError>
     ensures world { IfOk result (λ w. w ≡ worlds.run two_lanes (worlds.start setup.now) (map step_of steps.now)) }
     ensures few { IfOk result (λ w. AllByRecursion (HasFewMessages w) w.sessions) }
@@ -276,6 +279,7 @@ pub fn run<'a>(alloc: Global, setup: &'a Setup, steps: &[Step]) -> Result<World<
     ensures short { IfOk result (λ w. AllByRecursion (KeepsLimits w) w.sessions) }
     ensures both { IfOk result (λ w. AllByRecursion (LearnsBoth w) w.sessions) }
     ensures sound { IfOk result (λ w. AllByRecursion (LearnsNothingWrong w) w.sessions) }
+    ensures cost { IfOk result (λ w. AllByRecursion (HasFewParts w) w.sessions) }
     ensures items { IfOk result (λ w. ComesFrom setup.now (map step_of steps.now) w) }
 {
     laws::history_claim::<Fingerprint>();

@@ -13,12 +13,13 @@ abbrev pub knows_letters : List ℕ → List ℕ → Knowledge
 knows_letters ours theirs = record { ours = letters ours; theirs = letters theirs }
 
 -- a report of a session that node 0 opened with node 1
-abbrev pub reports : ℕ → Option ℕ → Bool → Knowledge → Knowledge → Option Report
-reports messages bound ended initiator responder = Some (record {
+abbrev pub reports : ℕ → Option ℕ → ℕ → Bool → Knowledge → Knowledge → Option Report
+reports messages bound parts ended initiator responder = Some (record {
   initiator = 0;
   responder = 1;
   messages = messages;
   bound = bound;
+  parts = parts;
   ended = ended;
   initiator_learned = initiator;
   responder_learned = responder;
@@ -42,10 +43,10 @@ two_sessions = Open 0 1 ∷ Deliver 0 ∷ Insert 0 (codes "i") ∷ Insert 1 (cod
 abbrev pub after_two_sessions : World
 after_two_sessions = run itself eight_and_seven two_sessions
 
-pub inserts_between_sessions_first : report itself after_two_sessions 0 ≡ reports 7 (Some 9) true (knows_letters (codes "h") []) (knows_letters [] (codes "h"))
+pub inserts_between_sessions_first : report itself after_two_sessions 0 ≡ reports 7 (Some 9) 2 true (knows_letters (codes "h") []) (knows_letters [] (codes "h"))
 inserts_between_sessions_first = refl
 
-pub inserts_between_sessions_second : report itself after_two_sessions 1 ≡ reports 7 (Some 9) true (knows_letters (codes "hi") (codes "j")) (knows_letters (codes "j") (codes "hi"))
+pub inserts_between_sessions_second : report itself after_two_sessions 1 ≡ reports 7 (Some 9) 3 true (knows_letters (codes "hi") (codes "j")) (knows_letters (codes "j") (codes "hi"))
 inserts_between_sessions_second = refl
 
 -- the first delivery of the seven finds one less to deliver
@@ -62,7 +63,7 @@ both_absorb = Absorb 1 Initiator ∷ Absorb 1 Responder ∷ Open 0 1 ∷ Deliver
 pub both_absorb_answers : answers itself after_two_sessions both_absorb ≡ Absorbed 1 ∷ Absorbed 2 ∷ Opened 2 ∷ Sent ∷ Over ∷ Idle ∷ []
 both_absorb_answers = refl
 
-pub both_absorb_third : report itself (run itself after_two_sessions both_absorb) 2 ≡ reports 2 (Some 11) true (knows_letters [] []) (knows_letters [] [])
+pub both_absorb_third : report itself (run itself after_two_sessions both_absorb) 2 ≡ reports 2 (Some 11) 1 true (knows_letters [] []) (knows_letters [] [])
 both_absorb_third = refl
 
 -- ---- a full node absorbs nothing, and no session is absorbed before its end
@@ -76,7 +77,7 @@ a_full_node_absorbs_nothing = refl
 
 -- ---- opened, and nothing delivered
 
-pub only_opened : report itself (run itself eight_and_seven (Open 0 1 ∷ [])) 0 ≡ reports 1 None false (knows_letters [] []) (knows_letters [] [])
+pub only_opened : report itself (run itself eight_and_seven (Open 0 1 ∷ [])) 0 ≡ reports 1 None 1 false (knows_letters [] []) (knows_letters [] [])
 only_opened = refl
 
 -- ---- steps that name nothing

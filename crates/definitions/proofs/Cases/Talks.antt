@@ -7,7 +7,7 @@ use Rattle.definitions.specs.Ranks.{least_ranks}
 use Rattle.definitions.specs.Talks.{talk, Knowledge, nothing, initiator_knows, responder_knows}
 use Rattle.definitions.specs.Refusals.{missing_answer}
 use Rattle.definitions.specs.Ends.{Over, Spent, Replies, Refuses, answer, after, initiator_at, responder_at}
-use Rattle.definitions.specs.Cost.{part_bound}
+use Rattle.definitions.specs.Cost.{part_bound, most_parts}
 use Rattle.definitions.specs.Theorems.{rank}
 use Rattle.definitions.specs.Worlds.{message_bound}
 use Rattle.definitions.proofs.Cases.Examples.{itself, binary, binary8, binary16, peeling, letters, peer, abc, no_items, has_abc, from_to, below, from}
@@ -76,6 +76,9 @@ two_pairs_that_cross_bound = refl
 pub two_pairs_that_cross_parts : part_bound cd ab ≡ 8
 two_pairs_that_cross_parts = refl
 
+pub two_pairs_that_cross_most : most_parts (talk_of cd ab) ≡ 3
+two_pairs_that_cross_most = refl
+
 -- the same by two ends
 
 pub the_responder_replies : answer itself (responder_at itself cd ab 0) (first (codes "cd")) ≡ Replies (sum (below (codes "b")) (codes "a") ∷ sum (from (codes "b")) (codes "b") ∷ [])
@@ -116,6 +119,12 @@ one_missing_of_eight = refl
 pub one_missing_of_eight_bound : bound_of eight seven ≡ 9
 one_missing_of_eight_bound = refl
 
+pub one_missing_of_eight_parts : part_bound eight seven ≡ 2
+one_missing_of_eight_parts = refl
+
+pub one_missing_of_eight_most : most_parts (talk_of eight seven) ≡ 2
+one_missing_of_eight_most = refl
+
 pub one_missing_of_eight_initiator : initiator_knows eight.items (talk_of eight seven) ≡ knows_letters (codes "h") []
 one_missing_of_eight_initiator = refl
 
@@ -127,6 +136,9 @@ equal_eights = refl
 
 pub equal_eights_parts : part_bound eight eight ≡ 1
 equal_eights_parts = refl
+
+pub equal_eights_most : most_parts (talk_of eight eight) ≡ 1
+equal_eights_most = refl
 
 -- inserts between sessions: the second session
 
@@ -152,6 +164,9 @@ inserts_between_sessions_bound = refl
 
 pub inserts_between_sessions_parts : part_bound nine other_eight ≡ 6
 inserts_between_sessions_parts = refl
+
+pub inserts_between_sessions_most : most_parts (talk_of nine other_eight) ≡ 3
+inserts_between_sessions_most = refl
 
 pub inserts_between_sessions_initiator : initiator_knows nine.items (talk_of nine other_eight) ≡ knows_letters (codes "hi") (codes "j")
 inserts_between_sessions_initiator = refl
@@ -181,6 +196,9 @@ peeling_by_threes_bound = refl
 
 pub peeling_by_threes_parts : part_bound peeled_seven peeled_six ≡ 2
 peeling_by_threes_parts = refl
+
+pub peeling_by_threes_most : most_parts (talk_of peeled_seven peeled_six) ≡ 2
+peeling_by_threes_most = refl
 
 pub peeling_by_threes_initiator : initiator_knows peeled_seven.items (talk_of peeled_seven peeled_six) ≡ knows_letters (codes "g") []
 peeling_by_threes_initiator = refl

@@ -78,7 +78,13 @@ limit = 0
 rounds = 9
 row = [{upto = 4, split = [1, 1]}]
 ";
+    let one_off_the_front = "cap = 65536
+limit = 1
+rounds = 255
+row = [{upto = 1, list = true}, {upto = 65536, peel = 1}]
+";
     for (text, line) in [
+        (one_off_the_front, "refused 38 TooDeep 257 256\n"),
         (share_of_all, "refused 36 NoDescent 2\n"),
         (one_round_too_few, "refused 38 TooDeep 5 3\n"),
         (list_above_the_limit, "refused 37 ListTooLong 4\n"),

@@ -40,6 +40,38 @@ row = [{upto = 1, list = true}, {upto = 2, split = [1, 1]}]
 items = ["61", "62"]
 "#;
 
+/// Nodes of at most 10 items that list three and cut three off the front of more: a to g, and a to f.
+const PEELING: &str = r#"
+[[node]]
+cap = 10
+limit = 3
+rounds = 3
+row = [{upto = 3, list = true}, {upto = 10, peel = 3}]
+items = ["61", "62", "63", "64", "65", "66", "67"]
+[[node]]
+cap = 10
+limit = 3
+rounds = 3
+row = [{upto = 3, list = true}, {upto = 10, peel = 3}]
+items = ["61", "62", "63", "64", "65", "66"]
+"#;
+
+/// Two nodes of the same eight items, under a table that cuts in half until one item is left.
+const EQUAL_EIGHTS: &str = r#"
+[[node]]
+cap = 8
+limit = 1
+rounds = 3
+row = [{upto = 1, list = true}, {upto = 8, split = [1, 1]}]
+items = ["61", "62", "63", "64", "65", "66", "67", "68"]
+[[node]]
+cap = 8
+limit = 1
+rounds = 3
+row = [{upto = 1, list = true}, {upto = 8, split = [1, 1]}]
+items = ["61", "62", "63", "64", "65", "66", "67", "68"]
+"#;
+
 /// Runs these steps on these nodes.
 fn runs<R>(rt: &R, steps: &str, nodes: &str, wanted: &Wanted<'_>) -> Result<(), AllocError>
 where
@@ -61,10 +93,10 @@ fn inserts_between_deliveries(rt: HostRuntime) -> Result<(), AllocError> {
     let steps =
         r#""open 0 1", "deliver 0", "insert 0 69", "insert 1 6a", "finish 0", "open 0 1", "finish 1""#;
     let wanted = answered(
-        "session 0 messages 7 bound 9 ended
+        "session 0 messages 7 bound 9 parts 2 ended
 initiator ours 68 theirs -
 responder ours - theirs 68
-session 1 messages 7 bound 9 ended
+session 1 messages 7 bound 9 parts 3 ended
 initiator ours 68 69 theirs 6a
 responder ours 6a theirs 68 69
 ",
@@ -78,13 +110,13 @@ fn learned_items_absorbed(rt: HostRuntime) -> Result<(), AllocError> {
         r#""open 0 1", "deliver 0", "insert 0 69", "insert 1 6a", "finish 0", "open 0 1", "finish 1",
         "absorb 1 initiator", "absorb 1 responder", "open 0 1", "finish 2""#;
     let wanted = answered(
-        "session 0 messages 7 bound 9 ended
+        "session 0 messages 7 bound 9 parts 2 ended
 initiator ours 68 theirs -
 responder ours - theirs 68
-session 1 messages 7 bound 9 ended
+session 1 messages 7 bound 9 parts 3 ended
 initiator ours 68 69 theirs 6a
 responder ours 6a theirs 68 69
-session 2 messages 2 bound 11 ended
+session 2 messages 2 bound 11 parts 1 ended
 initiator ours - theirs -
 responder ours - theirs -
 ",
@@ -97,10 +129,10 @@ fn full_nodes_absorb_nothing(rt: HostRuntime) -> Result<(), AllocError> {
     let steps =
         r#""open 0 1", "absorb 0 initiator", "finish 0", "absorb 0 initiator", "open 0 1", "finish 1""#;
     let wanted = answered(
-        "session 0 messages 5 bound 5 ended
+        "session 0 messages 5 bound 5 parts 3 ended
 initiator ours 63 64 theirs 61 62
 responder ours 61 62 theirs 63 64
-session 1 messages 5 bound 5 ended
+session 1 messages 5 bound 5 parts 3 ended
 initiator ours 63 64 theirs 61 62
 responder ours 61 62 theirs 63 64
 ",
@@ -109,9 +141,31 @@ responder ours 61 62 theirs 63 64
 }
 
 #[test]
+fn equal_eights(rt: HostRuntime) -> Result<(), AllocError> {
+    let wanted = answered(
+        "session 0 messages 2 bound 9 parts 1 ended
+initiator ours - theirs -
+responder ours - theirs -
+",
+    );
+    runs(&rt, r#""open 0 1", "finish 0""#, EQUAL_EIGHTS, &wanted)
+}
+
+#[test]
+fn three_off_the_front(rt: HostRuntime) -> Result<(), AllocError> {
+    let wanted = answered(
+        "session 0 messages 5 bound 5 parts 2 ended
+initiator ours 67 theirs -
+responder ours - theirs 67
+",
+    );
+    runs(&rt, r#""open 0 1", "finish 0""#, PEELING, &wanted)
+}
+
+#[test]
 fn opened_and_not_delivered(rt: HostRuntime) -> Result<(), AllocError> {
     let wanted = answered(
-        "session 0 messages 1 bound - open
+        "session 0 messages 1 bound - parts 1 open
 initiator ours - theirs -
 responder ours - theirs -
 ",

@@ -2,7 +2,7 @@ use Rattle.std.proofs.Common.{map, sym, subst}
 use Rattle.definitions.proofs.Lemmas.{All-map}
 use Rattle.definitions.specs.Fingerprints.{two_lanes}
 use Rattle.world_core.specs.Steps.{step_of}
-use Rattle.world_core.specs.Runs.{Holds, HasFewMessages, IsWithinBound, KeepsLimits, LearnsBoth, LearnsNothingWrong, ComesFrom}
+use Rattle.world_core.specs.Runs.{Holds, HasFewMessages, IsWithinBound, KeepsLimits, LearnsBoth, LearnsNothingWrong, HasFewParts, ComesFrom}
 use Rattle.world_core.proofs.world.run.Goals as goal
 
 pub returns-clause-few : goal.returns-clause-few
@@ -29,6 +29,11 @@ pub returns-clause-sound : goal.returns-clause-sound
 returns-clause-sound c =
     let w = c.in_ok-world.world in
     All-map (Holds w) (LearnsNothingWrong w) (λ s h. h.sound) w.sessions c.sessions-count.ensures.hold
+
+pub returns-clause-cost : goal.returns-clause-cost
+returns-clause-cost c =
+    let w = c.in_ok-world.world in
+    All-map (Holds w) (HasFewParts w) (λ s h. h.cost) w.sessions c.sessions-count.ensures.hold
 
 pub returns-clause-items : goal.returns-clause-items
 returns-clause-items c =

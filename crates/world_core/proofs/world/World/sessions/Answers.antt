@@ -9,6 +9,7 @@ returns-clause-hold c =
       headline = c.headline.ensures two_lanes;
       knowledge = c.knowledge_is_sound.ensures two_lanes;
       begin = c.talks_begin.ensures two_lanes;
+      cost = c.cost_claim.ensures two_lanes;
       sets = c.set_of_a_list.ensures.set;
     } in
     all_hold laws c.args.self.now c.self.inside.nodes.items c.self.inside.sessions.items c.self.view_is c.self.invariant
