@@ -424,3 +424,32 @@ fn message_byte_by_byte(rt: HostRuntime) {
     assert_eq!(rt; fed.events.as_slice(), events.as_slice());
     assert_eq!(rt; fed.end(), None);
 }
+
+/// The next event off the front of a piece, with how many bytes of it were taken.
+fn next_event(
+    rt: &impl Abort,
+    alloc: Global,
+    feed: &mut Feed,
+    piece: &[u8],
+) -> (usize, Option<Event>) {
+    feed.next(alloc, piece)
+        .ok()
+        .expect(rt, "memory, and no fault")
+}
+
+#[test]
+fn events_one_by_one(rt: HostRuntime) {
+    let alloc = rt.alloc();
+    let mut bytes = [0u8; 54];
+    bytes[..9].copy_from_slice(&[0x52, 0x52, 0x53, 0x31, 0, 0, 0, 0x23, 1]);
+    bytes[10] = 0xFF;
+    bytes[43..].copy_from_slice(&[0, 0, 0, 1, 4, 0, 0, 0, 2, 5, 0x15]);
+    let mut feed = Feed::new(alloc);
+    let front = next_event(&rt, alloc, &mut feed, &bytes[..20]);
+    assert_eq!(rt; front, (20, None));
+    let part = next_event(&rt, alloc, &mut feed, &bytes[20..]);
+    let sum = Event::Part(Part::sum(Range::whole(), Fingerprint::zero()));
+    assert_eq!(rt; part, (23, Some(sum)));
+    let end = next_event(&rt, alloc, &mut feed, &bytes[43..]);
+    assert_eq!(rt; end, (5, Some(Event::End)));
+}

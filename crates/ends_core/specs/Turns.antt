@@ -2,6 +2,8 @@
 --     end_fault_number f     the number of a refusal
 --     answer_in result       the answer, unless memory ran out
 --     behind h M             the end behind a message
+--     Comes s M              the message may come at this stage
+--     IsJudged h M result    what a call answers agrees with whether the message may come
 use Rattle.std.specs.Prelude.{◌≡◌, ℕ, Result, Ok, Err, Option, Some, None, IfSome, if◌then◌else◌, ⊤}
 use Rattle.std.specs.List.{AllByRecursion}
 use Rattle.definitions.specs.Fingerprints.{Lanes, two_lanes}
@@ -59,6 +61,18 @@ Comes Fresh M = IsOpening M
 Comes (Waits own) M = Placed own M
 Comes Over M = ⊥
 Comes Spent M = ⊥
+
+-- a call agrees with C, that the message may come: it takes the message only then, and refuses it for its place, or
+-- since the end takes none, only else
+abbrev pub AgreesWith : Type 0 → Result Turn EndFault → Type 0
+AgreesWith C (Ok turn) = C
+AgreesWith C (Err (faults.Placing f)) = C → ⊥
+AgreesWith C (Err faults.TooManyParts) = C
+AgreesWith C (Err faults.Spent) = C → ⊥
+AgreesWith C (Err faults.Memory) = ⊤
+
+abbrev pub IsJudged : Held → Message Lanes → Result Turn EndFault → Type 0
+IsJudged h M result = AgreesWith (Comes h.end.stage M) result
 
 -- a step is what the message makes of the end
 abbrev pub IsStep : Held → Message Lanes → Result Step EndFault → Type 0

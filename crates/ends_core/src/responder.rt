@@ -7,7 +7,7 @@ ghost use Rattle.definitions.specs.Fingerprints.{two_lanes};
 ghost use Rattle.definitions.specs.Ranks.{rank_by};
 ghost use Rattle.definitions.specs.Ends as ends;
 ghost use Rattle.definitions.specs.Ends.{is_over};
-ghost use Rattle.ends_core.specs.Turns.{KeepsLimit, answer_in, behind};
+ghost use Rattle.ends_core.specs.Turns.{IsJudged, KeepsLimit, answer_in, behind};
 
 use crate::end::End;
 use crate::learned::Learned;
@@ -59,6 +59,7 @@ impl<'a, S: RangeStore> Responder<'a, S> {
     /// parts: the end is spent then, and nothing is learned. Refused 26 where a message was refused before, or the session
     /// is over, and 90 where memory ran out: the end is as before.
     pub fn receive(&mut self, alloc: Global, message: &Message) -> Result<Turn, EndFault>
+        ensures judged { IsJudged self.old message.now result }
         ensures answer { IfSome (answer_in result) (λ a. a ≡ ends.answer two_lanes self.old.end message.now) }
         ensures behind { IfSome (answer_in result) (λ _. self.new ≡ behind self.old message.now) }
         ensures memory { IfNone (answer_in result) (self.new ≡ self.old) }
@@ -67,6 +68,9 @@ impl<'a, S: RangeStore> Responder<'a, S> {
         laws::ends_stand_firm::<Fingerprint>();
         laws::ends_hear_on::<Fingerprint>();
         laws::ends_keep_peers::<Fingerprint>();
+        laws::opening_is_exact::<Fingerprint>();
+        laws::placing_is_exact::<Fingerprint>();
+        laws::messages_have_ranges::<Fingerprint>();
         rank_laws::ranks_are_read();
         let _parts = message.parts(); // which tells that they have a spelling
         self.end.receive(alloc, message)

@@ -2,6 +2,7 @@ pub mod Times
 pub mod Cuts
 pub mod Placing
 pub mod Saying
+pub mod Learned
 pub mod Ends
 pub mod Stops
 pub mod Knowledge
@@ -13,4 +14,5 @@ pub mod Runs
 pub mod Sessions
 pub mod Staying
 pub mod Telling
+pub mod Finishing
 pub mod Refuted

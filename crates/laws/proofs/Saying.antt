@@ -27,7 +27,7 @@ answer-sent e M Ends = omega arith
 answer-sent e M (Refuses code) = omega arith
 
 -- an end that takes no messages
-takes_none : {F : Type 0} (S : Summary F) (e : End F) (M : Message F) → is_live e.stage ≡ false → (replied (answer S e M) ≡ []) × (after S e M ≡ e)
+pub takes_none : {F : Type 0} (S : Summary F) (e : End F) (M : Message F) → is_live e.stage ≡ false → (replied (answer S e M) ≡ []) × (after S e M ≡ e)
 takes_none {F} S e M h = by e.stage h where
   by : (s : Stage F) → is_live s ≡ false → (replied (answer S (record e { stage = s }) M) ≡ []) × (after S (record e { stage = s }) M ≡ record e { stage = s })
   by Fresh h = absurd cc
@@ -68,7 +68,7 @@ answers-append S e [] Ns = refl
 answers-append S e (M ∷ Ms) Ns =
     ap (λ Os. replied (answer S e M) ++ Os) (answers-append S (after S e M) Ms Ns) ∙ sym (append_assoc (replied (answer S e M)) (answers S (after S e M) Ms) (answers S (heard S (after S e M) Ms) Ns))
 
-says_none : {F : Type 0} (S : Summary F) (e : End F) (Ms : List (Message F)) → is_live e.stage ≡ false → (answers S e Ms ≡ []) × (heard S e Ms ≡ e)
+pub says_none : {F : Type 0} (S : Summary F) (e : End F) (Ms : List (Message F)) → is_live e.stage ≡ false → (answers S e Ms ≡ []) × (heard S e Ms ≡ e)
 says_none S e [] h = (refl, refl)
 says_none S e (M ∷ Ms) h =
     let now = takes_none S e M h in

@@ -7,7 +7,7 @@ ghost use Rattle.definitions.specs.Sets.{items_in};
 ghost use Rattle.definitions.specs.Fingerprints.{Summary, IsExact, two_lanes, counted_lanes};
 ghost use Rattle.definitions.specs.Messages.{Message, RangesRise};
 ghost use Rattle.definitions.specs.Wire.{Profile, IsMessage};
-ghost use Rattle.definitions.specs.Theorems.{RepliesArePlaced, RepliesAreShort, EndsKeepLimits, PlacingIsExact, OpeningIsExact, MessagesAreFew, MessagesFit, TalksAreApart, RepliesAreApart, PlacedAreApart, RepliesAreHonest, LearnsOnce, InitiatorStops, ResponderStops, EndsStandFirm, EndsHearOn, EndsKeepPeers, ListsAreShort, KnowledgeIsExact, KnowledgeIsSound, PartsAreFew, Headline, CostClaim, HistoryClaim, AbsorbClaim};
+ghost use Rattle.definitions.specs.Theorems.{RepliesArePlaced, RepliesAreShort, EndsKeepLimits, PlacingIsExact, OpeningIsExact, MessagesAreFew, MessagesFit, TalksAreApart, RepliesAreApart, PlacedAreApart, RepliesAreHonest, LearnsOnce, InitiatorStops, ResponderStops, EndsStandFirm, EndsHearOn, EndsKeepPeers, InitiatorLearns, ResponderLearns, ListsAreShort, KnowledgeIsExact, KnowledgeIsSound, PartsAreFew, Headline, CostClaim, HistoryClaim, AbsorbClaim, SessionsEnd};
 ghost use Rattle.laws.specs.Cutting.{CutsAreExact, TalksHaveRanges};
 ghost use Rattle.laws.specs.Growing.{TalksGrow, KnowledgeGrows};
 ghost use Rattle.laws.specs.Turns.{TalksBegin, TalksGoOn, EndsHear, EndsTalk};
@@ -130,6 +130,18 @@ pub fn ends_say<F>()
     ensures { (S : Summary F) → EndsSay S }
 {}
 
+/// What an initiator learned, whatever its peer sends, is what its set learns from the messages that it took.
+#[tactic(auto, using(crate::proofs::Learned::initiator_learns))]
+pub fn initiator_learns<F>()
+    ensures { (S : Summary F) → InitiatorLearns S }
+{}
+
+/// So it is of a responder.
+#[tactic(auto, using(crate::proofs::Learned::responder_learns))]
+pub fn responder_learns<F>()
+    ensures { (S : Summary F) → ResponderLearns S }
+{}
+
 // ---- talks
 
 /// A talk grows by the reply to its last message.
@@ -235,6 +247,12 @@ pub fn history_claim<F>()
 #[tactic(auto, using(crate::proofs::Runs::absorb_claim))]
 pub fn absorb_claim<F>()
     ensures { (S : Summary F) → AbsorbClaim S }
+{}
+
+/// A session has ended behind 513 deliveries.
+#[tactic(auto, using(crate::proofs::Finishing::sessions_end))]
+pub fn sessions_end<F>()
+    ensures { (S : Summary F) → SessionsEnd S }
 {}
 
 // ---- what is kept of a session

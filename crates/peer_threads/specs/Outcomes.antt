@@ -4,10 +4,12 @@
 --     session_at s bytes       its end then
 --     peer_of a items          who speaks: the accepted table, and a set
 --     peer_at a w              who speaks: the accepted table, and the set of the history that the view w found
+--     kind_of o                how the table of sessions counts the outcome o
+--     known_at s bytes         what a side learns from the messages that it takes, by what they say
 --     Bears s t bytes o        what the outcome o says
---     IsModest s bytes bound limit     few own messages, and short lists, whatever was read
+--     IsModest s bytes bound limit     few own messages, short lists, and knowledge as told, whatever was read
 --     Speaks s bound limit t o     all of it, of the bytes that were read
-use Rattle.std.specs.Prelude.{◌≡◌, ℕ, ◌≤◌, List, Option, Some, length, IsTrue, ⊤}
+use Rattle.std.specs.Prelude.{◌≡◌, ℕ, ◌≤◌, List, [], ◌∷◌, Option, Some, length, IsTrue, ⊤}
 use Rattle.std.specs.List.{AllByRecursion}
 use Rattle.std.specs.Io.KnownBytes.{Appends, Consumes}
 use Rattle.definitions.specs.Fingerprints.{Lanes, two_lanes}
@@ -16,10 +18,13 @@ use Rattle.definitions.specs.Messages.{Message}
 use Rattle.definitions.specs.Replies.{Peer}
 use Rattle.definitions.specs.Histories.{content}
 use Rattle.definitions.specs.Wire.{two_lane_profile}
-use Rattle.definitions.specs.Ends.{End, is_over}
-use Rattle.definitions.specs.Engines.{Speaker, says, session, messages_in, fault_frame, text}
+use Rattle.definitions.specs.Talks.{Knowledge, knows}
+use Rattle.definitions.specs.Ends.{End, Stage, Fresh, Waits, Over, Spent, is_over}
+use Rattle.definitions.specs.Engines.{Speaker, says, session, takes, messages_in, fault_frame, text}
 use Rattle.definitions.specs.Theorems.{IsShort}
 use Rattle.strategy_check.specs.Checked.{Checked}
+use Rattle.session_table.specs.declared.totals.CloseKind.{CloseKind}
+use Rattle.session_table.specs.declared.totals.CloseKind.TheVariants as kinds
 use Rattle.version_lock.specs.declared.view.View.{View}
 use Rattle.peer_threads.specs.declared.outcome.Outcome.{Outcome}
 use Rattle.peer_threads.specs.declared.outcome.Outcome.TheVariants.{Ended, Refused, PeerRefused, Io, Memory}
@@ -52,6 +57,14 @@ sent_in (PeerRefused code sent) = sent
 sent_in (Io side sent) = sent
 sent_in (Memory sent) = sent
 
+-- a session that either side refused is refused
+abbrev pub kind_of : Outcome → CloseKind
+kind_of (Ended learned sent version) = kinds.Ended
+kind_of (Refused code sent) = kinds.Refused
+kind_of (PeerRefused code sent) = kinds.Refused
+kind_of (Io side sent) = kinds.Io
+kind_of (Memory sent) = kinds.Memory
+
 -- the side has written all that it says to these bytes: so many messages, behind its hello
 pub record SaidAll (s : Speaker Lanes) (t : Traffic) (bytes : List ℕ) (sent : ℕ) : Type 0 where
   pub written : Appends t.held t.holds (text two_lane_profile sent (said_to s bytes))
@@ -66,10 +79,25 @@ Bears s t bytes (Refused code sent) = ⊤
 Bears s t bytes (Io side sent) = ⊤
 Bears s t bytes (Memory sent) = ⊤
 
--- whatever the bytes are, there are few own messages, and no list in them is longer than the limit
+-- the own messages that the messages taken answer, one each: the first that a responder takes answers none
+abbrev pub answered : Stage Lanes → List (Message Lanes) → List (Message Lanes)
+answered Fresh own = [] ∷ own
+answered (Waits first) own = own
+answered Over own = own
+answered Spent own = own
+
+-- what a side learns from the messages that it takes, each beside the own message that it answers
+abbrev pub known_at : Speaker Lanes → List ℕ → Knowledge
+known_at s bytes =
+    knows s.start.peer.items (answered s.start.stage (said_to s bytes))
+    (takes two_lanes s.start (messages_in two_lane_profile bytes))
+
+-- whatever the bytes are, there are few own messages, no list in them is longer than the limit, and once the session is
+-- over the side has learned just what the messages that it took say
 pub record IsModest (s : Speaker Lanes) (bytes : List ℕ) (bound limit : ℕ) : Type 0 where
   pub few : length (said_to s bytes) ≤ bound
   pub short : AllByRecursion (AllByRecursion (IsShort limit)) (said_to s bytes)
+  pub learned : IsTrue (is_over (session_at s bytes).stage) → (session_at s bytes).learned ≡ known_at s bytes
 
 -- the bytes that were read, and what the outcome says of them
 pub record Speaks (s : Speaker Lanes) (bound limit : ℕ) (t : Traffic) (o : Outcome) : Type 0 where

@@ -11,7 +11,8 @@ ghost use Rattle.peer_threads.specs.Outcomes.{IsModest, peer_of};
 use digest_core::Fingerprint;
 use strategy_check::Accepted;
 
-/// A side that goes by an accepted strategy sends few messages and short lists, whatever the bytes are that it reads.
+/// A side that goes by an accepted strategy sends few messages and short lists, and learns just what the messages that
+/// it takes say, whatever the bytes are that it reads.
 pub(crate) fn sides_are_modest(accepted: &Accepted)
     ensures initiator { (h : History) (bytes : List ℕ) → IsBytes bytes →
         length (content h) ≤ accepted.now.table.cap →
@@ -28,6 +29,8 @@ pub(crate) fn sides_are_modest(accepted: &Accepted)
     laws::initiator_stops::<Fingerprint>();
     laws::responder_stops::<Fingerprint>();
     laws::ends_keep_limits::<Fingerprint>();
+    laws::initiator_learns::<Fingerprint>();
+    laws::responder_learns::<Fingerprint>();
     rank_laws::ranks_are_read();
     store_core::laws::set_of_a_list();
     let _cap = accepted.cap();

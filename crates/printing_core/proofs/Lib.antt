@@ -1,1 +1,2 @@
 mod Sims
+mod Finishing

@@ -1,11 +1,12 @@
 -- The run of a scenario.
 --     after_steps w steps      the world behind the steps of a scenario
+--     FinishesEnd w steps      each session that was finished by them has ended
 --     sim_text s               what is printed of a scenario that was run
-use Rattle.std.specs.Prelude.{ℕ, zero, suc, Bool, true, false, if◌then◌else◌, List, map, fold}
+use Rattle.std.specs.Prelude.{◌≡◌, ℕ, zero, suc, Bool, true, false, if◌then◌else◌, List, [], ◌∷◌, map, fold, slice_get, Some, IsTrue, ⊤}
 use Rattle.definitions.specs.Fingerprints.{two_lanes}
 use Rattle.definitions.specs.Histories.{opening_history}
 use Rattle.definitions.specs.Worlds as worlds
-use Rattle.definitions.specs.Worlds.{World, Node, Did, step, start}
+use Rattle.definitions.specs.Worlds.{World, Node, Did, has_ended, step, start}
 use Rattle.world_core.specs.Nodes.{node_by}
 use Rattle.settings_core.specs.Nodes.{NodeText, ScenarioText}
 use Rattle.settings_core.specs.declared.scenario.Side.{Side}
@@ -46,5 +47,26 @@ after_step w e = (step two_lanes w (world_step e)).0
 abbrev pub after_steps : World → List ScenarioStep → World
 after_steps w es = fold after_step w es
 
+-- the session of this number, if it is there, has ended
+abbrev pub HasEnded : ℕ → World → Type 0
+HasEnded k w = (s : worlds.Session) → slice_get w.sessions k ≡ Some s → IsTrue (has_ended two_lanes w s)
+
+-- a session that was finished has ended
+abbrev pub EndsFinished : ScenarioStep → World → Type 0
+EndsFinished (Insert n x) w = ⊤
+EndsFinished (Open i r) w = ⊤
+EndsFinished (Deliver k) w = ⊤
+EndsFinished (Finish k) w = HasEnded k w
+EndsFinished (Absorb k side) w = ⊤
+
+-- behind each Finish among the steps
+abbrev pub FinishesEnd : World → List ScenarioStep → Type 0
+FinishesEnd w [] = ⊤
+FinishesEnd w (e ∷ es) = EndsFinished e (after_step w e) × FinishesEnd (after_step w e) es
+
+-- the nodes of the scenario, and no session
+abbrev pub start_of : ScenarioText → World
+start_of s = start (map node_of s.nodes)
+
 abbrev pub sim_text : ScenarioText → List ℕ
-sim_text s = reports_text (after_steps (start (map node_of s.nodes)) s.steps)
+sim_text s = reports_text (after_steps (start_of s) s.steps)

@@ -4,7 +4,7 @@ ghost use Rattle.std.specs.Prelude.{◌≡◌, [], ◌∷◌, ◌++◌, IfOk, On
 ghost use Rattle.definitions.specs.Fingerprints.{two_lanes};
 ghost use Rattle.definitions.specs.Worlds.{Deliver, step};
 ghost use Rattle.world_core.specs.Steps.{step_of, side_of as side_in_world};
-ghost use Rattle.printing_core.specs.Runs.{node_of, side_of, world_step, is_sent, delivered, after_step, after_steps, sim_text};
+ghost use Rattle.printing_core.specs.Runs.{node_of, side_of, world_step, is_sent, delivered, after_step, after_steps, HasEnded, EndsFinished, FinishesEnd, start_of, sim_text};
 
 use crate::fault::Fault;
 use crate::reports::reports_text;
@@ -94,12 +94,22 @@ fn deliver_often(
     Ok(())
 }
 
-/// Does a step of a scenario.
+/// Hands the last message of a session over again and again, until the session has ended.
+fn finish(alloc: Global, world: &mut World<'_>, session: usize) -> Result<(), AllocError>
+    ensures world { OnOk result (world.new ≡ delivered MAX_MESSAGES world.old session) }
+    ensures ended { OnOk result (HasEnded session world.new) }
+{
+    let _count = world.sessions(); // which tells that so many deliveries end it
+    deliver_often(alloc, world, session, MAX_MESSAGES)
+}
+
+/// Does a step of a scenario. Behind a `finish` the session has ended.
 fn do_step(alloc: Global, world: &mut World<'_>, step: &ScenarioStep) -> Result<(), AllocError>
-    ensures { OnOk result (world.new ≡ after_step world.old step.now) }
+    ensures world { OnOk result (world.new ≡ after_step world.old step.now) }
+    ensures ended { OnOk result (EndsFinished step.now world.new) }
 {
     if let ScenarioStep::Finish(session) = step {
-        return deliver_often(alloc, world, *session, MAX_MESSAGES);
+        return finish(alloc, world, *session);
     }
     world.step(alloc, world_step(step))?;
     Ok(())
@@ -107,7 +117,8 @@ fn do_step(alloc: Global, world: &mut World<'_>, step: &ScenarioStep) -> Result<
 
 /// Does the steps of a scenario in turn.
 fn do_steps(alloc: Global, world: &mut World<'_>, steps: &[ScenarioStep]) -> Result<(), AllocError>
-    ensures { OnOk result (world.new ≡ after_steps world.old steps.now) }
+    ensures world { OnOk result (world.new ≡ after_steps world.old steps.now) }
+    ensures ended { OnOk result (FinishesEnd world.old steps.now) }
 {
     for step in steps {
         do_step(alloc, world, step)?;
@@ -115,9 +126,10 @@ fn do_steps(alloc: Global, world: &mut World<'_>, steps: &[ScenarioStep]) -> Res
     Ok(())
 }
 
-/// The lines of the sessions of a scenario that was run.
+/// The lines of the sessions of a scenario that was run. Behind each `finish` of it the session has ended.
 pub fn sim_text(alloc: Global, scenario: Scenario) -> Result<String, Fault>
-    ensures { IfOk result (λ text. string_bytes text ≡ sim_text scenario) }
+    ensures text { IfOk result (λ text. string_bytes text ≡ sim_text scenario) }
+    ensures ended { OnOk result (FinishesEnd (start_of scenario) scenario.steps) }
 {
     let Scenario { nodes, steps } = scenario;
     let setup = setup_of(alloc, nodes)?;

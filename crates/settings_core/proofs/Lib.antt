@@ -1,2 +1,4 @@
+mod Adding
 mod Numbers
 mod ScenarioReadings
+mod Values

@@ -1,6 +1,9 @@
+pub mod Calls
 pub mod Faults
+pub mod Files
 pub mod ItemFiles
 pub mod Nodes
+pub mod Program
 pub mod ScenarioFaults
 pub mod ScenarioOpens
 pub mod Scenarios

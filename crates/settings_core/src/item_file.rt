@@ -8,6 +8,7 @@ ghost use Rattle.definitions.specs.Items.{Item as Bytes};
 ghost use Rattle.hex.specs.Hex.{decode_of};
 ghost use Rattle.store_core.specs.Flat.{flat_items};
 ghost use Rattle.settings_core.specs.Faults.{IsStoreOf};
+ghost use Rattle.settings_core.specs.Files.{IsFromFile};
 ghost use Rattle.settings_core.specs.ItemFiles.{is_blank, without_front, without_end, digits_in, decoded, line_items, lines, lines_in, file_items};
 
 use crate::fault::SettingsFault;
@@ -143,6 +144,7 @@ pub fn read_items<R: Files + AllocGlobal>(
     path: &str,
     cap: usize,
 ) -> Result<FlatStore, SettingsFault>
+    ensures store { IsFromFile (λ text. IsStoreOf text cap) result }
     ensures few { IfOk result (λ s. length (flat_items s) ≤ cap) }
 {
     store_of(rt.alloc(), &read_file(rt, path)?, cap)

@@ -1,7 +1,12 @@
 //! The words of a call, read by `clap`.
 
-ghost use Rattle.std.specs.Prelude.{IfOk, IfSome};
+ghost use Rattle.std.specs.Prelude.{◌≡◌, ◌≢◌, codes, map, option_map, IfErr, IfOk, IfSome, IsSomeAnd, Some};
+ghost use Rattle.clap.specs.Words.{first_of, found_of, kind_of, rows_of, subcommand_rows_of};
+ghost use Rattle.settings_core.specs.Calls.{AsksFor, Finds, IsNumber, WordsAskFor};
+ghost use Rattle.settings_core.specs.Program.{IsWord, IsCommand};
+ghost use Rattle.settings_core.specs.Program as program;
 ghost use Rattle.settings_core.specs.Spans.{IsWorkerCount, IsSessionCount, AreInSpan};
+ghost use Rattle.settings_core.specs.declared.words.WordsFault.TheVariants as faults;
 
 use clap::error::ErrorKind;
 use clap::{Arg, ArgAction, ArgMatches, value_parser};
@@ -67,26 +72,34 @@ pub enum WordsFault {
 }
 
 impl From<AllocError> for WordsFault {
+    ghost from_gives = { λ _ e. e ≡ faults.Memory };
+
     fn from(_refused: AllocError) -> WordsFault {
         WordsFault::Memory
     }
 }
 
 impl<T: Drop> From<AllocFailed<T>> for WordsFault {
+    ghost from_gives = { λ _ e. e ≡ faults.Memory };
+
     fn from(_refused: AllocFailed<T>) -> WordsFault {
         WordsFault::Memory
     }
 }
 
 /// The word for an item file.
-fn items_word<'a>(alloc: Global) -> Arg<'a> {
+fn items_word<'a>(alloc: Global) -> Arg<'a>
+    ensures { IsWord program.items result }
+{
     Arg::new(alloc, "ITEMS")
         .help("A file of items, one a line in hex")
         .required(true)
 }
 
 /// The word for the strategy of a session.
-fn table_word<'a>(alloc: Global) -> Arg<'a> {
+fn table_word<'a>(alloc: Global) -> Arg<'a>
+    ensures { IsWord program.table result }
+{
     Arg::new(alloc, "table")
         .long("table")
         .value_name("FILE")
@@ -95,7 +108,9 @@ fn table_word<'a>(alloc: Global) -> Arg<'a> {
 }
 
 /// The word for an address, with what is done there.
-fn address_word<'a>(alloc: Global, help: &'a str) -> Arg<'a> {
+fn address_word<'a>(alloc: Global, help: &'a str) -> Arg<'a>
+    ensures { IsWord program.address result }
+{
     Arg::new(alloc, "addr")
         .long("addr")
         .value_name("A")
@@ -104,7 +119,9 @@ fn address_word<'a>(alloc: Global, help: &'a str) -> Arg<'a> {
 }
 
 /// The words of `answer`.
-fn answer_words<'a>(alloc: Global) -> Result<clap::Command<'a>, AllocError> {
+fn answer_words<'a>(alloc: Global) -> Result<clap::Command<'a>, AllocError>
+    ensures { IfOk result (IsCommand program.answer) }
+{
     let hex = Arg::new(alloc, "hex")
         .long("hex")
         .help("Read and write hex text, one frame a line [default: bytes]")
@@ -116,7 +133,9 @@ fn answer_words<'a>(alloc: Global) -> Result<clap::Command<'a>, AllocError> {
 }
 
 /// The words of `check`.
-fn check_words<'a>(alloc: Global) -> Result<clap::Command<'a>, AllocError> {
+fn check_words<'a>(alloc: Global) -> Result<clap::Command<'a>, AllocError>
+    ensures { IfOk result (IsCommand program.check) }
+{
     let file = Arg::new(alloc, "FILE")
         .help("A strategy in TOML")
         .required(true);
@@ -126,14 +145,18 @@ fn check_words<'a>(alloc: Global) -> Result<clap::Command<'a>, AllocError> {
 }
 
 /// The words of `sim`.
-fn sim_words<'a>(alloc: Global) -> clap::Command<'a> {
+fn sim_words<'a>(alloc: Global) -> clap::Command<'a>
+    ensures { IsCommand program.sim result }
+{
     clap::Command::new(alloc, "sim").about(
         "Run a scenario from standard input and print what its sessions learned",
     )
 }
 
 /// The word for the number of workers.
-fn workers_word<'a>(alloc: Global) -> Arg<'a> {
+fn workers_word<'a>(alloc: Global) -> Arg<'a>
+    ensures { IsWord program.workers result }
+{
     Arg::new(alloc, "workers")
         .long("workers")
         .value_name("N")
@@ -143,7 +166,9 @@ fn workers_word<'a>(alloc: Global) -> Arg<'a> {
 }
 
 /// The word for the number of connections.
-fn sessions_word<'a>(alloc: Global) -> Arg<'a> {
+fn sessions_word<'a>(alloc: Global) -> Arg<'a>
+    ensures { IsWord program.sessions result }
+{
     Arg::new(alloc, "sessions")
         .long("sessions")
         .value_name("N")
@@ -152,7 +177,9 @@ fn sessions_word<'a>(alloc: Global) -> Arg<'a> {
 }
 
 /// The words of `serve`.
-fn serve_words<'a>(alloc: Global) -> Result<clap::Command<'a>, AllocError> {
+fn serve_words<'a>(alloc: Global) -> Result<clap::Command<'a>, AllocError>
+    ensures { IfOk result (IsCommand program.serve) }
+{
     clap::Command::new(alloc, "serve")
         .about("Answer the sessions of those who connect")
         .arg(table_word(alloc))?
@@ -163,7 +190,9 @@ fn serve_words<'a>(alloc: Global) -> Result<clap::Command<'a>, AllocError> {
 }
 
 /// The words of `sync`.
-fn sync_words<'a>(alloc: Global) -> Result<clap::Command<'a>, AllocError> {
+fn sync_words<'a>(alloc: Global) -> Result<clap::Command<'a>, AllocError>
+    ensures { IfOk result (IsCommand program.sync) }
+{
     clap::Command::new(alloc, "sync")
         .about("Run one session and print which items each side lacks")
         .arg(table_word(alloc))?
@@ -172,7 +201,9 @@ fn sync_words<'a>(alloc: Global) -> Result<clap::Command<'a>, AllocError> {
 }
 
 /// All words of the program.
-fn program_words<'a>(alloc: Global) -> Result<clap::Command<'a>, AllocError> {
+fn program_words<'a>(alloc: Global) -> Result<clap::Command<'a>, AllocError>
+    ensures { IfOk result (IsCommand program.program) }
+{
     clap::Command::new(alloc, "rangesync")
         .about("Find out which items each of two peers lacks")
         .version("0.1.0")
@@ -186,56 +217,81 @@ fn program_words<'a>(alloc: Global) -> Result<clap::Command<'a>, AllocError> {
 
 /// The number of workers, which `clap` has read in its span.
 fn workers_in(matches: &ArgMatches<'_>) -> Option<u8>
-    ensures { IfSome result IsWorkerCount }
+    ensures { Finds (λ n. IsNumber (codes "workers") (rows_of (found_of matches.now)) (Some n)
+        × IsWorkerCount n) result }
 {
     let workers = matches.get_one::<u8>("workers")?;
     (1..=MAX_WORKERS).contains(&workers).then_some(workers)
 }
 
 /// The number of connections, if one is given, which `clap` has read in its span.
-fn sessions_in(matches: &ArgMatches<'_>) -> Option<u32>
-    ensures { IfSome result IsSessionCount }
+fn sessions_in(matches: &ArgMatches<'_>) -> Option<Option<u32>>
+    ensures { Finds (λ n. IsNumber (codes "sessions") (rows_of (found_of matches.now)) n
+        × IfSome n IsSessionCount) result }
 {
-    let sessions = matches.get_one::<u32>("sessions")?;
-    (1..=MAX_SESSIONS).contains(&sessions).then_some(sessions)
+    match matches.try_get_one::<u32>("sessions").ok()? {
+        Some(count) if !(1..=MAX_SESSIONS).contains(&count) => None,
+        sessions => Some(sessions),
+    }
+}
+
+/// The text that is given for an argument.
+fn text_in<'a>(matches: &ArgMatches<'a>, id: &str) -> Option<&'a str>
+    ensures { option_map (λ text. text.now) result ≡ first_of id.now (rows_of (found_of matches.now)) }
+{
+    matches.get_str(id)
+}
+
+/// What the words of `answer` ask for.
+fn answer_in<'a>(matches: &ArgMatches<'a>) -> Option<Command<'a>>
+    ensures { Finds (AsksFor (codes "answer") (rows_of (found_of matches.now))) result }
+{
+    Some(Command::Answer {
+        hexed: matches.get_flag("hex"),
+        items: text_in(matches, "ITEMS")?,
+    })
+}
+
+/// What the words of `check` ask for.
+fn check_in<'a>(matches: &ArgMatches<'a>) -> Option<Command<'a>>
+    ensures { Finds (AsksFor (codes "check") (rows_of (found_of matches.now))) result }
+{
+    Some(Command::Check {
+        file: text_in(matches, "FILE")?,
+    })
 }
 
 /// What the words of `serve` ask for.
 fn serve_in<'a>(matches: &ArgMatches<'a>) -> Option<Command<'a>>
-    ensures { IfSome result AreInSpan }
+    ensures { Finds (AsksFor (codes "serve") (rows_of (found_of matches.now))) result }
 {
     Some(Command::Serve {
-        table: matches.get_str("table")?,
-        address: matches.get_str("addr")?,
+        table: text_in(matches, "table")?,
+        address: text_in(matches, "addr")?,
         workers: workers_in(matches)?,
-        sessions: sessions_in(matches),
-        items: matches.get_str("ITEMS")?,
+        sessions: sessions_in(matches)?,
+        items: text_in(matches, "ITEMS")?,
     })
 }
 
 /// What the words of `sync` ask for.
 fn sync_in<'a>(matches: &ArgMatches<'a>) -> Option<Command<'a>>
-    ensures { IfSome result AreInSpan }
+    ensures { Finds (AsksFor (codes "sync") (rows_of (found_of matches.now))) result }
 {
     Some(Command::Sync {
-        table: matches.get_str("table")?,
-        address: matches.get_str("addr")?,
-        items: matches.get_str("ITEMS")?,
+        table: text_in(matches, "table")?,
+        address: text_in(matches, "addr")?,
+        items: text_in(matches, "ITEMS")?,
     })
 }
 
 /// What words that fit ask for.
 fn command_in<'a>(matches: &ArgMatches<'a>) -> Option<Command<'a>>
-    ensures { IfSome result AreInSpan }
+    ensures { Finds (λ c. IsSomeAnd (subcommand_rows_of matches.now) (λ p. AsksFor p.0 p.1 c)) result }
 {
     match matches.subcommand()? {
-        ("answer", inner) => Some(Command::Answer {
-            hexed: inner.get_flag("hex"),
-            items: inner.get_str("ITEMS")?,
-        }),
-        ("check", inner) => Some(Command::Check {
-            file: inner.get_str("FILE")?,
-        }),
+        ("answer", inner) => answer_in(inner),
+        ("check", inner) => check_in(inner),
         ("sim", _) => Some(Command::Sim),
         ("serve", inner) => serve_in(inner),
         ("sync", inner) => sync_in(inner),
@@ -244,7 +300,9 @@ fn command_in<'a>(matches: &ArgMatches<'a>) -> Option<Command<'a>>
 }
 
 /// What `clap` answers to words that don't fit.
-fn words_fault(alloc: Global, error: &clap::Error) -> WordsFault {
+fn words_fault(alloc: Global, error: &clap::Error) -> WordsFault
+    ensures { kind_of error.now ≡ ErrorKind.OutOfMemory → result ≡ WordsFault.Memory }
+{
     if error.kind() == ErrorKind::OutOfMemory {
         return WordsFault::Memory;
     }
@@ -257,10 +315,19 @@ fn words_fault(alloc: Global, error: &clap::Error) -> WordsFault {
 
 /// What the words ask for. The first is the program's own name. Numbers out of their span ask for nothing.
 pub fn read_words<'a, W: AsStr>(alloc: Global, words: &'a [W]) -> Result<Command<'a>, WordsFault>
-    ensures { IfOk result AreInSpan }
+    ensures asked { IfOk result (WordsAskFor (map W.text words.entry.now)) }
+    ensures refused { IfErr result (λ e. e ≢ WordsFault.Memory →
+        (c : Command) → WordsAskFor (map W.text words.entry.now) c → ⊥) }
+    ensures span { IfOk result AreInSpan }
 {
     match program_words(alloc)?.try_get_matches_from(words) {
         Err(error) => Err(words_fault(alloc, &error)),
-        Ok(matches) => command_in(&matches).ok_or(WordsFault::Memory),
+        Ok(matches) => match command_in(&matches) {
+            Some(command) => Ok(command),
+            // `clap` accepts no such words; that it does not is not proved.
+            None => Err(WordsFault::Usage(format!(in alloc;
+                "error: the words ask for nothing that is done\n"
+            )?)),
+        },
     }
 }

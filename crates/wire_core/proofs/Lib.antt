@@ -6,4 +6,5 @@ pub mod Exact
 pub mod Same
 pub mod Feeding
 pub mod Held
+pub mod Nexts
 pub mod Waiting

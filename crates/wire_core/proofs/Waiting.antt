@@ -36,7 +36,7 @@ start_hello P bytes false true = behind_hello P (length bytes) 0 (drop 4 bytes)
 start_hello P bytes false false = refl
 
 -- the hello is due where fewer than four bytes have come
-hello_few : {F : Type 0} (P : Profile F) (bytes : List ℕ) → feed_start P bytes ≡ stays Before_hello bytes → length bytes < 4
+pub hello_few : {F : Type 0} (P : Profile F) (bytes : List ℕ) → feed_start P bytes ≡ stays Before_hello bytes → length bytes < 4
 hello_few {F} P bytes read =
     let due : nat_lt (length bytes) 4 ≡ true = sym (start_hello P bytes (nat_lt (length bytes) 4) (bytes_eq (take 4 bytes) P.hello)) ∙ ap (λ (f : Fed F). is_hello f.to) read in
     ltb-true _ _ due

@@ -2,15 +2,21 @@
 --     StreamState                    where a stream stands, and the bytes that are kept of it
 --     fed_into events state          what is fed: events, and the state behind them
 --     Holds state bytes events       all that came so far: its bytes, from the hello on, and its events
+--     events_since old new           the events that came behind the old ones
+--     Continues old piece new        what a state holds, the next one holds with the piece and its events behind it
 --     is_before_hello standing       whether the hello is due
 --     fault_at standing              the fault that a stream has, if any
 --     refusal_in, fault_in           the number of a refusal
 --     UnlessMemory, IfMemory         what holds unless memory ran out, and where it did
-use Rattle.std.specs.Prelude.{◌≡◌, ℕ, Bool, true, false, List, Option, Some, None, Result, Ok, Err, ⊤}
+use Rattle.std.specs.Prelude.{◌≡◌, ℕ, Bool, true, false, List, ◌++◌, length, drop, ⊤}
+use Rattle.std.specs.Prelude.{Option, Some, None, Result, Ok, Err}
+use Rattle.definitions.specs.Items.{IsBytes}
 use Rattle.definitions.specs.Fingerprints.{Lanes}
 use Rattle.definitions.specs.Wire.{two_lane_profile, Event}
 use Rattle.definitions.specs.Streams.{Standing, Before_hello, In_message, Meaning_over, Faulted, Fed, feed}
+use Rattle.wire_core.specs.Events.{event_values}
 use Rattle.wire_core.specs.Refused.{fault_number, decode_error_number}
+use Rattle.wire_core.specs.declared.event.Event as declared
 use Rattle.wire_core.specs.declared.fault.WireFault.{WireFault}
 use Rattle.wire_core.specs.declared.fault.DecodeError.{DecodeError}
 use Rattle.wire_core.specs.declared.fault.DecodeError.TheVariants as errors
@@ -25,6 +31,14 @@ fed_into events state = record { events = events; to = state.standing; kept = st
 -- the bytes of a stream so far, from the hello on, are these events and then this state
 abbrev pub Holds : StreamState → List ℕ → List (Event Lanes) → Type 0
 Holds state bytes events = feed two_lane_profile Before_hello bytes ≡ fed_into events state
+
+abbrev pub events_since : List declared.Event → List declared.Event → List (Event Lanes)
+events_since old new = event_values (drop (length old) new)
+
+-- whatever the stream's bytes and events were so far, they go on with the piece and with what it is fed to
+abbrev pub Continues : StreamState → List ℕ → StreamState → Type 0
+Continues old piece new = (bytes : List ℕ) (events : List (Event Lanes)) → IsBytes bytes → Holds old bytes events →
+    Holds new (bytes ++ piece) (events ++ (feed two_lane_profile old.standing (old.kept ++ piece)).events)
 
 -- the hello is due
 abbrev pub is_before_hello : Standing → Bool

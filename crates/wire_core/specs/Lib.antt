@@ -17,3 +17,4 @@ pub mod Watch
 pub mod Events
 pub mod Standings
 pub mod Feeds
+pub mod Nexts

@@ -1,23 +1,23 @@
-ghost use Rattle.std.specs.Prelude.{◌≡◌, ℕ, [], List, ◌++◌, ◌+◌, ◌<◌, length, take};
-ghost use Rattle.definitions.specs.Items.{IsBytes};
-ghost use Rattle.definitions.specs.Fingerprints.{Lanes};
+ghost use Rattle.std.specs.Prelude.{◌≡◌, true, [], ◌++◌, ◌+◌, ◌<◌, length, take};
 ghost use Rattle.definitions.specs.Wire.{two_lane_profile, max_body};
-ghost use Rattle.definitions.specs.Wire as wire;
-ghost use Rattle.definitions.specs.Streams.{Before_hello, feed, finish_fault};
+ghost use Rattle.definitions.specs.Streams.{Before_hello, feed, Means, finish_fault};
 ghost use Rattle.wire_core.specs.Events.{event_values};
-ghost use Rattle.wire_core.specs.Standings.{behind};
-ghost use Rattle.wire_core.specs.Feeds.{fed_into, Holds, fault_at, fault_in, refusal_in, UnlessMemory, IfMemory, is_before_hello};
+ghost use Rattle.wire_core.specs.Standings.{is_over, behind};
+ghost use Rattle.wire_core.specs.Feeds.{fed_into, events_since, Continues, fault_at, fault_in, refusal_in};
+ghost use Rattle.wire_core.specs.Feeds.{UnlessMemory, IfMemory, is_before_hello};
+ghost use Rattle.wire_core.specs.Nexts.{TakesNext, taken_by};
 
 use crate::event::Event;
 use crate::fault::{DecodeError, WireFault};
-use crate::pieces::{are_few, keep, read_behind};
+use crate::pieces::{are_few, keep, next_length, read_behind};
 use crate::standing::Standing;
 use crate::stream::are_bytes;
 use digest_core::Fingerprint;
 use std::alloc::Global;
 use std::marker::Model;
 
-/// A stream that comes in pieces: a hello, and then frames. Keeps the bytes of an unfinished hello or frame, and no more.
+/// A stream that comes in pieces: a hello, and then frames. Keeps the bytes of an unfinished hello or frame, and no
+/// more.
 #[derive(Debug, Drop)]
 pub struct Feed {
     standing: Standing,
@@ -53,30 +53,54 @@ impl Feed {
 
     /// Reads on in the stream, and appends the events that the piece completes.
     ///
-    /// The first fault, 1 to 12, is answered at the byte that tells it, behind the events before it, and at every later
-    /// call. Where memory runs out, the feed and the events are as before the call.
+    /// Which events these are is the relation `Means`: the kept bytes and the piece, from where the stream stood, are
+    /// their texts, and then what is kept. The first fault, 1 to 12, is answered at the byte that tells it, behind the
+    /// events before it, and at every later call. Where memory runs out, the feed and the events are as before the
+    /// call. Behind a fault or a fault frame no memory is wanted.
     pub fn feed(
         &mut self,
         alloc: Global,
         piece: &[u8],
         out: &mut Vec<Event>,
     ) -> Result<(), DecodeError>
-        // The kept bytes and the piece are fed from where the stream stood.
+        // The meaning, by the grammar of a stream.
+        ensures means { UnlessMemory result (Means two_lane_profile self.old.standing
+            (events_since out.old.items out.new.items) (self.old.kept ++ piece.now) self.new.standing self.new.kept) }
+        // The same by computation.
         ensures fed { UnlessMemory result (behind (event_values out.old.items)
             (feed two_lane_profile self.old.standing (self.old.kept ++ piece.now))
             ≡ fed_into (event_values out.new.items) self.new) }
         ensures before { take (length out.old.items) out.new.items ≡ out.old.items }
         ensures fault { UnlessMemory result (refusal_in result ≡ fault_at self.new.standing) }
         ensures memory { IfMemory result ((self.new ≡ self.old) × (out.new.items ≡ out.old.items)) }
+        // Where what follows counts no more, it answers the fault that there is, if any, and never 90.
+        ensures over { is_over self.old.standing ≡ true →
+            (refusal_in result ≡ fault_at self.old.standing) × IfMemory result ⊥ }
         // The cutting does not matter: the events of all calls are those of the stream.
-        ensures joined { UnlessMemory result ((bytes : List ℕ) (events : List (wire.Event Lanes)) → IsBytes bytes →
-            Holds self.old bytes events →
-            Holds self.new (bytes ++ piece.now)
-            (events ++ (feed two_lane_profile self.old.standing (self.old.kept ++ piece.now)).events)) }
+        ensures joined { UnlessMemory result (Continues self.old piece.now self.new) }
     {
         codec_laws::two_lanes_are_real();
+        codec_laws::feed_is_exact::<Fingerprint>();
         codec_laws::feeds_join::<Fingerprint>();
+        are_bytes(&self.kept);
         are_bytes(piece);
+        self.read(alloc, piece, out)
+    }
+
+    /// Reads on, with the clauses of `feed` that need no law.
+    fn read(&mut self, alloc: Global, piece: &[u8], out: &mut Vec<Event>) -> Result<(), DecodeError>
+        ensures fed { UnlessMemory result (behind (event_values out.old.items)
+            (feed two_lane_profile self.old.standing (self.old.kept ++ piece.now))
+            ≡ fed_into (event_values out.new.items) self.new) }
+        ensures before { take (length out.old.items) out.new.items ≡ out.old.items }
+        ensures fault { UnlessMemory result (refusal_in result ≡ fault_at self.new.standing) }
+        ensures memory { IfMemory result ((self.new ≡ self.old) × (out.new.items ≡ out.old.items)) }
+        ensures over { is_over self.old.standing ≡ true →
+            (refusal_in result ≡ fault_at self.old.standing) × IfMemory result ⊥ }
+    {
+        if self.standing.is_over() {
+            return Ok(self.standing.fault()?);
+        }
         if keep(&mut self.kept, piece, self.standing)? {
             return Ok(());
         }
@@ -93,6 +117,32 @@ impl Feed {
                 Err(DecodeError::from(refused))
             }
         }
+    }
+
+    /// Takes the next event off the front of a piece: gives the number of bytes that it took, and the event.
+    ///
+    /// It takes at least one byte, and none behind the event's frame. Where the piece ends inside the hello or a frame,
+    /// or the stream is over by a fault frame, it takes all of it and gives no event. A fault is answered at the byte
+    /// that tells it, and at every later call. Where memory runs out, the feed is as before the call.
+    pub fn next(
+        &mut self,
+        alloc: Global,
+        piece: &[u8],
+    ) -> Result<(usize, Option<Event>), DecodeError>
+        ensures next { TakesNext self.old piece.now result self.new }
+        ensures fault { UnlessMemory result (refusal_in result ≡ fault_at self.new.standing) }
+        // The events of all calls are those of the stream.
+        ensures joined { UnlessMemory result (Continues self.old (taken_by result piece.now) self.new) }
+    {
+        codec_laws::two_lanes_are_real();
+        codec_laws::next_is_exact::<Fingerprint>();
+        codec_laws::feeds_join::<Fingerprint>();
+        are_bytes(&self.kept);
+        are_bytes(piece);
+        let taken = next_length(&self.kept, piece, self.standing);
+        let mut events = Vec::new(alloc);
+        self.read(alloc, &piece[..taken], &mut events)?;
+        Ok((taken, events.pop()))
     }
 
     /// Whether not all of the four bytes of the hello have come.

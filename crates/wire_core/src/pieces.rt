@@ -1,13 +1,15 @@
 //! A stream that comes in pieces: the bytes that are kept of an unfinished hello or frame, and a piece behind them.
 
-ghost use Rattle.std.specs.Prelude.{◌≡◌, ℕ, ◌+◌, ◌-◌, ◌<◌, ◌≤◌, true, false, None, List, ◌++◌, IfOk, OnOk, OnErr, length, take, drop};
+ghost use Rattle.std.specs.Prelude.{◌≡◌, ℕ, ◌+◌, ◌-◌, ◌^◌, ◌<◌, ◌≤◌, true, false, None, List, ◌++◌, length, take, drop};
+ghost use Rattle.std.specs.Prelude.{IfOk, OnOk, OnErr, slice_index};
 ghost use Rattle.std.specs.Int.{w32, from_be_bytes};
 ghost use Rattle.definitions.specs.Items.{IsBytes};
 ghost use Rattle.definitions.specs.Wire.{two_lane_profile, max_body};
 ghost use Rattle.definitions.specs.Streams.{feed, stays};
 ghost use Rattle.wire_core.specs.Events.{event_values};
-ghost use Rattle.wire_core.specs.Standings.{standing_of, behind, fed_as};
+ghost use Rattle.wire_core.specs.Standings.{standing_of, is_over, behind, fed_as};
 ghost use Rattle.wire_core.specs.Feeds.{fault_at};
+ghost use Rattle.wire_core.specs.Nexts.{IsReach};
 
 use crate::event::Event;
 use crate::standing::Standing;
@@ -62,8 +64,9 @@ fn append(kept: &mut Vec<u8>, piece: &[u8]) -> Result<(), AllocError>
 
 /// Keeps a piece that does not end the unfinished hello or frame, and tells whether it did.
 pub fn keep(kept: &mut Vec<u8>, piece: &[u8], standing: Standing) -> Result<bool, AllocError>
-    requires { feed two_lane_profile (standing_of standing) kept.old.items
+    requires read { feed two_lane_profile (standing_of standing) kept.old.items
         ≡ stays (standing_of standing) kept.old.items }
+    requires counts { is_over (standing_of standing) ≡ false }
     // The piece is kept, and no event or fault comes of it.
     ensures kept { IfOk result (λ is_kept. is_kept ≡ true → (kept.new.items ≡ kept.old.items ++ piece.now)
         × (feed two_lane_profile (standing_of standing) kept.new.items
@@ -71,7 +74,7 @@ pub fn keep(kept: &mut Vec<u8>, piece: &[u8], standing: Standing) -> Result<bool
     ensures same { IfOk result (λ is_kept. is_kept ≡ false → kept.new.items ≡ kept.old.items) }
     ensures memory { OnErr result (kept.new.items ≡ kept.old.items) }
 {
-    if standing.is_over() || piece.len() >= wanted(kept) {
+    if piece.len() >= wanted(kept) {
         return Ok(false);
     }
     append(kept, piece)?;
@@ -169,4 +172,46 @@ pub fn read_behind(
         rest = back;
     }
     read_rest(alloc, kept, taken, rest, there, out)
+}
+
+/// The byte at a place of the kept bytes and the piece behind them.
+fn byte_at(kept: &[u8], piece: &[u8], index: usize) -> u8
+    requires { index < length kept.now + length piece.now }
+    ensures { result ≡ slice_index (kept.now ++ piece.now) index }
+{
+    if index < kept.len() {
+        kept[index]
+    } else {
+        piece[index - kept.len()]
+    }
+}
+
+/// The length that stands at a place of the kept bytes and the piece behind them.
+fn length_at(kept: &[u8], piece: &[u8], start: usize) -> usize
+    requires { start + 4 ≤ length kept.now + length piece.now }
+    ensures number { result ≡ from_be_bytes w32 (take 4 (drop start (kept.now ++ piece.now))) }
+    ensures small { result < 2 ^ 32 }
+{
+    u32::from_be_bytes([
+        byte_at(kept, piece, start),
+        byte_at(kept, piece, start + 1),
+        byte_at(kept, piece, start + 2),
+        byte_at(kept, piece, start + 3),
+    ]) as usize
+}
+
+/// How many bytes of a piece belong to what stands next: the hello where it is due, and one frame.
+pub fn next_length(kept: &[u8], piece: &[u8], standing: Standing) -> usize
+    ensures within { result ≤ length piece.now }
+    ensures over { is_over (standing_of standing) ≡ true → result ≡ length piece.now }
+    ensures reach { is_over (standing_of standing) ≡ false →
+        IsReach (standing_of standing) kept.now piece.now result }
+{
+    let start = standing.hello_length();
+    let wanted = (start + 4).saturating_sub(kept.len());
+    if standing.is_over() || piece.len() < wanted {
+        return piece.len();
+    }
+    let end = start + 4 + length_at(kept, piece, start);
+    end.saturating_sub(kept.len()).min(piece.len())
 }

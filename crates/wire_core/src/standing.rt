@@ -1,6 +1,7 @@
-ghost use Rattle.std.specs.Prelude.{◌≡◌};
+ghost use Rattle.std.specs.Prelude.{◌≡◌, ◌≤◌, length};
 ghost use Rattle.wire_core.specs.Standings.{standing_of, is_over, left_at};
 ghost use Rattle.wire_core.specs.Feeds.{fault_at, fault_in};
+ghost use Rattle.wire_core.specs.Nexts.{hello_due};
 
 use crate::fault::WireFault;
 
@@ -34,6 +35,17 @@ impl Standing {
         match self {
             Standing::BeforeHello | Standing::InMessage(_) => bytes,
             Standing::MeaningOver | Standing::Faulted(_) => &[],
+        }
+    }
+
+    /// The length of the hello, where it is due, and else 0.
+    pub fn hello_length(self) -> usize
+        ensures length { result ≡ length (hello_due (standing_of self)) }
+        ensures short { result ≤ 4 }
+    {
+        match self {
+            Standing::BeforeHello => 4,
+            _ => 0,
         }
     }
 

@@ -39,6 +39,15 @@ absorb_idle laws w nodes lives k l side v runs here more =
     subst (λ t. absorb_at two_lanes t side (slice_get t.sessions k) ≡ (t, worlds.Idle)) v
     (ap (absorb_at two_lanes u side) (found_in nodes lives k l here) ∙ cond-false (has_ended two_lanes u (session_of l)) _ _ going)
 
+-- each message that was made was delivered
+over_at : Laws → (w : World) (nodes : List Node) (lives : List Session) (k : ℕ) (l : Session) →
+    world_of nodes lives ≡ w → IsRunning nodes lives →
+    slice_get lives k ≡ Some l → made l ≤ l.delivered → has_ended two_lanes w (session_of l) ≡ true
+over_at laws w nodes lives k l e runs here less =
+    subst (λ t. has_ended two_lanes t (session_of l) ≡ true) e
+    (ended_at laws nodes lives k l runs here
+    ∙ eq-eqb (made l) l.delivered (omega (arith, few_at laws nodes lives k l runs here)))
+
 by_side : (w : World) (s : worlds.Session) (side : worlds.Side) →
     absorb_side two_lanes w s side ≡ (absorbing w (node_of s side) (node_at w (node_of s side)) (theirs_of w s side), worlds.Absorbed (absorbed_at w (node_of s side) (theirs_of w s side)).added)
 by_side w s worlds.Initiator = refl
@@ -51,7 +60,7 @@ pub absorb_is : Laws → (w : World) (nodes : List Node) (lives : List Session) 
 absorb_is laws w nodes lives k l side items v runs here less learned =
     let u : World = world_of nodes lives in
     let s : worlds.Session = session_of l in
-    let over : has_ended two_lanes u s ≡ true = ended_at laws nodes lives k l runs here ∙ eq-eqb (made l) l.delivered (omega (arith, few_at laws nodes lives k l runs here)) in
+    let over : has_ended two_lanes u s ≡ true = over_at laws u nodes lives k l refl runs here less in
     let same : theirs_of u s side ≡ items = learned_is u l side (tells_at laws nodes lives k l runs here) ∙ sym learned in
     subst (λ t. absorb_at two_lanes t side (slice_get t.sessions k) ≡ (absorbing t (node_of s side) (node_at t (node_of s side)) items, worlds.Absorbed (absorbed_at t (node_of s side) items).added)) v
     (ap (absorb_at two_lanes u side) (found_in nodes lives k l here) ∙ cond-true (has_ended two_lanes u s) _ _ over ∙ by_side u s side
@@ -59,23 +68,39 @@ absorb_is laws w nodes lives k l side items v runs here less learned =
 
 -- where memory runs out, some were put in
 pub absorbs_some : Laws → (w v : World) (nodes : List Node) (lives : List Session) (k : ℕ) (l : Session) (side : worlds.Side) (items : List Item) (count : ℕ) → world_of nodes lives ≡ w → IsRunning nodes lives →
-    slice_get lives k ≡ Some l → items ≡ set_of (learned_by l side).theirs →
+    slice_get lives k ≡ Some l → made l ≤ l.delivered → items ≡ set_of (learned_by l side).theirs →
     v ≡ absorbing w (node_of (session_of l) side) (node_at w (node_of (session_of l) side)) (take count items) → AbsorbsSome w k side v
-absorbs_some laws w v nodes lives k l side items count e runs here learned is =
+absorbs_some laws w v nodes lives k l side items count e runs here less learned is =
     let u : World = world_of nodes lives in
     let s : worlds.Session = session_of l in
     let same : items ≡ theirs_of u s side = learned ∙ sym (learned_is u l side (tells_at laws nodes lives k l runs here)) in
     let found : slice_get w.sessions k ≡ Some s = subst (λ t. slice_get t.sessions k ≡ Some s) e (found_in nodes lives k l here) in
-    (s, count, found, is ∙ ap (λ xs. absorbing w (node_of s side) (node_at w (node_of s side)) (take count xs)) (subst (λ t. items ≡ theirs_of t s side) e same))
+    let over : has_ended two_lanes w s ≡ true = over_at laws w nodes lives k l e runs here less in (
+      s,
+      count,
+      found,
+      over,
+      is
+          ∙ ap (λ xs. absorbing w (node_of s side) (node_at w (node_of s side)) (take count xs))
+          (subst (λ t. items ≡ theirs_of t s side) e same),
+    )
 
 abbrev with_all : World → List Node → World
 with_all w ns = record w { nodes = ns }
 
-pub absorbs_none : (w : World) (nodes : List Node) (lives : List Session) (k : ℕ) (l : Session) (side : worlds.Side) → world_of nodes lives ≡ w → slice_get lives k ≡ Some l → AbsorbsSome w k side w
-absorbs_none w nodes lives k l side e here =
+pub absorbs_none : Laws →
+    (w : World) (nodes : List Node) (lives : List Session) (k : ℕ) (l : Session) (side : worlds.Side) →
+    world_of nodes lives ≡ w → IsRunning nodes lives →
+    slice_get lives k ≡ Some l → made l ≤ l.delivered → AbsorbsSome w k side w
+absorbs_none laws w nodes lives k l side e runs here less =
     let s : worlds.Session = session_of l in
-    let found : slice_get w.sessions k ≡ Some s = subst (λ t. slice_get t.sessions k ≡ Some s) e (found_in nodes lives k l here) in
-    (s, 0, found, ap (λ ns. with_all w ns) (sym (set-get_or w.nodes (node_of s side) no_node)))
+    let found : slice_get w.sessions k ≡ Some s = subst (λ t. slice_get t.sessions k ≡ Some s) e (found_in nodes lives k l here) in (
+      s,
+      0,
+      found,
+      over_at laws w nodes lives k l e runs here less,
+      ap (λ ns. with_all w ns) (sym (set-get_or w.nodes (node_of s side) no_node)),
+    )
 
 -- ==== The report
 
@@ -122,11 +147,13 @@ absorbed_did f (Ok d) w n m xs ys p ok same items is = ok ∙ ap (λ k. worlds.A
 absorbed_did f (Err d) w n m xs ys p ok same items is = tt
 
 pub absorbed_memory : {D E : Type 0} (r : Result D E) → Laws → (w v : World) (nodes : List Node) (lives : List Session) (k : ℕ) (l : Session) (side : worlds.Side) (n : ℕ) (xs : List Item) → world_of nodes lives ≡ w → IsRunning nodes lives →
-    slice_get lives k ≡ Some l → xs ≡ set_of (learned_by l side).theirs → n ≡ node_of (session_of l) side →
+    slice_get lives k ≡ Some l → made l ≤ l.delivered → xs ≡ set_of (learned_by l side).theirs →
+    n ≡ node_of (session_of l) side →
     OnErr r ((count : ℕ) × (v ≡ absorbing w n (node_at w n) (take count xs))) → OnErr r (AbsorbsSome w k side v)
-absorbed_memory (Ok d) laws w v nodes lives k l side n xs e runs here learned same err = tt
-absorbed_memory (Err d) laws w v nodes lives k l side n xs e runs here learned same err =
-    absorbs_some laws w v nodes lives k l side xs err.0 e runs here learned (err.1 ∙ ap (λ m. absorbing w m (node_at w m) (take err.0 xs)) same)
+absorbed_memory (Ok d) laws w v nodes lives k l side n xs e runs here less learned same err = tt
+absorbed_memory (Err d) laws w v nodes lives k l side n xs e runs here less learned same err =
+    absorbs_some laws w v nodes lives k l side xs err.0 e runs here less learned
+    (err.1 ∙ ap (λ m. absorbing w m (node_at w m) (take err.0 xs)) same)
 
 pub OnErr-any : {D E : Type 0} (r : Result D E) (P : Type 0) → P → OnErr r P
 OnErr-any (Ok d) P p = tt

@@ -11,7 +11,8 @@ use Rattle.definitions.specs.Worlds as worlds
 use Rattle.laws.specs.Sessions.{Keeps, SessionsStay, SessionsOpen, SessionsKeepNodes}
 use Rattle.ends_core.specs.Held.{Held}
 use Rattle.world_core.specs.declared.session.Session.{Session}
-use Rattle.world_core.specs.Live.{session_of, kept_of, IsKept, world_of, Came, IsRunning, beginning}
+use Rattle.world_core.specs.Live.{session_of, kept_of, IsKept, world_of, IsRunning, beginning}
+use Rattle.world_core.specs.Runs.{Came}
 
 -- ==== Nodes keep their staircases
 

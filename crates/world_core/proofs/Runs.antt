@@ -1,13 +1,13 @@
 -- What holds of each run, and of each step, by the laws.
-use Rattle.std.proofs.Common.{◌≡◌, sym, subst, arith, ◌+◌, List, take}
+use Rattle.std.proofs.Common.{◌≡◌, sym, ap, ◌∙◌, subst, arith, true, ◌+◌, ◌++◌, List, slice_get, take}
 use Rattle.std.specs.Prelude.{Result, Ok, Err, OnOk, unwrap_or}
-use Rattle.definitions.proofs.Words.{AllByRecursion, World, Session, Node, Step, IsExact, two_lanes, run, start, step, Headline, AbsorbClaim, CostClaim, CostsLittle, KnowledgeIsSound, KnowsNothingWrong, IsSound, IsSet, Item, set_of, node_at, items_of, messages, initiator_of, responder_of, initiator_knows, responder_knows, talk}
-use Rattle.definitions.proofs.Lemmas.{All-both}
+use Rattle.definitions.proofs.Words.{AllByRecursion, World, Session, Node, Step, IsExact, two_lanes, run, start, step, Headline, HistoryClaim, AbsorbClaim, CostClaim, CostsLittle, SessionsEnd, deliveries, has_ended, KnowledgeIsSound, KnowsNothingWrong, IsSound, IsSet, Item, set_of, node_at, items_of, messages, initiator_of, responder_of, initiator_knows, responder_knows, talk}
+use Rattle.definitions.proofs.Lemmas.{All-both, fold-append}
 use Rattle.definitions.specs.Worlds as worlds
 use Rattle.laws.specs.Turns.{TalksBegin}
 use Rattle.world_core.specs.declared.session.Session as live
-use Rattle.world_core.specs.Live.{Came, IsRunning, world_of}
-use Rattle.world_core.specs.Runs.{LearnsNothingWrong, Holds, AbsorbsAll}
+use Rattle.world_core.specs.Live.{IsRunning, world_of}
+use Rattle.world_core.specs.Runs.{Came, LearnsNothingWrong, Holds, ComesFrom, HasItemsOfRuns, EndsByDeliveries, AbsorbsAll}
 
 -- what is learned so far is what is learned of the talk so far
 nothing_wrong : KnowledgeIsSound two_lanes → TalksBegin two_lanes → ((xs : List Item) → IsSet (set_of xs)) →
@@ -48,6 +48,26 @@ pub all_hold : RunLaws → (w : World) (nodes : List Node) (lives : List live.Se
     IsRunning nodes lives → AllByRecursion (Holds w) w.sessions
 all_hold laws w nodes lives e runs =
     subst (λ u. AllByRecursion (Holds u) u.sessions) e (came_hold laws (world_of nodes lives) runs.came)
+
+-- some steps made a world that runs
+pub has_come : (w : World) (nodes : List Node) (lives : List live.Session) → world_of nodes lives ≡ w →
+    IsRunning nodes lives → Came w
+has_come w nodes lives e runs = subst Came e runs.came
+
+-- and each item of it is one of whatever run made it
+pub items_of_runs : HistoryClaim two_lanes → (w : World) → HasItemsOfRuns w
+items_of_runs law w = λ nodes steps e. subst (ComesFrom nodes steps) (sym e) (law nodes steps)
+
+-- and deliveries end each session of it
+pub ends_by : SessionsEnd two_lanes → IsExact two_lanes → (w : World) → Came w → EndsByDeliveries w
+ends_by law exact w c = λ k n s many found.
+    let u : World = run two_lanes (start c.nodes) (c.steps ++ deliveries n k) in
+    let v : World = run two_lanes w (deliveries n k) in
+    let same : u ≡ v =
+    fold-append (λ x e. (step two_lanes x e).0) (start c.nodes) c.steps (deliveries n k)
+    ∙ ap (λ x. run two_lanes x (deliveries n k)) (sym c.is) in
+    subst (λ x. has_ended two_lanes x s ≡ true) same
+    (law exact c.nodes c.steps k n s c.ready many (ap (λ x. slice_get x.sessions k) same ∙ found))
 
 absorbs_all : AbsorbClaim two_lanes → IsExact two_lanes → (w : World) (e : Step) → AbsorbsAll w e (step two_lanes w e).0
 absorbs_all law exact w (worlds.Insert n x) = tt

@@ -1,7 +1,6 @@
 -- What a world keeps of its sessions beside what the definitions say: their ends, the message made last, and the most parts of a message.
 --     session_of l, kept_of l, made l
 --     IsKept w l, IsRunning nodes lives        what holds of each world
---     Came w                                   a world is what some steps make of nodes
 --     beginning i r node, heard_by l node      a session that is opened; one whose message made last is heard
 use Rattle.std.specs.Prelude.{◌≡◌, ℕ, ◌+◌, List, length, max, map, Option, Some, None, IfSome, option_map, unwrap_or, if◌then◌else◌, ⊤}
 use Rattle.std.specs.List.{AllByRecursion}
@@ -10,12 +9,13 @@ use Rattle.definitions.specs.Messages.{Message, opening}
 use Rattle.definitions.specs.Ends.{Answer, Replies, Ends, Refuses, answer, initiator, responder}
 use Rattle.definitions.specs.Theorems.{IsNode}
 use Rattle.definitions.specs.Worlds as worlds
-use Rattle.definitions.specs.Worlds.{World, Node, Step, node_at, run, start}
+use Rattle.definitions.specs.Worlds.{World, Node, node_at}
 use Rattle.laws.specs.Growing.{is_even}
 use Rattle.laws.specs.Sessions.{Kept, Keeps}
 use Rattle.ends_core.specs.Held.{Held}
 use Rattle.ends_core.specs.Turns.{behind}
 use Rattle.world_core.specs.Nodes.{newest}
+use Rattle.world_core.specs.Runs.{Came}
 use Rattle.world_core.specs.declared.session.Session.{Session}
 
 abbrev pub session_of : Session → worlds.Session
@@ -38,13 +38,6 @@ pub record IsKept (w : World) (l : Session) : Type 0 where
 
 abbrev pub world_of : List Node → List Session → World
 world_of nodes lives = record { nodes = nodes; sessions = map session_of lives }
-
--- some steps made the world of nodes that may stand in a setup
-pub record Came (w : World) : Type 0 where
-  pub nodes : List Node
-  pub steps : List Step
-  pub ready : AllByRecursion IsNode nodes
-  pub is : w ≡ run two_lanes (start nodes) steps
 
 pub record IsRunning (nodes : List Node) (lives : List Session) : Type 0 where
   pub ready : AllByRecursion IsNode nodes

@@ -1,19 +1,29 @@
--- What holds of each session of a run.
+-- What holds of each run, and of each session of it.
+--     Came w                       some steps made the world
 --     HasFewMessages w s, IsWithinBound w s, KeepsLimits w s, LearnsBoth w s, LearnsNothingWrong w s, HasFewParts w s
 --     Holds w s                    these six
 --     ComesFrom nodes steps w      where the items of the histories come from
+--     HasItemsOfRuns w             they come from whatever run made the world
+--     EndsByDeliveries w           deliveries end each session
 --     AbsorbsAll w e v             an ended session that was absorbed below the cap
 use Rattle.std.specs.Prelude.{◌≡◌, ℕ, ◌<◌, ◌≤◌, ◌||◌, ◌⊎◌, List, length, slice_get, Some, IsTrue, ⊤}
-use Rattle.std.specs.List.{list_any}
+use Rattle.std.specs.List.{AllByRecursion, list_any}
 use Rattle.definitions.specs.Items.{Item}
 use Rattle.definitions.specs.Sets.{has}
 use Rattle.definitions.specs.Fingerprints.{two_lanes}
 use Rattle.definitions.specs.Histories.{content, items_of}
 use Rattle.definitions.specs.Ranks.{IsRankTable}
 use Rattle.definitions.specs.Talks.{IsClear}
-use Rattle.definitions.specs.Theorems.{rank, CostsLittle, KeepLimits, KnowsDifference, KnowsNothingWrong, inserts, node_of}
+use Rattle.definitions.specs.Theorems.{rank, CostsLittle, KeepLimits, KnowsDifference, KnowsNothingWrong, IsNode, inserts, node_of, deliveries}
 use Rattle.definitions.specs.Worlds as worlds
-use Rattle.definitions.specs.Worlds.{World, Node, Session, node_at, messages, has_ended, initiator_of, responder_of, initiator_knowledge, responder_knowledge, message_bound, report_of}
+use Rattle.definitions.specs.Worlds.{World, Node, Session, node_at, messages, has_ended, initiator_of, responder_of, initiator_knowledge, responder_knowledge, message_bound, report_of, run, start}
+
+-- some steps made the world of nodes that may stand in a setup
+pub record Came (w : World) : Type 0 where
+  pub nodes : List Node
+  pub steps : List worlds.Step
+  pub ready : AllByRecursion IsNode nodes
+  pub is : w ≡ run two_lanes (start nodes) steps
 
 -- by whatever ranks f and g of the two tables
 abbrev pub HasFewMessages : World → Session → Type 0
@@ -56,6 +66,16 @@ pub record Holds (w : World) (s : Session) : Type 0 where
 abbrev pub ComesFrom : List Node → List worlds.Step → World → Type 0
 ComesFrom nodes steps w = (n : ℕ) (x : Item) → IsTrue (has (items_of (node_at w n).history) x) →
     IsTrue (list_any (λ m. has (items_of m.history) x) nodes) ⊎ IsTrue (list_any (inserts x) steps)
+
+-- whatever nodes and steps made the world, each item of a history is one of theirs
+abbrev pub HasItemsOfRuns : World → Type 0
+HasItemsOfRuns w = (nodes : List Node) (steps : List worlds.Step) →
+    w ≡ run two_lanes (start nodes) steps → ComesFrom nodes steps w
+
+-- a session that is delivered 513 times or more, one after another, has ended
+abbrev pub EndsByDeliveries : World → Type 0
+EndsByDeliveries w = (k n : ℕ) (s : Session) → 513 ≤ n →
+    let v = run two_lanes w (deliveries n k) in slice_get v.sessions k ≡ Some s → IsTrue (has_ended two_lanes v s)
 
 -- behind the Absorb of an ended session, where there is still room, the node has both versions
 abbrev pub AbsorbsAll : World → worlds.Step → World → Type 0

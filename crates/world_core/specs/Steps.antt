@@ -3,13 +3,13 @@
 --     added_in d                       how many items an insert put in
 --     absorbing w n node items         the world behind items that are put into a node
 --     IsCutShort w e v                 the world v behind a step that memory cut short
-use Rattle.std.specs.Prelude.{◌≡◌, ℕ, List, take, slice_get, Option, Some, None}
+use Rattle.std.specs.Prelude.{◌≡◌, ℕ, List, take, slice_get, Option, Some, None, IsTrue}
 use Rattle.definitions.specs.Items.{Item}
 use Rattle.definitions.specs.Fingerprints.{two_lanes}
 use Rattle.definitions.specs.Sets.{set_of}
 use Rattle.definitions.specs.Theorems.{node_of}
 use Rattle.definitions.specs.Worlds as worlds
-use Rattle.definitions.specs.Worlds.{World, Session, Node, node_at, initiator_knowledge, responder_knowledge, with_history, Absorbing, absorb_all}
+use Rattle.definitions.specs.Worlds.{World, Session, Node, node_at, has_ended, initiator_knowledge, responder_knowledge, with_history, Absorbing, absorb_all}
 use Rattle.world_core.specs.declared.step.Side.{Side}
 use Rattle.world_core.specs.declared.step.Side.TheVariants as sides
 use Rattle.world_core.specs.declared.step.Step.{Step}
@@ -61,12 +61,13 @@ absorbed_at w n items = absorb_all (node_at w n).table.cap (node_at w n).history
 abbrev pub absorbing : World → ℕ → Node → List Item → World
 absorbing w n node items = with_history w n node (absorb_all node.table.cap node.history items).history
 
--- only the first of the items were put in
+-- the session has ended, and only the first of the items that the side learned were put in
 abbrev pub AbsorbsSome : World → ℕ → worlds.Side → World → Type 0
 AbsorbsSome w k side v = (s : Session) × (n : ℕ) × (slice_get w.sessions k ≡ Some s)
+    × IsTrue (has_ended two_lanes w s)
     × (v ≡ absorbing w (node_of s side) (node_at w (node_of s side)) (take n (theirs_of w s side)))
 
--- where memory ran out nothing is changed, but that an Absorb keeps what it put in before
+-- where memory ran out nothing is changed, but that the Absorb of an ended session keeps what it put in before
 abbrev pub IsCutShort : World → worlds.Step → World → Type 0
 IsCutShort w (worlds.Insert n x) v = v ≡ w
 IsCutShort w (worlds.Open i r) v = v ≡ w

@@ -8,7 +8,7 @@ ghost use Rattle.definitions.specs.Worlds as worlds;
 ghost use Rattle.world_core.specs.Live.{IsRunning, world_of};
 ghost use Rattle.definitions.specs.Sets.{set_of};
 ghost use Rattle.world_core.specs.Reports.{report_of};
-ghost use Rattle.world_core.specs.Runs.{HasFewMessages, IsWithinBound, KeepsLimits, LearnsBoth, LearnsNothingWrong, HasFewParts, Holds, ComesFrom, AbsorbsAll};
+ghost use Rattle.world_core.specs.Runs.{HasFewMessages, IsWithinBound, KeepsLimits, LearnsBoth, LearnsNothingWrong, HasFewParts, Holds, Came, ComesFrom, HasItemsOfRuns, EndsByDeliveries, AbsorbsAll};
 ghost use Rattle.world_core.specs.Steps.{did_of, side_of, step_of, added_in, absorbed_at, absorbing, AbsorbsSome, IsCutShort};
 
 use crate::node::Node;
@@ -64,11 +64,18 @@ impl<'a> World<'a> {
 
     /// The number of sessions.
     ///
-    /// What `run` says of each session holds of each of them: see `report`.
+    /// What `run` says of each session holds of each of them: see `report`. Some steps made this world of nodes that
+    /// may stand in a setup; and whatever nodes and steps made it, each item of a history was in one of the nodes, or
+    /// is one that a step inserts. A session that is delivered 513 times more, one after another, has ended.
     pub fn sessions(&self) -> usize
         ensures count { result ≡ length self.now.sessions }
         ensures hold { AllByRecursion (Holds self.now) self.now.sessions }
+        ensures came { Came self.now }
+        ensures items { HasItemsOfRuns self.now }
+        ensures ends { EndsByDeliveries self.now }
     {
+        laws::history_claim::<Fingerprint>();
+        laws::sessions_end::<Fingerprint>();
         laws::lanes_are_exact();
         laws::headline::<Fingerprint>();
         laws::knowledge_is_sound::<Fingerprint>();
@@ -192,8 +199,8 @@ impl<'a> World<'a> {
         self.absorb_items(alloc, node, &items)
     }
 
-    /// Does a step, and says what it did. Where memory runs out nothing is changed, but that an Absorb keeps what it put
-    /// in before.
+    /// Does a step, and says what it did. Where memory runs out nothing is changed, but that the Absorb of an ended
+    /// session keeps what it put in before.
     pub fn step(&mut self, alloc: Global, step: Step) -> Result<Did, AllocError>
         ensures world { OnOk result (self.new ≡ (worlds.step two_lanes self.old (step_of step)).0) }
         ensures did { IfOk result (λ did. did_of did ≡ (worlds.step two_lanes self.old (step_of step)).1) }
@@ -224,10 +231,12 @@ impl<'a> World<'a> {
     /// The session has few messages, by the ranks of both tables and by the bound that is shown; no list in it is
     /// longer than its sender's limit; nothing wrong is learned, and once it has ended, where no unequal compared
     /// ranges share a fingerprint, both differences. No message has more parts than the widths of both tables allow for
-    /// each item that only one of the two versions has, or one, and no more are shown.
+    /// each item that only one of the two versions has, or one, and no more are shown. Whatever nodes and steps made
+    /// this world, each item of a history was in one of the nodes, or is one that a step inserts.
     pub fn report(&self, session: usize) -> Option<Report<'_>>
         ensures report { option_map report_of result ≡ worlds.report two_lanes self.now session }
         ensures holds { (s : worlds.Session) → slice_get self.now.sessions session ≡ Some s → Holds self.now s }
+        ensures items { HasItemsOfRuns self.now }
     {
         let _count = self.sessions(); // which tells what holds of each
         laws::lanes_are_exact();
@@ -282,7 +291,6 @@ pub fn run<'a>(alloc: Global, setup: &'a Setup, steps: &[Step]) -> Result<World<
     ensures cost { IfOk result (λ w. AllByRecursion (HasFewParts w) w.sessions) }
     ensures items { IfOk result (λ w. ComesFrom setup.now (map step_of steps.now) w) }
 {
-    laws::history_claim::<Fingerprint>();
     let world = run_steps(alloc, setup, steps)?;
     let _count = world.sessions(); // which tells what holds of each
     Ok(world)

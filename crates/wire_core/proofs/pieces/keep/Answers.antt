@@ -1,4 +1,4 @@
-use Rattle.std.proofs.Common.{rules, ◌≡◌, sym, subst, ◌∙◌}
+use Rattle.std.proofs.Common.{rules, ◌≡◌, sym, subst}
 use Rattle.definitions.specs.Wire.{two_lane_profile}
 use Rattle.definitions.specs.Streams.{feed, stays}
 use Rattle.wire_core.specs.Standings.{standing_of}
@@ -7,8 +7,8 @@ use Rattle.wire_core.proofs.pieces.keep.Goals as goal
 
 pub returns-clause-kept : goal.returns-clause-kept
 returns-clause-kept c =
-    let goes_on = sym c.is_over.ensures ∙ c.if-is_over.false in
+    let goes_on = c.requires.counts in
     let wants = wants_more c.args.kept.now.items c.deref.result.now c.args.piece.now c.wanted.result c.deref.ensures.value c.wanted.ensures.short c.wanted.ensures.frame (search rules) in
-    let waits = still_waits two_lane_profile (standing_of c.args.standing) c.args.kept.now.items c.args.piece.now goes_on c.requires wants in
+    let waits = still_waits two_lane_profile (standing_of c.args.standing) c.args.kept.now.items c.args.piece.now goes_on c.requires.read wants in
     let same = c.in_ok-append.ensures.kept in
     λ told. (same, subst (λ bytes. feed two_lane_profile (standing_of c.args.standing) bytes ≡ stays (standing_of c.args.standing) bytes) (sym same) waits, no_fault (standing_of c.args.standing) goes_on)

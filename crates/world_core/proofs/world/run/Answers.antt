@@ -1,8 +1,7 @@
-use Rattle.std.proofs.Common.{map, sym, subst}
+use Rattle.std.proofs.Common.{map}
 use Rattle.definitions.proofs.Lemmas.{All-map}
-use Rattle.definitions.specs.Fingerprints.{two_lanes}
 use Rattle.world_core.specs.Steps.{step_of}
-use Rattle.world_core.specs.Runs.{Holds, HasFewMessages, IsWithinBound, KeepsLimits, LearnsBoth, LearnsNothingWrong, HasFewParts, ComesFrom}
+use Rattle.world_core.specs.Runs.{Holds, HasFewMessages, IsWithinBound, KeepsLimits, LearnsBoth, LearnsNothingWrong, HasFewParts}
 use Rattle.world_core.proofs.world.run.Goals as goal
 
 pub returns-clause-few : goal.returns-clause-few
@@ -37,6 +36,4 @@ returns-clause-cost c =
 
 pub returns-clause-items : goal.returns-clause-items
 returns-clause-items c =
-    let steps = map step_of c.args.steps.now in
-    subst (ComesFrom c.args.setup.now steps) (sym c.in_ok-world.ensures)
-    (c.history_claim.ensures two_lanes c.args.setup.now steps)
+    c.sessions-count.ensures.items c.args.setup.now (map step_of c.args.steps.now) c.in_ok-world.ensures

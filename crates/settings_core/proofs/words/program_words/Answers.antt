@@ -1,0 +1,37 @@
+use Rattle.std.proofs.Common.{rules}
+use Rattle.std.proofs.lemmas.Result.{IfOk-weaker}
+use Rattle.clap.specs.Words.{App, with_subcommand}
+use Rattle.settings_core.specs.Program.{IsCommand, top, answer, check, sim, serve, sync}
+use Rattle.settings_core.proofs.Adding.{with_command}
+use Rattle.settings_core.proofs.words.program_words.Goals as goal
+
+abbrev with_answer : App
+with_answer = with_subcommand top answer.top
+
+abbrev with_check : App
+with_check = with_subcommand with_answer check.top
+
+abbrev with_sim : App
+with_sim = with_subcommand with_check sim.top
+
+abbrev with_serve : App
+with_serve = with_subcommand with_sim serve.top
+
+pub returns : goal.returns
+returns c =
+    let start : IsCommand top c.subcommand_required.result = search rules in
+    let one = with_command top answer c.subcommand_required.result c.in_ok-answer_words.field-0
+    c.in_ok-subcommand.field-0 start
+    c.in_ok-answer_words.ensures c.in_ok-subcommand.ensures in
+    let two = with_command with_answer check c.in_ok-subcommand.field-0 c.in_ok-check_words.field-0
+    c.in_ok-subcommand-2.field-0 one
+    c.in_ok-check_words.ensures c.in_ok-subcommand-2.ensures in
+    let three = with_command with_check sim c.in_ok-subcommand-2.field-0 c.sim_words.result
+    c.in_ok-subcommand-3.field-0 two
+    c.sim_words.ensures c.in_ok-subcommand-3.ensures in
+    let four = with_command with_sim serve c.in_ok-subcommand-3.field-0 c.in_ok-serve_words.field-0
+    c.in_ok-subcommand-4.field-0 three
+    c.in_ok-serve_words.ensures c.in_ok-subcommand-4.ensures in
+    IfOk-weaker c.subcommand-5.result _ _ (λ new. with_command with_serve sync c.in_ok-subcommand-4.field-0
+    c.in_ok-sync_words.field-0 new four
+    c.in_ok-sync_words.ensures) c.subcommand-5.ensures

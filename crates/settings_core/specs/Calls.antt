@@ -1,0 +1,66 @@
+-- What the words of a call ask for.
+--     AsksFor name rows c    the command of this name, with these values, is c
+--     WordsAskFor words c    the words, of which the first is the program's own name, are well formed and ask for c
+--     Finds P found          what was found has this property; or nothing was found, and nothing has it
+use Rattle.std.specs.Prelude.{◌≡◌, ℕ, codes, Bool, true, false, List, [], Option, Some, None, IsSomeAnd, ⊤}
+use Rattle.std.specs.Str.Parse.{IsNumeral, digits_value, without_leading_plus}
+use Rattle.clap.specs.Words.{Row, Text, fault_of, first_of, one_of, subcommand_of}
+use Rattle.settings_core.specs.Program.{program}
+use Rattle.settings_core.specs.Spans.{AreInSpan}
+use Rattle.settings_core.specs.declared.words.Command.{Command}
+use Rattle.settings_core.specs.declared.words.Command.TheVariants.{Answer, Check, Sim, Serve, Sync}
+
+-- the value of an argument
+abbrev pub IsText : Text → List Row → Text → Type 0
+IsText id rows text = first_of id rows ≡ Some text
+
+-- decimal digits, of which the first may follow a plus, write the number
+abbrev pub Writes : Text → ℕ → Type 0
+Writes text n = IsNumeral 10 (without_leading_plus text) × (n ≡ digits_value 10 (without_leading_plus text))
+
+-- the number that is written, if any is
+abbrev pub IsWritten : Option Text → Option ℕ → Type 0
+IsWritten None None = ⊤
+IsWritten None (Some n) = ⊥
+IsWritten (Some text) None = ⊥
+IsWritten (Some text) (Some n) = Writes text n
+
+-- the number of an argument
+abbrev pub IsNumber : Text → List Row → Option ℕ → Type 0
+IsNumber id rows n = IsWritten (one_of id rows) n
+
+-- whether a flag is given
+abbrev pub IsFlag : Text → List Row → Bool → Type 0
+IsFlag id rows flag = (one_of id rows ≡ Some (codes "true") → flag ≡ true)
+    × (one_of id rows ≡ Some (codes "false") → flag ≡ false)
+
+-- the values are those of the command
+abbrev pub HasValues : List Row → Command → Type 0
+HasValues rows (Answer hexed items) = IsFlag (codes "hex") rows hexed × IsText (codes "ITEMS") rows items.now
+HasValues rows (Check file) = IsText (codes "FILE") rows file.now
+HasValues rows Sim = ⊤
+HasValues rows (Serve table address workers sessions items) =
+    IsText (codes "table") rows table.now × IsText (codes "addr") rows address.now
+    × IsNumber (codes "workers") rows (Some workers) × IsNumber (codes "sessions") rows sessions
+    × IsText (codes "ITEMS") rows items.now
+HasValues rows (Sync table address items) =
+    IsText (codes "table") rows table.now × IsText (codes "addr") rows address.now
+    × IsText (codes "ITEMS") rows items.now
+
+abbrev pub name_of : Command → Text
+name_of (Answer hexed items) = codes "answer"
+name_of (Check file) = codes "check"
+name_of Sim = codes "sim"
+name_of (Serve table address workers sessions items) = codes "serve"
+name_of (Sync table address items) = codes "sync"
+
+abbrev pub AsksFor : Text → List Row → Command → Type 0
+AsksFor name rows c = (name_of c ≡ name) × HasValues rows c × AreInSpan c
+
+abbrev pub WordsAskFor : List Text → Command → Type 0
+WordsAskFor words c = (fault_of program words ≡ [])
+    × IsSomeAnd (subcommand_of program words) (λ p. AsksFor p.0 p.1 c)
+
+abbrev pub Finds : {X : Type 0} → (X → Type 0) → Option X → Type 0
+Finds P (Some x) = P x
+Finds {X} P None = (x : X) → P x → ⊥

@@ -1,0 +1,87 @@
+-- The words that the program knows, as `clap` sees them.
+--     program          its commands: answer, check, sim, serve and sync
+--     IsWord r a       the argument is this one, for its own command alone
+--     IsCommand a c    the command is this one, with no argument for those below it
+use Rattle.std.specs.Prelude.{◌≡◌, pos, codes, true, false, [], ◌∷◌, Some}
+use Rattle.clap.specs.Words.{App, Rule, app_of, new_app, new_rule, rule_of, with_rule, with_subcommand}
+use Rattle.clap.specs.Simple.{on_top}
+use Rattle.clap.specs.declared.builder.arg.Arg.{Arg}
+use Rattle.clap.specs.declared.builder.action.ArgAction.TheVariants.{SetTrue}
+use Rattle.clap.specs.declared.builder.command.Command.{Command}
+use Rattle.clap.specs.declared.builder.command.Command.TheViews.{out-Command}
+use Rattle.clap.specs.declared.builder.value_parser.ValueParser.TheVariants.{Signed}
+
+abbrev pub IsWord : Rule → Arg → Type 0
+IsWord r a = (rule_of a ≡ r) × (a.global ≡ false)
+
+abbrev pub IsCommand : App → Command → Type 0
+IsCommand a c = (app_of c ≡ a) × ((out-Command c).has_globals ≡ false)
+
+-- ---- arguments
+
+-- `ITEMS`
+abbrev pub items : Rule
+items = record (new_rule (codes "ITEMS")) { required = true }
+
+-- `--table FILE`
+abbrev pub table : Rule
+table = record (new_rule (codes "table")) { long = Some (codes "table"); value_names = 1; required = true }
+
+-- `--addr A`
+abbrev pub address : Rule
+address = record (new_rule (codes "addr")) {
+  long = Some (codes "addr");
+  value_names = 1;
+  defaults = codes "127.0.0.1:7700" ∷ [];
+}
+
+-- `--workers N`, of 1 to 16
+abbrev pub workers : Rule
+workers = record (new_rule (codes "workers")) {
+  long = Some (codes "workers");
+  value_names = 1;
+  defaults = codes "4" ∷ [];
+  parser = Some (Signed (pos 1) (pos 16));
+}
+
+-- `--sessions N`, of 1 to 1,000,000
+abbrev pub sessions : Rule
+sessions = record (new_rule (codes "sessions")) {
+  long = Some (codes "sessions");
+  value_names = 1;
+  parser = Some (Signed (pos 1) (pos 1000000));
+}
+
+-- `--hex`
+abbrev pub hex : Rule
+hex = record (new_rule (codes "hex")) { long = Some (codes "hex"); action = Some SetTrue }
+
+-- `FILE`
+abbrev pub file : Rule
+file = record (new_rule (codes "FILE")) { required = true }
+
+-- ---- commands
+
+abbrev pub answer : App
+answer = with_rule (with_rule (new_app (codes "answer")) hex) items
+
+abbrev pub check : App
+check = with_rule (new_app (codes "check")) file
+
+abbrev pub sim : App
+sim = new_app (codes "sim")
+
+abbrev pub serve : App
+serve = with_rule (with_rule (with_rule (with_rule (with_rule (new_app (codes "serve")) table) address) workers)
+    sessions) items
+
+abbrev pub sync : App
+sync = with_rule (with_rule (with_rule (new_app (codes "sync")) table) address) items
+
+-- the program itself, which has a version and asks for a command
+abbrev pub top : App
+top = on_top (λ s. record s { has_version = true; subcommand_required = true }) (new_app (codes "rangesync"))
+
+abbrev pub program : App
+program = with_subcommand (with_subcommand (with_subcommand (with_subcommand (with_subcommand top answer.top) check.top)
+    sim.top) serve.top) sync.top
