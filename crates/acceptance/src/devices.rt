@@ -51,6 +51,42 @@ impl Write for PieceWriter<'_> {
     }
 }
 
+/// A reader or a writer of which one call fails: the first where none is left before it.
+#[derive(Drop)]
+pub(crate) struct Failing<T> {
+    pub(crate) inner: T,
+    pub(crate) calls_left: u64,
+}
+
+impl<T> Failing<T> {
+    /// Counts a call. Else it is the one that fails.
+    fn call(&mut self) -> io::Result<()> {
+        if self.calls_left == 0 {
+            return Err(io::Error::from(ErrorKind::ConnectionReset));
+        }
+        self.calls_left -= 1;
+        Ok(())
+    }
+}
+
+impl<R: Read> Read for Failing<R> {
+    fn read(&mut self, buf: &mut [u8]) -> io::Result<usize> {
+        self.call()?;
+        self.inner.read(buf)
+    }
+}
+
+impl<W: Write> Write for Failing<W> {
+    fn write(&mut self, buf: &[u8]) -> io::Result<usize> {
+        self.call()?;
+        self.inner.write(buf)
+    }
+
+    fn flush(&mut self) -> io::Result<()> {
+        self.inner.flush()
+    }
+}
+
 /// When a gate lets a session go on.
 #[derive(Clone, Copy, Debug, PartialEq, Eq)]
 pub(crate) enum Rule {

@@ -13,6 +13,7 @@ use peer_threads::{Outcome, Shared, dial_one, serve_one};
 use range_tree::Tree;
 use session_table::{SessionTable, Totals};
 use std::alloc::Global;
+use std::io::{Read, Write};
 use std::process::Abort;
 use std::sync::atomic::Ordering;
 use std::sync::{Mutex, Wait};
@@ -44,40 +45,42 @@ pub(crate) fn opened(
 
 /// Which side the test's own is.
 #[derive(Clone, Copy, Debug, PartialEq, Eq)]
-enum Engine {
+pub(crate) enum Engine {
     Dial,
     Serve,
 }
 
 /// What a test begins with.
 #[derive(Clone, Copy)]
-struct Case<'a> {
-    engine: Engine,
-    items: &'a [Item],
-    input: &'a [&'a [u8]],
+pub(crate) struct Case<'a> {
+    pub(crate) engine: Engine,
+    pub(crate) items: &'a [Item],
+    pub(crate) input: &'a [&'a [u8]],
     /// How many bytes a call reads or writes at most.
-    piece: usize,
+    pub(crate) piece: usize,
 }
 
 /// What came of one call of an engine.
 #[derive(Drop)]
-struct Told {
+pub(crate) struct Told {
     outcome: String,
     written: Vec<u8>,
-    totals: Totals,
+    pub(crate) totals: Totals,
+    /// How many sessions are live behind it.
+    pub(crate) live: usize,
     /// How often the gate was told of an end.
     ended: u64,
 }
 
 /// One call of the engine.
-fn called<T: Wait>(
+fn called<T: Wait, R: Read + Drop, W: Write + Drop>(
     rt: &T,
     alloc: Global,
     engine: Engine,
     shared: &Shared<'_, Tree, Witness>,
     seat: &mut TreeSeat,
-    input: PieceReader,
-    output: PieceWriter<'_>,
+    input: R,
+    output: W,
 ) -> Outcome
     requires { (seat.old.table_id ≡ shared.now.lock.now) × (seat.old.view.cap ≤ shared.now.accepted.now.table.cap) }
 {
@@ -89,23 +92,42 @@ fn called<T: Wait>(
     }
 }
 
-/// The outcome of the case, shown, over a log of its own.
-fn shown_call<T: Wait + Abort>(
+/// What the sessions of a test share, beside the log.
+#[derive(Clone, Copy)]
+pub(crate) struct Ground<'a> {
+    pub(crate) accepted: &'a Accepted,
+    pub(crate) sessions: &'a Mutex<SessionTable>,
+    pub(crate) gate: &'a Witness,
+}
+
+/// The outcome of one call over this reader and this writer, shown, over a log of its own.
+pub(crate) fn shown_over<T: Wait + Abort, R: Read + Drop, W: Write + Drop>(
     rt: &T,
     alloc: Global,
     case: &Case<'_>,
-    accepted: &Accepted,
-    sessions: &Mutex<SessionTable>,
-    gate: &Witness,
-    held: &Mutex<Vec<u8>>,
+    ground: &Ground<'_>,
+    input: R,
+    output: W,
 ) -> Result<String, Fail> {
-    let (lock, mut seat) = opened(rt, alloc, accepted, case.items, 1);
+    let (lock, mut seat) = opened(rt, alloc, ground.accepted, case.items, 1);
     let shared = Shared {
         lock: &lock,
-        accepted,
-        sessions,
-        gate,
+        accepted: ground.accepted,
+        sessions: ground.sessions,
+        gate: ground.gate,
     };
+    let outcome = called(rt, alloc, case.engine, &shared, &mut seat, input, output);
+    Ok(shown_outcome(alloc, &outcome)?)
+}
+
+/// The outcome of the case, shown, over a log of its own.
+pub(crate) fn shown_call<T: Wait + Abort>(
+    rt: &T,
+    alloc: Global,
+    case: &Case<'_>,
+    ground: &Ground<'_>,
+    held: &Mutex<Vec<u8>>,
+) -> Result<String, Fail> {
     let input = PieceReader {
         bytes: joined(alloc, case.input)?,
         taken: 0,
@@ -115,8 +137,7 @@ fn shown_call<T: Wait + Abort>(
         held,
         piece: case.piece,
     };
-    let outcome = called(rt, alloc, case.engine, &shared, &mut seat, input, output);
-    Ok(shown_outcome(alloc, &outcome)?)
+    shown_over(rt, alloc, case, ground, input, output)
 }
 
 /// What came of the case at this table of sessions, by this gate.
@@ -130,17 +151,24 @@ fn outcome_at<T: Wait + Abort>(
     let accepted = accepted(rt, alloc, BINARY_EIGHT);
     let sessions = Mutex::new(table);
     let held = Mutex::new(Vec::new(alloc));
-    let outcome = shown_call(rt, alloc, case, &accepted, &sessions, gate, &held)?;
+    let ground = Ground {
+        accepted: &accepted,
+        sessions: &sessions,
+        gate,
+    };
+    let outcome = shown_call(rt, alloc, case, &ground, &held)?;
+    let table = sessions.into_inner();
     Ok(Told {
         outcome,
         written: held.into_inner(),
-        totals: sessions.into_inner().totals(),
+        totals: table.totals(),
+        live: table.live(),
         ended: gate.told.load(Ordering::SeqCst),
     })
 }
 
 /// What came of the case where two sessions may be live.
-fn outcome_of<T: Wait + Abort>(
+pub(crate) fn outcome_of<T: Wait + Abort>(
     rt: &T,
     alloc: Global,
     case: &Case<'_>,
@@ -151,7 +179,7 @@ fn outcome_of<T: Wait + Abort>(
 }
 
 /// Compares the outcome and all that was written.
-fn comes_to(
+pub(crate) fn comes_to(
     rt: &impl Abort,
     alloc: Global,
     told: &Told,
@@ -163,14 +191,15 @@ fn comes_to(
     Ok(())
 }
 
-/// Compares how many sessions were opened, ended and refused, and that the gate was told of each one's end.
+/// Compares how many sessions were opened, ended and refused, that the gate was told of each one's end, and
+/// that none is live.
 fn counts(rt: &impl Abort, told: &Told, opened: u64, ended: u64, refused: u64) {
     let totals = told.totals;
     assert_eq!(rt;
         (totals.opened, totals.ended, totals.refused),
         (opened, ended, refused)
     );
-    assert_eq!(rt; told.ended, opened);
+    assert_eq!(rt; (told.ended, told.live), (opened, 0));
 }
 
 /// A case of a side with no items, which reads and writes 7 bytes a call at most.

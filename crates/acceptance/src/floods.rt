@@ -13,7 +13,7 @@ use std::test::Fail;
 use wire_core::{Marks, Message, Part};
 
 /// A Sum of 0 in lane 0 and 1 in lane 1, which is the fingerprint of none of these sets.
-fn sum(range: Range) -> Part {
+pub(crate) fn sum(range: Range) -> Part {
     let mut bytes = [0u8; 32];
     bytes[31] = 1;
     Part::sum(range, Fingerprint::from_bytes(bytes))
@@ -204,7 +204,7 @@ fn numbered(rt: &impl Abort, number: u32) -> Item {
 }
 
 /// Sums over the ranges from c to e, from there to the numbered items in turn, and from the last one on.
-fn flood(rt: &impl Abort, alloc: Global, last: u32) -> Result<Message, Fail> {
+pub(crate) fn flood(rt: &impl Abort, alloc: Global, last: u32) -> Result<Message, Fail> {
     let mut parts = Vec::new(alloc);
     parts.push(sum(range(rt, b"c", b"e")))?;
     let mut lower = item(rt, b"e");
@@ -233,7 +233,7 @@ fn is_spent(
 }
 
 /// The number of parts of a reply, or that of the refusal.
-fn length(taken: Result<Turn, EndFault>) -> Result<usize, u8> {
+pub(crate) fn length(taken: Result<Turn, EndFault>) -> Result<usize, u8> {
     match taken {
         Ok(Turn::Reply(reply)) => Ok(reply.parts().len()),
         Ok(Turn::Over) => Ok(0),

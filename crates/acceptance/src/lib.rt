@@ -8,9 +8,13 @@ mod devices;
 #[cfg(test)]
 mod engines;
 #[cfg(test)]
+mod failing;
+#[cfg(test)]
 mod floods;
 #[cfg(test)]
 mod frames;
+#[cfg(test)]
+mod hostile;
 #[cfg(test)]
 mod letters;
 #[cfg(test)]
@@ -18,11 +22,15 @@ mod locks;
 #[cfg(test)]
 mod messages;
 #[cfg(test)]
+mod parts;
+#[cfg(test)]
 mod placing;
 #[cfg(test)]
 mod sessions;
 #[cfg(test)]
 mod shown;
+#[cfg(test)]
+mod splitting;
 #[cfg(test)]
 mod tables;
 #[cfg(test)]

@@ -335,10 +335,11 @@ fn the_end_of_the_input(rt: HostRuntime) -> Result<(), Fail> {
     assert!(rt; !reader.ended());
     assert_eq!(rt; reader.read(&mut room)?, 0);
     assert!(rt; reader.ended() && !reader.failed());
+    assert_eq!(rt; reader.reads(), 3);
     let shown = format!(in rt.alloc(); "{reader:?}")?;
     assert_eq!(rt;
         shown.as_str(),
-        "Watched { inner: [], failed: false, ended: true }"
+        "Watched { inner: [], failed: false, ended: true, reads: 3 }"
     );
     Ok(())
 }

@@ -26,7 +26,7 @@ fn number(placed: Result<(), PlaceFault>) -> Option<u8> {
 fn gaps_in_placing(rt: HostRuntime) -> Result<(), Fail> {
     let alloc = rt.alloc();
     let sent = message(&rt, vec![in alloc; sum(&rt, b"", b"")]?);
-    let mut place = Place::after(&sent);
+    let mut place = Place::after(alloc, sent.parts())?;
     assert_eq!(rt; place.next(&sum(&rt, b"", b"b")), Ok(()));
     assert_eq!(rt; number(place.finish()), Some(22));
     assert_eq!(rt; number(place.next(&sum(&rt, b"c", b""))), Some(22));
@@ -65,15 +65,15 @@ fn behind_two_sums(rt: HostRuntime) -> Result<(), Fail> {
     let alloc = rt.alloc();
     let parts = vec![in alloc; sum(&rt, b"", b"b"), sum(&rt, b"b", b"")]?;
     let sent = message(&rt, parts);
-    let mut place = Place::after(&sent);
+    let mut place = Place::after(alloc, sent.parts())?;
     let second = list(&rt, alloc, range(&rt, b"b", b""), b"")?;
     let first = list(&rt, alloc, range(&rt, b"", b"b"), b"")?;
     assert_eq!(rt; place.next(&second), Ok(()));
     assert_eq!(rt; number(place.next(&first)), Some(20));
 
-    let mut stalls = Place::after(&sent);
+    let mut stalls = Place::after(alloc, sent.parts())?;
     assert_eq!(rt; number(stalls.next(&sum(&rt, b"", b"b"))), Some(21));
-    let mut too_far = Place::after(&sent);
+    let mut too_far = Place::after(alloc, sent.parts())?;
     assert_eq!(rt; number(too_far.next(&sum(&rt, b"", b"c"))), Some(20));
     Ok(())
 }
@@ -89,6 +89,19 @@ fn a_peer_that_stalls(rt: HostRuntime) -> Result<(), Fail> {
 }
 
 #[test]
+fn a_place_that_is_rewound(rt: HostRuntime) -> Result<(), Fail> {
+    let alloc = rt.alloc();
+    let sent = message(&rt, vec![in alloc; sum(&rt, b"", b"")]?);
+    let mut place = Place::after(alloc, sent.parts())?;
+    assert_eq!(rt; number(place.next(&sum(&rt, b"b", b""))), Some(20));
+    place.rewind();
+    assert_eq!(rt; place.next(&list(&rt, alloc, Range::whole(), b"")?), Ok(()));
+    place.rewind();
+    assert_eq!(rt; place.next(&sum(&rt, b"", b"b")), Ok(()));
+    Ok(())
+}
+
+#[test]
 fn a_refusal_stays(rt: HostRuntime) -> Result<(), Fail> {
     let alloc = rt.alloc();
     let sent = message(&rt, vec![in alloc; sum(&rt, b"", b"")]?);
@@ -99,7 +112,7 @@ fn a_refusal_stays(rt: HostRuntime) -> Result<(), Fail> {
     assert_eq!(rt; cut, Err(PlaceFault::Stall));
     assert_eq!(rt; cursor.finish(sent.parts()), Err(PlaceFault::Stall));
 
-    let mut place = Place::opening();
+    let mut place = Place::opening(alloc);
     assert_eq!(rt; number(place.next(&sum(&rt, b"", b"b"))), Some(20));
     assert_eq!(rt; number(place.next(&sum(&rt, b"", b""))), Some(20));
     assert_eq!(rt; number(place.finish()), Some(20));

@@ -8,3 +8,5 @@ mod Streams
 mod Placings
 mod Runs
 mod Parts
+mod Hearings
+mod Accounts

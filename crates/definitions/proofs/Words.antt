@@ -2,7 +2,7 @@
 pub use Rattle.definitions.specs.Climbs.{At, Climbing, Stuck_at, above_all_by, check_by_steps, climb_to, climbing_next, deep_by_steps, find_steps, push_step}
 pub use Rattle.definitions.specs.Cost.{most_parts, part_bound}
 pub use Rattle.definitions.specs.Ends.{End, Ends, Fresh, Over, Refuses, Replies, Spent, Stage, Waits, after, after_answer, answer, answer_unless, gained, heard, initiator, initiator_at, is_live, is_sendable, own_of, reply_or_refuse, responder, responder_at, stage_behind, stage_fault}
-pub use Rattle.definitions.specs.Engines.{Speaker, answers, initiating, replied, responding, says, session, taken, takes}
+pub use Rattle.definitions.specs.Engines.{Speaker, answers, initiating, replied, responding, says, session, takes, unless_refused}
 pub use Rattle.definitions.specs.Faults.{Begins, FaultyAnswer, FaultyBody, FaultyBounds, FaultyBytes, FaultyFields, FaultyFrame, FaultyItem, FaultyItems, FaultyList, FaultyMarks, FaultyMessage, FaultyRange, FaultyUpper, IsBodyLength, IsCount, IsItemLength, IsPadded, IsPartial, NoItem, NoLower, NoUpper, Stands, Stops, Trails, body_fault, items_fault, rises_from}
 pub use Rattle.definitions.specs.Fingerprints.{IsExact, Lanes, Summary, counted_lanes, same_lanes, two_lanes}
 pub use Rattle.definitions.specs.Histories.{Already, Full, History, Insertion, New, content, history_after, insertion, items_of, version}
@@ -17,7 +17,7 @@ pub use Rattle.definitions.specs.Sets.{IsSet, add_item, difference, has, items_i
 pub use Rattle.definitions.specs.Strategies.{Act, IsAct, IsTable, List_items, Peel, Row, Split, Table, act, act_in, cuts_by, differences, is_split, list_only, running_sums, shares, shares_by, uptos, widest, width, width_of, without_zeros}
 pub use Rattle.definitions.specs.Streams.{Before_hello, Faulted, Fed, In_message, Meaning_over, Means, MeansFrames, Standing, fed_by, feed, feed_frames, feed_start, message_by, message_from, message_in, messages_of}
 pub use Rattle.definitions.specs.Talks.{IsClear, IsClearAt, Knowledge, and_then, initiator_knows, knows, learn, listed_in, nothing, of_first, of_second, responder_knows, sender, talk, talk_from}
-pub use Rattle.definitions.specs.Theorems.{AbsorbClaim, CostClaim, CostsLittle, EndsHearOn, EndsKeepLimits, EndsKeepPeers, EndsStandFirm, Headline, HistoryClaim, InitiatorLearns, InitiatorStops, IsHonest, IsNode, IsSettled, IsShort, IsSound, KeepLimits, KnowledgeIsExact, KnowledgeIsSound, KnowsDifference, KnowsNothingWrong, LearnsOnce, ListsAreShort, ListsOnce, ListsSome, MessagesAreFew, MessagesFit, OpeningIsExact, PartsAreFew, PlacedAreApart, PlacingIsExact, Ready, RepliesAreApart, RepliesAreHonest, RepliesArePlaced, RepliesAreShort, ResponderLearns, ResponderStops, SessionsEnd, StandsFirm, TalksAreApart, deliveries, inserts, lies_open, rank}
+pub use Rattle.definitions.specs.Theorems.{AbsorbClaim, AreParts, CostClaim, CostsLittle, EndsHearOn, EndsKeepLimits, EndsKeepPeers, EndsStandFirm, Headline, HistoryClaim, InitiatorLearns, InitiatorStops, IsHonest, IsNode, IsSettled, IsShort, IsSound, KeepLimits, KnowledgeIsExact, KnowledgeIsSound, KnowsDifference, KnowsNothingWrong, LearnsOnce, ListsAreShort, ListsOnce, ListsSome, MessagesAreFew, MessagesFit, OpeningIsExact, PartsAreFew, PlacedAreApart, PlacingIsExact, Ready, RepliesAreApart, RepliesAreHonest, RepliesArePlaced, RepliesAreShort, ResponderLearns, ResponderStops, SessionsEnd, StandsFirm, TalksAreApart, deliveries, inserts, lies_open, rank}
 pub use Rattle.definitions.specs.Wire.{AreItemsOf, Came, Counts, Ended, Event, Failed, Input, IsMessage, IsPart, IsProfile, One_message, Profile, Says, Spells, Stream, body, count_text, counted_profile, end_text, event_text, fault_text, frame, greatest_kind, items_text, lanes_read, lanes_text, mark_byte, mark_bytes, mark_bytes_for, marks_text, max_body, max_parts, message_text, part_text, range_text, session_text, short_text, two_lane_profile, upper_text}
 pub use Rattle.definitions.specs.Worlds.{Absorbing, Initiator, Node, Responder, Session, Side, Step, World, absorb_all, absorb_at, absorb_by, absorb_into, absorb_one, absorb_side, has_ended, initiator_knowledge, initiator_of, insert_at, message_bound, messages, no_node, node_at, peer_at, rank_of, responder_knowledge, responder_of, run, start, step, with_history}
 pub use Rattle.std.specs.Cmp.Lexicographic.{same_text}

@@ -7,7 +7,7 @@
 --     initiator_at S I R k, responder_at S I R k      the two ends of a talk, which heard their share of its first k messages
 use Rattle.std.specs.Prelude.{ℕ, ◌+◌, nat_le, length, Bool, true, false, List, [], Option, Some, None, fold, if◌then◌else◌}
 use Rattle.definitions.specs.Fingerprints.{Summary}
-use Rattle.definitions.specs.Messages.{Message, has_open, opening}
+use Rattle.definitions.specs.Messages.{Message, has_open, open_parts, opening}
 use Rattle.definitions.specs.Replies.{Peer, reply}
 use Rattle.definitions.specs.Placing.{place_fault, opening_fault}
 use Rattle.definitions.specs.Talks.{Knowledge, nothing, and_then, learn, talk, of_first, of_second}
@@ -17,7 +17,7 @@ use Rattle.definitions.specs.Refusals.{too_many_parts, spent}
 pub data Stage (F : Type 0) : Type 0 where
   -- a responder that has received nothing
   Fresh : Stage F
-  -- the own message that was sent last waits for the peer's
+  -- the own message that was sent last waits for the peer's: these are its open parts
   Waits : (own : Message F) → Stage F
   -- a message without open part was sent or received
   Over : Stage F
@@ -49,7 +49,7 @@ stage_fault (Waits own) M = place_fault own M
 stage_fault Over M = Some spent
 stage_fault Spent M = Some spent
 
--- the own message that the next one answers: the first message of all answers nothing
+-- the open parts of the own message that the next one answers: the first message of all answers nothing
 abbrev pub own_of : {F : Type 0} → Stage F → Message F
 own_of Fresh = []
 own_of (Waits own) = own
@@ -72,7 +72,7 @@ abbrev pub answer : {F : Type 0} → Summary F → End F → Message F → Answe
 answer S e M = answer_unless S e.peer M (stage_fault e.stage M)
 
 abbrev pub stage_behind : {F : Type 0} → Message F → Stage F
-stage_behind N = if has_open N then Waits N else Over
+stage_behind N = if has_open N then Waits (open_parts N) else Over
 
 abbrev pub gained : {F : Type 0} → End F → Message F → Knowledge
 gained e M = and_then e.learned (learn e.peer.items (own_of e.stage) M)

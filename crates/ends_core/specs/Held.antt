@@ -1,25 +1,45 @@
--- What an end's type shows: the staircase of its ranks, and the end as the definitions have it.
---     Held
---     stage_of s            a stage as the definitions have it
---     IsAble h              what an end keeps
-use Rattle.std.specs.Prelude.{ℕ, ◌≤◌, List, length}
+-- What an end's type shows: the staircase of its ranks, the end as the definitions have it, and what it took of a message.
+--     Held, HasNone h           an end, and that it has taken no part of a message
+--     stage_at x, stage_of s     a stage as the definitions have it
+--     taken_of s d               what was taken
+--     IsAble h                   what an end keeps
+use Rattle.std.specs.Prelude.{◌≡◌, ℕ, ◌≤◌, false, List, [], Some, length, if◌then◌else◌}
 use Rattle.definitions.specs.Fingerprints.{Lanes}
 use Rattle.definitions.specs.Items.{Apart}
 use Rattle.definitions.specs.Messages.{open_ranges}
+use Rattle.definitions.specs.Talks.{nothing}
 use Rattle.definitions.specs.Ends.{End, Stage, Fresh, Waits, Over, Spent, own_of}
+use Rattle.definitions.specs.Taking.{Taken, place_of, nothing_taken}
+use Rattle.place_core.specs.Placements.{Placement}
 use Rattle.strategy_check.specs.Checked.{IsChecked}
+use Rattle.ends_core.specs.Drafts.{Drafted, taken_at}
 use Rattle.ends_core.specs.declared.stage.Stage as own
 use Rattle.ends_core.specs.declared.stage.Stage.TheVariants as stages
 
 pub record Held : Type 0 where
   pub steps : List ℕ
   pub end : End Lanes
+  pub taken : Taken Lanes
+
+abbrev pub HasNone : Held → Type 0
+HasNone h = h.taken ≡ nothing_taken h.end
+
+abbrev pub stage_at : Placement → Stage Lanes
+stage_at x = if x.first then Fresh else Waits x.own
 
 abbrev pub stage_of : own.Stage → Stage Lanes
-stage_of stages.Fresh = Fresh
-stage_of (stages.Waits message) = Waits message
+stage_of (stages.Open place) = stage_at place
 stage_of stages.Over = Over
 stage_of stages.Spent = Spent
+
+-- before the first part
+abbrev pub none_at : Stage Lanes → Taken Lanes
+none_at s = record { place = place_of s; opens = false; reply = Some []; learned = nothing }
+
+abbrev pub taken_of : own.Stage → Drafted → Taken Lanes
+taken_of (stages.Open place) d = taken_at place d
+taken_of stages.Over d = none_at Over
+taken_of stages.Spent d = none_at Spent
 
 -- a checked table, a set that has room, and an own message whose open ranges do not overlap
 pub record IsAble (h : Held) : Type 0 where

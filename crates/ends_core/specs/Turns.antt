@@ -1,33 +1,48 @@
 -- What an end answers, as the definitions have it.
 --     end_fault_number f     the number of a refusal
+--     told_in result         whether a part was taken, or the number of its refusal, unless memory ran out
 --     answer_in result       the answer, unless memory ran out
---     behind h M             the end behind a message
+--     behind_part h p o, behind_end h a     the end behind a part, and behind the end of a message
+--     behind_message h M a   the end behind the parts of a message and its end
+--     behind h M             the end behind a message, of which it had taken no part
 --     Comes s M              the message may come at this stage
 --     IsJudged h M result    what a call answers agrees with whether the message may come
-use Rattle.std.specs.Prelude.{◌≡◌, ℕ, Result, Ok, Err, Option, Some, None, IfSome, if◌then◌else◌, ⊤}
+use Rattle.std.specs.Prelude.{ℕ, List, Result, Ok, Err, Option, Some, None, if◌then◌else◌, fold, ⊤}
 use Rattle.std.specs.List.{AllByRecursion}
 use Rattle.definitions.specs.Fingerprints.{Lanes, two_lanes}
 use Rattle.definitions.specs.Theorems.{IsShort}
-use Rattle.definitions.specs.Messages.{Message, IsOpening}
+use Rattle.definitions.specs.Messages.{Part, Message, IsOpening}
 use Rattle.definitions.specs.Placing.{Placed}
-use Rattle.definitions.specs.Talks.{learn, nothing}
-use Rattle.definitions.specs.Ends.{Stage, Fresh, Waits, Over, Spent, Answer, Replies, Ends, Refuses, answer, after, after_answer, own_of, is_live}
+use Rattle.definitions.specs.Talks.{nothing}
+use Rattle.definitions.specs.Ends.{End, Stage, Fresh, Waits, Over, Spent, Answer, Replies, Ends, Refuses, after, is_live}
+use Rattle.definitions.specs.Taking.{taken, nothing_taken, after_ended}
 use Rattle.definitions.specs.Refusals as codes
 use Rattle.place_core.specs.PlaceFaults.{place_fault_number}
-use Rattle.ends_core.specs.Held.{Held, stage_of}
-use Rattle.ends_core.specs.declared.end.Step.{Step}
+use Rattle.ends_core.specs.Held.{Held}
 use Rattle.ends_core.specs.declared.turn.Turn.{Turn}
 use Rattle.ends_core.specs.declared.turn.Turn.TheVariants as turns
 use Rattle.ends_core.specs.declared.turn.EndFault.{EndFault}
 use Rattle.ends_core.specs.declared.turn.EndFault.TheVariants as faults
-use Rattle.ends_core.specs.declared.replying.ReplyFault.{ReplyFault}
-use Rattle.ends_core.specs.declared.replying.ReplyFault.TheVariants as replies
 
 abbrev pub end_fault_number : EndFault → ℕ
 end_fault_number (faults.Placing f) = place_fault_number f
 end_fault_number faults.TooManyParts = codes.too_many_parts
 end_fault_number faults.Spent = codes.spent
 end_fault_number faults.Memory = codes.no_memory
+
+abbrev pub number_of : EndFault → Option ℕ
+number_of (faults.Placing f) = Some (place_fault_number f)
+number_of faults.TooManyParts = Some codes.too_many_parts
+number_of faults.Spent = Some codes.spent
+number_of faults.Memory = None
+
+abbrev pub some_of : Option ℕ → Option (Option ℕ)
+some_of None = None
+some_of (Some code) = Some (Some code)
+
+abbrev pub told_in : Result ⊤ EndFault → Option (Option ℕ)
+told_in (Ok x) = Some None
+told_in (Err f) = some_of (number_of f)
 
 abbrev pub answer_of : Turn → Answer Lanes
 answer_of (turns.Reply N) = Replies N
@@ -43,17 +58,12 @@ abbrev pub answer_in : Result Turn EndFault → Option (Answer Lanes)
 answer_in (Ok turn) = Some (answer_of turn)
 answer_in (Err f) = refusal_of f
 
+-- the end behind a message, or a refusal, holds no part
+abbrev pub fresh : List ℕ → End Lanes → Held
+fresh steps e = record { steps = steps; end = e; taken = nothing_taken e }
+
 abbrev pub behind : Held → Message Lanes → Held
-behind h M = record h { end = after two_lanes h.end M }
-
-abbrev pub of_reply : ReplyFault → EndFault
-of_reply replies.TooManyParts = faults.TooManyParts
-of_reply replies.Memory = faults.Memory
-
--- whether the message may come now, by what a call answers
-abbrev pub judged_in : Result ⊤ EndFault → Option ℕ
-judged_in (Ok x) = None
-judged_in (Err f) = Some (end_fault_number f)
+behind h M = fresh h.steps (after two_lanes h.end M)
 
 -- the message may come at this stage, by the relation
 abbrev pub Comes : Stage Lanes → Message Lanes → Type 0
@@ -74,16 +84,28 @@ AgreesWith C (Err faults.Memory) = ⊤
 abbrev pub IsJudged : Held → Message Lanes → Result Turn EndFault → Type 0
 IsJudged h M result = AgreesWith (Comes h.end.stage M) result
 
--- a step is what the message makes of the end
-abbrev pub IsStep : Held → Message Lanes → Result Step EndFault → Type 0
-IsStep h M (Ok s) = (answer_of s.turn ≡ answer two_lanes h.end M)
-    × (stage_of s.stage ≡ (after_answer h.end M (answer_of s.turn)).stage)
-    × (s.learned ≡ learn h.end.peer.items (own_of h.end.stage) M)
-IsStep h M (Err f) = IfSome (refusal_of f) (λ a. a ≡ answer two_lanes h.end M)
-
--- the end behind a refusal
+-- the end behind a refusal: a spent end, and one whose session is over, stays as it is
 abbrev pub spend : Held → Held
-spend h = if is_live h.end.stage then record h { end = record h.end { stage = Spent; learned = nothing } } else h
+spend h = if is_live h.end.stage then fresh h.steps (record h.end { stage = Spent; learned = nothing }) else h
+
+abbrev pub behind_part : Held → Part Lanes → Option ℕ → Held
+behind_part h p None = record h { taken = taken two_lanes h.end h.taken p }
+behind_part h p (Some code) = spend h
+
+-- behind parts that are taken
+abbrev pub behind_parts : Held → Message Lanes → Held
+behind_parts h M = record h { taken = fold (taken two_lanes h.end) h.taken M }
+
+abbrev pub behind_end : Held → Answer Lanes → Held
+behind_end h (Replies N) = fresh h.steps (after_ended h.end h.taken (Replies N))
+behind_end h Ends = fresh h.steps (after_ended h.end h.taken Ends)
+behind_end h (Refuses code) = spend h
+
+-- the end behind the parts of a message and its end: what it had taken before counts too
+abbrev pub behind_message : Held → Message Lanes → Answer Lanes → Held
+behind_message h M (Replies N) = behind_end (behind_parts h M) (Replies N)
+behind_message h M Ends = behind_end (behind_parts h M) Ends
+behind_message h M (Refuses code) = spend h
 
 abbrev pub refused : Held → EndFault → Held
 refused h faults.Memory = h

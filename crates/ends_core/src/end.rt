@@ -1,42 +1,47 @@
 //! What the two ends of a session share.
 
-ghost use Rattle.std.specs.Prelude.{◌≡◌, ◌≤◌, ◌<◌, length, IfOk, IfSome, IfNone, IsOk};
-ghost use Rattle.definitions.specs.Items.{Apart};
+ghost use Rattle.std.specs.Prelude.{◌≡◌, ◌≤◌, ◌<◌, true, false, length, IfSome, IfNone, IfErr, Err, OnOk};
 ghost use Rattle.definitions.specs.Fingerprints.{two_lanes};
 ghost use Rattle.definitions.specs.Messages as messages;
+ghost use Rattle.definitions.specs.Placing as placing;
 ghost use Rattle.definitions.specs.Ends as ends;
-ghost use Rattle.definitions.specs.Ends.{is_over};
-ghost use Rattle.definitions.specs.Talks as talks;
+ghost use Rattle.definitions.specs.Ends.{is_live, is_over};
+ghost use Rattle.definitions.specs.Taking.{taken, ended, by_parts};
+ghost use Rattle.ends_core.specs.Held.{IsAble, stage_of, taken_of};
+ghost use Rattle.ends_core.specs.Drafts.{nothing_drafted};
+ghost use Rattle.ends_core.specs.Turns.{answer_in, told_in, refusal_of, fresh, behind_part, behind_parts, behind_end, behind_message, refused, spend};
+ghost use Rattle.ends_core.specs.Closing.{IsClosed};
+ghost use Rattle.definitions.specs.Refusals.{spent};
 ghost use Rattle.definitions.specs.Talks.{nothing};
-ghost use Rattle.ends_core.specs.Held.{IsAble, stage_of};
-ghost use Rattle.ends_core.specs.Turns.{KeepsLimit, answer_in, behind, judged_in, refused, Comes, IsStep};
 
+use crate::draft::Draft;
 use crate::learned::Learned;
-use crate::learning::learn;
-use crate::replying::reply;
 use crate::stage::Stage;
+use crate::taking::take_part;
 use crate::turn::{EndFault, Turn};
 use digest_core::Fingerprint;
-use place_core::{place_message, place_opening};
+use place_core::Place;
 use std::alloc::{AllocError, Global};
 use std::marker::Model;
+use std::mem;
 use store_core::RangeStore;
 use strategy_check::Accepted;
-use wire_core::{Message, Part, PartKind};
+use wire_core::{Message, Part};
 
-/// An end of a session: who speaks, where the session stands, and what was learned.
+/// An end of a session: who speaks, where the session stands, what it took of a message, and what was learned.
 #[derive(Drop)]
 pub(crate) struct End<'a, S: RangeStore> {
     accepted: &'a Accepted,
     store: S,
     stage: Stage,
+    draft: Draft,
     sent: u32,
     learned: Learned,
 }
 
 impl<'a, S: RangeStore> Model for End<'a, S> {
     ghost use Rattle.definitions.specs.Ends as ends;
-    ghost use Rattle.ends_core.specs.Held.{Held, stage_of};
+    ghost use Rattle.ends_core.specs.Held.{Held, stage_of, taken_of};
 
     ghost Value = { Held };
 
@@ -48,80 +53,46 @@ impl<'a, S: RangeStore> Model for End<'a, S> {
         sent = a.sent;
         learned = a.learned;
       };
+      taken = taken_of a.stage a.draft;
     } };
-}
-
-/// Whether the part wants a reply.
-fn is_open(part: &Part) -> bool
-    ensures { result ≡ messages.is_open part.now }
-{
-    part.kind() != PartKind::Answer
-}
-
-/// Whether another message follows.
-fn has_open(message: &Message) -> bool
-    ensures { result ≡ messages.has_open message.now }
-{
-    message.parts().iter().any(|part| is_open(part))
-}
-
-/// Where the session stands behind an own message, of which a copy is kept.
-fn stage_behind(alloc: Global, sent: &Message) -> Result<Stage, AllocError>
-    ensures { IfOk result (λ s. stage_of s ≡ ends.stage_behind sent.now) }
-{
-    if !has_open(sent) {
-        return Ok(Stage::Over);
-    }
-    Ok(Stage::Waits(sent.copy(alloc)?))
-}
-
-/// What a message that is taken changes.
-#[derive(Drop)]
-struct Step {
-    turn: Turn,
-    stage: Stage,
-    learned: Learned,
 }
 
 impl<'a, S: RangeStore> End<'a, S> {
     /// An end that has received nothing, and is spoken to first.
     pub(crate) fn responding(alloc: Global, accepted: &'a Accepted, store: S) -> End<'a, S>
-        ensures { result ≡ record {
-          steps = accepted.now.steps;
-          end = ends.responder
-              (record { table = accepted.now.table; items = S.content store });
-        } }
+        ensures { result ≡ fresh accepted.now.steps (ends.responder
+            (record { table = accepted.now.table; items = S.content store })) }
     {
         End {
             accepted,
             store,
-            stage: Stage::Fresh,
+            stage: Stage::Open(Place::opening(alloc)),
+            draft: Draft::nothing(alloc),
             sent: 0,
             learned: Learned::nothing(alloc),
         }
     }
 
-    /// An end that has sent its first message, and keeps a copy of it.
+    /// An end that has sent its first message, behind which this place stands.
     pub(crate) fn initiating(
         alloc: Global,
         accepted: &'a Accepted,
         store: S,
-        own: Message,
+        place: Place,
     ) -> End<'a, S>
-        ensures { result ≡ record {
-          steps = accepted.now.steps;
-          end = record {
-            peer = record { table = accepted.now.table; items = S.content store };
-            stage = ends.Waits own;
-            sent = 1;
-            learned = nothing;
-          };
-        } }
+        requires { place ≡ record { first = false; own = place.own; now = placing.behind place.own } }
+        ensures { result ≡ fresh accepted.now.steps (record {
+          peer = record { table = accepted.now.table; items = S.content store };
+          stage = ends.Waits place.own;
+          sent = 1;
+          learned = nothing;
+        }) }
     {
         End {
             accepted,
             store,
-            stage: Stage::Waits(own),
+            stage: Stage::Open(place),
+            draft: Draft::nothing(alloc),
             sent: 1,
             learned: Learned::nothing(alloc),
         }
@@ -171,53 +142,29 @@ impl<'a, S: RangeStore> End<'a, S> {
         self.learned
     }
 
-    /// Whether the message may come now.
-    fn judge(&self, message: &Message) -> Result<(), EndFault>
-        ensures fault { judged_in result ≡ ends.stage_fault self.now.end.stage message.now }
-        ensures comes { Apart (messages.open_ranges (ends.own_of self.now.end.stage)) → IsOk result →
-            Comes self.now.end.stage message.now }
+    /// Takes a part, and leaves the rest to `refuse`.
+    fn take_on(&mut self, alloc: Global, part: &Part) -> Result<(), EndFault>
+        requires { IsAble self.old }
+        ensures fault { IfSome (told_in result) (λ o. o ≡ placing.refusal
+            (placing.next self.old.taken.place part.now)) }
+        ensures ok { OnOk result (self.new ≡ record self.old {
+          taken = taken two_lanes self.old.end self.old.taken part.now;
+        }) }
+        ensures end { (self.new.steps ≡ self.old.steps) × (self.new.end ≡ self.old.end) }
+        ensures memory { result ≡ Err EndFault.Memory → self.new ≡ self.old }
+        ensures dead { is_live self.old.end.stage ≡ false → self.new ≡ self.old }
     {
-        match &self.stage {
-            Stage::Fresh => Ok(place_opening(message)?),
-            Stage::Waits(own) => Ok(place_message(own, message)?),
-            Stage::Over | Stage::Spent => Err(EndFault::Spent),
+        match &mut self.stage {
+            Stage::Open(place) => take_part(
+                alloc,
+                self.accepted.strategy(),
+                &self.store,
+                place,
+                &mut self.draft,
+                part,
+            ),
+            _ => Err(EndFault::Spent),
         }
-    }
-
-    /// What is learned from a message that comes now.
-    fn learn(&self, alloc: Global, message: &Message) -> Result<Learned, AllocError>
-        requires apart { Apart (messages.open_ranges (ends.own_of self.now.end.stage)) }
-        requires comes { Comes self.now.end.stage message.now }
-        ensures { IfOk result (λ k. k ≡ talks.learn self.now.end.peer.items (ends.own_of self.now.end.stage)
-            message.now) }
-    {
-        match &self.stage {
-            Stage::Waits(own) => learn(alloc, &self.store, own, message),
-            _ => Ok(Learned::nothing(alloc)),
-        }
-    }
-
-    /// What the message makes of the end. All growth but that of what was learned before is made here.
-    fn step(&self, alloc: Global, message: &Message) -> Result<Step, EndFault>
-        requires { IsAble self.now }
-        ensures { IsStep self.now message.now result }
-    {
-        self.judge(message)?;
-        let learned = self.learn(alloc, message)?;
-        if !has_open(message) {
-            return Ok(Step {
-                turn: Turn::Over,
-                stage: Stage::Over,
-                learned,
-            });
-        }
-        let reply = reply(alloc, self.accepted.strategy(), &self.store, message)?;
-        let stage = stage_behind(alloc, &reply)?;
-        Ok(Step {
-            turn: Turn::Reply(reply),
-            stage,
-            learned,
-        })
     }
 
     /// A refusal leaves the end spent, with nothing learned, unless memory ran out or its session is over.
@@ -228,36 +175,130 @@ impl<'a, S: RangeStore> End<'a, S> {
             (EndFault::Memory, _) | (_, Stage::Over) | (_, Stage::Spent) => {}
             _ => {
                 self.stage = Stage::Spent;
+                self.draft = Draft::nothing(alloc);
                 self.learned = Learned::nothing(alloc);
             }
         }
+    }
+
+    /// Takes the next part of a message, which may be any.
+    pub(crate) fn take(&mut self, alloc: Global, part: &Part) -> Result<(), EndFault>
+        requires { IsAble self.old }
+        ensures fault { IfSome (told_in result) (λ o. o ≡ placing.refusal
+            (placing.next self.old.taken.place part.now)) }
+        ensures behind { IfSome (told_in result) (λ o. self.new ≡ behind_part self.old part.now o) }
+        ensures memory { IfNone (told_in result) (self.new ≡ self.old) }
+    {
+        match self.take_on(alloc, part) {
+            Ok(()) => Ok(()),
+            Err(fault) => {
+                self.refuse(alloc, fault);
+                Err(fault)
+            }
+        }
+    }
+
+    /// Where the session stands behind the end of the message. All growth but that of what was learned before is made here.
+    fn close(&self, alloc: Global) -> Result<Stage, EndFault>
+        ensures { IsClosed self.now result }
+    {
+        let Stage::Open(place) = &self.stage else {
+            return Err(EndFault::Spent);
+        };
+        place.finish()?;
+        self.draft.stage(alloc)
+    }
+
+    /// What the end answers where the message ends here.
+    pub(crate) fn end(&mut self, alloc: Global) -> Result<Turn, EndFault>
+        requires { self.old.end.sent < 4294967295 }
+        ensures answer { IfSome (answer_in result) (λ a. a ≡ ended self.old.taken) }
+        ensures behind { IfSome (answer_in result) (λ a. self.new ≡ behind_end self.old a) }
+        ensures memory { IfNone (answer_in result) (self.new ≡ self.old) }
+    {
+        let stage = match self.close(alloc) {
+            Ok(stage) => stage,
+            Err(fault) => {
+                self.refuse(alloc, fault);
+                return Err(fault);
+            }
+        };
+        self.learned.append(self.draft.learned())?;
+        let draft = mem::replace(&mut self.draft, Draft::nothing(alloc));
+        let turn = draft.into_turn();
+        self.stage = stage;
+        self.sent += turn.messages();
+        Ok(turn)
+    }
+
+    /// Gives up the parts that were taken since the last end of a message.
+    pub(crate) fn drop_parts(&mut self, alloc: Global)
+        ensures { self.new ≡ fresh self.old.steps self.old.end }
+    {
+        if let Stage::Open(place) = &mut self.stage {
+            place.rewind();
+        }
+        self.draft = Draft::nothing(alloc);
+    }
+
+    /// Whether the end takes messages.
+    fn is_live(&self) -> bool
+        ensures live { result ≡ is_live self.now.end.stage }
+        ensures dead { is_live self.now.end.stage ≡ false → self.now.taken.place ≡ placing.Refused spent }
+    {
+        matches!(self.stage, Stage::Open(_))
+    }
+
+    /// Takes parts one after another, up to the first that is refused.
+    fn take_all(&mut self, alloc: Global, parts: &[Part]) -> Result<(), EndFault>
+        requires able { IsAble self.old }
+        requires live { is_live self.old.end.stage ≡ true }
+        ensures all { OnOk result (self.new ≡ behind_parts self.old parts.now) }
+        ensures answer { OnOk result (by_parts two_lanes self.old.end self.old.taken parts.now ≡ ended self.new.taken) }
+        ensures refused { IfErr result (λ f. IfSome (refusal_of f) (λ a.
+            (by_parts two_lanes self.old.end self.old.taken parts.now ≡ a) × (self.new ≡ spend self.old))) }
+        ensures memory { IfErr result (λ f. IfNone (refusal_of f)
+            ((self.new.steps ≡ self.old.steps) × (self.new.end ≡ self.old.end))) }
+    {
+        for part in parts {
+            self.take(alloc, part)?;
+        }
+        Ok(())
+    }
+
+    /// Takes parts, and then the end of the message.
+    fn receive_on(&mut self, alloc: Global, parts: &[Part]) -> Result<Turn, EndFault>
+        requires able { IsAble self.old }
+        requires room { self.old.end.sent < 4294967295 }
+        requires live { is_live self.old.end.stage ≡ true }
+        ensures answer { IfSome (answer_in result) (λ a. a
+            ≡ by_parts two_lanes self.old.end self.old.taken parts.now) }
+        ensures behind { IfSome (answer_in result) (λ a. self.new ≡ behind_end (behind_parts self.old parts.now) a) }
+        ensures memory { IfNone (answer_in result) ((self.new.steps ≡ self.old.steps) × (self.new.end ≡ self.old.end)) }
+    {
+        self.take_all(alloc, parts)?;
+        self.end(alloc)
     }
 
     /// What the end answers to a message, which may be any.
     pub(crate) fn receive(&mut self, alloc: Global, message: &Message) -> Result<Turn, EndFault>
         requires able { IsAble self.old }
         requires room { self.old.end.sent < 4294967295 }
-        ensures answer { IfSome (answer_in result) (λ a. a ≡ ends.answer two_lanes self.old.end message.now) }
-        ensures behind { IfSome (answer_in result) (λ _. self.new ≡ behind self.old message.now) }
-        ensures memory { IfNone (answer_in result) (self.new ≡ self.old) }
-        ensures short { KeepsLimit self.old result }
+        ensures answer { IfSome (answer_in result) (λ a. a
+            ≡ by_parts two_lanes self.old.end self.old.taken message.now) }
+        ensures behind { IfSome (answer_in result) (λ a. self.new ≡ behind_message self.old message.now a) }
+        ensures memory { IfNone (answer_in result) (self.new ≡ fresh self.old.steps self.old.end) }
     {
-        laws::replies_are_short::<Fingerprint>();
-        let step = match self.step(alloc, message) {
-            Ok(step) => step,
-            Err(fault) => {
-                self.refuse(alloc, fault);
-                return Err(fault);
+        if !self.is_live() {
+            return Err(EndFault::Spent);
+        }
+        match self.receive_on(alloc, message.parts()) {
+            Ok(turn) => Ok(turn),
+            Err(EndFault::Memory) => {
+                self.drop_parts(alloc);
+                Err(EndFault::Memory)
             }
-        };
-        let Step {
-            turn,
-            stage,
-            learned,
-        } = step;
-        self.learned.append(&learned)?;
-        self.stage = stage;
-        self.sent += turn.messages();
-        Ok(turn)
+            Err(fault) => Err(fault),
+        }
     }
 }

@@ -1,6 +1,6 @@
 //! What a peer learns.
 
-ghost use Rattle.std.specs.Prelude.{◌≡◌, [], OnOk, OnErr};
+ghost use Rattle.std.specs.Prelude.{◌≡◌, [], OnOk, OnErr, take, length};
 ghost use Rattle.definitions.specs.Talks.{nothing, and_then};
 
 use item_core::Item;
@@ -62,5 +62,13 @@ impl Learned {
         self.ours.reserve(later.ours.len())?;
         self.theirs.extend_from_slice(&later.theirs)?;
         self.ours.extend_from_slice(&later.ours)
+    }
+
+    /// Gives up what was added behind so many items.
+    pub(crate) fn cut(&mut self, ours: usize, theirs: usize)
+        ensures { self.new ≡ record { ours = take ours self.old.ours; theirs = take theirs self.old.theirs } }
+    {
+        self.ours.truncate(ours);
+        self.theirs.truncate(theirs);
     }
 }

@@ -3,6 +3,7 @@
 
 mod answering;
 mod cutting;
+mod draft;
 mod end;
 mod initiator;
 mod input;
@@ -13,13 +14,13 @@ mod output;
 mod replying;
 mod responder;
 mod stage;
+mod taking;
 mod turn;
 
 pub use answering::{AnswerFault, answer};
 pub use initiator::Initiator;
 pub use input::{InputFault, MAX_INPUT, read_input};
 pub use learned::Learned;
-pub use learning::learn;
 pub use listing::{ListReplyFault, list_reply};
 pub use output::{WriterFailed, write_output};
 pub use responder::Responder;

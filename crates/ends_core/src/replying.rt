@@ -1,14 +1,12 @@
-//! The reply to a message under a strategy.
+//! The reply to a part of a message under a strategy.
 
-ghost use Rattle.std.specs.Prelude.{◌≡◌, ◌++◌, ◌<◌, ◌≤◌, ◌^◌, map, length, not, Err, IfOk, OnOk, IsTrue, IsFalse};
-ghost use Rattle.definitions.specs.Ends.{is_sendable};
+ghost use Rattle.std.specs.Prelude.{◌≡◌, ◌++◌, ◌<◌, ◌≤◌, ◌^◌, map, length, not, IfOk, OnOk, IsTrue};
 ghost use Rattle.definitions.specs.Fingerprints.{two_lanes};
 ghost use Rattle.definitions.specs.Messages.{Sum, Listing};
 ghost use Rattle.definitions.specs.Replies as replies;
 ghost use Rattle.definitions.specs.Sets.{has, items_in};
 ghost use Rattle.definitions.specs.Strategies.{IsTable, act, shares, is_split};
 ghost use Rattle.definitions.specs.Wire.{two_lane_profile, IsPart};
-ghost use Rattle.ends_core.specs.declared.replying.ReplyFault.TheVariants as faults;
 
 use crate::cutting::cut_range;
 use crate::learning::push_unlisted;
@@ -17,32 +15,7 @@ use item_core::{Item, Range};
 use std::alloc::{AllocError, Global};
 use store_core::RangeStore;
 use strategy_core::{Act, Strategy};
-use wire_core::{MAX_PARTS, Marks, Message, Part, PartKind, TooManyParts};
-
-/// Why a message has no reply.
-#[derive(Clone, Copy, Debug, PartialEq, Eq)]
-pub(crate) enum ReplyFault {
-    /// The reply would have more than 131,072 parts.
-    TooManyParts,
-    /// Memory ran out.
-    Memory,
-}
-
-impl From<AllocError> for ReplyFault {
-    ghost from_gives = { λ _ e. e ≡ faults.Memory };
-
-    fn from(_refused: AllocError) -> ReplyFault {
-        ReplyFault::Memory
-    }
-}
-
-impl From<TooManyParts> for ReplyFault {
-    ghost from_gives = { λ _ e. e ≡ faults.TooManyParts };
-
-    fn from(_fault: TooManyParts) -> ReplyFault {
-        ReplyFault::TooManyParts
-    }
-}
+use wire_core::{Marks, Part, PartKind};
 
 /// A mark for each listed item that the store lacks.
 fn marks_of<S: RangeStore>(alloc: Global, store: &S, listed: &[Item]) -> Result<Marks, AllocError>
@@ -205,30 +178,18 @@ fn push_reply<S: RangeStore>(
     Ok(())
 }
 
-/// The reply to a message.
-///
-/// Refused where it would have more than 131,072 parts. It is given up at the part of the message that makes them too
-/// many, so that no more than that and one part's reply are ever held.
-pub(crate) fn reply<S: RangeStore>(
+/// The reply to a part.
+pub(crate) fn reply_part<S: RangeStore>(
     alloc: Global,
     strategy: &Strategy,
     store: &S,
-    message: &Message,
-) -> Result<Message, ReplyFault>
+    part: &Part,
+) -> Result<Vec<Part>, AllocError>
     requires { length (S.content store.now) ≤ strategy.now.cap }
-    ensures reply { IfOk result (λ m. m ≡ replies.reply two_lanes
-        (record { table = strategy.now; items = S.content store.now }) message.now) }
-    ensures sendable { OnOk result (IsTrue (is_sendable (replies.reply two_lanes
-        (record { table = strategy.now; items = S.content store.now }) message.now))) }
-    ensures many { result ≡ Err ReplyFault.TooManyParts → IsFalse (is_sendable (replies.reply two_lanes
-        (record { table = strategy.now; items = S.content store.now }) message.now)) }
+    ensures { IfOk result (λ parts. parts.items ≡ replies.reply_to two_lanes
+        (record { table = strategy.now; items = S.content store.now }) part.now) }
 {
     let mut parts = Vec::new(alloc);
-    for part in message.parts() {
-        push_reply(alloc, strategy, store, part, &mut parts)?;
-        if parts.len() > MAX_PARTS {
-            return Err(ReplyFault::TooManyParts);
-        }
-    }
-    Ok(Message::new(parts)?)
+    push_reply(alloc, strategy, store, part, &mut parts)?;
+    Ok(parts)
 }

@@ -7,7 +7,10 @@ ghost use Rattle.definitions.specs.Fingerprints.{two_lanes};
 ghost use Rattle.definitions.specs.Ranks.{rank_by};
 ghost use Rattle.definitions.specs.Ends as ends;
 ghost use Rattle.definitions.specs.Ends.{is_over};
-ghost use Rattle.ends_core.specs.Turns.{IsJudged, KeepsLimit, answer_in, behind};
+ghost use Rattle.definitions.specs.Placing as placing;
+ghost use Rattle.definitions.specs.Taking.{ended, by_parts};
+ghost use Rattle.ends_core.specs.Held.{HasNone};
+ghost use Rattle.ends_core.specs.Turns.{IsJudged, KeepsLimit, answer_in, told_in, behind, behind_part, behind_end, behind_message, fresh};
 
 use crate::end::End;
 use crate::learned::Learned;
@@ -17,7 +20,7 @@ use std::alloc::Global;
 use std::marker::Model;
 use store_core::RangeStore;
 use strategy_check::Accepted;
-use wire_core::Message;
+use wire_core::{Message, Part};
 
 /// The end of a session that is spoken to first.
 #[derive(Drop)]
@@ -41,11 +44,8 @@ impl<'a, S: RangeStore> Responder<'a, S> {
     /// An end that has received nothing.
     pub fn new(alloc: Global, accepted: &'a Accepted, store: S) -> Responder<'a, S>
         requires { length (S.content store) ≤ accepted.now.table.cap }
-        ensures { result ≡ record {
-          steps = accepted.now.steps;
-          end = ends.responder
-              (record { table = accepted.now.table; items = S.content store });
-        } }
+        ensures { result ≡ fresh accepted.now.steps (ends.responder
+            (record { table = accepted.now.table; items = S.content store })) }
     {
         let _ = accepted.cap();
         Responder {
@@ -53,17 +53,69 @@ impl<'a, S: RangeStore> Responder<'a, S> {
         }
     }
 
-    /// What the end answers to a message, which may be any: the reply, or that the session is over.
+    /// Takes the next part of a message, which may be any.
+    ///
+    /// Refused 20 to 25 where it is not placed: the end is spent then, and nothing is learned. Refused 26 where a message was
+    /// refused before, or the session is over, and 90 where memory ran out: the end is as before.
+    pub fn take(&mut self, alloc: Global, part: &Part) -> Result<(), EndFault>
+        ensures fault { IfSome (told_in result) (λ o. o ≡ placing.refusal
+            (placing.next self.old.taken.place part.now)) }
+        ensures behind { IfSome (told_in result) (λ o. self.new ≡ behind_part self.old part.now o) }
+        ensures memory { IfNone (told_in result) (self.new ≡ self.old) }
+    {
+        laws::ends_stand_firm::<Fingerprint>();
+        laws::ends_hear_on::<Fingerprint>();
+        laws::ends_keep_peers::<Fingerprint>();
+        laws::parts_are_taken::<Fingerprint>();
+        let _range = part.range(); // which tells that it has a spelling
+        self.end.take(alloc, part)
+    }
+
+    /// What the end answers where the message ends behind the parts that were taken: the reply, or that the session is over.
+    ///
+    /// Refused 20, 22 or 23 where something is missing, 12 where the reply would have more than 131,072 parts: the end is spent
+    /// then, and nothing is learned. Refused 26 where a message was refused before, or the session is over, and 90 where memory
+    /// ran out: the end is as before.
+    pub fn end(&mut self, alloc: Global) -> Result<Turn, EndFault>
+        ensures answer { IfSome (answer_in result) (λ a. a ≡ ended self.old.taken) }
+        ensures behind { IfSome (answer_in result) (λ a. self.new ≡ behind_end self.old a) }
+        ensures memory { IfNone (answer_in result) (self.new ≡ self.old) }
+        ensures short { KeepsLimit self.old result }
+    {
+        laws::ends_stand_firm::<Fingerprint>();
+        laws::ends_hear_on::<Fingerprint>();
+        laws::ends_keep_peers::<Fingerprint>();
+        laws::parts_are_taken::<Fingerprint>();
+        laws::replies_are_short::<Fingerprint>();
+        rank_laws::ranks_are_read();
+        self.end.end(alloc)
+    }
+
+    /// Gives up the parts that were taken since the last end of a message.
+    pub fn drop_parts(&mut self, alloc: Global)
+        ensures { self.new ≡ fresh self.old.steps self.old.end }
+    {
+        self.end.drop_parts(alloc);
+    }
+
+    /// What the end answers to a message, which may be any: the reply, or that the session is over. It is what `take` over its
+    /// parts, up to the first that is refused, and then `end` answer; where memory runs out the parts are given up.
     ///
     /// Refused 20 to 25 where the message is not placed behind the own one, 12 where the reply would have more than 131,072
     /// parts: the end is spent then, and nothing is learned. Refused 26 where a message was refused before, or the session
-    /// is over, and 90 where memory ran out: the end is as before.
+    /// is over, and 90 where memory ran out: the end is as before its first part.
     pub fn receive(&mut self, alloc: Global, message: &Message) -> Result<Turn, EndFault>
-        ensures judged { IsJudged self.old message.now result }
-        ensures answer { IfSome (answer_in result) (λ a. a ≡ ends.answer two_lanes self.old.end message.now) }
-        ensures behind { IfSome (answer_in result) (λ _. self.new ≡ behind self.old message.now) }
-        ensures memory { IfNone (answer_in result) (self.new ≡ self.old) }
+        ensures judged { HasNone self.old → IsJudged self.old message.now result }
+        ensures answer { HasNone self.old →
+            IfSome (answer_in result) (λ a. a ≡ ends.answer two_lanes self.old.end message.now) }
+        ensures behind { HasNone self.old → IfSome (answer_in result) (λ _. self.new ≡ behind self.old message.now) }
+        ensures memory { HasNone self.old → IfNone (answer_in result) (self.new ≡ self.old) }
         ensures short { KeepsLimit self.old result }
+        // Where parts were taken before, they belong to the message.
+        ensures parts { IfSome (answer_in result) (λ a. a
+            ≡ by_parts two_lanes self.old.end self.old.taken message.now) }
+        ensures ended { IfSome (answer_in result) (λ a. self.new ≡ behind_message self.old message.now a) }
+        ensures dropped { IfNone (answer_in result) (self.new ≡ fresh self.old.steps self.old.end) }
     {
         laws::ends_stand_firm::<Fingerprint>();
         laws::ends_hear_on::<Fingerprint>();
@@ -71,6 +123,8 @@ impl<'a, S: RangeStore> Responder<'a, S> {
         laws::opening_is_exact::<Fingerprint>();
         laws::placing_is_exact::<Fingerprint>();
         laws::messages_have_ranges::<Fingerprint>();
+        laws::parts_are_taken::<Fingerprint>();
+        laws::replies_are_short::<Fingerprint>();
         rank_laws::ranks_are_read();
         let _parts = message.parts(); // which tells that they have a spelling
         self.end.receive(alloc, message)

@@ -1,12 +1,10 @@
-use wire_core::Message;
+use place_core::Place;
 
 /// Where an end's session stands.
 #[derive(Debug, Drop)]
 pub(crate) enum Stage {
-    /// A responder that has received nothing.
-    Fresh,
-    /// The own message that was sent last waits for the peer's.
-    Waits(Message),
+    /// The peer's message is due, or has come in part: where its placing stands.
+    Open(Place),
     /// A message without open part was sent or received.
     Over,
     /// A message was refused.

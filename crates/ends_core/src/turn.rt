@@ -1,8 +1,7 @@
 ghost use Rattle.std.specs.Prelude.{◌≡◌};
-ghost use Rattle.ends_core.specs.Turns.{end_fault_number, of_reply, messages_in};
+ghost use Rattle.ends_core.specs.Turns.{end_fault_number, messages_in};
 ghost use Rattle.ends_core.specs.declared.turn.EndFault.TheVariants as faults;
 
-use crate::replying::ReplyFault;
 use place_core::PlaceFault;
 use std::alloc::AllocError;
 use wire_core::Message;
@@ -60,17 +59,6 @@ impl From<PlaceFault> for EndFault {
 
     fn from(fault: PlaceFault) -> EndFault {
         EndFault::Placing(fault)
-    }
-}
-
-impl From<ReplyFault> for EndFault {
-    ghost from_gives = { λ f e. e ≡ of_reply f };
-
-    fn from(fault: ReplyFault) -> EndFault {
-        match fault {
-            ReplyFault::TooManyParts => EndFault::TooManyParts,
-            ReplyFault::Memory => EndFault::Memory,
-        }
     }
 }
 

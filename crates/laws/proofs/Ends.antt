@@ -1,5 +1,5 @@
 -- What ranks bound: the messages of a talk, and what one end is led to compare. What the limit bounds: lists.
-use Rattle.std.proofs.Common.{◌≡◌, ℕ, zero, suc, ◌≤◌, true, List, [], ◌∷◌, length, refl, ◌+◌, ◌-◌, ◌*◌, false, min, arith, cond, ◌<◌, Bool, None, sym, subst, inl, inr}
+use Rattle.std.proofs.Common.{◌≡◌, ℕ, zero, suc, ◌≤◌, true, List, [], ◌∷◌, length, refl, ◌+◌, ◌-◌, ◌*◌, false, min, arith, cond, ◌<◌, ◌∙◌, Bool, Option, Some, None, sym, subst, inl, inr}
 use Rattle.std.specs.Prelude.{⊤, nat_le}
 use Rattle.std.specs.List.{filter}
 use Rattle.definitions.proofs.Words.{AllByRecursion, list_any, list_all, Rises, Item, Range, whole, items_in, Summary, Part, Sum, Listing, Answer, Message, range_of, has_open, opening, RangesRise, is_open, Profile, IsPart, IsMessage, Peer, reply, talk_from, Ready, rank, MessagesAreFew, IsShort, KeepLimits, ListsAreShort, RepliesAreShort, EndsKeepLimits, place_fault, opening_fault, End, answers, initiator, responder, Row, act_in, is_split, IsTable, keeps_limit, Accepted, AreSums, Follows, FollowsAll, cut_range, open_parts}
@@ -7,7 +7,10 @@ use Rattle.definitions.proofs.Lemmas.{cond_both, false≢true, and_parts, or_cas
 use Rattle.laws.specs.Cutting.{CutsAreExact, TalksHaveRanges}
 use Rattle.rank_laws.proofs.Tables.{covers}
 use Rattle.laws.proofs.Placing.{rises_append, sums-cuts, Placed-from_accepted, opening_exact}
-use Rattle.laws.proofs.Saying.{answers-All}
+use Rattle.laws.proofs.Saying.{answers-All, after-peer}
+use Rattle.definitions.specs.Ends.{after, stage_fault}
+use Rattle.definitions.specs.Engines.{called, called_unless, calls}
+use Rattle.laws.specs.Hearing.{OwnIsShort}
 use Rattle.laws.proofs.Cuts.{ranges-IsWithin, IsWithin, length-items_in-le, ranges-rise, flat_map-ranges, peer_cuts, peer_cutup, peer_cutup-AreCuts, peer_cutup-IsWithin, reply-each, reply-rises, talk_from-All, length-items_in-le_all, slice_index-le, IsUnder, SumsUnder, reply-own, reply-other, reply-no_sums, within-IsUnder, IsSumUnder}
 
 -- ==== What a cut is, and that honest ranges rise
@@ -34,6 +37,9 @@ IsPart-rises P p h = grind arith
 
 pub messages_have_ranges : {F : Type 0} (P : Profile F) (M : Message F) → IsMessage P M → RangesRise M
 messages_have_ranges P M h = All-map (IsPart P) (λ p. Rises (range_of p)) (IsPart-rises P) M h.parts
+
+pub parts_have_ranges : {F : Type 0} (P : Profile F) (M : Message F) → AllByRecursion (IsPart P) M → RangesRise M
+parts_have_ranges P M h = All-map (IsPart P) (λ p. Rises (range_of p)) (IsPart-rises P) M h
 
 -- ==== The talk of two peers is short
 
@@ -162,3 +168,19 @@ pub ends_keep_limits : {F : Type 0} (S : Summary F) → EndsKeepLimits S
 ends_keep_limits {F} S P Ms t a room = (((tt, tt), said (initiator S P) refl), said (responder P) refl) where
   said : (e : End F) → e.peer ≡ P → AllByRecursion (AllByRecursion (IsShort P.table.limit)) (answers S e Ms)
   said e is = answers-All S P (AllByRecursion (IsShort P.table.limit)) (λ M. replies_are_short S P M t a room) e Ms is
+
+-- and of all that is called for
+called-short : {F : Type 0} (S : Summary F) (P : Peer) (C : Message F → Type 0) → ((M : Message F) → C (reply S P M)) → (e : End F) (M : Message F) → e.peer ≡ P → AllByRecursion C (called S e M)
+called-short {F} S P C each e M is = by (stage_fault e.stage M) where
+  by : (o : Option ℕ) → AllByRecursion C (called_unless S e.peer M o)
+  by (Some code) = tt
+  by None = cond_both (has_open M) (reply S e.peer M ∷ []) [] (AllByRecursion C) (λ o. (subst (λ Q. C (reply S Q M)) (sym is) (each M), tt)) (λ o. tt)
+
+calls-short : {F : Type 0} (S : Summary F) (P : Peer) (C : Message F → Type 0) → ((M : Message F) → C (reply S P M)) → (e : End F) (Ms : List (Message F)) → e.peer ≡ P → AllByRecursion C (calls S e Ms)
+calls-short S P C each e [] is = tt
+calls-short S P C each e (M ∷ Ms) is = All-append C (called S e M) (calls S (after S e M) Ms) (called-short S P C each e M is) (calls-short S P C each (after S e M) Ms (after-peer S e M ∙ is))
+
+pub own_is_short : {F : Type 0} (S : Summary F) → OwnIsShort S
+own_is_short {F} S P Ms t a room = (((tt, tt), all (initiator S P) refl), all (responder P) refl) where
+  all : (e : End F) → e.peer ≡ P → AllByRecursion (AllByRecursion (IsShort P.table.limit)) (calls S e Ms)
+  all e is = calls-short S P (AllByRecursion (IsShort P.table.limit)) (λ M. replies_are_short S P M t a room) e Ms is

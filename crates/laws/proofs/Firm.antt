@@ -1,14 +1,16 @@
 -- One end, whatever its peer sends: its own message stays apart, what it learned settled, and the messages it sent few.
 use Rattle.std.proofs.Common.{◌≡◌, ℕ, ◌+◌, ◌≤◌, ◌∙◌, List, [], ◌∷◌, Option, Some, None, refl, sym, ap, subst, arith}
 use Rattle.std.specs.List.{IsDistinct}
-use Rattle.definitions.proofs.Words.{AllByRecursion, Item, Apart, Summary, Message, has_open, open_ranges, opening, opening_fault, place_fault, Profile, IsMessage, Peer, reply, Knowledge, nothing, and_then, learn, IsHonest, IsSettled, Ready, rank, RangesRise, EndsStandFirm, StandsFirm, End, Fresh, Over, Spent, Stage, Waits, after, after_answer, answer_unless, gained, heard, initiator, responder}
+use Rattle.definitions.proofs.Words.{AllByRecursion, Item, Apart, Summary, Message, has_open, open_ranges, opening, opening_fault, place_fault, Profile, AreParts, Peer, reply, Knowledge, nothing, and_then, learn, IsHonest, IsSettled, Ready, rank, RangesRise, EndsStandFirm, StandsFirm, End, Fresh, Over, Spent, Stage, Waits, after, after_answer, answer_unless, gained, heard, initiator, responder}
 use Rattle.definitions.proofs.Lemmas.{cond_both, All-map}
 use Rattle.laws.proofs.Placing.{Placed-from_accepted, placed_are_apart, replies_are_apart, opening_exact}
 use Rattle.laws.proofs.Knowledge.{items_in-whole, replies_are_honest}
 use Rattle.laws.proofs.Once.{learns_once}
 use Rattle.laws.proofs.Saying.{answer-cases, after-peer, answers-counted}
-use Rattle.laws.proofs.Ends.{messages_have_ranges}
+use Rattle.laws.proofs.Ends.{parts_have_ranges}
 use Rattle.laws.proofs.Stops.{initiator_stops, responder_stops}
+use Rattle.laws.proofs.Opens.{All-open, apart-open, settled-open}
+use Rattle.definitions.specs.Messages.{open_parts}
 
 -- ---- what is settled
 
@@ -59,8 +61,12 @@ answered {F} S f e r M apart settled =
     let N = reply S e.peer M in
     let over = settled_over (gained e M) N settled in
     answer-cases S e.peer M (λ a. FirmEnd S (after_answer e M a))
-    (λ o. cond_both (has_open N) (Waits N) Over (FirmBy S e.peer (gained e M))
-    (λ more. record { honest = replies_are_honest S e.peer M; apart = replies_are_apart S e.peer f M r apart; settled = settled })
+    (λ o. cond_both (has_open N) (Waits (open_parts N)) Over (FirmBy S e.peer (gained e M))
+    (λ more. record {
+      honest = All-open (IsHonest S e.peer.items) N (replies_are_honest S e.peer M);
+      apart = apart-open N (replies_are_apart S e.peer f M r apart);
+      settled = settled-open (gained e M) N settled;
+    })
     (λ none. over))
     over
     (nothing_settled [])
@@ -72,7 +78,7 @@ opening_apart M h = subst (λ N. Apart (open_ranges N)) (sym ((opening_exact M).
 opening_teaches : {F : Type 0} (A : List Item) (M : Message F) → opening_fault M ≡ None → learn A [] M ≡ nothing
 opening_teaches A M h = ap (learn A []) ((opening_exact M).0 h).1
 
-after_firm : {F : Type 0} (S : Summary F) (Q : Profile F) (f : List ℕ) (e : End F) (M : Message F) → Ready e.peer f → IsMessage Q M → FirmEnd S e → FirmEnd S (after S e M)
+after_firm : {F : Type 0} (S : Summary F) (Q : Profile F) (f : List ℕ) (e : End F) (M : Message F) → Ready e.peer f → AreParts Q M → FirmEnd S e → FirmEnd S (after S e M)
 after_firm {F} S Q f e M r right h = by e.stage h where
   by : (s : Stage F) → FirmBy S e.peer e.learned s → FirmEnd S (after S (record e { stage = s }) M)
   by Fresh none = fault (opening_fault M) refl where
@@ -84,7 +90,7 @@ after_firm {F} S Q f e M r right h = by e.stage h where
     fault : (o : Option ℕ) → place_fault own M ≡ o → FirmEnd S (after_answer (record e { stage = Waits own }) M (answer_unless S e.peer M o))
     fault (Some code) p = nothing_settled []
     fault None p =
-        let rises = messages_have_ranges Q M right in
+        let rises = parts_have_ranges Q M right in
         let placed = Placed-from_accepted own M p in
         answered S f (record e { stage = Waits own }) r M (placed_are_apart own M h.apart rises placed)
         (learns_once S Q e.peer e.learned own M r.set h.honest h.apart right placed h.settled)
@@ -93,7 +99,7 @@ after_firm {F} S Q f e M r right h = by e.stage h where
 
 -- ---- many
 
-heard_firm : {F : Type 0} (S : Summary F) (Q : Profile F) (f : List ℕ) (P : Peer) (Ms : List (Message F)) (e : End F) → Ready P f → AllByRecursion (IsMessage Q) Ms → e.peer ≡ P →
+heard_firm : {F : Type 0} (S : Summary F) (Q : Profile F) (f : List ℕ) (P : Peer) (Ms : List (Message F)) (e : End F) → Ready P f → AllByRecursion (AreParts Q) Ms → e.peer ≡ P →
     FirmEnd S e → FirmEnd S (heard S e Ms)
 heard_firm S Q f P [] e r right is h = h
 heard_firm S Q f P (M ∷ Ms) e r right is h =
@@ -101,7 +107,7 @@ heard_firm S Q f P (M ∷ Ms) e r right is h =
 
 pub ends_stand_firm : {F : Type 0} (S : Summary F) → EndsStandFirm S
 ends_stand_firm {F} S Q P f Ms r right =
-    let rise = All-map (IsMessage Q) RangesRise (messages_have_ranges Q) Ms right in (
+    let rise = All-map (AreParts Q) RangesRise (parts_have_ranges Q) Ms right in (
       firm_stands S P f 2 (heard S (initiator S P) Ms) (omega (arith, answers-counted S (initiator S P) Ms, initiator_stops S P f Ms r rise)) (heard_firm S Q f P Ms (initiator S P) r right refl record {
         honest = (ap S.of (sym (items_in-whole P.items)), tt);
         apart = (refl, tt, tt);

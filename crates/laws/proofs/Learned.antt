@@ -1,9 +1,10 @@
 -- What an end learned, whatever its peer sends.
 use Rattle.std.proofs.Common.{◌≡◌, ◌∙◌, true, false, List, [], ◌∷◌, ◌++◌, refl, sym, ap, append_assoc}
 use Rattle.std.specs.Prelude.{◌≢◌, Bool, if◌then◌else◌}
-use Rattle.definitions.proofs.Words.{Summary, Message, has_open, opening, Item, Knowledge, nothing, and_then, knows, learn, InitiatorLearns, ResponderLearns, End, Ends, Fresh, Over, Refuses, Replies, Spent, Stage, Waits, after, after_answer, answer, answers, gained, heard, initiator, responder, is_live, own_of, replied, taken, takes}
+use Rattle.definitions.proofs.Words.{Summary, Message, has_open, opening, open_parts, Item, Knowledge, nothing, and_then, knows, learn, InitiatorLearns, ResponderLearns, End, Ends, Fresh, Over, Refuses, Replies, Spent, Stage, Waits, after, after_answer, answer, answers, gained, heard, initiator, responder, is_live, own_of, replied, unless_refused, takes}
 use Rattle.definitions.specs.Ends.{Answer}
 use Rattle.definitions.proofs.Lemmas.{append-nil, cond-true}
+use Rattle.laws.proofs.Opens.{learn-open}
 use Rattle.laws.proofs.Saying.{says_none, takes_none}
 
 -- ---- knowledge
@@ -31,7 +32,7 @@ takes_no_more S e [] over = refl
 takes_no_more {F} S e (M ∷ Ms) over =
     ap (λ Ns. Ns ++ takes S (after S e M) Ms) (refused e.stage over)
     ∙ ap (λ d. takes S d Ms) (takes_none S e M over).1 ∙ takes_no_more S e Ms over where
-      refused : (s : Stage F) → is_live s ≡ false → taken M (answer S (record e { stage = s }) M) ≡ []
+      refused : (s : Stage F) → is_live s ≡ false → unless_refused M (answer S (record e { stage = s }) M) ≡ []
       refused Fresh h = absurd cc
       refused (Waits own) h = absurd cc
       refused Over h = refl
@@ -47,25 +48,26 @@ learns_no_more S e owns Ms over =
 
 -- ---- one message
 
-waits_for : {F : Type 0} (wanted : Bool) (N : Message F) → is_live (if wanted then Waits N else Over) ≡ true →
-    own_of (if wanted then Waits N else Over) ≡ N
+waits_for : {F : Type 0} (wanted : Bool) (N : Message F) → is_live (if wanted then Waits (open_parts N) else Over) ≡ true →
+    own_of (if wanted then Waits (open_parts N) else Over) ≡ open_parts N
 waits_for true N live = refl
 waits_for false N live = absurd cc
 
 -- what is known behind it, and from later messages
-gained_then : {F : Type 0} (e : End F) (own M : Message F) (k : Knowledge) → own_of e.stage ≡ own →
+gained_then : {F : Type 0} (e : End F) (own M : Message F) (k : Knowledge) → own_of e.stage ≡ open_parts own →
     and_then (gained e M) k ≡ and_then e.learned (and_then (learn e.peer.items own M) k)
 gained_then e own M k is = then_assoc e.learned (learn e.peer.items (own_of e.stage) M) k
     ∙ ap (λ N. and_then e.learned (and_then (learn e.peer.items N M) k)) is
+    ∙ ap (λ l. and_then e.learned (and_then l k)) (learn-open e.peer.items own M)
 
 -- the end d behind this answer, and what it learns from later messages
 goes_on : {F : Type 0} (S : Summary F) (e d : End F) (own M : Message F) (a : Answer F) (Ms : List (Message F)) →
-    d ≡ after_answer e M a → own_of e.stage ≡ own →
-    ((N : Message F) → (is_live d.stage ≡ true → own_of d.stage ≡ N) →
+    d ≡ after_answer e M a → own_of e.stage ≡ open_parts own →
+    ((N : Message F) → (is_live d.stage ≡ true → own_of d.stage ≡ open_parts N) →
     (heard S d Ms).learned ≡ and_then d.learned (knows d.peer.items (N ∷ answers S d Ms) (takes S d Ms))) →
     (heard S d Ms).stage ≢ Spent →
     (heard S d Ms).learned ≡ and_then e.learned
-    (knows e.peer.items (own ∷ (replied a ++ answers S d Ms)) (taken M a ++ takes S d Ms))
+    (knows e.peer.items (own ∷ (replied a ++ answers S d Ms)) (unless_refused M a ++ takes S d Ms))
 goes_on S e d own M (Replies N) Ms is sent later ok =
     let k : Knowledge = knows d.peer.items (N ∷ answers S d Ms) (takes S d Ms) in
     later N (λ live. ap (λ x. own_of x.stage) is ∙ waits_for (has_open N) N (sym (ap (λ x. is_live x.stage) is) ∙ live))
@@ -82,8 +84,8 @@ goes_on S e d own M (Refuses code) Ms is sent later ok =
     absurd (ok (ap (λ x. x.stage) (says_none S d Ms (ap (λ x. is_live x.stage) is)).1 ∙ ap (λ x. x.stage) is))
 
 heard_one : {F : Type 0} (S : Summary F) (e : End F) (own M : Message F) (Ms : List (Message F)) (b : Bool) →
-    is_live e.stage ≡ b → (is_live e.stage ≡ true → own_of e.stage ≡ own) →
-    ((N : Message F) → (is_live (after S e M).stage ≡ true → own_of (after S e M).stage ≡ N) →
+    is_live e.stage ≡ b → (is_live e.stage ≡ true → own_of e.stage ≡ open_parts own) →
+    ((N : Message F) → (is_live (after S e M).stage ≡ true → own_of (after S e M).stage ≡ open_parts N) →
     (heard S (after S e M) Ms).learned ≡ and_then (after S e M).learned
     (knows (after S e M).peer.items (N ∷ answers S (after S e M) Ms) (takes S (after S e M) Ms))) →
     (heard S (after S e M) Ms).stage ≢ Spent →
@@ -97,11 +99,11 @@ heard_one S e own M Ms false over sent later ok = learns_no_more S e (own ∷ an
 -- ---- many
 
 pub learns_by : {F : Type 0} (S : Summary F) (e : End F) (own : Message F) (Ms : List (Message F)) →
-    (is_live e.stage ≡ true → own_of e.stage ≡ own) → (heard S e Ms).stage ≢ Spent →
+    (is_live e.stage ≡ true → own_of e.stage ≡ open_parts own) → (heard S e Ms).stage ≢ Spent →
     (heard S e Ms).learned ≡ and_then e.learned (knows e.peer.items (own ∷ answers S e Ms) (takes S e Ms))
 learns_by S e own [] sent ok = sym (then_nothing e.learned)
 learns_by {F} S e own (M ∷ Ms) sent ok =
-    let later : (N : Message F) → (is_live (after S e M).stage ≡ true → own_of (after S e M).stage ≡ N) →
+    let later : (N : Message F) → (is_live (after S e M).stage ≡ true → own_of (after S e M).stage ≡ open_parts N) →
     (heard S (after S e M) Ms).learned ≡ and_then (after S e M).learned
     (knows (after S e M).peer.items (N ∷ answers S (after S e M) Ms) (takes S (after S e M) Ms)) =
     λ N waits. learns_by S (after S e M) N Ms waits ok in

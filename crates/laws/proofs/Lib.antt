@@ -3,6 +3,10 @@ pub mod Cuts
 pub mod Placing
 pub mod Saying
 pub mod Learned
+pub mod Opens
+pub mod Taking
+pub mod Hearing
+pub mod Said
 pub mod Ends
 pub mod Stops
 pub mod Knowledge

@@ -8,7 +8,7 @@ use Rattle.laws.proofs.Times.{when, times, times-append, times-filter, has-times
 use Rattle.laws.proofs.Cuts.{spread, spread-ranges_between}
 use Rattle.laws.proofs.Knowledge.{tally, tally-append, in_sum, in_open, reply-in_open_le}
 use Rattle.laws.proofs.Placing.{sums-cuts, rises_append}
-use Rattle.laws.proofs.Ends.{messages_have_ranges}
+use Rattle.laws.proofs.Ends.{parts_have_ranges}
 
 -- ---- items of a list
 
@@ -186,13 +186,13 @@ closed_by ys M few = all_of (λ y. IsFalse (lies_open M y)) ys
 pub learns_once : {F : Type 0} (S : Summary F) → LearnsOnce S
 learns_once S Q P k sent M set honest apart right placed settled =
     let l = learn P.items sent M in
-    let rises = messages_have_ranges Q M right in
+    let rises = parts_have_ranges Q M right in
     let few : (x : Item) → tally (in_told x) M + tally (in_open x 1) (reply S P M) ≤ tally (in_open x 1) sent =
     λ x. omega (arith, placed-le x sent M rises placed, tally-in_any x M, reply-in_open_le S P x 1 set M) in
     let ours : (x : Item) → times x (k.ours ++ l.ours) + tally (in_open x 1) (reply S P M) ≤ 1 =
-    λ x. omega (arith, times-append x k.ours l.ours, learn-ours_le S Q x P.items sent M set honest right.parts, few x, known_le k.ours sent settled.ours settled.ours_closed apart x) in
+    λ x. omega (arith, times-append x k.ours l.ours, learn-ours_le S Q x P.items sent M set honest right, few x, known_le k.ours sent settled.ours settled.ours_closed apart x) in
     let theirs : (x : Item) → times x (k.theirs ++ l.theirs) + tally (in_open x 1) (reply S P M) ≤ 1 =
-    λ x. omega (arith, times-append x k.theirs l.theirs, learn-theirs_le Q x P.items sent M right.parts, few x, known_le k.theirs sent settled.theirs settled.theirs_closed apart x) in
+    λ x. omega (arith, times-append x k.theirs l.theirs, learn-theirs_le Q x P.items sent M right, few x, known_le k.theirs sent settled.theirs settled.theirs_closed apart x) in
     record {
       ours = IsDistinct-from_times (k.ours ++ l.ours) (λ x. omega (arith, ours x));
       theirs = IsDistinct-from_times (k.theirs ++ l.theirs) (λ x. omega (arith, theirs x));

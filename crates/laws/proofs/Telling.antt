@@ -7,6 +7,7 @@ use Rattle.std.proofs.lemmas.Option.{slice_get_cases, slice_get_past, slice_get_
 use Rattle.laws.specs.Growing.{is_even}
 use Rattle.laws.specs.Turns.{TakeTurns, speaker_at, hearer_at}
 use Rattle.definitions.specs.Ends.{is_over}
+use Rattle.definitions.specs.Messages.{open_parts}
 use Rattle.laws.specs.Sessions.{Kept, Keeps, SessionsTell}
 use Rattle.laws.proofs.Turns.{talks_begin, talks_go_on, ends_hear}
 use Rattle.laws.proofs.Sessions.{peers_talk, initiator_peer, responder_peer}
@@ -44,7 +45,7 @@ both_ended S true d e j t M spoke heard p q = grind (arith, ap over p, ap over q
 both_ended S false d e j t M spoke heard p q = grind (arith, ap over p, ap over q, spoke, heard)
 
 stage_over : {F : Type 0} (e : End F) (M : Message F) → e.stage ≡ stage_behind M → has_open M ≡ false → over e ≡ true
-stage_over e M h o = ap is_over h ∙ ap (λ b. is_over (if b then Waits M else Over)) o
+stage_over e M h o = ap is_over h ∙ ap (λ b. is_over (if b then Waits (open_parts M) else Over)) o
 
 -- ---- while there is a next message, its hearer is not over
 

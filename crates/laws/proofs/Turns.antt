@@ -9,6 +9,8 @@ use Rattle.laws.proofs.Placing.{placing_is_exact, replies_are_placed, replies_ar
 use Rattle.laws.proofs.Knowledge.{some_is, then_nothing, then_then, of_first-cons, begun-cons, heard-cons, turned}
 use Rattle.laws.proofs.Few.{messages_fit}
 use Rattle.laws.proofs.Saying.{ends_hear_on}
+use Rattle.laws.proofs.Opens.{place-open, knows-open}
+use Rattle.definitions.specs.Messages.{open_parts}
 
 -- ==== A talk
 
@@ -103,7 +105,7 @@ turn_last S e d M k hears = record {
 
 -- M is heard and replied to, and then e hears
 turn_more : {F : Type 0} (S : Summary F) (e d : End F) (M : Message F) (Ms more : List (Message F)) (k : ℕ) →
-    after S d M ≡ after_answer d M (Replies (reply S d.peer M)) → own_of e.stage ≡ M →
+    after S d M ≡ after_answer d M (Replies (reply S d.peer M)) → own_of e.stage ≡ open_parts M →
     Turn S (after_answer d M (Replies (reply S d.peer M))) e Ms more k → Turn S e d (M ∷ Ms) (M ∷ more) (suc k)
 turn_more {F} S e d M Ms more k hears own later =
     let c : End F = after_answer d M (Replies (reply S d.peer M)) in
@@ -112,7 +114,7 @@ turn_more {F} S e d M Ms more k hears own later =
     let first : d' ≡ heard S c (of_second Ms) = ap (heard S d) (of_first-cons M Ms) ∙ ap (λ b. heard S b (of_second Ms)) hears in
     record {
       speaker_learned = later.hearer_learned ∙ ap (λ N. and_then e.learned (knows e.peer.items (N ∷ of_second Ms) (of_first Ms))) own
-          ∙ ap (and_then e.learned) (sym (begun-cons e.peer.items M Ms));
+          ∙ ap (and_then e.learned) (knows-open e.peer.items M (of_second Ms) (of_first Ms) ∙ sym (begun-cons e.peer.items M Ms));
       hearer_learned = ap (λ b. b.learned) first ∙ later.speaker_learned
           ∙ then_then d.learned (learn d.peer.items (own_of d.stage) M) (knows d.peer.items (of_first Ms) (of_second Ms))
           ∙ ap (and_then d.learned) (sym (heard-cons d.peer.items (own_of d.stage) M Ms));
@@ -134,8 +136,8 @@ record Meets {F : Type 0} (S : Summary F) (f g : List ℕ) (e d : End F) (M : Me
   fits : (k : ℕ) → AllByRecursion (λ N. length N ≤ max_parts) (talk_from S e.peer d.peer M k)
 
 -- what e waits for, where M has an open part
-waits : {F : Type 0} {S : Summary F} {f g : List ℕ} {e d : End F} {M : Message F} → Meets S f g e d M → has_open M ≡ true → e.stage ≡ Waits M
-waits {M = M} m o = m.spoken ∙ ap (λ b. if b then Waits M else Over) o
+waits : {F : Type 0} {S : Summary F} {f g : List ℕ} {e d : End F} {M : Message F} → Meets S f g e d M → has_open M ≡ true → e.stage ≡ Waits (open_parts M)
+waits {M = M} m o = m.spoken ∙ ap (λ b. if b then Waits (open_parts M) else Over) o
 
 -- the talk goes on with the reply
 fits_on : {F : Type 0} {S : Summary F} {f g : List ℕ} {e d : End F} {M : Message F} → Meets S f g e d M → has_open M ≡ true → (k : ℕ) →
@@ -164,6 +166,7 @@ meets_on {F} {S} {f} {g} {e} {d} {M} m o = record {
   spoken = refl;
   live = ap is_live (waits m o);
   taken = ap (λ s. stage_fault s (reply S d.peer M)) (waits m o)
+      ∙ place-open M (reply S d.peer M)
       ∙ (placing_is_exact F M (reply S d.peer M) m.apart (reply-rises S d.peer g m.hearer M (open-rise M m.apart))).1 (replies_are_placed S d.peer g M m.hearer.ranks m.hearer.room);
   apart = replies_are_apart S d.peer g M m.hearer m.apart;
   fits = fits_on m o;

@@ -12,6 +12,8 @@ ghost use Rattle.laws.specs.Cutting.{CutsAreExact, TalksHaveRanges};
 ghost use Rattle.laws.specs.Growing.{TalksGrow, KnowledgeGrows};
 ghost use Rattle.laws.specs.Turns.{TalksBegin, TalksGoOn, EndsHear, EndsTalk};
 ghost use Rattle.laws.specs.Saying.{EndsSay};
+ghost use Rattle.laws.specs.Taking.{PartsAreTaken};
+ghost use Rattle.laws.specs.Hearing.{FramesAgree, BytesAgree, FramesSay, OwnBegins, OwnIsFew, OwnIsShort};
 ghost use Rattle.laws.specs.Sessions.{SessionsOpen, SessionsGoOn, SessionsStay, SessionsKeepNodes, SessionsTell};
 ghost use Rattle.laws.specs.Weaker.{InitiatorStopsAnyhow, ResponderStopsAnyhow, ListsAreShortAnyhow, KnowledgeIsExactAnyhow, PartsAreFewAnyhow, count_summary, blind, wary};
 
@@ -140,6 +142,42 @@ pub fn initiator_learns<F>()
 #[tactic(auto, using(crate::proofs::Learned::responder_learns))]
 pub fn responder_learns<F>()
     ensures { (S : Summary F) → ResponderLearns S }
+{}
+
+/// What an end answers to the parts of a message, one by one up to the first that is refused, and then to their end, is what
+/// it answers to the message; and it is the same end behind it.
+pub fn parts_are_taken<F>()
+    ensures { (S : Summary F) → PartsAreTaken S }
+{}
+
+/// What is heard frame by frame ends where the whole messages end it, and says the same; a refusal is told at its frame.
+pub fn frames_agree<F>()
+    ensures { (S : Summary F) → FramesAgree S }
+{}
+
+/// The same of the bytes of a stream.
+pub fn bytes_agree<F>()
+    ensures { (S : Summary F) (P : Profile F) → BytesAgree S P }
+{}
+
+/// A part adds nothing to what is said, the end of a message its reply; behind a stop nothing more is said.
+pub fn frames_say<F>()
+    ensures { (S : Summary F) → FramesSay S }
+{}
+
+/// What was said so far begins what all events call for.
+pub fn own_begins<F>()
+    ensures { (S : Summary F) → OwnBegins S }
+{}
+
+/// Whatever an end hears, it calls for few messages of its own, one that is too long to be said among them.
+pub fn own_is_few<F>()
+    ensures { (S : Summary F) → OwnIsFew S }
+{}
+
+/// And none of them lists more items than the limit.
+pub fn own_is_short<F>()
+    ensures { (S : Summary F) → OwnIsShort S }
 {}
 
 // ---- talks

@@ -1,111 +1,170 @@
--- How a session of the side that speaks first begins, and all that it says.
-use Rattle.std.proofs.Common.{◌≡◌, ℕ, ◌≤◌, ◌+◌, false, true, List, [], ◌∷◌, length, Option, sym, ap, ◌∙◌, subst, append-nil, arith}
-use Rattle.std.proofs.KnownBytes.{Consumes-nil}
+-- How a session of the side that speaks first begins, and what is said of it where it stops before it reads.
+--
+-- Nothing was read, so what was written is nothing, the hello, or the hello and the first message, which is what no
+-- bytes call for.
+use Rattle.std.proofs.Common.{◌≡◌, ℕ, ◌≤◌, ◌+◌, ◌⊎◌, Bool, false, true, List, [], ◌∷◌, length, Option, inl, inr, refl}
+use Rattle.std.proofs.Common.{sym, ap, ◌∙◌, subst, append-nil, arith}
+use Rattle.std.specs.Prelude.{⊤}
+use Rattle.std.proofs.KnownBytes.{Appends-nil, Consumes-nil}
 use Rattle.std.specs.Io.KnownBytes.{Appends}
+use Rattle.definitions.specs.Accounts.{Seen, IsOfTheTable}
 use Rattle.definitions.specs.Fingerprints.{Lanes, two_lanes}
 use Rattle.definitions.specs.Histories.{History, content}
 use Rattle.definitions.specs.Items.{Item, IsBytes}
 use Rattle.definitions.specs.Messages.{Message, opening}
 use Rattle.definitions.specs.Ranks.{rank_by}
 use Rattle.definitions.specs.Replies.{Peer}
-use Rattle.definitions.specs.Ends.{End, initiator}
+use Rattle.definitions.specs.Ends.{initiator}
 use Rattle.definitions.specs.Engines.{Speaker, initiating}
 use Rattle.definitions.specs.Wire.{two_lane_profile}
 use Rattle.strategy_check.specs.Checked.{Checked}
 use Rattle.ends_core.specs.Held.{Held}
+use Rattle.ends_core.specs.Turns.{fresh}
 use Rattle.version_lock.specs.declared.view.View.{View}
-use Rattle.version_lock.specs.Calls.{PinState, IsPinOf}
+use Rattle.version_lock.specs.Calls.{PinState, IsPinOf, Looked}
 use Rattle.peer_threads.specs.declared.outcome.Outcome.{Outcome}
+use Rattle.peer_threads.specs.declared.outcome.Side.{Side}
 use Rattle.peer_threads.specs.declared.stop.Stop.{Stop}
+use Rattle.peer_threads.specs.declared.stop.Stop.TheVariants as stops
 use Rattle.peer_threads.specs.Outcomes.{Traffic, traffic, IsModest, Speaks, peer_of, peer_at}
 use Rattle.peer_threads.specs.Inboxes.{InboxState, HasRead}
 use Rattle.peer_threads.specs.Outboxes.{OutboxState, outbox_state, hello_due, HasWritten, Adds}
-use Rattle.peer_threads.specs.Stops.{IsOwn, outcome_of}
-use Rattle.peer_threads.specs.Underway.{Underway, Stopped, Leaves, Spoke}
-use Rattle.peer_threads.proofs.Exchanges.{adds}
-use Rattle.peer_threads.proofs.Endings.{own-stop, stops, speaks}
+use Rattle.peer_threads.specs.Stops.{outcome_of}
+use Rattle.peer_threads.specs.Underway.{heard_as, Underway, SomeOf, Unsaid, WroteFirst, WhyStopped, Stopped, Leaves}
+use Rattle.peer_threads.specs.Underway.{Spoke}
+use Rattle.peer_threads.proofs.Exchanges.{adds, adds-nothing, wrote-first}
+use Rattle.peer_threads.proofs.Endings.{stopped-speaks, speaks, of-pin}
 
 -- the hello was written, and nothing else
-pub greets : (o p : OutboxState) (held holds : Option (List ℕ)) → o ≡ outbox_state false 0 → Appends held holds (hello_due o) → p ≡ outbox_state true o.sent → HasWritten p held holds []
+pub greets : (o p : OutboxState) (held holds : Option (List ℕ)) → o ≡ outbox_state false 0 →
+    Appends held holds (hello_due o) → p ≡ outbox_state true o.sent → HasWritten p held holds []
 greets o p held holds new whole greeted = record {
   greeted = ap (λ x. x.greeted) greeted;
   count = ap (λ x. x.sent) greeted ∙ ap (λ x. x.sent) new;
   written = subst (Appends held holds) (ap hello_due new ∙ sym (append-nil two_lane_profile.hello)) whole;
 }
 
--- the hello and the first message were written, and nothing was read
-pub begun : (p : Peer) (e : End Lanes) (b : InboxState) (o q r : OutboxState) (unread held holds more : Option (List ℕ)) (first : Message Lanes) →
-    e ≡ initiator two_lanes p → first ≡ opening two_lanes p.items → HasRead b [] [] →
-    o ≡ outbox_state false 0 → Appends held holds (hello_due o) → q ≡ outbox_state true o.sent → Adds q r holds more (first ∷ []) →
-    Underway (initiating two_lanes p) e b r (traffic unread unread held more)
-begun p e b o q r unread held holds more first is opens came new whole greeted added = record {
-  messages = [];
-  exchanged = record {
-    bytes = [];
-    are_bytes = tt;
-    read = Consumes-nil unread;
-    came = came;
-    written =
-        subst (λ (M : Message Lanes). HasWritten r held more (M ∷ [])) opens
-        (adds q r held holds more [] (first ∷ []) (greets o q held holds new whole greeted) added);
-  };
-  end = is;
-}
-
--- this side stopped before anything was read
-pub stops-unread : (s : Speaker Lanes) (o : OutboxState) (unread held holds : Option (List ℕ)) (stop : Stop) → IsOwn stop → Stopped s o (traffic unread unread held holds) stop
-stops-unread s o unread held holds stop own = record {
+-- the first message too
+pub begun-first : (p : Peer) (h : Held) (steps : List ℕ) (b : InboxState) (o q r : OutboxState)
+    (unread held holds more : Option (List ℕ)) (first : Message Lanes) →
+    h ≡ fresh steps (initiator two_lanes p) → first ≡ opening two_lanes p.items → HasRead b [] [] →
+    o ≡ outbox_state false 0 → Appends held holds (hello_due o) → q ≡ outbox_state true o.sent →
+    Adds q r holds more (first ∷ []) →
+    Underway (initiating two_lanes p) h b r (traffic unread unread held more)
+begun-first p h steps b o q r unread held holds more first is opens came new whole greeted added = record {
+  events = [];
   bytes = [];
   are_bytes = tt;
   read = Consumes-nil unread;
-  why = own-stop s o (traffic unread unread held holds) [] stop own;
+  came = came;
+  written = subst (λ (M : Message Lanes). HasWritten r held more (M ∷ [])) opens
+      (adds q r held holds more [] (first ∷ []) (greets o q held holds new whole greeted) added);
+  heard = sym (ap heard_as is);
+}
+
+-- memory ran out before anything was written
+pub stops-silent : (T : ℕ → Type 0) (s : Speaker Lanes) (o : OutboxState) (unread held : Option (List ℕ))
+    (over : Bool) →
+    o ≡ outbox_state false 0 → Stopped T s o (traffic unread unread held held) over stops.Memory
+stops-silent T s o unread held over new = record {
+  bytes = [];
+  are_bytes = tt;
+  read = Consumes-nil unread;
+  why = inr (record { greeted = ap (λ x. x.greeted) new; none = ap (λ x. x.sent) new; written = Appends-nil held });
+}
+
+-- the reader or the writer failed
+pub stops-broken : (T : ℕ → Type 0) (s : Speaker Lanes) (o : OutboxState) (unread held holds : Option (List ℕ))
+    (over : Bool) (side : Side) →
+    Stopped T s o (traffic unread unread held holds) over (stops.Io side)
+stops-broken T s o unread held holds over side =
+    record { bytes = []; are_bytes = tt; read = Consumes-nil unread; why = tt }
+
+-- the first message was not said
+pub stops-first : (p : Peer) (o q r : OutboxState) (unread held holds more : Option (List ℕ)) (over : Bool)
+    (first : Message Lanes) (stop : Stop) →
+    first ≡ opening two_lanes p.items →
+    o ≡ outbox_state false 0 → Appends held holds (hello_due o) → q ≡ outbox_state true o.sent →
+    Unsaid q r holds more (first ∷ []) stop →
+    Stopped IsOfTheTable (initiating two_lanes p) r (traffic unread unread held more) over stop
+stops-first p o q r unread held holds more over first stop opens new whole greeted unsaid =
+    record { bytes = []; are_bytes = tt; read = Consumes-nil unread; why = by stop unsaid } where
+      t : Traffic
+      t = traffic unread unread held more
+
+      hello : HasWritten q held holds []
+      hello = greets o q held holds new whole greeted
+
+      none : Adds q r holds more [] → WroteFirst (initiating two_lanes p) r t []
+      none added = wrote-first (initiating two_lanes p) r t [] [] (opening two_lanes p.items ∷ []) refl
+          (adds-nothing q r held holds more [] hello added)
+
+      some : SomeOf q r holds more (first ∷ []) → WroteFirst (initiating two_lanes p) r t []
+      some (inl added) = none added
+      some (inr added) =
+          wrote-first (initiating two_lanes p) r t [] (opening two_lanes p.items ∷ []) [] refl
+          (subst (λ (M : Message Lanes). HasWritten r held more (M ∷ [])) opens
+          (adds q r held holds more [] (first ∷ []) hello added))
+
+      by : (stop : Stop) → Unsaid q r holds more (first ∷ []) stop →
+          WhyStopped IsOfTheTable (initiating two_lanes p) r t over [] stop
+      by (stops.Refused code) (table, added) = (inl (some added), inr table)
+      by (stops.PeerRefused code) r = absurd r
+      by stops.Memory added = inl (none added)
+      by (stops.Io side) r = tt
+
+-- the table of sessions refused before anything was written
+pub stops-unbooked : (s : Speaker Lanes) (o : OutboxState) (unread held : Option (List ℕ)) (over : Bool) (code : ℕ) →
+    o ≡ outbox_state false 0 → IsOfTheTable code →
+    Stopped IsOfTheTable s o (traffic unread unread held held) over (stops.Refused code)
+stops-unbooked s o unread held over code new table = record {
+  bytes = [];
+  are_bytes = tt;
+  read = Consumes-nil unread;
+  why = (
+    inr
+        (record { greeted = ap (λ x. x.greeted) new; none = ap (λ x. x.sent) new; written = Appends-nil held }),
+    inr table,
+  );
 }
 
 -- an end at its start, of the items that a pin has
 abbrev pub starting : Checked → List Item → Held
-starting a items = record { steps = a.steps; end = initiator two_lanes (peer_of a items) }
+starting a items = fresh a.steps (initiator two_lanes (peer_of a items))
 
 pub starts : (a : Checked) (own items : List Item) (h : Held) → h ≡ starting a own → own ≡ items → h ≡ starting a items
 starts a own items h is same = is ∙ ap (λ l. starting a l) same
 
-pub opens-with : (own items : List Item) (first : Message Lanes) → first ≡ opening two_lanes own → own ≡ items → first ≡ opening two_lanes items
+pub opens-with : (own items : List Item) (first : Message Lanes) → first ≡ opening two_lanes own → own ≡ items →
+    first ≡ opening two_lanes items
 opens-with own items first is same = is ∙ ap (λ l. opening two_lanes l) same
+
+-- a session that stopped before anything was written: by memory, or by the table of sessions
+pub speaks-unsaid : (s : Speaker Lanes) (version bound : ℕ) (x : OutboxState) (unread held holds : Option (List ℕ))
+    (r w : Seen) (stop : Stop) (o : Outcome) →
+    x ≡ outbox_state false 0 →
+    Stopped IsOfTheTable s x (traffic unread unread held held) r.ended stop → Leaves x held holds w.failed stop →
+    o ≡ outcome_of x.sent stop → Spoke s version bound (traffic unread unread held holds) r w o
+speaks-unsaid s version bound x unread held holds r w stop o new stopped leaves is =
+    let few : x.sent ≤ bound = omega (arith, ap (λ y. y.sent) new) in
+    subst (λ y. Spoke s version bound (traffic unread unread held holds) r w y) (sym is)
+    (stopped-speaks s version bound x (traffic unread unread held held) holds r w stop stopped leaves few)
 
 -- what the side that speaks first keeps to
 abbrev pub FirstIsModest : Checked → Type 0
 FirstIsModest a = (h : History) (bytes : List ℕ) → IsBytes bytes → length (content h) ≤ a.table.cap →
-    IsModest (initiating two_lanes (peer_of a (content h))) bytes (rank_by a.steps (length (content h)) + 2) a.table.limit
+    IsModest (initiating two_lanes (peer_of a (content h))) bytes
+    (rank_by a.steps (length (content h)) + 2) a.table.limit
 
--- a session of either side over a pin of the history that was found
-pub of-pin : (s : Peer → Speaker Lanes) (k : ℕ) (a b : Checked) (w : View) (pin : PinState) (t : Traffic) (o : Outcome) → IsPinOf pin w → b ≡ a →
-    Spoke (s (peer_of b pin.items)) (rank_by b.steps (length pin.items) + k) t o →
-    ((bytes : List ℕ) → IsBytes bytes → length (s (peer_at a w)).start.peer.items ≤ (s (peer_at a w)).start.peer.table.cap →
-    IsModest (s (peer_at a w)) bytes (rank_by a.steps (length (content w.base)) + k) a.table.limit) →
-    Speaks (s (peer_at a w)) (rank_by a.steps (length (content w.base)) + k) a.table.limit t o
-of-pin s k a b w pin t o is same x modest =
-    let of_version = subst (λ (l : List Item). Spoke (s (peer_of b l)) (rank_by b.steps (length l) + k) t o) is.items_are x in
-    let spoke = subst (λ (d : Checked). Spoke (s (peer_of d (content w.base))) (rank_by d.steps (length (content w.base)) + k) t o) same of_version in
-    speaks (s (peer_at a w)) (rank_by a.steps (length (content w.base)) + k) a.table.limit t o spoke modest
+pub dials : (a b : Checked) (w : View) (pin : PinState) (t : Traffic) (r x : Seen) (o : Outcome) → IsPinOf pin w →
+    b ≡ a → length (content w.base) ≤ a.table.cap →
+    Spoke (initiating two_lanes (peer_of b pin.items)) pin.version (rank_by b.steps (length pin.items) + 2) t r x o →
+    FirstIsModest a →
+    Speaks ⊤ (initiating two_lanes (peer_at a w)) (length w.base)
+    (rank_by a.steps (length (peer_at a w).items) + 2) a.table.limit t r x o
+dials a b w pin t r x o is same fits spoke modest =
+    of-pin ⊤ (λ p. initiating two_lanes p) 2 a b w pin t r x o is same spoke (λ bytes are known. modest w.base bytes are fits)
 
--- one of the side that speaks first
-pub dials : (a b : Checked) (w : View) (pin : PinState) (t : Traffic) (o : Outcome) → IsPinOf pin w → b ≡ a →
-    Spoke (initiating two_lanes (peer_of b pin.items)) (rank_by b.steps (length pin.items) + 2) t o → FirstIsModest a →
-    Speaks (initiating two_lanes (peer_at a w)) (rank_by a.steps (length (peer_at a w).items) + 2) a.table.limit t o
-dials a b w pin t o is same x modest = of-pin (λ p. initiating two_lanes p) 2 a b w pin t o is same x (modest w.base)
-
--- a session of either side that stopped before it said anything
-pub stops-silent : (s : Speaker Lanes) (bound limit : ℕ) (x : OutboxState) (t : Traffic) (holds : Option (List ℕ)) (stop : Stop) (o : Outcome) →
-    x.sent ≡ 0 → Stopped s x t stop → Leaves x t.holds holds stop → o ≡ outcome_of x.sent stop →
-    ((bytes : List ℕ) → IsBytes bytes → length s.start.peer.items ≤ s.start.peer.table.cap → IsModest s bytes bound limit) →
-    Speaks s bound limit (traffic t.unread t.left t.held holds) o
-stops-silent s bound limit x t holds stop o none stopped leaves is modest =
-    let few : x.sent ≤ bound = omega (arith, none) in
-    let spoke = stops s x t holds bound stop stopped leaves few in
-    speaks s bound limit (traffic t.unread t.left t.held holds) o (subst (λ y. Spoke s bound (traffic t.unread t.left t.held holds) y) (sym is) spoke) modest
-
--- one that stopped before anything was read or written
-pub stops-first : (s : Speaker Lanes) (bound limit : ℕ) (x : OutboxState) (unread held holds : Option (List ℕ)) (stop : Stop) (o : Outcome) →
-    x ≡ outbox_state false 0 → IsOwn stop → Leaves x held holds stop → o ≡ outcome_of x.sent stop →
-    ((bytes : List ℕ) → IsBytes bytes → length s.start.peer.items ≤ s.start.peer.table.cap → IsModest s bytes bound limit) → Speaks s bound limit (traffic unread unread held holds) o
-stops-first s bound limit x unread held holds stop o new own leaves is modest =
-    stops-silent s bound limit x (traffic unread unread held held) holds stop o (ap (λ y. y.sent) new) (stops-unread s x unread held held stop own) leaves is modest
+-- what a pin found fits the table
+pub found-fits : (v w : View) (cap : ℕ) → Looked v w → v.cap ≤ cap → length (content w.base) ≤ cap
+found-fits v w cap looked fits = omega (arith, looked.once.fits, looked.once.cap, fits)

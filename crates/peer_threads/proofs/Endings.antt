@@ -1,88 +1,266 @@
--- What an outcome says.
-use Rattle.std.proofs.Common.{◌≡◌, ℕ, ◌≤◌, ◌<◌, List, [], ◌∷◌, ◌++◌, length, Option, ap, subst, IsTrue}
-use Rattle.std.proofs.KnownBytes.{Appends-kept, Consumes-trans}
-use Rattle.std.specs.Io.KnownBytes.{Keeps, Consumes}
-use Rattle.definitions.proofs.Lemmas.{All-append}
+-- What an outcome says, by how the session stopped and what was written behind it.
+--
+-- Behind the messages that were written stands the fault frame of the own refusal, or a beginning of it where the
+-- writer failed. Where nothing was written before, the hello stands in front of it.
+use Rattle.std.proofs.Common.{◌≡◌, ℕ, ◌≤◌, ◌<◌, ◌+◌, ◌⊎◌, Bool, true, false, List, [], ◌++◌, length, take, drop, Option}
+use Rattle.std.proofs.Common.{Result, Ok, Err, OnOk, OnErr, inl, inr, refl, sym, ap, ◌∙◌, subst, append_assoc}
+use Rattle.std.proofs.Common.{append-nil, take-append-drop, IsTrue, arith}
+use Rattle.std.specs.Prelude.{if◌then◌else◌}
+use Rattle.std.proofs.KnownBytes.{Appends-trans, Appends-kept, Appends-nil}
+use Rattle.std.specs.Io.KnownBytes.{Appends, Consumes, Keeps}
+use Rattle.definitions.specs.Accounts.{Seen, WroteFault, IsFirstFault, IsTooLong, IsOfTheTable}
+use Rattle.definitions.specs.Ends.{End, is_over}
+use Rattle.definitions.specs.Items.{Item, IsBytes}
+use Rattle.definitions.specs.Histories.{content}
+use Rattle.definitions.specs.Ranks.{rank_by}
+use Rattle.definitions.specs.Replies.{Peer}
+use Rattle.definitions.specs.Engines.{Speaker, text}
 use Rattle.definitions.specs.Fingerprints.{Lanes, two_lanes}
-use Rattle.definitions.specs.Messages.{Message}
-use Rattle.definitions.specs.Theorems.{EndsHearOn}
-use Rattle.laws.specs.Saying.{EndsSay}
-use Rattle.peer_threads.proofs.Exchanges.{answered, reads-on, refused-behind}
-use Rattle.definitions.specs.Items.{IsBytes}
-use Rattle.definitions.specs.Ends.{End, is_over, after, answer}
-use Rattle.definitions.specs.Engines.{Speaker, says, replied}
+use Rattle.definitions.specs.Refusals.{no_memory}
+use Rattle.definitions.specs.Wire.{two_lane_profile, fault_text}
+use Rattle.strategy_check.specs.Checked.{Checked}
+use Rattle.version_lock.specs.declared.view.View.{View}
+use Rattle.version_lock.specs.Calls.{PinState, IsPinOf}
 use Rattle.peer_threads.specs.declared.outcome.Outcome.{Outcome}
 use Rattle.peer_threads.specs.declared.outcome.Outcome.TheVariants as outcomes
 use Rattle.peer_threads.specs.declared.stop.Stop.{Stop}
-use Rattle.peer_threads.specs.declared.stop.Stop.TheVariants.{Refused, PeerRefused, Io, Memory}
-use Rattle.peer_threads.specs.Outcomes.{Traffic, traffic, SaidAll, IsModest, Speaks}
-use Rattle.peer_threads.specs.Inboxes.{InboxState, HasRead, StopsAt}
-use Rattle.peer_threads.specs.Outboxes.{OutboxState, HasWritten, Adds}
-use Rattle.peer_threads.specs.Stops.{IsOwn, outcome_of}
-use Rattle.peer_threads.specs.Underway.{Underway, WhyStopped, Stopped, Finished, Leaves, Spoke}
+use Rattle.peer_threads.specs.declared.stop.Stop.TheVariants as stops
+use Rattle.peer_threads.specs.Outcomes.{Traffic, traffic, SaidAll, Bears, IsModest, Speaks, SpeaksUnopened}
+use Rattle.peer_threads.specs.Outcomes.{BearsUnopened, call_of, called_by, sent_in, peer_of, peer_at}
+use Rattle.peer_threads.specs.Outboxes.{OutboxState, refusal_text, hello_due, Begins, WroteSo}
+use Rattle.peer_threads.specs.Stops.{outcome_of}
+use Rattle.peer_threads.specs.Underway.{WroteFirst, WroteNone, WroteUpTo, IsLong, IsFirst, IsTold, IsNone, WhyStopped}
+use Rattle.peer_threads.specs.Underway.{Stopped, Finished, Leaves, Spoke}
 
--- a refusal that is none of the peer's
-pub own-stop : (s : Speaker Lanes) (o : OutboxState) (t : Traffic) (bytes : List ℕ) (stop : Stop) → IsOwn stop → WhyStopped s o t bytes stop
-own-stop s o t bytes (Refused code) own = tt
-own-stop s o t bytes (PeerRefused code) own = absurd own
-own-stop s o t bytes (Io side) own = tt
-own-stop s o t bytes Memory own = tt
+-- all of it, or a beginning
+pub wrote-either : {X E : Type 0} (r : Result X E) (a b : Option (List ℕ)) (failed : Bool) (xs : List ℕ) →
+    OnOk r (Appends a b xs) → OnErr r (Begins a b xs) → OnErr r (IsTrue failed) → WroteSo a b failed xs
+wrote-either (Ok x) a b failed xs whole front broke = inl whole
+wrote-either (Err e) a b failed xs whole front broke = inr (broke, front)
 
--- a session that was talked to its end
-pub ended : (s : Speaker Lanes) (e : End Lanes) (o : OutboxState) (t : Traffic) (bound version : ℕ) → Finished s e o t → o.sent ≤ bound → Spoke s bound t (outcomes.Ended e.learned o.sent version)
-ended s e o t bound version f few = record {
+-- a writer that failed before writes nothing
+pub wrote-nothing : (a b : Option (List ℕ)) (failed : Bool) (xs : List ℕ) → IsTrue failed → Appends a b [] →
+    WroteSo a b failed xs
+wrote-nothing a b failed xs broke none = inr (broke, (0, none))
+
+-- ---- the fault frame behind what was written
+
+abbrev first_text : Speaker Lanes → OutboxState → List ℕ → List ℕ
+first_text s o bytes = text two_lane_profile o.sent (called_by s bytes)
+
+-- the hello was written before
+frame-alone : (o : OutboxState) (code : ℕ) → IsTrue o.greeted → refusal_text o code ≡ fault_text code
+frame-alone o code greeted = ap (λ b. (if b then [] else two_lane_profile.hello) ++ fault_text code) greeted
+
+record FrameBehind (s : Speaker Lanes) (version : ℕ) (o : OutboxState) (t : Traffic) (holds : Option (List ℕ))
+    (bytes : List ℕ) (r w : Seen) (code : ℕ) : Type 0 where
+  written : List ℕ
+  wrote : Appends t.held holds written
+  account : WroteFault two_lanes two_lane_profile (call_of s version bytes written r w) o.sent code
+
+frame-behind-first : (s : Speaker Lanes) (version : ℕ) (o : OutboxState) (t : Traffic) (holds : Option (List ℕ))
+    (bytes : List ℕ) (r w : Seen) (code : ℕ) →
+    WroteFirst s o t bytes → WroteSo t.holds holds w.failed (refusal_text o code) →
+    FrameBehind s version o t holds bytes r w code
+frame-behind-first s version o t holds bytes r w code first (inl whole) = record {
+  written = first_text s o bytes ++ fault_text code;
+  wrote = Appends-trans t.held t.holds holds (first_text s o bytes) (fault_text code) first.written
+      (subst (Appends t.holds holds) (frame-alone o code first.greeted) whole);
+  account = record { count = first.count; written = inl refl };
+}
+frame-behind-first s version o t holds bytes r w code first (inr (failed, (n, front))) =
+    let part : List ℕ = take n (fault_text code) in
+    record {
+      written = first_text s o bytes ++ part;
+      wrote = Appends-trans t.held t.holds holds (first_text s o bytes) part first.written
+          (subst (λ (l : List ℕ). Appends t.holds holds (take n l)) (frame-alone o code first.greeted) front);
+      account = record {
+        count = first.count;
+        written = inr (
+          failed,
+          (
+            drop n (fault_text code),
+            ap (λ (l : List ℕ). first_text s o bytes ++ l)
+                (sym (take-append-drop n (fault_text code)))
+                ∙ sym (append_assoc (first_text s o bytes) part (drop n (fault_text code))),
+          ),
+        );
+      };
+    }
+
+-- nothing was written before: the hello, and the frame
+alone-is : (s : Speaker Lanes) (o : OutboxState) (bytes : List ℕ) (code : ℕ) → o.greeted ≡ false → o.sent ≡ 0 →
+    refusal_text o code ≡ first_text s o bytes ++ fault_text code
+alone-is s o bytes code greeted none =
+    ap (λ b. (if b then [] else two_lane_profile.hello) ++ fault_text code) greeted
+    ∙ ap (λ (l : List ℕ). l ++ fault_text code)
+    (sym (ap (λ n. text two_lane_profile n (called_by s bytes)) none ∙ append-nil two_lane_profile.hello))
+
+frame-behind : (s : Speaker Lanes) (version : ℕ) (o : OutboxState) (t : Traffic) (holds : Option (List ℕ))
+    (bytes : List ℕ) (r w : Seen) (code : ℕ) →
+    WroteUpTo s o t bytes → WroteSo t.holds holds w.failed (refusal_text o code) →
+    FrameBehind s version o t holds bytes r w code
+frame-behind s version o t holds bytes r w code (inl first) so =
+    frame-behind-first s version o t holds bytes r w code first so
+frame-behind s version o t holds bytes r w code (inr none) (inl whole) = record {
+  written = refusal_text o code;
+  wrote = Appends-trans t.held t.holds holds [] (refusal_text o code) none.written whole;
+  account = record { count = omega (arith, none.none); written = inl (alone-is s o bytes code none.greeted none.none) };
+}
+frame-behind s version o t holds bytes r w code (inr none) (inr (failed, (n, front))) = record {
+  written = take n (refusal_text o code);
+  wrote = Appends-trans t.held t.holds holds [] (take n (refusal_text o code)) none.written front;
+  account = record {
+    count = omega (arith, none.none);
+    written = inr (
+      failed,
+      (
+        drop n (refusal_text o code),
+        sym (alone-is s o bytes code none.greeted none.none)
+            ∙ sym (take-append-drop n (refusal_text o code)),
+      ),
+    );
+  };
+}
+
+-- ---- each outcome
+
+-- why this side refused
+why : (T : ℕ → Type 0) (s : Speaker Lanes) (version : ℕ) (bytes written : List ℕ) (r w : Seen) (k code : ℕ) →
+    IsFirst s r.ended bytes k code ⊎ T code →
+    IsFirstFault two_lanes two_lane_profile (call_of s version bytes written r w) k code ⊎ T code
+why T s version bytes written r w k code (inr table) = inr table
+why T s version bytes written r w k code (inl first) =
+    inl (record { first = first.first; behind = by first.behind }) where
+      by : ((length (called_by s bytes) ≡ k) ⊎ IsLong (called_by s bytes) k code) →
+          (length (called_by s bytes) ≡ k) ⊎ IsTooLong two_lanes two_lane_profile
+          (call_of s version bytes written r w) k code
+      by (inl all) = inl all
+      by (inr long) = inr
+          (record { twelve = long.twelve; count = long.count; reply = long.reply; last = long.last; long = long.long })
+
+said-kept : (s : Speaker Lanes) (t : Traffic) (holds : Option (List ℕ)) (bytes : List ℕ) (sent : ℕ) →
+    Keeps t.holds holds → SaidAll s t bytes sent → SaidAll s (traffic t.unread t.left t.held holds) bytes sent
+said-kept s t holds bytes sent kept said =
+    record { written = Appends-kept t.held t.holds holds _ said.written kept; count = said.count }
+
+pub bears : (s : Speaker Lanes) (version : ℕ) (o : OutboxState) (t : Traffic) (holds : Option (List ℕ)) (r w : Seen)
+    (bytes : List ℕ) (stop : Stop) →
+    WhyStopped IsOfTheTable s o t r.ended bytes stop → Leaves o t.holds holds w.failed stop →
+    Bears s version (traffic t.unread t.left t.held holds) r w bytes (outcome_of o.sent stop)
+bears s version o t holds r w bytes (stops.Refused code) x leaves =
+    let f = frame-behind s version o t holds bytes r w code x.0 leaves in
+    (f.written, f.wrote, record { wrote = f.account; why = why IsOfTheTable s version bytes f.written r w o.sent code x.1 })
+bears s version o t holds r w bytes (stops.PeerRefused code) x leaves =
+    (said-kept s t holds bytes o.sent leaves x.said, x.frame, x.told)
+bears s version o t holds r w bytes stops.Memory x leaves =
+    let f = frame-behind s version o t holds bytes r w no_memory x leaves in
+    (f.written, f.wrote, record { wrote = f.account })
+bears s version o t holds r w bytes (stops.Io side) x leaves = tt
+
+-- a session that stopped
+pub stopped-speaks : (s : Speaker Lanes) (version bound : ℕ) (o : OutboxState) (t : Traffic) (holds : Option (List ℕ))
+    (r w : Seen) (stop : Stop) →
+    Stopped IsOfTheTable s o t r.ended stop →
+    Leaves o t.holds holds w.failed stop → o.sent ≤ bound →
+    Spoke s version bound (traffic t.unread t.left t.held holds) r w (outcome_of o.sent stop)
+stopped-speaks s version bound o t holds r w stop x leaves few = record {
+  bytes = x.bytes;
+  are_bytes = x.are_bytes;
+  read = x.read;
+  bears = bears s version o t holds r w x.bytes stop x.why leaves;
+  few = by stop;
+} where
+  by : (stop : Stop) → sent_in (outcome_of o.sent stop) ≤ bound
+  by (stops.Refused code) = few
+  by (stops.PeerRefused code) = few
+  by stops.Memory = few
+  by (stops.Io side) = few
+
+-- one that was talked to its end
+pub finished-speaks : (s : Speaker Lanes) (e : End Lanes) (version bound : ℕ) (o : OutboxState) (t : Traffic)
+    (r w : Seen) →
+    Finished s e o t → o.sent ≤ bound →
+    Spoke s version bound t r w (outcomes.Ended e.learned o.sent version)
+finished-speaks s e version bound o t r w f few = record {
   bytes = f.bytes;
   are_bytes = f.are_bytes;
   read = f.read;
-  bears = (f.said, subst (λ x. IsTrue (is_over x.stage)) f.end f.over, ap (λ x. x.learned) f.end);
+  bears = (
+    f.said,
+    subst (λ (x : End Lanes). IsTrue (is_over x.stage)) f.end f.over,
+    ap
+        (λ (x : End Lanes). x.learned) f.end,
+  );
   few = few;
 }
 
-said-kept : (s : Speaker Lanes) (t : Traffic) (holds : Option (List ℕ)) (bytes : List ℕ) (sent : ℕ) → Keeps t.holds holds → SaidAll s t bytes sent → SaidAll s (traffic t.unread t.left t.held holds) bytes sent
-said-kept s t holds bytes sent kept said = record { written = Appends-kept t.held t.holds holds _ said.written kept; count = said.count }
+-- ---- before a history is looked at
 
--- one that stopped
-pub stops : (s : Speaker Lanes) (o : OutboxState) (t : Traffic) (holds : Option (List ℕ)) (bound : ℕ) (stop : Stop) → Stopped s o t stop → Leaves o t.holds holds stop → o.sent ≤ bound →
-    Spoke s bound (traffic t.unread t.left t.held holds) (outcome_of o.sent stop)
-stops s o t holds bound (Refused code) x leaves few = record { bytes = x.bytes; are_bytes = x.are_bytes; read = x.read; bears = tt; few = few }
-stops s o t holds bound (PeerRefused code) x leaves few = record { bytes = x.bytes; are_bytes = x.are_bytes; read = x.read; bears = (said-kept s t holds x.bytes o.sent leaves x.why.0, x.why.1); few = few }
-stops s o t holds bound (Io side) x leaves few = record { bytes = x.bytes; are_bytes = x.are_bytes; read = x.read; bears = tt; few = few }
-stops s o t holds bound Memory x leaves few = record { bytes = x.bytes; are_bytes = x.are_bytes; read = x.read; bears = tt; few = few }
+anyhow : (s : Speaker Lanes) (o : OutboxState) (t : Traffic) (over : Bool) (bytes : List ℕ) (stop : Stop) →
+    WhyStopped IsNone s o t over bytes stop → WhyStopped IsOfTheTable s o t over bytes stop
+anyhow s o t over bytes (stops.Refused code) (wrote, inl first) = (wrote, inl first)
+anyhow s o t over bytes (stops.Refused code) (wrote, inr none) = absurd none
+anyhow s o t over bytes (stops.PeerRefused code) x = x
+anyhow s o t over bytes stops.Memory x = x
+anyhow s o t over bytes (stops.Io side) x = tt
 
--- all that an outcome says
-pub speaks : (s : Speaker Lanes) (bound limit : ℕ) (t : Traffic) (o : Outcome) → Spoke s bound t o →
-    ((bytes : List ℕ) → IsBytes bytes → length s.start.peer.items ≤ s.start.peer.table.cap → IsModest s bytes bound limit) → Speaks s bound limit t o
-speaks s bound limit t o x modest = record { bytes = x.bytes; read = x.read; bears = x.bears; sent = x.few; modest = modest x.bytes x.are_bytes }
+pub stopped-anyhow : (s : Speaker Lanes) (o : OutboxState) (t : Traffic) (over : Bool) (stop : Stop) →
+    Stopped IsNone s o t over stop → Stopped IsOfTheTable s o t over stop
+stopped-anyhow s o t over stop x =
+    record { bytes = x.bytes; are_bytes = x.are_bytes; read = x.read; why = anyhow s o t over x.bytes stop x.why }
 
--- what an inbox that stops says of the session
-pub next-stops : (s : Speaker Lanes) (e : End Lanes) (b : InboxState) (o : OutboxState) (t : Traffic) (left : Option (List ℕ)) (stop : Stop) (u : Underway s e b o t) →
-    ((bytes : List ℕ) × IsBytes bytes × Consumes t.left left bytes × StopsAt left (u.exchanged.bytes ++ bytes) u.messages stop) → Stopped s o (traffic t.unread left t.held t.holds) stop
-next-stops s e b o t left stop u more = record {
-  bytes = u.exchanged.bytes ++ more.0;
-  are_bytes = All-append (λ y. y < 256) u.exchanged.bytes more.0 u.exchanged.are_bytes more.1;
-  read = Consumes-trans t.unread t.left left u.exchanged.bytes more.0 u.exchanged.read more.2;
-  why = why-stops left s o (traffic t.unread left t.held t.holds) (u.exchanged.bytes ++ more.0) u.messages stop u.exchanged.written more.3;
-} where
-  why-stops : (left : Option (List ℕ)) (s : Speaker Lanes) (o : OutboxState) (t : Traffic) (bytes : List ℕ) (Ms : List (Message Lanes)) (stop : Stop) → HasWritten o t.held t.holds (says two_lanes s Ms) → StopsAt left bytes Ms stop → WhyStopped s o t bytes stop
-  why-stops left s o t bytes Ms (Refused code) w at = tt
-  why-stops left s o t bytes Ms (PeerRefused code) w at = refused-behind s o t bytes Ms code at w
-  why-stops left s o t bytes Ms (Io side) w at = tt
-  why-stops left s o t bytes Ms Memory w at = tt
+only-first : (s : Speaker Lanes) (version : ℕ) (bytes written : List ℕ) (r w : Seen) (k code : ℕ) →
+    IsFirst s r.ended bytes k code ⊎ IsNone code →
+    IsFirstFault two_lanes two_lane_profile (call_of s version bytes written r w) k code
+only-first s version bytes written r w k code x = by (why IsNone s version bytes written r w k code x) where
+  by : IsFirstFault two_lanes two_lane_profile (call_of s version bytes written r w) k code ⊎ IsNone code →
+      IsFirstFault two_lanes two_lane_profile (call_of s version bytes written r w) k code
+  by (inl first) = first
+  by (inr none) = absurd none
 
--- this side stopped behind a message that came
-pub own-stops : (s : Speaker Lanes) (e : End Lanes) (b : InboxState) (o p : OutboxState) (t : Traffic) (left holds : Option (List ℕ)) (stop : Stop) (u : Underway s e b o t) (c : InboxState) (Ms : List (Message Lanes)) →
-    ((bytes : List ℕ) × IsBytes bytes × Consumes t.left left bytes × HasRead c (u.exchanged.bytes ++ bytes) Ms) → IsOwn stop → Stopped s p (traffic t.unread left t.held holds) stop
-own-stops s e b o p t left holds stop u c Ms more own = record {
-  bytes = u.exchanged.bytes ++ more.0;
-  are_bytes = All-append (λ y. y < 256) u.exchanged.bytes more.0 u.exchanged.are_bytes more.1;
-  read = Consumes-trans t.unread t.left left u.exchanged.bytes more.0 u.exchanged.read more.2;
-  why = own-stop s p (traffic t.unread left t.held holds) (u.exchanged.bytes ++ more.0) stop own;
-}
+pub stopped-unopened : (s : Speaker Lanes) (version : ℕ) (o : OutboxState) (t : Traffic) (holds : Option (List ℕ))
+    (r w : Seen) (stop : Stop) →
+    Stopped IsNone s o t r.ended stop →
+    Leaves o t.holds holds w.failed stop →
+    SpeaksUnopened s version (traffic t.unread t.left t.held holds) r w (outcome_of o.sent stop)
+stopped-unopened s version o t holds r w stop x leaves =
+    record { bytes = x.bytes; read = x.read; bears = by stop x.why leaves } where
+      by : (stop : Stop) → WhyStopped IsNone s o t r.ended x.bytes stop → Leaves o t.holds holds w.failed stop →
+          BearsUnopened s version (traffic t.unread t.left t.held holds) r w x.bytes (outcome_of o.sent stop)
+      by (stops.Refused code) y l =
+          let f = frame-behind s version o t holds x.bytes r w code y.0 l in
+          let first = only-first s version x.bytes f.written r w o.sent code y.1 in
+          (f.written, f.wrote, record { wrote = f.account; why = inl first }, first)
+      by (stops.PeerRefused code) y l =
+          bears s version o t holds r w x.bytes (stops.PeerRefused code)
+          (anyhow s o t r.ended x.bytes (stops.PeerRefused code) y) l
+      by stops.Memory y l = bears s version o t holds r w x.bytes stops.Memory
+          (anyhow s o t r.ended x.bytes stops.Memory y) l
+      by (stops.Io side) y l = tt
 
--- a message came and was answered
-pub goes-on : (s : Speaker Lanes) (e f : End Lanes) (b c : InboxState) (o p : OutboxState) (t : Traffic) (left holds : Option (List ℕ)) (M : Message Lanes) → EndsHearOn two_lanes → EndsSay two_lanes → (u : Underway s e b o t) →
-    ((bytes : List ℕ) × IsBytes bytes × Consumes t.left left bytes × HasRead c (u.exchanged.bytes ++ bytes) (u.messages ++ M ∷ [])) →
-    f ≡ after two_lanes e M → Adds o p t.holds holds (replied (answer two_lanes e M)) → Underway s f c p (traffic t.unread left t.held holds)
-goes-on s e f b c o p t left holds M on law u more behind added =
-    answered s (traffic t.unread left t.held t.holds) holds c o p e f u.messages M on law u.end
-    (reads-on t left b c o u.messages (u.messages ++ M ∷ []) (says two_lanes s u.messages) u.exchanged more.0 more.1 more.2 more.3) behind added
+-- ---- all that an outcome says
+
+pub speaks : (F : Type 0) (s : Speaker Lanes) (version bound limit : ℕ) (t : Traffic) (r w : Seen) (o : Outcome) →
+    Spoke s version bound t r w o →
+    ((bytes : List ℕ) → IsBytes bytes → F → IsModest s bytes bound limit) → Speaks F s version bound limit t r w o
+speaks F s version bound limit t r w o x modest =
+    record { bytes = x.bytes; read = x.read; bears = x.bears; sent = x.few; modest = modest x.bytes x.are_bytes }
+
+-- a session of either side over a pin of the history that was found
+pub of-pin : (F : Type 0) (s : Peer → Speaker Lanes) (k : ℕ) (a b : Checked) (w : View) (pin : PinState) (t : Traffic)
+    (r x : Seen) (o : Outcome) →
+    IsPinOf pin w → b ≡ a →
+    Spoke (s (peer_of b pin.items)) pin.version (rank_by b.steps (length pin.items) + k) t r x o →
+    ((bytes : List ℕ) → IsBytes bytes → F →
+    IsModest (s (peer_at a w)) bytes (rank_by a.steps (length (content w.base)) + k) a.table.limit) →
+    Speaks F (s (peer_at a w)) (length w.base) (rank_by a.steps (length (content w.base)) + k) a.table.limit t r x o
+of-pin F s k a b w pin t r x o is same spoke modest =
+    let of_set = subst (λ (l : List Item). Spoke (s (peer_of b l)) pin.version
+    (rank_by b.steps (length l) + k) t r x o) is.items_are spoke in
+    let of_version = subst (λ (v : ℕ). Spoke (s (peer_of b (content w.base))) v
+    (rank_by b.steps (length (content w.base)) + k) t r x o) is.version_is of_set in
+    let of_table = subst (λ (d : Checked). Spoke (s (peer_of d (content w.base))) (length w.base)
+    (rank_by d.steps (length (content w.base)) + k) t r x o) same of_version in
+    speaks F (s (peer_at a w)) (length w.base)
+    (rank_by a.steps (length (content w.base)) + k) a.table.limit t r x o of_table modest

@@ -1,116 +1,500 @@
--- How a session goes on, and where it stands when it is over.
-use Rattle.std.proofs.Common.{◌≡◌, ℕ, ◌<◌, ◌+◌, false, List, [], ◌∷◌, ◌++◌, length, flat_map, take, Option, Some, refl, sym, ap, ◌∙◌, subst, append_assoc, append-nil, IsTrue}
-use Rattle.std.proofs.lemmas.Bool.{false≢true}
+-- How a session goes on from event to event, and what can be told of it where it stops.
+--
+-- The events handed out are the first of all events in the bytes read. What was said to them begins all that the bytes
+-- call for, so the messages written are the first of those. Where an event stops the hearing, or the stream does, or
+-- its end, the laws say that nothing more is said and what the first fault is.
+use Rattle.std.proofs.Common.{◌≡◌, ℕ, zero, suc, ◌+◌, ◌<◌, ◌≤◌, ◌⊎◌, Bool, true, false, List, [], ◌∷◌, ◌++◌, length}
+use Rattle.std.proofs.Common.{flat_map, take, Option, Some, None, inl, inr, refl, sym, ap, ◌∙◌, subst, append_assoc}
+use Rattle.std.proofs.Common.{append-nil, IsTrue, IsFalse, arith}
+use Rattle.std.specs.Prelude.{fold, slice_get, if◌then◌else◌}
 use Rattle.std.proofs.lemmas.List.{length-append}
 use Rattle.std.proofs.lemmas.Grind.{flat_map-append}
-use Rattle.std.proofs.Math.Seq.{take-length}
-use Rattle.std.proofs.KnownBytes.{Appends-trans, Consumes-trans}
+use Rattle.std.proofs.Math.Seq.{take-append_seam, take-length}
+use Rattle.std.proofs.KnownBytes.{Appends-trans, Appends-nil, Consumes-trans, Consumes-nil}
 use Rattle.std.specs.Io.KnownBytes.{Appends, Consumes}
-use Rattle.definitions.proofs.Lemmas.{All-append}
+use Rattle.definitions.proofs.Lemmas.{All-append, fold-append}
 use Rattle.definitions.specs.Fingerprints.{Lanes, two_lanes}
 use Rattle.definitions.specs.Items.{IsBytes}
 use Rattle.definitions.specs.Messages.{Message}
-use Rattle.definitions.specs.Wire.{two_lane_profile, message_text, session_text}
-use Rattle.definitions.specs.Ends.{End, Stage, Fresh, Waits, Over, Spent, answer, after, is_over, is_live}
-use Rattle.definitions.specs.Streams.{messages_of}
-use Rattle.definitions.specs.Engines.{Speaker, says, session, answers, replied, messages_in, fault_frame}
-use Rattle.definitions.specs.Theorems.{EndsHearOn}
-use Rattle.laws.specs.Saying.{EndsSay}
-use Rattle.peer_threads.specs.Outcomes.{Traffic, traffic, SaidAll, said_to}
-use Rattle.peer_threads.specs.Inboxes.{InboxState, HasRead, IsRefused}
+use Rattle.definitions.specs.Refusals.{truncated, too_many_parts}
+use Rattle.definitions.specs.Wire.{two_lane_profile, message_text, session_text, Event, Came, Ended, Failed}
+use Rattle.definitions.specs.Streams.{Standing, Before_hello, In_message, Meaning_over, Faulted, feed, messages_of}
+use Rattle.definitions.specs.Ends as answered
+use Rattle.definitions.specs.Ends.{End, Answer, Replies, Ends, is_live, is_over, is_sendable}
+use Rattle.definitions.specs.Engines.{Speaker, says, session, own, answers, replied, messages_in, fault_of, fault_frame}
+use Rattle.definitions.specs.Taking.{Taken, ended, nothing_taken, after_ended}
+use Rattle.definitions.specs.Hearing.{Hearing, Goes_on, Over_at, Peer_refused, Refused_for, goes_unless, stands_at}
+use Rattle.definitions.specs.Hearing.{ended_by, hear_now, hear, begins, hears, stopped_by, stop_at, with_end}
+use Rattle.definitions.specs.Hearing.{hearing_to}
+use Rattle.definitions.specs.Accounts.{IsOfTheTable}
+use Rattle.laws.specs.Hearing.{has_stopped, SaysOn, FramesSay, OwnBegins, SaidBut, AgreesBy, BytesAgree}
+use Rattle.wire_core.specs.Feeds.{fault_at}
+use Rattle.ends_core.specs.Held.{Held}
+use Rattle.peer_threads.specs.declared.stop.Stop.{Stop}
+use Rattle.peer_threads.specs.declared.stop.Stop.TheVariants as stops
+use Rattle.peer_threads.specs.declared.outcome.Side.{Side}
+use Rattle.peer_threads.specs.Outcomes.{Traffic, traffic, SaidAll, said_to, called_by}
+use Rattle.peer_threads.specs.Inboxes.{InboxState, HasRead, IsFaulty, StopsAt}
 use Rattle.peer_threads.specs.Outboxes.{OutboxState, HasWritten, Adds}
-use Rattle.peer_threads.specs.Underway.{Exchanged, Underway, Finished}
+use Rattle.peer_threads.specs.Underway.{heard_as, said_by, Underway, SomeOf, Unsaid, Refuses, StopsBy, WroteFirst}
+use Rattle.peer_threads.specs.Underway.{WroteUpTo, IsLong, IsFirst, IsTold, WhyStopped, Stopped, Finished}
+use Rattle.peer_threads.proofs.Hearings.{heard-goes, heard-over}
 
--- what was written, and then these messages more
-pub adds : (o p : OutboxState) (a b c : Option (List ℕ)) (Ms Ns : List (Message Lanes)) → HasWritten o a b Ms → Adds o p b c Ns → HasWritten p a c (Ms ++ Ns)
+-- the laws that are cited, in one place
+pub record Laws : Type 0 where
+  pub say : FramesSay two_lanes
+  pub begin : OwnBegins two_lanes
+  pub agree : BytesAgree two_lanes two_lane_profile
+
+abbrev so_far : Speaker Lanes → List (Event Lanes) → List (Message Lanes)
+so_far s es = says two_lanes s (messages_of [] es)
+
+abbrev events_in : List ℕ → List (Event Lanes)
+events_in bytes = (feed two_lane_profile Before_hello bytes).events
+
+-- ---- what was read
+
+-- the events that are not handed out yet
+abbrev pub Behind : List ℕ → List (Event Lanes) → Type 0
+Behind bytes es = (more : List (Event Lanes)) × (events_in bytes ≡ es ++ more)
+
+pub all-events : (b : InboxState) (bytes : List ℕ) (es : List (Event Lanes)) → HasRead b bytes es → Behind bytes es
+all-events b bytes es has = (has.more, has.events)
+
+-- ---- what is said
+
+said-at : (s : Speaker Lanes) (es : List (Event Lanes)) →
+    answers two_lanes s.start (messages_of [] (es ++ [])) ≡ answers two_lanes s.start (messages_of [] es)
+said-at s es = ap (λ l. answers two_lanes s.start (messages_of [] l)) (append-nil es)
+
+-- one event more
+pub says-next : FramesSay two_lanes → (s : Speaker Lanes) (h : Held) (es : List (Event Lanes)) (e : Event Lanes) →
+    is_live s.start.stage ≡ true → hears two_lanes s es ≡ Goes_on h.end h.taken →
+    so_far s (es ++ e ∷ []) ≡ so_far s es ++ said_by h e
+says-next law s h es e live at = by e where
+  on : SaysOn (λ more. answers two_lanes s.start (messages_of [] (es ++ more))) (Goes_on h.end h.taken)
+  on = subst (SaysOn (λ more. answers two_lanes s.start (messages_of [] (es ++ more)))) at (law s.start es live)
+
+  none : (e : Event Lanes) →
+      answers two_lanes s.start (messages_of [] (es ++ e ∷ [])) ≡ answers two_lanes s.start
+      (messages_of [] (es ++ [])) →
+      so_far s (es ++ e ∷ []) ≡ so_far s es ++ []
+  none e same = ap (λ (l : List (Message Lanes)). s.first ++ l) (same ∙ said-at s es) ∙ sym (append-nil (so_far s es))
+
+  by : (e : Event Lanes) → so_far s (es ++ e ∷ []) ≡ so_far s es ++ said_by h e
+  by (Came p) = none (Came p) (on.0 p)
+  by Ended =
+      ap (λ (l : List (Message Lanes)). s.first ++ l)
+      (on.1 ∙ ap (λ (l : List (Message Lanes)). l ++ replied (ended h.taken)) (said-at s es))
+      ∙ sym (append_assoc s.first (answers two_lanes s.start (messages_of [] es)) (replied (ended h.taken)))
+  by (Failed code) = none (Failed code) (on.2 code)
+
+-- behind a stop
+stop-says : (said : List (Event Lanes) → List (Message Lanes)) (h : Hearing Lanes) → has_stopped h ≡ true →
+    SaysOn said h → (more : List (Event Lanes)) → said more ≡ said []
+stop-says said (Goes_on e t) stopped on more = absurd cc
+stop-says said (Over_at e) stopped on more = on more
+stop-says said (Peer_refused code) stopped on more = on more
+stop-says said (Refused_for code) stopped on more = on more
+
+pub says-stopped : FramesSay two_lanes → (s : Speaker Lanes) (es rest : List (Event Lanes)) →
+    is_live s.start.stage ≡ true → has_stopped (hears two_lanes s es) ≡ true → so_far s (es ++ rest) ≡ so_far s es
+says-stopped law s es rest live stopped =
+    ap (λ (l : List (Message Lanes)). s.first ++ l)
+    (stop-says (λ more. answers two_lanes s.start (messages_of [] (es ++ more))) (hears two_lanes s es) stopped
+    (law s.start es live) rest ∙ said-at s es)
+
+-- ---- what is heard
+
+stays : (h : Hearing Lanes) (rest : List (Event Lanes)) → has_stopped h ≡ true → fold (hear two_lanes) h rest ≡ h
+stays h [] stopped = refl
+stays (Goes_on e t) (x ∷ rest) stopped = absurd cc
+stays (Over_at e) (x ∷ rest) stopped = stays (Over_at e) rest stopped
+stays (Peer_refused code) (x ∷ rest) stopped = stays (Peer_refused code) rest stopped
+stays (Refused_for code) (x ∷ rest) stopped = stays (Refused_for code) rest stopped
+
+kept : (h : Hearing Lanes) (to : Standing) (over : Bool) → has_stopped h ≡ true → with_end over (stop_at to h) ≡ h
+kept (Goes_on e t) to over stopped = absurd cc
+kept (Over_at e) to over stopped = refl
+kept (Peer_refused code) to over stopped = refl
+kept (Refused_for code) to over stopped = refl
+
+pub hearing-stopped : (s : Speaker Lanes) (over : Bool) (bytes : List ℕ) (es rest : List (Event Lanes))
+    (h : Hearing Lanes) →
+    events_in bytes ≡ es ++ rest → hears two_lanes s es ≡ h → has_stopped h ≡ true →
+    hearing_to two_lanes two_lane_profile s over bytes ≡ h
+hearing-stopped s over bytes es rest h all at stopped =
+    let to = (feed two_lane_profile Before_hello bytes).to in
+    ap (λ l. with_end over (stop_at to (hears two_lanes s l))) all
+    ∙ ap (λ x. with_end over (stop_at to x))
+    (fold-append (hear two_lanes) (begins s) es rest ∙ ap (λ x. fold (hear two_lanes) x rest) at
+    ∙ stays h rest stopped)
+    ∙ kept h to over stopped
+
+-- ---- what is told
+
+slice_last : (xs : List (Message Lanes)) (N : Message Lanes) → slice_get (xs ++ N ∷ []) (length xs) ≡ Some N
+slice_last [] N = refl
+slice_last (x ∷ xs) N = slice_last xs N
+
+pub wrote-first : (s : Speaker Lanes) (o : OutboxState) (t : Traffic) (bytes : List ℕ)
+    (said more : List (Message Lanes)) →
+    called_by s bytes ≡ said ++ more → HasWritten o t.held t.holds said → WroteFirst s o t bytes
+wrote-first s o t bytes said more is w = record {
+  greeted = w.greeted;
+  count = omega (arith, w.count, ap (λ (l : List (Message Lanes)). length l) is, length-append said more);
+  written =
+      subst (λ (l : List (Message Lanes)). Appends t.held t.holds (session_text two_lane_profile l))
+      (sym ((λ i. take (w.count i) (is i)) ∙ take-append_seam said more)) w.written;
+}
+
+-- the first fault, where nothing more is said
+pub first-at : Laws → (s : Speaker Lanes) (over : Bool) (bytes : List ℕ) (said : List (Message Lanes)) (k code : ℕ) →
+    is_live s.start.stage ≡ true →
+    hearing_to two_lanes two_lane_profile s over bytes ≡ Refused_for code →
+    says two_lanes s (messages_in two_lane_profile bytes) ≡ said → k ≡ length said → IsFirst s over bytes k code
+first-at laws s over bytes said k code live first same count = record { first = first; behind = by agreed.1 } where
+  Ms : List (Message Lanes)
+  Ms = messages_in two_lane_profile bytes
+
+  agreed : AgreesBy (session two_lanes s Ms) (says two_lanes s Ms) (own two_lanes s Ms) (Refused_for code)
+  agreed = subst (AgreesBy (session two_lanes s Ms) (says two_lanes s Ms) (own two_lanes s Ms)) first
+      (laws.agree s over bytes live)
+
+  by : SaidBut (says two_lanes s Ms) (own two_lanes s Ms) code →
+      (length (own two_lanes s Ms) ≡ k) ⊎ IsLong (own two_lanes s Ms) k code
+  by (inl all) = inl (ap (λ (l : List (Message Lanes)). length l) (all ∙ same) ∙ sym count)
+  by (inr (twelve, N, long, is)) = inr (record {
+    twelve = twelve;
+    count = omega (
+      arith,
+      ap (λ (l : List (Message Lanes)). length l)
+          (is ∙ ap (λ (l : List (Message Lanes)). l ++ N ∷ []) same),
+      length-append said (N ∷ []),
+      count,
+    );
+    reply = N;
+    last = (λ i. slice_get ((is ∙ ap (λ (l : List (Message Lanes)). l ++ N ∷ []) same) i) (count i))
+        ∙ slice_last said N;
+    long = long;
+  })
+
+-- all that was said, as a text of so many messages
+pub said-all : (s : Speaker Lanes) (o : OutboxState) (t : Traffic) (bytes : List ℕ) (said : List (Message Lanes)) →
+    said_to s bytes ≡ said → HasWritten o t.held t.holds said → SaidAll s t bytes o.sent
+said-all s o t bytes said is w = record {
+  written =
+      subst (λ (l : List (Message Lanes)). Appends t.held t.holds (session_text two_lane_profile l))
+      (sym (ap (λ n. take n (said_to s bytes)) w.count ∙ ap (λ l. take (length said) l) is ∙ take-length said)) w.written;
+  count = ap (λ (l : List (Message Lanes)). length l) is ∙ sym w.count;
+}
+
+-- a side that still hears has heard no fault frame, so the one that comes is the first
+first-frame : (h : Hearing Lanes) (es rest : List (Event Lanes)) (e : End Lanes) (t : Taken Lanes) (code : ℕ) →
+    fold (hear two_lanes) h es ≡ Goes_on e t → fault_of (es ++ Failed code ∷ rest) ≡ Some code
+first-frame h [] rest e t code at = refl
+first-frame h (Came p ∷ es) rest e t code at = first-frame (hear two_lanes h (Came p)) es rest e t code at
+first-frame h (Ended ∷ es) rest e t code at = first-frame (hear two_lanes h Ended) es rest e t code at
+first-frame h (Failed n ∷ es) rest e t code at = absurd (stopped h at) where
+  goes : (h : Hearing Lanes) → has_stopped h ≡ true → fold (hear two_lanes) h es ≡ Goes_on e t → ⊥
+  goes h stopped at =
+      let same : h ≡ Goes_on e t =
+      sym (stays h es stopped) ∙ at in let wrong = sym stopped ∙ ap has_stopped same in absurd cc
+
+  stopped : (h : Hearing Lanes) → fold (hear two_lanes) (hear two_lanes h (Failed n)) es ≡ Goes_on e t → ⊥
+  stopped (Goes_on f x) at = goes (Peer_refused n) refl at
+  stopped (Over_at f) at = goes (Over_at f) refl at
+  stopped (Peer_refused c) at = goes (Peer_refused c) refl at
+  stopped (Refused_for c) at = goes (Refused_for c) refl at
+
+-- ---- what was written, and then more
+
+pub adds : (o p : OutboxState) (a b c : Option (List ℕ)) (Ms Ns : List (Message Lanes)) → HasWritten o a b Ms →
+    Adds o p b c Ns → HasWritten p a c (Ms ++ Ns)
 adds o p a b c Ms Ns w more = record {
   greeted = more.greeted ∙ w.greeted;
   count = more.count ∙ ap (λ (n : ℕ). n + length Ns) w.count ∙ sym (length-append Ms Ns);
   written =
       let f = message_text two_lane_profile in
-      subst (Appends a c) (append_assoc two_lane_profile.hello (flat_map f Ms) (flat_map f Ns) ∙ ap (λ (l : List ℕ). two_lane_profile.hello ++ l) (sym (flat_map-append f Ms Ns)))
+      subst (Appends a c) (append_assoc two_lane_profile.hello (flat_map f Ms) (flat_map f Ns)
+      ∙ ap (λ (l : List ℕ). two_lane_profile.hello ++ l) (sym (flat_map-append f Ms Ns)))
       (Appends-trans a b c (session_text two_lane_profile Ms) (flat_map f Ns) w.written more.written);
 }
 
--- one message more is answered
-pub says-more : (s : Speaker Lanes) (Ms : List (Message Lanes)) (M : Message Lanes) → EndsSay two_lanes →
-    says two_lanes s (Ms ++ M ∷ []) ≡ says two_lanes s Ms ++ replied (answer two_lanes (session two_lanes s Ms) M)
-says-more s Ms M law = ap (λ (l : List (Message Lanes)). s.first ++ l) ((law s.start Ms).more M) ∙ sym (append_assoc s.first (answers two_lanes s.start Ms) (replied (answer two_lanes (session two_lanes s Ms) M)))
+pub adds-nothing : (o p : OutboxState) (a b c : Option (List ℕ)) (Ms : List (Message Lanes)) → HasWritten o a b Ms →
+    Adds o p b c [] → HasWritten p a c Ms
+adds-nothing o p a b c Ms w more = subst (HasWritten p a c) (append-nil Ms) (adds o p a b c Ms [] w more)
 
--- what was read of the connection, and then more
-pub reads-on : (t : Traffic) (left : Option (List ℕ)) (b c : InboxState) (o : OutboxState) (Ms Ns said : List (Message Lanes)) (x : Exchanged b o t Ms said) (more : List ℕ) →
-    IsBytes more → Consumes t.left left more → HasRead c (x.bytes ++ more) Ns → Exchanged c o (traffic t.unread left t.held t.holds) Ns said
-reads-on t left b c o Ms Ns said x more are read came = record {
-  bytes = x.bytes ++ more;
-  are_bytes = All-append (λ y. y < 256) x.bytes more x.are_bytes are;
-  read = Consumes-trans t.unread t.left left x.bytes more x.read read;
-  came = came;
-  written = x.written;
-}
+-- ---- an event comes
 
--- what was written to it, and then more
-pub writes-on : (t : Traffic) (holds : Option (List ℕ)) (b : InboxState) (o p : OutboxState) (Ms said Ns : List (Message Lanes)) → Exchanged b o t Ms said →
-    Adds o p t.holds holds Ns → Exchanged b p (traffic t.unread t.left t.held holds) Ms (said ++ Ns)
-writes-on t holds b o p Ms said Ns x more = record {
+abbrev pub More : Option (List ℕ) → Option (List ℕ) → InboxState → List ℕ → List (Event Lanes) → Type 0
+More unread left c before es = (bytes : List ℕ) × IsBytes bytes × Consumes unread left bytes
+    × HasRead c (before ++ bytes) es
+
+-- the event e came behind es, which the end h has heard; all that was said to these was written
+pub record At (s : Speaker Lanes) (h : Held) (o : OutboxState) (t : Traffic) (e : Event Lanes) : Type 0 where
+  pub bytes : List ℕ
+  pub are_bytes : IsBytes bytes
+  pub read : Consumes t.unread t.left bytes
+  pub es : List (Event Lanes)
+  pub rest : List (Event Lanes)
+  pub all : events_in bytes ≡ (es ++ e ∷ []) ++ rest
+  pub written : HasWritten o t.held t.holds (so_far s es)
+  pub heard : hears two_lanes s es ≡ Goes_on h.end h.taken
+
+abbrev pub at-event : (s : Speaker Lanes) (h : Held) (b c : InboxState) (o : OutboxState) (t : Traffic)
+    (left : Option (List ℕ)) (e : Event Lanes) →
+    (u : Underway s h b o t) → More t.left left c u.bytes (u.events ++ e ∷ []) → is_over h.end.stage ≡ false →
+    At s h o (traffic t.unread left t.held t.holds) e
+at-event s h b c o t left e u more goes =
+    let behind = all-events c (u.bytes ++ more.0) (u.events ++ e ∷ []) more.3 in
+    record {
+      bytes = u.bytes ++ more.0;
+      are_bytes = All-append (λ y. y < 256) u.bytes more.0 u.are_bytes more.1;
+      read = Consumes-trans t.unread t.left left u.bytes more.0 u.read more.2;
+      es = u.events;
+      rest = behind.0;
+      all = behind.1;
+      written = u.written;
+      heard = u.heard ∙ heard-goes h goes;
+    }
+
+-- it is heard, and the session goes on
+pub goes-on : Laws →
+    (s : Speaker Lanes) (h g : Held) (c : InboxState) (o p : OutboxState) (t : Traffic) (holds : Option (List ℕ))
+    (e : Event Lanes) →
+    is_live s.start.stage ≡ true →
+    (x : At s h o t e) → HasRead c x.bytes (x.es ++ e ∷ []) → heard_as g ≡ hear_now two_lanes h.end h.taken e →
+    Adds o p t.holds holds (said_by h e) → Underway s g c p (traffic t.unread t.left t.held holds)
+goes-on laws s h g c o p t holds e live x came now added = record {
+  events = x.es ++ e ∷ [];
   bytes = x.bytes;
   are_bytes = x.are_bytes;
   read = x.read;
-  came = x.came;
-  written = adds o p t.held t.holds holds said Ns x.written more;
+  came = came;
+  written = subst (HasWritten p t.held holds) (sym (says-next laws.say s h x.es e live x.heard))
+      (adds o p t.held t.holds holds (so_far s x.es) (said_by h e) x.written added);
+  heard = fold-append (hear two_lanes) (begins s) x.es (e ∷ []) ∙ ap (λ y. hear two_lanes y e) x.heard ∙ sym now;
 }
 
--- the message behind all that was answered is answered
-pub answered : (s : Speaker Lanes) (t : Traffic) (holds : Option (List ℕ)) (b : InboxState) (o p : OutboxState) (e f : End Lanes) (Ms : List (Message Lanes)) (M : Message Lanes) →
-    EndsHearOn two_lanes → EndsSay two_lanes → e ≡ session two_lanes s Ms → Exchanged b o t (Ms ++ M ∷ []) (says two_lanes s Ms) →
-    f ≡ after two_lanes e M → Adds o p t.holds holds (replied (answer two_lanes e M)) → Underway s f b p (traffic t.unread t.left t.held holds)
-answered s t holds b o p e f Ms M on law is x behind more = record {
-  messages = Ms ++ M ∷ [];
-  exchanged =
-      subst (λ N. Exchanged b p (traffic t.unread t.left t.held holds) (Ms ++ M ∷ []) N)
-      (ap (λ y. says two_lanes s Ms ++ replied (answer two_lanes y M)) is ∙ sym (says-more s Ms M law))
-      (writes-on t holds b o p (Ms ++ M ∷ []) (says two_lanes s Ms) (replied (answer two_lanes e M)) x more);
-  end = behind ∙ ap (λ y. after two_lanes y M) is ∙ sym (on s.start Ms M);
-}
+-- an event that is refused says nothing
+refused-says : (h : Held) (e : Event Lanes) (code : ℕ) → hear_now two_lanes h.end h.taken e ≡ Refused_for code →
+    said_by h e ≡ []
+refused-says h (Came p) code is = refl
+refused-says h (Failed n) code is = refl
+refused-says h Ended code is = by (ended h.taken) is where
+  stands : (f : End Lanes) → stands_at f ≡ Refused_for code → ⊥
+  stands f = by_over (is_over f.stage) where
+    by_over : (b : Bool) → (if b then Over_at f else Goes_on f (nothing_taken f)) ≡ Refused_for code → ⊥
+    by_over true wrong = cc
+    by_over false wrong = cc
 
--- the messages in the bytes, of which some were handed out
-pub in-bytes : (b : InboxState) (bytes : List ℕ) (Ms : List (Message Lanes)) → HasRead b bytes Ms → messages_in two_lane_profile bytes ≡ Ms ++ messages_of b.parts (b.events ++ [])
-in-bytes b bytes Ms came =
-    ap (λ x. messages_of [] x.events) came.holds ∙ ap (messages_of []) (sym (append-nil came.all)) ∙ came.messages []
+  by : (a : Answer Lanes) → ended_by h.end h.taken a ≡ Refused_for code → replied a ≡ []
+  by (Replies N) is = absurd (stands (after_ended h.end h.taken (Replies N)) is)
+  by Ends is = refl
+  by (answered.Refuses n) is = refl
 
-pub over-not-live : (x : Stage Lanes) → IsTrue (is_over x) → is_live x ≡ false
-over-not-live Fresh o = absurd (false≢true o)
-over-not-live (Waits own) o = absurd (false≢true o)
-over-not-live Over o = refl
-over-not-live Spent o = refl
+-- what was said before begins what is called for
+begun : Laws → (s : Speaker Lanes) (h : Held) (o : OutboxState) (t : Traffic) (e : Event Lanes) (x : At s h o t e) →
+    (more : List (Message Lanes)) × (called_by s x.bytes ≡ so_far s x.es ++ more)
+begun laws s h o t e x =
+    let r = laws.begin s x.es (e ∷ x.rest) in
+    (r.0, ap (λ l. own two_lanes s (messages_of [] l)) (x.all ∙ append_assoc x.es (e ∷ []) x.rest) ∙ r.1)
 
--- all that was said, as a text of so many messages
-pub said-all : (s : Speaker Lanes) (o : OutboxState) (t : Traffic) (bytes : List ℕ) (Ns : List (Message Lanes)) → said_to s bytes ≡ Ns → HasWritten o t.held t.holds Ns → SaidAll s t bytes o.sent
-said-all s o t bytes Ns is w = record {
-  written =
-      subst (λ l. Appends t.held t.holds (session_text two_lane_profile l))
-      (sym (ap (λ n. take n (said_to s bytes)) w.count ∙ ap (λ l. take (length Ns) l) is ∙ take-length Ns)) w.written;
-  count = ap (λ (l : List (Message Lanes)). length l) is ∙ sym w.count;
-}
+-- no message more was written
+first-kept : Laws →
+    (s : Speaker Lanes) (h : Held) (o p : OutboxState) (t : Traffic) (holds : Option (List ℕ)) (e : Event Lanes)
+    (x : At s h o t e) →
+    Adds o p t.holds holds [] →
+    WroteFirst s p (traffic t.unread t.left t.held holds) x.bytes
+first-kept laws s h o p t holds e x added =
+    let b = begun laws s h o t e x in
+    wrote-first s p (traffic t.unread t.left t.held holds) x.bytes (so_far s x.es) b.0 b.1
+    (adds-nothing o p t.held t.holds holds (so_far s x.es) x.written added)
 
--- a session that is over says nothing to what else was read
-pub finished : (s : Speaker Lanes) (e : End Lanes) (b : InboxState) (o : OutboxState) (t : Traffic) → EndsSay two_lanes → Underway s e b o t → IsTrue (is_over e.stage) → Finished s e o t
-finished s e b o t law u over =
-    let x = u.exchanged in
-    let Ms = u.messages in
-    let rest = messages_of b.parts (b.events ++ []) in
-    let all = in-bytes b x.bytes Ms x.came in
-    let still = (law s.start Ms).over rest (over-not-live (session two_lanes s Ms).stage (subst (λ y. IsTrue (is_over y.stage)) u.end over)) in
-    let said : said_to s x.bytes ≡ says two_lanes s Ms = ap (λ l. says two_lanes s l) all ∙ ap (λ (l : List (Message Lanes)). s.first ++ l) still.0 in
+heard-next : (s : Speaker Lanes) (h : Held) (o : OutboxState) (t : Traffic) (e : Event Lanes) (x : At s h o t e) →
+    hears two_lanes s (x.es ++ e ∷ []) ≡ hear_now two_lanes h.end h.taken e
+heard-next s h o t e x = fold-append (hear two_lanes) (begins s) x.es (e ∷ []) ∙ ap (λ y. hear two_lanes y e) x.heard
+
+-- behind a stop at the event nothing more is said
+nothing-more : Laws → (s : Speaker Lanes) (h : Held) (o : OutboxState) (t : Traffic) (e : Event Lanes) →
+    is_live s.start.stage ≡ true → (x : At s h o t e) →
+    has_stopped (hear_now two_lanes h.end h.taken e) ≡ true → said_by h e ≡ [] → said_to s x.bytes ≡ so_far s x.es
+nothing-more laws s h o t e live x stopped none =
+    ap (λ l. so_far s l) x.all ∙ says-stopped laws.say s (x.es ++ e ∷ []) x.rest live
+    (ap has_stopped (heard-next s h o t e x) ∙ stopped)
+    ∙ says-next laws.say s h x.es e live x.heard ∙ ap (λ (l : List (Message Lanes)). so_far s x.es ++ l) none
+    ∙ append-nil (so_far s x.es)
+
+-- the event itself stops the session
+pub stops-refusing : (T : ℕ → Type 0) → Laws →
+    (s : Speaker Lanes) (h : Held) (o p : OutboxState) (t : Traffic) (holds : Option (List ℕ)) (over : Bool)
+    (e : Event Lanes) (stop : Stop) →
+    is_live s.start.stage ≡ true → At s h o t e → Refuses h e stop → Adds o p t.holds holds [] →
+    Stopped T s p (traffic t.unread t.left t.held holds) over stop
+stops-refusing T laws s h o p t holds over e stop live x refuses added =
+    record { bytes = x.bytes; are_bytes = x.are_bytes; read = x.read; why = by stop refuses } where
+      u2 : Traffic
+      u2 = traffic t.unread t.left t.held holds
+
+      still : HasWritten p t.held holds (so_far s x.es)
+      still = adds-nothing o p t.held t.holds holds (so_far s x.es) x.written added
+
+      by : (stop : Stop) → Refuses h e stop → WhyStopped T s p u2 over x.bytes stop
+      by (stops.Refused code) is =
+          let heard = heard-next s h o t e x ∙ is in
+          let said = nothing-more laws s h o t e live x (ap has_stopped is) (refused-says h e code is) in (
+            inl (first-kept laws s h o p t holds e x added),
+            inl (first-at laws s over x.bytes (so_far s x.es) p.sent code live
+                (hearing-stopped s over x.bytes (x.es ++ e ∷ []) x.rest
+                (Refused_for code) x.all heard refl) said still.count),
+          )
+      by (stops.PeerRefused code) is =
+          let now : hear_now two_lanes h.end h.taken e ≡ Peer_refused code = ap (hear_now two_lanes h.end h.taken) is in
+          let said = nothing-more laws s h o t e live x (ap has_stopped now) (ap (said_by h) is) in
+          let frames : events_in x.bytes ≡ x.es ++ Failed code ∷ x.rest =
+          x.all ∙ append_assoc x.es (e ∷ []) x.rest ∙ ap (λ y. x.es ++ y ∷ x.rest) is in
+          record {
+            said = said-all s p u2 x.bytes (so_far s x.es) said still;
+            frame = ap (λ l. fault_of l) frames ∙ first-frame (begins s) x.es x.rest h.end h.taken code x.heard;
+            told = hearing-stopped s over x.bytes (x.es ++ e ∷ []) x.rest (Peer_refused code) x.all
+                (heard-next s h o t e x ∙ now) refl;
+          }
+      by stops.Memory is = inl (first-kept laws s h o p t holds e x added)
+      by (stops.Io side) is = absurd is
+
+-- its reply is not said
+stops-unsaid : Laws →
+    (s : Speaker Lanes) (h : Held) (o p : OutboxState) (t : Traffic) (holds : Option (List ℕ)) (over : Bool)
+    (e : Event Lanes) (stop : Stop) →
+    is_live s.start.stage ≡ true → At s h o t e → Unsaid o p t.holds holds (said_by h e) stop →
+    Stopped IsOfTheTable s p (traffic t.unread t.left t.held holds) over stop
+stops-unsaid laws s h o p t holds over e stop live x unsaid =
+    record { bytes = x.bytes; are_bytes = x.are_bytes; read = x.read; why = by stop unsaid } where
+      u2 : Traffic
+      u2 = traffic t.unread t.left t.held holds
+
+      begun_next : (more : List (Message Lanes)) × (called_by s x.bytes ≡ so_far s (x.es ++ e ∷ []) ++ more)
+      begun_next = let r = laws.begin s (x.es ++ e ∷ []) x.rest in
+          (r.0, ap (λ l. own two_lanes s (messages_of [] l)) x.all ∙ r.1)
+
+      some : SomeOf o p t.holds holds (said_by h e) → WroteFirst s p u2 x.bytes
+      some (inl added) = first-kept laws s h o p t holds e x added
+      some (inr added) =
+          wrote-first s p u2 x.bytes (so_far s (x.es ++ e ∷ [])) begun_next.0 begun_next.1
+          (subst (HasWritten p t.held holds) (sym (says-next laws.say s h x.es e live x.heard))
+          (adds o p t.held t.holds holds (so_far s x.es) (said_by h e) x.written added))
+
+      by : (stop : Stop) → Unsaid o p t.holds holds (said_by h e) stop →
+          WhyStopped IsOfTheTable s p u2 over x.bytes stop
+      by (stops.Refused code) (table, added) = (inl (some added), inr table)
+      by (stops.PeerRefused code) is = absurd is
+      by stops.Memory added = inl (first-kept laws s h o p t holds e x added)
+      by (stops.Io side) is = tt
+
+pub stops-event : Laws →
+    (s : Speaker Lanes) (h : Held) (o p : OutboxState) (t : Traffic) (holds : Option (List ℕ)) (over : Bool)
+    (e : Event Lanes) (stop : Stop) →
+    is_live s.start.stage ≡ true → At s h o t e → StopsBy h e o p t.holds holds stop →
+    Stopped IsOfTheTable s p (traffic t.unread t.left t.held holds) over stop
+stops-event laws s h o p t holds over e stop live x (inl (refuses, added)) =
+    stops-refusing IsOfTheTable laws s h o p t holds over e stop live x refuses added
+stops-event laws s h o p t holds over e stop live x (inr unsaid) =
+    stops-unsaid laws s h o p t holds over e stop live x unsaid
+
+-- ---- no event comes
+
+unfaulted : (to : Standing) (e : End Lanes) (t : Taken Lanes) → fault_at to ≡ None →
+    stop_at to (Goes_on e t) ≡ Goes_on e t
+unfaulted Before_hello e t none = refl
+unfaulted (In_message parts) e t none = refl
+unfaulted Meaning_over e t none = refl
+unfaulted (Faulted code) e t none = absurd cc
+
+faulty : (s : Speaker Lanes) (over : Bool) (bytes : List ℕ) (es : List (Event Lanes)) (e : End Lanes) (t : Taken Lanes)
+    (code : ℕ) →
+    IsFaulty over bytes es code → hears two_lanes s es ≡ Goes_on e t →
+    hearing_to two_lanes two_lane_profile s over bytes ≡ Refused_for code
+faulty s over bytes es e t code is at =
+    let to = (feed two_lane_profile Before_hello bytes).to in
+    ap (λ l. with_end over (stop_at to (hears two_lanes s l))) is.events ∙ ap (λ x. with_end over (stop_at to x)) at
+    ∙ by is.fault where
+      by : (((feed two_lane_profile Before_hello bytes).to ≡ Faulted code) ⊎
+          ((code ≡ truncated) × IsTrue over × (fault_at (feed two_lane_profile Before_hello bytes).to ≡ None))) →
+          with_end over (stop_at (feed two_lane_profile Before_hello bytes).to (Goes_on e t)) ≡ Refused_for code
+      by (inl fault) = ap (λ x. with_end over (stop_at x (Goes_on e t))) fault
+      by (inr (three, end, none)) =
+          ap (with_end over) (unfaulted (feed two_lane_profile Before_hello bytes).to e t none)
+          ∙ ap (λ b. if b then Refused_for truncated else Goes_on e t) end ∙ ap Refused_for (sym three)
+
+-- all events handed out were heard, and no more comes; what was written is a beginning of what all events call for
+pub stops-unheard-by : (T : ℕ → Type 0) → Laws →
+    (s : Speaker Lanes) (h : Held) (o : OutboxState) (t : Traffic) (over : Bool) (stop : Stop) (bytes : List ℕ)
+    (es : List (Event Lanes)) →
+    is_live s.start.stage ≡ true →
+    IsBytes bytes → Consumes t.unread t.left bytes → o.sent ≡ length (so_far s es) →
+    ((rest : List (Event Lanes)) → events_in bytes ≡ es ++ rest → WroteUpTo s o t bytes) →
+    hears two_lanes s es ≡ Goes_on h.end h.taken → StopsAt over bytes es stop → Stopped T s o t over stop
+stops-unheard-by T laws s h o t over stop bytes es live are read count wrote heard unheard =
+    record { bytes = bytes; are_bytes = are; read = read; why = by stop unheard } where
+      by : (stop : Stop) → StopsAt over bytes es stop → WhyStopped T s o t over bytes stop
+      by (stops.Refused code) is = (
+        wrote [] (is.events ∙ sym (append-nil es)),
+        inl (first-at laws s over bytes (so_far s es) o.sent code live
+            (faulty s over bytes es h.end h.taken code is heard)
+            (ap (λ l. so_far s l) is.events) count),
+      )
+      by (stops.PeerRefused code) is = absurd is
+      by stops.Memory is = wrote is.0 is.1
+      by (stops.Io side) is = tt
+
+pub stops-unheard : (T : ℕ → Type 0) → Laws →
+    (s : Speaker Lanes) (h : Held) (o : OutboxState) (t : Traffic) (over : Bool) (stop : Stop) (bytes : List ℕ)
+    (es : List (Event Lanes)) →
+    is_live s.start.stage ≡ true →
+    IsBytes bytes → Consumes t.unread t.left bytes → HasWritten o t.held t.holds (so_far s es) →
+    hears two_lanes s es ≡ Goes_on h.end h.taken → StopsAt over bytes es stop → Stopped T s o t over stop
+stops-unheard T laws s h o t over stop bytes es live are read written heard unheard =
+    stops-unheard-by T laws s h o t over stop bytes es live are read written.count wrote heard unheard where
+      wrote : (rest : List (Event Lanes)) → events_in bytes ≡ es ++ rest → WroteUpTo s o t bytes
+      wrote rest all =
+          let r = laws.begin s es rest in
+          inl (wrote-first s o t bytes (so_far s es) r.0
+          (ap (λ l. own two_lanes s (messages_of [] l)) all ∙ r.1) written)
+
+pub stops-underway : Laws →
+    (s : Speaker Lanes) (h : Held) (b : InboxState) (o : OutboxState) (t : Traffic) (left : Option (List ℕ))
+    (over : Bool) (stop : Stop) →
+    is_live s.start.stage ≡ true →
+    (u : Underway s h b o t) → is_over h.end.stage ≡ false →
+    ((bytes : List ℕ) × IsBytes bytes × Consumes t.left left bytes
+    × StopsAt over (u.bytes ++ bytes) u.events stop) →
+    Stopped IsOfTheTable s o (traffic t.unread left t.held t.holds) over stop
+stops-underway laws s h b o t left over stop live u goes more =
+    stops-unheard IsOfTheTable laws s h o (traffic t.unread left t.held t.holds) over stop
+    (u.bytes ++ more.0) u.events live
+    (All-append (λ y. y < 256) u.bytes more.0 u.are_bytes more.1)
+    (Consumes-trans t.unread t.left left u.bytes more.0 u.read more.2) u.written
+    (u.heard ∙ heard-goes h goes) more.3
+
+-- ---- the session is over
+
+pub finished : Laws → (s : Speaker Lanes) (h : Held) (b : InboxState) (o : OutboxState) (t : Traffic) →
+    is_live s.start.stage ≡ true → Underway s h b o t → is_over h.end.stage ≡ true → Finished s h.end o t
+finished laws s h b o t live u over =
+    let Ms = messages_in two_lane_profile u.bytes in
+    let at : hears two_lanes s u.events ≡ Over_at h.end = u.heard ∙ heard-over h over in
+    let behind = all-events b u.bytes u.events u.came in
+    let told = hearing-stopped s false u.bytes u.events behind.0 (Over_at h.end) behind.1 at refl in
+    let agreed = subst (AgreesBy (session two_lanes s Ms) (says two_lanes s Ms) (own two_lanes s Ms)) told
+    (laws.agree s false u.bytes live) in
+    let said : said_to s u.bytes ≡ so_far s u.events =
+    ap (λ l. so_far s l) behind.1 ∙ says-stopped laws.say s u.events behind.0 live (ap has_stopped at) in
     record {
-      bytes = x.bytes;
-      are_bytes = x.are_bytes;
-      read = x.read;
-      said = said-all s o t x.bytes (says two_lanes s Ms) said x.written;
-      end = u.end ∙ sym (ap (λ l. session two_lanes s l) all ∙ still.1);
+      bytes = u.bytes;
+      are_bytes = u.are_bytes;
+      read = u.read;
+      said = said-all s o t u.bytes (so_far s u.events) said u.written;
+      end = agreed.0;
       over = over;
     }
-
--- the peer refused behind all that was answered
-pub refused-behind : (s : Speaker Lanes) (o : OutboxState) (t : Traffic) (bytes : List ℕ) (Ms : List (Message Lanes)) (code : ℕ) → IsRefused bytes Ms code → HasWritten o t.held t.holds (says two_lanes s Ms) →
-    SaidAll s t bytes o.sent × (fault_frame two_lane_profile bytes ≡ Some code)
-refused-behind s o t bytes Ms code r w = (said-all s o t bytes (says two_lanes s Ms) (ap (λ l. says two_lanes s l) r.messages) w, r.fault)

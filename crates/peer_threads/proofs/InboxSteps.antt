@@ -1,220 +1,279 @@
 -- What an inbox has read and handed out, step by step.
-use Rattle.std.proofs.Common.{◌≡◌, ℕ, ◌<◌, ◌⊎◌, inl, inr, List, [], ◌∷◌, ◌++◌, length, take, Option, Some, None, IfSome, IfNone, Result, Ok, Err, sym, ap, ◌∙◌, append_assoc, append-nil, subst, arith}
-use Rattle.std.specs.List.{AllByRecursion}
-use Rattle.std.specs.Option.{option_map}
-use Rattle.std.specs.Io.KnownBytes.{Consumes, IsAtEnd}
+--
+-- All bytes that were read are those that were fed, and then those that wait. To feed some of the latter moves the
+-- seam between the two; to read, where none wait, puts new bytes behind it. A stream may be cut anywhere, so at each
+-- seam the events that were handed out begin those of all bytes. Where nothing waits they are all of them.
+--
+-- While the hello is due, fewer than four bytes are kept. With four more they are fewer than a hello and the length of
+-- a frame, so no event ends in them.
+use Rattle.std.proofs.Common.{◌≡◌, ℕ, ◌+◌, ◌-◌, ◌<◌, ◌≤◌, inl, inr, Bool, true}
+use Rattle.std.proofs.Common.{List, [], ◌∷◌, ◌++◌, length, take, drop, Option, Some, None, Result, Ok, Err}
+use Rattle.std.proofs.Common.{refl, sym, ap, ◌∙◌, subst, append_assoc, append-nil, arith}
+use Rattle.std.proofs.lemmas.List.{length-append, length-take, take-take, take-append-drop, drop-take, drop-drop}
+use Rattle.std.proofs.Math.Seq.{take-length}
+use Rattle.std.specs.Io.KnownBytes.{Consumes}
 use Rattle.std.proofs.KnownBytes.{Consumes-trans, Consumes-nil}
 use Rattle.definitions.specs.Fingerprints.{Lanes}
 use Rattle.definitions.specs.Items.{IsBytes}
-use Rattle.definitions.specs.Messages.{Message}
-use Rattle.definitions.specs.Refusals.{truncated}
-use Rattle.definitions.specs.Wire.{two_lane_profile, max_parts, IsMessage, Event, Ended, Failed}
-use Rattle.definitions.specs.Streams.{Standing, Before_hello, In_message, Meaning_over, Faulted, Fed, feed, messages_of}
-use Rattle.definitions.specs.Engines.{messages_in, fault_of, fault_frame}
-use Rattle.definitions.proofs.Lists.{All-append}
-use Rattle.codec_laws.specs.Parts.{HeardAreMessages}
-use Rattle.wire_core.specs.Feeds.{StreamState, Holds, fed_into, fault_at, UnlessMemory}
-use Rattle.wire_core.specs.Standings.{behind}
+use Rattle.definitions.specs.Wire.{two_lane_profile, frame, event_text, Event}
+use Rattle.definitions.specs.Streams.{Standing, Before_hello, In_message, Meaning_over, Faulted, Fed, feed, stays}
+use Rattle.codec_laws.proofs.Fields.{IsBytes-both, rest_fits, front_fits}
+use Rattle.codec_laws.proofs.Kept.{feeds_rest}
+use Rattle.codec_laws.proofs.Made.{two_lanes_real}
+use Rattle.codec_laws.proofs.Streams.{feeds_joined}
+use Rattle.wire_core.specs.Events.{event_value}
+use Rattle.wire_core.specs.Feeds.{StreamState, Holds, fed_into, Continues, fault_at, is_before_hello}
+use Rattle.wire_core.specs.Feeds.{refusal_in, UnlessMemory}
+use Rattle.wire_core.specs.Nexts.{TakesNext, hello_due}
 use Rattle.wire_core.specs.Refused.{fault_number}
-use Rattle.wire_core.specs.declared.fault.WireFault.{WireFault}
+use Rattle.wire_core.specs.declared.event.Event as declared
 use Rattle.wire_core.specs.declared.fault.DecodeError.{DecodeError}
 use Rattle.wire_core.specs.declared.fault.DecodeError.TheVariants as errors
-use Rattle.peer_threads.specs.Inboxes.{InboxState, HasRead, IsRefused, IsFaulty, StopsAt, HeldStops, Reads, GreetStops, Greeted, Next, Held, Follows, Followed, Grows, settled}
-use Rattle.peer_threads.specs.Stops.{IsOwn}
+use Rattle.wire_core.proofs.Waiting.{hello_few}
+use Rattle.peer_threads.specs.Inboxes.{InboxState, stream, HasRead, IsFaulty, StopsAt, SoFar, Reads, Held, FetchStops}
+use Rattle.peer_threads.specs.Stops.{of_decoding}
 use Rattle.peer_threads.specs.declared.stop.Stop.{Stop}
 use Rattle.peer_threads.specs.declared.stop.Stop.TheVariants as stops
 
--- ---- what is known of all that was read
+abbrev Events : Type 0
+Events = List (Event Lanes)
 
-pub messages_now : (b : InboxState) (bytes : List ℕ) (Ms : List (Message Lanes)) → HasRead b bytes Ms → messages_in two_lane_profile bytes ≡ Ms ++ messages_of b.parts b.events
-messages_now b bytes Ms has =
-    ap (λ (f : Fed Lanes). messages_of [] f.events) has.holds
-    ∙ ap (messages_of []) (sym (append-nil has.all))
-    ∙ has.messages []
-    ∙ ap (λ (es : List (Event Lanes)). Ms ++ messages_of b.parts es) (append-nil b.events)
+abbrev Claim : Type 1
+Claim = List ℕ → Events → Type 0
 
-pub fault_now : (b : InboxState) (bytes : List ℕ) (Ms : List (Message Lanes)) → HasRead b bytes Ms → fault_frame two_lane_profile bytes ≡ fault_of b.events
-fault_now b bytes Ms has =
-    ap (λ (f : Fed Lanes). fault_of f.events) has.holds
-    ∙ ap (λ (es : List (Event Lanes)). fault_of es) (sym (append-nil has.all))
-    ∙ has.fault []
-    ∙ ap (λ (es : List (Event Lanes)). fault_of es) (append-nil b.events)
+-- ---- a piece
 
--- the next event is a fault frame
-pub was_refused : (b : InboxState) (code : ℕ) (rest : List (Event Lanes)) → b.events ≡ Failed code ∷ rest → (bytes : List ℕ) (Ms : List (Message Lanes)) → HasRead b bytes Ms → IsRefused bytes Ms code
-was_refused b code rest next bytes Ms has = record {
-  messages = messages_now b bytes Ms has ∙ ap (λ (es : List (Event Lanes)). Ms ++ messages_of b.parts es) next ∙ append-nil Ms;
-  fault = fault_now b bytes Ms has ∙ ap (λ (es : List (Event Lanes)). fault_of es) next;
-}
+-- what is taken off the front of a part of a list
+pub skipped : (from taken end : ℕ) (xs now : List ℕ) → take (end - from) (drop from xs) ≡ now → taken ≤ length now →
+    take (end - (from + taken)) (drop (from + taken) xs) ≡ drop taken now
+skipped from taken end xs now is few =
+    let l = ap length is in
+    let t = length-take (end - from) (drop from xs) in
+    let whole : end - from ≡ taken + (end - (from + taken)) = omega arith in
+    ap (take (end - (from + taken))) (sym (drop-drop taken from xs))
+    ∙ sym (drop-take taken (end - (from + taken)) (drop from xs))
+    ∙ ap (λ (n : ℕ). drop taken (take n (drop from xs))) (sym whole)
+    ∙ ap (drop taken) is
 
--- no event waits, and no more can come
-pub is_faulty : (left : Option (List ℕ)) (b : InboxState) (code : ℕ) → b.events ≡ [] → (bytes : List ℕ) (Ms : List (Message Lanes)) → HasRead b bytes Ms × ((b.feed.standing ≡ Faulted code) ⊎ ((code ≡ truncated) × IsAtEnd left)) → IsFaulty left bytes Ms code
-is_faulty left b code none bytes Ms (has, inl at) = record {
-  messages = messages_now b bytes Ms has ∙ ap (λ (es : List (Event Lanes)). Ms ++ messages_of b.parts es) none ∙ append-nil Ms;
-  fault = inl (ap (λ (f : Fed Lanes). f.to) has.holds ∙ at);
-}
-is_faulty left b code none bytes Ms (has, inr end) = record {
-  messages = messages_now b bytes Ms has ∙ ap (λ (es : List (Event Lanes)). Ms ++ messages_of b.parts es) none ∙ append-nil Ms;
-  fault = inr end;
-}
+-- ---- what was read so far
 
-pub greet_stops : (left : Option (List ℕ)) (b : InboxState) (stop : Stop) → b.events ≡ [] → (bytes : List ℕ) (Ms : List (Message Lanes)) → GreetStops left b bytes Ms stop → StopsAt left bytes Ms stop
-greet_stops left b (stops.PeerRefused code) none bytes Ms stopped = absurd stopped
-greet_stops left b (stops.Refused code) none bytes Ms stopped = is_faulty left b code none bytes Ms stopped
-greet_stops left b (stops.Io side) none bytes Ms stopped = tt
-greet_stops left b stops.Memory none bytes Ms stopped = tt
-
--- it is this side that stops
-pub greeted_own : (left : Option (List ℕ)) (b : InboxState) (bytes : List ℕ) (Ms : List (Message Lanes)) (stop : Stop) → GreetStops left b bytes Ms stop → IsOwn stop
-greeted_own left b bytes Ms (stops.PeerRefused code) stopped = stopped
-greeted_own left b bytes Ms (stops.Refused code) stopped = tt
-greeted_own left b bytes Ms (stops.Io side) stopped = tt
-greeted_own left b bytes Ms stops.Memory stopped = tt
-
--- ---- steps
-
--- a piece more was fed
-pub fetched : (b c : InboxState) (piece : List ℕ) → Grows b.feed c.feed piece b.events c.events → c.parts ≡ b.parts →
-    (before : List ℕ) (Ms : List (Message Lanes)) → IsBytes before → HasRead b before Ms → HasRead c (before ++ piece) Ms
-fetched b c piece grows same before Ms fits has =
-    let joined : (later : List (Event Lanes)) → b.events ++ (grows.fresh ++ later) ≡ c.events ++ later
-    = λ later. sym (append_assoc b.events grows.fresh later) ∙ ap (λ (es : List (Event Lanes)). es ++ later) (sym grows.behind) in
+pub has_read : (b : InboxState) (bytes fed : List ℕ) (es : Events) → bytes ≡ fed ++ b.waiting → IsBytes bytes →
+    Holds b.feed fed es → HasRead b bytes es
+has_read b bytes fed es split fits holds =
+    let front = front_fits bytes fed b.waiting split fits in
+    let back = rest_fits bytes fed b.waiting split fits in
+    let join = feeds_joined two_lane_profile two_lanes_real Before_hello fed b.waiting front back in
     record {
-      all = has.all ++ grows.fresh;
-      holds = grows.joined before has.all fits has.holds;
-      messages = λ later. ap (messages_of []) (append_assoc has.all grows.fresh later) ∙ has.messages (grows.fresh ++ later) ∙ (λ i. Ms ++ messages_of (sym same i) (joined later i));
-      fault = λ later. ap (λ (es : List (Event Lanes)). fault_of es) (append_assoc has.all grows.fresh later) ∙ has.fault (grows.fresh ++ later) ∙ ap (λ (es : List (Event Lanes)). fault_of es) (joined later);
+      fed = fed;
+      split = split;
+      fits = front;
+      holds = holds;
+      more = (feed two_lane_profile b.feed.standing (b.feed.kept ++ b.waiting)).events;
+      events = ap (λ (bs : List ℕ). (stream bs).events) split
+          ∙ ap (λ (f : Fed Lanes). f.events) join
+          ∙ ap (λ (f : Fed Lanes). f.events ++ (feed two_lane_profile f.to (f.kept ++ b.waiting)).events) holds;
     }
 
--- an event more was looked at
-pub followed : (b c : InboxState) (e : Event Lanes) (made : List (Message Lanes)) → b.events ≡ e ∷ c.events → c.feed ≡ b.feed → Follows e b.parts c.parts made →
-    (bytes : List ℕ) (Ms : List (Message Lanes)) → HasRead b bytes Ms → HasRead c bytes (Ms ++ made)
-followed b c e made next same follows bytes Ms has = record {
-  all = has.all;
-  holds = subst (λ (s : StreamState). Holds s bytes has.all) (sym same) has.holds;
-  messages = λ later. has.messages later
-      ∙ ap (λ (es : List (Event Lanes)). Ms ++ messages_of b.parts (es ++ later)) next
-      ∙ ap (λ (l : List (Message Lanes)). Ms ++ l) (follows.messages (c.events ++ later))
-      ∙ sym (append_assoc Ms made (messages_of c.parts (c.events ++ later)));
-  fault = λ later. has.fault later ∙ ap (λ (es : List (Event Lanes)). fault_of (es ++ later)) next ∙ follows.fault (c.events ++ later);
-}
+-- what is fed now
+abbrev now_fed : StreamState → List ℕ → Fed Lanes
+now_fed s piece = feed two_lane_profile s.standing (s.kept ++ piece)
 
-pub followed_none : (b c : InboxState) (e : Event Lanes) → b.events ≡ e ∷ c.events → c.feed ≡ b.feed → Follows e b.parts c.parts [] →
-    (bytes : List ℕ) (Ms : List (Message Lanes)) → HasRead b bytes Ms → HasRead c bytes Ms
-followed_none b c e next same follows bytes Ms has = subst (HasRead c bytes) (append-nil Ms) (followed b c e [] next same follows bytes Ms has)
+-- some of the bytes that wait are fed
+moved : (b c : InboxState) (taken : ℕ) (made : Events) → Continues b.feed (take taken b.waiting) c.feed →
+    (now_fed b.feed (take taken b.waiting)).events ≡ made → c.waiting ≡ drop taken b.waiting →
+    SoFar b (λ bytes es. HasRead c bytes (es ++ made))
+moved b c taken made joined events left bytes es fits has =
+    let front = take taken b.waiting in
+    let split : bytes ≡ (has.fed ++ front) ++ c.waiting =
+    has.split
+    ∙ ap (λ (bs : List ℕ). has.fed ++ bs) (sym (take-append-drop taken b.waiting))
+    ∙ sym (append_assoc has.fed front (drop taken b.waiting))
+    ∙ ap (λ (bs : List ℕ). (has.fed ++ front) ++ bs) (sym left) in
+    let holds = subst (λ (new : Events). Holds c.feed (has.fed ++ front) (es ++ new)) events
+    (joined has.fed es has.fits has.holds) in
+    has_read c bytes (has.fed ++ front) (es ++ made) split fits holds
 
-All-inside : {X : Type 0} (P : X → Type 0) (xs : List X) (y : X) (ys : List X) → AllByRecursion P (xs ++ y ∷ ys) → P y
-All-inside P [] y ys all = all.0
-All-inside P (x ∷ xs) y ys all = All-inside P xs y ys all.1
+-- they make no event
+moved_on : (b c : InboxState) (taken : ℕ) (piece : List ℕ) → take taken b.waiting ≡ piece →
+    Continues b.feed (take taken b.waiting) c.feed → now_fed b.feed piece ≡ fed_into [] c.feed →
+    c.waiting ≡ drop taken b.waiting → SoFar b (HasRead c)
+moved_on b c taken piece is joined fed left bytes es fits has =
+    let none = ap (λ (bs : List ℕ). (now_fed b.feed bs).events) is ∙ ap (λ (f : Fed Lanes). f.events) fed in
+    subst (HasRead c bytes) (append-nil es) (moved b c taken [] joined none left bytes es fits has)
 
--- a message of a stream never has too many parts
-pub not_too_many : HeardAreMessages two_lane_profile → (b : InboxState) (rest : List (Event Lanes)) → b.events ≡ Ended ∷ rest → max_parts < length b.parts →
-    (bytes : List ℕ) (Ms : List (Message Lanes)) → IsBytes bytes → HasRead b bytes Ms → ⊥
-not_too_many heard b rest next many bytes Ms fits has =
-    let all : AllByRecursion (IsMessage two_lane_profile) (Ms ++ b.parts ∷ messages_of [] rest)
-    = subst (AllByRecursion (IsMessage two_lane_profile)) (messages_now b bytes Ms has ∙ ap (λ (es : List (Event Lanes)). Ms ++ messages_of b.parts es) next) (heard bytes fits) in
-    let message = All-inside (IsMessage two_lane_profile) Ms b.parts (messages_of [] rest) all in
-    let few = message.count in
+-- ---- the next event
+
+held_next : (b c : InboxState) (taken : ℕ) (made : Option declared.Event) →
+    TakesNext b.feed b.waiting (Ok (taken, made)) c.feed → Continues b.feed (take taken b.waiting) c.feed →
+    c.waiting ≡ drop taken b.waiting → SoFar b (λ bytes es. (over : Bool) → Held over c bytes es (Ok made))
+held_next b c taken None (all, fed) joined left bytes es fits has over =
+    let whole : take taken b.waiting ≡ b.waiting =
+    ap (λ (n : ℕ). take n b.waiting) all ∙ take-length b.waiting in
+    moved_on b c taken b.waiting whole joined fed left bytes es fits has
+held_next b c taken (Some e) (some, most, text, fed, none) joined left bytes es fits has over =
+    moved b c taken (event_value e ∷ []) joined (ap (λ (f : Fed Lanes). f.events) fed) left bytes es fits has
+
+pub held : (b c : InboxState) (rest : List ℕ) → rest ≡ b.waiting → (taken : ℕ) (made : Option declared.Event) →
+    TakesNext b.feed rest (Ok (taken, made)) c.feed → Continues b.feed (take taken rest) c.feed →
+    c.waiting ≡ drop taken b.waiting → SoFar b (λ bytes es. (over : Bool) → Held over c bytes es (Ok made))
+held b c rest same taken made fed joined left = held_next b c taken made
+    (subst (λ (bs : List ℕ). TakesNext b.feed bs (Ok (taken, made)) c.feed) same fed)
+    (subst (λ (bs : List ℕ). Continues b.feed (take taken bs) c.feed) same joined) left
+
+-- ---- why there is none
+
+fault_is : (s : Standing) (code : ℕ) → Some code ≡ fault_at s → s ≡ Faulted code
+fault_is Before_hello code is = absurd cc
+fault_is (In_message parts) code is = absurd cc
+fault_is Meaning_over code is = absurd cc
+fault_is (Faulted fault) code is = let same : code ≡ fault = cc in ap Faulted (sym same)
+
+-- what was fed is faulty, whatever waits behind it
+fault_stays : (s : StreamState) (bytes fed back : List ℕ) (es : Events) (code : ℕ) → bytes ≡ fed ++ back →
+    IsBytes bytes → Holds s fed es → s.standing ≡ Faulted code → (over : Bool) → IsFaulty over bytes es code
+fault_stays s bytes fed back es code split fits holds faulted over =
+    let front = front_fits bytes fed back split fits in
+    let rest = rest_fits bytes fed back split fits in
+    let all = ap stream split ∙ feeds_joined two_lane_profile two_lanes_real Before_hello fed back front rest in
+    let behind = ap (λ (to : Standing). feed two_lane_profile to (s.kept ++ back)) faulted in
+    let at = ap (λ (f : Fed Lanes). feed two_lane_profile f.to (f.kept ++ back)) holds ∙ behind in
+    record {
+      events = ap (λ (f : Fed Lanes). f.events) all
+          ∙ ap (λ (f : Fed Lanes). f.events ++ (feed two_lane_profile f.to (f.kept ++ back)).events) holds
+          ∙ ap (λ (f : Fed Lanes). es ++ f.events) behind
+          ∙ append-nil es;
+      fault = inl (ap (λ (f : Fed Lanes). f.to) all ∙ ap (λ (f : Fed Lanes). f.to) at);
+    }
+
+abbrev failed : DecodeError → Result (ℕ × Option declared.Event) DecodeError
+failed e = Err e
+
+-- there is a fault in the bytes that were fed, or no memory for them
+pub stopped : (b : InboxState) (s : StreamState) (piece back : List ℕ) (e : DecodeError) → b.waiting ≡ piece ++ back →
+    TakesNext b.feed piece (failed e) s →
+    UnlessMemory (failed e) (refusal_in (failed e) ≡ fault_at s.standing) →
+    UnlessMemory (failed e) (Continues b.feed piece s) →
+    SoFar b (λ bytes es. (over : Bool) → StopsAt over bytes es (of_decoding e))
+stopped b s piece back (errors.Fault f) parts fed known joined bytes es fits has over =
+    let split : bytes ≡ (has.fed ++ piece) ++ back =
+    has.split ∙ ap (λ (bs : List ℕ). has.fed ++ bs) parts ∙ sym (append_assoc has.fed piece back) in
+    let none = ap (λ (fed : Fed Lanes). es ++ fed.events) fed ∙ append-nil es in
+    let holds = subst (Holds s (has.fed ++ piece)) none (joined has.fed es has.fits has.holds) in
+    let faulted = fault_is s.standing (fault_number f) known in
+    fault_stays s bytes (has.fed ++ piece) back es (fault_number f) split fits holds faulted over
+stopped b s piece back errors.Memory parts fed known joined bytes es fits has over = (has.more, has.events)
+
+-- ---- the hello
+
+before_hello : (s : Standing) → is_before_hello s ≡ true → s ≡ Before_hello
+before_hello Before_hello due = refl
+before_hello (In_message parts) due = absurd cc
+before_hello Meaning_over due = absurd cc
+before_hello (Faulted code) due = absurd cc
+
+pub hello_fine : (s : Standing) → is_before_hello s ≡ true → fault_at s ≡ None
+hello_fine s due = ap fault_at (before_hello s due)
+
+kept_few : (b : InboxState) (bytes : List ℕ) (es : Events) → HasRead b bytes es → b.feed.standing ≡ Before_hello →
+    length b.feed.kept < 4
+kept_few b bytes es has due =
+    let kept = b.feed.kept in
+    let rest = (feeds_rest two_lane_profile two_lanes_real Before_hello has.fed has.fits).0 in
+    let waits : feed two_lane_profile b.feed.standing kept ≡ stays b.feed.standing kept =
+    subst (λ (f : Fed Lanes). feed two_lane_profile f.to f.kept ≡ stays f.to f.kept) has.holds rest in
+    hello_few two_lane_profile kept
+    (subst (λ (s : Standing). feed two_lane_profile s kept ≡ stays s kept) due waits)
+
+no_event : (kept piece : List ℕ) (taken : ℕ) (e : Event Lanes) → length kept < 4 → length piece ≤ 4 →
+    kept ++ take taken piece ≡ two_lane_profile.hello ++ frame (event_text two_lane_profile e) → ⊥
+no_event kept piece taken e less few text =
+    let l = ap length text in
+    let a = length-append kept (take taken piece) in
+    let t = length-take taken piece in
     omega arith
 
--- what stops at an event
-pub followed_stop : HeardAreMessages two_lane_profile → (b : InboxState) (e : Event Lanes) (after : Message Lanes) (rest : List (Event Lanes)) (stop : Stop) → b.events ≡ e ∷ rest → Followed e b.parts after (Err stop) →
-    (bytes : List ℕ) (Ms : List (Message Lanes)) → IsBytes bytes → HasRead b bytes Ms → HeldStops bytes Ms stop
-followed_stop heard b e after rest (stops.PeerRefused code) next did bytes Ms fits has = was_refused b code rest (next ∙ ap (λ (x : Event Lanes). x ∷ rest) did) bytes Ms has
-followed_stop heard b e after rest (stops.Refused code) next did bytes Ms fits has = not_too_many heard b rest (next ∙ ap (λ (x : Event Lanes). x ∷ rest) did.0) did.1 bytes Ms fits has
-followed_stop heard b e after rest (stops.Io side) next did bytes Ms fits has = tt
-followed_stop heard b e after rest stops.Memory next did bytes Ms fits has = tt
+few_next : (b c : InboxState) (count taken : ℕ) (made : Option declared.Event) → count ≤ 4 →
+    is_before_hello b.feed.standing ≡ true → TakesNext b.feed (take count b.waiting) (Ok (taken, made)) c.feed →
+    Continues b.feed (take taken (take count b.waiting)) c.feed → c.waiting ≡ drop taken b.waiting →
+    SoFar b (HasRead c)
+few_next b c count taken None few due (all, fed) joined left bytes es fits has =
+    let piece = take count b.waiting in
+    let t = length-take count b.waiting in
+    let front : take taken piece ≡ take taken b.waiting = take-take taken count b.waiting (omega arith) in
+    let whole : take taken piece ≡ piece = ap (λ (n : ℕ). take n piece) all ∙ take-length piece in
+    let continues = subst (λ (bs : List ℕ). Continues b.feed bs c.feed) front joined in
+    moved_on b c taken piece (sym front ∙ whole) continues fed left bytes es fits has
+few_next b c count taken (Some e) few due (some, most, text, fed, none) joined left bytes es fits has =
+    let piece = take count b.waiting in
+    let at = before_hello b.feed.standing due in
+    let t = length-take count b.waiting in
+    let less = kept_few b bytes es has at in
+    let frame_of = frame (event_text two_lane_profile (event_value e)) in
+    let spelled = subst (λ (s : Standing). b.feed.kept ++ take taken piece ≡ hello_due s ++ frame_of) at text in
+    absurd (no_event b.feed.kept piece taken (event_value e) less (omega arith) spelled)
 
--- the same of a result that is passed on
-pub stop_held : (b : InboxState) (bytes : List ℕ) (Ms : List (Message Lanes)) (r : Result (Option (Message Lanes)) Stop) (stop : Stop) → r ≡ Err stop → HeldStops bytes Ms stop → Held b bytes Ms r
-stop_held b bytes Ms r stop is stopped = subst (Held b bytes Ms) (sym is) stopped
+-- at most four bytes are fed while the hello is due
+pub few_held : (b c : InboxState) (rest : List ℕ) → rest ≡ b.waiting → (count taken : ℕ)
+    (made : Option declared.Event) → count ≤ 4 → is_before_hello b.feed.standing ≡ true →
+    TakesNext b.feed (take count rest) (Ok (taken, made)) c.feed →
+    Continues b.feed (take taken (take count rest)) c.feed → c.waiting ≡ drop taken b.waiting → SoFar b (HasRead c)
+few_held b c rest same count taken made few due fed joined left = few_next b c count taken made few due
+    (subst (λ (bs : List ℕ). TakesNext b.feed (take count bs) (Ok (taken, made)) c.feed) same fed)
+    (subst (λ (bs : List ℕ). Continues b.feed (take taken (take count bs)) c.feed) same joined) left
 
-pub held_stops : (left : Option (List ℕ)) (bytes : List ℕ) (Ms : List (Message Lanes)) (stop : Stop) → HeldStops bytes Ms stop → StopsAt left bytes Ms stop
-held_stops left bytes Ms (stops.PeerRefused code) stopped = stopped
-held_stops left bytes Ms (stops.Refused code) stopped = absurd stopped
-held_stops left bytes Ms (stops.Io side) stopped = tt
-held_stops left bytes Ms stops.Memory stopped = tt
+-- ---- one read
 
-pub stop_next : (left : Option (List ℕ)) (b : InboxState) (bytes : List ℕ) (Ms : List (Message Lanes)) (r : Result (Message Lanes) Stop) (stop : Stop) → r ≡ Err stop → StopsAt left bytes Ms stop → Next left b bytes Ms r
-stop_next left b bytes Ms r stop is stopped = subst (Next left b bytes Ms) (sym is) stopped
+-- where nothing waits, all that was read is fed
+all_fed : (b : InboxState) (bytes : List ℕ) (es : Events) → b.waiting ≡ [] → HasRead b bytes es → Holds b.feed bytes es
+all_fed b bytes es none has =
+    let whole : bytes ≡ has.fed =
+    has.split ∙ ap (λ (bs : List ℕ). has.fed ++ bs) none ∙ append-nil has.fed in
+    subst (λ (bs : List ℕ). Holds b.feed bs es) (sym whole) has.holds
 
-pub stop_greeted : (left : Option (List ℕ)) (b : InboxState) (bytes : List ℕ) (Ms : List (Message Lanes)) (r : Result (Unit {0}) Stop) (stop : Stop) → r ≡ Err stop → GreetStops left b bytes Ms stop → Greeted left b bytes Ms r
-stop_greeted left b bytes Ms r stop is stopped = subst (Greeted left b bytes Ms) (sym is) stopped
+-- bytes came, and wait
+pub came : (unread left : Option (List ℕ)) (b c : InboxState) → b.waiting ≡ [] → c.feed ≡ b.feed → IsBytes c.waiting →
+    Consumes unread left c.waiting → Reads unread left b (HasRead c)
+came unread left b c none same fits read bytes es right has =
+    let holds = subst (λ (s : StreamState). Holds s bytes es) (sym same) (all_fed b bytes es none has) in
+    let all = IsBytes-both bytes c.waiting right fits in
+    (c.waiting, fits, read, has_read c (bytes ++ c.waiting) bytes es refl all holds)
 
-pub some_held : (b : InboxState) (bytes : List ℕ) (Ms : List (Message Lanes)) (o : Option (Message Lanes)) (M : Message Lanes) → o ≡ Some M → Held b bytes Ms (Ok o) → HasRead b bytes (Ms ++ M ∷ [])
-some_held b bytes Ms o M is held = subst (λ (made : Option (Message Lanes)). Held b bytes Ms (Ok made)) is held
-
-pub none_held : (b : InboxState) (bytes : List ℕ) (Ms : List (Message Lanes)) (o : Option (Message Lanes)) → o ≡ None → Held b bytes Ms (Ok o) → HasRead b bytes Ms
-none_held b bytes Ms o is held = subst (λ (made : Option (Message Lanes)). Held b bytes Ms (Ok made)) is held
-
-pub none_waits : (A : Type 0) (o : Option (Message Lanes)) → o ≡ None → IfNone o A → A
-none_waits A o is known = subst (λ (made : Option (Message Lanes)). IfNone made A) is known
+-- what stops a read, where the stream has no fault
+pub fetch_stops : (over : Bool) (c : InboxState) (stop : Stop) → fault_at c.feed.standing ≡ None →
+    (bytes : List ℕ) (es : Events) → FetchStops over c bytes es stop → StopsAt over bytes es stop
+fetch_stops over c (stops.PeerRefused code) fine bytes es stopped = absurd stopped
+fetch_stops over c (stops.Refused code) fine bytes es (holds, three, end) = record {
+  events = ap (λ (f : Fed Lanes). f.events) holds;
+  fault = inr (three, end, ap (λ (f : Fed Lanes). fault_at f.to) holds ∙ fine);
+}
+fetch_stops over c (stops.Io side) fine bytes es stopped = tt
+fetch_stops over c stops.Memory fine bytes es stopped = absurd stopped
 
 -- ---- one read behind another
 
 -- nothing more was read
-pub reads_nothing : (unread : Option (List ℕ)) (b : InboxState) (Q : List ℕ → List (Message Lanes) → Type 0) →
-    ((bytes : List ℕ) (Ms : List (Message Lanes)) → IsBytes bytes → HasRead b bytes Ms → Q bytes Ms) → Reads unread unread b Q
-reads_nothing unread b Q known before Ms fits has = ([], tt, Consumes-nil unread, subst (λ (bytes : List ℕ). Q bytes Ms) (sym (append-nil before)) (known before Ms fits has))
-
-pub reads_more : (unread mid left : Option (List ℕ)) (b c : InboxState) (Q : List ℕ → List (Message Lanes) → Type 0) →
-    Reads unread mid b (HasRead c) → Reads mid left c Q → Reads unread left b Q
-reads_more unread mid left b c Q first second before Ms fits has =
-    let one = first before Ms fits has in
-    let both = All-append (λ n. n < 256) before one.0 fits one.1 in
-    let two = second (before ++ one.0) Ms both one.3 in
-    (one.0 ++ two.0, All-append (λ n. n < 256) one.0 two.0 one.1 two.1, Consumes-trans unread mid left one.0 two.0 one.2 two.2, subst (λ (bytes : List ℕ). Q bytes Ms) (append_assoc before one.0 two.0) two.3)
+pub reads_nothing : (unread : Option (List ℕ)) (b : InboxState) (Q : Claim) → SoFar b Q → Reads unread unread b Q
+reads_nothing unread b Q known before es fits has =
+    let now = subst (λ (bytes : List ℕ). Q bytes es) (sym (append-nil before)) (known before es fits has) in
+    ([], tt, Consumes-nil unread, now)
 
 -- what follows from what was read, with no reading
-pub reads_so : (unread left : Option (List ℕ)) (b : InboxState) (P Q : List ℕ → List (Message Lanes) → Type 0) →
-    ((bytes : List ℕ) (Ms : List (Message Lanes)) → IsBytes bytes → P bytes Ms → Q bytes Ms) → Reads unread left b P → Reads unread left b Q
-reads_so unread left b P Q so reads before Ms fits has =
-    let one = reads before Ms fits has in
-    (one.0, one.1, one.2, so (before ++ one.0) Ms (All-append (λ n. n < 256) before one.0 fits one.1) one.3)
+pub reads_so : (unread left : Option (List ℕ)) (b : InboxState) (P Q : Claim) →
+    ((bytes : List ℕ) (es : Events) → IsBytes bytes → P bytes es → Q bytes es) → Reads unread left b P →
+    Reads unread left b Q
+reads_so unread left b P Q so reads before es fits has =
+    let one = reads before es fits has in
+    (one.0, one.1, one.2, so (before ++ one.0) es (IsBytes-both before one.0 fits one.1) one.3)
 
--- ---- what is fed
-
--- memory did not run out
-settled_Ok : (r : Result (Unit {0}) DecodeError) (fault : Option WireFault) → settled r ≡ Ok fault → (A : Type 0) → UnlessMemory r A → A
-settled_Ok (Ok x) fault did A a = a
-settled_Ok (Err (errors.Fault f)) fault did A a = a
-settled_Ok (Err errors.Memory) fault did A a = let no : ⊥ = cc did in absurd no
-
-pub grown : (r : Result (Unit {0}) DecodeError) (fault : Option WireFault) → settled r ≡ Ok fault → (f g : StreamState) (piece : List ℕ) (none fresh old new : List (Event Lanes)) → none ≡ [] →
-    UnlessMemory r (behind none (feed two_lane_profile f.standing (f.kept ++ piece)) ≡ fed_into fresh g) →
-    UnlessMemory r ((bytes : List ℕ) (events : List (Event Lanes)) → IsBytes bytes → Holds f bytes events → Holds g (bytes ++ piece) (events ++ (feed two_lane_profile f.standing (f.kept ++ piece)).events)) →
-    new ≡ old ++ fresh → Grows f g piece old new
-grown r fault did f g piece none fresh old new empty fed joined moved =
-    let more = (feed two_lane_profile f.standing (f.kept ++ piece)).events in
-    let given = ap (λ (x : Fed Lanes). x.events) (settled_Ok r fault did (behind none (feed two_lane_profile f.standing (f.kept ++ piece)) ≡ fed_into fresh g) fed) in
-    let same : more ≡ fresh = ap (λ (es : List (Event Lanes)). es ++ more) (sym empty) ∙ given in
-    let join = settled_Ok r fault did ((bytes : List ℕ) (events : List (Event Lanes)) → IsBytes bytes → Holds f bytes events → Holds g (bytes ++ piece) (events ++ more)) joined in
-    record {
-      fresh = fresh;
-      behind = moved;
-      joined = λ bytes events fits holds. subst (λ (es : List (Event Lanes)). Holds g (bytes ++ piece) (events ++ es)) same (join bytes events fits holds);
-    }
-
--- the fault that was answered is the fault of the stream
-pub fault_found : (s : Standing) (fault : Option WireFault) → option_map fault_number fault ≡ fault_at s → IfSome fault (λ f. s ≡ Faulted (fault_number f))
-fault_found s None is = tt
-fault_found Before_hello (Some f) is = let no : ⊥ = cc is in absurd no
-fault_found (In_message parts) (Some f) is = let no : ⊥ = cc is in absurd no
-fault_found Meaning_over (Some f) is = let no : ⊥ = cc is in absurd no
-fault_found (Faulted code) (Some f) is = let same : fault_number f ≡ code = cc is in ap Faulted (sym same)
-
-pub fault_known : (s : Standing) (fault : Option WireFault) (f : WireFault) → fault ≡ Some f → IfSome fault (λ f. s ≡ Faulted (fault_number f)) → s ≡ Faulted (fault_number f)
-fault_known s fault f is known = subst (λ (o : Option WireFault). IfSome o (λ f. s ≡ Faulted (fault_number f))) is known
-
--- a read gave no byte
-pub read_nothing : (unread left : Option (List ℕ)) (b c : InboxState) (n : ℕ) (room : List ℕ) → n ≡ 0 → 0 < length room → c.feed ≡ b.feed → c.events ≡ b.events → c.parts ≡ b.parts →
-    Consumes unread left (take n room) × (n ≡ 0 → 0 < length room → IsAtEnd left) → (code : ℕ) → code ≡ truncated →
-    Reads unread left b (λ bytes Ms. HasRead c bytes Ms × ((c.feed.standing ≡ Faulted code) ⊎ ((code ≡ truncated) × IsAtEnd left)))
-read_nothing unread left b c n room none more stream events parts read code end before Ms fits has =
-    let state : HasRead c (before ++ []) Ms = record {
-      all = has.all;
-      holds = (λ i. feed two_lane_profile Before_hello (append-nil before i)) ∙ has.holds ∙ (λ i. fed_into has.all (sym stream i));
-      messages = λ later. has.messages later ∙ (λ i. Ms ++ messages_of (sym parts i) (sym events i ++ later));
-      fault = λ later. has.fault later ∙ (λ i. fault_of (sym events i ++ later));
-    } in
-    ([], tt, subst (λ (k : ℕ). Consumes unread left (take k room)) none read.0, (state, inr (end, read.1 none more)))
+-- something is fed, and then more is read
+pub reads_more : (unread mid left : Option (List ℕ)) (b c d : InboxState) (Q : Claim) →
+    Reads unread mid b (HasRead c) → SoFar c (HasRead d) → Reads mid left d Q → Reads unread left b Q
+reads_more unread mid left b c d Q first fed second before es fits has =
+    let one = first before es fits has in
+    let both = IsBytes-both before one.0 fits one.1 in
+    let two = second (before ++ one.0) es both (fed (before ++ one.0) es both one.3) in (
+      one.0 ++ two.0,
+      IsBytes-both one.0 two.0 one.1 two.1,
+      Consumes-trans unread mid left one.0 two.0 one.2 two.2,
+      subst (λ (bytes : List ℕ). Q bytes es) (append_assoc before one.0 two.0) two.3,
+    )

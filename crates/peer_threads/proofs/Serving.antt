@@ -1,27 +1,57 @@
--- The side that is spoken to first, before its first message.
-use Rattle.std.proofs.Common.{◌≡◌, ℕ, ◌+◌, true, false, List, [], length, Option, Result, Err, IfErr, refl, sym, ap, ◌∙◌, subst}
+-- The side that is spoken to first, before and behind its pin.
+--
+-- Before the pin no end is there: what may come is said of the end that any peer would have. Of the first message only
+-- one part and its end are handed out, and the end that the pin makes hears both, so its session is then underway as
+-- any other.
+use Rattle.std.proofs.Common.{◌≡◌, ℕ, ◌+◌, ◌<◌, ◌≤◌, ◌⊎◌, Bool, true, false, List, [], ◌∷◌, ◌++◌, length, Option, Some}
+use Rattle.std.proofs.Common.{None, Result, Ok, Err, IfOk, IfErr, OnOk, inl, inr, refl, sym, ap, ◌∙◌, subst, arith}
+use Rattle.std.specs.Prelude.{if◌then◌else◌}
+use Rattle.std.proofs.KnownBytes.{Consumes-trans, Appends-nil}
 use Rattle.std.specs.Io.KnownBytes.{Appends, Consumes}
-use Rattle.definitions.specs.Fingerprints.{Lanes}
-use Rattle.definitions.specs.Items.{IsBytes, Item}
+use Rattle.definitions.proofs.Lemmas.{All-append}
+use Rattle.definitions.specs.Accounts.{Seen, IsOfTheTable}
+use Rattle.definitions.specs.Fingerprints.{Lanes, two_lanes}
+use Rattle.definitions.specs.Histories.{History, content}
+use Rattle.definitions.specs.Items.{IsBytes, Item, whole, same_range}
+use Rattle.definitions.specs.Messages.{Part, Sum, Listing, Answer, Message}
+use Rattle.definitions.specs.Placing.{Place, First, Refused, next, placed, refusal}
 use Rattle.definitions.specs.Ranks.{rank_by}
-use Rattle.definitions.specs.Strategies.{Table}
-use Rattle.definitions.specs.Messages.{Message}
 use Rattle.definitions.specs.Replies.{Peer}
-use Rattle.definitions.specs.Ends.{responder}
-use Rattle.definitions.specs.Engines.{Speaker, responding}
-use Rattle.peer_threads.specs.Outcomes.{Traffic, traffic}
-use Rattle.peer_threads.specs.Inboxes.{InboxState, HasRead}
-use Rattle.peer_threads.specs.Outboxes.{OutboxState, outbox_state, hello_due}
-use Rattle.peer_threads.specs.Stops.{IsOwn}
+use Rattle.definitions.specs.Strategies.{Table}
+use Rattle.definitions.specs.Refusals.{misplaced}
+use Rattle.definitions.specs.Streams.{messages_of}
+use Rattle.definitions.specs.Wire.{Event, Came, Ended}
+use Rattle.definitions.specs.Ends.{responder, is_live, is_over}
+use Rattle.definitions.specs.Engines.{Speaker, responding, says}
+use Rattle.definitions.specs.Taking.{taken}
+use Rattle.definitions.specs.Hearing.{Goes_on, Refused_for, goes_unless, hear_now, hears}
 use Rattle.ends_core.specs.Held.{Held}
-use Rattle.peer_threads.specs.Underway.{Exchanged, Underway, Stopped, Spoke, most_sent}
-use Rattle.peer_threads.specs.declared.outcome.Outcome.{Outcome}
+use Rattle.ends_core.specs.Turns.{fresh}
+use Rattle.strategy_check.specs.Checked.{Checked}
+use Rattle.version_lock.specs.declared.view.View.{View}
+use Rattle.version_lock.specs.Calls.{PinState, IsPinOf}
+use Rattle.peer_threads.specs.declared.outcome.Side.{Side}
 use Rattle.peer_threads.specs.declared.stop.Stop.{Stop}
-use Rattle.peer_threads.proofs.Endings.{own-stop}
+use Rattle.peer_threads.specs.declared.stop.Stop.TheVariants as stops
+use Rattle.peer_threads.specs.declared.outcome.Outcome.{Outcome}
+use Rattle.peer_threads.specs.Outcomes.{Traffic, traffic, IsModest, Speaks, Unopened, CameFirst, peer_of, peer_at, sent_in}
+use Rattle.peer_threads.specs.Inboxes.{InboxState, HasRead, StopsAt}
+use Rattle.peer_threads.specs.Outboxes.{OutboxState, outbox_state, hello_due, HasWritten, Adds}
+use Rattle.peer_threads.specs.Stops.{outcome_of}
+use Rattle.peer_threads.specs.Underway.{heard_as, most_sent, said_by, first_held, Underway, Exchanged, StopsFirst}
+use Rattle.peer_threads.specs.Underway.{FirstCame, EndCame, IsFirstPart, Refuses, StopsBy, IsNone, WroteUpTo}
+use Rattle.peer_threads.specs.Underway.{WhyStopped, Stopped, Leaves, Spoke}
+use Rattle.peer_threads.proofs.Hearings.{adds-none, heard-goes}
+use Rattle.peer_threads.proofs.Exchanges.{Laws, More, At, all-events, wrote-first, goes-on, stops-refusing}
+use Rattle.peer_threads.proofs.Exchanges.{stops-unheard, stops-unheard-by}
+use Rattle.peer_threads.proofs.Endings.{stopped-speaks, stopped-unopened, of-pin}
+
+-- ---- the hello
 
 -- a hello was read, and the own one written
-pub greeted : (r s w x : Option (List ℕ)) (b : InboxState) (o p : OutboxState) → o ≡ outbox_state false 0 → p ≡ outbox_state true o.sent → Appends w x (hello_due o) →
-    ((bytes : List ℕ) × IsBytes bytes × Consumes r s bytes × HasRead b bytes []) → Exchanged b p (traffic r s w x) [] []
+pub greeted : (r s w x : Option (List ℕ)) (b : InboxState) (o p : OutboxState) → o ≡ outbox_state false 0 →
+    p ≡ outbox_state true o.sent → Appends w x (hello_due o) →
+    More r s b [] [] → Exchanged b p (traffic r s w x) []
 greeted r s w x b o p new now written read = record {
   bytes = read.0;
   are_bytes = read.1;
@@ -34,13 +64,129 @@ greeted r s w x b o p new now written read = record {
   };
 }
 
--- it is underway for whoever speaks
-pub ready : (P : Peer) (b : InboxState) (o : OutboxState) (t : Traffic) → Exchanged b o t [] [] → Underway (responding P) (responder P) b o t
-ready P b o t x = record { messages = []; exchanged = x; end = refl }
+-- it does not come
+pub stops-ungreeted : Laws →
+    (P : Peer) (o : OutboxState) (unread left held : Option (List ℕ)) (over : Bool) (stop : Stop) →
+    o ≡ outbox_state false 0 →
+    ((bytes : List ℕ) × IsBytes bytes × Consumes unread left bytes × StopsAt over bytes [] stop) →
+    Stopped IsNone (responding P) o (traffic unread left held held) over stop
+stops-ungreeted laws P o unread left held over stop new read =
+    stops-unheard-by IsNone laws (responding P) (first_held P []) o
+    (traffic unread left held held) over stop read.0 [] refl read.1 read.2
+    (ap (λ x. x.sent) new) (λ rest all. inr
+    (record { greeted = ap (λ x. x.greeted) new; none = ap (λ x. x.sent) new; written = Appends-nil held })) refl read.3
 
--- this side stops behind what was exchanged
-pub own-behind : (s : Speaker Lanes) (b : InboxState) (o : OutboxState) (t : Traffic) (Ms said : List (Message Lanes)) (stop : Stop) → Exchanged b o t Ms said → IsOwn stop → Stopped s o t stop
-own-behind s b o t Ms said stop x own = record { bytes = x.bytes; are_bytes = x.are_bytes; read = x.read; why = own-stop s o t x.bytes stop own }
+-- ---- the first message
+
+pub reads-on : (t : Traffic) (left : Option (List ℕ)) (b c : InboxState) (o : OutboxState) (es fs : List (Event Lanes))
+    (x : Exchanged b o t es) →
+    More t.left left c x.bytes fs →
+    Exchanged c o (traffic t.unread left t.held t.holds) fs
+reads-on t left b c o es fs x more = record {
+  bytes = x.bytes ++ more.0;
+  are_bytes = All-append (λ y. y < 256) x.bytes more.0 x.are_bytes more.1;
+  read = Consumes-trans t.unread t.left left x.bytes more.0 x.read more.2;
+  came = more.3;
+  written = x.written;
+}
+
+-- whoever would answer has heard the part that may stand first
+part-heard : (P : Peer) (p : Part Lanes) → IsFirstPart p →
+    hears two_lanes (responding P) (Came p ∷ []) ≡ Goes_on (first_held P (p ∷ [])).end (first_held P (p ∷ [])).taken
+part-heard P p fits = ap (λ o. goes_unless o (Goes_on (first_held P (p ∷ [])).end (first_held P (p ∷ [])).taken)) fits
+
+-- no part may stand behind it
+second-misplaced : (p q : Part Lanes) → IsFirstPart p → refusal (next (next First p) q) ≡ Some misplaced
+second-misplaced (Sum Y f) q fits = by (same_range Y whole) fits where
+  by : (b : Bool) → refusal {F = Lanes} (if b then placed {F = Lanes} [] else Refused misplaced) ≡ None →
+      refusal {F = Lanes} (next {F = Lanes} (if b then placed {F = Lanes} [] else Refused misplaced) q) ≡ Some misplaced
+  by true is = refl
+  by false is = absurd cc
+second-misplaced (Listing Y items) q fits = absurd cc
+second-misplaced (Answer Y marks items) q fits = absurd cc
+
+pub second-refused : (P : Peer) (p q : Part Lanes) → IsFirstPart p →
+    hear_now two_lanes (first_held P (p ∷ [])).end (first_held P (p ∷ [])).taken (Came q) ≡ Refused_for misplaced
+second-refused P p q fits =
+    let h = first_held P (p ∷ []) in
+    ap (λ o. goes_unless o (Goes_on h.end (taken two_lanes h.end h.taken q))) (second-misplaced p q fits)
+
+pub part-stops : (over : Bool) (b : InboxState) (bytes : List ℕ) (es : List (Event Lanes))
+    (r : Result (Part Lanes) Stop) (stop : Stop) →
+    r ≡ Err stop → StopsAt over bytes es stop → FirstCame over b bytes es r
+part-stops over b bytes es r stop is stopped = subst (FirstCame over b bytes es) (sym is) (inl stopped)
+
+pub part-came : (over : Bool) (b : InboxState) (bytes : List ℕ) (es : List (Event Lanes)) (e : Event Lanes)
+    (r : Result (Part Lanes) Stop) →
+    IfOk r (λ p. (e ≡ Came p) × IsFirstPart p) →
+    IfErr r (λ stop. (P : Peer) → Refuses (first_held P []) e stop) → HasRead b bytes (es ++ e ∷ []) →
+    FirstCame over b bytes es r
+part-came over b bytes es e (Ok p) came refused has = (came.1, subst (λ x. HasRead b bytes (es ++ x ∷ [])) came.0 has)
+part-came over b bytes es e (Err stop) came refused has = inr (record { event = e; came = has; refuses = refused })
+
+pub end-stops-first : (p : Part Lanes) (over : Bool) (b : InboxState) (bytes : List ℕ) (es : List (Event Lanes))
+    (r : Result (Unit {0}) Stop) (stop : Stop) →
+    r ≡ Err stop → StopsAt over bytes es stop → EndCame p over b bytes es r
+end-stops-first p over b bytes es r stop is stopped = subst (EndCame p over b bytes es) (sym is) (inl stopped)
+
+pub end-came : (p : Part Lanes) (over : Bool) (b : InboxState) (bytes : List ℕ) (es : List (Event Lanes))
+    (e : Event Lanes) (r : Result (Unit {0}) Stop) →
+    IsFirstPart p → OnOk r (e ≡ Ended) →
+    IfErr r (λ stop. (P : Peer) (q : Part Lanes) → IsFirstPart q → Refuses (first_held P (q ∷ [])) e stop) →
+    HasRead b bytes (es ++ e ∷ []) → EndCame p over b bytes es r
+end-came p over b bytes es e (Ok x) fits came refused has = subst (λ y. HasRead b bytes (es ++ y ∷ [])) came has
+end-came p over b bytes es e (Err stop) fits came refused has =
+    inr (record { event = e; came = has; refuses = λ P. refused P p fits })
+
+stops-there : Laws →
+    (P : Peer) (M : Message Lanes) (b c : InboxState) (o : OutboxState) (t : Traffic) (left : Option (List ℕ))
+    (over : Bool) (stop : Stop) (es : List (Event Lanes)) →
+    says two_lanes (responding P) (messages_of [] es) ≡ [] →
+    hears two_lanes (responding P) es ≡ Goes_on (first_held P M).end (first_held P M).taken →
+    (x : Exchanged b o t es) →
+    ((bytes : List ℕ) × IsBytes bytes × Consumes t.left left bytes × StopsFirst M over c (x.bytes ++ bytes) es stop) →
+    Stopped IsNone (responding P) o (traffic t.unread left t.held t.holds) over stop
+stops-there laws P M b c o t left over stop es quiet heard x more = by more.3 where
+  bytes : List ℕ
+  bytes = x.bytes ++ more.0
+
+  are : IsBytes bytes
+  are = All-append (λ y. y < 256) x.bytes more.0 x.are_bytes more.1
+
+  read : Consumes t.unread left bytes
+  read = Consumes-trans t.unread t.left left x.bytes more.0 x.read more.2
+
+  wrote : HasWritten o t.held t.holds (says two_lanes (responding P) (messages_of [] es))
+  wrote = subst (HasWritten o t.held t.holds) (sym quiet) x.written
+
+  by : StopsFirst M over c bytes es stop →
+      Stopped IsNone (responding P) o (traffic t.unread left t.held t.holds) over stop
+  by (inl stopped) = stops-unheard IsNone laws (responding P) (first_held P M) o
+      (traffic t.unread left t.held t.holds) over stop bytes es refl are read wrote heard stopped
+  by (inr there) =
+      let behind = all-events c bytes (es ++ there.event ∷ []) there.came in
+      stops-refusing IsNone laws (responding P) (first_held P M) o o
+      (traffic t.unread left t.held t.holds) t.holds over there.event stop refl
+      (record { bytes = bytes; are_bytes = are; read = read; es = es; rest = behind.0; all = behind.1; written = wrote; heard = heard }) (there.refuses P) (adds-none o t.holds)
+
+-- its first part does not come, or may not
+pub stops-partless : Laws →
+    (P : Peer) (b c : InboxState) (o : OutboxState) (t : Traffic) (left : Option (List ℕ)) (over : Bool) (stop : Stop)
+    (x : Exchanged b o t []) →
+    ((bytes : List ℕ) × IsBytes bytes × Consumes t.left left bytes × StopsFirst [] over c (x.bytes ++ bytes) [] stop) →
+    Stopped IsNone (responding P) o (traffic t.unread left t.held t.holds) over stop
+stops-partless laws P b c o t left over stop x more = stops-there laws P [] b c o t left over stop [] refl refl x more
+
+-- its end does not come
+pub stops-endless : Laws →
+    (P : Peer) (p : Part Lanes) (b c : InboxState) (o : OutboxState) (t : Traffic) (left : Option (List ℕ))
+    (over : Bool) (stop : Stop) →
+    IsFirstPart p → (x : Exchanged b o t (Came p ∷ [])) →
+    ((bytes : List ℕ) × IsBytes bytes × Consumes t.left left bytes
+    × StopsFirst (p ∷ []) over c (x.bytes ++ bytes)
+    (Came p ∷ []) stop) → Stopped IsNone (responding P) o (traffic t.unread left t.held t.holds) over stop
+stops-endless laws P p b c o t left over stop fits x more =
+    stops-there laws P (p ∷ []) b c o t left over stop (Came p ∷ []) refl (part-heard P p fits) x more
 
 -- what is said of an error
 pub told : {X : Type 0} (r : Result X Stop) (stop : Stop) (Q : Stop → Type 0) → r ≡ Err stop → Q stop → IfErr r Q
@@ -49,16 +195,152 @@ told r stop Q is q = subst (λ a. IfErr a Q) (sym is) q
 pub untold : {X : Type 0} (r : Result X Stop) (stop : Stop) (Q : Stop → Type 0) → r ≡ Err stop → IfErr r Q → Q stop
 untold r stop Q is q = subst (λ a. IfErr a Q) is q
 
+-- ---- behind the pin
+
+-- the hello was written, and no more: memory runs out, or the table of sessions refuses
+stops-behind : (T : ℕ → Type 0) (P : Peer) (b : InboxState) (o : OutboxState) (t : Traffic) (over : Bool)
+    (es : List (Event Lanes)) (stop : Stop) (x : Exchanged b o t es) →
+    (WroteUpTo (responding P) o t x.bytes → WhyStopped T (responding P) o t over x.bytes stop) →
+    Stopped T (responding P) o t over stop
+stops-behind T P b o t over es stop x why = record {
+  bytes = x.bytes;
+  are_bytes = x.are_bytes;
+  read = x.read;
+  why = why (inl (wrote-first (responding P) o t x.bytes [] _ refl x.written));
+}
+
+pub stops-poor : (P : Peer) (b : InboxState) (o : OutboxState) (t : Traffic) (over : Bool) (es : List (Event Lanes)) →
+    Exchanged b o t es → Stopped IsOfTheTable (responding P) o t over stops.Memory
+stops-poor P b o t over es x = stops-behind IsOfTheTable P b o t over es stops.Memory x (λ wrote. wrote)
+
+pub stops-unlisted : (P : Peer) (b : InboxState) (o : OutboxState) (t : Traffic) (over : Bool) (es : List (Event Lanes))
+    (code : ℕ) →
+    Exchanged b o t es → IsOfTheTable code →
+    Stopped IsOfTheTable (responding P) o t over (stops.Refused code)
+stops-unlisted P b o t over es code x table =
+    stops-behind IsOfTheTable P b o t over es (stops.Refused code) x (λ wrote. (wrote, inr table))
+
+-- the part waits for the end that was made
+abbrev pub at-part : (P : Peer) (steps : List ℕ) (h : Held) (b : InboxState) (o : OutboxState) (t : Traffic)
+    (p : Part Lanes) →
+    h ≡ fresh steps (responder P) →
+    Exchanged b o t (Came p ∷ Ended ∷ []) → At (responding P) h o t (Came p)
+at-part P steps h b o t p new x =
+    let behind = all-events b x.bytes (Came p ∷ Ended ∷ []) x.came in
+    record {
+      bytes = x.bytes;
+      are_bytes = x.are_bytes;
+      read = x.read;
+      es = [];
+      rest = Ended ∷ behind.0;
+      all = behind.1;
+      written = x.written;
+      heard = sym (ap (λ y. Goes_on y.end y.taken) new);
+    }
+
+-- it was heard, and the end of the message waits
+abbrev pub at-end : (P : Peer) (steps : List ℕ) (h g : Held) (b : InboxState) (o : OutboxState) (t : Traffic)
+    (p : Part Lanes) →
+    h ≡ fresh steps (responder P) →
+    heard_as g ≡ hear_now two_lanes h.end h.taken (Came p) → g.end ≡ h.end → Exchanged b o t (Came p ∷ Ended ∷ []) →
+    At (responding P) g o t Ended
+at-end P steps h g b o t p new now same x =
+    let behind = all-events b x.bytes (Came p ∷ Ended ∷ []) x.came in
+    let live : is_over g.end.stage ≡ false = ap (λ e. is_over e.stage) same ∙ ap (λ y. is_over y.end.stage) new in
+    record {
+      bytes = x.bytes;
+      are_bytes = x.are_bytes;
+      read = x.read;
+      es = Came p ∷ [];
+      rest = behind.0;
+      all = behind.1;
+      written = x.written;
+      heard = sym (ap (λ y. hear_now two_lanes y.end y.taken (Came p)) new) ∙ sym now ∙ heard-goes g live;
+    }
+
+pub answers-first : Laws →
+    (P : Peer) (steps : List ℕ) (h g k : Held) (b : InboxState) (o q : OutboxState) (t : Traffic)
+    (holds : Option (List ℕ)) (p : Part Lanes) →
+    h ≡ fresh steps (responder P) →
+    heard_as g ≡ hear_now two_lanes h.end h.taken (Came p) → g.end ≡ h.end →
+    (x : Exchanged b o t (Came p ∷ Ended ∷ [])) →
+    heard_as k ≡ hear_now two_lanes g.end g.taken Ended → Adds o q t.holds holds (said_by g Ended) →
+    Underway (responding P) k b q (traffic t.unread t.left t.held holds)
+answers-first laws P steps h g k b o q t holds p new now same x next added =
+    goes-on laws (responding P) g k b o q t holds Ended refl
+    (at-end P steps h g b o t p new now same x) x.came next added
+
 -- a responder that was just made
-pub responds : (h : Held) (steps : List ℕ) (table : Table) (store pinned : List Item) → h ≡ record { steps = steps; end = responder (record { table = table; items = store }) } → store ≡ pinned →
-    (h.end ≡ responder (record { table = table; items = pinned })) × (most_sent 1 h ≡ rank_by steps (length pinned) + 1)
+pub responds : (h : Held) (steps : List ℕ) (table : Table) (store pinned : List Item) →
+    h ≡ fresh steps (responder (record { table = table; items = store })) → store ≡ pinned →
+    (h ≡ fresh steps (responder (record { table = table; items = pinned })))
+    × (most_sent 1 h ≡ rank_by steps (length pinned) + 1)
 responds h steps table store pinned is same = (
-  ap (λ x. x.end) is ∙ ap (λ (i : List Item). responder (record { table = table; items = i })) same,
+  is ∙ ap (λ (i : List Item). fresh steps (responder (record { table = table; items = i }))) same,
   ap (most_sent 1) is ∙ ap (λ (i : List Item). rank_by steps (length i) + 1) same,
 )
 
-pub spoke-within : (s : Speaker Lanes) (n m : ℕ) (t : Traffic) (o : Outcome) → n ≡ m → Spoke s n t o → Spoke s m t o
-spoke-within s n m t o is x = subst (λ k. Spoke s k t o) is x
+-- ---- all that is said of it
 
-pub outcome-is : (s : Speaker Lanes) (n : ℕ) (t : Traffic) (o p : Outcome) → p ≡ o → Spoke s n t o → Spoke s n t p
-outcome-is s n t o p is x = subst (λ y. Spoke s n t y) (sym is) x
+-- the writer failed behind what was read
+pub stops-broken-behind : (T : ℕ → Type 0) (P : Peer) (b : InboxState) (o : OutboxState)
+    (unread left held holds : Option (List ℕ)) (over : Bool) (side : Side) (es : List (Event Lanes)) →
+    More unread left b [] es → Stopped T (responding P) o (traffic unread left held holds) over (stops.Io side)
+stops-broken-behind T P b o unread left held holds over side es read =
+    record { bytes = read.0; are_bytes = read.1; read = read.2; why = tt }
+
+-- a session that stopped before it said anything
+pub speaks-stopped : (P : Peer) (version bound : ℕ) (x : OutboxState) (t : Traffic) (holds : Option (List ℕ))
+    (r w : Seen) (stop : Stop) (o : Outcome) →
+    x.sent ≡ 0 →
+    Stopped IsOfTheTable (responding P) x t r.ended stop → Leaves x t.holds holds w.failed stop →
+    o ≡ outcome_of x.sent stop → Spoke (responding P) version bound (traffic t.unread t.left t.held holds) r w o
+speaks-stopped P version bound x t holds r w stop o none stopped leaves is =
+    let few : x.sent ≤ bound = omega (arith, none) in
+    subst (λ y. Spoke (responding P) version bound (traffic t.unread t.left t.held holds) r w y) (sym is)
+    (stopped-speaks (responding P) version bound x t holds r w stop stopped leaves few)
+
+-- it was not opened
+pub unopened : (x : OutboxState) (t : Traffic) (holds : Option (List ℕ)) (r w : Seen) (stop : Stop) (o : Outcome) →
+    x.sent ≡ 0 →
+    ((P : Peer) → Stopped IsNone (responding P) x t r.ended stop) → Leaves x t.holds holds w.failed stop →
+    o ≡ outcome_of x.sent stop → Unopened (traffic t.unread t.left t.held holds) r w o
+unopened x t holds r w stop o none stopped leaves is =
+    subst (λ y. Unopened (traffic t.unread t.left t.held holds) r w y) (sym is) (record {
+      none = by stop;
+      anyone = λ P version. stopped-unopened (responding P) version x t holds r w stop (stopped P) leaves;
+    }) where
+      by : (stop : Stop) → sent_in (outcome_of x.sent stop) ≡ 0
+      by (stops.Refused code) = none
+      by (stops.PeerRefused code) = none
+      by stops.Memory = none
+      by (stops.Io side) = none
+
+-- what the side that is spoken to first keeps to
+abbrev pub SecondIsModest : Checked → Type 0
+SecondIsModest a = (h : History) (bytes : List ℕ) → IsBytes bytes → length (content h) ≤ a.table.cap →
+    IsModest (responding (peer_of a (content h))) bytes (rank_by a.steps (length (content h)) + 1) a.table.limit
+
+pub serves : (a b : Checked) (w : View) (pin : PinState) (t : Traffic) (r x : Seen) (o : Outcome) → IsPinOf pin w →
+    b ≡ a →
+    Spoke (responding (peer_of b pin.items)) pin.version (rank_by b.steps (length pin.items) + 1) t r x o →
+    SecondIsModest a →
+    Speaks (length (content w.base) ≤ a.table.cap) (responding (peer_at a w)) (length w.base)
+    (rank_by a.steps (length (peer_at a w).items) + 1) a.table.limit t r x o
+serves a b w pin t r x o is same spoke modest =
+    of-pin (length (content w.base) ≤ a.table.cap) (λ p. responding p) 1 a b w pin t r x o is same spoke (modest w.base)
+
+-- a first message was handed out
+pub came-first : (b : InboxState) (o : OutboxState) (unread left held holds : Option (List ℕ)) (p : Part Lanes) →
+    IsFirstPart p → Exchanged b o (traffic unread left held holds) (Came p ∷ Ended ∷ []) → CameFirst unread
+came-first b o unread left held holds p fits x =
+    let behind = all-events b x.bytes (Came p ∷ Ended ∷ []) x.came in
+    record {
+      left = left;
+      bytes = x.bytes;
+      read = x.read;
+      part = p;
+      first = fits;
+      later = messages_of [] behind.0;
+      messages = ap (messages_of []) behind.1;
+    }

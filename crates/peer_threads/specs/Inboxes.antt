@@ -1,112 +1,100 @@
--- What came in, and what of it was handed out.
---     InboxState               a stream, the events of it that were not looked at, and the parts of a message that is not whole yet
---     HasRead b bytes Ms       these bytes were read, and these messages of them were handed out
---     Greeted left b bytes Ms result   what reading until the hello leaves
---     Next left b bytes Ms result      what the next message is, or why there is none, where this is left of the input
---     Reads unread left b Q    what is read now, behind what was read before
---     Held, Followed           the message that the events which wait make, and what one event does
-use Rattle.std.specs.Prelude.{◌≡◌, ℕ, ◌<◌, ◌⊎◌, List, [], ◌∷◌, ◌++◌, length, Option, Some, None, Result, Ok, Err, ⊤}
-use Rattle.std.specs.Io.KnownBytes.{Consumes, IsAtEnd}
+-- What came in, and which events of it were handed out.
+--     InboxState                       a stream, the bytes of it that wait to be fed, and the number of reads
+--     HasRead b bytes es               these bytes were read, and these events of them were handed out
+--     IsFaulty over bytes es code      these are all events of the stream, and this is its fault
+--     StopsAt over bytes es stop       why no more events come; `over` says whether the reader told its end
+--     Next over b bytes es result      what the next event is, or why there is none
+--     Greeted over b bytes es result   what reading until the hello leaves
+--     SoFar b Q                        what holds of whatever was read and handed out so far
+--     Reads unread left b Q            what is read now, behind what was read before
+--     Counts before after b c          the reader was read no more often than the inbox counts, which stops at 2^32
+--     Held, Fetched                    what the bytes that wait give, and what one read gives
+use Rattle.std.specs.Prelude.{◌≡◌, ℕ, ◌+◌, ◌≤◌, ◌^◌, ◌⊎◌, List, [], ◌∷◌, ◌++◌, Bool, Option, Some, None}
+use Rattle.std.specs.Prelude.{Result, Ok, Err, IsTrue, ⊤}
+use Rattle.std.specs.Io.KnownBytes.{Consumes}
 use Rattle.definitions.specs.Fingerprints.{Lanes}
 use Rattle.definitions.specs.Items.{IsBytes}
-use Rattle.definitions.specs.Messages.{Message}
 use Rattle.definitions.specs.Refusals.{truncated}
-use Rattle.definitions.specs.Wire.{two_lane_profile, max_parts, Event, Ended, Failed}
-use Rattle.definitions.specs.Streams.{Before_hello, Faulted, feed, messages_of}
-use Rattle.definitions.specs.Engines.{messages_in, fault_of, fault_frame}
-use Rattle.wire_core.specs.Feeds.{StreamState, Holds}
-use Rattle.wire_core.specs.declared.fault.WireFault.{WireFault}
-use Rattle.wire_core.specs.declared.fault.DecodeError.{DecodeError}
-use Rattle.wire_core.specs.declared.fault.DecodeError.TheVariants as errors
+use Rattle.definitions.specs.Wire.{two_lane_profile, Event}
+use Rattle.definitions.specs.Streams.{Before_hello, Faulted, Fed, feed}
+use Rattle.wire_core.specs.Events.{event_value}
+use Rattle.wire_core.specs.Feeds.{StreamState, Holds, fault_at}
+use Rattle.wire_core.specs.declared.event.Event as declared
 use Rattle.peer_threads.specs.declared.stop.Stop.{Stop}
 use Rattle.peer_threads.specs.declared.stop.Stop.TheVariants as stops
 
 pub record InboxState : Type 0 where
   pub feed : StreamState
-  pub events : List (Event Lanes)
-  pub parts : Message Lanes
+  pub waiting : List ℕ
   pub reads : ℕ
 
-pub record HasRead (b : InboxState) (bytes : List ℕ) (Ms : List (Message Lanes)) : Type 0 where
-  pub all : List (Event Lanes)
-  pub holds : Holds b.feed bytes all
-  -- whatever comes later
-  pub messages : (later : List (Event Lanes)) → messages_of [] (all ++ later) ≡ Ms ++ messages_of b.parts (b.events ++ later)
-  pub fault : (later : List (Event Lanes)) → fault_of (all ++ later) ≡ fault_of (b.events ++ later)
+-- the stream of all that was read
+abbrev pub stream : List ℕ → Fed Lanes
+stream bytes = feed two_lane_profile Before_hello bytes
 
--- the peer refused with this code behind these messages
-pub record IsRefused (bytes : List ℕ) (Ms : List (Message Lanes)) (code : ℕ) : Type 0 where
-  pub messages : messages_in two_lane_profile bytes ≡ Ms
-  pub fault : fault_frame two_lane_profile bytes ≡ Some code
+-- the events that were handed out begin those of the stream
+abbrev pub Begins : List ℕ → List (Event Lanes) → Type 0
+Begins bytes es = (more : List (Event Lanes)) × ((stream bytes).events ≡ es ++ more)
 
--- the stream has a fault of this code behind these messages, or the input ended behind them (3)
-pub record IsFaulty (left : Option (List ℕ)) (bytes : List ℕ) (Ms : List (Message Lanes)) (code : ℕ) : Type 0 where
-  pub messages : messages_in two_lane_profile bytes ≡ Ms
-  pub fault : ((feed two_lane_profile Before_hello bytes).to ≡ Faulted code) ⊎ ((code ≡ truncated) × IsAtEnd left)
+pub record HasRead (b : InboxState) (bytes : List ℕ) (es : List (Event Lanes)) : Type 0 where
+  -- what was fed, and its events
+  pub fed : List ℕ
+  pub split : bytes ≡ fed ++ b.waiting
+  pub fits : IsBytes fed
+  pub holds : Holds b.feed fed es
+  -- the events of all that was read
+  pub more : List (Event Lanes)
+  pub events : (stream bytes).events ≡ es ++ more
 
-abbrev pub StopsAt : Option (List ℕ) → List ℕ → List (Message Lanes) → Stop → Type 0
-StopsAt left bytes Ms (stops.PeerRefused code) = IsRefused bytes Ms code
-StopsAt left bytes Ms (stops.Refused code) = IsFaulty left bytes Ms code
-StopsAt left bytes Ms (stops.Io side) = ⊤
-StopsAt left bytes Ms stops.Memory = ⊤
+-- these are all events of the stream, which has a fault of this code, or has none and has ended (3)
+pub record IsFaulty (over : Bool) (bytes : List ℕ) (es : List (Event Lanes)) (code : ℕ) : Type 0 where
+  pub events : (stream bytes).events ≡ es
+  pub fault : ((stream bytes).to ≡ Faulted code)
+      ⊎ ((code ≡ truncated) × IsTrue over × (fault_at (stream bytes).to ≡ None))
 
--- no message is handed out, and no fault frame looked at; a refusal is the fault of the stream, or the end of the input (3)
-abbrev pub GreetStops : Option (List ℕ) → InboxState → List ℕ → List (Message Lanes) → Stop → Type 0
-GreetStops left b bytes Ms (stops.PeerRefused code) = ⊥
-GreetStops left b bytes Ms (stops.Refused code) = HasRead b bytes Ms × ((b.feed.standing ≡ Faulted code) ⊎ ((code ≡ truncated) × IsAtEnd left))
-GreetStops left b bytes Ms (stops.Io side) = ⊤
-GreetStops left b bytes Ms stops.Memory = ⊤
+-- an inbox alone never finds that the peer refused: that is an event
+abbrev pub StopsAt : Bool → List ℕ → List (Event Lanes) → Stop → Type 0
+StopsAt over bytes es (stops.PeerRefused code) = ⊥
+StopsAt over bytes es (stops.Refused code) = IsFaulty over bytes es code
+StopsAt over bytes es (stops.Io side) = ⊤
+StopsAt over bytes es stops.Memory = Begins bytes es
 
--- the hello has come, or the session stops; no message is handed out
-abbrev pub Greeted : Option (List ℕ) → InboxState → List ℕ → List (Message Lanes) → Result (Unit {0}) Stop → Type 0
-Greeted left b bytes Ms (Ok x) = HasRead b bytes Ms
-Greeted left b bytes Ms (Err stop) = GreetStops left b bytes Ms stop
+abbrev pub Next : Bool → InboxState → List ℕ → List (Event Lanes) → Result declared.Event Stop → Type 0
+Next over b bytes es (Ok e) = HasRead b bytes (es ++ event_value e ∷ [])
+Next over b bytes es (Err stop) = StopsAt over bytes es stop
 
-abbrev pub Next : Option (List ℕ) → InboxState → List ℕ → List (Message Lanes) → Result (Message Lanes) Stop → Type 0
-Next left b bytes Ms (Ok M) = HasRead b bytes (Ms ++ M ∷ [])
-Next left b bytes Ms (Err stop) = StopsAt left bytes Ms stop
+-- no event is handed out
+abbrev pub Greeted : Bool → InboxState → List ℕ → List (Event Lanes) → Result (Unit {0}) Stop → Type 0
+Greeted over b bytes es (Ok x) = HasRead b bytes es
+Greeted over b bytes es (Err stop) = StopsAt over bytes es stop
+
+-- whatever was read and handed out so far
+abbrev pub SoFar : InboxState → (List ℕ → List (Event Lanes) → Type 0) → Type 0
+SoFar b Q = (bytes : List ℕ) (es : List (Event Lanes)) → IsBytes bytes → HasRead b bytes es → Q bytes es
+
+-- what is read now, behind whatever was read before
+abbrev pub Reads : Option (List ℕ) → Option (List ℕ) → InboxState → (List ℕ → List (Event Lanes) → Type 0) → Type 0
+Reads unread left b Q = SoFar b (λ before es.
+    (bytes : List ℕ) × IsBytes bytes × Consumes unread left bytes × Q (before ++ bytes) es)
+
+abbrev pub Counts : ℕ → ℕ → InboxState → InboxState → Type 0
+Counts before after b c = (after + b.reads ≤ before + c.reads) × (c.reads ≤ 2 ^ 32)
 
 -- ---- steps
 
--- what is read now, behind whatever was read before
-abbrev pub Reads : Option (List ℕ) → Option (List ℕ) → InboxState → (List ℕ → List (Message Lanes) → Type 0) → Type 0
-Reads unread left b Q = (before : List ℕ) (Ms : List (Message Lanes)) → IsBytes before → HasRead b before Ms →
-    (bytes : List ℕ) × IsBytes bytes × Consumes unread left bytes × Q (before ++ bytes) Ms
+-- the first event of the bytes that wait, if there is one
+abbrev pub Held : Bool → InboxState → List ℕ → List (Event Lanes) → Result (Option declared.Event) Stop → Type 0
+Held over b bytes es (Ok None) = HasRead b bytes es
+Held over b bytes es (Ok (Some e)) = HasRead b bytes (es ++ event_value e ∷ [])
+Held over b bytes es (Err stop) = StopsAt over bytes es stop
 
--- an event alone never refuses
-abbrev pub HeldStops : List ℕ → List (Message Lanes) → Stop → Type 0
-HeldStops bytes Ms (stops.PeerRefused code) = IsRefused bytes Ms code
-HeldStops bytes Ms (stops.Refused code) = ⊥
-HeldStops bytes Ms (stops.Io side) = ⊤
-HeldStops bytes Ms stops.Memory = ⊤
+-- a read that gives no byte tells the end, where all bytes were fed
+abbrev pub FetchStops : Bool → InboxState → List ℕ → List (Event Lanes) → Stop → Type 0
+FetchStops over b bytes es (stops.PeerRefused code) = ⊥
+FetchStops over b bytes es (stops.Refused code) = Holds b.feed bytes es × (code ≡ truncated) × IsTrue over
+FetchStops over b bytes es (stops.Io side) = ⊤
+FetchStops over b bytes es stops.Memory = ⊥
 
--- the first message that the events which wait make whole
-abbrev pub Held : InboxState → List ℕ → List (Message Lanes) → Result (Option (Message Lanes)) Stop → Type 0
-Held b bytes Ms (Ok None) = HasRead b bytes Ms
-Held b bytes Ms (Ok (Some M)) = HasRead b bytes (Ms ++ M ∷ [])
-Held b bytes Ms (Err stop) = HeldStops bytes Ms stop
-
--- an event goes behind the parts so far, whatever comes later
-pub record Follows (e : Event Lanes) (parts after : Message Lanes) (made : List (Message Lanes)) : Type 0 where
-  pub messages : (later : List (Event Lanes)) → messages_of parts (e ∷ later) ≡ made ++ messages_of after later
-  pub fault : (later : List (Event Lanes)) → fault_of (e ∷ later) ≡ fault_of later
-
-abbrev pub Followed : Event Lanes → Message Lanes → Message Lanes → Result (Option (Message Lanes)) Stop → Type 0
-Followed e parts after (Ok None) = Follows e parts after []
-Followed e parts after (Ok (Some M)) = Follows e parts after (M ∷ [])
-Followed e parts after (Err (stops.PeerRefused code)) = e ≡ Failed code
-Followed e parts after (Err (stops.Refused code)) = (e ≡ Ended) × (max_parts < length parts)
-Followed e parts after (Err (stops.Io side)) = ⊤
-Followed e parts after (Err stops.Memory) = ⊤
-
--- what a feed answered: whether it has a fault, or memory ran out
-abbrev pub settled : Result (Unit {0}) DecodeError → Result (Option WireFault) Stop
-settled (Ok x) = Ok None
-settled (Err (errors.Fault f)) = Ok (Some f)
-settled (Err errors.Memory) = Err stops.Memory
-
--- a piece was fed, and its events stand behind those that wait
-pub record Grows (f g : StreamState) (piece : List ℕ) (old new : List (Event Lanes)) : Type 0 where
-  pub fresh : List (Event Lanes)
-  pub behind : new ≡ old ++ fresh
-  pub joined : (before : List ℕ) (all : List (Event Lanes)) → IsBytes before → Holds f before all → Holds g (before ++ piece) (all ++ fresh)
+abbrev pub Fetched : Bool → InboxState → List ℕ → List (Event Lanes) → Result (Unit {0}) Stop → Type 0
+Fetched over b bytes es (Ok x) = HasRead b bytes es
+Fetched over b bytes es (Err stop) = FetchStops over b bytes es stop

@@ -1,4 +1,8 @@
 pub use Rattle.definitions.specs.Engines
+pub use Rattle.definitions.specs.Accounts
+pub use Rattle.definitions.specs.Hearing
+pub use Rattle.definitions.specs.Placing
+pub use Rattle.definitions.specs.Taking
 pub use Rattle.definitions.specs.Ends
 pub use Rattle.definitions.specs.Streams
 pub use Rattle.definitions.specs.Wire
@@ -9,8 +13,10 @@ pub use Rattle.version_lock.specs.Calls
 pub use Rattle.version_lock.specs.Seats
 pub use Rattle.version_lock.specs.Beginnings
 pub use Rattle.wire_core.specs.Feeds
+pub use Rattle.wire_core.specs.Events
 pub use Rattle.wire_core.specs.Watch
 pub use Rattle.ends_core.specs.Held
+pub use Rattle.ends_core.specs.Turns
 pub mod Faults
 pub mod Outcomes
 pub mod Stops

@@ -1,26 +1,34 @@
 -- What an outcome says of the bytes that a session read and wrote.
 --     Traffic                  what a reader has left and a writer holds, before and after
+--     seen failed ended        what is seen of a watched reader or writer
 --     said_to s bytes          all that a side says to these bytes
+--     called_by s bytes        all that these bytes call for: a reply that is too long to be said, too
 --     session_at s bytes       its end then
 --     peer_of a items          who speaks: the accepted table, and a set
 --     peer_at a w              who speaks: the accepted table, and the set of the history that the view w found
 --     kind_of o                how the table of sessions counts the outcome o
 --     known_at s bytes         what a side learns from the messages that it takes, by what they say
---     Bears s t bytes o        what the outcome o says
---     IsModest s bytes bound limit     few own messages, short lists, and knowledge as told, whatever was read
---     Speaks s bound limit t o     all of it, of the bytes that were read
-use Rattle.std.specs.Prelude.{◌≡◌, ℕ, ◌≤◌, List, [], ◌∷◌, Option, Some, length, IsTrue, ⊤}
+--     call_of s version bytes written r w      a session as it is seen from outside
+--     Bears s version t r w bytes o      what the outcome o says
+--     IsModest s bytes bound limit       few own messages, short lists, and knowledge as told, whatever was read
+--     Speaks F s version bound limit t r w o     all of it, of the bytes that were read, modest where F holds
+--     Unopened t r w o         what an outcome says where no history was looked at
+--     CameFirst unread         a first message came that may stand first
+use Rattle.std.specs.Prelude.{◌≡◌, ℕ, ◌≤◌, Bool, List, [], ◌∷◌, Option, Some, None, length, IsTrue, ⊤}
 use Rattle.std.specs.List.{AllByRecursion}
 use Rattle.std.specs.Io.KnownBytes.{Appends, Consumes}
 use Rattle.definitions.specs.Fingerprints.{Lanes, two_lanes}
 use Rattle.definitions.specs.Items.{Item}
-use Rattle.definitions.specs.Messages.{Message}
+use Rattle.definitions.specs.Messages.{Part, Message}
+use Rattle.definitions.specs.Placing.{First, next, refusal}
 use Rattle.definitions.specs.Replies.{Peer}
 use Rattle.definitions.specs.Histories.{content}
 use Rattle.definitions.specs.Wire.{two_lane_profile}
 use Rattle.definitions.specs.Talks.{Knowledge, knows}
 use Rattle.definitions.specs.Ends.{End, Stage, Fresh, Waits, Over, Spent, is_over}
-use Rattle.definitions.specs.Engines.{Speaker, says, session, takes, messages_in, fault_frame, text}
+use Rattle.definitions.specs.Engines.{Speaker, says, session, own, takes, messages_in, fault_frame, text, responding}
+use Rattle.definitions.specs.Hearing.{Peer_refused, hearing_to}
+use Rattle.definitions.specs.Accounts.{Call, Seen, IsRefused, IsFirstFault, IsMemory}
 use Rattle.definitions.specs.Theorems.{IsShort}
 use Rattle.strategy_check.specs.Checked.{Checked}
 use Rattle.session_table.specs.declared.totals.CloseKind.{CloseKind}
@@ -38,8 +46,14 @@ pub record Traffic : Type 0 where
 abbrev pub traffic : Option (List ℕ) → Option (List ℕ) → Option (List ℕ) → Option (List ℕ) → Traffic
 traffic unread left held holds = record { unread = unread; left = left; held = held; holds = holds }
 
+abbrev pub seen : Bool → Bool → Seen
+seen failed ended = record { failed = failed; ended = ended }
+
 abbrev pub said_to : Speaker Lanes → List ℕ → List (Message Lanes)
 said_to s bytes = says two_lanes s (messages_in two_lane_profile bytes)
+
+abbrev pub called_by : Speaker Lanes → List ℕ → List (Message Lanes)
+called_by s bytes = own two_lanes s (messages_in two_lane_profile bytes)
 
 abbrev pub session_at : Speaker Lanes → List ℕ → End Lanes
 session_at s bytes = session two_lanes s (messages_in two_lane_profile bytes)
@@ -70,14 +84,24 @@ pub record SaidAll (s : Speaker Lanes) (t : Traffic) (bytes : List ℕ) (sent : 
   pub written : Appends t.held t.holds (text two_lane_profile sent (said_to s bytes))
   pub count : length (said_to s bytes) ≡ sent
 
--- of a session that was refused here, or for which memory, the reader or the writer failed, this says nothing yet
-abbrev pub Bears : Speaker Lanes → Traffic → List ℕ → Outcome → Type 0
-Bears s t bytes (Ended learned sent version) =
+abbrev pub call_of : Speaker Lanes → ℕ → List ℕ → List ℕ → Seen → Seen → Call Lanes
+call_of s version bytes written r w =
+    record { speaker = s; version = version; read = bytes; written = written; reader = r; writer = w }
+
+-- of a session whose reader or writer failed this says nothing yet
+abbrev pub Bears : Speaker Lanes → ℕ → Traffic → Seen → Seen → List ℕ → Outcome → Type 0
+Bears s version t r w bytes (Ended learned sent n) =
     SaidAll s t bytes sent × IsTrue (is_over (session_at s bytes).stage) × (learned ≡ (session_at s bytes).learned)
-Bears s t bytes (PeerRefused code sent) = SaidAll s t bytes sent × (fault_frame two_lane_profile bytes ≡ Some code)
-Bears s t bytes (Refused code sent) = ⊤
-Bears s t bytes (Io side sent) = ⊤
-Bears s t bytes (Memory sent) = ⊤
+Bears s version t r w bytes (PeerRefused code sent) =
+    SaidAll s t bytes sent × (fault_frame two_lane_profile bytes ≡ Some code)
+    × (hearing_to two_lanes two_lane_profile s r.ended bytes ≡ Peer_refused code)
+Bears s version t r w bytes (Refused code sent) =
+    (written : List ℕ) × Appends t.held t.holds written
+    × IsRefused two_lanes two_lane_profile (call_of s version bytes written r w) sent code
+Bears s version t r w bytes (Io side sent) = ⊤
+Bears s version t r w bytes (Memory sent) =
+    (written : List ℕ) × Appends t.held t.holds written
+    × IsMemory two_lanes two_lane_profile (call_of s version bytes written r w) sent
 
 -- the own messages that the messages taken answer, one each: the first that a responder takes answers none
 abbrev pub answered : Stage Lanes → List (Message Lanes) → List (Message Lanes)
@@ -93,19 +117,22 @@ known_at s bytes =
     (takes two_lanes s.start (messages_in two_lane_profile bytes))
 
 -- whatever the bytes are, there are few own messages, no list in them is longer than the limit, and once the session is
--- over the side has learned just what the messages that it took say
+-- over the side has learned just what the messages that it took say; this holds of what is called for, too
 pub record IsModest (s : Speaker Lanes) (bytes : List ℕ) (bound limit : ℕ) : Type 0 where
   pub few : length (said_to s bytes) ≤ bound
+  pub few_called : length (called_by s bytes) ≤ bound
   pub short : AllByRecursion (AllByRecursion (IsShort limit)) (said_to s bytes)
+  pub short_called : AllByRecursion (AllByRecursion (IsShort limit)) (called_by s bytes)
   pub learned : IsTrue (is_over (session_at s bytes).stage) → (session_at s bytes).learned ≡ known_at s bytes
 
--- the bytes that were read, and what the outcome says of them
-pub record Speaks (s : Speaker Lanes) (bound limit : ℕ) (t : Traffic) (o : Outcome) : Type 0 where
+-- the bytes that were read, and what the outcome says of them; the side is modest where its set is known to fit
+pub record Speaks (fits : Type 0) (s : Speaker Lanes) (version bound limit : ℕ) (t : Traffic) (r w : Seen)
+    (o : Outcome) : Type 0 where
   pub bytes : List ℕ
   pub read : Consumes t.unread t.left bytes
-  pub bears : Bears s t bytes o
+  pub bears : Bears s version t r w bytes o
   pub sent : sent_in o ≤ bound
-  pub modest : length s.start.peer.items ≤ s.start.peer.table.cap → IsModest s bytes bound limit
+  pub modest : fits → IsModest s bytes bound limit
 
 -- the version of a session that ended
 abbrev pub HasVersion : Outcome → ℕ → Type 0
@@ -114,3 +141,36 @@ HasVersion (Refused code sent) v = ⊤
 HasVersion (PeerRefused code sent) v = ⊤
 HasVersion (Io side sent) v = ⊤
 HasVersion (Memory sent) v = ⊤
+
+-- ---- before a history is looked at
+
+-- it did not end, and where this side refused, that is for the first fault in the bytes: no table of sessions was asked
+abbrev pub BearsUnopened : Speaker Lanes → ℕ → Traffic → Seen → Seen → List ℕ → Outcome → Type 0
+BearsUnopened s version t r w bytes (Ended learned sent n) = ⊥
+BearsUnopened s version t r w bytes (PeerRefused code sent) = Bears s version t r w bytes (PeerRefused code sent)
+BearsUnopened s version t r w bytes (Refused code sent) =
+    (written : List ℕ) × Appends t.held t.holds written
+    × IsRefused two_lanes two_lane_profile (call_of s version bytes written r w) sent code
+    × IsFirstFault two_lanes two_lane_profile (call_of s version bytes written r w) sent code
+BearsUnopened s version t r w bytes (Io side sent) = Bears s version t r w bytes (Io side sent)
+BearsUnopened s version t r w bytes (Memory sent) = Bears s version t r w bytes (Memory sent)
+
+pub record SpeaksUnopened (s : Speaker Lanes) (version : ℕ) (t : Traffic) (r w : Seen) (o : Outcome) : Type 0 where
+  pub bytes : List ℕ
+  pub read : Consumes t.unread t.left bytes
+  pub bears : BearsUnopened s version t r w bytes o
+
+-- no message was said, and what the outcome says holds of whoever would have answered
+pub record Unopened (t : Traffic) (r w : Seen) (o : Outcome) : Type 0 where
+  pub none : sent_in o ≡ 0
+  pub anyone : (p : Peer) (version : ℕ) → SpeaksUnopened (responding p) version t r w o
+
+-- in what was read so far a first message has come: one part, which may stand first
+pub record CameFirst (unread : Option (List ℕ)) : Type 0 where
+  pub left : Option (List ℕ)
+  pub bytes : List ℕ
+  pub read : Consumes unread left bytes
+  pub part : Part Lanes
+  pub first : refusal (next First part) ≡ None
+  pub later : List (Message Lanes)
+  pub messages : messages_in two_lane_profile bytes ≡ (part ∷ []) ∷ later

@@ -2,8 +2,9 @@
 
 ghost use Rattle.std.specs.Prelude.{◌≡◌, ◌≤◌, ℕ, List, Option};
 ghost use Rattle.definitions.specs.Fingerprints.{Lanes};
+ghost use Rattle.definitions.specs.Accounts.{Seen};
 ghost use Rattle.definitions.specs.Engines.{Speaker};
-ghost use Rattle.peer_threads.specs.Outcomes.{traffic, HasVersion};
+ghost use Rattle.peer_threads.specs.Outcomes.{traffic, seen, HasVersion};
 ghost use Rattle.peer_threads.specs.Stops.{outcome_of};
 ghost use Rattle.peer_threads.specs.Underway.{Talked, Spoke, Leaves};
 
@@ -20,7 +21,7 @@ const NO_MEMORY: u8 = 90;
 /// The outcome of a session that stopped. Where this side refuses, one fault frame is written.
 pub(crate) fn stopped<W: Write>(outbox: Outbox, writer: &mut Watched<W>, stop: Stop) -> Outcome
     ensures outcome { result ≡ outcome_of outbox.sent stop }
-    ensures leaves { Leaves outbox (W.contents writer.old.inner) (W.contents writer.new.inner) stop }
+    ensures leaves { Leaves outbox (W.contents writer.old.inner) (W.contents writer.new.inner) writer.new.failed stop }
 {
     let sent = outbox.sent();
     match stop {
@@ -45,9 +46,10 @@ pub(crate) fn concluded<P: Party, W: Write>(
     writer: &mut Watched<W>,
     talked: Result<(), Stop>,
 ) -> Outcome
-    ensures bytes { (s : Speaker Lanes) (bound : ℕ) (unread left held : Option (List ℕ)) →
-        Talked s (P.held party).end outbox (traffic unread left held (W.contents writer.old.inner)) talked →
-        outbox.sent ≤ bound → Spoke s bound (traffic unread left held (W.contents writer.new.inner)) result }
+    ensures bytes { (s : Speaker Lanes) (bound : ℕ) (unread left held : Option (List ℕ)) (r : Seen) →
+        Talked s (P.held party).end outbox (traffic unread left held (W.contents writer.old.inner)) r.ended talked →
+        outbox.sent ≤ bound → Spoke s version bound (traffic unread left held (W.contents writer.new.inner)) r
+        (seen writer.new.failed writer.new.ended) result }
     ensures version { HasVersion result version }
 {
     match talked {

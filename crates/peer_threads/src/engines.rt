@@ -1,16 +1,25 @@
 //! One session over a reader and a writer.
 
-ghost use Rattle.std.specs.Prelude.{◌≡◌, ◌≤◌, ◌+◌, ◌⊎◌, ℕ, false, [], ◌∷◌, List, Option, length, IfOk, IfErr};
-ghost use Rattle.definitions.specs.Fingerprints.{two_lanes};
+ghost use Rattle.std.specs.Prelude.{◌≡◌, ◌≤◌, ◌+◌, ◌^◌, ◌⊎◌, ⊤, ℕ, false, [], ◌∷◌, List, Option, length};
+ghost use Rattle.std.specs.Prelude.{IfOk, IfErr, OnOk};
+ghost use Rattle.definitions.specs.Fingerprints.{Lanes, two_lanes};
+ghost use Rattle.definitions.specs.Messages as messages;
 ghost use Rattle.definitions.specs.Messages.{opening};
 ghost use Rattle.definitions.specs.Ranks.{rank_by};
+ghost use Rattle.definitions.specs.Histories.{content};
 ghost use Rattle.definitions.specs.Replies.{Peer};
+ghost use Rattle.definitions.specs.Wire.{Came, Ended};
 ghost use Rattle.definitions.specs.Ends as ends;
+ghost use Rattle.definitions.specs.Ends.{is_over};
 ghost use Rattle.definitions.specs.Engines.{initiating, responding};
+ghost use Rattle.wire_core.specs.Events.{event_value};
+ghost use Rattle.ends_core.specs.Turns.{fresh};
 ghost use Rattle.version_lock.specs.Calls.{Looked};
-ghost use Rattle.peer_threads.specs.Outcomes.{Speaks, HasVersion, traffic, peer_at, peer_of};
+ghost use Rattle.peer_threads.specs.Inboxes.{Counts, Reads};
+ghost use Rattle.peer_threads.specs.Outcomes.{Speaks, Unopened, CameFirst, HasVersion, traffic, seen, peer_at, peer_of};
 ghost use Rattle.peer_threads.specs.Outboxes.{outbox_state};
-ghost use Rattle.peer_threads.specs.Underway.{Exchanged, Stopped, Talked, Spoke, most_sent};
+ghost use Rattle.peer_threads.specs.Underway.{Exchanged, FirstCame, EndCame, IsFirstPart, first_held, most_sent};
+ghost use Rattle.peer_threads.specs.Underway.{IsNone, Refuses, Stopped, Talked, Spoke};
 
 use crate::booking::{Booking, Host};
 use crate::ending::{concluded, stopped};
@@ -22,25 +31,79 @@ use crate::outcome::Outcome;
 use crate::party::Party;
 use crate::shared::Shared;
 use crate::stop::Stop;
-use crate::talk::{hear, say, talk};
+use crate::talk::{end, say, take, talk};
 use digest_core::Fingerprint;
 use ends_core::{Initiator, Responder};
-use place_core::place_opening;
+use place_core::{Place, PlaceFault};
 use std::alloc::{AllocError, Global};
 use std::io::{Read, Write};
 use std::sync::Wait;
 use store_core::RangeStore;
 use version_lock::{Pin, Seat};
-use wire_core::{Message, Watched};
+use wire_core::{Event, Message, Part, Watched};
 
-/// What has come of a session before it is opened: the peer's first message, and what was read behind it.
+/// What has come of a session before it is opened: the one part of the peer's first message, and what was read behind
+/// its end.
 #[derive(Drop)]
 struct Opening {
     inbox: Inbox,
-    first: Message,
+    first: Part,
 }
 
-/// Reads the peer's hello, answers it with the own one, and reads the first message, which may be placed.
+/// The part that an event is, which has to be one that may stand first. Else 20.
+fn part_of(alloc: Global, event: Event) -> Result<Part, Stop>
+    ensures part { IfOk result (λ p. (event_value event ≡ Came p) × IsFirstPart p) }
+    ensures stopped { IfErr result (λ stop. (P : Peer) → Refuses (first_held P []) (event_value event) stop) }
+{
+    match event {
+        Event::Part(part) => {
+            Place::opening(alloc).next(&part)?;
+            Ok(part)
+        }
+        Event::End => Err(Stop::from(PlaceFault::Misplaced)),
+        Event::Fault(code) => Err(Stop::PeerRefused(code)),
+    }
+}
+
+/// Whether an event ends the first message, which has no second part. Else 20.
+fn end_of(event: Event) -> Result<(), Stop>
+    ensures end { OnOk result (event_value event ≡ Ended) }
+    ensures stopped { IfErr result (λ stop. (P : Peer) (p : messages.Part Lanes) → IsFirstPart p →
+        Refuses (first_held P (p ∷ [])) (event_value event) stop) }
+{
+    match event {
+        Event::Part(_) => Err(Stop::from(PlaceFault::Misplaced)),
+        Event::End => Ok(()),
+        Event::Fault(code) => Err(Stop::PeerRefused(code)),
+    }
+}
+
+/// Waits for the first part of the peer's first message.
+fn first_part<R: Read>(
+    alloc: Global,
+    inbox: &mut Inbox,
+    reader: &mut Watched<R>,
+) -> Result<Part, Stop>
+    ensures read { Reads (R.remaining reader.old.inner) (R.remaining reader.new.inner) inbox.old
+        (λ bytes es. FirstCame reader.new.ended inbox.new bytes es result) }
+    ensures reads { Counts reader.old.reads reader.new.reads inbox.old inbox.new }
+{
+    let event = inbox.next(alloc, reader)?;
+    part_of(alloc, event)
+}
+
+/// Waits for the end of the peer's first message.
+fn first_end<R: Read>(alloc: Global, inbox: &mut Inbox, reader: &mut Watched<R>) -> Result<(), Stop>
+    ensures read { (p : messages.Part Lanes) → IsFirstPart p →
+        Reads (R.remaining reader.old.inner) (R.remaining reader.new.inner) inbox.old
+        (λ bytes es. EndCame p reader.new.ended inbox.new bytes es result) }
+    ensures reads { Counts reader.old.reads reader.new.reads inbox.old inbox.new }
+{
+    let event = inbox.next(alloc, reader)?;
+    end_of(event)
+}
+
+/// Reads the peer's hello, answers it with the own one, and waits for the first message, which is one Sum.
 fn meet<R: Read, W: Write>(
     alloc: Global,
     outbox: &mut Outbox,
@@ -49,20 +112,26 @@ fn meet<R: Read, W: Write>(
 ) -> Result<Opening, Stop>
     requires fine { writer.old.failed ≡ false }
     requires new { outbox.old ≡ outbox_state false 0 }
-    ensures met { IfOk result
-        (λ o. Exchanged o.inbox outbox.new (traffic (R.remaining reader.old.inner) (R.remaining reader.new.inner)
-        (W.contents writer.old.inner) (W.contents writer.new.inner)) (o.first ∷ []) []) }
-    ensures fine { IfOk result (λ _. writer.new.failed ≡ false) }
-    ensures stopped { IfErr result (λ stop. (P : Peer) → Stopped (responding P) outbox.new
+    ensures met { IfOk result (λ o. IsFirstPart o.first × Exchanged o.inbox outbox.new
         (traffic (R.remaining reader.old.inner) (R.remaining reader.new.inner) (W.contents writer.old.inner)
-        (W.contents writer.new.inner)) stop) }
+        (W.contents writer.new.inner)) (Came o.first ∷ Ended ∷ [])) }
+    ensures fine { IfOk result (λ _. writer.new.failed ≡ false) }
+    ensures stopped { IfErr result (λ stop. (P : Peer) → Stopped IsNone (responding P) outbox.new
+        (traffic (R.remaining reader.old.inner) (R.remaining reader.new.inner) (W.contents writer.old.inner)
+        (W.contents writer.new.inner)) reader.new.ended stop) }
     ensures none { outbox.new.sent ≡ 0 }
+    ensures reads { IfOk result (λ o. (reader.new.reads ≤ reader.old.reads + o.inbox.reads)
+        × (o.inbox.reads ≤ 2 ^ 32)) }
+    ensures stopped_reads { IfErr result (λ _. reader.new.reads ≤ reader.old.reads + 2 ^ 32) }
 {
+    laws::frames_say::<Fingerprint>();
+    laws::own_begins::<Fingerprint>();
+    laws::bytes_agree::<Fingerprint>();
     let mut inbox = Inbox::new(alloc)?;
     inbox.read_hello(alloc, reader)?;
     outbox.greet(writer)?;
-    let first = inbox.next(alloc, reader)?;
-    place_opening(&first)?;
+    let first = first_part(alloc, &mut inbox, reader)?;
+    first_end(alloc, &mut inbox, reader)?;
     Ok(Opening { inbox, first })
 }
 
@@ -77,17 +146,24 @@ fn answer<T: Wait, G: Gate, P: Party, R: Read, W: Write>(
 ) -> Result<(), Stop>
     requires fine { writer.old.failed ≡ false }
     requires count { outbox.old.sent ≡ (P.held party.old).end.sent }
-    ensures talked { (p : Peer) (unread held : Option (List ℕ)) → (P.held party.old).end ≡ ends.responder p →
+    requires goes { is_over (P.held party.old).end.stage ≡ false }
+    ensures talked { (p : Peer) (steps : List ℕ) (unread held : Option (List ℕ)) →
+        P.held party.old ≡ fresh steps (ends.responder p) →
         Exchanged opening.inbox outbox.old (traffic unread (R.remaining reader.old.inner) held
-        (W.contents writer.old.inner)) (opening.first ∷ []) [] →
+        (W.contents writer.old.inner)) (Came opening.first ∷ Ended ∷ []) →
         Talked (responding p) (P.held party.new).end outbox.new
-        (traffic unread (R.remaining reader.new.inner) held (W.contents writer.new.inner)) result }
+        (traffic unread (R.remaining reader.new.inner) held (W.contents writer.new.inner)) reader.new.ended result }
     ensures few { outbox.new.sent ≤ most_sent P.most (P.held party.old) }
+    ensures reads { opening.inbox.reads ≤ 2 ^ 32 →
+        reader.new.reads + opening.inbox.reads ≤ reader.old.reads + 2 ^ 32 }
 {
-    laws::ends_hear_on::<Fingerprint>();
-    laws::ends_say::<Fingerprint>();
+    laws::frames_say::<Fingerprint>();
+    laws::own_begins::<Fingerprint>();
+    laws::bytes_agree::<Fingerprint>();
     let Opening { mut inbox, first } = opening;
-    hear(booking, party, outbox, writer, &first)?;
+    let _few = party.sent();
+    take(booking, party, &first)?;
+    end(booking, party, outbox, writer)?;
     talk(booking, party, &mut inbox, outbox, reader, writer)
 }
 
@@ -105,11 +181,14 @@ fn respond<T: Wait, S: RangeStore, G: Gate, R: Read, W: Write>(
     requires none { outbox.sent ≡ 0 }
     ensures bytes { (unread held : Option (List ℕ)) →
         Exchanged opening.inbox outbox (traffic unread (R.remaining reader.old.inner) held
-        (W.contents writer.old.inner)) (opening.first ∷ []) [] →
-        Spoke (responding (peer_of host.now.accepted.now pin.items))
+        (W.contents writer.old.inner)) (Came opening.first ∷ Ended ∷ []) →
+        Spoke (responding (peer_of host.now.accepted.now pin.items)) pin.version
         (rank_by host.now.accepted.now.steps (length pin.items) + 1)
-        (traffic unread (R.remaining reader.new.inner) held (W.contents writer.new.inner)) result }
+        (traffic unread (R.remaining reader.new.inner) held (W.contents writer.new.inner))
+        (seen reader.new.failed reader.new.ended) (seen writer.new.failed writer.new.ended) result }
     ensures version { HasVersion result pin.version }
+    ensures reads { opening.inbox.reads ≤ 2 ^ 32 →
+        reader.new.reads + opening.inbox.reads ≤ reader.old.reads + 2 ^ 32 }
 {
     let version = pin.version();
     let mut party = Responder::new(host.alloc, host.accepted, pin.into_store());
@@ -135,12 +214,13 @@ fn speak<T: Wait, G: Gate, P: Party, R: Read, W: Write>(
     requires fine { writer.old.failed ≡ false }
     requires new { outbox.old ≡ outbox_state false 0 }
     requires one { (P.held party.old).end.sent ≡ 1 }
-    ensures talked { (p : Peer) → (P.held party.old).end ≡ ends.initiator two_lanes p →
+    ensures talked { (p : Peer) (steps : List ℕ) → P.held party.old ≡ fresh steps (ends.initiator two_lanes p) →
         first.now ≡ opening two_lanes p.items →
         Talked (initiating two_lanes p) (P.held party.new).end outbox.new
         (traffic (R.remaining reader.old.inner) (R.remaining reader.new.inner) (W.contents writer.old.inner)
-        (W.contents writer.new.inner)) result }
+        (W.contents writer.new.inner)) reader.new.ended result }
     ensures few { outbox.new.sent ≤ most_sent P.most (P.held party.old) }
+    ensures reads { reader.new.reads ≤ reader.old.reads + 2 ^ 32 }
 {
     let mut inbox = Inbox::new(booking.alloc())?;
     outbox.greet(writer)?;
@@ -158,11 +238,13 @@ fn initiate<T: Wait, S: RangeStore, G: Gate, R: Read, W: Write>(
 ) -> Outcome
     requires fits { length pin.items ≤ host.now.accepted.now.table.cap }
     requires fine { writer.old.failed ≡ false }
-    ensures bytes { Spoke (initiating two_lanes (peer_of host.now.accepted.now pin.items))
+    ensures bytes { Spoke (initiating two_lanes (peer_of host.now.accepted.now pin.items)) pin.version
         (rank_by host.now.accepted.now.steps (length pin.items) + 2)
         (traffic (R.remaining reader.old.inner) (R.remaining reader.new.inner) (W.contents writer.old.inner)
-        (W.contents writer.new.inner)) result }
+        (W.contents writer.new.inner)) (seen reader.new.failed reader.new.ended)
+        (seen writer.new.failed writer.new.ended) result }
     ensures version { HasVersion result pin.version }
+    ensures reads { reader.new.reads ≤ reader.old.reads + 2 ^ 32 }
 {
     let version = pin.version();
     let mut outbox = Outbox::new();
@@ -180,8 +262,8 @@ fn initiate<T: Wait, S: RangeStore, G: Gate, R: Read, W: Write>(
     outcome
 }
 
-/// Answers the peer on this connection, which speaks first, until the session ends. The seat is used for one `pin`, once the
-/// peer's first message has come and is placed.
+/// Answers the peer on this connection, which speaks first, until the session ends. The seat is used for one `pin`,
+/// once the peer's first message has come whole: one Sum over everything, and its end.
 pub fn serve_one<T: Wait, S: RangeStore, G: Gate, R: Read, W: Write>(
     rt: &T,
     alloc: Global,
@@ -194,13 +276,23 @@ pub fn serve_one<T: Wait, S: RangeStore, G: Gate, R: Read, W: Write>(
     requires fits { seat.old.view.cap ≤ shared.now.accepted.now.table.cap }
     requires fresh { (reader.old.failed ≡ false) × (reader.old.ended ≡ false) × (writer.old.failed ≡ false) }
     ensures seat { seat.new.table_id ≡ seat.old.table_id }
-    // The seat is as before, or as one `pin` leaves it.
-    ensures view { (seat.new.view ≡ seat.old.view) ⊎ Looked seat.old.view seat.new.view }
-    ensures bytes { Speaks (responding (peer_at shared.now.accepted.now seat.new.view))
+    // The seat is as one `pin` leaves it, and its set fits; or as before, and then no message was said, and what the
+    // outcome says holds of any peer.
+    ensures view { (Looked seat.old.view seat.new.view
+        × (length (content seat.new.view.base) ≤ shared.now.accepted.now.table.cap)) ⊎ ((seat.new.view ≡ seat.old.view)
+        × Unopened (traffic (R.remaining reader.old.inner) (R.remaining reader.new.inner)
+        (W.contents writer.old.inner) (W.contents writer.new.inner)) (seen reader.new.failed reader.new.ended)
+        (seen writer.new.failed writer.new.ended) result) }
+    // No version is pinned for a peer that has sent no first message.
+    ensures opened { (seat.new.view ≡ seat.old.view) ⊎ CameFirst (R.remaining reader.old.inner) }
+    ensures bytes { Speaks (length (content seat.new.view.base) ≤ shared.now.accepted.now.table.cap)
+        (responding (peer_at shared.now.accepted.now seat.new.view)) (length seat.new.view.base)
         (rank_by shared.now.accepted.now.steps (length (peer_at shared.now.accepted.now seat.new.view).items) + 1)
         shared.now.accepted.now.table.limit (traffic (R.remaining reader.old.inner) (R.remaining reader.new.inner)
-        (W.contents writer.old.inner) (W.contents writer.new.inner)) result }
+        (W.contents writer.old.inner) (W.contents writer.new.inner)) (seen reader.new.failed reader.new.ended)
+        (seen writer.new.failed writer.new.ended) result }
     ensures version { HasVersion result (length seat.new.view.base) }
+    ensures reads { reader.new.reads ≤ reader.old.reads + 2 ^ 32 }
 {
     sides_are_modest(shared.accepted);
     let host = Host::of(rt, alloc, shared);
@@ -229,11 +321,14 @@ pub fn dial_one<T: Wait, S: RangeStore, G: Gate, R: Read, W: Write>(
     requires fresh { (reader.old.failed ≡ false) × (reader.old.ended ≡ false) × (writer.old.failed ≡ false) }
     ensures seat { seat.new.table_id ≡ seat.old.table_id }
     ensures view { Looked seat.old.view seat.new.view }
-    ensures bytes { Speaks (initiating two_lanes (peer_at shared.now.accepted.now seat.new.view))
+    ensures bytes { Speaks ⊤ (initiating two_lanes (peer_at shared.now.accepted.now seat.new.view))
+        (length seat.new.view.base)
         (rank_by shared.now.accepted.now.steps (length (peer_at shared.now.accepted.now seat.new.view).items) + 2)
         shared.now.accepted.now.table.limit (traffic (R.remaining reader.old.inner) (R.remaining reader.new.inner)
-        (W.contents writer.old.inner) (W.contents writer.new.inner)) result }
+        (W.contents writer.old.inner) (W.contents writer.new.inner)) (seen reader.new.failed reader.new.ended)
+        (seen writer.new.failed writer.new.ended) result }
     ensures version { HasVersion result (length seat.new.view.base) }
+    ensures reads { reader.new.reads ≤ reader.old.reads + 2 ^ 32 }
 {
     sides_are_modest(shared.accepted);
     let host = Host::of(rt, alloc, shared);

@@ -10,6 +10,7 @@ mod modesty;
 mod outbox;
 mod outcome;
 mod party;
+mod piece;
 mod shared;
 mod source;
 mod stop;

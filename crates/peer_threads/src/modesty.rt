@@ -31,6 +31,8 @@ pub(crate) fn sides_are_modest(accepted: &Accepted)
     laws::ends_keep_limits::<Fingerprint>();
     laws::initiator_learns::<Fingerprint>();
     laws::responder_learns::<Fingerprint>();
+    laws::own_is_few::<Fingerprint>();
+    laws::own_is_short::<Fingerprint>();
     rank_laws::ranks_are_read();
     store_core::laws::set_of_a_list();
     let _cap = accepted.cap();

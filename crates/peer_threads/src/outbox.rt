@@ -2,7 +2,7 @@
 
 ghost use Rattle.std.specs.Prelude.{◌≡◌, ◌<◌, ◌+◌, false, true, OnOk, OnErr, IsTrue};
 ghost use Rattle.std.specs.Io.KnownBytes.{Appends};
-ghost use Rattle.peer_threads.specs.Outboxes.{outbox_state, hello_due, refusal_text, Begins};
+ghost use Rattle.peer_threads.specs.Outboxes.{outbox_state, hello_due, refusal_text, Begins, WroteSo};
 
 use ends_core::{WriterFailed, write_output};
 use std::io::Write;
@@ -85,7 +85,8 @@ impl Outbox {
     /// Writes one fault frame, behind the hello if that was not written, unless the writer failed before. It takes no
     /// memory, and where the writer fails a beginning of it was written.
     pub(crate) fn refuse<W: Write>(self, writer: &mut Watched<W>, code: u8)
-        ensures { Begins (W.contents writer.old.inner) (W.contents writer.new.inner) (refusal_text self code) }
+        ensures { WroteSo (W.contents writer.old.inner) (W.contents writer.new.inner) writer.new.failed
+            (refusal_text self code) }
     {
         if writer.failed() {
             return;
@@ -104,6 +105,7 @@ impl Outbox {
             (refusal_text self code)) }
         ensures front { OnErr result (Begins (W.contents writer.old.inner) (W.contents writer.new.inner)
             (refusal_text self code)) }
+        ensures failed { OnErr result (IsTrue writer.new.failed) }
     {
         self.greet(writer)?;
         write_output(writer, &encode_fault(code))

@@ -1,26 +1,30 @@
 //! What a session says and hears, once it is opened.
 
-ghost use Rattle.std.specs.Prelude.{◌≡◌, ◌≤◌, ◌<◌, ◌+◌, ◌⊎◌, ℕ, false, true, [], ◌∷◌, List, Option, OnOk, IfErr};
+ghost use Rattle.std.specs.Prelude.{◌≡◌, ◌≤◌, ◌<◌, ◌+◌, ◌^◌, ◌⊎◌, ℕ, true, false, [], ◌∷◌, List, Option, OnOk, IfErr};
 ghost use Rattle.definitions.specs.Fingerprints.{Lanes, two_lanes};
-ghost use Rattle.definitions.specs.Ends.{answer, is_over};
+ghost use Rattle.definitions.specs.Wire.{Came, Ended};
+ghost use Rattle.definitions.specs.Ends.{is_live, is_over};
 ghost use Rattle.definitions.specs.Engines.{Speaker, replied};
-ghost use Rattle.ends_core.specs.Turns.{answer_of, behind, messages_in};
+ghost use Rattle.definitions.specs.Hearing.{hear_now};
+ghost use Rattle.ends_core.specs.Turns.{answer_of, messages_in};
+ghost use Rattle.wire_core.specs.Events.{event_value};
+ghost use Rattle.peer_threads.specs.Inboxes.{Counts};
 ghost use Rattle.peer_threads.specs.Outcomes.{traffic};
 ghost use Rattle.peer_threads.specs.Outboxes.{Adds};
-ghost use Rattle.peer_threads.specs.Stops.{IsOwn};
-ghost use Rattle.peer_threads.specs.Underway.{Underway, Talked, most_sent};
+ghost use Rattle.peer_threads.specs.Underway.{Underway, Talked, Unsaid, Refuses, StopsBy, heard_as, most_sent, said_by};
 
 use crate::booking::Booking;
 use crate::gate::Gate;
 use crate::inbox::Inbox;
 use crate::outbox::Outbox;
+use crate::outcome::Side;
 use crate::party::Party;
 use crate::stop::Stop;
 use digest_core::Fingerprint;
 use ends_core::Turn;
 use std::io::{Read, Write};
 use std::sync::Wait;
-use wire_core::{Message, Watched, encode_message};
+use wire_core::{Event, Message, Part, Watched, encode_message};
 
 /// Says one message: takes all memory for it, counts it in the table, writes it, and asks the gate.
 pub(crate) fn say<T: Wait, G: Gate, W: Write>(
@@ -34,7 +38,8 @@ pub(crate) fn say<T: Wait, G: Gate, W: Write>(
     ensures said { OnOk result (Adds outbox.old outbox.new (W.contents writer.old.inner)
         (W.contents writer.new.inner) (message.now ∷ [])) }
     ensures fine { OnOk result (writer.new.failed ≡ false) }
-    ensures own { IfErr result IsOwn }
+    ensures unsaid { IfErr result (λ stop. Unsaid outbox.old outbox.new (W.contents writer.old.inner)
+        (W.contents writer.new.inner) (message.now ∷ []) stop) }
     ensures few { (outbox.new.sent ≡ outbox.old.sent) ⊎ (outbox.new.sent ≡ outbox.old.sent + 1) }
 {
     let text = encode_message(booking.alloc(), message)?;
@@ -55,7 +60,8 @@ fn reply<T: Wait, G: Gate, W: Write>(
     ensures said { OnOk result (Adds outbox.old outbox.new (W.contents writer.old.inner)
         (W.contents writer.new.inner) (replied (answer_of turn))) }
     ensures fine { OnOk result (writer.new.failed ≡ false) }
-    ensures own { IfErr result IsOwn }
+    ensures unsaid { IfErr result (λ stop. Unsaid outbox.old outbox.new (W.contents writer.old.inner)
+        (W.contents writer.new.inner) (replied (answer_of turn)) stop) }
     ensures few { outbox.new.sent ≤ outbox.old.sent + messages_in turn }
 {
     match turn {
@@ -64,33 +70,79 @@ fn reply<T: Wait, G: Gate, W: Write>(
     }
 }
 
-/// Takes one message of the peer, and says the reply to it, if it wants one.
-pub(crate) fn hear<T: Wait, G: Gate, P: Party, W: Write>(
+/// Takes one part of the peer's message.
+pub(crate) fn take<T: Wait, G: Gate, P: Party>(
+    booking: &Booking<'_, T, G>,
+    party: &mut P,
+    part: &Part,
+) -> Result<(), Stop>
+    requires { is_over (P.held party.old).end.stage ≡ false }
+    ensures heard { OnOk result (heard_as (P.held party.new)
+        ≡ hear_now two_lanes (P.held party.old).end (P.held party.old).taken (Came part.now)) }
+    ensures end { OnOk result ((P.held party.new).end ≡ (P.held party.old).end) }
+    ensures most { OnOk result (most_sent P.most (P.held party.new) ≡ most_sent P.most (P.held party.old)) }
+    ensures stopped { IfErr result (λ stop. Refuses (P.held party.old) (Came part.now) stop) }
+{
+    Ok(party.take(booking.alloc(), part)?)
+}
+
+/// Takes the end of the peer's message, and says the reply to it, if it wants one.
+pub(crate) fn end<T: Wait, G: Gate, P: Party, W: Write>(
     booking: &Booking<'_, T, G>,
     party: &mut P,
     outbox: &mut Outbox,
     writer: &mut Watched<W>,
-    message: &Message,
 ) -> Result<(), Stop>
     requires fine { writer.old.failed ≡ false }
     requires count { outbox.old.sent ≡ (P.held party.old).end.sent }
-    ensures end { OnOk result (P.held party.new ≡ behind (P.held party.old) message.now) }
+    ensures heard { OnOk result (heard_as (P.held party.new)
+        ≡ hear_now two_lanes (P.held party.old).end (P.held party.old).taken Ended) }
     ensures said { OnOk result (Adds outbox.old outbox.new (W.contents writer.old.inner)
-        (W.contents writer.new.inner) (replied (answer two_lanes (P.held party.old).end message.now))) }
+        (W.contents writer.new.inner) (said_by (P.held party.old) Ended)) }
     ensures fine { OnOk result (writer.new.failed ≡ false) }
-    ensures own { IfErr result IsOwn }
     ensures count { OnOk result (outbox.new.sent ≡ (P.held party.new).end.sent) }
-    ensures nearer { OnOk result ((is_over (P.held party.new).end.stage ≡ true)
-        ⊎ (outbox.new.sent ≡ outbox.old.sent + 1)) }
+    ensures most { OnOk result (most_sent P.most (P.held party.new) ≡ most_sent P.most (P.held party.old)) }
+    ensures stopped { IfErr result (λ stop. StopsBy (P.held party.old) Ended outbox.old outbox.new
+        (W.contents writer.old.inner) (W.contents writer.new.inner) stop) }
     ensures few { outbox.new.sent ≤ most_sent P.most (P.held party.old) }
 {
     let _few = party.sent();
-    let turn = party.receive(booking.alloc(), message)?;
+    let turn = party.end(booking.alloc())?;
     let _few = party.sent();
     reply(booking, outbox, writer, turn)
 }
 
-/// Hears one message after another until the session is over.
+/// Hears one event: a part, the end of a message, or a fault frame.
+fn hear<T: Wait, G: Gate, P: Party, W: Write>(
+    booking: &Booking<'_, T, G>,
+    party: &mut P,
+    outbox: &mut Outbox,
+    writer: &mut Watched<W>,
+    event: &Event,
+) -> Result<(), Stop>
+    requires fine { writer.old.failed ≡ false }
+    requires count { outbox.old.sent ≡ (P.held party.old).end.sent }
+    requires goes { is_over (P.held party.old).end.stage ≡ false }
+    ensures heard { OnOk result (heard_as (P.held party.new)
+        ≡ hear_now two_lanes (P.held party.old).end (P.held party.old).taken (event_value event.now)) }
+    ensures said { OnOk result (Adds outbox.old outbox.new (W.contents writer.old.inner)
+        (W.contents writer.new.inner) (said_by (P.held party.old) (event_value event.now))) }
+    ensures fine { OnOk result (writer.new.failed ≡ false) }
+    ensures count { OnOk result (outbox.new.sent ≡ (P.held party.new).end.sent) }
+    ensures most { OnOk result (most_sent P.most (P.held party.new) ≡ most_sent P.most (P.held party.old)) }
+    ensures stopped { IfErr result (λ stop. StopsBy (P.held party.old) (event_value event.now) outbox.old outbox.new
+        (W.contents writer.old.inner) (W.contents writer.new.inner) stop) }
+    ensures few { outbox.new.sent ≤ most_sent P.most (P.held party.old) }
+{
+    let _few = party.sent();
+    match event {
+        Event::Part(part) => take(booking, party, part),
+        Event::End => end(booking, party, outbox, writer),
+        Event::Fault(code) => Err(Stop::PeerRefused(*code)),
+    }
+}
+
+/// Hears one event after another until the session is over.
 pub(crate) fn talk<T: Wait, G: Gate, P: Party, R: Read, W: Write>(
     booking: &Booking<'_, T, G>,
     party: &mut P,
@@ -101,19 +153,24 @@ pub(crate) fn talk<T: Wait, G: Gate, P: Party, R: Read, W: Write>(
 ) -> Result<(), Stop>
     requires fine { writer.old.failed ≡ false }
     requires count { outbox.old.sent ≡ (P.held party.old).end.sent }
-    ensures talked { (s : Speaker Lanes) (unread held : Option (List ℕ)) →
-        Underway s (P.held party.old).end inbox.old outbox.old
+    ensures talked { (s : Speaker Lanes) (unread held : Option (List ℕ)) → is_live s.start.stage ≡ true →
+        Underway s (P.held party.old) inbox.old outbox.old
         (traffic unread (R.remaining reader.old.inner) held (W.contents writer.old.inner)) →
         Talked s (P.held party.new).end outbox.new
-        (traffic unread (R.remaining reader.new.inner) held (W.contents writer.new.inner)) result }
+        (traffic unread (R.remaining reader.new.inner) held (W.contents writer.new.inner)) reader.new.ended result }
     ensures few { outbox.new.sent ≤ most_sent P.most (P.held party.old) }
+    ensures reads { inbox.old.reads ≤ 2 ^ 32 → Counts reader.old.reads reader.new.reads inbox.old inbox.new }
 {
-    laws::ends_hear_on::<Fingerprint>();
-    laws::ends_say::<Fingerprint>();
+    laws::frames_say::<Fingerprint>();
+    laws::own_begins::<Fingerprint>();
+    laws::bytes_agree::<Fingerprint>();
     let _few = party.sent();
-    'talk: while !party.is_over() {
-        let message = inbox.next(booking.alloc(), reader)?;
-        hear(booking, party, outbox, writer, &message)?;
+    for _turn in 0..u64::MAX {
+        if party.is_over() {
+            return Ok(());
+        }
+        let event = inbox.next(booking.alloc(), reader)?;
+        hear(booking, party, outbox, writer, &event)?;
     }
-    Ok(())
+    Err(Stop::Io(Side::Read))
 }

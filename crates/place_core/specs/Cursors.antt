@@ -1,7 +1,6 @@
 -- Where a cursor stands in the message that it walks.
 --     place_at sent cursor        as the definitions have it
---     refusal_of place            the refusal that a place keeps
-use Rattle.std.specs.Prelude.{ℕ, drop, Option, Some, None}
+use Rattle.std.specs.Prelude.{drop}
 use Rattle.definitions.specs.Fingerprints.{Lanes}
 use Rattle.definitions.specs.Messages.{Message, open_parts}
 use Rattle.definitions.specs.Placing.{Place, First, Behind, Refused}
@@ -13,8 +12,3 @@ abbrev pub place_at : Message Lanes → Cursor → Place Lanes
 place_at sent cursors.First = First
 place_at sent (cursors.Behind at inside) = Behind (open_parts (drop at sent)) inside
 place_at sent (cursors.Refused f) = Refused (place_fault_number f)
-
-abbrev pub refusal_of : {F : Type 0} → Place F → Option ℕ
-refusal_of First = None
-refusal_of (Behind left inside) = None
-refusal_of (Refused code) = Some code

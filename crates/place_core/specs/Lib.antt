@@ -6,3 +6,4 @@ pub use Rattle.definitions.specs.Placing
 pub mod PlaceFaults
 pub mod Cursors
 pub mod Fits
+pub mod Placements

@@ -6,11 +6,13 @@ ghost use Rattle.definitions.specs.Fingerprints.{Lanes};
 ghost use Rattle.definitions.specs.Messages.{Message, open_parts};
 ghost use Rattle.definitions.specs.Placing as placing;
 ghost use Rattle.place_core.specs.PlaceFaults.{fault_in};
-ghost use Rattle.place_core.specs.Cursors.{place_at, refusal_of};
+ghost use Rattle.place_core.specs.Cursors.{place_at};
+ghost use Rattle.place_core.specs.Placements.{due};
+ghost use Rattle.place_core.specs.Placements.{first_list as list_first};
 
 use crate::fault::PlaceFault;
 use crate::fit::{Fit, meet, rest_behind};
-use item_core::Range;
+use item_core::{Item, Range};
 use wire_core::{Part, PartKind};
 
 /// Where the placing of a message stands in the own message that it answers. Each call is lent the parts of that
@@ -36,7 +38,7 @@ impl Cursor {
     /// Places the next part. A refusal stays.
     pub fn next(&mut self, sent: &[Part], part: &Part) -> Result<(), PlaceFault>
         ensures place { place_at sent.now self.new ≡ placing.next (place_at sent.now self.old) part.now }
-        ensures fault { fault_in result ≡ refusal_of (place_at sent.now self.new) }
+        ensures fault { fault_in result ≡ placing.refusal (place_at sent.now self.new) }
     {
         *self = match *self {
             Cursor::First => next_first(sent, part),
@@ -49,11 +51,21 @@ impl Cursor {
 
     /// The refusal, if there is one.
     fn refused(&self) -> Result<(), PlaceFault>
-        ensures { (sent : Message Lanes) → fault_in result ≡ refusal_of (place_at sent self.now) }
+        ensures { (sent : Message Lanes) → fault_in result ≡ placing.refusal (place_at sent self.now) }
     {
         match self {
             Cursor::Refused(fault) => Err(*fault),
             _ => Ok(()),
+        }
+    }
+
+    /// The items of the first List at or behind the cursor.
+    pub fn due<'a>(&self, sent: &'a [Part]) -> &'a [Item]
+        ensures { result.now ≡ due sent.now self.now }
+    {
+        match self {
+            Cursor::Behind(at, _) => first_list(rest_of(sent, *at)),
+            _ => &[],
         }
     }
 
@@ -68,6 +80,20 @@ impl Cursor {
             Cursor::Refused(fault) => Err(*fault),
         }
     }
+}
+
+/// The items of the first List of the parts.
+fn first_list(parts: &[Part]) -> &[Item]
+    ensures { result.now ≡ list_first parts.now }
+{
+    let mut left = parts;
+    while let Some((own, rest)) = left.split_first() {
+        left = rest;
+        if let (PartKind::List, Some(items)) = (own.kind(), own.items()) {
+            return items;
+        }
+    }
+    &[]
 }
 
 /// The parts from a place on.

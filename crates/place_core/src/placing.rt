@@ -4,19 +4,20 @@ ghost use Rattle.std.specs.Prelude.{◌≡◌, ◌↔◌, IsOk, fold};
 ghost use Rattle.definitions.specs.Items.{Apart};
 ghost use Rattle.definitions.specs.Messages.{IsOpening, open_ranges};
 ghost use Rattle.definitions.specs.Placing as placing;
+ghost use Rattle.place_core.specs.Cursors.{place_at};
 ghost use Rattle.place_core.specs.PlaceFaults.{fault_in};
 
+use crate::cursor::Cursor;
 use crate::fault::PlaceFault;
-use crate::place::Place;
 use digest_core::Fingerprint;
 use wire_core::{Message, Part};
 
 /// Places each of the parts. Of parts behind a refusal nothing is looked at.
-fn place_parts(place: &mut Place<'_>, parts: &[Part])
-    ensures { place.new ≡ fold placing.next place.old parts.now }
+fn place_parts(cursor: &mut Cursor, sent: &[Part], parts: &[Part])
+    ensures { place_at sent.now cursor.new ≡ fold placing.next (place_at sent.now cursor.old) parts.now }
 {
     for part in parts {
-        let _ = place.next(part);
+        let _ = cursor.next(sent, part);
     }
 }
 
@@ -29,9 +30,11 @@ pub fn place_message(sent: &Message, message: &Message) -> Result<(), PlaceFault
 {
     laws::placing_is_exact::<Fingerprint>();
     laws::messages_have_ranges::<Fingerprint>();
-    let mut place = Place::after(sent);
-    place_parts(&mut place, message.parts());
-    place.finish()
+    let own = sent.parts();
+    let received = message.parts();
+    let mut cursor = Cursor::start();
+    place_parts(&mut cursor, own, received);
+    cursor.finish(own)
 }
 
 /// Whether the message may be the first of all: one Sum over everything.
@@ -42,7 +45,7 @@ pub fn place_opening(message: &Message) -> Result<(), PlaceFault>
     ensures opening { IsOk result ↔ IsOpening message.now }
 {
     laws::opening_is_exact::<Fingerprint>();
-    let mut place = Place::opening();
-    place_parts(&mut place, message.parts());
-    place.finish()
+    let mut cursor = Cursor::First;
+    place_parts(&mut cursor, &[], message.parts());
+    cursor.finish(&[])
 }

@@ -16,6 +16,7 @@ use Rattle.version_lock.specs.Beginnings.{Entry, StartsWith, entries_by}
 use Rattle.version_lock.specs.Lawful.{Table, Free, Held, Fits, Apart, Lawful}
 use Rattle.version_lock.specs.Views.{found, with_entry, waited, holding, gave_back, added, enrolled, split_off, joined_with, spent}
 use Rattle.version_lock.specs.Steps.{Mine, Tried, GaveBack, Added, Enrolled}
+use Rattle.version_lock.proofs.Counts.{content_fits}
 use Rattle.version_lock.proofs.Seated.{At, no_writer, not_both, not_true, set_only, set_there, same_view, each_set}
 use Rattle.version_lock.proofs.Seated.{apart_set, apart_new, apart_spent, apart_more}
 
@@ -110,7 +111,12 @@ tries slots id m empty idle live s r _ at _ = let v : View = m.0 in ⊎_elim
       takes 0 (Some r.log),
       ap (λ (hs : List (maybe.Option (Option Log))). get_elem? hs 0) free.home,
       subst (λ (c : Slots). Lawful (stepped s 0 1 id c w (takes 0 (Some r.log)))) (sym empty) (takes_log s r id v at free),
-      ((λ _. record { log = r.log; is_log = r.is_log; fits = r.each id v at live; now = now }), (λ n. absurd (n word))),
+      (
+        (λ _. let fits = r.each id v at live in
+            let room = content_fits r.log v.cap r.is_log fits.cap in
+            record { log = r.log; is_log = r.is_log; fits = fits; room = room; now = now }),
+        (λ n. absurd (n word)),
+      ),
     ))
     (λ (held : Held s r.log).
     let w : View = waited (v.busy + 1) v in

@@ -1,3 +1,4 @@
+mod Counts
 mod Seated
 mod Keeps
 mod Turns

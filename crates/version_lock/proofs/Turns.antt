@@ -32,7 +32,7 @@ met v u busy m k theirs =
     let other : StartsWith k.log.history u.seen =
     All-contains (λ (seen : History). StartsWith k.log.history seen) (v.joined ++ u.seen ∷ []) u.seen k.fits.joined all in
     subst (λ (x : Mine). Met v u (gave_back x.0)) (sym k.now) record {
-      once = record { took = refl; begins = k.fits.seen; cap = refl };
+      once = record { took = refl; begins = k.fits.seen; cap = refl; fits = k.room };
       seen = refl;
       same = (refl, refl);
       other = other;

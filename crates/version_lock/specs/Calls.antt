@@ -66,6 +66,8 @@ pub record TookOnce (v w : View) : Type 0 where
   pub took : w.took ≡ v.took + 1
   pub begins : StartsWith w.base v.seen
   pub cap : w.cap ≡ v.cap
+  -- the set that it found has no more items than the cap
+  pub fits : length (content w.base) ≤ w.cap
 
 -- the seat has seen what the call found, and changed nothing
 pub record Looked (v w : View) : Type 0 where

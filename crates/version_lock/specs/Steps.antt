@@ -1,6 +1,7 @@
 -- What each kind of step tells its seat.
-use Rattle.std.specs.Prelude.{◌≡◌, ◌≢◌, ℕ, ◌+◌, [], ◌∷◌, Option, Some}
+use Rattle.std.specs.Prelude.{◌≡◌, ◌≢◌, ℕ, ◌+◌, ◌≤◌, [], ◌∷◌, length, Option, Some}
 use Rattle.atomic_table.specs.Table.{Me}
+use Rattle.definitions.specs.Histories.{content}
 use Rattle.version_log.specs.Logs.{Log, IsLog}
 use Rattle.version_lock.specs.declared.view.View.{View}
 use Rattle.version_lock.specs.Beginnings.{Entry}
@@ -16,6 +17,8 @@ pub record Took (m m' : Mine) : Type 0 where
   pub log : Log
   pub is_log : IsLog log
   pub fits : Fits log m.0
+  -- its set has no more items than the cap
+  pub room : length (content log.history) ≤ m.0.cap
   pub now : m' ≡ (holding log m.0, (0, Some log) ∷ [])
 
 -- the word was HELD

@@ -1,7 +1,8 @@
 -- What is seen of a watched reader or writer.
---     Watch T                    what is watched, and whether it failed or ended
+--     Watch T                    what is watched, whether it failed or ended, and how often it was read
+--     one_more reads             a read more is counted, up to the greatest number
 --     failed_read, ended_read, failed_write     what one call adds
-use Rattle.std.specs.Prelude.{ℕ, Bool, true, false, ◌&&◌, ◌==◌, List, length, nat_lt, Result, Ok, Err}
+use Rattle.std.specs.Prelude.{ℕ, Bool, true, false, ◌&&◌, ◌==◌, List, length, nat_lt, ◌+◌, ◌-◌, ◌^◌, min, Result, Ok, Err}
 
 pub record Watch (T : Type 0) : Type 0 where
   pub inner : T
@@ -9,6 +10,11 @@ pub record Watch (T : Type 0) : Type 0 where
   pub failed : Bool
   -- a read into room gave no byte
   pub ended : Bool
+  -- how many reads there were
+  pub reads : ℕ
+
+abbrev pub one_more : ℕ → ℕ
+one_more reads = min (reads + 1) (2 ^ 64 - 1)
 
 abbrev pub failed_read : {E : Type 0} → Result ℕ E → Bool
 failed_read (Ok n) = false

@@ -1,18 +1,20 @@
 ghost use Rattle.std.specs.Prelude.{◌≡◌, ◌||◌, false, is_err};
 ghost use Rattle.std.specs.Io.{ReadsAtMost, WritesAtMost};
 ghost use Rattle.std.specs.Io.KnownBytes.{ReadConsumes, WriteAppends, Keeps};
-ghost use Rattle.wire_core.specs.Watch.{failed_read, ended_read, failed_write};
+ghost use Rattle.wire_core.specs.Watch.{failed_read, ended_read, failed_write, one_more};
 
 use std::io;
 use std::io::{Read, Write};
 use std::marker::Model;
 
-/// A reader or a writer that passes each call on, and tells whether one failed and whether the input ended.
+/// A reader or a writer that passes each call on, and tells whether one failed, whether the input ended, and how often it
+/// was read.
 #[derive(Debug, Drop)]
 pub struct Watched<T> {
     inner: T,
     failed: bool,
     ended: bool,
+    reads: u64,
 }
 
 impl<T> Model for Watched<T> {
@@ -20,18 +22,19 @@ impl<T> Model for Watched<T> {
 
     ghost Value = { Watch T };
 
-    ghost view = { λ a. record { inner = a.inner; failed = a.failed; ended = a.ended } };
+    ghost view = { λ a. record { inner = a.inner; failed = a.failed; ended = a.ended; reads = a.reads } };
 }
 
 impl<T> Watched<T> {
     /// Nothing has failed or ended so far.
     pub fn new(inner: T) -> Watched<T>
-        ensures { result ≡ record { inner = inner; failed = false; ended = false } }
+        ensures { result ≡ record { inner = inner; failed = false; ended = false; reads = 0 } }
     {
         Watched {
             inner,
             failed: false,
             ended: false,
+            reads: 0,
         }
     }
 
@@ -49,6 +52,13 @@ impl<T> Watched<T> {
         self.ended
     }
 
+    /// How many reads there were, failed ones too. It stops at the greatest number.
+    pub fn reads(&self) -> u64
+        ensures { result ≡ self.now.reads }
+    {
+        self.reads
+    }
+
     /// The reader or writer itself.
     pub fn into_inner(self) -> T
         ensures { result ≡ self.inner }
@@ -57,6 +67,7 @@ impl<T> Watched<T> {
             inner,
             failed: _,
             ended: _,
+            reads: _,
         } = self;
         inner
     }
@@ -70,7 +81,9 @@ impl<R: Read> Read for Watched<R> {
         ensures bytes { ReadConsumes (R.remaining self.old.inner) (R.remaining self.new.inner) result buf.new }
         ensures failed { self.new.failed ≡ (self.old.failed || failed_read result) }
         ensures ended { self.new.ended ≡ (self.old.ended || ended_read result buf.new) }
+        ensures reads { self.new.reads ≡ one_more self.old.reads }
     {
+        self.reads = self.reads.saturating_add(1);
         let result = self.inner.read(buf);
         match &result {
             Ok(count) => self.ended = self.ended || (*count == 0 && !buf.is_empty()),
@@ -88,6 +101,7 @@ impl<W: Write> Write for Watched<W> {
         ensures bytes { WriteAppends (W.contents self.old.inner) (W.contents self.new.inner) result buf.now }
         ensures failed { self.new.failed ≡ (self.old.failed || failed_write result buf.now) }
         ensures ended { self.new.ended ≡ self.old.ended }
+        ensures reads { self.new.reads ≡ self.old.reads }
     {
         let result = self.inner.write(buf);
         match &result {
@@ -101,6 +115,7 @@ impl<W: Write> Write for Watched<W> {
         ensures bytes { Keeps (W.contents self.old.inner) (W.contents self.new.inner) }
         ensures failed { self.new.failed ≡ (self.old.failed || is_err result) }
         ensures ended { self.new.ended ≡ self.old.ended }
+        ensures reads { self.new.reads ≡ self.old.reads }
     {
         let result = self.inner.flush();
         self.failed = self.failed || result.is_err();

@@ -11,7 +11,7 @@ use Rattle.definitions.specs.Worlds.{Deliver, deliver_at, after_delivery}
 use Rattle.definitions.specs.Worlds as worlds
 use Rattle.laws.specs.Growing.{is_even}
 use Rattle.laws.specs.Sessions.{Kept, Keeps, GoesOnBy, Tells, SessionsGoOn, SessionsKeepNodes, SessionsTell, hearer_now, kept_behind}
-use Rattle.ends_core.specs.Held.{Held}
+use Rattle.ends_core.specs.Held.{Held, HasNone}
 use Rattle.world_core.specs.declared.session.Session.{Session}
 use Rattle.world_core.specs.Nodes.{newest}
 use Rattle.world_core.specs.Live.{session_of, kept_of, made, IsKept, world_of, IsRunning, IsTaken, last_by, parts_by, did_by, responder_from, hearer, heard_by}
@@ -54,6 +54,10 @@ from_steps : (node : Node) (o : Option Held) → IfSome o (λ h. h.steps ≡ nod
 from_steps node None h = refl
 from_steps node (Some x) h = h
 
+from_none : (node : Node) (o : Option Held) → IfSome o HasNone → HasNone (responder_from node o)
+from_none node None h = refl
+from_none node (Some x) h = h
+
 -- its parts, where the responder hears and where the initiator does
 pub record IsHeard (w : World) (l : Session) (node : Node) : Type 0 where
   pub hears : (hearer l node).end ≡ hearer_now w (session_of l) (kept_of l)
@@ -61,6 +65,9 @@ pub record IsHeard (w : World) (l : Session) (node : Node) : Type 0 where
   pub kept : kept_of (heard_by l node) ≡ kept_behind (session_of l) (kept_of l) (after two_lanes (hearer_now w (session_of l) (kept_of l)) l.last) (last_by l.last (answer two_lanes (hearer l node).end l.last)) (parts_by l.parts (answer two_lanes (hearer l node).end l.last))
   pub first : (heard_by l node).first.steps ≡ l.first.steps
   pub second : IfSome l.second (λ h. h.steps ≡ node.steps) → IfSome (heard_by l node).second (λ h. h.steps ≡ node.steps)
+  pub first_none : HasNone l.first → HasNone (heard_by l node).first
+  pub second_none : IfSome l.second HasNone → IfSome (heard_by l node).second HasNone
+  pub hearer_none : HasNone l.first → IfSome l.second HasNone → HasNone (hearer l node)
   pub responder : (heard_by l node).responder ≡ l.responder
   pub initiator : (heard_by l node).initiator ≡ l.initiator
 
@@ -73,6 +80,9 @@ heard w l true e =
       kept = rw (e, from) refl;
       first = rw e refl;
       second = λ h. rw e (from_steps (node_at w l.responder) l.second h);
+      first_none = λ h. rw e h;
+      second_none = λ h. rw e refl;
+      hearer_none = λ f h. rw e (from_none (node_at w l.responder) l.second h);
       responder = rw e refl;
       initiator = rw e refl;
     }
@@ -82,6 +92,9 @@ heard w l false e = record {
   kept = rw e refl;
   first = rw e refl;
   second = λ h. rw e h;
+  first_none = λ h. rw e refl;
+  second_none = λ h. rw e h;
+  hearer_none = λ f h. rw e f;
   responder = rw e refl;
   initiator = rw e refl;
 }
@@ -142,6 +155,11 @@ pub deliver_taken : DeliveryLaws → (nodes : List Node) (lives : List Session) 
     IsTaken (answer two_lanes (hearer l node).end l.last)
 deliver_taken laws nodes lives k l node at more = (goes_at laws nodes lives k l node at more).0.taken
 
+pub deliver_none : (nodes : List Node) (lives : List Session) (k : ℕ) (l : Session) (node : Node) → IsAt nodes lives k l node → HasNone (hearer l node)
+deliver_none nodes lives k l node at =
+    let kept = kept_at nodes lives k l at.runs at.here in
+    (subst (IsHeard (world_of nodes lives) l) at.it (heard (world_of nodes lives) l (is_even l.delivered) refl)).hearer_none kept.first_none kept.second_none
+
 -- ==== The world behind it
 
 abbrev delivered_to : World → ℕ → worlds.Session → World
@@ -183,6 +201,8 @@ heard_runs laws nodes lives k l node at more =
       keeps = rw (both.1.session, both.1.kept) both.0.keeps;
       first = both.1.first ∙ was.first ∙ ap (λ n. (node_at w n).steps) (sym both.1.initiator);
       second = subst (λ r. IfSome l'.second (λ h. h.steps ≡ (node_at w r).steps)) (sym both.1.responder) (subst (λ n. IfSome l'.second (λ h. h.steps ≡ n.steps)) (sym at.it) (both.1.second (subst (λ n. IfSome l.second (λ h. h.steps ≡ n.steps)) at.it was.second)));
+      first_none = both.1.first_none was.first_none;
+      second_none = both.1.second_none was.second_none;
     } in
     record {
       ready = at.runs.ready;

@@ -49,6 +49,8 @@ IsKept-stays w v l stays same h = record {
   keeps = stays (session_of l) h.keeps;
   first = h.first ∙ sym (same l.initiator);
   second = steps_stay l.second (node_at w l.responder).steps (node_at v l.responder).steps (same l.responder) h.second;
+  first_none = h.first_none;
+  second_none = h.second_none;
 }
 
 pub All-kept : (w v : World) → ((l : Session) → IsKept w l → IsKept v l) → (lives : List Session) → AllByRecursion (IsKept w) lives → AllByRecursion (IsKept v) lives
@@ -153,6 +155,6 @@ open_runs begin keep nodes lives i r node e apart here there h =
     record {
       ready = h.ready;
       kept = All-append (IsKept v) lives (beginning i r node ∷ []) (All-kept w v stays lives h.kept)
-          (stays (beginning i r node) (record { keeps = new; first = ap (λ m. m.steps) (sym it); second = tt }), tt);
+          (stays (beginning i r node) (record { keeps = new; first = ap (λ m. m.steps) (sym it); second = tt; first_none = refl; second_none = tt }), tt);
       came = came_on w v (Open i r) (sym (ap (λ p. p.0) (open_world w nodes lives i r node refl e apart there))) h.came;
     }

@@ -12,8 +12,8 @@ use Rattle.definitions.specs.Worlds as worlds
 use Rattle.definitions.specs.Worlds.{World, Node, node_at}
 use Rattle.laws.specs.Growing.{is_even}
 use Rattle.laws.specs.Sessions.{Kept, Keeps}
-use Rattle.ends_core.specs.Held.{Held}
-use Rattle.ends_core.specs.Turns.{behind}
+use Rattle.ends_core.specs.Held.{Held, HasNone}
+use Rattle.ends_core.specs.Turns.{behind, fresh}
 use Rattle.world_core.specs.Nodes.{newest}
 use Rattle.world_core.specs.Runs.{Came}
 use Rattle.world_core.specs.declared.session.Session.{Session}
@@ -30,11 +30,13 @@ made l = (kept_of l).initiator.sent + unwrap_or (option_map (λ e. e.sent) (kept
 
 -- ---- what holds of each world
 
--- the ends and the last message are the session's, and the ends have the staircases of their nodes
+-- the ends and the last message are the session's, and the ends have the staircases of their nodes and hold no part
 pub record IsKept (w : World) (l : Session) : Type 0 where
   pub keeps : Keeps two_lanes w (session_of l) (kept_of l)
   pub first : l.first.steps ≡ (node_at w l.initiator).steps
   pub second : IfSome l.second (λ h. h.steps ≡ (node_at w l.responder).steps)
+  pub first_none : HasNone l.first
+  pub second_none : IfSome l.second HasNone
 
 abbrev pub world_of : List Node → List Session → World
 world_of nodes lives = record { nodes = nodes; sessions = map session_of lives }
@@ -54,7 +56,7 @@ beginning i r node = record {
   initiator_version = length node.history;
   responder_version = None;
   delivered = 0;
-  first = record { steps = node.steps; end = initiator two_lanes (newest node) };
+  first = fresh node.steps (initiator two_lanes (newest node));
   second = None;
   last = opening two_lanes (newest node).items;
   parts = 1;
@@ -63,7 +65,7 @@ beginning i r node = record {
 -- the responder; where there is none it begins at its node
 abbrev pub responder_from : Node → Option Held → Held
 responder_from node (Some h) = h
-responder_from node None = record { steps = node.steps; end = responder (newest node) }
+responder_from node None = fresh node.steps (responder (newest node))
 
 -- who hears the message made last
 abbrev pub hearer : Session → Node → Held

@@ -6,6 +6,7 @@ ghost use Rattle.definitions.specs.Histories.{insertion, history_after};
 ghost use Rattle.definitions.specs.Messages.{opening};
 ghost use Rattle.definitions.specs.Worlds.{told};
 ghost use Rattle.definitions.specs.Ends as ends;
+ghost use Rattle.ends_core.specs.Turns.{fresh};
 ghost use Rattle.strategy_check.specs.Checked.{Checked};
 ghost use Rattle.world_core.specs.Nodes.{node_by, newest};
 ghost use Rattle.world_core.specs.Steps.{did_of};
@@ -81,7 +82,7 @@ impl<'a> Node<'a> {
         alloc: Global,
     ) -> Result<(Initiator<'a, Tree>, Message), AllocError>
         ensures end { IfOk result
-            (λ r. r.0 ≡ record { steps = self.now.steps; end = ends.initiator two_lanes (newest self.now) }) }
+            (λ r. r.0 ≡ fresh self.now.steps (ends.initiator two_lanes (newest self.now))) }
         ensures message { IfOk result (λ r. r.1 ≡ opening two_lanes (newest self.now).items) }
     {
         let _ = self.log.cap();
@@ -95,7 +96,7 @@ impl<'a> Node<'a> {
 
     /// A responder with the newest version.
     pub(crate) fn responder(&self, alloc: Global) -> Result<Responder<'a, Tree>, AllocError>
-        ensures { IfOk result (λ r. r ≡ record { steps = self.now.steps; end = ends.responder (newest self.now) }) }
+        ensures { IfOk result (λ r. r ≡ fresh self.now.steps (ends.responder (newest self.now))) }
     {
         let _ = self.log.cap();
         let _ = self.log.count();

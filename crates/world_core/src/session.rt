@@ -4,6 +4,7 @@ ghost use Rattle.std.specs.Prelude.{◌≡◌, ◌<◌, ◌^◌, length, IfOk, I
 ghost use Rattle.definitions.specs.Fingerprints.{two_lanes};
 ghost use Rattle.definitions.specs.Ends.{answer};
 ghost use Rattle.laws.specs.Growing as growing;
+ghost use Rattle.ends_core.specs.Held.{HasNone};
 ghost use Rattle.ends_core.specs.Turns.{answer_in, answer_of, behind};
 ghost use Rattle.world_core.specs.Live.{session_of, made, beginning, responder_from, hearer, IsTaken, did_by, advanced, heard_by, heard_by_responder, heard_by_initiator};
 ghost use Rattle.world_core.specs.Steps.{did_of, side_of};
@@ -52,7 +53,8 @@ fn hear_first(
     end: &mut Initiator<'_, Tree>,
     message: &Message,
 ) -> Result<Turn, AllocError>
-    requires { IsTaken (answer two_lanes end.old.end message.now) }
+    requires none { HasNone end.old }
+    requires taken { IsTaken (answer two_lanes end.old.end message.now) }
     ensures turn { IfOk result (λ turn. answer_of turn ≡ answer two_lanes end.old.end message.now) }
     ensures end { OnOk result (end.new ≡ behind end.old message.now) }
     ensures memory { OnErr result (end.new ≡ end.old) }
@@ -66,7 +68,8 @@ fn hear_second(
     end: &mut Responder<'_, Tree>,
     message: &Message,
 ) -> Result<Turn, AllocError>
-    requires { IsTaken (answer two_lanes end.old.end message.now) }
+    requires none { HasNone end.old }
+    requires taken { IsTaken (answer two_lanes end.old.end message.now) }
     ensures turn { IfOk result (λ turn. answer_of turn ≡ answer two_lanes end.old.end message.now) }
     ensures end { OnOk result (end.new ≡ behind end.old message.now) }
     ensures memory { OnErr result (end.new ≡ end.old) }
@@ -81,7 +84,8 @@ fn hear_at<'a>(
     node: &Node<'a>,
     message: &Message,
 ) -> Result<Turn, AllocError>
-    requires { IsTaken (answer two_lanes (responder_from node.now second.old).end message.now) }
+    requires none { HasNone (responder_from node.now second.old) }
+    requires taken { IsTaken (answer two_lanes (responder_from node.now second.old).end message.now) }
     ensures turn { IfOk result (λ turn. answer_of turn ≡ answer two_lanes (responder_from node.now second.old).end
         message.now) }
     ensures end { OnOk result (second.new ≡ Some (behind (responder_from node.now second.old) message.now)) }
@@ -209,6 +213,7 @@ impl<'a> Session<'a> {
     /// The message made last is delivered to the responder.
     fn deliver_to_responder(&mut self, alloc: Global, node: &Node<'a>) -> Result<Did, AllocError>
         requires few { self.old.delivered < 2 ^ 33 }
+        requires none { HasNone (responder_from node.now self.old.second) }
         requires taken { IsTaken (answer two_lanes (responder_from node.now self.old.second).end self.old.last) }
         ensures session { OnOk result (self.new ≡ advanced (heard_by_responder self.old node.now)
             (length node.now.history) (answer two_lanes (responder_from node.now self.old.second).end
@@ -225,6 +230,7 @@ impl<'a> Session<'a> {
     /// The message made last is delivered to the initiator.
     fn deliver_to_initiator(&mut self, alloc: Global, newest: usize) -> Result<Did, AllocError>
         requires few { self.old.delivered < 2 ^ 33 }
+        requires none { HasNone self.old.first }
         requires taken { IsTaken (answer two_lanes self.old.first.end self.old.last) }
         ensures session { OnOk result (self.new ≡ advanced (heard_by_initiator self.old) newest
             (answer two_lanes self.old.first.end self.old.last)) }
@@ -238,6 +244,7 @@ impl<'a> Session<'a> {
     /// The message made last is delivered; its responder is at this node.
     pub(crate) fn deliver(&mut self, alloc: Global, node: &Node<'a>) -> Result<Did, AllocError>
         requires few { self.old.delivered < 2 ^ 33 }
+        requires none { HasNone (hearer self.old node.now) }
         requires taken { IsTaken (answer two_lanes (hearer self.old node.now).end self.old.last) }
         ensures session { OnOk result (self.new ≡ heard_by self.old node.now) }
         ensures did { IfOk result

@@ -1,19 +1,53 @@
-use Rattle.std.proofs.Common.{rules, [], ap, ◌∙◌}
+use Rattle.std.proofs.Common.{◌≤◌, rules, refl, subst, ◌∙◌}
+use Rattle.definitions.specs.Accounts.{IsOfTheTable}
 use Rattle.definitions.specs.Fingerprints.{two_lanes}
+use Rattle.definitions.specs.Wire.{two_lane_profile}
 use Rattle.definitions.specs.Engines.{responding}
-use Rattle.peer_threads.proofs.Exchanges.{answered}
-use Rattle.peer_threads.proofs.Replying.{same-peer}
+use Rattle.peer_threads.proofs.Exchanges.{Laws, stops-refusing, stops-event}
+use Rattle.peer_threads.proofs.Hearings.{adds-none}
+use Rattle.peer_threads.proofs.Serving.{at-part, at-end, answers-first}
 use Rattle.peer_threads.proofs.engines.answer.Goals as goal
 
+pub returns-in_err-take-clause-talked : goal.returns-in_err-take-clause-talked
+returns-in_err-take-clause-talked g c = λ p steps unread held new x.
+    let laws : Laws = record {
+      say = c.frames_say.ensures two_lanes;
+      begin = c.own_begins.ensures two_lanes;
+      agree = c.bytes_agree.ensures two_lanes two_lane_profile;
+    } in
+    let stopped = stops-refusing IsOfTheTable laws
+    (responding p) _ _ _ _ _ c.args.reader.now.ended _ c.in_err-take.field-0.0 refl
+    (at-part p steps (g.P.Party.held c.args.party.now) _ _ _ _ new x) c.in_err-take.ensures.stopped
+    (adds-none _ _) in
+    search (rules, stopped)
+
+pub returns-in_err-end-clause-talked : goal.returns-in_err-end-clause-talked
+returns-in_err-end-clause-talked g c = λ p steps unread held new x.
+    let laws : Laws = record {
+      say = c.frames_say.ensures two_lanes;
+      begin = c.own_begins.ensures two_lanes;
+      agree = c.bytes_agree.ensures two_lanes two_lane_profile;
+    } in
+    let stopped = stops-event laws (responding p) _ _ _ _ _ c.args.reader.now.ended _ c.in_err-end.field-0.0 refl
+    (at-end p steps (g.P.Party.held c.args.party.now)
+    (g.P.Party.held c.take.new.party) _ _ _ _ new c.in_ok-take.ensures.heard c.in_ok-take.ensures.end x) c.in_err-end.ensures.stopped in
+    search (rules, stopped)
+
+pub returns-in_err-end-clause-few : goal.returns-in_err-end-clause-few
+returns-in_err-end-clause-few g c =
+    subst (λ n. c.end.new.outbox.sent ≤ n) c.in_ok-take.ensures.most c.in_err-end.ensures.few
+
 pub returns-clause-talked : goal.returns-clause-talked
-returns-clause-talked g c = λ p unread held start x.
-    let u = answered (responding p) _ _ _ _ c.hear.new.outbox _ _ [] _ (c.ends_hear_on.ensures two_lanes) (c.ends_say.ensures two_lanes) start x (ap (λ h. h.end) c.in_ok-hear.ensures.end) c.in_ok-hear.ensures.said in
-    c.talk.ensures.talked (responding p) unread held u
+returns-clause-talked g c = λ p steps unread held new x.
+    let laws : Laws = record {
+      say = c.frames_say.ensures two_lanes;
+      begin = c.own_begins.ensures two_lanes;
+      agree = c.bytes_agree.ensures two_lanes two_lane_profile;
+    } in
+    c.talk.ensures.talked (responding p) unread held refl
+    (answers-first laws p steps (g.P.Party.held c.args.party.now) (g.P.Party.held c.take.new.party)
+    (g.P.Party.held c.end.new.party) _ _ _ _ _ _ new c.in_ok-take.ensures.heard c.in_ok-take.ensures.end x c.in_ok-end.ensures.heard c.in_ok-end.ensures.said)
 
 pub returns-clause-few : goal.returns-clause-few
-returns-clause-few g c =
-    let is = c.in_ok-hear.ensures.end in
-    let few = c.talk.ensures.few in
-    let steps = ap (λ h. h.steps) is in
-    let peer = ap (λ h. h.end.peer) is ∙ same-peer (g.P.Party.held c.args.party.now).end _ in
-    search (rules, few, steps, peer)
+returns-clause-few g c = subst (λ n. c.talk.new.outbox.sent ≤ n)
+    (c.in_ok-end.ensures.most ∙ c.in_ok-take.ensures.most) c.talk.ensures.few

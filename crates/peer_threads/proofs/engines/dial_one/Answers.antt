@@ -1,17 +1,30 @@
 use Rattle.definitions.specs.Fingerprints.{two_lanes}
+use Rattle.definitions.specs.Accounts.{IsOfTheTable}
 use Rattle.definitions.specs.Engines.{initiating}
-use Rattle.peer_threads.specs.Outcomes.{peer_at}
+use Rattle.peer_threads.specs.Outcomes.{peer_at, seen}
 use Rattle.peer_threads.specs.declared.stop.Stop.TheVariants.{Memory}
-use Rattle.peer_threads.proofs.Dialing.{dials, stops-first}
+use Rattle.peer_threads.proofs.Dialing.{dials, found-fits, stops-silent, speaks-unsaid}
+use Rattle.peer_threads.proofs.Endings.{speaks}
 use Rattle.peer_threads.proofs.engines.dial_one.Goals as goal
 
 pub returns-in-Ok-clause-bytes : goal.returns-in-Ok-clause-bytes
 returns-in-Ok-clause-bytes g c =
-    dials c.args.shared.now.accepted.now _ c.pin.new.seat.view c.in-Ok.pin _ c.initiate.result c.in-Ok.ensures.pin c.of-host.ensures c.initiate.ensures.bytes c.sides_are_modest.ensures.initiator
+    dials c.args.shared.now.accepted.now _ c.pin.new.seat.view c.in-Ok.pin _ _ _ c.initiate.result c.in-Ok.ensures.pin c.of-host.ensures
+    (found-fits c.args.seat.now.view c.pin.new.seat.view c.args.shared.now.accepted.now.table.cap c.pin.ensures.view c.requires.fits) c.initiate.ensures.bytes c.sides_are_modest.ensures.initiator
 
 pub returns-in-Err-clause-bytes : goal.returns-in-Err-clause-bytes
 returns-in-Err-clause-bytes g c =
     let found = c.pin.new.seat.view in
-    stops-first (initiating two_lanes (peer_at c.args.shared.now.accepted.now found)) _ _ c.new.result (g.R.Read.remaining c.args.reader.now.inner)
-    (g.W.Write.contents c.args.writer.now.inner) (g.W.Write.contents c.stopped.new.writer.inner) Memory c.stopped.result
-    c.new.ensures tt c.stopped.ensures.leaves c.stopped.ensures.outcome (c.sides_are_modest.ensures.initiator found.base)
+    let s = initiating two_lanes (peer_at c.args.shared.now.accepted.now found) in
+    let unread = g.R.Read.remaining c.args.reader.now.inner in
+    let held = g.W.Write.contents c.args.writer.now.inner in
+    let r = seen c.args.reader.now.failed c.args.reader.now.ended in
+    let w = seen c.stopped.new.writer.failed c.stopped.new.writer.ended in
+    let fits =
+    found-fits c.args.seat.now.view found c.args.shared.now.accepted.now.table.cap c.pin.ensures.view c.requires.fits in
+    speaks _ s _ _ _ _ r w c.stopped.result
+    (speaks-unsaid s _ _ c.new.result unread held
+    (g.W.Write.contents c.stopped.new.writer.inner) r w Memory c.stopped.result
+    c.new.ensures
+    (stops-silent IsOfTheTable s c.new.result unread held r.ended c.new.ensures) c.stopped.ensures.leaves c.stopped.ensures.outcome)
+    (λ bytes are known. c.sides_are_modest.ensures.initiator found.base bytes are fits)

@@ -1,28 +1,76 @@
-use Rattle.std.proofs.Common.{rules, []}
+use Rattle.std.proofs.Common.{rules, [], ◌∷◌}
+use Rattle.definitions.specs.Fingerprints.{two_lanes}
+use Rattle.definitions.specs.Wire.{two_lane_profile, Came, Ended}
 use Rattle.definitions.specs.Engines.{responding}
-use Rattle.peer_threads.specs.Stops.{of_placing}
-use Rattle.peer_threads.proofs.Endings.{next-stops}
-use Rattle.peer_threads.proofs.Exchanges.{reads-on}
-use Rattle.peer_threads.proofs.Serving.{greeted, ready, own-behind, told}
+use Rattle.peer_threads.specs.declared.stop.Stop.TheVariants as stops
+use Rattle.peer_threads.specs.declared.outcome.Side.TheVariants as sides
+use Rattle.peer_threads.specs.Underway.{IsNone}
+use Rattle.peer_threads.proofs.Exchanges.{Laws}
+use Rattle.peer_threads.proofs.Serving.{greeted, reads-on, stops-ungreeted, stops-broken-behind, stops-partless}
+use Rattle.peer_threads.proofs.Serving.{stops-endless, told}
 use Rattle.peer_threads.proofs.engines.meet.Goals as goal
 
-pub returns-in_err-first-clause-stopped : goal.returns-in_err-first-clause-stopped
-returns-in_err-first-clause-stopped g c = told c.from_residual-in_err-first.result c.in_err-first.field-0.0 _ (search rules) (λ P.
-    let x = greeted _ _ _ _ _ _ _ c.requires.new c.in_ok-greet.ensures.greeted c.in_ok-greet.ensures.whole (c.in_ok-read_hello.ensures [] [] tt c.in_ok-inbox.ensures) in
-    let u = ready P _ _ _ x in
-    let stops = next-stops (responding P) _ _ _ _ _ c.in_err-first.field-0.0 u (c.in_err-first.ensures u.exchanged.bytes u.messages u.exchanged.are_bytes u.exchanged.came) in
-    search (rules, stops))
+pub returns-in_err-read_hello-clause-stopped : goal.returns-in_err-read_hello-clause-stopped
+returns-in_err-read_hello-clause-stopped g c =
+    told c.from_residual-in_err-read_hello.result c.in_err-read_hello.field-0.0 _ (search rules) (λ P.
+    let laws : Laws = record {
+      say = c.frames_say.ensures two_lanes;
+      begin = c.own_begins.ensures two_lanes;
+      agree = c.bytes_agree.ensures two_lanes two_lane_profile;
+    } in
+    let stopped = stops-ungreeted laws P _ _ _
+    (g.W.Write.contents c.args.writer.now.inner) _ c.in_err-read_hello.field-0.0 c.requires.new
+    (c.in_err-read_hello.ensures.read [] [] tt c.in_ok-inbox.ensures.read) in
+    search (rules, stopped))
 
-pub returns-in_err-place_opening-clause-stopped : goal.returns-in_err-place_opening-clause-stopped
-returns-in_err-place_opening-clause-stopped g c = told c.from_residual-in_err-place_opening.result (of_placing c.in_err-place_opening.field-0.0) _ (search rules) (λ P.
-    let x = greeted _ _ _ _ _ _ _ c.requires.new c.in_ok-greet.ensures.greeted c.in_ok-greet.ensures.whole (c.in_ok-read_hello.ensures [] [] tt c.in_ok-inbox.ensures) in
-    let next = c.in_ok-first.ensures x.bytes [] x.are_bytes x.came in
-    let stops = own-behind (responding P) _ _ _ _ _ (of_placing c.in_err-place_opening.field-0.0) (reads-on _ _ _ _ _ _ _ _ x next.0 next.1 next.2 next.3) tt in
-    search (rules, stops))
+pub returns-in_err-greet-clause-stopped : goal.returns-in_err-greet-clause-stopped
+returns-in_err-greet-clause-stopped g c =
+    told c.from_residual-in_err-greet.result (stops.Io sides.Write) _ (search rules) (λ P.
+    let stopped = stops-broken-behind IsNone P _ c.greet.new.self (g.R.Read.remaining c.args.reader.now.inner)
+    (g.R.Read.remaining c.read_hello.new.reader.inner) (g.W.Write.contents c.args.writer.now.inner)
+    (g.W.Write.contents c.greet.new.writer.inner)
+    c.read_hello.new.reader.ended sides.Write []
+    (c.in_ok-read_hello.ensures.read [] [] tt c.in_ok-inbox.ensures.read) in
+    search (rules, stopped))
+
+pub returns-in_err-first-clause-stopped : goal.returns-in_err-first-clause-stopped
+returns-in_err-first-clause-stopped g c =
+    told c.from_residual-in_err-first.result c.in_err-first.field-0.0 _ (search rules) (λ P.
+    let laws : Laws = record {
+      say = c.frames_say.ensures two_lanes;
+      begin = c.own_begins.ensures two_lanes;
+      agree = c.bytes_agree.ensures two_lanes two_lane_profile;
+    } in
+    let x = greeted _ _ _ _ _ _ _ c.requires.new c.in_ok-greet.ensures.greeted c.in_ok-greet.ensures.whole
+    (c.in_ok-read_hello.ensures.read [] [] tt c.in_ok-inbox.ensures.read) in
+    let stopped = stops-partless laws P _ _ _ _ _ _ c.in_err-first.field-0.0 x
+    (c.in_err-first.ensures.read x.bytes [] x.are_bytes x.came) in
+    search (rules, stopped))
+
+pub returns-in_err-first_end-clause-stopped : goal.returns-in_err-first_end-clause-stopped
+returns-in_err-first_end-clause-stopped g c =
+    told c.from_residual-in_err-first_end.result c.in_err-first_end.field-0.0 _ (search rules) (λ P.
+    let laws : Laws = record {
+      say = c.frames_say.ensures two_lanes;
+      begin = c.own_begins.ensures two_lanes;
+      agree = c.bytes_agree.ensures two_lanes two_lane_profile;
+    } in
+    let p = c.in_ok-first.first in
+    let x = greeted _ _ _ _ _ _ _ c.requires.new c.in_ok-greet.ensures.greeted c.in_ok-greet.ensures.whole
+    (c.in_ok-read_hello.ensures.read [] [] tt c.in_ok-inbox.ensures.read) in
+    let one = c.in_ok-first.ensures.read x.bytes [] x.are_bytes x.came in
+    let y = reads-on _ _ _ _ _ [] (Came p ∷ []) x (one.0, one.1, one.2, one.3.1) in
+    let stopped = stops-endless laws P p _ _ _ _ _ _ c.in_err-first_end.field-0.0 one.3.0 y
+    (c.in_err-first_end.ensures.read p one.3.0 y.bytes (Came p ∷ []) y.are_bytes y.came) in
+    search (rules, stopped))
 
 pub returns-clause-met : goal.returns-clause-met
 returns-clause-met g c =
-    let x = greeted _ _ _ _ _ _ _ c.requires.new c.in_ok-greet.ensures.greeted c.in_ok-greet.ensures.whole (c.in_ok-read_hello.ensures [] [] tt c.in_ok-inbox.ensures) in
-    let next = c.in_ok-first.ensures x.bytes [] x.are_bytes x.came in
-    let all = reads-on _ _ _ _ _ _ _ _ x next.0 next.1 next.2 next.3 in
-    search (rules, all)
+    let p = c.in_ok-first.first in
+    let x = greeted _ _ _ _ _ _ _ c.requires.new c.in_ok-greet.ensures.greeted c.in_ok-greet.ensures.whole
+    (c.in_ok-read_hello.ensures.read [] [] tt c.in_ok-inbox.ensures.read) in
+    let one = c.in_ok-first.ensures.read x.bytes [] x.are_bytes x.came in
+    let y = reads-on _ _ _ _ _ [] (Came p ∷ []) x (one.0, one.1, one.2, one.3.1) in
+    let two = c.in_ok-first_end.ensures.read p one.3.0 y.bytes (Came p ∷ []) y.are_bytes y.came in
+    let z = reads-on _ _ _ _ _ (Came p ∷ []) (Came p ∷ Ended ∷ []) y two in
+    (one.3.0, z)

@@ -1,12 +1,39 @@
+use Rattle.std.proofs.Common.{◌≡◌, refl, rules}
 use Rattle.definitions.specs.Fingerprints.{two_lanes}
+use Rattle.definitions.specs.Accounts.{IsOfTheTable}
 use Rattle.definitions.specs.Engines.{initiating}
-use Rattle.peer_threads.proofs.Dialing.{begun}
+use Rattle.peer_threads.specs.declared.outcome.Side.TheVariants as sides
+use Rattle.peer_threads.proofs.Dialing.{begun-first, stops-silent, stops-broken, stops-first}
 use Rattle.peer_threads.proofs.engines.speak.Goals as goal
 
+pub returns-in_err-inbox-clause-talked : goal.returns-in_err-inbox-clause-talked
+returns-in_err-inbox-clause-talked g c = λ p steps is opens.
+    let stops = stops-silent IsOfTheTable (initiating two_lanes p) c.args.outbox.now
+    (g.R.Read.remaining c.args.reader.now.inner)
+    (g.W.Write.contents c.args.writer.now.inner) c.args.reader.now.ended c.requires.new in
+    search (rules, stops)
+
+pub returns-in_err-greet-clause-talked : goal.returns-in_err-greet-clause-talked
+returns-in_err-greet-clause-talked g c = λ p steps is opens.
+    let stops = stops-broken IsOfTheTable (initiating two_lanes p) c.greet.new.self
+    (g.R.Read.remaining c.args.reader.now.inner) (g.W.Write.contents c.args.writer.now.inner)
+    (g.W.Write.contents c.greet.new.writer.inner) c.args.reader.now.ended sides.Write in
+    search (rules, stops)
+
+pub returns-in_err-say-clause-talked : goal.returns-in_err-say-clause-talked
+returns-in_err-say-clause-talked g c = λ p steps is opens.
+    let stops = stops-first p c.args.outbox.now c.greet.new.self c.say.new.outbox
+    (g.R.Read.remaining c.args.reader.now.inner) (g.W.Write.contents c.args.writer.now.inner)
+    (g.W.Write.contents c.greet.new.writer.inner)
+    (g.W.Write.contents c.say.new.writer.inner) c.args.reader.now.ended c.args.first.now c.in_err-say.field-0.0 opens c.requires.new c.in_ok-greet.ensures.whole c.in_ok-greet.ensures.greeted c.in_err-say.ensures.unsaid in
+    search (rules, stops)
+
 pub returns-clause-talked : goal.returns-clause-talked
-returns-clause-talked g c = λ p is opens.
-    let held = g.W.Write.contents c.args.writer.now.inner in
-    let unread = g.R.Read.remaining c.args.reader.now.inner in
-    c.talk.ensures.talked (initiating two_lanes p) unread held
-    (begun p _ _ c.args.outbox.now c.greet.new.self c.say.new.outbox unread held (g.W.Write.contents c.greet.new.writer.inner) (g.W.Write.contents c.say.new.writer.inner) c.args.first.now
-    is opens c.in_ok-inbox.ensures c.requires.new c.in_ok-greet.ensures.whole c.in_ok-greet.ensures.greeted c.in_ok-say.ensures.said)
+returns-clause-talked g c = λ p steps is opens.
+    let u = begun-first p
+    (g.P.Party.held c.args.party.now) steps c.in_ok-inbox.inbox c.args.outbox.now c.greet.new.self c.say.new.outbox
+    (g.R.Read.remaining c.args.reader.now.inner) (g.W.Write.contents c.args.writer.now.inner)
+    (g.W.Write.contents c.greet.new.writer.inner)
+    (g.W.Write.contents c.say.new.writer.inner) c.args.first.now is opens c.in_ok-inbox.ensures.read c.requires.new c.in_ok-greet.ensures.whole c.in_ok-greet.ensures.greeted c.in_ok-say.ensures.said in
+    c.talk.ensures.talked (initiating two_lanes p) (g.R.Read.remaining c.args.reader.now.inner)
+    (g.W.Write.contents c.args.writer.now.inner) refl u

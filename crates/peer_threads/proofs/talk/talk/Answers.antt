@@ -1,36 +1,71 @@
-use Rattle.std.proofs.Common.{rules, ap, ◌∙◌}
+use Rattle.std.proofs.Common.{◌≡◌, ◌≤◌, false, true, rules, arith, subst, ◌∙◌}
 use Rattle.definitions.specs.Fingerprints.{two_lanes}
-use Rattle.peer_threads.proofs.Endings.{next-stops, own-stops, goes-on}
-use Rattle.peer_threads.proofs.Exchanges.{finished}
-use Rattle.peer_threads.proofs.Replying.{same-peer}
+use Rattle.definitions.specs.Ends.{is_over}
+use Rattle.definitions.specs.Wire.{two_lane_profile}
+use Rattle.peer_threads.proofs.Exchanges.{Laws, at-event, goes-on, stops-event, stops-underway, finished}
 use Rattle.peer_threads.proofs.talk.talk.Goals as goal
 
-pub returns-in_err-message-clause-talked : goal.returns-in_err-message-clause-talked
-returns-in_err-message-clause-talked g c = λ s unread held start.
-    let u = c.talk.invariant.goes s unread held start in
-    let stops = next-stops s _ _ _ _ _ c.in_err-message.field-0.0 u (c.in_err-message.ensures u.exchanged.bytes u.messages u.exchanged.are_bytes u.exchanged.came) in
+pub returns-then-is_over-clause-talked : goal.returns-then-is_over-clause-talked
+returns-then-is_over-clause-talked g c = λ s unread held live start.
+    let laws : Laws = record {
+      say = c.frames_say.ensures two_lanes;
+      begin = c.own_begins.ensures two_lanes;
+      agree = c.bytes_agree.ensures two_lanes two_lane_profile;
+    } in
+    let over : is_over (g.P.Party.held c.loop-turn.party).end.stage ≡ true = search rules in
+    finished laws s _ _ _ _ live (c.loop-turn.invariant.goes s unread held live start) over
+
+pub returns-in_err-event-clause-talked : goal.returns-in_err-event-clause-talked
+returns-in_err-event-clause-talked g c = λ s unread held live start.
+    let laws : Laws = record {
+      say = c.frames_say.ensures two_lanes;
+      begin = c.own_begins.ensures two_lanes;
+      agree = c.bytes_agree.ensures two_lanes two_lane_profile;
+    } in
+    let u = c.loop-turn.invariant.goes s unread held live start in
+    let goes : is_over (g.P.Party.held c.loop-turn.party).end.stage ≡ false = search rules in
+    let stops = stops-underway laws s _ _ _ _ _ _ c.in_err-event.field-0.0 live u goes
+    (c.in_err-event.ensures.read u.bytes u.events u.are_bytes u.came) in
     search (rules, stops)
 
 pub returns-in_err-hear-clause-talked : goal.returns-in_err-hear-clause-talked
-returns-in_err-hear-clause-talked g c = λ s unread held start.
-    let u = c.talk.invariant.goes s unread held start in
-    let stops = own-stops s _ _ _ c.hear.new.outbox _ _ (g.W.Write.contents c.hear.new.writer.inner) c.in_err-hear.field-0.0 u _ _ (c.in_ok-message.ensures u.exchanged.bytes u.messages u.exchanged.are_bytes u.exchanged.came) c.in_err-hear.ensures.own in
+returns-in_err-hear-clause-talked g c = λ s unread held live start.
+    let laws : Laws = record {
+      say = c.frames_say.ensures two_lanes;
+      begin = c.own_begins.ensures two_lanes;
+      agree = c.bytes_agree.ensures two_lanes two_lane_profile;
+    } in
+    let u = c.loop-turn.invariant.goes s unread held live start in
+    let goes : is_over (g.P.Party.held c.loop-turn.party).end.stage ≡ false = search rules in
+    let x = at-event s _ _ _ _ _ _ _ u (c.in_ok-event.ensures.read u.bytes u.events u.are_bytes u.came) goes in
+    let stops =
+    stops-event laws s _ _ _ _ _ c.next.new.reader.ended _ c.in_err-hear.field-0.0 live x c.in_err-hear.ensures.stopped in
     search (rules, stops)
 
-pub talk-preserved : goal.talk-preserved
-talk-preserved g c = record {
+pub loop-turn-preserved : goal.loop-turn-preserved
+loop-turn-preserved g c = record {
   fine = c.in_ok-hear.ensures.fine;
   count = c.in_ok-hear.ensures.count;
-  steps = ap (λ h. h.steps) c.in_ok-hear.ensures.end ∙ c.talk.invariant.steps;
-  peer = ap (λ h. h.end.peer) c.in_ok-hear.ensures.end ∙ same-peer (g.P.Party.held c.talk.party).end _ ∙ c.talk.invariant.peer;
-  few = search (rules, c.in_ok-hear.ensures.few, c.talk.invariant.steps, c.talk.invariant.peer);
-  goes = λ s unread held start.
-      let u = c.talk.invariant.goes s unread held start in
-      goes-on s _ _ _ _ _ _ _ _ _ _ (c.ends_hear_on.ensures two_lanes) (c.ends_say.ensures two_lanes) u (c.in_ok-message.ensures u.exchanged.bytes u.messages u.exchanged.are_bytes u.exchanged.came)
-      (ap (λ h. h.end) c.in_ok-hear.ensures.end) c.in_ok-hear.ensures.said;
+  most = c.in_ok-hear.ensures.most ∙ c.loop-turn.invariant.most;
+  few = subst (λ n. c.hear.new.outbox.sent ≤ n) c.loop-turn.invariant.most c.in_ok-hear.ensures.few;
+  reads = λ few.
+      let so = c.loop-turn.invariant.reads few in
+      let now = c.in_ok-event.ensures.reads in
+      (omega (arith, so.0, now.0), now.1);
+  goes = λ s unread held live start.
+      let laws : Laws = record {
+        say = c.frames_say.ensures two_lanes;
+        begin = c.own_begins.ensures two_lanes;
+        agree = c.bytes_agree.ensures two_lanes two_lane_profile;
+      } in
+      let u = c.loop-turn.invariant.goes s unread held live start in
+      let goes : is_over (g.P.Party.held c.loop-turn.party).end.stage ≡ false = search rules in
+      let more = c.in_ok-event.ensures.read u.bytes u.events u.are_bytes u.came in
+      let x = at-event s _ _ _ _ _ _ _ u more goes in
+      goes-on laws s _ _ _ _ _ _ _ _ live x more.3 c.in_ok-hear.ensures.heard c.in_ok-hear.ensures.said;
 }
 
 pub returns-clause-talked : goal.returns-clause-talked
-returns-clause-talked g c = λ s unread held start.
-    let over = c.talk-test.false in
-    finished s _ _ _ _ (c.ends_say.ensures two_lanes) (c.talk.invariant.goes s unread held start) (search (rules, over))
+returns-clause-talked g c = λ s unread held live start.
+    let u = c.loop-turn.invariant.goes s unread held live start in
+    record { bytes = u.bytes; are_bytes = u.are_bytes; read = u.read; why = tt }

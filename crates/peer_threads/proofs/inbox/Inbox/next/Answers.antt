@@ -1,57 +1,77 @@
-use Rattle.std.proofs.Common.{rules, ◌≡◌, ◌∷◌, ◌++◌, [], ℕ, List, Err, ◌∙◌}
-use Rattle.definitions.specs.Fingerprints.{Lanes}
-use Rattle.definitions.specs.Messages.{Message}
-use Rattle.peer_threads.specs.Inboxes.{HasRead, GreetStops, Next}
-use Rattle.peer_threads.proofs.InboxSteps.{reads_nothing, reads_more, reads_so, greet_stops, held_stops, stop_next, some_held, none_held, none_waits}
+use Rattle.std.proofs.Common.{rules, ◌≡◌, ◌∷◌, ◌++◌, [], Option, None, IfNone, Ok, Err, sym, ap, ◌∙◌, subst, arith}
+use Rattle.wire_core.specs.Events.{event_value}
+use Rattle.wire_core.specs.Feeds.{StreamState, fault_at}
+use Rattle.wire_core.specs.declared.event.Event as declared
+use Rattle.peer_threads.specs.Inboxes.{HasRead, Held, FetchStops, Next}
+use Rattle.peer_threads.proofs.InboxSteps.{reads_nothing, reads_more, reads_so, fetch_stops}
 use Rattle.peer_threads.proofs.inbox.Inbox.next.Goals as goal
 
 pub reads-init : goal.reads-init
 reads-init g c =
-    reads_nothing (g.R.Read.remaining c.args.reader.now.inner) c.args.self.now (λ (bytes : List ℕ) (Ms : List (Message Lanes)). HasRead c.args.self.now bytes Ms) (λ bytes Ms fits has. has)
+    let unread = g.R.Read.remaining c.args.reader.now.inner in
+    (reads_nothing unread c.args.self.now (HasRead c.args.self.now) (λ bytes es fits has. has), omega arith)
 
-pub returns-in_err-message : goal.returns-in_err-message
-returns-in_err-message g c =
-    let stop = c.in_err-message.field-0.0 in
-    let is : c.from_residual.result ≡ Err stop = search rules in
-    reads_so (g.R.Read.remaining c.args.reader.now.inner) (g.R.Read.remaining c.reads.reader.inner) c.args.self.now
-    (λ (bytes : List ℕ) (Ms : List (Message Lanes)). HasRead c.reads.self bytes Ms)
-    (λ (bytes : List ℕ) (Ms : List (Message Lanes)). Next (g.R.Read.remaining c.reads.reader.inner) c.next_held.new.self bytes Ms c.from_residual.result)
-    (λ bytes Ms fits has. stop_next (g.R.Read.remaining c.reads.reader.inner) c.next_held.new.self bytes Ms c.from_residual.result stop is (held_stops (g.R.Read.remaining c.reads.reader.inner) bytes Ms stop (c.in_err-message.ensures.held bytes Ms fits has)))
-    c.reads.invariant
+pub returns-in_err-event-clause-read : goal.returns-in_err-event-clause-read
+returns-in_err-event-clause-read g c =
+    let unread = g.R.Read.remaining c.args.reader.now.inner in
+    let left = g.R.Read.remaining c.reads.reader.inner in
+    let is : c.from_residual.result ≡ Err c.in_err-event.field-0.0 = search rules in
+    let over = c.reads.reader.ended in
+    let new = c.next_held.new.self in
+    reads_so unread left c.args.self.now (HasRead c.reads.self)
+    (λ bytes es. Next over new bytes es c.from_residual.result)
+    (λ bytes es fits has. subst (Next over new bytes es) (sym is) (c.in_err-event.ensures.held bytes es fits has over))
+    c.reads.invariant.0
 
-pub returns-in-Some : goal.returns-in-Some
-returns-in-Some g c =
-    reads_so (g.R.Read.remaining c.args.reader.now.inner) (g.R.Read.remaining c.reads.reader.inner) c.args.self.now
-    (λ (bytes : List ℕ) (Ms : List (Message Lanes)). HasRead c.reads.self bytes Ms)
-    (λ (bytes : List ℕ) (Ms : List (Message Lanes)). HasRead c.next_held.new.self bytes (Ms ++ c.in-Some.message ∷ []))
-    (λ bytes Ms fits has. some_held c.next_held.new.self bytes Ms c.in_ok-message.field-0 c.in-Some.message c.in-Some.is (c.in_ok-message.ensures.held bytes Ms fits has))
-    c.reads.invariant
+pub returns-in-Some-clause-read : goal.returns-in-Some-clause-read
+returns-in-Some-clause-read g c =
+    let unread = g.R.Read.remaining c.args.reader.now.inner in
+    let left = g.R.Read.remaining c.reads.reader.inner in
+    let over = c.reads.reader.ended in
+    let new = c.next_held.new.self in
+    reads_so unread left c.args.self.now (HasRead c.reads.self)
+    (λ bytes es. HasRead new bytes (es ++ event_value c.in-Some.event ∷ []))
+    (λ bytes es fits has. subst (λ (made : Option declared.Event). Held over new bytes es (Ok made)) c.in-Some.is
+    (c.in_ok-event.ensures.held bytes es fits has over))
+    c.reads.invariant.0
 
 pub reads-preserved : goal.reads-preserved
 reads-preserved g c =
-    reads_more (g.R.Read.remaining c.args.reader.now.inner) (g.R.Read.remaining c.reads.reader.inner) (g.R.Read.remaining c.read_more.new.reader.inner) c.args.self.now c.next_held.new.self
-    (λ (bytes : List ℕ) (Ms : List (Message Lanes)). HasRead c.read_more.new.self bytes Ms)
-    (reads_so (g.R.Read.remaining c.args.reader.now.inner) (g.R.Read.remaining c.reads.reader.inner) c.args.self.now
-    (λ (bytes : List ℕ) (Ms : List (Message Lanes)). HasRead c.reads.self bytes Ms)
-    (λ (bytes : List ℕ) (Ms : List (Message Lanes)). HasRead c.next_held.new.self bytes Ms)
-    (λ bytes Ms fits has. none_held c.next_held.new.self bytes Ms c.in_ok-message.field-0 c.in-None.is (c.in_ok-message.ensures.held bytes Ms fits has))
-    c.reads.invariant)
-    c.in_ok-read_more-in-None.ensures.read
+    let unread = g.R.Read.remaining c.args.reader.now.inner in
+    let mid = g.R.Read.remaining c.reads.reader.inner in
+    let left = g.R.Read.remaining c.read_more.new.reader.inner in
+    let over = c.reads.reader.ended in
+    let fed = c.next_held.new.self in
+    let new = c.read_more.new.self in
+    let all = reads_more unread mid left c.args.self.now c.reads.self fed (HasRead new) c.reads.invariant.0
+    (λ bytes es fits has. subst (λ (made : Option declared.Event). Held over fed bytes es (Ok made)) c.in-None.is
+    (c.in_ok-event.ensures.held bytes es fits has over))
+    c.in_ok-read_more-in-None.ensures.read in
+    let before = c.reads.invariant.1 in
+    let same = c.next_held.ensures.reads.0 in
+    let now = c.read_more.ensures.reads.0 in
+    (all, omega arith)
 
-pub returns-in_err-read_more-in-None : goal.returns-in_err-read_more-in-None
-returns-in_err-read_more-in-None g c =
+pub returns-in_err-read_more-in-None-clause-read : goal.returns-in_err-read_more-in-None-clause-read
+returns-in_err-read_more-in-None-clause-read g c =
+    let unread = g.R.Read.remaining c.args.reader.now.inner in
+    let mid = g.R.Read.remaining c.reads.reader.inner in
+    let left = g.R.Read.remaining c.read_more.new.reader.inner in
+    let result = c.from_residual-in_err-read_more-in-None.result in
     let stop = c.in_err-read_more-in-None.field-0.0 in
-    let is : c.from_residual-in_err-read_more-in-None.result ≡ Err stop = search rules in
-    let none = none_waits (c.next_held.new.self.events ≡ []) c.in_ok-message.field-0 c.in-None.is c.in_ok-message.ensures.none in
-    reads_more (g.R.Read.remaining c.args.reader.now.inner) (g.R.Read.remaining c.reads.reader.inner) (g.R.Read.remaining c.read_more.new.reader.inner) c.args.self.now c.next_held.new.self
-    (λ (bytes : List ℕ) (Ms : List (Message Lanes)). Next (g.R.Read.remaining c.read_more.new.reader.inner) c.read_more.new.self bytes Ms c.from_residual-in_err-read_more-in-None.result)
-    (reads_so (g.R.Read.remaining c.args.reader.now.inner) (g.R.Read.remaining c.reads.reader.inner) c.args.self.now
-    (λ (bytes : List ℕ) (Ms : List (Message Lanes)). HasRead c.reads.self bytes Ms)
-    (λ (bytes : List ℕ) (Ms : List (Message Lanes)). HasRead c.next_held.new.self bytes Ms)
-    (λ bytes Ms fits has. none_held c.next_held.new.self bytes Ms c.in_ok-message.field-0 c.in-None.is (c.in_ok-message.ensures.held bytes Ms fits has))
-    c.reads.invariant)
-    (reads_so (g.R.Read.remaining c.reads.reader.inner) (g.R.Read.remaining c.read_more.new.reader.inner) c.next_held.new.self
-    (λ (bytes : List ℕ) (Ms : List (Message Lanes)). GreetStops (g.R.Read.remaining c.read_more.new.reader.inner) c.read_more.new.self bytes Ms stop)
-    (λ (bytes : List ℕ) (Ms : List (Message Lanes)). Next (g.R.Read.remaining c.read_more.new.reader.inner) c.read_more.new.self bytes Ms c.from_residual-in_err-read_more-in-None.result)
-    (λ bytes Ms fits stopped. stop_next (g.R.Read.remaining c.read_more.new.reader.inner) c.read_more.new.self bytes Ms c.from_residual-in_err-read_more-in-None.result stop is (greet_stops (g.R.Read.remaining c.read_more.new.reader.inner) c.read_more.new.self stop (c.in_err-read_more-in-None.ensures.waiting ∙ none) bytes Ms stopped))
+    let is : result ≡ Err stop = search rules in
+    let over = c.read_more.new.reader.ended in
+    let fed = c.next_held.new.self in
+    let new = c.read_more.new.self in
+    let none = subst
+    (λ (made : Option declared.Event). IfNone made ((fed.waiting ≡ []) × (fault_at fed.feed.standing ≡ None)))
+    c.in-None.is c.in_ok-event.ensures.none in
+    let fine : fault_at new.feed.standing ≡ None =
+    ap (λ (s : StreamState). fault_at s.standing) c.read_more.ensures.feed ∙ none.1 in
+    reads_more unread mid left c.args.self.now c.reads.self fed (λ bytes es. Next over new bytes es result)
+    c.reads.invariant.0
+    (λ bytes es fits has. subst (λ (made : Option declared.Event). Held over fed bytes es (Ok made)) c.in-None.is
+    (c.in_ok-event.ensures.held bytes es fits has over))
+    (reads_so mid left fed (λ bytes es. FetchStops over new bytes es stop) (λ bytes es. Next over new bytes es result)
+    (λ bytes es fits stopped. subst (Next over new bytes es) (sym is) (fetch_stops over new stop fine bytes es stopped))
     c.in_err-read_more-in-None.ensures.read)

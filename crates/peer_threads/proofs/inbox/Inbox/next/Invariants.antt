@@ -1,12 +1,12 @@
-use Rattle.std.proofs.Common.{ℕ, ◌-◌, ◌^◌, List}
-use Rattle.definitions.specs.Fingerprints.{Lanes}
-use Rattle.definitions.specs.Messages.{Message}
+use Rattle.std.proofs.Common.{◌+◌, ◌-◌, ◌≤◌, ◌^◌}
 use Rattle.peer_threads.specs.Inboxes.{HasRead, Reads}
 use Rattle.peer_threads.proofs.inbox.Inbox.next.Given as goal
 
--- what was read so far
+-- what was read so far, and how often
 abbrev pub invariant-reads : goal.invariant-reads
-invariant-reads g l = Reads (g.R.Read.remaining l.fn.reader.inner) (g.R.Read.remaining l.reader.inner) l.fn.self (λ (bytes : List ℕ) (Ms : List (Message Lanes)). HasRead l.self bytes Ms)
+invariant-reads g l =
+    Reads (g.R.Read.remaining l.fn.reader.inner) (g.R.Read.remaining l.reader.inner) l.fn.self (HasRead l.self)
+    × (l.reader.reads + l.fn.self.reads ≤ l.fn.reader.reads + l.self.reads)
 
 abbrev pub decreases-reads : goal.decreases-reads
 decreases-reads g l = 2 ^ 32 - l.self.reads

@@ -1,16 +1,30 @@
-use Rattle.std.proofs.Common.{rules, ◌≡◌, ◌∷◌, ap}
-use Rattle.definitions.specs.Wire.{two_lane_profile}
-use Rattle.wire_core.specs.Events.{event_value, event_values}
-use Rattle.peer_threads.specs.Inboxes.{InboxState}
-use Rattle.peer_threads.proofs.InboxSteps.{followed_stop, stop_held}
+use Rattle.std.proofs.Common.{rules, ◌≡◌, ◌∙◌, [], Err, sym, append-nil, subst}
+use Rattle.peer_threads.specs.Inboxes.{InboxState, HasRead, Held}
+use Rattle.peer_threads.specs.Stops.{of_decoding}
+use Rattle.peer_threads.proofs.InboxSteps.{held, stopped}
 use Rattle.peer_threads.proofs.inbox.Inbox.next_held.Goals as goal
 
-pub returns-in_err-message-clause-held : goal.returns-in_err-message-clause-held
-returns-in_err-message-clause-held c =
-    let old : InboxState = record { feed = c.events.self-inside.feed; events = event_values c.events.self-inside.events.items; parts = c.events.self-inside.parts.items; reads = c.events.self-inside.reads } in
-    let new : InboxState = record { feed = c.events.self-inside.feed; events = event_values c.pop_front.new.self.items; parts = c.follow.new.parts.items; reads = c.events.self-inside.reads } in
-    let next : old.events ≡ event_value c.in-Some.event ∷ new.events = ap event_values c.in-Some.ensures.items in
-    λ bytes Ms fits has.
-    stop_held new bytes Ms c.from_residual.result c.in_err-message.field-0.0 (search rules)
-    (followed_stop (c.heard_are_messages.ensures two_lane_profile c.two_lanes_are_real.ensures) old (event_value c.in-Some.event) new.parts new.events c.in_err-message.field-0.0 next c.in_err-message.ensures bytes Ms fits
-    (c.events.invariant.held bytes Ms fits has))
+pub returns-in_err-taken-clause-held : goal.returns-in_err-taken-clause-held
+returns-in_err-taken-clause-held c =
+    let inside = c.self.inside in
+    let old : InboxState = record { feed = inside.feed; waiting = inside.piece; reads = inside.reads } in
+    let new : InboxState = record { feed = c.next.new.self; waiting = inside.piece; reads = inside.reads } in
+    let e = c.in_err-taken.field-0.0 in
+    let is : c.from_residual.result ≡ Err (of_decoding e) = search rules in
+    let rest = c.rest.result.now in
+    let parts = sym c.rest.ensures ∙ sym (append-nil rest) in
+    let did = c.in_err-taken.ensures in
+    λ bytes es fits has over. subst (Held over new bytes es) (sym is)
+    (stopped old c.next.new.self rest [] e parts did.next did.fault did.joined bytes es fits
+    (subst (λ (b : InboxState). HasRead b bytes es) (sym c.self.view_is) has) over)
+
+pub returns-clause-held : goal.returns-clause-held
+returns-clause-held c =
+    let inside = c.self.inside in
+    let old : InboxState = record { feed = inside.feed; waiting = inside.piece; reads = inside.reads } in
+    let new : InboxState = record { feed = c.next.new.self; waiting = c.skip.new.self; reads = inside.reads } in
+    let did = c.in_ok-taken.ensures in
+    let taken = c.in_ok-taken.taken in
+    let event = c.in_ok-taken.event in
+    rw (← c.self.view_is)
+    (held old new c.rest.result.now c.rest.ensures taken event did.next did.joined c.skip.ensures)

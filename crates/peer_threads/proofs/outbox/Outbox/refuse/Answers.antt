@@ -1,6 +1,7 @@
+use Rattle.peer_threads.proofs.Endings.{wrote-either}
 use Rattle.peer_threads.specs.Outboxes.{refusal_text}
-use Rattle.peer_threads.proofs.Beginnings.{begins-either}
 use Rattle.peer_threads.proofs.outbox.Outbox.refuse.Goals as goal
 
 pub returns : goal.returns
-returns g c = begins-either c.write_refusal.result _ _ (refusal_text c.args.self c.args.code) c.write_refusal.ensures.whole c.write_refusal.ensures.front
+returns g c = wrote-either c.write_refusal.result _ _ _
+    (refusal_text c.args.self c.args.code) c.write_refusal.ensures.whole c.write_refusal.ensures.front c.write_refusal.ensures.failed

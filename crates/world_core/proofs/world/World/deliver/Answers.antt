@@ -4,7 +4,7 @@ use Rattle.std.proofs.lemmas.Option.{slice_get_read}
 use Rattle.definitions.specs.Fingerprints.{two_lanes}
 use Rattle.world_core.specs.Live.{made}
 use Rattle.world_core.specs.Steps.{did_of}
-use Rattle.world_core.proofs.Delivering.{Laws, DeliveryLaws, IsAt, at_node, deliver_taken, deliver_runs, deliver_world, deliver_did, deliver_same, deliver_idle, idle_world}
+use Rattle.world_core.proofs.Delivering.{Laws, DeliveryLaws, IsAt, at_node, deliver_none, deliver_taken, deliver_runs, deliver_world, deliver_did, deliver_same, deliver_idle, idle_world}
 use Rattle.world_core.proofs.world.World.deliver.Goals as goal
 
 idle_laws : goal.After-self-then-session-messages-1 → Laws
@@ -36,6 +36,9 @@ at c = record {
 
 more : (c : goal.After-index) → c.in-Some.session.now.delivered < made c.in-Some.session.now
 more c = subst (λ n. c.in-Some.session.now.delivered < n) c.messages.ensures.made c.if-session-messages.false
+
+pub deliver-requires-clause-none : goal.deliver-requires-clause-none
+deliver-requires-clause-none c = deliver_none c.self.inside.nodes.items c.self.inside.sessions.items c.args.number c.in-Some.session.now c.index.result.now (at c)
 
 pub deliver-requires-clause-taken : goal.deliver-requires-clause-taken
 deliver-requires-clause-taken c = deliver_taken (laws c) c.self.inside.nodes.items c.self.inside.sessions.items c.args.number c.in-Some.session.now c.index.result.now (at c) (more c)

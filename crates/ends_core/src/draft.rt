@@ -1,0 +1,202 @@
+//! What an end keeps of the parts of a message that has not ended.
+
+ghost use Rattle.std.specs.Prelude.{◌≡◌, ◌≤◌, length, OnOk, OnErr, IfOk};
+ghost use Rattle.definitions.specs.Ends as ends;
+ghost use Rattle.definitions.specs.Messages as messages;
+ghost use Rattle.definitions.specs.Talks.{and_then};
+ghost use Rattle.definitions.specs.Taking.{grown};
+ghost use Rattle.definitions.specs.Wire.{max_parts};
+ghost use Rattle.ends_core.specs.Drafts.{drafted, nothing_drafted, reply_kept};
+ghost use Rattle.ends_core.specs.Held.{stage_of, taken_of, none_at};
+ghost use Rattle.ends_core.specs.Turns.{answer_of};
+ghost use Rattle.ends_core.specs.Closing.{IsDue, IsTaking, drafted_answer};
+
+use crate::learned::Learned;
+use crate::learning::learn_part;
+use crate::replying::reply_part;
+use crate::stage::Stage;
+use crate::turn::{EndFault, Turn};
+use item_core::Item;
+use place_core::Place;
+use std::alloc::{AllocError, Global};
+use std::marker::Model;
+use store_core::RangeStore;
+use strategy_core::Strategy;
+use wire_core::{MAX_PARTS, Message, Part, PartKind};
+
+/// What an end keeps of the parts of a message that has not ended, beside its place.
+#[derive(Debug, Drop)]
+pub(crate) struct Draft {
+    opens: bool,
+    // The reply has too many parts, and is kept no further.
+    overlong: bool,
+    reply: Vec<Part>,
+    learned: Learned,
+}
+
+impl Model for Draft {
+    ghost use Rattle.std.specs.Prelude.{◌≤◌, length};
+    ghost use Rattle.definitions.specs.Wire.{max_parts};
+    ghost use Rattle.ends_core.specs.Drafts.{Drafted, reply_kept};
+
+    ghost Value = { Drafted };
+
+    ghost view = { λ a. record { opens = a.opens; reply = reply_kept a.overlong a.reply.items; learned = a.learned } };
+
+    ghost invariant = { λ a. length a.reply.items ≤ max_parts };
+}
+
+/// Goes on with a reply, as long as it may be sent.
+fn grow_reply(
+    alloc: Global,
+    overlong: &mut bool,
+    reply: &mut Vec<Part>,
+    more: Vec<Part>,
+) -> Result<(), AllocError>
+    requires { length reply.old.items ≤ max_parts }
+    ensures ok { OnOk result (reply_kept overlong.new reply.new.items
+        ≡ grown (reply_kept overlong.old reply.old.items) more.items) }
+    ensures err { OnErr result ((overlong.new ≡ overlong.old) × (reply.new.items ≡ reply.old.items)) }
+    ensures few { length reply.new.items ≤ max_parts }
+{
+    let mut more = more;
+    if *overlong {
+        return Ok(());
+    }
+    if more.len() > MAX_PARTS - reply.len() {
+        *overlong = true;
+        *reply = Vec::new(alloc);
+        return Ok(());
+    }
+    reply.append(&mut more)
+}
+
+/// Adds what was learned and goes on with a reply; or nothing, where memory runs out.
+fn add_both(
+    alloc: Global,
+    learned: &mut Learned,
+    fresh: &Learned,
+    overlong: &mut bool,
+    reply: &mut Vec<Part>,
+    more: Vec<Part>,
+) -> Result<(), AllocError>
+    requires { length reply.old.items ≤ max_parts }
+    ensures learned { OnOk result (learned.new ≡ and_then learned.old fresh.now) }
+    ensures ok { OnOk result (reply_kept overlong.new reply.new.items
+        ≡ grown (reply_kept overlong.old reply.old.items) more.items) }
+    ensures err { OnErr result ((learned.new ≡ learned.old) × (overlong.new ≡ overlong.old)
+        × (reply.new.items ≡ reply.old.items)) }
+    ensures few { length reply.new.items ≤ max_parts }
+{
+    let ours = learned.ours().len();
+    let theirs = learned.theirs().len();
+    learned.append(fresh)?;
+    match grow_reply(alloc, overlong, reply, more) {
+        Ok(()) => Ok(()),
+        Err(AllocError) => {
+            learned.cut(ours, theirs);
+            Err(AllocError)
+        }
+    }
+}
+
+/// Whether the part wants a reply.
+fn is_open(part: &Part) -> bool
+    ensures { result ≡ messages.is_open part.now }
+{
+    part.kind() != PartKind::Answer
+}
+
+/// Whether another message follows one of these parts.
+fn has_open(parts: &[Part]) -> bool
+    ensures { result ≡ messages.has_open parts.now }
+{
+    parts.iter().any(|part| is_open(part))
+}
+
+/// Where the session stands behind an own message of these parts, of which the open ones are kept.
+fn stage_behind(alloc: Global, sent: &[Part]) -> Result<Stage, AllocError>
+    ensures { IfOk result (λ s. (stage_of s ≡ ends.stage_behind sent.now)
+        × (taken_of s nothing_drafted ≡ none_at (ends.stage_behind sent.now))) }
+{
+    if !has_open(sent) {
+        return Ok(Stage::Over);
+    }
+    Ok(Stage::Open(Place::after(alloc, sent)?))
+}
+
+impl Draft {
+    /// Of no part.
+    pub(crate) fn nothing(alloc: Global) -> Draft
+        ensures { result ≡ nothing_drafted }
+    {
+        Draft {
+            opens: false,
+            overlong: false,
+            reply: Vec::new(alloc),
+            learned: Learned::nothing(alloc),
+        }
+    }
+
+    /// Adds a part, which answers this list if it is an Answer. Unchanged where memory runs out.
+    pub(crate) fn add<S: RangeStore>(
+        &mut self,
+        alloc: Global,
+        strategy: &Strategy,
+        store: &S,
+        listed: &[Item],
+        part: &Part,
+    ) -> Result<(), AllocError>
+        requires { length (S.content store.now) ≤ strategy.now.cap }
+        ensures ok { OnOk result (self.new
+            ≡ drafted (record { table = strategy.now; items = S.content store.now }) self.old listed.now part.now) }
+        ensures err { OnErr result (self.new ≡ self.old) }
+    {
+        let fresh = learn_part(alloc, store, listed, part)?;
+        let more = reply_part(alloc, strategy, store, part)?;
+        add_both(
+            alloc,
+            &mut self.learned,
+            &fresh,
+            &mut self.overlong,
+            &mut self.reply,
+            more,
+        )?;
+        self.opens = self.opens || is_open(part);
+        Ok(())
+    }
+
+    /// What the parts tell.
+    pub(crate) fn learned(&self) -> &Learned
+        ensures { result.now ≡ self.now.learned }
+    {
+        &self.learned
+    }
+
+    /// Where the session stands behind the end of the message.
+    pub(crate) fn stage(&self, alloc: Global) -> Result<Stage, EndFault>
+        ensures { IsDue (drafted_answer self.now) result }
+    {
+        if !self.opens {
+            return Ok(Stage::Over);
+        }
+        if self.overlong {
+            return Err(EndFault::TooManyParts);
+        }
+        Ok(stage_behind(alloc, &self.reply)?)
+    }
+
+    /// What is answered at the end of the message.
+    pub(crate) fn into_turn(self) -> Turn
+        requires { IsTaking (drafted_answer self) }
+        ensures { answer_of result ≡ drafted_answer self }
+    {
+        if !self.opens {
+            return Turn::Over;
+        }
+        match Message::new(self.reply) {
+            Ok(reply) => Turn::Reply(reply),
+            Err(_) => unreachable!(),
+        }
+    }
+}

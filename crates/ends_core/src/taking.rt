@@ -1,0 +1,54 @@
+//! Taking one part of a message.
+
+ghost use Rattle.std.specs.Prelude.{◌≡◌, ◌≤◌, length, Err, OnOk, IfSome};
+ghost use Rattle.definitions.specs.Items.{Apart};
+ghost use Rattle.definitions.specs.Ends.{own_of};
+ghost use Rattle.definitions.specs.Fingerprints.{two_lanes};
+ghost use Rattle.definitions.specs.Messages.{open_ranges};
+ghost use Rattle.definitions.specs.Placing as placing;
+ghost use Rattle.definitions.specs.Talks.{nothing};
+ghost use Rattle.definitions.specs.Taking.{taken};
+ghost use Rattle.ends_core.specs.Drafts.{taken_at};
+ghost use Rattle.ends_core.specs.Held.{stage_at};
+ghost use Rattle.ends_core.specs.Turns.{told_in};
+
+use crate::draft::Draft;
+use crate::turn::EndFault;
+use place_core::Place;
+use std::alloc::{AllocError, Global};
+use store_core::RangeStore;
+use strategy_core::Strategy;
+use wire_core::Part;
+
+/// Places a part, and adds its reply and what it tells. Where memory runs out all is as before; where the part is refused
+/// the place keeps the refusal.
+pub(crate) fn take_part<S: RangeStore>(
+    alloc: Global,
+    strategy: &Strategy,
+    store: &S,
+    place: &mut Place,
+    draft: &mut Draft,
+    part: &Part,
+) -> Result<(), EndFault>
+    requires few { length (S.content store.now) ≤ strategy.now.cap }
+    requires apart { Apart (open_ranges (own_of (stage_at place.old))) }
+    ensures fault { IfSome (told_in result) (λ o. o ≡ placing.refusal (placing.next place.old.now part.now)) }
+    ensures ok { OnOk result (taken_at place.new draft.new ≡ taken two_lanes (record {
+      peer = record { table = strategy.now; items = S.content store.now };
+      stage = stage_at place.old;
+      sent = 0;
+      learned = nothing;
+    }) (taken_at place.old draft.old) part.now) }
+    ensures own { (place.new.first ≡ place.old.first) × (place.new.own ≡ place.old.own) }
+    ensures memory { result ≡ Err EndFault.Memory → (place.new ≡ place.old) × (draft.new ≡ draft.old) }
+{
+    let before = place.cursor();
+    place.next(part)?;
+    match draft.add(alloc, strategy, store, place.due(&before), part) {
+        Ok(()) => Ok(()),
+        Err(AllocError) => {
+            place.return_to(&before);
+            Err(EndFault::Memory)
+        }
+    }
+}

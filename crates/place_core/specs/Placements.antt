@@ -1,0 +1,32 @@
+-- A place: the open parts of the own message that is answered, and where the placing of the answer stands.
+--     Placement
+--     start_of p                  before the first part
+--     due own cursor              the items of the first List at or behind the cursor
+use Rattle.std.specs.Prelude.{Bool, List, [], ◌∷◌, drop, if◌then◌else◌}
+use Rattle.definitions.specs.Fingerprints.{Lanes}
+use Rattle.definitions.specs.Items.{Item}
+use Rattle.definitions.specs.Messages.{Sum, Listing, Answer, Message}
+use Rattle.definitions.specs.Placing.{Place, First, behind}
+use Rattle.place_core.specs.declared.cursor.Cursor.{Cursor}
+use Rattle.place_core.specs.declared.cursor.Cursor.TheVariants as cursors
+
+pub record Placement : Type 0 where
+  -- it is the first message of all, which answers none
+  pub first : Bool
+  pub own : Message Lanes
+  pub now : Place Lanes
+
+abbrev pub start_of : Placement → Place Lanes
+start_of p = if p.first then First else behind p.own
+
+-- the items of the first List
+abbrev pub first_list : {F : Type 0} → Message F → List Item
+first_list [] = []
+first_list (Sum X f ∷ ps) = first_list ps
+first_list (Listing X items ∷ ps) = items
+first_list (Answer X marks items ∷ ps) = first_list ps
+
+abbrev pub due : {F : Type 0} → Message F → Cursor → List Item
+due own cursors.First = []
+due own (cursors.Behind at inside) = first_list (drop at own)
+due own (cursors.Refused f) = []
