@@ -1,0 +1,6 @@
+# Bytes against differences that all lie at the end of the order.
+load "common.gnuplot"
+set title "65,536 items of 16 bytes, differences at the end of the order"
+load "bytes.gnuplot"
+plot for [column = 2:9] data."/bytes-end.data" \
+    using 1:column with linespoints linetype column - 1 title columnheader(column)
