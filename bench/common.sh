@@ -26,6 +26,17 @@ add_program() {
   echo "$name: $*" >> out/repo/crates.txt
 }
 
+# Adds a crate of this name over these crates to the copy, from the files of the folder NAME.
+add_program_of() {
+  local name=$1 file
+  shift
+  mkdir -p "out/repo/crates/$name/src"
+  for file in "$name"/*.rt.in; do
+    cp "$file" "out/repo/crates/$name/src/$(basename "$file" .in)"
+  done
+  echo "$name: $*" >> out/repo/crates.txt
+}
+
 # Proves and builds the program of this name, and runs it in bench/out; it prints its times.
 run_proved() {
   local name=$1
