@@ -2,7 +2,7 @@
 
 use crate::devices::{Failing, PieceReader, PieceWriter, Rule, Witness};
 use crate::engines::{Case, Engine, Ground, shown_over};
-use crate::frames::{ABC_TO_EMPTY, EMPTY_TO_ABC, joined};
+use crate::frames::{ABC_TO_EMPTY, EMPTY_TO_ABC, END, HELLO, SUM_OF_NOTHING, joined};
 use crate::tables::{BINARY_EIGHT, accepted};
 use session_table::SessionTable;
 use std::alloc::Global;
@@ -92,6 +92,8 @@ fn each_write_fails_in_turn(rt: HostRuntime) -> Result<(), Fail> {
 fn each_read_fails_in_turn(rt: HostRuntime) -> Result<(), Fail> {
     let alloc = rt.alloc();
     let all = joined(alloc, EMPTY_TO_ABC)?;
+    let first = joined(alloc, &[HELLO, SUM_OF_NOTHING, END])?;
+    assert_eq!(rt; first.len(), 48);
     for reads in 0..1_000u64 {
         let failures = Failures {
             reads,
@@ -106,7 +108,7 @@ fn each_read_fails_in_turn(rt: HostRuntime) -> Result<(), Fail> {
             return Ok(());
         }
         assert_eq!(rt; outcome.as_str(), "Io Read sent 1");
-        assert_eq!(rt; written.as_slice(), &all[..48]);
+        assert_eq!(rt; written, first);
     }
     panic!(rt; "each read failed");
 }

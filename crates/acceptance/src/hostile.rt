@@ -5,14 +5,16 @@ use crate::engines::{Case, Engine, Ground, comes_to, outcome_of, shown_call};
 use crate::frames::{
     ABC_TO_EMPTY, EMPTY_TO_ABC, END, HELLO, LIST_OF_ABC, SUM_OF_NOTHING, fault, joined,
 };
-use crate::letters::item;
+use crate::letters::{item, range};
 use crate::tables::{BINARY_EIGHT, accepted};
+use digest_core::Fingerprint;
 use session_table::SessionTable;
 use std::alloc::{AllocError, Global};
 use std::process::Abort;
 use std::sync::{Mutex, Wait};
 use std::test::Fail;
 use strategy_check::Accepted;
+use wire_core::{Part, encode_part};
 
 /// An Answer over everything without marks and items.
 const ANSWER_OF_NOTHING: &[u8] = &[0, 0, 0, 0x0B, 3, 0, 0xFF, 0, 0, 0, 0, 0, 0, 0, 0];
@@ -28,33 +30,25 @@ const NO_KIND: &[u8] = &[0, 0, 0, 1, 6];
 /// The message that a side without items writes first, behind its hello.
 const FIRST_OF_EMPTY: &[&[u8]] = &[HELLO, SUM_OF_NOTHING, END];
 
-/// The bytes of a bound: its length and itself; the end has none.
-fn push_upper(bytes: &mut Vec<u8>, upper: Option<&[u8]>) -> Result<(), AllocError> {
-    let Some(upper) = upper else {
-        return Ok(bytes.push(0xFF)?);
-    };
-    bytes.push(upper.len() as u8)?;
-    bytes.extend_from_slice(upper)
-}
-
-/// The frame of a Sum from this bound, where no bytes are the start, up to the other, with all lanes zero.
-fn push_sum(bytes: &mut Vec<u8>, lower: &[u8], upper: Option<&[u8]>) -> Result<(), AllocError> {
-    let upper_length = upper.map_or(0, |bound| bound.len());
-    let length = 35 + lower.len() + upper_length;
-    bytes.extend_from_slice(&(length as u32).to_be_bytes())?;
-    bytes.push(1)?;
-    bytes.push(lower.len() as u8)?;
-    bytes.extend_from_slice(lower)?;
-    push_upper(bytes, upper)?;
-    bytes.extend_from_slice(&[0u8; 32])
+/// Appends the frame of a Sum from this bound, where no bytes are the start, up to the other, where none are the end. All its
+/// lanes are zero.
+fn push_sum(
+    rt: &impl Abort,
+    alloc: Global,
+    bytes: &mut Vec<u8>,
+    lower: &[u8],
+    upper: &[u8],
+) -> Result<(), AllocError> {
+    let sum = Part::sum(range(rt, lower, upper), Fingerprint::from_bytes([0u8; 32]));
+    bytes.extend_from_slice(&encode_part(alloc, &sum)?)
 }
 
 /// A Sum before b, and one from c on.
-fn apart(alloc: Global) -> Result<(Vec<u8>, Vec<u8>), AllocError> {
+fn apart(rt: &impl Abort, alloc: Global) -> Result<(Vec<u8>, Vec<u8>), AllocError> {
     let mut before_b = Vec::new(alloc);
-    push_sum(&mut before_b, b"", Some(b"b"))?;
+    push_sum(rt, alloc, &mut before_b, b"", b"b")?;
     let mut from_c = Vec::new(alloc);
-    push_sum(&mut from_c, b"c", None)?;
+    push_sum(rt, alloc, &mut from_c, b"c", b"")?;
     Ok((before_b, from_c))
 }
 
@@ -110,7 +104,7 @@ fn an_answer_first(rt: HostRuntime) -> Result<(), Fail> {
 #[test]
 fn a_gap_at_the_end_of_the_message(rt: HostRuntime) -> Result<(), Fail> {
     let alloc = rt.alloc();
-    let (before_b, _) = apart(alloc)?;
+    let (before_b, _) = apart(&rt, alloc)?;
     refuses(&rt, alloc, &[HELLO, &before_b, END], 22)
 }
 
@@ -123,7 +117,7 @@ fn a_count_of_all_ones(rt: HostRuntime) -> Result<(), Fail> {
 #[test]
 fn a_gap_before_a_frame_of_no_kind(rt: HostRuntime) -> Result<(), Fail> {
     let alloc = rt.alloc();
-    let (before_b, from_c) = apart(alloc)?;
+    let (before_b, from_c) = apart(&rt, alloc)?;
     refuses(&rt, alloc, &[HELLO, &before_b, &from_c, NO_KIND], 22)?;
     refuses(&rt, alloc, &[HELLO, &before_b, NO_KIND], 4)
 }
@@ -145,20 +139,20 @@ fn three(number: u32) -> [u8; 3] {
 }
 
 /// A Sum before the number 1, one from each number to the next, and one from this number on.
-fn sums_up_to(alloc: Global, last: u32) -> Result<Vec<u8>, AllocError> {
+fn sums_up_to(rt: &impl Abort, alloc: Global, last: u32) -> Result<Vec<u8>, AllocError> {
     let mut bytes = Vec::new(alloc);
-    push_sum(&mut bytes, b"", Some(&three(1)))?;
+    push_sum(rt, alloc, &mut bytes, b"", &three(1))?;
     for number in 1..last {
-        push_sum(&mut bytes, &three(number), Some(&three(number + 1)))?;
+        push_sum(rt, alloc, &mut bytes, &three(number), &three(number + 1))?;
     }
-    push_sum(&mut bytes, &three(last), None)?;
+    push_sum(rt, alloc, &mut bytes, &three(last), b"")?;
     Ok(bytes)
 }
 
 #[test]
 fn more_sums_than_a_message_has(rt: HostRuntime) -> Result<(), Fail> {
     let alloc = rt.alloc();
-    let sums = sums_up_to(alloc, 131_072)?;
+    let sums = sums_up_to(&rt, alloc, 131_072)?;
     let input: &[&[u8]] = &[HELLO, &sums];
     dials(&rt, alloc, input, 65_536, "Refused 12 sent 1", &fault(12))
 }
@@ -211,6 +205,7 @@ fn cut_off<T: Wait + Abort>(
 ) -> Result<(), Fail> {
     let bytes = joined(alloc, EMPTY_TO_ABC)?;
     assert_eq!(rt; bytes.len(), 69);
+    assert!(rt; count <= bytes.len());
     let (outcome, written) = served(rt, alloc, accepted, sessions, &[&bytes[..count]])?;
     if count < 48 {
         assert_eq!(rt; outcome.as_str(), "Refused 3 sent 0");
