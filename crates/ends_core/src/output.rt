@@ -1,6 +1,6 @@
 //! Writing an output whole.
 
-ghost use Rattle.std.specs.Prelude.{◌≡◌, ℕ, false, take, OnOk, OnErr, IsTrue};
+ghost use Rattle.std.specs.Prelude.{◌≡◌, ◌<◌, ℕ, false, length, take, OnOk, OnErr, IsTrue};
 ghost use Rattle.std.specs.Io.KnownBytes.{Appends};
 
 use std::io::Write;
@@ -10,13 +10,13 @@ use wire_core::Watched;
 #[derive(Clone, Copy, Debug, PartialEq, Eq)]
 pub struct WriterFailed;
 
-/// Writes all of the bytes. Where the writer fails a beginning of them was written.
+/// Writes all of the bytes. Where the writer fails a beginning of them was written, and not all of them.
 pub fn write_output<W: Write>(writer: &mut Watched<W>, bytes: &[u8]) -> Result<(), WriterFailed>
     requires { writer.old.failed ≡ false }
     ensures whole { OnOk result (Appends (W.contents writer.old.inner) (W.contents writer.new.inner) bytes.now) }
     ensures fine { OnOk result (writer.new.failed ≡ false) }
-    ensures front { OnErr result ((n : ℕ) × Appends (W.contents writer.old.inner) (W.contents writer.new.inner)
-        (take n bytes.now)) }
+    ensures front { OnErr result ((n : ℕ) × (n < length bytes.now)
+        × Appends (W.contents writer.old.inner) (W.contents writer.new.inner) (take n bytes.now)) }
     ensures failed { OnErr result (IsTrue writer.new.failed) }
 {
     let mut written = 0;

@@ -2,8 +2,8 @@
 --
 -- Nothing was read, so what was written is nothing, the hello, or the hello and the first message, which is what no
 -- bytes call for.
-use Rattle.std.proofs.Common.{◌≡◌, ℕ, ◌≤◌, ◌+◌, ◌⊎◌, Bool, false, true, List, [], ◌∷◌, length, Option, inl, inr, refl}
-use Rattle.std.proofs.Common.{sym, ap, ◌∙◌, subst, append-nil, arith}
+use Rattle.std.proofs.Common.{◌≡◌, ℕ, ◌≤◌, ◌+◌, Bool, false, true, List, [], ◌∷◌, length, Option, inl, inr, refl}
+use Rattle.std.proofs.Common.{sym, ap, ◌∙◌, subst, append-nil, IsTrue, arith}
 use Rattle.std.specs.Prelude.{⊤}
 use Rattle.std.proofs.KnownBytes.{Appends-nil, Consumes-nil}
 use Rattle.std.specs.Io.KnownBytes.{Appends}
@@ -23,17 +23,19 @@ use Rattle.ends_core.specs.Turns.{fresh}
 use Rattle.version_lock.specs.declared.view.View.{View}
 use Rattle.version_lock.specs.Calls.{PinState, IsPinOf, Looked}
 use Rattle.peer_threads.specs.declared.outcome.Outcome.{Outcome}
-use Rattle.peer_threads.specs.declared.outcome.Side.{Side}
+use Rattle.peer_threads.specs.declared.outcome.Side.TheVariants as sides
 use Rattle.peer_threads.specs.declared.stop.Stop.{Stop}
 use Rattle.peer_threads.specs.declared.stop.Stop.TheVariants as stops
 use Rattle.peer_threads.specs.Outcomes.{Traffic, traffic, IsModest, Speaks, peer_of, peer_at}
 use Rattle.peer_threads.specs.Inboxes.{InboxState, HasRead}
-use Rattle.peer_threads.specs.Outboxes.{OutboxState, outbox_state, hello_due, HasWritten, Adds}
+use Rattle.peer_threads.specs.Outboxes.{OutboxState, outbox_state, hello_due, HasWritten, Adds, BreaksIn}
 use Rattle.peer_threads.specs.Stops.{outcome_of}
-use Rattle.peer_threads.specs.Underway.{heard_as, Underway, SomeOf, Unsaid, WroteFirst, WhyStopped, Stopped, Leaves}
+use Rattle.peer_threads.specs.Underway.{heard_as, Underway, SomeOf, Unsaid, WroteFirst, HasBroken, WhyStopped, Stopped}
+use Rattle.peer_threads.specs.Underway.{Leaves}
 use Rattle.peer_threads.specs.Underway.{Spoke}
+use Rattle.peer_threads.proofs.Breaks.{breaks-in-hello, breaks-in-message}
 use Rattle.peer_threads.proofs.Exchanges.{adds, adds-nothing, wrote-first}
-use Rattle.peer_threads.proofs.Endings.{stopped-speaks, speaks, of-pin}
+use Rattle.peer_threads.proofs.Endings.{stopped-speaks, of-pin}
 
 -- the hello was written, and nothing else
 pub greets : (o p : OutboxState) (held holds : Option (List ℕ)) → o ≡ outbox_state false 0 →
@@ -64,30 +66,37 @@ begun-first p h steps b o q r unread held holds more first is opens came new who
 
 -- memory ran out before anything was written
 pub stops-silent : (T : ℕ → Type 0) (s : Speaker Lanes) (o : OutboxState) (unread held : Option (List ℕ))
-    (over : Bool) →
-    o ≡ outbox_state false 0 → Stopped T s o (traffic unread unread held held) over stops.Memory
-stops-silent T s o unread held over new = record {
+    (r : Seen) (broken : Bool) →
+    o ≡ outbox_state false 0 → Stopped T s o (traffic unread unread held held) r broken stops.Memory
+stops-silent T s o unread held r broken new = record {
   bytes = [];
   are_bytes = tt;
   read = Consumes-nil unread;
   why = inr (record { greeted = ap (λ x. x.greeted) new; none = ap (λ x. x.sent) new; written = Appends-nil held });
 }
 
--- the reader or the writer failed
-pub stops-broken : (T : ℕ → Type 0) (s : Speaker Lanes) (o : OutboxState) (unread held holds : Option (List ℕ))
-    (over : Bool) (side : Side) →
-    Stopped T s o (traffic unread unread held holds) over (stops.Io side)
-stops-broken T s o unread held holds over side =
-    record { bytes = []; are_bytes = tt; read = Consumes-nil unread; why = tt }
+-- the writer failed before the hello was written
+pub stops-broken : (T : ℕ → Type 0) (s : Speaker Lanes) (o p : OutboxState) (unread held holds : Option (List ℕ))
+    (r : Seen) (broken : Bool) →
+    o ≡ outbox_state false 0 → p ≡ o → IsTrue broken → BreaksIn held holds (hello_due o) →
+    Stopped T s p (traffic unread unread held holds) r broken (stops.Io sides.Write)
+stops-broken T s o p unread held holds r broken new same failed front = record {
+  bytes = [];
+  are_bytes = tt;
+  read = Consumes-nil unread;
+  why =
+      let part = subst (λ x. BreaksIn held holds (hello_due x)) new front in
+      (breaks-in-hello s p (traffic unread unread held holds) [] (ap (λ x. x.sent) (same ∙ new)) part, failed);
+}
 
 -- the first message was not said
-pub stops-first : (p : Peer) (o q r : OutboxState) (unread held holds more : Option (List ℕ)) (over : Bool)
-    (first : Message Lanes) (stop : Stop) →
+pub stops-first : (p : Peer) (o q r : OutboxState) (unread held holds more : Option (List ℕ)) (input : Seen)
+    (broken : Bool) (first : Message Lanes) (stop : Stop) →
     first ≡ opening two_lanes p.items →
     o ≡ outbox_state false 0 → Appends held holds (hello_due o) → q ≡ outbox_state true o.sent →
-    Unsaid q r holds more (first ∷ []) stop →
-    Stopped IsOfTheTable (initiating two_lanes p) r (traffic unread unread held more) over stop
-stops-first p o q r unread held holds more over first stop opens new whole greeted unsaid =
+    Unsaid q r holds more broken (first ∷ []) stop →
+    Stopped IsOfTheTable (initiating two_lanes p) r (traffic unread unread held more) input broken stop
+stops-first p o q r unread held holds more input broken first stop opens new whole greeted unsaid =
     record { bytes = []; are_bytes = tt; read = Consumes-nil unread; why = by stop unsaid } where
       t : Traffic
       t = traffic unread unread held more
@@ -106,18 +115,24 @@ stops-first p o q r unread held holds more over first stop opens new whole greet
           (subst (λ (M : Message Lanes). HasWritten r held more (M ∷ [])) opens
           (adds q r held holds more [] (first ∷ []) hello added))
 
-      by : (stop : Stop) → Unsaid q r holds more (first ∷ []) stop →
-          WhyStopped IsOfTheTable (initiating two_lanes p) r t over [] stop
+      by : (stop : Stop) → Unsaid q r holds more broken (first ∷ []) stop →
+          WhyStopped IsOfTheTable (initiating two_lanes p) r t input broken [] stop
       by (stops.Refused code) (table, added) = (inl (some added), inr table)
       by (stops.PeerRefused code) r = absurd r
       by stops.Memory added = inl (none added)
-      by (stops.Io side) r = tt
+      by (stops.Io side) (write, failed, part) =
+          let s = initiating two_lanes p in
+          let calls = sym (ap (λ (M : Message Lanes). M ∷ []) opens) ∙ part.one in (
+            breaks-in-message s q r t holds [] [] [] part.message calls hello part.same part.front,
+            subst (HasBroken input broken []) (sym write) failed,
+          )
 
 -- the table of sessions refused before anything was written
-pub stops-unbooked : (s : Speaker Lanes) (o : OutboxState) (unread held : Option (List ℕ)) (over : Bool) (code : ℕ) →
+pub stops-unbooked : (s : Speaker Lanes) (o : OutboxState) (unread held : Option (List ℕ)) (input : Seen)
+    (broken : Bool) (code : ℕ) →
     o ≡ outbox_state false 0 → IsOfTheTable code →
-    Stopped IsOfTheTable s o (traffic unread unread held held) over (stops.Refused code)
-stops-unbooked s o unread held over code new table = record {
+    Stopped IsOfTheTable s o (traffic unread unread held held) input broken (stops.Refused code)
+stops-unbooked s o unread held input broken code new table = record {
   bytes = [];
   are_bytes = tt;
   read = Consumes-nil unread;
@@ -141,14 +156,15 @@ opens-with own items first is same = is ∙ ap (λ l. opening two_lanes l) same
 
 -- a session that stopped before anything was written: by memory, or by the table of sessions
 pub speaks-unsaid : (s : Speaker Lanes) (version bound : ℕ) (x : OutboxState) (unread held holds : Option (List ℕ))
-    (r w : Seen) (stop : Stop) (o : Outcome) →
+    (r w : Seen) (broken : Bool) (stop : Stop) (o : Outcome) →
     x ≡ outbox_state false 0 →
-    Stopped IsOfTheTable s x (traffic unread unread held held) r.ended stop → Leaves x held holds w.failed stop →
+    Stopped IsOfTheTable s x (traffic unread unread held held) r broken stop →
+    Leaves x held holds broken w.failed stop →
     o ≡ outcome_of x.sent stop → Spoke s version bound (traffic unread unread held holds) r w o
-speaks-unsaid s version bound x unread held holds r w stop o new stopped leaves is =
+speaks-unsaid s version bound x unread held holds r w broken stop o new stopped leaves is =
     let few : x.sent ≤ bound = omega (arith, ap (λ y. y.sent) new) in
     subst (λ y. Spoke s version bound (traffic unread unread held holds) r w y) (sym is)
-    (stopped-speaks s version bound x (traffic unread unread held held) holds r w stop stopped leaves few)
+    (stopped-speaks s version bound x (traffic unread unread held held) holds r w broken stop stopped leaves few)
 
 -- what the side that speaks first keeps to
 abbrev pub FirstIsModest : Checked → Type 0
@@ -163,7 +179,8 @@ pub dials : (a b : Checked) (w : View) (pin : PinState) (t : Traffic) (r x : See
     Speaks ⊤ (initiating two_lanes (peer_at a w)) (length w.base)
     (rank_by a.steps (length (peer_at a w).items) + 2) a.table.limit t r x o
 dials a b w pin t r x o is same fits spoke modest =
-    of-pin ⊤ (λ p. initiating two_lanes p) 2 a b w pin t r x o is same spoke (λ bytes are known. modest w.base bytes are fits)
+    of-pin ⊤ (λ p. initiating two_lanes p) 2 a b w pin t r x o is same spoke
+    (λ bytes are known. modest w.base bytes are fits)
 
 -- what a pin found fits the table
 pub found-fits : (v w : View) (cap : ℕ) → Looked v w → v.cap ≤ cap → length (content w.base) ≤ cap

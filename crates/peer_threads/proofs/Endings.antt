@@ -2,13 +2,13 @@
 --
 -- Behind the messages that were written stands the fault frame of the own refusal, or a beginning of it where the
 -- writer failed. Where nothing was written before, the hello stands in front of it.
-use Rattle.std.proofs.Common.{◌≡◌, ℕ, ◌≤◌, ◌<◌, ◌+◌, ◌⊎◌, Bool, true, false, List, [], ◌++◌, length, take, drop, Option}
+use Rattle.std.proofs.Common.{◌≡◌, ℕ, ◌≤◌, ◌+◌, ◌⊎◌, Bool, false, List, [], ◌++◌, length, take, drop, Option}
 use Rattle.std.proofs.Common.{Result, Ok, Err, OnOk, OnErr, inl, inr, refl, sym, ap, ◌∙◌, subst, append_assoc}
 use Rattle.std.proofs.Common.{append-nil, take-append-drop, IsTrue, arith}
 use Rattle.std.specs.Prelude.{if◌then◌else◌}
-use Rattle.std.proofs.KnownBytes.{Appends-trans, Appends-kept, Appends-nil}
-use Rattle.std.specs.Io.KnownBytes.{Appends, Consumes, Keeps}
-use Rattle.definitions.specs.Accounts.{Seen, WroteFault, IsFirstFault, IsTooLong, IsOfTheTable}
+use Rattle.std.proofs.KnownBytes.{Appends-trans, Appends-kept}
+use Rattle.std.specs.Io.KnownBytes.{Appends, Keeps}
+use Rattle.definitions.specs.Accounts.{Seen, HasFailed, WroteFault, IsFirstFault, IsTooLong, IsOfTheTable}
 use Rattle.definitions.specs.Ends.{End, is_over}
 use Rattle.definitions.specs.Items.{Item, IsBytes}
 use Rattle.definitions.specs.Histories.{content}
@@ -23,13 +23,16 @@ use Rattle.version_lock.specs.declared.view.View.{View}
 use Rattle.version_lock.specs.Calls.{PinState, IsPinOf}
 use Rattle.peer_threads.specs.declared.outcome.Outcome.{Outcome}
 use Rattle.peer_threads.specs.declared.outcome.Outcome.TheVariants as outcomes
+use Rattle.peer_threads.specs.declared.outcome.Side.{Side}
+use Rattle.peer_threads.specs.declared.outcome.Side.TheVariants as sides
 use Rattle.peer_threads.specs.declared.stop.Stop.{Stop}
 use Rattle.peer_threads.specs.declared.stop.Stop.TheVariants as stops
 use Rattle.peer_threads.specs.Outcomes.{Traffic, traffic, SaidAll, Bears, IsModest, Speaks, SpeaksUnopened}
-use Rattle.peer_threads.specs.Outcomes.{BearsUnopened, call_of, called_by, sent_in, peer_of, peer_at}
-use Rattle.peer_threads.specs.Outboxes.{OutboxState, refusal_text, hello_due, Begins, WroteSo}
+use Rattle.peer_threads.specs.Outcomes.{BearsUnopened, call_of, called_by, failing, sent_in, peer_of, peer_at}
+use Rattle.peer_threads.specs.Outboxes.{OutboxState, refusal_text, Begins, WroteSo}
 use Rattle.peer_threads.specs.Stops.{outcome_of}
-use Rattle.peer_threads.specs.Underway.{WroteFirst, WroteNone, WroteUpTo, IsLong, IsFirst, IsTold, IsNone, WhyStopped}
+use Rattle.peer_threads.specs.Underway.{WroteFirst, WroteUpTo, IsLong, IsFirst, IsNone, HasBroken}
+use Rattle.peer_threads.specs.Underway.{WhyStopped}
 use Rattle.peer_threads.specs.Underway.{Stopped, Finished, Leaves, Spoke}
 
 -- all of it, or a beginning
@@ -145,30 +148,38 @@ said-kept s t holds bytes sent kept said =
     record { written = Appends-kept t.held t.holds holds _ said.written kept; count = said.count }
 
 pub bears : (s : Speaker Lanes) (version : ℕ) (o : OutboxState) (t : Traffic) (holds : Option (List ℕ)) (r w : Seen)
-    (bytes : List ℕ) (stop : Stop) →
-    WhyStopped IsOfTheTable s o t r.ended bytes stop → Leaves o t.holds holds w.failed stop →
+    (broken : Bool) (bytes : List ℕ) (stop : Stop) →
+    WhyStopped IsOfTheTable s o t r broken bytes stop → Leaves o t.holds holds broken w.failed stop →
     Bears s version (traffic t.unread t.left t.held holds) r w bytes (outcome_of o.sent stop)
-bears s version o t holds r w bytes (stops.Refused code) x leaves =
+bears s version o t holds r w broken bytes (stops.Refused code) x leaves =
     let f = frame-behind s version o t holds bytes r w code x.0 leaves in
-    (f.written, f.wrote, record { wrote = f.account; why = why IsOfTheTable s version bytes f.written r w o.sent code x.1 })
-bears s version o t holds r w bytes (stops.PeerRefused code) x leaves =
+    let reason = why IsOfTheTable s version bytes f.written r w o.sent code x.1 in
+    (f.written, f.wrote, record { wrote = f.account; why = reason })
+bears s version o t holds r w broken bytes (stops.PeerRefused code) x leaves =
     (said-kept s t holds bytes o.sent leaves x.said, x.frame, x.told)
-bears s version o t holds r w bytes stops.Memory x leaves =
+bears s version o t holds r w broken bytes stops.Memory x leaves =
     let f = frame-behind s version o t holds bytes r w no_memory x leaves in
     (f.written, f.wrote, record { wrote = f.account })
-bears s version o t holds r w bytes (stops.Io side) x leaves = tt
+bears s version o t holds r w broken bytes (stops.Io side) (breaks, failed) leaves = (
+  breaks.all,
+  Appends-kept t.held t.holds holds breaks.all breaks.written leaves.0,
+  record { wrote = breaks.broke version r w; failed = by side failed },
+) where
+  by : (side : Side) → HasBroken r broken bytes side → HasFailed (call_of s version bytes breaks.all r w) (failing side)
+  by sides.Read failed = failed
+  by sides.Write failed = subst (λ b. IsTrue b) (sym leaves.1) failed
 
 -- a session that stopped
 pub stopped-speaks : (s : Speaker Lanes) (version bound : ℕ) (o : OutboxState) (t : Traffic) (holds : Option (List ℕ))
-    (r w : Seen) (stop : Stop) →
-    Stopped IsOfTheTable s o t r.ended stop →
-    Leaves o t.holds holds w.failed stop → o.sent ≤ bound →
+    (r w : Seen) (broken : Bool) (stop : Stop) →
+    Stopped IsOfTheTable s o t r broken stop →
+    Leaves o t.holds holds broken w.failed stop → o.sent ≤ bound →
     Spoke s version bound (traffic t.unread t.left t.held holds) r w (outcome_of o.sent stop)
-stopped-speaks s version bound o t holds r w stop x leaves few = record {
+stopped-speaks s version bound o t holds r w broken stop x leaves few = record {
   bytes = x.bytes;
   are_bytes = x.are_bytes;
   read = x.read;
-  bears = bears s version o t holds r w x.bytes stop x.why leaves;
+  bears = bears s version o t holds r w broken x.bytes stop x.why leaves;
   few = by stop;
 } where
   by : (stop : Stop) → sent_in (outcome_of o.sent stop) ≤ bound
@@ -197,18 +208,18 @@ finished-speaks s e version bound o t r w f few = record {
 
 -- ---- before a history is looked at
 
-anyhow : (s : Speaker Lanes) (o : OutboxState) (t : Traffic) (over : Bool) (bytes : List ℕ) (stop : Stop) →
-    WhyStopped IsNone s o t over bytes stop → WhyStopped IsOfTheTable s o t over bytes stop
-anyhow s o t over bytes (stops.Refused code) (wrote, inl first) = (wrote, inl first)
-anyhow s o t over bytes (stops.Refused code) (wrote, inr none) = absurd none
-anyhow s o t over bytes (stops.PeerRefused code) x = x
-anyhow s o t over bytes stops.Memory x = x
-anyhow s o t over bytes (stops.Io side) x = tt
+anyhow : (s : Speaker Lanes) (o : OutboxState) (t : Traffic) (r : Seen) (broken : Bool) (bytes : List ℕ) (stop : Stop) →
+    WhyStopped IsNone s o t r broken bytes stop → WhyStopped IsOfTheTable s o t r broken bytes stop
+anyhow s o t r broken bytes (stops.Refused code) (wrote, inl first) = (wrote, inl first)
+anyhow s o t r broken bytes (stops.Refused code) (wrote, inr none) = absurd none
+anyhow s o t r broken bytes (stops.PeerRefused code) x = x
+anyhow s o t r broken bytes stops.Memory x = x
+anyhow s o t r broken bytes (stops.Io side) x = x
 
-pub stopped-anyhow : (s : Speaker Lanes) (o : OutboxState) (t : Traffic) (over : Bool) (stop : Stop) →
-    Stopped IsNone s o t over stop → Stopped IsOfTheTable s o t over stop
-stopped-anyhow s o t over stop x =
-    record { bytes = x.bytes; are_bytes = x.are_bytes; read = x.read; why = anyhow s o t over x.bytes stop x.why }
+pub stopped-anyhow : (s : Speaker Lanes) (o : OutboxState) (t : Traffic) (r : Seen) (broken : Bool) (stop : Stop) →
+    Stopped IsNone s o t r broken stop → Stopped IsOfTheTable s o t r broken stop
+stopped-anyhow s o t r broken stop x =
+    record { bytes = x.bytes; are_bytes = x.are_bytes; read = x.read; why = anyhow s o t r broken x.bytes stop x.why }
 
 only-first : (s : Speaker Lanes) (version : ℕ) (bytes written : List ℕ) (r w : Seen) (k code : ℕ) →
     IsFirst s r.ended bytes k code ⊎ IsNone code →
@@ -220,24 +231,24 @@ only-first s version bytes written r w k code x = by (why IsNone s version bytes
   by (inr none) = absurd none
 
 pub stopped-unopened : (s : Speaker Lanes) (version : ℕ) (o : OutboxState) (t : Traffic) (holds : Option (List ℕ))
-    (r w : Seen) (stop : Stop) →
-    Stopped IsNone s o t r.ended stop →
-    Leaves o t.holds holds w.failed stop →
+    (r w : Seen) (broken : Bool) (stop : Stop) →
+    Stopped IsNone s o t r broken stop →
+    Leaves o t.holds holds broken w.failed stop →
     SpeaksUnopened s version (traffic t.unread t.left t.held holds) r w (outcome_of o.sent stop)
-stopped-unopened s version o t holds r w stop x leaves =
+stopped-unopened s version o t holds r w broken stop x leaves =
     record { bytes = x.bytes; read = x.read; bears = by stop x.why leaves } where
-      by : (stop : Stop) → WhyStopped IsNone s o t r.ended x.bytes stop → Leaves o t.holds holds w.failed stop →
+      by : (stop : Stop) → WhyStopped IsNone s o t r broken x.bytes stop → Leaves o t.holds holds broken w.failed stop →
           BearsUnopened s version (traffic t.unread t.left t.held holds) r w x.bytes (outcome_of o.sent stop)
       by (stops.Refused code) y l =
           let f = frame-behind s version o t holds x.bytes r w code y.0 l in
           let first = only-first s version x.bytes f.written r w o.sent code y.1 in
           (f.written, f.wrote, record { wrote = f.account; why = inl first }, first)
       by (stops.PeerRefused code) y l =
-          bears s version o t holds r w x.bytes (stops.PeerRefused code)
-          (anyhow s o t r.ended x.bytes (stops.PeerRefused code) y) l
-      by stops.Memory y l = bears s version o t holds r w x.bytes stops.Memory
-          (anyhow s o t r.ended x.bytes stops.Memory y) l
-      by (stops.Io side) y l = tt
+          bears s version o t holds r w broken x.bytes (stops.PeerRefused code)
+          (anyhow s o t r broken x.bytes (stops.PeerRefused code) y) l
+      by stops.Memory y l = bears s version o t holds r w broken x.bytes stops.Memory
+          (anyhow s o t r broken x.bytes stops.Memory y) l
+      by (stops.Io side) y l = bears s version o t holds r w broken x.bytes (stops.Io side) y l
 
 -- ---- all that an outcome says
 

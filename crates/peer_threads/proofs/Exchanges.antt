@@ -3,42 +3,45 @@
 -- The events handed out are the first of all events in the bytes read. What was said to them begins all that the bytes
 -- call for, so the messages written are the first of those. Where an event stops the hearing, or the stream does, or
 -- its end, the laws say that nothing more is said and what the first fault is.
-use Rattle.std.proofs.Common.{◌≡◌, ℕ, zero, suc, ◌+◌, ◌<◌, ◌≤◌, ◌⊎◌, Bool, true, false, List, [], ◌∷◌, ◌++◌, length}
+use Rattle.std.proofs.Common.{◌≡◌, ℕ, ◌+◌, ◌<◌, ◌≤◌, ◌^◌, ◌⊎◌, Bool, true, false, List, [], ◌∷◌, ◌++◌}
+use Rattle.std.proofs.Common.{length}
 use Rattle.std.proofs.Common.{flat_map, take, Option, Some, None, inl, inr, refl, sym, ap, ◌∙◌, subst, append_assoc}
-use Rattle.std.proofs.Common.{append-nil, IsTrue, IsFalse, arith}
+use Rattle.std.proofs.Common.{append-nil, IsTrue, arith}
 use Rattle.std.specs.Prelude.{fold, slice_get, if◌then◌else◌}
 use Rattle.std.proofs.lemmas.List.{length-append}
 use Rattle.std.proofs.lemmas.Grind.{flat_map-append}
 use Rattle.std.proofs.Math.Seq.{take-append_seam, take-length}
-use Rattle.std.proofs.KnownBytes.{Appends-trans, Appends-nil, Consumes-trans, Consumes-nil}
+use Rattle.std.proofs.KnownBytes.{Appends-trans, Consumes-nil, Consumes-trans}
 use Rattle.std.specs.Io.KnownBytes.{Appends, Consumes}
 use Rattle.definitions.proofs.Lemmas.{All-append, fold-append}
 use Rattle.definitions.specs.Fingerprints.{Lanes, two_lanes}
 use Rattle.definitions.specs.Items.{IsBytes}
 use Rattle.definitions.specs.Messages.{Message}
-use Rattle.definitions.specs.Refusals.{truncated, too_many_parts}
+use Rattle.definitions.specs.Refusals.{truncated}
 use Rattle.definitions.specs.Wire.{two_lane_profile, message_text, session_text, Event, Came, Ended, Failed}
 use Rattle.definitions.specs.Streams.{Standing, Before_hello, In_message, Meaning_over, Faulted, feed, messages_of}
 use Rattle.definitions.specs.Ends as answered
 use Rattle.definitions.specs.Ends.{End, Answer, Replies, Ends, is_live, is_over, is_sendable}
-use Rattle.definitions.specs.Engines.{Speaker, says, session, own, answers, replied, messages_in, fault_of, fault_frame}
+use Rattle.definitions.specs.Engines.{Speaker, says, session, own, answers, replied, messages_in, fault_of}
 use Rattle.definitions.specs.Taking.{Taken, ended, nothing_taken, after_ended}
-use Rattle.definitions.specs.Hearing.{Hearing, Goes_on, Over_at, Peer_refused, Refused_for, goes_unless, stands_at}
-use Rattle.definitions.specs.Hearing.{ended_by, hear_now, hear, begins, hears, stopped_by, stop_at, with_end}
+use Rattle.definitions.specs.Hearing.{Hearing, Goes_on, Over_at, Peer_refused, Refused_for, stands_at}
+use Rattle.definitions.specs.Hearing.{ended_by, hear_now, hear, begins, hears, stop_at, with_end}
 use Rattle.definitions.specs.Hearing.{hearing_to}
-use Rattle.definitions.specs.Accounts.{IsOfTheTable}
+use Rattle.definitions.specs.Accounts.{Seen, IsOfTheTable}
 use Rattle.laws.specs.Hearing.{has_stopped, SaysOn, FramesSay, OwnBegins, SaidBut, AgreesBy, BytesAgree}
 use Rattle.wire_core.specs.Feeds.{fault_at}
 use Rattle.ends_core.specs.Held.{Held}
 use Rattle.peer_threads.specs.declared.stop.Stop.{Stop}
 use Rattle.peer_threads.specs.declared.stop.Stop.TheVariants as stops
-use Rattle.peer_threads.specs.declared.outcome.Side.{Side}
+use Rattle.peer_threads.specs.declared.outcome.Side.TheVariants as sides
 use Rattle.peer_threads.specs.Outcomes.{Traffic, traffic, SaidAll, said_to, called_by}
-use Rattle.peer_threads.specs.Inboxes.{InboxState, HasRead, IsFaulty, StopsAt}
+use Rattle.peer_threads.specs.Inboxes.{InboxState, HasRead, IsFaulty, StopsAt, ReadOn}
 use Rattle.peer_threads.specs.Outboxes.{OutboxState, HasWritten, Adds}
 use Rattle.peer_threads.specs.Underway.{heard_as, said_by, Underway, SomeOf, Unsaid, Refuses, StopsBy, WroteFirst}
-use Rattle.peer_threads.specs.Underway.{WroteUpTo, IsLong, IsFirst, IsTold, WhyStopped, Stopped, Finished}
+use Rattle.peer_threads.specs.Underway.{WroteUpTo, IsLong, IsFirst, BreaksOff, HasBroken, WhyStopped}
+use Rattle.peer_threads.specs.Underway.{Stopped, Finished}
 use Rattle.peer_threads.proofs.Hearings.{heard-goes, heard-over}
+use Rattle.peer_threads.proofs.Breaks.{breaks-behind, breaks-in-message}
 
 -- the laws that are cited, in one place
 pub record Laws : Type 0 where
@@ -60,6 +63,13 @@ Behind bytes es = (more : List (Event Lanes)) × (events_in bytes ≡ es ++ more
 
 pub all-events : (b : InboxState) (bytes : List ℕ) (es : List (Event Lanes)) → HasRead b bytes es → Behind bytes es
 all-events b bytes es has = (has.more, has.events)
+
+pub on-nothing : (unread : Option (List ℕ)) → ReadOn unread unread
+on-nothing unread = ([], tt, Consumes-nil unread)
+
+pub on-further : (unread mid left : Option (List ℕ)) → ReadOn unread mid → ReadOn mid left → ReadOn unread left
+on-further unread mid left a b =
+    (a.0 ++ b.0, All-append (λ y. y < 256) a.0 b.0 a.1 b.1, Consumes-trans unread mid left a.0 b.0 a.2 b.2)
 
 -- ---- what is said
 
@@ -185,7 +195,8 @@ pub said-all : (s : Speaker Lanes) (o : OutboxState) (t : Traffic) (bytes : List
 said-all s o t bytes said is w = record {
   written =
       subst (λ (l : List (Message Lanes)). Appends t.held t.holds (session_text two_lane_profile l))
-      (sym (ap (λ n. take n (said_to s bytes)) w.count ∙ ap (λ l. take (length said) l) is ∙ take-length said)) w.written;
+      (sym (ap (λ n. take n (said_to s bytes)) w.count ∙ ap (λ l. take (length said) l) is ∙ take-length said))
+      w.written;
   count = ap (λ (l : List (Message Lanes)). length l) is ∙ sym w.count;
 }
 
@@ -277,6 +288,17 @@ goes-on laws s h g c o p t holds e live x came now added = record {
   heard = fold-append (hear two_lanes) (begins s) x.es (e ∷ []) ∙ ap (λ y. hear two_lanes y e) x.heard ∙ sym now;
 }
 
+-- so it does behind so many events, and then one more was handed out
+pub goes-on-behind : Laws → (s : Speaker Lanes) (h g : Held) (c : InboxState) (o p : OutboxState) (t : Traffic)
+    (holds : Option (List ℕ)) (e : Event Lanes) → is_live s.start.stage ≡ true →
+    (x : At s h o t e) → HasRead c x.bytes (x.es ++ e ∷ []) → heard_as g ≡ hear_now two_lanes h.end h.taken e →
+    Adds o p t.holds holds (said_by h e) → (n : ℕ) → n ≤ length x.es →
+    (u : Underway s g c p (traffic t.unread t.left t.held holds)) × (n + 1 ≤ length u.events)
+unfolding goes-on
+goes-on-behind laws s h g c o p t holds e live x came now added n few =
+    let more : n + 1 ≤ length (x.es ++ e ∷ []) = omega (arith, length-append x.es (e ∷ [])) in
+    (goes-on laws s h g c o p t holds e live x came now added, more)
+
 -- an event that is refused says nothing
 refused-says : (h : Held) (e : Event Lanes) (code : ℕ) → hear_now two_lanes h.end h.taken e ≡ Refused_for code →
     said_by h e ≡ []
@@ -328,11 +350,11 @@ nothing-more laws s h o t e live x stopped none =
 
 -- the event itself stops the session
 pub stops-refusing : (T : ℕ → Type 0) → Laws →
-    (s : Speaker Lanes) (h : Held) (o p : OutboxState) (t : Traffic) (holds : Option (List ℕ)) (over : Bool)
-    (e : Event Lanes) (stop : Stop) →
+    (s : Speaker Lanes) (h : Held) (o p : OutboxState) (t : Traffic) (holds : Option (List ℕ)) (r : Seen)
+    (broken : Bool) (e : Event Lanes) (stop : Stop) →
     is_live s.start.stage ≡ true → At s h o t e → Refuses h e stop → Adds o p t.holds holds [] →
-    Stopped T s p (traffic t.unread t.left t.held holds) over stop
-stops-refusing T laws s h o p t holds over e stop live x refuses added =
+    Stopped T s p (traffic t.unread t.left t.held holds) r broken stop
+stops-refusing T laws s h o p t holds r broken e stop live x refuses added =
     record { bytes = x.bytes; are_bytes = x.are_bytes; read = x.read; why = by stop refuses } where
       u2 : Traffic
       u2 = traffic t.unread t.left t.held holds
@@ -340,13 +362,13 @@ stops-refusing T laws s h o p t holds over e stop live x refuses added =
       still : HasWritten p t.held holds (so_far s x.es)
       still = adds-nothing o p t.held t.holds holds (so_far s x.es) x.written added
 
-      by : (stop : Stop) → Refuses h e stop → WhyStopped T s p u2 over x.bytes stop
+      by : (stop : Stop) → Refuses h e stop → WhyStopped T s p u2 r broken x.bytes stop
       by (stops.Refused code) is =
           let heard = heard-next s h o t e x ∙ is in
           let said = nothing-more laws s h o t e live x (ap has_stopped is) (refused-says h e code is) in (
             inl (first-kept laws s h o p t holds e x added),
-            inl (first-at laws s over x.bytes (so_far s x.es) p.sent code live
-                (hearing-stopped s over x.bytes (x.es ++ e ∷ []) x.rest
+            inl (first-at laws s r.ended x.bytes (so_far s x.es) p.sent code live
+                (hearing-stopped s r.ended x.bytes (x.es ++ e ∷ []) x.rest
                 (Refused_for code) x.all heard refl) said still.count),
           )
       by (stops.PeerRefused code) is =
@@ -357,7 +379,7 @@ stops-refusing T laws s h o p t holds over e stop live x refuses added =
           record {
             said = said-all s p u2 x.bytes (so_far s x.es) said still;
             frame = ap (λ l. fault_of l) frames ∙ first-frame (begins s) x.es x.rest h.end h.taken code x.heard;
-            told = hearing-stopped s over x.bytes (x.es ++ e ∷ []) x.rest (Peer_refused code) x.all
+            told = hearing-stopped s r.ended x.bytes (x.es ++ e ∷ []) x.rest (Peer_refused code) x.all
                 (heard-next s h o t e x ∙ now) refl;
           }
       by stops.Memory is = inl (first-kept laws s h o p t holds e x added)
@@ -365,11 +387,11 @@ stops-refusing T laws s h o p t holds over e stop live x refuses added =
 
 -- its reply is not said
 stops-unsaid : Laws →
-    (s : Speaker Lanes) (h : Held) (o p : OutboxState) (t : Traffic) (holds : Option (List ℕ)) (over : Bool)
-    (e : Event Lanes) (stop : Stop) →
-    is_live s.start.stage ≡ true → At s h o t e → Unsaid o p t.holds holds (said_by h e) stop →
-    Stopped IsOfTheTable s p (traffic t.unread t.left t.held holds) over stop
-stops-unsaid laws s h o p t holds over e stop live x unsaid =
+    (s : Speaker Lanes) (h : Held) (o p : OutboxState) (t : Traffic) (holds : Option (List ℕ)) (r : Seen)
+    (broken : Bool) (e : Event Lanes) (stop : Stop) →
+    is_live s.start.stage ≡ true → At s h o t e → Unsaid o p t.holds holds broken (said_by h e) stop →
+    Stopped IsOfTheTable s p (traffic t.unread t.left t.held holds) r broken stop
+stops-unsaid laws s h o p t holds r broken e stop live x unsaid =
     record { bytes = x.bytes; are_bytes = x.are_bytes; read = x.read; why = by stop unsaid } where
       u2 : Traffic
       u2 = traffic t.unread t.left t.held holds
@@ -385,22 +407,30 @@ stops-unsaid laws s h o p t holds over e stop live x unsaid =
           (subst (HasWritten p t.held holds) (sym (says-next laws.say s h x.es e live x.heard))
           (adds o p t.held t.holds holds (so_far s x.es) (said_by h e) x.written added))
 
-      by : (stop : Stop) → Unsaid o p t.holds holds (said_by h e) stop →
-          WhyStopped IsOfTheTable s p u2 over x.bytes stop
+      by : (stop : Stop) → Unsaid o p t.holds holds broken (said_by h e) stop →
+          WhyStopped IsOfTheTable s p u2 r broken x.bytes stop
       by (stops.Refused code) (table, added) = (inl (some added), inr table)
       by (stops.PeerRefused code) is = absurd is
       by stops.Memory added = inl (first-kept laws s h o p t holds e x added)
-      by (stops.Io side) is = tt
+      by (stops.Io side) (write, failed, part) =
+          let one = says-next laws.say s h x.es e live x.heard
+          ∙ ap (λ (l : List (Message Lanes)). so_far s x.es ++ l) part.one in
+          let calls = begun_next.1 ∙ ap (λ (l : List (Message Lanes)). l ++ begun_next.0) one
+          ∙ append_assoc (so_far s x.es) (part.message ∷ []) begun_next.0 in (
+            breaks-in-message s o p u2 t.holds x.bytes (so_far s x.es) begun_next.0 part.message calls x.written
+                part.same part.front,
+            subst (HasBroken r broken x.bytes) (sym write) failed,
+          )
 
 pub stops-event : Laws →
-    (s : Speaker Lanes) (h : Held) (o p : OutboxState) (t : Traffic) (holds : Option (List ℕ)) (over : Bool)
-    (e : Event Lanes) (stop : Stop) →
-    is_live s.start.stage ≡ true → At s h o t e → StopsBy h e o p t.holds holds stop →
-    Stopped IsOfTheTable s p (traffic t.unread t.left t.held holds) over stop
-stops-event laws s h o p t holds over e stop live x (inl (refuses, added)) =
-    stops-refusing IsOfTheTable laws s h o p t holds over e stop live x refuses added
-stops-event laws s h o p t holds over e stop live x (inr unsaid) =
-    stops-unsaid laws s h o p t holds over e stop live x unsaid
+    (s : Speaker Lanes) (h : Held) (o p : OutboxState) (t : Traffic) (holds : Option (List ℕ)) (r : Seen)
+    (broken : Bool) (e : Event Lanes) (stop : Stop) →
+    is_live s.start.stage ≡ true → At s h o t e → StopsBy h e o p t.holds holds broken stop →
+    Stopped IsOfTheTable s p (traffic t.unread t.left t.held holds) r broken stop
+stops-event laws s h o p t holds r broken e stop live x (inl (refuses, added)) =
+    stops-refusing IsOfTheTable laws s h o p t holds r broken e stop live x refuses added
+stops-event laws s h o p t holds r broken e stop live x (inr unsaid) =
+    stops-unsaid laws s h o p t holds r broken e stop live x unsaid
 
 -- ---- no event comes
 
@@ -429,53 +459,72 @@ faulty s over bytes es e t code is at =
 
 -- all events handed out were heard, and no more comes; what was written is a beginning of what all events call for
 pub stops-unheard-by : (T : ℕ → Type 0) → Laws →
-    (s : Speaker Lanes) (h : Held) (o : OutboxState) (t : Traffic) (over : Bool) (stop : Stop) (bytes : List ℕ)
-    (es : List (Event Lanes)) →
+    (s : Speaker Lanes) (h : Held) (o : OutboxState) (t : Traffic) (r : Seen) (broken : Bool) (stop : Stop)
+    (bytes : List ℕ) (es : List (Event Lanes)) →
     is_live s.start.stage ≡ true →
     IsBytes bytes → Consumes t.unread t.left bytes → o.sent ≡ length (so_far s es) →
     ((rest : List (Event Lanes)) → events_in bytes ≡ es ++ rest → WroteUpTo s o t bytes) →
-    hears two_lanes s es ≡ Goes_on h.end h.taken → StopsAt over bytes es stop → Stopped T s o t over stop
-stops-unheard-by T laws s h o t over stop bytes es live are read count wrote heard unheard =
+    hears two_lanes s es ≡ Goes_on h.end h.taken → StopsAt r bytes es stop → Stopped T s o t r broken stop
+stops-unheard-by T laws s h o t r broken stop bytes es live are read count wrote heard unheard =
     record { bytes = bytes; are_bytes = are; read = read; why = by stop unheard } where
-      by : (stop : Stop) → StopsAt over bytes es stop → WhyStopped T s o t over bytes stop
+      by : (stop : Stop) → StopsAt r bytes es stop → WhyStopped T s o t r broken bytes stop
       by (stops.Refused code) is = (
         wrote [] (is.events ∙ sym (append-nil es)),
-        inl (first-at laws s over bytes (so_far s es) o.sent code live
-            (faulty s over bytes es h.end h.taken code is heard)
+        inl (first-at laws s r.ended bytes (so_far s es) o.sent code live
+            (faulty s r.ended bytes es h.end h.taken code is heard)
             (ap (λ l. so_far s l) is.events) count),
       )
       by (stops.PeerRefused code) is = absurd is
       by stops.Memory is = wrote is.0 is.1
-      by (stops.Io side) is = tt
+      by (stops.Io side) (read, why, begins) =
+          (breaks-behind s o t bytes (wrote begins.0 begins.1), subst (HasBroken r broken bytes) (sym read) why)
 
 pub stops-unheard : (T : ℕ → Type 0) → Laws →
-    (s : Speaker Lanes) (h : Held) (o : OutboxState) (t : Traffic) (over : Bool) (stop : Stop) (bytes : List ℕ)
-    (es : List (Event Lanes)) →
+    (s : Speaker Lanes) (h : Held) (o : OutboxState) (t : Traffic) (r : Seen) (broken : Bool) (stop : Stop)
+    (bytes : List ℕ) (es : List (Event Lanes)) →
     is_live s.start.stage ≡ true →
     IsBytes bytes → Consumes t.unread t.left bytes → HasWritten o t.held t.holds (so_far s es) →
-    hears two_lanes s es ≡ Goes_on h.end h.taken → StopsAt over bytes es stop → Stopped T s o t over stop
-stops-unheard T laws s h o t over stop bytes es live are read written heard unheard =
-    stops-unheard-by T laws s h o t over stop bytes es live are read written.count wrote heard unheard where
+    hears two_lanes s es ≡ Goes_on h.end h.taken → StopsAt r bytes es stop → Stopped T s o t r broken stop
+stops-unheard T laws s h o t r broken stop bytes es live are read written heard unheard =
+    stops-unheard-by T laws s h o t r broken stop bytes es live are read written.count wrote heard unheard where
       wrote : (rest : List (Event Lanes)) → events_in bytes ≡ es ++ rest → WroteUpTo s o t bytes
       wrote rest all =
-          let r = laws.begin s es rest in
-          inl (wrote-first s o t bytes (so_far s es) r.0
-          (ap (λ l. own two_lanes s (messages_of [] l)) all ∙ r.1) written)
+          let first = laws.begin s es rest in
+          inl (wrote-first s o t bytes (so_far s es) first.0
+          (ap (λ l. own two_lanes s (messages_of [] l)) all ∙ first.1) written)
 
 pub stops-underway : Laws →
     (s : Speaker Lanes) (h : Held) (b : InboxState) (o : OutboxState) (t : Traffic) (left : Option (List ℕ))
-    (over : Bool) (stop : Stop) →
+    (r : Seen) (broken : Bool) (stop : Stop) →
     is_live s.start.stage ≡ true →
     (u : Underway s h b o t) → is_over h.end.stage ≡ false →
     ((bytes : List ℕ) × IsBytes bytes × Consumes t.left left bytes
-    × StopsAt over (u.bytes ++ bytes) u.events stop) →
-    Stopped IsOfTheTable s o (traffic t.unread left t.held t.holds) over stop
-stops-underway laws s h b o t left over stop live u goes more =
-    stops-unheard IsOfTheTable laws s h o (traffic t.unread left t.held t.holds) over stop
+    × StopsAt r (u.bytes ++ bytes) u.events stop) →
+    Stopped IsOfTheTable s o (traffic t.unread left t.held t.holds) r broken stop
+stops-underway laws s h b o t left r broken stop live u goes more =
+    stops-unheard IsOfTheTable laws s h o (traffic t.unread left t.held t.holds) r broken stop
     (u.bytes ++ more.0) u.events live
     (All-append (λ y. y < 256) u.bytes more.0 u.are_bytes more.1)
     (Consumes-trans t.unread t.left left u.bytes more.0 u.read more.2) u.written
     (u.heard ∙ heard-goes h goes) more.3
+
+-- as many events were handed out as a session reads at the most, and each took a byte
+pub stops-late : Laws → (s : Speaker Lanes) (h : Held) (b : InboxState) (o : OutboxState) (t : Traffic) (r : Seen)
+    (broken : Bool) → (u : Underway s h b o t) → 2 ^ 32 ≤ length u.events →
+    Stopped IsOfTheTable s o t r broken (stops.Io sides.Read)
+stops-late laws s h b o t r broken u many =
+    record { bytes = u.bytes; are_bytes = u.are_bytes; read = u.read; why = (broke, inr enough) } where
+      enough : 2 ^ 32 ≤ length u.bytes
+      enough =
+          let took = u.came.took in
+          let split = ap (λ (l : List ℕ). length l) u.came.split in
+          omega (arith, length-append u.came.fed b.waiting)
+
+      broke : BreaksOff s o.sent t u.bytes
+      broke =
+          let first = laws.begin s u.events u.came.more in
+          breaks-behind s o t u.bytes (inl (wrote-first s o t u.bytes (so_far s u.events) first.0
+          (ap (λ l. own two_lanes s (messages_of [] l)) u.came.events ∙ first.1) u.written))
 
 -- ---- the session is over
 

@@ -1,7 +1,7 @@
 -- What one event makes of an end, and why a session stops at it: by cases on what the end answered, each case
 -- computes.
-use Rattle.std.proofs.Common.{◌≡◌, ℕ, ◌+◌, ◌≤◌, ◌⊎◌, Bool, true, false, List, [], ◌∷◌, Option, Some, None, IfSome}
-use Rattle.std.proofs.Common.{Result, Ok, Err, inl, inr, refl, sym, ap, ◌∙◌, subst, append-nil, arith}
+use Rattle.std.proofs.Common.{◌≡◌, ℕ, ◌+◌, ◌⊎◌, Bool, true, false, List, [], ◌∷◌, Option, None, IfSome}
+use Rattle.std.proofs.Common.{Err, inl, inr, refl, sym, ap, ◌∙◌, subst, append-nil, arith}
 use Rattle.std.specs.Prelude.{if◌then◌else◌}
 use Rattle.std.proofs.KnownBytes.{Appends-nil}
 use Rattle.std.specs.Io.KnownBytes.{Appends}
@@ -9,12 +9,12 @@ use Rattle.definitions.specs.Fingerprints.{Lanes, two_lanes}
 use Rattle.definitions.specs.Messages.{Part, Message}
 use Rattle.definitions.specs.Placing.{next, refusal}
 use Rattle.definitions.specs.Refusals.{unknown, over_bound, table_full, serials_spent}
-use Rattle.definitions.specs.Wire.{two_lane_profile, message_text, Event, Came, Ended, Failed}
-use Rattle.definitions.specs.Ends.{End, Answer, Replies, Ends, is_over}
+use Rattle.definitions.specs.Wire.{two_lane_profile, message_text, Event, Came, Ended}
+use Rattle.definitions.specs.Ends.{Answer, is_over}
 use Rattle.definitions.specs.Engines.{replied}
 use Rattle.definitions.specs.Taking.{Taken, taken, ended}
 use Rattle.definitions.specs.Accounts.{IsOfTheTable}
-use Rattle.definitions.specs.Hearing.{Hearing, Goes_on, Over_at, goes_unless, ended_by, hear_now}
+use Rattle.definitions.specs.Hearing.{Goes_on, Over_at, goes_unless, ended_by, hear_now}
 use Rattle.ends_core.specs.Held.{Held}
 use Rattle.ends_core.specs.Turns.{told_in, refusal_of, answer_of, behind_part, behind_end, messages_in}
 use Rattle.ends_core.specs.declared.turn.Turn.{Turn}
@@ -22,10 +22,9 @@ use Rattle.ends_core.specs.declared.turn.Turn.TheVariants as turns
 use Rattle.ends_core.specs.declared.turn.EndFault.{EndFault}
 use Rattle.ends_core.specs.declared.turn.EndFault.TheVariants as faults
 use Rattle.peer_threads.specs.declared.stop.Stop.{Stop}
-use Rattle.peer_threads.specs.declared.stop.Stop.TheVariants as stops
 use Rattle.peer_threads.specs.Stops.{of_end}
 use Rattle.peer_threads.specs.Outboxes.{OutboxState, outbox_state, Adds}
-use Rattle.peer_threads.specs.Underway.{heard_as, most_sent, said_by, SomeOf, Unsaid, Refuses, StopsBy}
+use Rattle.peer_threads.specs.Underway.{heard_as, most_sent, Unsaid, Refuses, StopsBy}
 
 -- ---- where the end stands then
 
@@ -93,13 +92,14 @@ adds-one o p a b M text is counted w = record {
 pub adds-none : (o : OutboxState) (a : Option (List ℕ)) → Adds o o a a []
 adds-none o a = record { greeted = refl; count = omega arith; written = Appends-nil a }
 
-pub refuses-stops : (h : Held) (e : Event Lanes) (o : OutboxState) (a : Option (List ℕ)) (stop : Stop) →
-    Refuses h e stop → StopsBy h e o o a a stop
-refuses-stops h e o a stop r = inl (r, adds-none o a)
+pub refuses-stops : (h : Held) (e : Event Lanes) (o : OutboxState) (a : Option (List ℕ)) (broken : Bool) (stop : Stop) →
+    Refuses h e stop → StopsBy h e o o a a broken stop
+refuses-stops h e o a broken stop r = inl (r, adds-none o a)
 
-pub unsaid-stops : (h : Held) (x : Answer Lanes) (o p : OutboxState) (a b : Option (List ℕ)) (stop : Stop) →
-    x ≡ ended h.taken → Unsaid o p a b (replied x) stop → StopsBy h Ended o p a b stop
-unsaid-stops h x o p a b stop is r = inr (subst (λ y. Unsaid o p a b (replied y) stop) is r)
+pub unsaid-stops : (h : Held) (x : Answer Lanes) (o p : OutboxState) (a b : Option (List ℕ)) (broken : Bool)
+    (stop : Stop) →
+    x ≡ ended h.taken → Unsaid o p a b broken (replied x) stop → StopsBy h Ended o p a b broken stop
+unsaid-stops h x o p a b broken stop is r = inr (subst (λ y. Unsaid o p a b broken (replied y) stop) is r)
 
 pub of-the-table : (code : ℕ) → (code ≡ unknown) ⊎ (code ≡ over_bound) → IsOfTheTable code
 of-the-table code (inl is) = (omega (arith, is), omega (arith, is))

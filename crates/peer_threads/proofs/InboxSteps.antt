@@ -15,6 +15,7 @@ use Rattle.std.specs.Io.KnownBytes.{Consumes}
 use Rattle.std.proofs.KnownBytes.{Consumes-trans, Consumes-nil}
 use Rattle.definitions.specs.Fingerprints.{Lanes}
 use Rattle.definitions.specs.Items.{IsBytes}
+use Rattle.definitions.specs.Accounts.{Seen}
 use Rattle.definitions.specs.Wire.{two_lane_profile, frame, event_text, Event}
 use Rattle.definitions.specs.Streams.{Standing, Before_hello, In_message, Meaning_over, Faulted, Fed, feed, stays}
 use Rattle.codec_laws.proofs.Fields.{IsBytes-both, rest_fits, front_fits}
@@ -58,8 +59,8 @@ skipped from taken end xs now is few =
 -- ---- what was read so far
 
 pub has_read : (b : InboxState) (bytes fed : List ℕ) (es : Events) → bytes ≡ fed ++ b.waiting → IsBytes bytes →
-    Holds b.feed fed es → HasRead b bytes es
-has_read b bytes fed es split fits holds =
+    Holds b.feed fed es → b.reads ≤ length bytes → length es ≤ length fed → HasRead b bytes es
+has_read b bytes fed es split fits holds counted took =
     let front = front_fits bytes fed b.waiting split fits in
     let back = rest_fits bytes fed b.waiting split fits in
     let join = feeds_joined two_lane_profile two_lanes_real Before_hello fed b.waiting front back in
@@ -72,6 +73,8 @@ has_read b bytes fed es split fits holds =
       events = ap (λ (bs : List ℕ). (stream bs).events) split
           ∙ ap (λ (f : Fed Lanes). f.events) join
           ∙ ap (λ (f : Fed Lanes). f.events ++ (feed two_lane_profile f.to (f.kept ++ b.waiting)).events) holds;
+      counted = counted;
+      took = took;
     }
 
 -- what is fed now
@@ -80,9 +83,9 @@ now_fed s piece = feed two_lane_profile s.standing (s.kept ++ piece)
 
 -- some of the bytes that wait are fed
 moved : (b c : InboxState) (taken : ℕ) (made : Events) → Continues b.feed (take taken b.waiting) c.feed →
-    (now_fed b.feed (take taken b.waiting)).events ≡ made → c.waiting ≡ drop taken b.waiting →
-    SoFar b (λ bytes es. HasRead c bytes (es ++ made))
-moved b c taken made joined events left bytes es fits has =
+    (now_fed b.feed (take taken b.waiting)).events ≡ made → c.waiting ≡ drop taken b.waiting → c.reads ≡ b.reads →
+    length made ≤ length (take taken b.waiting) → SoFar b (λ bytes es. HasRead c bytes (es ++ made))
+moved b c taken made joined events left same some bytes es fits has =
     let front = take taken b.waiting in
     let split : bytes ≡ (has.fed ++ front) ++ c.waiting =
     has.split
@@ -91,34 +94,42 @@ moved b c taken made joined events left bytes es fits has =
     ∙ ap (λ (bs : List ℕ). (has.fed ++ front) ++ bs) (sym left) in
     let holds = subst (λ (new : Events). Holds c.feed (has.fed ++ front) (es ++ new)) events
     (joined has.fed es has.fits has.holds) in
-    has_read c bytes (has.fed ++ front) (es ++ made) split fits holds
+    let before = has.counted in
+    let took = has.took in
+    let all = length-append es made in
+    let now = length-append has.fed front in
+    has_read c bytes (has.fed ++ front) (es ++ made) split fits holds (omega arith) (omega arith)
 
 -- they make no event
 moved_on : (b c : InboxState) (taken : ℕ) (piece : List ℕ) → take taken b.waiting ≡ piece →
     Continues b.feed (take taken b.waiting) c.feed → now_fed b.feed piece ≡ fed_into [] c.feed →
-    c.waiting ≡ drop taken b.waiting → SoFar b (HasRead c)
-moved_on b c taken piece is joined fed left bytes es fits has =
+    c.waiting ≡ drop taken b.waiting → c.reads ≡ b.reads → SoFar b (HasRead c)
+moved_on b c taken piece is joined fed left same bytes es fits has =
     let none = ap (λ (bs : List ℕ). (now_fed b.feed bs).events) is ∙ ap (λ (f : Fed Lanes). f.events) fed in
-    subst (HasRead c bytes) (append-nil es) (moved b c taken [] joined none left bytes es fits has)
+    subst (HasRead c bytes) (append-nil es) (moved b c taken [] joined none left same (omega arith) bytes es fits has)
 
 -- ---- the next event
 
 held_next : (b c : InboxState) (taken : ℕ) (made : Option declared.Event) →
     TakesNext b.feed b.waiting (Ok (taken, made)) c.feed → Continues b.feed (take taken b.waiting) c.feed →
-    c.waiting ≡ drop taken b.waiting → SoFar b (λ bytes es. (over : Bool) → Held over c bytes es (Ok made))
-held_next b c taken None (all, fed) joined left bytes es fits has over =
+    c.waiting ≡ drop taken b.waiting → c.reads ≡ b.reads →
+    SoFar b (λ bytes es. (s : Seen) → Held s c bytes es (Ok made))
+held_next b c taken None (all, fed) joined left same bytes es fits has s =
     let whole : take taken b.waiting ≡ b.waiting =
     ap (λ (n : ℕ). take n b.waiting) all ∙ take-length b.waiting in
-    moved_on b c taken b.waiting whole joined fed left bytes es fits has
-held_next b c taken (Some e) (some, most, text, fed, none) joined left bytes es fits has over =
-    moved b c taken (event_value e ∷ []) joined (ap (λ (f : Fed Lanes). f.events) fed) left bytes es fits has
+    moved_on b c taken b.waiting whole joined fed left same bytes es fits has
+held_next b c taken (Some e) (some, most, text, fed, none) joined left same bytes es fits has s =
+    let t = length-take taken b.waiting in
+    moved b c taken (event_value e ∷ []) joined (ap (λ (f : Fed Lanes). f.events) fed) left same (omega arith) bytes es
+    fits has
 
 pub held : (b c : InboxState) (rest : List ℕ) → rest ≡ b.waiting → (taken : ℕ) (made : Option declared.Event) →
     TakesNext b.feed rest (Ok (taken, made)) c.feed → Continues b.feed (take taken rest) c.feed →
-    c.waiting ≡ drop taken b.waiting → SoFar b (λ bytes es. (over : Bool) → Held over c bytes es (Ok made))
-held b c rest same taken made fed joined left = held_next b c taken made
+    c.waiting ≡ drop taken b.waiting → c.reads ≡ b.reads →
+    SoFar b (λ bytes es. (s : Seen) → Held s c bytes es (Ok made))
+held b c rest same taken made fed joined left count = held_next b c taken made
     (subst (λ (bs : List ℕ). TakesNext b.feed bs (Ok (taken, made)) c.feed) same fed)
-    (subst (λ (bs : List ℕ). Continues b.feed (take taken bs) c.feed) same joined) left
+    (subst (λ (bs : List ℕ). Continues b.feed (take taken bs) c.feed) same joined) left count
 
 -- ---- why there is none
 
@@ -153,15 +164,15 @@ pub stopped : (b : InboxState) (s : StreamState) (piece back : List ℕ) (e : De
     TakesNext b.feed piece (failed e) s →
     UnlessMemory (failed e) (refusal_in (failed e) ≡ fault_at s.standing) →
     UnlessMemory (failed e) (Continues b.feed piece s) →
-    SoFar b (λ bytes es. (over : Bool) → StopsAt over bytes es (of_decoding e))
-stopped b s piece back (errors.Fault f) parts fed known joined bytes es fits has over =
+    SoFar b (λ bytes es. (seen : Seen) → StopsAt seen bytes es (of_decoding e))
+stopped b s piece back (errors.Fault f) parts fed known joined bytes es fits has seen =
     let split : bytes ≡ (has.fed ++ piece) ++ back =
     has.split ∙ ap (λ (bs : List ℕ). has.fed ++ bs) parts ∙ sym (append_assoc has.fed piece back) in
     let none = ap (λ (fed : Fed Lanes). es ++ fed.events) fed ∙ append-nil es in
     let holds = subst (Holds s (has.fed ++ piece)) none (joined has.fed es has.fits has.holds) in
     let faulted = fault_is s.standing (fault_number f) known in
-    fault_stays s bytes (has.fed ++ piece) back es (fault_number f) split fits holds faulted over
-stopped b s piece back errors.Memory parts fed known joined bytes es fits has over = (has.more, has.events)
+    fault_stays s bytes (has.fed ++ piece) back es (fault_number f) split fits holds faulted seen.ended
+stopped b s piece back errors.Memory parts fed known joined bytes es fits has seen = (has.more, has.events)
 
 -- ---- the hello
 
@@ -195,15 +206,15 @@ no_event kept piece taken e less few text =
 few_next : (b c : InboxState) (count taken : ℕ) (made : Option declared.Event) → count ≤ 4 →
     is_before_hello b.feed.standing ≡ true → TakesNext b.feed (take count b.waiting) (Ok (taken, made)) c.feed →
     Continues b.feed (take taken (take count b.waiting)) c.feed → c.waiting ≡ drop taken b.waiting →
-    SoFar b (HasRead c)
-few_next b c count taken None few due (all, fed) joined left bytes es fits has =
+    c.reads ≡ b.reads → SoFar b (HasRead c)
+few_next b c count taken None few due (all, fed) joined left same bytes es fits has =
     let piece = take count b.waiting in
     let t = length-take count b.waiting in
     let front : take taken piece ≡ take taken b.waiting = take-take taken count b.waiting (omega arith) in
     let whole : take taken piece ≡ piece = ap (λ (n : ℕ). take n piece) all ∙ take-length piece in
     let continues = subst (λ (bs : List ℕ). Continues b.feed bs c.feed) front joined in
-    moved_on b c taken piece (sym front ∙ whole) continues fed left bytes es fits has
-few_next b c count taken (Some e) few due (some, most, text, fed, none) joined left bytes es fits has =
+    moved_on b c taken piece (sym front ∙ whole) continues fed left same bytes es fits has
+few_next b c count taken (Some e) few due (some, most, text, fed, none) joined left same bytes es fits has =
     let piece = take count b.waiting in
     let at = before_hello b.feed.standing due in
     let t = length-take count b.waiting in
@@ -216,37 +227,43 @@ few_next b c count taken (Some e) few due (some, most, text, fed, none) joined l
 pub few_held : (b c : InboxState) (rest : List ℕ) → rest ≡ b.waiting → (count taken : ℕ)
     (made : Option declared.Event) → count ≤ 4 → is_before_hello b.feed.standing ≡ true →
     TakesNext b.feed (take count rest) (Ok (taken, made)) c.feed →
-    Continues b.feed (take taken (take count rest)) c.feed → c.waiting ≡ drop taken b.waiting → SoFar b (HasRead c)
-few_held b c rest same count taken made few due fed joined left = few_next b c count taken made few due
+    Continues b.feed (take taken (take count rest)) c.feed → c.waiting ≡ drop taken b.waiting → c.reads ≡ b.reads →
+    SoFar b (HasRead c)
+few_held b c rest same count taken made few due fed joined left reads = few_next b c count taken made few due
     (subst (λ (bs : List ℕ). TakesNext b.feed (take count bs) (Ok (taken, made)) c.feed) same fed)
-    (subst (λ (bs : List ℕ). Continues b.feed (take taken (take count bs)) c.feed) same joined) left
+    (subst (λ (bs : List ℕ). Continues b.feed (take taken (take count bs)) c.feed) same joined) left reads
 
 -- ---- one read
 
 -- where nothing waits, all that was read is fed
+all_of : (b : InboxState) (bytes : List ℕ) (es : Events) → b.waiting ≡ [] → (has : HasRead b bytes es) → bytes ≡ has.fed
+all_of b bytes es none has = has.split ∙ ap (λ (bs : List ℕ). has.fed ++ bs) none ∙ append-nil has.fed
+
 all_fed : (b : InboxState) (bytes : List ℕ) (es : Events) → b.waiting ≡ [] → HasRead b bytes es → Holds b.feed bytes es
 all_fed b bytes es none has =
-    let whole : bytes ≡ has.fed =
-    has.split ∙ ap (λ (bs : List ℕ). has.fed ++ bs) none ∙ append-nil has.fed in
-    subst (λ (bs : List ℕ). Holds b.feed bs es) (sym whole) has.holds
+    subst (λ (bs : List ℕ). Holds b.feed bs es) (sym (all_of b bytes es none has)) has.holds
 
 -- bytes came, and wait
 pub came : (unread left : Option (List ℕ)) (b c : InboxState) → b.waiting ≡ [] → c.feed ≡ b.feed → IsBytes c.waiting →
-    Consumes unread left c.waiting → Reads unread left b (HasRead c)
-came unread left b c none same fits read bytes es right has =
+    c.reads ≡ b.reads + 1 → 0 < length c.waiting → Consumes unread left c.waiting → Reads unread left b (HasRead c)
+came unread left b c none same fits count some read bytes es right has =
     let holds = subst (λ (s : StreamState). Holds s bytes es) (sym same) (all_fed b bytes es none has) in
     let all = IsBytes-both bytes c.waiting right fits in
-    (c.waiting, fits, read, has_read c (bytes ++ c.waiting) bytes es refl all holds)
+    let before = has.counted in
+    let counted : c.reads ≤ length (bytes ++ c.waiting) = omega (arith, length-append bytes c.waiting) in
+    let fed = ap (λ (l : List ℕ). length l) (all_of b bytes es none has) in
+    let took = has.took in
+    (c.waiting, fits, read, has_read c (bytes ++ c.waiting) bytes es refl all holds counted (omega arith))
 
 -- what stops a read, where the stream has no fault
-pub fetch_stops : (over : Bool) (c : InboxState) (stop : Stop) → fault_at c.feed.standing ≡ None →
-    (bytes : List ℕ) (es : Events) → FetchStops over c bytes es stop → StopsAt over bytes es stop
+pub fetch_stops : (s : Seen) (c : InboxState) (stop : Stop) → fault_at c.feed.standing ≡ None →
+    (bytes : List ℕ) (es : Events) → FetchStops s c bytes es stop → StopsAt s bytes es stop
 fetch_stops over c (stops.PeerRefused code) fine bytes es stopped = absurd stopped
 fetch_stops over c (stops.Refused code) fine bytes es (holds, three, end) = record {
   events = ap (λ (f : Fed Lanes). f.events) holds;
   fault = inr (three, end, ap (λ (f : Fed Lanes). fault_at f.to) holds ∙ fine);
 }
-fetch_stops over c (stops.Io side) fine bytes es stopped = tt
+fetch_stops over c (stops.Io side) fine bytes es stopped = stopped
 fetch_stops over c stops.Memory fine bytes es stopped = absurd stopped
 
 -- ---- one read behind another

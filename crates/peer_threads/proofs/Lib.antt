@@ -1,6 +1,7 @@
 pub mod InboxSteps
 pub mod Beginnings
 pub mod Hearings
+pub mod Breaks
 pub mod Exchanges
 pub mod Modest
 pub mod Endings

@@ -3,8 +3,9 @@
 -- Before the pin no end is there: what may come is said of the end that any peer would have. Of the first message only
 -- one part and its end are handed out, and the end that the pin makes hears both, so its session is then underway as
 -- any other.
-use Rattle.std.proofs.Common.{◌≡◌, ℕ, ◌+◌, ◌<◌, ◌≤◌, ◌⊎◌, Bool, true, false, List, [], ◌∷◌, ◌++◌, length, Option, Some}
-use Rattle.std.proofs.Common.{None, Result, Ok, Err, IfOk, IfErr, OnOk, inl, inr, refl, sym, ap, ◌∙◌, subst, arith}
+use Rattle.std.proofs.Common.{◌≡◌, ℕ, ◌+◌, ◌<◌, ◌≤◌, Bool, true, false, List, [], ◌∷◌, ◌++◌, length, Option, Some}
+use Rattle.std.proofs.Common.{None, Result, Ok, Err, IfOk, IfErr, OnOk, inl, inr, refl, sym, ap, ◌∙◌, subst, IsTrue}
+use Rattle.std.proofs.Common.{arith}
 use Rattle.std.specs.Prelude.{if◌then◌else◌}
 use Rattle.std.proofs.KnownBytes.{Consumes-trans, Appends-nil}
 use Rattle.std.specs.Io.KnownBytes.{Appends, Consumes}
@@ -14,15 +15,16 @@ use Rattle.definitions.specs.Fingerprints.{Lanes, two_lanes}
 use Rattle.definitions.specs.Histories.{History, content}
 use Rattle.definitions.specs.Items.{IsBytes, Item, whole, same_range}
 use Rattle.definitions.specs.Messages.{Part, Sum, Listing, Answer, Message}
-use Rattle.definitions.specs.Placing.{Place, First, Refused, next, placed, refusal}
+use Rattle.definitions.specs.Placing.{First, Refused, next, placed, refusal}
 use Rattle.definitions.specs.Ranks.{rank_by}
 use Rattle.definitions.specs.Replies.{Peer}
 use Rattle.definitions.specs.Strategies.{Table}
 use Rattle.definitions.specs.Refusals.{misplaced}
-use Rattle.definitions.specs.Streams.{messages_of}
-use Rattle.definitions.specs.Wire.{Event, Came, Ended}
-use Rattle.definitions.specs.Ends.{responder, is_live, is_over}
-use Rattle.definitions.specs.Engines.{Speaker, responding, says}
+use Rattle.definitions.specs.Streams.{Before_hello, feed, messages_of}
+use Rattle.codec_laws.specs.Parts.{FeedsJoin}
+use Rattle.definitions.specs.Wire.{two_lane_profile, Event, Came, Ended}
+use Rattle.definitions.specs.Ends.{responder, is_over}
+use Rattle.definitions.specs.Engines.{responding, says}
 use Rattle.definitions.specs.Taking.{taken}
 use Rattle.definitions.specs.Hearing.{Goes_on, Refused_for, goes_unless, hear_now, hears}
 use Rattle.ends_core.specs.Held.{Held}
@@ -30,18 +32,19 @@ use Rattle.ends_core.specs.Turns.{fresh}
 use Rattle.strategy_check.specs.Checked.{Checked}
 use Rattle.version_lock.specs.declared.view.View.{View}
 use Rattle.version_lock.specs.Calls.{PinState, IsPinOf}
-use Rattle.peer_threads.specs.declared.outcome.Side.{Side}
+use Rattle.peer_threads.specs.declared.outcome.Side.TheVariants as sides
 use Rattle.peer_threads.specs.declared.stop.Stop.{Stop}
 use Rattle.peer_threads.specs.declared.stop.Stop.TheVariants as stops
 use Rattle.peer_threads.specs.declared.outcome.Outcome.{Outcome}
 use Rattle.peer_threads.specs.Outcomes.{Traffic, traffic, IsModest, Speaks, Unopened, CameFirst, peer_of, peer_at, sent_in}
-use Rattle.peer_threads.specs.Inboxes.{InboxState, HasRead, StopsAt}
-use Rattle.peer_threads.specs.Outboxes.{OutboxState, outbox_state, hello_due, HasWritten, Adds}
+use Rattle.peer_threads.specs.Inboxes.{InboxState, HasRead, StopsAt, ReadOn}
+use Rattle.peer_threads.specs.Outboxes.{OutboxState, outbox_state, hello_due, HasWritten, Adds, BreaksIn}
 use Rattle.peer_threads.specs.Stops.{outcome_of}
 use Rattle.peer_threads.specs.Underway.{heard_as, most_sent, said_by, first_held, Underway, Exchanged, StopsFirst}
-use Rattle.peer_threads.specs.Underway.{FirstCame, EndCame, IsFirstPart, Refuses, StopsBy, IsNone, WroteUpTo}
+use Rattle.peer_threads.specs.Underway.{FirstCame, EndCame, IsFirstPart, Refuses, IsNone, WroteUpTo}
 use Rattle.peer_threads.specs.Underway.{WhyStopped, Stopped, Leaves, Spoke}
 use Rattle.peer_threads.proofs.Hearings.{adds-none, heard-goes}
+use Rattle.peer_threads.proofs.Breaks.{breaks-in-hello}
 use Rattle.peer_threads.proofs.Exchanges.{Laws, More, At, all-events, wrote-first, goes-on, stops-refusing}
 use Rattle.peer_threads.proofs.Exchanges.{stops-unheard, stops-unheard-by}
 use Rattle.peer_threads.proofs.Endings.{stopped-speaks, stopped-unopened, of-pin}
@@ -66,13 +69,13 @@ greeted r s w x b o p new now written read = record {
 
 -- it does not come
 pub stops-ungreeted : Laws →
-    (P : Peer) (o : OutboxState) (unread left held : Option (List ℕ)) (over : Bool) (stop : Stop) →
+    (P : Peer) (o : OutboxState) (unread left held : Option (List ℕ)) (r : Seen) (broken : Bool) (stop : Stop) →
     o ≡ outbox_state false 0 →
-    ((bytes : List ℕ) × IsBytes bytes × Consumes unread left bytes × StopsAt over bytes [] stop) →
-    Stopped IsNone (responding P) o (traffic unread left held held) over stop
-stops-ungreeted laws P o unread left held over stop new read =
+    ((bytes : List ℕ) × IsBytes bytes × Consumes unread left bytes × StopsAt r bytes [] stop) →
+    Stopped IsNone (responding P) o (traffic unread left held held) r broken stop
+stops-ungreeted laws P o unread left held r broken stop new read =
     stops-unheard-by IsNone laws (responding P) (first_held P []) o
-    (traffic unread left held held) over stop read.0 [] refl read.1 read.2
+    (traffic unread left held held) r broken stop read.0 [] refl read.1 read.2
     (ap (λ x. x.sent) new) (λ rest all. inr
     (record { greeted = ap (λ x. x.greeted) new; none = ap (λ x. x.sent) new; written = Appends-nil held })) refl read.3
 
@@ -111,42 +114,42 @@ second-refused P p q fits =
     let h = first_held P (p ∷ []) in
     ap (λ o. goes_unless o (Goes_on h.end (taken two_lanes h.end h.taken q))) (second-misplaced p q fits)
 
-pub part-stops : (over : Bool) (b : InboxState) (bytes : List ℕ) (es : List (Event Lanes))
+pub part-stops : (input : Seen) (b : InboxState) (bytes : List ℕ) (es : List (Event Lanes))
     (r : Result (Part Lanes) Stop) (stop : Stop) →
-    r ≡ Err stop → StopsAt over bytes es stop → FirstCame over b bytes es r
-part-stops over b bytes es r stop is stopped = subst (FirstCame over b bytes es) (sym is) (inl stopped)
+    r ≡ Err stop → StopsAt input bytes es stop → FirstCame input b bytes es r
+part-stops input b bytes es r stop is stopped = subst (FirstCame input b bytes es) (sym is) (inl stopped)
 
-pub part-came : (over : Bool) (b : InboxState) (bytes : List ℕ) (es : List (Event Lanes)) (e : Event Lanes)
+pub part-came : (input : Seen) (b : InboxState) (bytes : List ℕ) (es : List (Event Lanes)) (e : Event Lanes)
     (r : Result (Part Lanes) Stop) →
     IfOk r (λ p. (e ≡ Came p) × IsFirstPart p) →
     IfErr r (λ stop. (P : Peer) → Refuses (first_held P []) e stop) → HasRead b bytes (es ++ e ∷ []) →
-    FirstCame over b bytes es r
-part-came over b bytes es e (Ok p) came refused has = (came.1, subst (λ x. HasRead b bytes (es ++ x ∷ [])) came.0 has)
-part-came over b bytes es e (Err stop) came refused has = inr (record { event = e; came = has; refuses = refused })
+    FirstCame input b bytes es r
+part-came input b bytes es e (Ok p) came refused has = (came.1, subst (λ x. HasRead b bytes (es ++ x ∷ [])) came.0 has)
+part-came input b bytes es e (Err stop) came refused has = inr (record { event = e; came = has; refuses = refused })
 
-pub end-stops-first : (p : Part Lanes) (over : Bool) (b : InboxState) (bytes : List ℕ) (es : List (Event Lanes))
+pub end-stops-first : (p : Part Lanes) (input : Seen) (b : InboxState) (bytes : List ℕ) (es : List (Event Lanes))
     (r : Result (Unit {0}) Stop) (stop : Stop) →
-    r ≡ Err stop → StopsAt over bytes es stop → EndCame p over b bytes es r
-end-stops-first p over b bytes es r stop is stopped = subst (EndCame p over b bytes es) (sym is) (inl stopped)
+    r ≡ Err stop → StopsAt input bytes es stop → EndCame p input b bytes es r
+end-stops-first p input b bytes es r stop is stopped = subst (EndCame p input b bytes es) (sym is) (inl stopped)
 
-pub end-came : (p : Part Lanes) (over : Bool) (b : InboxState) (bytes : List ℕ) (es : List (Event Lanes))
+pub end-came : (p : Part Lanes) (input : Seen) (b : InboxState) (bytes : List ℕ) (es : List (Event Lanes))
     (e : Event Lanes) (r : Result (Unit {0}) Stop) →
     IsFirstPart p → OnOk r (e ≡ Ended) →
     IfErr r (λ stop. (P : Peer) (q : Part Lanes) → IsFirstPart q → Refuses (first_held P (q ∷ [])) e stop) →
-    HasRead b bytes (es ++ e ∷ []) → EndCame p over b bytes es r
-end-came p over b bytes es e (Ok x) fits came refused has = subst (λ y. HasRead b bytes (es ++ y ∷ [])) came has
-end-came p over b bytes es e (Err stop) fits came refused has =
+    HasRead b bytes (es ++ e ∷ []) → EndCame p input b bytes es r
+end-came p input b bytes es e (Ok x) fits came refused has = subst (λ y. HasRead b bytes (es ++ y ∷ [])) came has
+end-came p input b bytes es e (Err stop) fits came refused has =
     inr (record { event = e; came = has; refuses = λ P. refused P p fits })
 
 stops-there : Laws →
     (P : Peer) (M : Message Lanes) (b c : InboxState) (o : OutboxState) (t : Traffic) (left : Option (List ℕ))
-    (over : Bool) (stop : Stop) (es : List (Event Lanes)) →
+    (r : Seen) (broken : Bool) (stop : Stop) (es : List (Event Lanes)) →
     says two_lanes (responding P) (messages_of [] es) ≡ [] →
     hears two_lanes (responding P) es ≡ Goes_on (first_held P M).end (first_held P M).taken →
     (x : Exchanged b o t es) →
-    ((bytes : List ℕ) × IsBytes bytes × Consumes t.left left bytes × StopsFirst M over c (x.bytes ++ bytes) es stop) →
-    Stopped IsNone (responding P) o (traffic t.unread left t.held t.holds) over stop
-stops-there laws P M b c o t left over stop es quiet heard x more = by more.3 where
+    ((bytes : List ℕ) × IsBytes bytes × Consumes t.left left bytes × StopsFirst M r c (x.bytes ++ bytes) es stop) →
+    Stopped IsNone (responding P) o (traffic t.unread left t.held t.holds) r broken stop
+stops-there laws P M b c o t left r broken stop es quiet heard x more = by more.3 where
   bytes : List ℕ
   bytes = x.bytes ++ more.0
 
@@ -159,34 +162,44 @@ stops-there laws P M b c o t left over stop es quiet heard x more = by more.3 wh
   wrote : HasWritten o t.held t.holds (says two_lanes (responding P) (messages_of [] es))
   wrote = subst (HasWritten o t.held t.holds) (sym quiet) x.written
 
-  by : StopsFirst M over c bytes es stop →
-      Stopped IsNone (responding P) o (traffic t.unread left t.held t.holds) over stop
+  by : StopsFirst M r c bytes es stop →
+      Stopped IsNone (responding P) o (traffic t.unread left t.held t.holds) r broken stop
   by (inl stopped) = stops-unheard IsNone laws (responding P) (first_held P M) o
-      (traffic t.unread left t.held t.holds) over stop bytes es refl are read wrote heard stopped
+      (traffic t.unread left t.held t.holds) r broken stop bytes es refl are read wrote heard stopped
   by (inr there) =
       let behind = all-events c bytes (es ++ there.event ∷ []) there.came in
       stops-refusing IsNone laws (responding P) (first_held P M) o o
-      (traffic t.unread left t.held t.holds) t.holds over there.event stop refl
-      (record { bytes = bytes; are_bytes = are; read = read; es = es; rest = behind.0; all = behind.1; written = wrote; heard = heard }) (there.refuses P) (adds-none o t.holds)
+      (traffic t.unread left t.held t.holds) t.holds r broken there.event stop refl
+      (record {
+        bytes = bytes;
+        are_bytes = are;
+        read = read;
+        es = es;
+        rest = behind.0;
+        all = behind.1;
+        written = wrote;
+        heard = heard;
+      }) (there.refuses P) (adds-none o t.holds)
 
 -- its first part does not come, or may not
 pub stops-partless : Laws →
-    (P : Peer) (b c : InboxState) (o : OutboxState) (t : Traffic) (left : Option (List ℕ)) (over : Bool) (stop : Stop)
-    (x : Exchanged b o t []) →
-    ((bytes : List ℕ) × IsBytes bytes × Consumes t.left left bytes × StopsFirst [] over c (x.bytes ++ bytes) [] stop) →
-    Stopped IsNone (responding P) o (traffic t.unread left t.held t.holds) over stop
-stops-partless laws P b c o t left over stop x more = stops-there laws P [] b c o t left over stop [] refl refl x more
+    (P : Peer) (b c : InboxState) (o : OutboxState) (t : Traffic) (left : Option (List ℕ)) (r : Seen) (broken : Bool)
+    (stop : Stop) (x : Exchanged b o t []) →
+    ((bytes : List ℕ) × IsBytes bytes × Consumes t.left left bytes × StopsFirst [] r c (x.bytes ++ bytes) [] stop) →
+    Stopped IsNone (responding P) o (traffic t.unread left t.held t.holds) r broken stop
+stops-partless laws P b c o t left r broken stop x more =
+    stops-there laws P [] b c o t left r broken stop [] refl refl x more
 
 -- its end does not come
 pub stops-endless : Laws →
     (P : Peer) (p : Part Lanes) (b c : InboxState) (o : OutboxState) (t : Traffic) (left : Option (List ℕ))
-    (over : Bool) (stop : Stop) →
+    (r : Seen) (broken : Bool) (stop : Stop) →
     IsFirstPart p → (x : Exchanged b o t (Came p ∷ [])) →
     ((bytes : List ℕ) × IsBytes bytes × Consumes t.left left bytes
-    × StopsFirst (p ∷ []) over c (x.bytes ++ bytes)
-    (Came p ∷ []) stop) → Stopped IsNone (responding P) o (traffic t.unread left t.held t.holds) over stop
-stops-endless laws P p b c o t left over stop fits x more =
-    stops-there laws P (p ∷ []) b c o t left over stop (Came p ∷ []) refl (part-heard P p fits) x more
+    × StopsFirst (p ∷ []) r c (x.bytes ++ bytes)
+    (Came p ∷ []) stop) → Stopped IsNone (responding P) o (traffic t.unread left t.held t.holds) r broken stop
+stops-endless laws P p b c o t left r broken stop fits x more =
+    stops-there laws P (p ∷ []) b c o t left r broken stop (Came p ∷ []) refl (part-heard P p fits) x more
 
 -- what is said of an error
 pub told : {X : Type 0} (r : Result X Stop) (stop : Stop) (Q : Stop → Type 0) → r ≡ Err stop → Q stop → IfErr r Q
@@ -198,27 +211,29 @@ untold r stop Q is q = subst (λ a. IfErr a Q) is q
 -- ---- behind the pin
 
 -- the hello was written, and no more: memory runs out, or the table of sessions refuses
-stops-behind : (T : ℕ → Type 0) (P : Peer) (b : InboxState) (o : OutboxState) (t : Traffic) (over : Bool)
+stops-behind : (T : ℕ → Type 0) (P : Peer) (b : InboxState) (o : OutboxState) (t : Traffic) (r : Seen) (broken : Bool)
     (es : List (Event Lanes)) (stop : Stop) (x : Exchanged b o t es) →
-    (WroteUpTo (responding P) o t x.bytes → WhyStopped T (responding P) o t over x.bytes stop) →
-    Stopped T (responding P) o t over stop
-stops-behind T P b o t over es stop x why = record {
+    (WroteUpTo (responding P) o t x.bytes → WhyStopped T (responding P) o t r broken x.bytes stop) →
+    Stopped T (responding P) o t r broken stop
+stops-behind T P b o t r broken es stop x why = record {
   bytes = x.bytes;
   are_bytes = x.are_bytes;
   read = x.read;
   why = why (inl (wrote-first (responding P) o t x.bytes [] _ refl x.written));
 }
 
-pub stops-poor : (P : Peer) (b : InboxState) (o : OutboxState) (t : Traffic) (over : Bool) (es : List (Event Lanes)) →
-    Exchanged b o t es → Stopped IsOfTheTable (responding P) o t over stops.Memory
-stops-poor P b o t over es x = stops-behind IsOfTheTable P b o t over es stops.Memory x (λ wrote. wrote)
+pub stops-poor : (P : Peer) (b : InboxState) (o : OutboxState) (t : Traffic) (r : Seen) (broken : Bool)
+    (es : List (Event Lanes)) →
+    Exchanged b o t es → Stopped IsOfTheTable (responding P) o t r broken stops.Memory
+stops-poor P b o t r broken es x = stops-behind IsOfTheTable P b o t r broken es stops.Memory x (λ wrote. wrote)
 
-pub stops-unlisted : (P : Peer) (b : InboxState) (o : OutboxState) (t : Traffic) (over : Bool) (es : List (Event Lanes))
+pub stops-unlisted : (P : Peer) (b : InboxState) (o : OutboxState) (t : Traffic) (r : Seen) (broken : Bool)
+    (es : List (Event Lanes))
     (code : ℕ) →
     Exchanged b o t es → IsOfTheTable code →
-    Stopped IsOfTheTable (responding P) o t over (stops.Refused code)
-stops-unlisted P b o t over es code x table =
-    stops-behind IsOfTheTable P b o t over es (stops.Refused code) x (λ wrote. (wrote, inr table))
+    Stopped IsOfTheTable (responding P) o t r broken (stops.Refused code)
+stops-unlisted P b o t r broken es code x table =
+    stops-behind IsOfTheTable P b o t r broken es (stops.Refused code) x (λ wrote. (wrote, inr table))
 
 -- the part waits for the end that was made
 abbrev pub at-part : (P : Peer) (steps : List ℕ) (h : Held) (b : InboxState) (o : OutboxState) (t : Traffic)
@@ -282,33 +297,42 @@ responds h steps table store pinned is same = (
 
 -- ---- all that is said of it
 
--- the writer failed behind what was read
-pub stops-broken-behind : (T : ℕ → Type 0) (P : Peer) (b : InboxState) (o : OutboxState)
-    (unread left held holds : Option (List ℕ)) (over : Bool) (side : Side) (es : List (Event Lanes)) →
-    More unread left b [] es → Stopped T (responding P) o (traffic unread left held holds) over (stops.Io side)
-stops-broken-behind T P b o unread left held holds over side es read =
-    record { bytes = read.0; are_bytes = read.1; read = read.2; why = tt }
+-- the writer failed behind what was read, before the hello was written
+pub stops-broken-behind : (T : ℕ → Type 0) (P : Peer) (b : InboxState) (o p : OutboxState)
+    (unread left held holds : Option (List ℕ)) (r : Seen) (broken : Bool) (es : List (Event Lanes)) →
+    o ≡ outbox_state false 0 → p ≡ o → IsTrue broken → BreaksIn held holds (hello_due o) → More unread left b [] es →
+    Stopped T (responding P) p (traffic unread left held holds) r broken (stops.Io sides.Write)
+stops-broken-behind T P b o p unread left held holds r broken es new same failed front read = record {
+  bytes = read.0;
+  are_bytes = read.1;
+  read = read.2;
+  why =
+      let t = traffic unread left held holds in
+      let part = subst (λ x. BreaksIn held holds (hello_due x)) new front in
+      (breaks-in-hello (responding P) p t read.0 (ap (λ x. x.sent) (same ∙ new)) part, failed);
+}
 
 -- a session that stopped before it said anything
 pub speaks-stopped : (P : Peer) (version bound : ℕ) (x : OutboxState) (t : Traffic) (holds : Option (List ℕ))
-    (r w : Seen) (stop : Stop) (o : Outcome) →
+    (r w : Seen) (broken : Bool) (stop : Stop) (o : Outcome) →
     x.sent ≡ 0 →
-    Stopped IsOfTheTable (responding P) x t r.ended stop → Leaves x t.holds holds w.failed stop →
+    Stopped IsOfTheTable (responding P) x t r broken stop → Leaves x t.holds holds broken w.failed stop →
     o ≡ outcome_of x.sent stop → Spoke (responding P) version bound (traffic t.unread t.left t.held holds) r w o
-speaks-stopped P version bound x t holds r w stop o none stopped leaves is =
+speaks-stopped P version bound x t holds r w broken stop o none stopped leaves is =
     let few : x.sent ≤ bound = omega (arith, none) in
     subst (λ y. Spoke (responding P) version bound (traffic t.unread t.left t.held holds) r w y) (sym is)
-    (stopped-speaks (responding P) version bound x t holds r w stop stopped leaves few)
+    (stopped-speaks (responding P) version bound x t holds r w broken stop stopped leaves few)
 
 -- it was not opened
-pub unopened : (x : OutboxState) (t : Traffic) (holds : Option (List ℕ)) (r w : Seen) (stop : Stop) (o : Outcome) →
+pub unopened : (x : OutboxState) (t : Traffic) (holds : Option (List ℕ)) (r w : Seen) (broken : Bool) (stop : Stop)
+    (o : Outcome) →
     x.sent ≡ 0 →
-    ((P : Peer) → Stopped IsNone (responding P) x t r.ended stop) → Leaves x t.holds holds w.failed stop →
+    ((P : Peer) → Stopped IsNone (responding P) x t r broken stop) → Leaves x t.holds holds broken w.failed stop →
     o ≡ outcome_of x.sent stop → Unopened (traffic t.unread t.left t.held holds) r w o
-unopened x t holds r w stop o none stopped leaves is =
+unopened x t holds r w broken stop o none stopped leaves is =
     subst (λ y. Unopened (traffic t.unread t.left t.held holds) r w y) (sym is) (record {
       none = by stop;
-      anyone = λ P version. stopped-unopened (responding P) version x t holds r w stop (stopped P) leaves;
+      anyone = λ P version. stopped-unopened (responding P) version x t holds r w broken stop (stopped P) leaves;
     }) where
       by : (stop : Stop) → sent_in (outcome_of x.sent stop) ≡ 0
       by (stops.Refused code) = none
@@ -330,17 +354,22 @@ pub serves : (a b : Checked) (w : View) (pin : PinState) (t : Traffic) (r x : Se
 serves a b w pin t r x o is same spoke modest =
     of-pin (length (content w.base) ≤ a.table.cap) (λ p. responding p) 1 a b w pin t r x o is same spoke (modest w.base)
 
--- a first message was handed out
-pub came-first : (b : InboxState) (o : OutboxState) (unread left held holds : Option (List ℕ)) (p : Part Lanes) →
-    IsFirstPart p → Exchanged b o (traffic unread left held holds) (Came p ∷ Ended ∷ []) → CameFirst unread
-came-first b o unread left held holds p fits x =
+-- a first message was handed out, and more was read or not
+pub came-first : FeedsJoin two_lane_profile →
+    (b : InboxState) (o : OutboxState) (unread left last held holds : Option (List ℕ)) (p : Part Lanes) →
+    IsFirstPart p → Exchanged b o (traffic unread left held holds) (Came p ∷ Ended ∷ []) → ReadOn left last →
+    CameFirst unread last
+came-first join b o unread left last held holds p fits x on =
     let behind = all-events b x.bytes (Came p ∷ Ended ∷ []) x.came in
+    let first = feed two_lane_profile Before_hello x.bytes in
+    let rest = feed two_lane_profile first.to (first.kept ++ on.0) in
     record {
-      left = left;
-      bytes = x.bytes;
-      read = x.read;
+      bytes = x.bytes ++ on.0;
+      read = Consumes-trans unread left last x.bytes on.0 x.read on.2;
       part = p;
       first = fits;
-      later = messages_of [] behind.0;
-      messages = ap (messages_of []) behind.1;
+      later = messages_of [] (behind.0 ++ rest.events);
+      messages =
+          ap (λ f. messages_of [] f.events) (join Before_hello x.bytes on.0 x.are_bytes on.1)
+          ∙ ap (λ es. messages_of [] (es ++ rest.events)) behind.1;
     }

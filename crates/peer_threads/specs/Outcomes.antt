@@ -9,11 +9,12 @@
 --     kind_of o                how the table of sessions counts the outcome o
 --     known_at s bytes         what a side learns from the messages that it takes, by what they say
 --     call_of s version bytes written r w      a session as it is seen from outside
+--     failing side                             what failed, as the accounts have it
 --     Bears s version t r w bytes o      what the outcome o says
 --     IsModest s bytes bound limit       few own messages, short lists, and knowledge as told, whatever was read
 --     Speaks F s version bound limit t r w o     all of it, of the bytes that were read, modest where F holds
 --     Unopened t r w o         what an outcome says where no history was looked at
---     CameFirst unread         a first message came that may stand first
+--     CameFirst unread left    what was read begins with a message that may stand first
 use Rattle.std.specs.Prelude.{◌≡◌, ℕ, ◌≤◌, Bool, List, [], ◌∷◌, Option, Some, None, length, IsTrue, ⊤}
 use Rattle.std.specs.List.{AllByRecursion}
 use Rattle.std.specs.Io.KnownBytes.{Appends, Consumes}
@@ -28,7 +29,7 @@ use Rattle.definitions.specs.Talks.{Knowledge, knows}
 use Rattle.definitions.specs.Ends.{End, Stage, Fresh, Waits, Over, Spent, is_over}
 use Rattle.definitions.specs.Engines.{Speaker, says, session, own, takes, messages_in, fault_frame, text, responding}
 use Rattle.definitions.specs.Hearing.{Peer_refused, hearing_to}
-use Rattle.definitions.specs.Accounts.{Call, Seen, IsRefused, IsFirstFault, IsMemory}
+use Rattle.definitions.specs.Accounts.{Call, Seen, IsRefused, IsFirstFault, IsMemory, IsIo, Failing, Reading, Writing}
 use Rattle.definitions.specs.Theorems.{IsShort}
 use Rattle.strategy_check.specs.Checked.{Checked}
 use Rattle.session_table.specs.declared.totals.CloseKind.{CloseKind}
@@ -36,6 +37,8 @@ use Rattle.session_table.specs.declared.totals.CloseKind.TheVariants as kinds
 use Rattle.version_lock.specs.declared.view.View.{View}
 use Rattle.peer_threads.specs.declared.outcome.Outcome.{Outcome}
 use Rattle.peer_threads.specs.declared.outcome.Outcome.TheVariants.{Ended, Refused, PeerRefused, Io, Memory}
+use Rattle.peer_threads.specs.declared.outcome.Side.{Side}
+use Rattle.peer_threads.specs.declared.outcome.Side.TheVariants as sides
 
 pub record Traffic : Type 0 where
   pub unread : Option (List ℕ)
@@ -88,7 +91,11 @@ abbrev pub call_of : Speaker Lanes → ℕ → List ℕ → List ℕ → Seen �
 call_of s version bytes written r w =
     record { speaker = s; version = version; read = bytes; written = written; reader = r; writer = w }
 
--- of a session whose reader or writer failed this says nothing yet
+-- what failed, as the accounts name it
+abbrev pub failing : Side → Failing
+failing sides.Read = Reading
+failing sides.Write = Writing
+
 abbrev pub Bears : Speaker Lanes → ℕ → Traffic → Seen → Seen → List ℕ → Outcome → Type 0
 Bears s version t r w bytes (Ended learned sent n) =
     SaidAll s t bytes sent × IsTrue (is_over (session_at s bytes).stage) × (learned ≡ (session_at s bytes).learned)
@@ -98,7 +105,9 @@ Bears s version t r w bytes (PeerRefused code sent) =
 Bears s version t r w bytes (Refused code sent) =
     (written : List ℕ) × Appends t.held t.holds written
     × IsRefused two_lanes two_lane_profile (call_of s version bytes written r w) sent code
-Bears s version t r w bytes (Io side sent) = ⊤
+Bears s version t r w bytes (Io side sent) =
+    (written : List ℕ) × Appends t.held t.holds written
+    × IsIo two_lanes two_lane_profile (call_of s version bytes written r w) sent (failing side)
 Bears s version t r w bytes (Memory sent) =
     (written : List ℕ) × Appends t.held t.holds written
     × IsMemory two_lanes two_lane_profile (call_of s version bytes written r w) sent
@@ -165,9 +174,8 @@ pub record Unopened (t : Traffic) (r w : Seen) (o : Outcome) : Type 0 where
   pub none : sent_in o ≡ 0
   pub anyone : (p : Peer) (version : ℕ) → SpeaksUnopened (responding p) version t r w o
 
--- in what was read so far a first message has come: one part, which may stand first
-pub record CameFirst (unread : Option (List ℕ)) : Type 0 where
-  pub left : Option (List ℕ)
+-- what was read begins with a message of one part, which may stand first
+pub record CameFirst (unread left : Option (List ℕ)) : Type 0 where
   pub bytes : List ℕ
   pub read : Consumes unread left bytes
   pub part : Part Lanes

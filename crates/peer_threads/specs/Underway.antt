@@ -4,15 +4,17 @@
 --     Underway s h b o t             the end h is the side's behind the events handed out, and what it says was written
 --     first_held P M                 the end of a responder P that took these parts of a first message
 --     Exchanged b o t es             these events were handed out of the bytes read, and the hello alone was written
---     StopsFirst M over b bytes es stop    why a first message goes on no more behind its parts M, whoever would answer
+--     StopsFirst M r b bytes es stop    why a first message goes on no more behind its parts M, whoever would answer
 --     Refuses h e stop               the event itself stops the session
---     StopsBy h e o p held holds stop      why this side stops at an event
---     Stopped T s o t over stop      why it goes on no more, and what was written; a refusal is of the bytes, or of T
+--     BreaksSaying o p held holds Ms   a part of the one message was written
+--     StopsBy h e o p held holds broken stop      why this side stops at an event; `broken`: whether the writer failed
+--     BreaksOff s k t bytes          what was written breaks off behind k messages, in one more, or in the hello
+--     Stopped T s o t r broken stop  why it goes on no more, and what was written; a refusal is of the bytes, or of T
 --     Finished s e o t               its session is over
---     Talked s e o t over result     what a call leaves that goes on to the end
---     Leaves o held holds failed stop      what a stop writes behind all else
+--     Talked s e o t r broken result     what a call leaves that goes on to the end
+--     Leaves o held holds broken failed stop      what a stop writes behind all else
 --     Spoke s version bound t r w o  what an outcome says, of the bytes that were read
-use Rattle.std.specs.Prelude.{◌≡◌, ℕ, ◌+◌, ◌≤◌, ◌⊎◌, Bool, false, List, [], ◌∷◌, ◌++◌, length, Option, Some, None}
+use Rattle.std.specs.Prelude.{◌≡◌, ℕ, ◌+◌, ◌≤◌, ◌^◌, ◌⊎◌, Bool, false, List, [], ◌∷◌, ◌++◌, length, Option, Some, None}
 use Rattle.std.specs.Prelude.{Result, Ok, Err, IsTrue, IsFalse, if◌then◌else◌, slice_get, ⊤}
 use Rattle.std.specs.Io.KnownBytes.{Appends, Consumes, Keeps}
 use Rattle.definitions.specs.Fingerprints.{Lanes, two_lanes}
@@ -21,22 +23,24 @@ use Rattle.definitions.specs.Messages.{Part, Message}
 use Rattle.definitions.specs.Placing.{First, next, refusal}
 use Rattle.definitions.specs.Ranks.{rank_by}
 use Rattle.definitions.specs.Refusals.{no_memory, too_many_parts}
-use Rattle.definitions.specs.Wire.{two_lane_profile, Event, Came, Ended, Failed}
+use Rattle.definitions.specs.Wire.{two_lane_profile, message_text, Event, Came, Ended, Failed}
 use Rattle.definitions.specs.Streams.{messages_of}
 use Rattle.definitions.specs.Replies.{Peer}
 use Rattle.definitions.specs.Ends.{End, responder, is_over, is_sendable}
 use Rattle.definitions.specs.Engines.{Speaker, says, fault_frame, replied, text}
 use Rattle.definitions.specs.Taking.{ended}
 use Rattle.definitions.specs.Hearing.{Hearing, Goes_on, Over_at, Peer_refused, Refused_for, hear_now, hears, hearing_to}
-use Rattle.definitions.specs.Accounts.{Seen, IsOfTheTable}
+use Rattle.definitions.specs.Accounts.{Seen, BrokeOff, IsOfTheTable}
 use Rattle.ends_core.specs.Held.{Held}
 use Rattle.ends_core.specs.Turns.{fresh, behind_parts}
 use Rattle.peer_threads.specs.declared.outcome.Outcome.{Outcome}
+use Rattle.peer_threads.specs.declared.outcome.Side.{Side}
+use Rattle.peer_threads.specs.declared.outcome.Side.TheVariants as sides
 use Rattle.peer_threads.specs.declared.stop.Stop.{Stop}
 use Rattle.peer_threads.specs.declared.stop.Stop.TheVariants as stops
-use Rattle.peer_threads.specs.Outcomes.{Traffic, SaidAll, Bears, sent_in, called_by, session_at}
+use Rattle.peer_threads.specs.Outcomes.{Traffic, SaidAll, Bears, sent_in, call_of, called_by, session_at}
 use Rattle.peer_threads.specs.Inboxes.{InboxState, HasRead, StopsAt}
-use Rattle.peer_threads.specs.Outboxes.{OutboxState, HasWritten, Adds, WroteSo, refusal_text}
+use Rattle.peer_threads.specs.Outboxes.{OutboxState, HasWritten, Adds, BreaksIn, WroteSo, refusal_text}
 
 abbrev pub most_sent : ℕ → Held → ℕ
 most_sent most h = rank_by h.steps (length h.end.peer.items) + most
@@ -64,12 +68,20 @@ said_by h (Failed code) = []
 abbrev pub SomeOf : OutboxState → OutboxState → Option (List ℕ) → Option (List ℕ) → List (Message Lanes) → Type 0
 SomeOf o p held holds Ms = Adds o p held holds [] ⊎ Adds o p held holds Ms
 
+-- of the one message a proper beginning was written
+pub record BreaksSaying (o p : OutboxState) (held holds : Option (List ℕ)) (Ms : List (Message Lanes)) : Type 0 where
+  pub same : p ≡ o
+  pub message : Message Lanes
+  pub one : Ms ≡ message ∷ []
+  pub front : BreaksIn held holds (message_text two_lane_profile message)
+
 -- why a message is not said
-abbrev pub Unsaid : OutboxState → OutboxState → Option (List ℕ) → Option (List ℕ) → List (Message Lanes) → Stop → Type 0
-Unsaid o p held holds Ms (stops.Refused code) = IsOfTheTable code × SomeOf o p held holds Ms
-Unsaid o p held holds Ms (stops.PeerRefused code) = ⊥
-Unsaid o p held holds Ms stops.Memory = Adds o p held holds []
-Unsaid o p held holds Ms (stops.Io side) = ⊤
+abbrev pub Unsaid : OutboxState → OutboxState → Option (List ℕ) → Option (List ℕ) → Bool → List (Message Lanes) → Stop →
+    Type 0
+Unsaid o p held holds broken Ms (stops.Refused code) = IsOfTheTable code × SomeOf o p held holds Ms
+Unsaid o p held holds broken Ms (stops.PeerRefused code) = ⊥
+Unsaid o p held holds broken Ms stops.Memory = Adds o p held holds []
+Unsaid o p held holds broken Ms (stops.Io side) = (side ≡ sides.Write) × IsTrue broken × BreaksSaying o p held holds Ms
 
 -- this side refuses the event, or it tells that the peer refused, or memory runs out
 abbrev pub Refuses : Held → Event Lanes → Stop → Type 0
@@ -79,8 +91,10 @@ Refuses h e stops.Memory = ⊤
 Refuses h e (stops.Io side) = ⊥
 
 -- so it stops, and writes no message; or its reply is not said
-abbrev pub StopsBy : Held → Event Lanes → OutboxState → OutboxState → Option (List ℕ) → Option (List ℕ) → Stop → Type 0
-StopsBy h e o p held holds stop = (Refuses h e stop × Adds o p held holds []) ⊎ Unsaid o p held holds (said_by h e) stop
+abbrev pub StopsBy : Held → Event Lanes → OutboxState → OutboxState → Option (List ℕ) → Option (List ℕ) → Bool → Stop →
+    Type 0
+StopsBy h e o p held holds broken stop =
+    (Refuses h e stop × Adds o p held holds []) ⊎ Unsaid o p held holds broken (said_by h e) stop
 
 -- ---- before a session is opened
 
@@ -101,20 +115,20 @@ pub record StopsThere (M : Message Lanes) (b : InboxState) (bytes : List ℕ) (e
   pub came : HasRead b bytes (es ++ event ∷ [])
   pub refuses : (P : Peer) → Refuses (first_held P M) event stop
 
-abbrev pub StopsFirst : Message Lanes → Bool → InboxState → List ℕ → List (Event Lanes) → Stop → Type 0
-StopsFirst M over b bytes es stop = StopsAt over bytes es stop ⊎ StopsThere M b bytes es stop
+abbrev pub StopsFirst : Message Lanes → Seen → InboxState → List ℕ → List (Event Lanes) → Stop → Type 0
+StopsFirst M r b bytes es stop = StopsAt r bytes es stop ⊎ StopsThere M b bytes es stop
 
 -- a part that may stand first
 abbrev pub IsFirstPart : Part Lanes → Type 0
 IsFirstPart p = refusal (next First p) ≡ None
 
-abbrev pub FirstCame : Bool → InboxState → List ℕ → List (Event Lanes) → Result (Part Lanes) Stop → Type 0
-FirstCame over b bytes es (Ok p) = IsFirstPart p × HasRead b bytes (es ++ Came p ∷ [])
-FirstCame over b bytes es (Err stop) = StopsFirst [] over b bytes es stop
+abbrev pub FirstCame : Seen → InboxState → List ℕ → List (Event Lanes) → Result (Part Lanes) Stop → Type 0
+FirstCame r b bytes es (Ok p) = IsFirstPart p × HasRead b bytes (es ++ Came p ∷ [])
+FirstCame r b bytes es (Err stop) = StopsFirst [] r b bytes es stop
 
-abbrev pub EndCame : Part Lanes → Bool → InboxState → List ℕ → List (Event Lanes) → Result (Unit {0}) Stop → Type 0
-EndCame p over b bytes es (Ok x) = HasRead b bytes (es ++ Ended ∷ [])
-EndCame p over b bytes es (Err stop) = StopsFirst (p ∷ []) over b bytes es stop
+abbrev pub EndCame : Part Lanes → Seen → InboxState → List ℕ → List (Event Lanes) → Result (Unit {0}) Stop → Type 0
+EndCame p r b bytes es (Ok x) = HasRead b bytes (es ++ Ended ∷ [])
+EndCame p r b bytes es (Err stop) = StopsFirst (p ∷ []) r b bytes es stop
 
 -- ---- the end of a session
 
@@ -153,18 +167,31 @@ pub record IsTold (s : Speaker Lanes) (o : OutboxState) (t : Traffic) (over : Bo
   pub frame : fault_frame two_lane_profile bytes ≡ Some code
   pub told : hearing_to two_lanes two_lane_profile s over bytes ≡ Peer_refused code
 
-abbrev pub WhyStopped : (ℕ → Type 0) → Speaker Lanes → OutboxState → Traffic → Bool → List ℕ → Stop → Type 0
-WhyStopped T s o t over bytes (stops.Refused code) = WroteUpTo s o t bytes × (IsFirst s over bytes o.sent code ⊎ T code)
-WhyStopped T s o t over bytes (stops.PeerRefused code) = IsTold s o t over bytes code
-WhyStopped T s o t over bytes stops.Memory = WroteUpTo s o t bytes
-WhyStopped T s o t over bytes (stops.Io side) = ⊤
+-- exactly so many of the messages that the bytes call for were written whole, and nothing behind the beginning of one
+-- more: whatever the version is, and whatever is seen of the reader and the writer
+pub record BreaksOff (s : Speaker Lanes) (k : ℕ) (t : Traffic) (bytes : List ℕ) : Type 0 where
+  pub all : List ℕ
+  pub written : Appends t.held t.holds all
+  pub broke : (version : ℕ) (r w : Seen) → BrokeOff two_lanes two_lane_profile (call_of s version bytes all r w) k
 
-pub record Stopped (T : ℕ → Type 0) (s : Speaker Lanes) (o : OutboxState) (t : Traffic) (over : Bool)
+-- the side of the connection that is named has failed
+abbrev pub HasBroken : Seen → Bool → List ℕ → Side → Type 0
+HasBroken r broken bytes sides.Read = IsTrue r.failed ⊎ (2 ^ 32 ≤ length bytes)
+HasBroken r broken bytes sides.Write = IsTrue broken
+
+abbrev pub WhyStopped : (ℕ → Type 0) → Speaker Lanes → OutboxState → Traffic → Seen → Bool → List ℕ → Stop → Type 0
+WhyStopped T s o t r broken bytes (stops.Refused code) =
+    WroteUpTo s o t bytes × (IsFirst s r.ended bytes o.sent code ⊎ T code)
+WhyStopped T s o t r broken bytes (stops.PeerRefused code) = IsTold s o t r.ended bytes code
+WhyStopped T s o t r broken bytes stops.Memory = WroteUpTo s o t bytes
+WhyStopped T s o t r broken bytes (stops.Io side) = BreaksOff s o.sent t bytes × HasBroken r broken bytes side
+
+pub record Stopped (T : ℕ → Type 0) (s : Speaker Lanes) (o : OutboxState) (t : Traffic) (r : Seen) (broken : Bool)
     (stop : Stop) : Type 0 where
   pub bytes : List ℕ
   pub are_bytes : IsBytes bytes
   pub read : Consumes t.unread t.left bytes
-  pub why : WhyStopped T s o t over bytes stop
+  pub why : WhyStopped T s o t r broken bytes stop
 
 -- no table of sessions was asked
 abbrev pub IsNone : ℕ → Type 0
@@ -179,16 +206,16 @@ pub record Finished (s : Speaker Lanes) (e : End Lanes) (o : OutboxState) (t : T
   pub end : e ≡ session_at s bytes
   pub over : IsTrue (is_over e.stage)
 
-abbrev pub Talked : Speaker Lanes → End Lanes → OutboxState → Traffic → Bool → Result (Unit {0}) Stop → Type 0
-Talked s e o t over (Ok x) = Finished s e o t
-Talked s e o t over (Err stop) = Stopped IsOfTheTable s o t over stop
+abbrev pub Talked : Speaker Lanes → End Lanes → OutboxState → Traffic → Seen → Bool → Result (Unit {0}) Stop → Type 0
+Talked s e o t r broken (Ok x) = Finished s e o t
+Talked s e o t r broken (Err stop) = Stopped IsOfTheTable s o t r broken stop
 
 -- what a refusal writes behind all else: nothing where the connection failed, or the peer refused
-abbrev pub Leaves : OutboxState → Option (List ℕ) → Option (List ℕ) → Bool → Stop → Type 0
-Leaves o held holds failed (stops.Refused code) = WroteSo held holds failed (refusal_text o code)
-Leaves o held holds failed stops.Memory = WroteSo held holds failed (refusal_text o no_memory)
-Leaves o held holds failed (stops.PeerRefused code) = Keeps held holds
-Leaves o held holds failed (stops.Io side) = Keeps held holds
+abbrev pub Leaves : OutboxState → Option (List ℕ) → Option (List ℕ) → Bool → Bool → Stop → Type 0
+Leaves o held holds broken failed (stops.Refused code) = WroteSo held holds failed (refusal_text o code)
+Leaves o held holds broken failed stops.Memory = WroteSo held holds failed (refusal_text o no_memory)
+Leaves o held holds broken failed (stops.PeerRefused code) = Keeps held holds
+Leaves o held holds broken failed (stops.Io side) = Keeps held holds × (failed ≡ broken)
 
 pub record Spoke (s : Speaker Lanes) (version bound : ℕ) (t : Traffic) (r w : Seen) (o : Outcome) : Type 0 where
   pub bytes : List ℕ

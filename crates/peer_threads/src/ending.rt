@@ -21,7 +21,8 @@ const NO_MEMORY: u8 = 90;
 /// The outcome of a session that stopped. Where this side refuses, one fault frame is written.
 pub(crate) fn stopped<W: Write>(outbox: Outbox, writer: &mut Watched<W>, stop: Stop) -> Outcome
     ensures outcome { result ≡ outcome_of outbox.sent stop }
-    ensures leaves { Leaves outbox (W.contents writer.old.inner) (W.contents writer.new.inner) writer.new.failed stop }
+    ensures leaves { Leaves outbox (W.contents writer.old.inner) (W.contents writer.new.inner) writer.old.failed
+        writer.new.failed stop }
 {
     let sent = outbox.sent();
     match stop {
@@ -47,7 +48,8 @@ pub(crate) fn concluded<P: Party, W: Write>(
     talked: Result<(), Stop>,
 ) -> Outcome
     ensures bytes { (s : Speaker Lanes) (bound : ℕ) (unread left held : Option (List ℕ)) (r : Seen) →
-        Talked s (P.held party).end outbox (traffic unread left held (W.contents writer.old.inner)) r.ended talked →
+        Talked s (P.held party).end outbox (traffic unread left held (W.contents writer.old.inner)) r
+        writer.old.failed talked →
         outbox.sent ≤ bound → Spoke s version bound (traffic unread left held (W.contents writer.new.inner)) r
         (seen writer.new.failed writer.new.ended) result }
     ensures version { HasVersion result version }

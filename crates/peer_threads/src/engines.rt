@@ -15,7 +15,7 @@ ghost use Rattle.definitions.specs.Engines.{initiating, responding};
 ghost use Rattle.wire_core.specs.Events.{event_value};
 ghost use Rattle.ends_core.specs.Turns.{fresh};
 ghost use Rattle.version_lock.specs.Calls.{Looked};
-ghost use Rattle.peer_threads.specs.Inboxes.{Counts, Reads};
+ghost use Rattle.peer_threads.specs.Inboxes.{Counts, Reads, ReadOn};
 ghost use Rattle.peer_threads.specs.Outcomes.{Speaks, Unopened, CameFirst, HasVersion, traffic, seen, peer_at, peer_of};
 ghost use Rattle.peer_threads.specs.Outboxes.{outbox_state};
 ghost use Rattle.peer_threads.specs.Underway.{Exchanged, FirstCame, EndCame, IsFirstPart, first_held, most_sent};
@@ -85,7 +85,7 @@ fn first_part<R: Read>(
     reader: &mut Watched<R>,
 ) -> Result<Part, Stop>
     ensures read { Reads (R.remaining reader.old.inner) (R.remaining reader.new.inner) inbox.old
-        (λ bytes es. FirstCame reader.new.ended inbox.new bytes es result) }
+        (λ bytes es. FirstCame (seen reader.new.failed reader.new.ended) inbox.new bytes es result) }
     ensures reads { Counts reader.old.reads reader.new.reads inbox.old inbox.new }
 {
     let event = inbox.next(alloc, reader)?;
@@ -96,7 +96,7 @@ fn first_part<R: Read>(
 fn first_end<R: Read>(alloc: Global, inbox: &mut Inbox, reader: &mut Watched<R>) -> Result<(), Stop>
     ensures read { (p : messages.Part Lanes) → IsFirstPart p →
         Reads (R.remaining reader.old.inner) (R.remaining reader.new.inner) inbox.old
-        (λ bytes es. EndCame p reader.new.ended inbox.new bytes es result) }
+        (λ bytes es. EndCame p (seen reader.new.failed reader.new.ended) inbox.new bytes es result) }
     ensures reads { Counts reader.old.reads reader.new.reads inbox.old inbox.new }
 {
     let event = inbox.next(alloc, reader)?;
@@ -118,7 +118,7 @@ fn meet<R: Read, W: Write>(
     ensures fine { IfOk result (λ _. writer.new.failed ≡ false) }
     ensures stopped { IfErr result (λ stop. (P : Peer) → Stopped IsNone (responding P) outbox.new
         (traffic (R.remaining reader.old.inner) (R.remaining reader.new.inner) (W.contents writer.old.inner)
-        (W.contents writer.new.inner)) reader.new.ended stop) }
+        (W.contents writer.new.inner)) (seen reader.new.failed reader.new.ended) writer.new.failed stop) }
     ensures none { outbox.new.sent ≡ 0 }
     ensures reads { IfOk result (λ o. (reader.new.reads ≤ reader.old.reads + o.inbox.reads)
         × (o.inbox.reads ≤ 2 ^ 32)) }
@@ -152,7 +152,13 @@ fn answer<T: Wait, G: Gate, P: Party, R: Read, W: Write>(
         Exchanged opening.inbox outbox.old (traffic unread (R.remaining reader.old.inner) held
         (W.contents writer.old.inner)) (Came opening.first ∷ Ended ∷ []) →
         Talked (responding p) (P.held party.new).end outbox.new
-        (traffic unread (R.remaining reader.new.inner) held (W.contents writer.new.inner)) reader.new.ended result }
+        (traffic unread (R.remaining reader.new.inner) held (W.contents writer.new.inner))
+        (seen reader.new.failed reader.new.ended) writer.new.failed result }
+    ensures on { (p : Peer) (steps : List ℕ) (unread held : Option (List ℕ)) →
+        P.held party.old ≡ fresh steps (ends.responder p) →
+        Exchanged opening.inbox outbox.old (traffic unread (R.remaining reader.old.inner) held
+        (W.contents writer.old.inner)) (Came opening.first ∷ Ended ∷ []) →
+        ReadOn (R.remaining reader.old.inner) (R.remaining reader.new.inner) }
     ensures few { outbox.new.sent ≤ most_sent P.most (P.held party.old) }
     ensures reads { opening.inbox.reads ≤ 2 ^ 32 →
         reader.new.reads + opening.inbox.reads ≤ reader.old.reads + 2 ^ 32 }
@@ -186,6 +192,10 @@ fn respond<T: Wait, S: RangeStore, G: Gate, R: Read, W: Write>(
         (rank_by host.now.accepted.now.steps (length pin.items) + 1)
         (traffic unread (R.remaining reader.new.inner) held (W.contents writer.new.inner))
         (seen reader.new.failed reader.new.ended) (seen writer.new.failed writer.new.ended) result }
+    ensures on { (unread held : Option (List ℕ)) →
+        Exchanged opening.inbox outbox (traffic unread (R.remaining reader.old.inner) held
+        (W.contents writer.old.inner)) (Came opening.first ∷ Ended ∷ []) →
+        ReadOn (R.remaining reader.old.inner) (R.remaining reader.new.inner) }
     ensures version { HasVersion result pin.version }
     ensures reads { opening.inbox.reads ≤ 2 ^ 32 →
         reader.new.reads + opening.inbox.reads ≤ reader.old.reads + 2 ^ 32 }
@@ -218,7 +228,8 @@ fn speak<T: Wait, G: Gate, P: Party, R: Read, W: Write>(
         first.now ≡ opening two_lanes p.items →
         Talked (initiating two_lanes p) (P.held party.new).end outbox.new
         (traffic (R.remaining reader.old.inner) (R.remaining reader.new.inner) (W.contents writer.old.inner)
-        (W.contents writer.new.inner)) reader.new.ended result }
+        (W.contents writer.new.inner))
+        (seen reader.new.failed reader.new.ended) writer.new.failed result }
     ensures few { outbox.new.sent ≤ most_sent P.most (P.held party.old) }
     ensures reads { reader.new.reads ≤ reader.old.reads + 2 ^ 32 }
 {
@@ -283,8 +294,9 @@ pub fn serve_one<T: Wait, S: RangeStore, G: Gate, R: Read, W: Write>(
         × Unopened (traffic (R.remaining reader.old.inner) (R.remaining reader.new.inner)
         (W.contents writer.old.inner) (W.contents writer.new.inner)) (seen reader.new.failed reader.new.ended)
         (seen writer.new.failed writer.new.ended) result) }
-    // No version is pinned for a peer that has sent no first message.
-    ensures opened { (seat.new.view ≡ seat.old.view) ⊎ CameFirst (R.remaining reader.old.inner) }
+    // Where the seat was used, what this call read begins with a first message.
+    ensures opened { (seat.new.view ≡ seat.old.view)
+        ⊎ CameFirst (R.remaining reader.old.inner) (R.remaining reader.new.inner) }
     ensures bytes { Speaks (length (content seat.new.view.base) ≤ shared.now.accepted.now.table.cap)
         (responding (peer_at shared.now.accepted.now seat.new.view)) (length seat.new.view.base)
         (rank_by shared.now.accepted.now.steps (length (peer_at shared.now.accepted.now seat.new.view).items) + 1)
@@ -294,6 +306,8 @@ pub fn serve_one<T: Wait, S: RangeStore, G: Gate, R: Read, W: Write>(
     ensures version { HasVersion result (length seat.new.view.base) }
     ensures reads { reader.new.reads ≤ reader.old.reads + 2 ^ 32 }
 {
+    codec_laws::two_lanes_are_real();
+    codec_laws::feeds_join::<Fingerprint>();
     sides_are_modest(shared.accepted);
     let host = Host::of(rt, alloc, shared);
     let mut outbox = Outbox::new();

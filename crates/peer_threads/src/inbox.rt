@@ -1,7 +1,9 @@
 //! What comes in on a connection: the one place that reads.
 
-ghost use Rattle.std.specs.Prelude.{◌≡◌, ◌-◌, ◌<◌, ◌≤◌, ◌^◌, Bool, true, [], None, IfOk, OnOk, IfNone, length};
+ghost use Rattle.std.specs.Prelude.{◌≡◌, ◌-◌, ◌<◌, ◌≤◌, ◌^◌, true, [], None, IfOk, OnOk, IfNone, length};
+ghost use Rattle.definitions.specs.Accounts.{Seen};
 ghost use Rattle.wire_core.specs.Feeds.{is_before_hello, fault_at};
+ghost use Rattle.peer_threads.specs.Outcomes.{seen};
 ghost use Rattle.peer_threads.specs.Inboxes.{HasRead, Next, Greeted, SoFar, Reads, Counts, Held, Fetched};
 
 use crate::outcome::Side;
@@ -59,7 +61,7 @@ impl Inbox {
         reader: &mut Watched<R>,
     ) -> Result<(), Stop>
         ensures read { Reads (R.remaining reader.old.inner) (R.remaining reader.new.inner) self.old
-            (λ bytes es. Greeted reader.new.ended self.new bytes es result) }
+            (λ bytes es. Greeted (seen reader.new.failed reader.new.ended) self.new bytes es result) }
         ensures reads { Counts reader.old.reads reader.new.reads self.old self.new }
     {
         'reads: loop {
@@ -80,7 +82,7 @@ impl Inbox {
         reader: &mut Watched<R>,
     ) -> Result<Event, Stop>
         ensures read { Reads (R.remaining reader.old.inner) (R.remaining reader.new.inner) self.old
-            (λ bytes es. Next reader.new.ended self.new bytes es result) }
+            (λ bytes es. Next (seen reader.new.failed reader.new.ended) self.new bytes es result) }
         ensures reads { Counts reader.old.reads reader.new.reads self.old self.new }
     {
         'reads: loop {
@@ -93,7 +95,7 @@ impl Inbox {
 
     /// The next event of the bytes that wait. Where there is none, all of them are fed.
     fn next_held(&mut self, alloc: Global) -> Result<Option<Event>, Stop>
-        ensures held { SoFar self.old (λ bytes es. (over : Bool) → Held over self.new bytes es result) }
+        ensures held { SoFar self.old (λ bytes es. (s : Seen) → Held s self.new bytes es result) }
         ensures none { IfOk result (λ made. IfNone made ((self.new.waiting ≡ [])
             × (fault_at self.new.feed.standing ≡ None))) }
         ensures reads { (self.new.reads ≡ self.old.reads) × (self.new.reads ≤ 2 ^ 32) }
@@ -105,7 +107,7 @@ impl Inbox {
 
     /// Feeds what waits, a few bytes at a time, until the hello has come.
     fn feed_hello(&mut self, alloc: Global) -> Result<(), Stop>
-        ensures held { SoFar self.old (λ bytes es. (over : Bool) → Greeted over self.new bytes es result) }
+        ensures held { SoFar self.old (λ bytes es. (s : Seen) → Greeted s self.new bytes es result) }
         ensures due { OnOk result (is_before_hello self.new.feed.standing ≡ true → self.new.waiting ≡ []) }
         ensures reads { (self.new.reads ≡ self.old.reads) × (self.new.reads ≤ 2 ^ 32) }
     {
@@ -122,7 +124,7 @@ impl Inbox {
     fn feed_few(&mut self, alloc: Global) -> Result<(), Stop>
         requires due { is_before_hello self.old.feed.standing ≡ true }
         requires some { 0 < length self.old.waiting }
-        ensures held { SoFar self.old (λ bytes es. (over : Bool) → Greeted over self.new bytes es result) }
+        ensures held { SoFar self.old (λ bytes es. (s : Seen) → Greeted s self.new bytes es result) }
         ensures fewer { OnOk result (length self.new.waiting < length self.old.waiting) }
         ensures reads { (self.new.reads ≡ self.old.reads) × (self.new.reads ≤ 2 ^ 32) }
     {
@@ -137,7 +139,7 @@ impl Inbox {
     fn read_more<R: Read>(&mut self, reader: &mut Watched<R>) -> Result<(), Stop>
         requires { self.old.waiting ≡ [] }
         ensures read { Reads (R.remaining reader.old.inner) (R.remaining reader.new.inner) self.old
-            (λ bytes es. Fetched reader.new.ended self.new bytes es result) }
+            (λ bytes es. Fetched (seen reader.new.failed reader.new.ended) self.new bytes es result) }
         ensures feed { self.new.feed ≡ self.old.feed }
         ensures more { OnOk result (2 ^ 32 - self.new.reads < 2 ^ 32 - self.old.reads) }
         ensures reads { Counts reader.old.reads reader.new.reads self.old self.new }

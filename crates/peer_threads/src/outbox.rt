@@ -2,7 +2,7 @@
 
 ghost use Rattle.std.specs.Prelude.{◌≡◌, ◌<◌, ◌+◌, false, true, OnOk, OnErr, IsTrue};
 ghost use Rattle.std.specs.Io.KnownBytes.{Appends};
-ghost use Rattle.peer_threads.specs.Outboxes.{outbox_state, hello_due, refusal_text, Begins, WroteSo};
+ghost use Rattle.peer_threads.specs.Outboxes.{outbox_state, hello_due, refusal_text, Begins, BreaksIn, WroteSo};
 
 use ends_core::{WriterFailed, write_output};
 use std::io::Write;
@@ -49,7 +49,7 @@ impl Outbox {
             (hello_due self.old)) }
         ensures greeted { OnOk result (self.new ≡ outbox_state true self.old.sent) }
         ensures fine { OnOk result (writer.new.failed ≡ false) }
-        ensures front { OnErr result (Begins (W.contents writer.old.inner) (W.contents writer.new.inner)
+        ensures front { OnErr result (BreaksIn (W.contents writer.old.inner) (W.contents writer.new.inner)
             (hello_due self.old)) }
         ensures same { OnErr result (self.new ≡ self.old) }
         ensures failed { OnErr result (IsTrue writer.new.failed) }
@@ -73,7 +73,7 @@ impl Outbox {
         ensures whole { OnOk result (Appends (W.contents writer.old.inner) (W.contents writer.new.inner) text.now) }
         ensures counted { OnOk result (self.new ≡ outbox_state self.old.greeted (self.old.sent + 1)) }
         ensures fine { OnOk result (writer.new.failed ≡ false) }
-        ensures front { OnErr result (Begins (W.contents writer.old.inner) (W.contents writer.new.inner) text.now) }
+        ensures front { OnErr result (BreaksIn (W.contents writer.old.inner) (W.contents writer.new.inner) text.now) }
         ensures same { OnErr result (self.new ≡ self.old) }
         ensures failed { OnErr result (IsTrue writer.new.failed) }
     {

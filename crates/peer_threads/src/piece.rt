@@ -82,7 +82,7 @@ impl Piece {
             × Consumes (R.remaining reader.old.inner) (R.remaining reader.new.inner) self.new }
         ensures count { IfOk result (λ count. count ≡ length self.new) }
         ensures ended { IfOk result (λ count. count ≡ 0 → IsTrue reader.new.ended) }
-        ensures failed { OnErr result (self.new ≡ []) }
+        ensures failed { OnErr result ((self.new ≡ []) × IsTrue reader.new.failed) }
         ensures reads { reader.new.reads ≡ one_more reader.old.reads }
     {
         // where the read fails, nothing is left

@@ -8,8 +8,8 @@ ghost use Rattle.definitions.specs.Engines.{Speaker, replied};
 ghost use Rattle.definitions.specs.Hearing.{hear_now};
 ghost use Rattle.ends_core.specs.Turns.{answer_of, messages_in};
 ghost use Rattle.wire_core.specs.Events.{event_value};
-ghost use Rattle.peer_threads.specs.Inboxes.{Counts};
-ghost use Rattle.peer_threads.specs.Outcomes.{traffic};
+ghost use Rattle.peer_threads.specs.Inboxes.{Counts, ReadOn};
+ghost use Rattle.peer_threads.specs.Outcomes.{traffic, seen};
 ghost use Rattle.peer_threads.specs.Outboxes.{Adds};
 ghost use Rattle.peer_threads.specs.Underway.{Underway, Talked, Unsaid, Refuses, StopsBy, heard_as, most_sent, said_by};
 
@@ -39,7 +39,7 @@ pub(crate) fn say<T: Wait, G: Gate, W: Write>(
         (W.contents writer.new.inner) (message.now ∷ [])) }
     ensures fine { OnOk result (writer.new.failed ≡ false) }
     ensures unsaid { IfErr result (λ stop. Unsaid outbox.old outbox.new (W.contents writer.old.inner)
-        (W.contents writer.new.inner) (message.now ∷ []) stop) }
+        (W.contents writer.new.inner) writer.new.failed (message.now ∷ []) stop) }
     ensures few { (outbox.new.sent ≡ outbox.old.sent) ⊎ (outbox.new.sent ≡ outbox.old.sent + 1) }
 {
     let text = encode_message(booking.alloc(), message)?;
@@ -61,7 +61,7 @@ fn reply<T: Wait, G: Gate, W: Write>(
         (W.contents writer.new.inner) (replied (answer_of turn))) }
     ensures fine { OnOk result (writer.new.failed ≡ false) }
     ensures unsaid { IfErr result (λ stop. Unsaid outbox.old outbox.new (W.contents writer.old.inner)
-        (W.contents writer.new.inner) (replied (answer_of turn)) stop) }
+        (W.contents writer.new.inner) writer.new.failed (replied (answer_of turn)) stop) }
     ensures few { outbox.new.sent ≤ outbox.old.sent + messages_in turn }
 {
     match turn {
@@ -103,7 +103,7 @@ pub(crate) fn end<T: Wait, G: Gate, P: Party, W: Write>(
     ensures count { OnOk result (outbox.new.sent ≡ (P.held party.new).end.sent) }
     ensures most { OnOk result (most_sent P.most (P.held party.new) ≡ most_sent P.most (P.held party.old)) }
     ensures stopped { IfErr result (λ stop. StopsBy (P.held party.old) Ended outbox.old outbox.new
-        (W.contents writer.old.inner) (W.contents writer.new.inner) stop) }
+        (W.contents writer.old.inner) (W.contents writer.new.inner) writer.new.failed stop) }
     ensures few { outbox.new.sent ≤ most_sent P.most (P.held party.old) }
 {
     let _few = party.sent();
@@ -131,7 +131,7 @@ fn hear<T: Wait, G: Gate, P: Party, W: Write>(
     ensures count { OnOk result (outbox.new.sent ≡ (P.held party.new).end.sent) }
     ensures most { OnOk result (most_sent P.most (P.held party.new) ≡ most_sent P.most (P.held party.old)) }
     ensures stopped { IfErr result (λ stop. StopsBy (P.held party.old) (event_value event.now) outbox.old outbox.new
-        (W.contents writer.old.inner) (W.contents writer.new.inner) stop) }
+        (W.contents writer.old.inner) (W.contents writer.new.inner) writer.new.failed stop) }
     ensures few { outbox.new.sent ≤ most_sent P.most (P.held party.old) }
 {
     let _few = party.sent();
@@ -157,7 +157,12 @@ pub(crate) fn talk<T: Wait, G: Gate, P: Party, R: Read, W: Write>(
         Underway s (P.held party.old) inbox.old outbox.old
         (traffic unread (R.remaining reader.old.inner) held (W.contents writer.old.inner)) →
         Talked s (P.held party.new).end outbox.new
-        (traffic unread (R.remaining reader.new.inner) held (W.contents writer.new.inner)) reader.new.ended result }
+        (traffic unread (R.remaining reader.new.inner) held (W.contents writer.new.inner))
+        (seen reader.new.failed reader.new.ended) writer.new.failed result }
+    ensures on { (s : Speaker Lanes) (unread held : Option (List ℕ)) → is_live s.start.stage ≡ true →
+        Underway s (P.held party.old) inbox.old outbox.old
+        (traffic unread (R.remaining reader.old.inner) held (W.contents writer.old.inner)) →
+        ReadOn (R.remaining reader.old.inner) (R.remaining reader.new.inner) }
     ensures few { outbox.new.sent ≤ most_sent P.most (P.held party.old) }
     ensures reads { inbox.old.reads ≤ 2 ^ 32 → Counts reader.old.reads reader.new.reads inbox.old inbox.new }
 {

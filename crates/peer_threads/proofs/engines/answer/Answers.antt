@@ -3,7 +3,8 @@ use Rattle.definitions.specs.Accounts.{IsOfTheTable}
 use Rattle.definitions.specs.Fingerprints.{two_lanes}
 use Rattle.definitions.specs.Wire.{two_lane_profile}
 use Rattle.definitions.specs.Engines.{responding}
-use Rattle.peer_threads.proofs.Exchanges.{Laws, stops-refusing, stops-event}
+use Rattle.peer_threads.specs.Outcomes.{seen}
+use Rattle.peer_threads.proofs.Exchanges.{Laws, stops-refusing, stops-event, on-nothing}
 use Rattle.peer_threads.proofs.Hearings.{adds-none}
 use Rattle.peer_threads.proofs.Serving.{at-part, at-end, answers-first}
 use Rattle.peer_threads.proofs.engines.answer.Goals as goal
@@ -16,7 +17,8 @@ returns-in_err-take-clause-talked g c = λ p steps unread held new x.
       agree = c.bytes_agree.ensures two_lanes two_lane_profile;
     } in
     let stopped = stops-refusing IsOfTheTable laws
-    (responding p) _ _ _ _ _ c.args.reader.now.ended _ c.in_err-take.field-0.0 refl
+    (responding p) _ _ _ _ _ (seen c.args.reader.now.failed c.args.reader.now.ended) c.args.writer.now.failed _
+    c.in_err-take.field-0.0 refl
     (at-part p steps (g.P.Party.held c.args.party.now) _ _ _ _ new x) c.in_err-take.ensures.stopped
     (adds-none _ _) in
     search (rules, stopped)
@@ -28,9 +30,11 @@ returns-in_err-end-clause-talked g c = λ p steps unread held new x.
       begin = c.own_begins.ensures two_lanes;
       agree = c.bytes_agree.ensures two_lanes two_lane_profile;
     } in
-    let stopped = stops-event laws (responding p) _ _ _ _ _ c.args.reader.now.ended _ c.in_err-end.field-0.0 refl
+    let stopped = stops-event laws (responding p) _ _ _ _ _ (seen c.args.reader.now.failed c.args.reader.now.ended)
+    c.end.new.writer.failed _ c.in_err-end.field-0.0 refl
     (at-end p steps (g.P.Party.held c.args.party.now)
-    (g.P.Party.held c.take.new.party) _ _ _ _ new c.in_ok-take.ensures.heard c.in_ok-take.ensures.end x) c.in_err-end.ensures.stopped in
+    (g.P.Party.held c.take.new.party) _ _ _ _ new c.in_ok-take.ensures.heard c.in_ok-take.ensures.end x)
+    c.in_err-end.ensures.stopped in
     search (rules, stopped)
 
 pub returns-in_err-end-clause-few : goal.returns-in_err-end-clause-few
@@ -46,8 +50,27 @@ returns-clause-talked g c = λ p steps unread held new x.
     } in
     c.talk.ensures.talked (responding p) unread held refl
     (answers-first laws p steps (g.P.Party.held c.args.party.now) (g.P.Party.held c.take.new.party)
-    (g.P.Party.held c.end.new.party) _ _ _ _ _ _ new c.in_ok-take.ensures.heard c.in_ok-take.ensures.end x c.in_ok-end.ensures.heard c.in_ok-end.ensures.said)
+    (g.P.Party.held c.end.new.party) _ _ _ _ _ _ new c.in_ok-take.ensures.heard c.in_ok-take.ensures.end x
+    c.in_ok-end.ensures.heard c.in_ok-end.ensures.said)
 
 pub returns-clause-few : goal.returns-clause-few
 returns-clause-few g c = subst (λ n. c.talk.new.outbox.sent ≤ n)
     (c.in_ok-end.ensures.most ∙ c.in_ok-take.ensures.most) c.talk.ensures.few
+
+pub returns-in_err-take-clause-on : goal.returns-in_err-take-clause-on
+returns-in_err-take-clause-on g c = λ p steps unread held new x. on-nothing _
+
+pub returns-in_err-end-clause-on : goal.returns-in_err-end-clause-on
+returns-in_err-end-clause-on g c = λ p steps unread held new x. on-nothing _
+
+pub returns-clause-on : goal.returns-clause-on
+returns-clause-on g c = λ p steps unread held new x.
+    let laws : Laws = record {
+      say = c.frames_say.ensures two_lanes;
+      begin = c.own_begins.ensures two_lanes;
+      agree = c.bytes_agree.ensures two_lanes two_lane_profile;
+    } in
+    c.talk.ensures.on (responding p) unread held refl
+    (answers-first laws p steps (g.P.Party.held c.args.party.now) (g.P.Party.held c.take.new.party)
+    (g.P.Party.held c.end.new.party) _ _ _ _ _ _ new c.in_ok-take.ensures.heard c.in_ok-take.ensures.end x
+    c.in_ok-end.ensures.heard c.in_ok-end.ensures.said)

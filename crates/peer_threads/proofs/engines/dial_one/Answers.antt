@@ -9,8 +9,10 @@ use Rattle.peer_threads.proofs.engines.dial_one.Goals as goal
 
 pub returns-in-Ok-clause-bytes : goal.returns-in-Ok-clause-bytes
 returns-in-Ok-clause-bytes g c =
-    dials c.args.shared.now.accepted.now _ c.pin.new.seat.view c.in-Ok.pin _ _ _ c.initiate.result c.in-Ok.ensures.pin c.of-host.ensures
-    (found-fits c.args.seat.now.view c.pin.new.seat.view c.args.shared.now.accepted.now.table.cap c.pin.ensures.view c.requires.fits) c.initiate.ensures.bytes c.sides_are_modest.ensures.initiator
+    dials c.args.shared.now.accepted.now _ c.pin.new.seat.view c.in-Ok.pin _ _ _ c.initiate.result c.in-Ok.ensures.pin
+    c.of-host.ensures
+    (found-fits c.args.seat.now.view c.pin.new.seat.view c.args.shared.now.accepted.now.table.cap c.pin.ensures.view
+    c.requires.fits) c.initiate.ensures.bytes c.sides_are_modest.ensures.initiator
 
 pub returns-in-Err-clause-bytes : goal.returns-in-Err-clause-bytes
 returns-in-Err-clause-bytes g c =
@@ -24,7 +26,8 @@ returns-in-Err-clause-bytes g c =
     found-fits c.args.seat.now.view found c.args.shared.now.accepted.now.table.cap c.pin.ensures.view c.requires.fits in
     speaks _ s _ _ _ _ r w c.stopped.result
     (speaks-unsaid s _ _ c.new.result unread held
-    (g.W.Write.contents c.stopped.new.writer.inner) r w Memory c.stopped.result
+    (g.W.Write.contents c.stopped.new.writer.inner) r w c.args.writer.now.failed Memory c.stopped.result
     c.new.ensures
-    (stops-silent IsOfTheTable s c.new.result unread held r.ended c.new.ensures) c.stopped.ensures.leaves c.stopped.ensures.outcome)
+    (stops-silent IsOfTheTable s c.new.result unread held r c.args.writer.now.failed c.new.ensures)
+    c.stopped.ensures.leaves c.stopped.ensures.outcome)
     (λ bytes are known. c.sides_are_modest.ensures.initiator found.base bytes are fits)

@@ -1,4 +1,4 @@
-use Rattle.std.proofs.Common.{◌≡◌, ◌≤◌, ◌+◌, length, sym, ap, subst, ◌∙◌}
+use Rattle.std.proofs.Common.{◌≤◌, ◌+◌, length, ap, subst, ◌∙◌}
 use Rattle.definitions.specs.Fingerprints.{two_lanes}
 use Rattle.definitions.specs.Accounts.{IsOfTheTable}
 use Rattle.definitions.specs.Ranks.{rank_by}
@@ -20,9 +20,10 @@ returns-in-Err-clause-bytes g c =
     let r = seen c.args.reader.now.failed c.args.reader.now.ended in
     let o = c.new-outbox.result in
     speaks-unsaid s c.args.pin.version _ o unread held (g.W.Write.contents c.stopped.new.writer.inner) r
-    (seen c.stopped.new.writer.failed c.stopped.new.writer.ended) stops.Memory c.stopped.result
+    (seen c.stopped.new.writer.failed c.stopped.new.writer.ended) c.args.writer.now.failed stops.Memory c.stopped.result
     c.new-outbox.ensures
-    (stops-silent IsOfTheTable s o unread held r.ended c.new-outbox.ensures) c.stopped.ensures.leaves c.stopped.ensures.outcome
+    (stops-silent IsOfTheTable s o unread held r c.args.writer.now.failed c.new-outbox.ensures) c.stopped.ensures.leaves
+    c.stopped.ensures.outcome
 
 pub returns-in-Err-open-clause-bytes : goal.returns-in-Err-open-clause-bytes
 returns-in-Err-open-clause-bytes g c =
@@ -34,10 +35,12 @@ returns-in-Err-open-clause-bytes g c =
     let w = seen c.stopped-in-Err-open.new.writer.failed c.stopped-in-Err-open.new.writer.ended in
     let o = c.new-outbox.result in
     let code = table_fault_number c.in-Err-open.fault in
-    speaks-unsaid s c.args.pin.version _ o unread held holds r w (stops.Refused code) c.stopped-in-Err-open.result
-    c.new-outbox.ensures (stops-unbooked s o unread held r.ended code c.new-outbox.ensures
+    let broken = c.args.writer.now.failed in
+    speaks-unsaid s c.args.pin.version _ o unread held holds r w broken (stops.Refused code)
+    c.stopped-in-Err-open.result
+    c.new-outbox.ensures (stops-unbooked s o unread held r broken code c.new-outbox.ensures
     (not-opened code c.in-Err-open.ensures))
-    (subst (λ x. Leaves o held holds w.failed x) c.from.ensures c.stopped-in-Err-open.ensures.leaves)
+    (subst (λ x. Leaves o held holds broken w.failed x) c.from.ensures c.stopped-in-Err-open.ensures.leaves)
     (c.stopped-in-Err-open.ensures.outcome ∙ ap (λ x. outcome_of o.sent x) c.from.ensures)
 
 pub returns-clause-bytes : goal.returns-clause-bytes

@@ -6,6 +6,7 @@ use Rattle.peer_threads.specs.declared.stop.Stop.TheVariants as stops
 use Rattle.peer_threads.specs.Outcomes.{traffic, seen, peer_of}
 use Rattle.peer_threads.specs.Stops.{outcome_of}
 use Rattle.peer_threads.specs.Underway.{Leaves, Spoke}
+use Rattle.peer_threads.proofs.Exchanges.{on-nothing}
 use Rattle.peer_threads.proofs.Hearings.{not-opened}
 use Rattle.peer_threads.proofs.Serving.{responds, stops-unlisted, speaks-stopped}
 use Rattle.peer_threads.proofs.engines.respond.Goals as goal
@@ -20,9 +21,10 @@ returns-in-Err-clause-bytes g c = λ unread held x.
     let w = seen c.stopped.new.writer.failed c.stopped.new.writer.ended in
     let o = c.args.outbox in
     let code = table_fault_number c.in-Err.fault in
-    speaks-stopped p c.args.pin.version _ o t holds r w (stops.Refused code) c.stopped.result c.requires.none
-    (stops-unlisted p _ o t r.ended _ code x (not-opened code c.in-Err.ensures))
-    (subst (λ y. Leaves o t.holds holds w.failed y) c.from.ensures c.stopped.ensures.leaves)
+    let broken = c.args.writer.now.failed in
+    speaks-stopped p c.args.pin.version _ o t holds r w broken (stops.Refused code) c.stopped.result c.requires.none
+    (stops-unlisted p _ o t r broken _ code x (not-opened code c.in-Err.ensures))
+    (subst (λ y. Leaves o t.holds holds broken w.failed y) c.from.ensures c.stopped.ensures.leaves)
     (c.stopped.ensures.outcome ∙ ap (λ y. outcome_of o.sent y) c.from.ensures)
 
 pub returns-clause-bytes : goal.returns-clause-bytes
@@ -40,3 +42,12 @@ returns-clause-bytes g c = λ unread held x.
     (c.concluded-outcome.ensures.bytes (responding p) bound unread left held r
     (c.answer-talked.ensures.talked p a.steps unread held new.0 x)
     (subst (λ n. c.answer-talked.new.outbox.sent ≤ n) new.1 c.answer-talked.ensures.few))
+
+pub returns-in-Err-clause-on : goal.returns-in-Err-clause-on
+returns-in-Err-clause-on g c = λ unread held x. on-nothing _
+
+pub returns-clause-on : goal.returns-clause-on
+returns-clause-on g c = λ unread held x.
+    let a = c.args.host.now.accepted.now in
+    let new = responds _ _ _ _ _ c.new-party.ensures c.into_store.ensures in
+    c.answer-talked.ensures.on (peer_of a c.args.pin.items) a.steps unread held new.0 x

@@ -1,8 +1,10 @@
-use Rattle.std.proofs.Common.{◌≡◌, ◌≤◌, false, true, rules, arith, subst, ◌∙◌}
+use Rattle.std.proofs.Common.{◌≡◌, ◌≤◌, ◌^◌, false, true, length, rules, arith, subst, ◌∙◌}
 use Rattle.definitions.specs.Fingerprints.{two_lanes}
 use Rattle.definitions.specs.Ends.{is_over}
 use Rattle.definitions.specs.Wire.{two_lane_profile}
-use Rattle.peer_threads.proofs.Exchanges.{Laws, at-event, goes-on, stops-event, stops-underway, finished}
+use Rattle.peer_threads.specs.Outcomes.{seen}
+use Rattle.peer_threads.proofs.Exchanges.{Laws, at-event, goes-on-behind, stops-event, stops-underway, stops-late}
+use Rattle.peer_threads.proofs.Exchanges.{finished, on-nothing, on-further}
 use Rattle.peer_threads.proofs.talk.talk.Goals as goal
 
 pub returns-then-is_over-clause-talked : goal.returns-then-is_over-clause-talked
@@ -13,7 +15,7 @@ returns-then-is_over-clause-talked g c = λ s unread held live start.
       agree = c.bytes_agree.ensures two_lanes two_lane_profile;
     } in
     let over : is_over (g.P.Party.held c.loop-turn.party).end.stage ≡ true = search rules in
-    finished laws s _ _ _ _ live (c.loop-turn.invariant.goes s unread held live start) over
+    finished laws s _ _ _ _ live (c.loop-turn.invariant.goes s unread held live start).0 over
 
 pub returns-in_err-event-clause-talked : goal.returns-in_err-event-clause-talked
 returns-in_err-event-clause-talked g c = λ s unread held live start.
@@ -22,9 +24,10 @@ returns-in_err-event-clause-talked g c = λ s unread held live start.
       begin = c.own_begins.ensures two_lanes;
       agree = c.bytes_agree.ensures two_lanes two_lane_profile;
     } in
-    let u = c.loop-turn.invariant.goes s unread held live start in
+    let u = (c.loop-turn.invariant.goes s unread held live start).0 in
     let goes : is_over (g.P.Party.held c.loop-turn.party).end.stage ≡ false = search rules in
-    let stops = stops-underway laws s _ _ _ _ _ _ c.in_err-event.field-0.0 live u goes
+    let stops = stops-underway laws s _ _ _ _ _ (seen c.next.new.reader.failed c.next.new.reader.ended)
+    c.loop-turn.writer.failed c.in_err-event.field-0.0 live u goes
     (c.in_err-event.ensures.read u.bytes u.events u.are_bytes u.came) in
     search (rules, stops)
 
@@ -35,11 +38,12 @@ returns-in_err-hear-clause-talked g c = λ s unread held live start.
       begin = c.own_begins.ensures two_lanes;
       agree = c.bytes_agree.ensures two_lanes two_lane_profile;
     } in
-    let u = c.loop-turn.invariant.goes s unread held live start in
+    let u = (c.loop-turn.invariant.goes s unread held live start).0 in
     let goes : is_over (g.P.Party.held c.loop-turn.party).end.stage ≡ false = search rules in
     let x = at-event s _ _ _ _ _ _ _ u (c.in_ok-event.ensures.read u.bytes u.events u.are_bytes u.came) goes in
     let stops =
-    stops-event laws s _ _ _ _ _ c.next.new.reader.ended _ c.in_err-hear.field-0.0 live x c.in_err-hear.ensures.stopped in
+    stops-event laws s _ _ _ _ _ (seen c.next.new.reader.failed c.next.new.reader.ended) c.hear.new.writer.failed _
+    c.in_err-hear.field-0.0 live x c.in_err-hear.ensures.stopped in
     search (rules, stops)
 
 pub loop-turn-preserved : goal.loop-turn-preserved
@@ -58,14 +62,44 @@ loop-turn-preserved g c = record {
         begin = c.own_begins.ensures two_lanes;
         agree = c.bytes_agree.ensures two_lanes two_lane_profile;
       } in
-      let u = c.loop-turn.invariant.goes s unread held live start in
+      let u = (c.loop-turn.invariant.goes s unread held live start).0 in
       let goes : is_over (g.P.Party.held c.loop-turn.party).end.stage ≡ false = search rules in
       let more = c.in_ok-event.ensures.read u.bytes u.events u.are_bytes u.came in
       let x = at-event s _ _ _ _ _ _ _ u more goes in
-      goes-on laws s _ _ _ _ _ _ _ _ live x more.3 c.in_ok-hear.ensures.heard c.in_ok-hear.ensures.said;
+      let late = (c.loop-turn.invariant.goes s unread held live start).1 in
+      let next =
+      goes-on-behind laws s _ _ _ _ _ _ _ _ live x more.3 c.in_ok-hear.ensures.heard c.in_ok-hear.ensures.said _ late in
+      let on = (c.loop-turn.invariant.goes s unread held live start).2 in
+      (next.0, next.1, on-further _ _ _ on (more.0, more.1, more.2));
 }
 
 pub returns-clause-talked : goal.returns-clause-talked
 returns-clause-talked g c = λ s unread held live start.
-    let u = c.loop-turn.invariant.goes s unread held live start in
-    record { bytes = u.bytes; are_bytes = u.are_bytes; read = u.read; why = tt }
+    let laws : Laws = record {
+      say = c.frames_say.ensures two_lanes;
+      begin = c.own_begins.ensures two_lanes;
+      agree = c.bytes_agree.ensures two_lanes two_lane_profile;
+    } in
+    let u = (c.loop-turn.invariant.goes s unread held live start).0 in
+    let late = (c.loop-turn.invariant.goes s unread held live start).1 in
+    let many : 2 ^ 32 ≤ length u.events = omega arith in
+    stops-late laws s _ _ _ _ (seen c.loop-turn.reader.failed c.loop-turn.reader.ended) c.loop-turn.writer.failed u many
+
+pub returns-then-is_over-clause-on : goal.returns-then-is_over-clause-on
+returns-then-is_over-clause-on g c = λ s unread held live start.
+    (c.loop-turn.invariant.goes s unread held live start).2
+
+pub returns-in_err-event-clause-on : goal.returns-in_err-event-clause-on
+returns-in_err-event-clause-on g c = λ s unread held live start.
+    let so = c.loop-turn.invariant.goes s unread held live start in
+    let more = c.in_err-event.ensures.read so.0.bytes so.0.events so.0.are_bytes so.0.came in
+    on-further _ _ _ so.2 (more.0, more.1, more.2)
+
+pub returns-in_err-hear-clause-on : goal.returns-in_err-hear-clause-on
+returns-in_err-hear-clause-on g c = λ s unread held live start.
+    let so = c.loop-turn.invariant.goes s unread held live start in
+    let more = c.in_ok-event.ensures.read so.0.bytes so.0.events so.0.are_bytes so.0.came in
+    on-further _ _ _ so.2 (more.0, more.1, more.2)
+
+pub returns-clause-on : goal.returns-clause-on
+returns-clause-on g c = λ s unread held live start. (c.loop-turn.invariant.goes s unread held live start).2

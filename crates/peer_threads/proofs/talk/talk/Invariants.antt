@@ -1,8 +1,8 @@
-use Rattle.std.proofs.Common.{◌≡◌, ℕ, ◌≤◌, ◌^◌, true, false, List, Option}
+use Rattle.std.proofs.Common.{◌≡◌, ℕ, ◌≤◌, ◌^◌, true, false, List, length, Option}
 use Rattle.definitions.specs.Fingerprints.{Lanes}
 use Rattle.definitions.specs.Ends.{is_live}
 use Rattle.definitions.specs.Engines.{Speaker}
-use Rattle.peer_threads.specs.Inboxes.{Counts}
+use Rattle.peer_threads.specs.Inboxes.{Counts, ReadOn}
 use Rattle.peer_threads.specs.Outcomes.{traffic}
 use Rattle.peer_threads.specs.Underway.{Underway, most_sent}
 use Rattle.peer_threads.proofs.talk.talk.Given as goal
@@ -18,6 +18,8 @@ invariant-loop-turn g l = record {
       Underway s (g.P.Party.held l.initial.party) l.initial.inbox l.initial.outbox
       (traffic unread (g.R.Read.remaining l.initial.reader.inner) held
       (g.W.Write.contents l.initial.writer.inner)) →
-      Underway s (g.P.Party.held l.party) l.inbox l.outbox
-      (traffic unread (g.R.Read.remaining l.reader.inner) held (g.W.Write.contents l.writer.inner));
+      (u : Underway s (g.P.Party.held l.party) l.inbox l.outbox
+      (traffic unread (g.R.Read.remaining l.reader.inner) held (g.W.Write.contents l.writer.inner)))
+      × (l._turn ≤ length u.events)
+      × ReadOn (g.R.Read.remaining l.initial.reader.inner) (g.R.Read.remaining l.reader.inner);
 }

@@ -1,4 +1,4 @@
-use Rattle.std.proofs.Common.{rules, ◌≡◌, ◌≤◌, ◌∙◌, true, Err, sym, subst, take, drop}
+use Rattle.std.proofs.Common.{rules, ◌≡◌, ◌≤◌, ◌∙◌, true, Err, refl, sym, subst, take, drop}
 use Rattle.std.proofs.lemmas.List.{take-append-drop}
 use Rattle.wire_core.specs.Feeds.{is_before_hello}
 use Rattle.peer_threads.specs.Inboxes.{InboxState, HasRead, Greeted}
@@ -33,5 +33,5 @@ returns-clause-held c =
     let rest = c.rest-rest.result.now in
     let taken = c.in_ok-taken.taken in
     let fed = few_held old new rest c.rest-rest.ensures count taken c.in_ok-taken._none few due did.next did.joined
-    c.skip.ensures in
+    c.skip.ensures refl in
     rw (← c.self.view_is) (λ bytes es fits has over. fed bytes es fits has)

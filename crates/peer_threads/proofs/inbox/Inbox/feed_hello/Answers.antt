@@ -1,11 +1,13 @@
 use Rattle.std.proofs.Common.{rules, ◌≡◌, true, Err, sym, ◌∙◌, subst}
+use Rattle.definitions.specs.Accounts.{Seen}
 use Rattle.peer_threads.specs.Inboxes.{Greeted}
 use Rattle.peer_threads.proofs.inbox.Inbox.feed_hello.Goals as goal
 
 pub pieces-preserved : goal.pieces-preserved
 pieces-preserved c =
-    let did = c.in_ok-feed_few.ensures in (
-      (λ bytes es fits has. did.held bytes es fits (c.pieces.invariant.0 bytes es fits has) true),
+    let did = c.in_ok-feed_few.ensures in
+    let seen : Seen = record { failed = true; ended = true } in (
+      (λ bytes es fits has. did.held bytes es fits (c.pieces.invariant.0 bytes es fits has) seen),
       did.reads.0 ∙ c.pieces.invariant.1,
     )
 

@@ -2,6 +2,7 @@ use Rattle.std.proofs.Common.{rules, ◌≡◌, ◌∷◌, ◌++◌, [], Option,
 use Rattle.wire_core.specs.Events.{event_value}
 use Rattle.wire_core.specs.Feeds.{StreamState, fault_at}
 use Rattle.wire_core.specs.declared.event.Event as declared
+use Rattle.peer_threads.specs.Outcomes.{seen}
 use Rattle.peer_threads.specs.Inboxes.{HasRead, Held, FetchStops, Next}
 use Rattle.peer_threads.proofs.InboxSteps.{reads_nothing, reads_more, reads_so, fetch_stops}
 use Rattle.peer_threads.proofs.inbox.Inbox.next.Goals as goal
@@ -16,7 +17,7 @@ returns-in_err-event-clause-read g c =
     let unread = g.R.Read.remaining c.args.reader.now.inner in
     let left = g.R.Read.remaining c.reads.reader.inner in
     let is : c.from_residual.result ≡ Err c.in_err-event.field-0.0 = search rules in
-    let over = c.reads.reader.ended in
+    let over = seen c.reads.reader.failed c.reads.reader.ended in
     let new = c.next_held.new.self in
     reads_so unread left c.args.self.now (HasRead c.reads.self)
     (λ bytes es. Next over new bytes es c.from_residual.result)
@@ -27,7 +28,7 @@ pub returns-in-Some-clause-read : goal.returns-in-Some-clause-read
 returns-in-Some-clause-read g c =
     let unread = g.R.Read.remaining c.args.reader.now.inner in
     let left = g.R.Read.remaining c.reads.reader.inner in
-    let over = c.reads.reader.ended in
+    let over = seen c.reads.reader.failed c.reads.reader.ended in
     let new = c.next_held.new.self in
     reads_so unread left c.args.self.now (HasRead c.reads.self)
     (λ bytes es. HasRead new bytes (es ++ event_value c.in-Some.event ∷ []))
@@ -40,7 +41,7 @@ reads-preserved g c =
     let unread = g.R.Read.remaining c.args.reader.now.inner in
     let mid = g.R.Read.remaining c.reads.reader.inner in
     let left = g.R.Read.remaining c.read_more.new.reader.inner in
-    let over = c.reads.reader.ended in
+    let over = seen c.reads.reader.failed c.reads.reader.ended in
     let fed = c.next_held.new.self in
     let new = c.read_more.new.self in
     let all = reads_more unread mid left c.args.self.now c.reads.self fed (HasRead new) c.reads.invariant.0
@@ -60,7 +61,7 @@ returns-in_err-read_more-in-None-clause-read g c =
     let result = c.from_residual-in_err-read_more-in-None.result in
     let stop = c.in_err-read_more-in-None.field-0.0 in
     let is : result ≡ Err stop = search rules in
-    let over = c.read_more.new.reader.ended in
+    let over = seen c.read_more.new.reader.failed c.read_more.new.reader.ended in
     let fed = c.next_held.new.self in
     let new = c.read_more.new.self in
     let none = subst

@@ -1,4 +1,4 @@
-use Rattle.std.proofs.Common.{rules, ◌≡◌, ◌∙◌, [], Err, sym, append-nil, subst}
+use Rattle.std.proofs.Common.{refl, rules, ◌≡◌, ◌∙◌, [], Err, sym, append-nil, subst}
 use Rattle.peer_threads.specs.Inboxes.{InboxState, HasRead, Held}
 use Rattle.peer_threads.specs.Stops.{of_decoding}
 use Rattle.peer_threads.proofs.InboxSteps.{held, stopped}
@@ -27,4 +27,4 @@ returns-clause-held c =
     let taken = c.in_ok-taken.taken in
     let event = c.in_ok-taken.event in
     rw (← c.self.view_is)
-    (held old new c.rest.result.now c.rest.ensures taken event did.next did.joined c.skip.ensures)
+    (held old new c.rest.result.now c.rest.ensures taken event did.next did.joined c.skip.ensures refl)

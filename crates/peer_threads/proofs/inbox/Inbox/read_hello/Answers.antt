@@ -1,5 +1,6 @@
 use Rattle.std.proofs.Common.{rules, ◌≡◌, true, None, Err, sym, ap, ◌∙◌, subst, arith}
 use Rattle.wire_core.specs.Feeds.{StreamState, fault_at, is_before_hello}
+use Rattle.peer_threads.specs.Outcomes.{seen}
 use Rattle.peer_threads.specs.Inboxes.{HasRead, FetchStops, Greeted}
 use Rattle.peer_threads.proofs.InboxSteps.{reads_nothing, reads_more, reads_so, fetch_stops, hello_fine}
 use Rattle.peer_threads.proofs.inbox.Inbox.read_hello.Goals as goal
@@ -14,7 +15,7 @@ returns-in_err-feed_hello-clause-read g c =
     let unread = g.R.Read.remaining c.args.reader.now.inner in
     let left = g.R.Read.remaining c.reads.reader.inner in
     let is : c.from_residual.result ≡ Err c.in_err-feed_hello.field-0.0 = search rules in
-    let over = c.reads.reader.ended in
+    let over = seen c.reads.reader.failed c.reads.reader.ended in
     let new = c.feed_hello.new.self in
     let did = c.in_err-feed_hello.ensures in
     reads_so unread left c.args.self.now (HasRead c.reads.self)
@@ -26,7 +27,7 @@ pub returns-then-not-hello_is_due-clause-read : goal.returns-then-not-hello_is_d
 returns-then-not-hello_is_due-clause-read g c =
     let unread = g.R.Read.remaining c.args.reader.now.inner in
     let left = g.R.Read.remaining c.reads.reader.inner in
-    let over = c.reads.reader.ended in
+    let over = seen c.reads.reader.failed c.reads.reader.ended in
     reads_so unread left c.args.self.now (HasRead c.reads.self) (HasRead c.feed_hello.new.self)
     (λ bytes es fits has. c.in_ok-feed_hello.ensures.held bytes es fits has over) c.reads.invariant.0
 
@@ -35,7 +36,7 @@ reads-preserved g c =
     let unread = g.R.Read.remaining c.args.reader.now.inner in
     let mid = g.R.Read.remaining c.reads.reader.inner in
     let left = g.R.Read.remaining c.read_more.new.reader.inner in
-    let over = c.reads.reader.ended in
+    let over = seen c.reads.reader.failed c.reads.reader.ended in
     let fed = c.feed_hello.new.self in
     let new = c.read_more.new.self in
     let all = reads_more unread mid left c.args.self.now c.reads.self fed (HasRead new) c.reads.invariant.0
@@ -53,7 +54,7 @@ returns-in_err-read_more-clause-read g c =
     let result = c.from_residual-in_err-read_more.result in
     let stop = c.in_err-read_more.field-0.0 in
     let is : result ≡ Err stop = search rules in
-    let over = c.read_more.new.reader.ended in
+    let over = seen c.read_more.new.reader.failed c.read_more.new.reader.ended in
     let fed = c.feed_hello.new.self in
     let new = c.read_more.new.self in
     let due : is_before_hello fed.feed.standing ≡ true = search rules in

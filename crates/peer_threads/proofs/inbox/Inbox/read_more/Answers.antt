@@ -1,12 +1,20 @@
-use Rattle.std.proofs.Common.{rules, ◌≡◌, ◌+◌, [], refl}
-use Rattle.peer_threads.specs.Inboxes.{InboxState}
+use Rattle.std.proofs.Common.{rules, ◌≡◌, ◌+◌, ◌<◌, ◌≤◌, ◌^◌, inr, [], length, refl, ap, arith}
+use Rattle.peer_threads.specs.Outcomes.{seen}
+use Rattle.peer_threads.specs.Inboxes.{InboxState, IsUnread}
+use Rattle.peer_threads.specs.declared.outcome.Side.TheVariants as sides
 use Rattle.peer_threads.proofs.InboxSteps.{reads_nothing, came}
 use Rattle.peer_threads.proofs.inbox.Inbox.read_more.Goals as goal
 
 pub returns-then-self-ge-MAX_READS-clause-read : goal.returns-then-self-ge-MAX_READS-clause-read
 returns-then-self-ge-MAX_READS-clause-read g c =
     let unread = g.R.Read.remaining c.args.reader.now.inner in
-    reads_nothing unread c.args.self.now (λ bytes es. Unit {0}) (λ bytes es fits has. tt)
+    let most = c.if-self-ge-MAX_READS.true in
+    let same = ap (λ (b : InboxState). b.reads) c.self.view_is in
+    reads_nothing unread c.args.self.now (λ bytes es. IsUnread (seen c.args.reader.now.failed c.args.reader.now.ended)
+    bytes es sides.Read)
+    (λ bytes es fits has. let counted = has.counted in
+    let all : 2 ^ 32 ≤ length bytes = omega arith in
+    (refl, inr all, (has.more, has.events)))
 
 pub returns-clause-read : goal.returns-clause-read
 returns-clause-read g c =
@@ -17,4 +25,5 @@ returns-clause-read g c =
     let left = g.R.Read.remaining c.fill.new.reader.inner in
     let none : inside.piece ≡ [] = search rules in
     let bytes = c.in-Ok.ensures.bytes in
-    rw (← c.self.view_is) (came unread left old new none refl bytes.0 bytes.1)
+    let some : 0 < length c.fill.new.self = search rules in
+    rw (← c.self.view_is) (came unread left old new none refl bytes.0 refl some bytes.1)
