@@ -1,13 +1,14 @@
 //! What `rangesync answer` does, in plain Rust over std alone, to time the proved program beside it.
 //!
-//!     plain make DIR               writes DIR/items, DIR/message, DIR/equal, DIR/sums and DIR/list
+//!     plain make DIR               writes DIR/items, DIR/message, DIR/equal, DIR/sums, DIR/counted and DIR/list
 //!     plain run DIR [ROUNDS]       prints the least time of each step in microseconds, and writes DIR/reply
 //!     plain codec DIR [ROUNDS]     the same of reading and of writing the messages DIR/sums and DIR/list
 //!     plain feed DIR [ROUNDS]      the same of reading them again and again as a stream of 64 MB in pieces
 //!
 //! `items` has 65,536 lines of 32-byte items in hex, in no order. `message` is one Sum over everything
 //! with a fingerprint of 32 zero bytes, `equal` the same with the fingerprint of the items. `sums` is a message
-//! of 131,072 Sums, whose ranges follow one another and have bounds of 32 bytes, and `list` one List of the items.
+//! of 131,072 Sums, whose ranges follow one another and have bounds of 32 bytes, `counted` the same in wire profile 2,
+//! and `list` one List of the items.
 
 mod sha256;
 mod short;
@@ -495,6 +496,26 @@ fn many_sums(numbers: &mut Numbers) -> Vec<Part> {
     lowers.zip(uppers).map(|(lower, upper)| Part::Sum(Range { lower, upper }, Fingerprint::of_item(&lower))).collect()
 }
 
+/// A message of Sums in wire profile 2: each counts one item.
+fn counted(message: &[u8]) -> Vec<u8> {
+    let (mut rest, mut text) = (message, Vec::new());
+    while let Some((length, behind)) = rest.split_first_chunk::<4>() {
+        let (body, next) = behind.split_at(u32::from_be_bytes(*length) as usize);
+        if body[0] == 1 {
+            let (front, lanes) = body.split_at(body.len() - 32);
+            text.extend_from_slice(&(body.len() as u32 + 4).to_be_bytes());
+            text.extend_from_slice(front);
+            text.extend_from_slice(&1u32.to_be_bytes());
+            text.extend_from_slice(lanes);
+        } else {
+            text.extend_from_slice(length);
+            text.extend_from_slice(body);
+        }
+        rest = next;
+    }
+    text
+}
+
 fn make(folder: &Path) -> Result<(), Refusal> {
     let mut numbers = Numbers(1);
     let mut items = random_items(&mut numbers, MAX_ITEMS);
@@ -510,7 +531,9 @@ fn make(folder: &Path) -> Result<(), Refusal> {
     write(&folder.join("items"), text.as_bytes())?;
     write(&folder.join("message"), &opening(Fingerprint::ZERO)?)?;
     write(&folder.join("equal"), &opening(sum)?)?;
-    write(&folder.join("sums"), &encode_message(&many_sums(&mut numbers))?)?;
+    let sums = encode_message(&many_sums(&mut numbers))?;
+    write(&folder.join("sums"), &sums)?;
+    write(&folder.join("counted"), &counted(&sums))?;
     items.sort_unstable();
     let whole = Range { lower: Short::new(&[]), upper: None };
     write(&folder.join("list"), &encode_message(&[Part::List(whole, items)])?)

@@ -8,6 +8,7 @@ use crate::frames::{
 };
 use crate::letters::item;
 use crate::tables::{BINARY_EIGHT, accepted};
+use digest_core::{Counted, Fingerprint};
 use item_core::Item;
 use peer_threads::{Outcome, Shared, dial_one, serve_one};
 use range_tree::Tree;
@@ -47,6 +48,9 @@ pub(crate) fn opened(
 #[derive(Clone, Copy, Debug, PartialEq, Eq)]
 pub(crate) enum Engine {
     Dial,
+    /// As `Dial`, in profile 2.
+    DialCounted,
+    /// In the profile of the peer's hello.
     Serve,
 }
 
@@ -87,7 +91,22 @@ fn called<T: Wait, R: Read + Drop, W: Write + Drop>(
     let mut reader = Watched::new(input);
     let mut writer = Watched::new(output);
     match engine {
-        Engine::Dial => dial_one(rt, alloc, shared, seat, &mut reader, &mut writer),
+        Engine::Dial => dial_one::<_, _, _, _, _, Fingerprint>(
+            rt,
+            alloc,
+            shared,
+            seat,
+            &mut reader,
+            &mut writer,
+        ),
+        Engine::DialCounted => dial_one::<_, _, _, _, _, Counted>(
+            rt,
+            alloc,
+            shared,
+            seat,
+            &mut reader,
+            &mut writer,
+        ),
         Engine::Serve => serve_one(rt, alloc, shared, seat, &mut reader, &mut writer),
     }
 }

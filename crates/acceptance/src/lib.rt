@@ -26,6 +26,8 @@ mod parts;
 #[cfg(test)]
 mod placing;
 #[cfg(test)]
+mod profiles;
+#[cfg(test)]
 mod sessions;
 #[cfg(test)]
 mod shown;

@@ -22,7 +22,9 @@ fn range_before(rt: &impl Abort, bytes: &[u8]) -> Range {
 
 /// The number of the refusal; none where the bytes spell a message.
 fn fault_in(alloc: Global, bytes: &[u8]) -> Option<u8> {
-    decode_message(alloc, bytes).err().map(DecodeError::number)
+    decode_message::<Fingerprint>(alloc, bytes)
+        .err()
+        .map(DecodeError::number)
 }
 
 #[test]
@@ -68,11 +70,11 @@ fn faults_of_items(rt: HostRuntime) -> Result<(), Fail> {
 
     let (a, b) = (item(&rt, b"a"), item(&rt, b"b"));
     let whole = Range::whole();
-    let falling = Part::list(whole, vec![in alloc; b, a]?);
+    let falling = Part::<Fingerprint>::list(whole, vec![in alloc; b, a]?);
     assert_eq!(rt; falling.err().map(PartFault::number), Some(8));
-    let twice = Part::list(whole, vec![in alloc; a, a]?);
+    let twice = Part::<Fingerprint>::list(whole, vec![in alloc; a, a]?);
     assert_eq!(rt; twice.err().map(PartFault::number), Some(8));
-    let outside = Part::list(range_before(&rt, b"b"), vec![in alloc; b]?);
+    let outside = Part::<Fingerprint>::list(range_before(&rt, b"b"), vec![in alloc; b]?);
     assert_eq!(rt; outside.err().map(PartFault::number), Some(9));
     Ok(())
 }
@@ -139,7 +141,7 @@ fn few_marks(rt: HostRuntime) -> Result<(), Fail> {
     for (count, held) in cases {
         let marks = Marks::new(alloc, &[true; 9][..count])?;
         assert_eq!(rt; marks.bytes(), held, "of {count}");
-        let part = Part::answer(Range::whole(), marks, Vec::new(alloc))
+        let part = Part::<Fingerprint>::answer(Range::whole(), marks, Vec::new(alloc))
             .ok()
             .expect(&rt, "a part");
         let mut text = encode_part(alloc, &part)?;
@@ -165,13 +167,13 @@ fn marks_of(rt: &impl Abort, alloc: Global, count: usize) -> Result<Marks, Fail>
 fn most_marks(rt: HostRuntime) -> Result<(), Fail> {
     let alloc = rt.alloc();
     // A body of 11 bytes and a byte for each 8 marks.
-    let most = Part::answer(
+    let most = Part::<Fingerprint>::answer(
         Range::whole(),
         marks_of(&rt, alloc, 67_108_776)?,
         Vec::new(alloc),
     );
     assert!(rt; most.is_ok());
-    let more = Part::answer(
+    let more = Part::<Fingerprint>::answer(
         Range::whole(),
         marks_of(&rt, alloc, 67_108_777)?,
         Vec::new(alloc),
@@ -214,7 +216,7 @@ fn nine_marks(rt: HostRuntime) -> Result<(), Fail> {
     let alloc = rt.alloc();
     let marks = [true, false, false, false, false, false, false, false, true];
     let marks = Marks::new(alloc, &marks)?;
-    let part = Part::answer(Range::whole(), marks, Vec::new(alloc))
+    let part = Part::<Fingerprint>::answer(Range::whole(), marks, Vec::new(alloc))
         .ok()
         .expect(&rt, "a part");
     let bytes = [
@@ -354,7 +356,7 @@ struct Fed {
 impl Fed {
     fn new(alloc: Global) -> Fed {
         Fed {
-            feed: Feed::new(alloc),
+            feed: Feed::<Fingerprint>::new(alloc),
             events: Vec::new(alloc),
         }
     }
@@ -445,7 +447,7 @@ fn events_one_by_one(rt: HostRuntime) {
     bytes[..9].copy_from_slice(&[0x52, 0x52, 0x53, 0x31, 0, 0, 0, 0x23, 1]);
     bytes[10] = 0xFF;
     bytes[43..].copy_from_slice(&[0, 0, 0, 1, 4, 0, 0, 0, 2, 5, 0x15]);
-    let mut feed = Feed::new(alloc);
+    let mut feed = Feed::<Fingerprint>::new(alloc);
     let front = next_event(&rt, alloc, &mut feed, &bytes[..20]);
     assert_eq!(rt; front, (20, None));
     let part = next_event(&rt, alloc, &mut feed, &bytes[20..]);

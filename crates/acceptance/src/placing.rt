@@ -105,7 +105,7 @@ fn a_place_that_is_rewound(rt: HostRuntime) -> Result<(), Fail> {
 fn a_refusal_stays(rt: HostRuntime) -> Result<(), Fail> {
     let alloc = rt.alloc();
     let sent = message(&rt, vec![in alloc; sum(&rt, b"", b"")]?);
-    let mut cursor = Cursor::start();
+    let mut cursor = Cursor::start::<Fingerprint>();
     let stall = cursor.next(sent.parts(), &sum(&rt, b"", b""));
     assert_eq!(rt; stall, Err(PlaceFault::Stall));
     let cut = cursor.next(sent.parts(), &sum(&rt, b"", b"b"));

@@ -125,7 +125,7 @@ fn shows(
 fn two_sessions(rt: HostRuntime) -> Result<(), Fail> {
     let alloc = rt.alloc();
     let setup = two_nodes(&rt, alloc)?;
-    let mut world = World::new(alloc, &setup).ok().expect(&rt, "memory");
+    let mut world: World<'_> = World::new(alloc, &setup).ok().expect(&rt, "memory");
     first_session(&rt, alloc, &mut world);
     second_session(&rt, alloc, &mut world);
     shows(&rt, alloc, &world, 0, 2, b"h", b"");
@@ -139,7 +139,7 @@ fn two_sessions(rt: HostRuntime) -> Result<(), Fail> {
 fn idle_steps(rt: HostRuntime) -> Result<(), Fail> {
     let alloc = rt.alloc();
     let setup = two_nodes(&rt, alloc)?;
-    let mut world = World::new(alloc, &setup).ok().expect(&rt, "memory");
+    let mut world: World<'_> = World::new(alloc, &setup).ok().expect(&rt, "memory");
     assert_eq!(rt; step(&rt, alloc, &mut world, Step::Open(0, 0)), Did::Idle);
     assert_eq!(rt; step(&rt, alloc, &mut world, Step::Deliver(9)), Did::Idle);
     assert_eq!(rt;
@@ -163,7 +163,7 @@ fn full_node(rt: HostRuntime) -> Result<(), Fail> {
     assert!(rt; add(&rt, alloc, &mut setup, ONE, b"a")? == 0);
     assert!(rt; add(&rt, alloc, &mut setup, ONE, b"b")? == 0);
     let opened = run(alloc, &setup, &[Step::Open(0, 1)]);
-    let mut world = opened.ok().expect(&rt, "memory");
+    let mut world: World<'_> = opened.ok().expect(&rt, "memory");
     assert!(rt; report(&rt, &world, 0).bound.is_none() && report(&rt, &world, 0).messages == 1);
     assert_eq!(rt;
         step(&rt, alloc, &mut world, Step::Absorb(0, Side::Initiator)),

@@ -1,14 +1,16 @@
 -- Laws of the two-lane fingerprint.
 use Rattle.std.proofs.Common.{◌≡◌, ℕ, ◌+◌, ◌%◌, ◌^◌, List, [], ◌++◌, ◌∙◌, sym, ap, rules}
-use Rattle.std.specs.Prelude.{sum_by, take, drop}
+use Rattle.std.specs.Prelude.{sum_by, take, drop, length}
 use Rattle.std.specs.Int.{w128, from_be_bytes}
 use Rattle.std.proofs.Math.Nat.{add-mod-mod, mod-add-mod}
 use Rattle.std.proofs.lemmas.List.Sums.{sum_by-append}
 use Rattle.sha2.specs.Sha256.{sha256}
 use Rattle.definitions.specs.Items.{Item}
 use Rattle.definitions.specs.Fingerprints.{Lanes, IsLanes, IsExact, join_lanes, two_lanes}
+use Rattle.definitions.specs.Wire.{IsProfile, IsFingerprint, two_lane_profile}
+use Rattle.codec_laws.proofs.Made.{two_lanes_real}
 
-add_mod : (m a b : ℕ) → (a + b) % m ≡ (a % m + b % m) % m
+pub add_mod : (m a b : ℕ) → (a + b) % m ≡ (a % m + b % m) % m
 add_mod m a b = sym (mod-add-mod a m (b % m) ∙ add-mod-mod a b m)
 
 -- where each sum over C is the sum of those over A and B, so is the fingerprint
@@ -40,3 +42,15 @@ unit f value = search rules
 
 pub exact : IsExact two_lanes
 exact f g = search rules
+
+pub real : IsProfile two_lane_profile
+real = two_lanes_real
+
+pub fixed : (f : Lanes) → length (two_lane_profile.text f) ≡ 32
+fixed f = search rules
+
+pub spelled : (f : Lanes) → IsLanes f → IsFingerprint two_lane_profile f
+spelled f value =
+    let first = value.first_fits in
+    let second = value.second_fits in
+    search (rules, first, second)

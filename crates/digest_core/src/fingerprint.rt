@@ -6,6 +6,7 @@ use crate::laws;
 use crate::summary::Summary;
 use item_core::Item;
 use sha2::{Digest, Sha256};
+use std::alloc::AllocError;
 use std::marker::Model;
 
 /// Two sums modulo 2^128 over the items of a set: of the numbers in bytes 0 to 15 of each item's
@@ -67,8 +68,11 @@ impl Fingerprint {
 impl Summary for Fingerprint {
     ghost use Rattle.definitions.specs.Fingerprints.{IsLanes, two_lanes, join_lanes};
     ghost use Rattle.digest_core.specs.Laws as laws;
+    ghost use Rattle.definitions.specs.Wire.{two_lane_profile};
 
     ghost summary = { two_lanes };
+
+    ghost profile = { two_lane_profile };
 
     ghost joined = { join_lanes };
 
@@ -88,6 +92,12 @@ impl Summary for Fingerprint {
 
     ghost exact = { laws.exact };
 
+    ghost real = { laws.real };
+
+    ghost spelled = { laws.spelled };
+
+    ghost fixed = { laws.fixed };
+
     fn zero() -> Fingerprint {
         Fingerprint {
             first: 0,
@@ -106,8 +116,31 @@ impl Summary for Fingerprint {
         }
     }
 
+    fn of_set(_count: usize, lanes: Fingerprint) -> Fingerprint {
+        lanes
+    }
+
     fn equals(self, other: Fingerprint) -> bool {
         self == other
+    }
+
+    fn hello() -> [u8; 4] {
+        [0x52, 0x52, 0x53, 0x31]
+    }
+
+    fn size() -> usize {
+        32
+    }
+
+    fn push(self, out: &mut Vec<u8>) -> Result<(), AllocError> {
+        out.extend_from_slice(&self.to_bytes())?;
+        Ok(())
+    }
+
+    fn read(bytes: &[u8]) -> Fingerprint {
+        let mut own = [0u8; 32];
+        own.copy_from_slice(bytes);
+        Fingerprint::from_bytes(own)
     }
 
     fn known(self) {}

@@ -1,11 +1,13 @@
 //! Fingerprints of sets of items.
 #![tactic(auto)]
 
+mod counted;
 mod fingerprint;
 pub mod laws;
 mod summary;
 #[cfg(test)]
 mod tests;
 
+pub use counted::Counted;
 pub use fingerprint::Fingerprint;
 pub use summary::Summary;

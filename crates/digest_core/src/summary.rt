@@ -1,15 +1,23 @@
-ghost use Rattle.std.specs.Prelude.{◌≡◌, List, [], ◌∷◌, ◌++◌};
+ghost use Rattle.std.specs.Prelude.{◌≡◌, List, [], ◌∷◌, ◌++◌, length, OnOk};
 ghost use Rattle.definitions.specs.Items as items;
 ghost use Rattle.definitions.specs.Fingerprints as fingerprints;
-ghost use Rattle.definitions.specs.Fingerprints.{IsExact};
+ghost use Rattle.definitions.specs.Fingerprints.{IsExact, two_lanes};
+ghost use Rattle.definitions.specs.Wire as wire;
+ghost use Rattle.definitions.specs.Wire.{IsProfile, IsFingerprint};
 
+use crate::fingerprint::Fingerprint;
 use item_core::Item;
+use std::alloc::AllocError;
 
-/// What stands for a set of items, in a fixed size. The summaries of two sets without a common item
-/// join to that of their union: `join` is associative and commutative, and `zero` is its unit.
+/// What stands for a set of items, in a fixed size, and how it is spelled. The summaries of two sets
+/// without a common item join to that of their union: `join` is associative and commutative, and
+/// `zero` is its unit.
 pub trait Summary: Copy + Drop {
     /// The summary of a list of items, and the test of two summaries.
     ghost summary: { fingerprints.Summary Self };
+
+    /// The profile in which such summaries are sent.
+    ghost profile: { wire.Profile Self };
 
     /// The summary of two lists, one behind the other, from those of the two.
     ghost joined: { Self → Self → Self };
@@ -25,6 +33,10 @@ pub trait Summary: Copy + Drop {
     fn of_item(item: &Item) -> Self
         ensures { result ≡ summary.of (item.now ∷ []) };
 
+    /// The summary of each set of so many items with this two-lane sum.
+    fn of_set(count: usize, lanes: Fingerprint) -> Self
+        ensures { (A : List items.Item) → count ≡ length A → lanes ≡ two_lanes.of A → result ≡ summary.of A };
+
     /// The summary of the items of both.
     fn join(self, other: Self) -> Self
         ensures { result ≡ joined self other };
@@ -32,6 +44,23 @@ pub trait Summary: Copy + Drop {
     /// Whether the two are equal.
     fn equals(self, other: Self) -> bool
         ensures { result ≡ summary.same self other };
+
+    /// The four bytes with which a stream begins in which such summaries are sent.
+    fn hello() -> [u8; 4]
+        ensures { result ≡ profile.hello };
+
+    /// The number of bytes that spell a summary.
+    fn size() -> usize
+        ensures { result ≡ profile.size };
+
+    /// Appends the bytes that spell it.
+    fn push(self, out: &mut Vec<u8>) -> Result<(), AllocError>
+        ensures { OnOk result (out.new.items ≡ out.old.items ++ profile.text self) };
+
+    /// The summary that these bytes spell.
+    fn read(bytes: &[u8]) -> Self
+        requires { length bytes.now ≡ profile.size }
+        ensures { result ≡ profile.read bytes.now };
 
     /// Tells a proof that a value in hand is one of the type's values.
     fn known(self)
@@ -54,4 +83,12 @@ pub trait Summary: Copy + Drop {
 
     /// The test answers whether two summaries are equal.
     ghost exact: { IsExact summary };
+
+    /// The profile is a real one, and spells each value.
+    ghost real: { IsProfile profile };
+
+    ghost spelled: { (f : Self) → is_value f → IsFingerprint profile f };
+
+    /// Whatever is spelled takes the same number of bytes.
+    ghost fixed: { (f : Self) → length (profile.text f) ≡ profile.size };
 }

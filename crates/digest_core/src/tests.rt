@@ -1,7 +1,8 @@
 ghost use Rattle.std.specs.Prelude.{◌≡◌};
 
-use crate::{Fingerprint, Summary};
+use crate::{Counted, Fingerprint, Summary};
 use item_core::Item;
+use std::alloc::Global;
 use std::process::Abort;
 
 fn item(rt: &impl Abort, bytes: &[u8]) -> Item {
@@ -59,4 +60,37 @@ fn fingerprint_of_a_and_b(rt: HostRuntime) {
         0x49, 0x58,
     ];
     assert_eq!(rt; sum.to_bytes(), lanes);
+}
+
+// Spelled and read again, through the trait alone.
+fn spelled_and_read<S: Summary>(rt: &impl Abort, alloc: Global, sum: S) -> Vec<u8> {
+    let mut text = Vec::new(alloc);
+    sum.push(&mut text).expect(rt, "memory");
+    assert!(rt; text.len() == S::size());
+    assert!(rt; S::read(&text).equals(sum));
+    text
+}
+
+#[test]
+fn count_beside_the_lanes(rt: HostRuntime) {
+    let both = [item(&rt, b"a"), item(&rt, b"b")];
+    let sum: Counted = total(&both);
+    let lanes: Fingerprint = total(&both);
+    assert!(rt; sum.equals(Counted::of_set(2, lanes)));
+    assert!(rt; sum.equals(Counted::of_set(4_294_967_298, lanes)));
+    assert!(rt; !sum.equals(Counted::of_set(3, lanes)));
+    let text = spelled_and_read(&rt, rt.alloc(), sum);
+    assert!(rt; text.len() == 36);
+    assert!(rt; &text[..4] == [0, 0, 0, 2].as_slice());
+    assert!(rt; &text[4..] == lanes.to_bytes().as_slice());
+}
+
+// The count of 2^32 items is 0, beside the lanes of both.
+#[test]
+fn count_that_wraps(rt: HostRuntime) {
+    let a = Fingerprint::of_item(&item(&rt, b"a"));
+    let b = Fingerprint::of_item(&item(&rt, b"b"));
+    let joined = Counted::of_set(2_147_483_648, a).join(Counted::of_set(2_147_483_648, b));
+    assert!(rt; joined.equals(Counted::of_set(0, a.join(b))));
+    assert!(rt; !joined.equals(Counted::zero()));
 }

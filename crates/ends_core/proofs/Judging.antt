@@ -5,7 +5,7 @@ use Rattle.std.specs.Prelude.{◌↔◌, ⊤}
 use Rattle.std.specs.List.{list_any}
 use Rattle.definitions.specs.Items.{Apart, Range, same_item, same_range, same_upper, whole}
 use Rattle.definitions.specs.Sets.{has}
-use Rattle.definitions.specs.Fingerprints.{Lanes, two_lanes}
+use Rattle.definitions.specs.Fingerprints.{Summary}
 use Rattle.definitions.specs.Messages.{Part, Sum, Listing, Answer, Message, RangesRise, has_open, open_ranges}
 use Rattle.definitions.specs.Placing.{Place, First, Behind, Refused, placed_to, ends_before, next, next_first}
 use Rattle.definitions.specs.Placing.{next_inside, next_outside, next_sum, is_list, finish, behind}
@@ -93,7 +93,7 @@ finished (Behind left None) k = where-any (list_any is_list left) _ (omega arith
 finished (Behind left (Some Z)) k = omega arith
 finished (Refused code) k = k
 
-other : (s : Stage Lanes) (M : Message Lanes) → IsOther (stage_fault s M)
+other : {F : Type 0} (s : Stage F) (M : Message F) → IsOther (stage_fault s M)
 other Fresh M = finished (fold next First M) (steps M First tt)
 other (Waits own) M = finished (fold next (behind own) M) (steps M (behind own) tt)
 other Over M = omega arith
@@ -101,7 +101,7 @@ other Spent M = omega arith
 
 -- ---- where a message may come it is not refused for that
 
-exact : (s : Stage Lanes) (M : Message Lanes) → PlacingIsExact Lanes → OpeningIsExact Lanes →
+exact : {F : Type 0} (s : Stage F) (M : Message F) → PlacingIsExact F → OpeningIsExact F →
     Apart (open_ranges (own_of s)) → RangesRise M → (stage_fault s M ≡ None) ↔ Comes s M
 exact Fresh M placing opening apart rise = opening M
 exact (Waits own) M placing opening apart rise = placing own M apart rise
@@ -109,7 +109,7 @@ exact Over M placing opening apart rise = ((λ no. absurd (cc)), (λ no. absurd 
 exact Spent M placing opening apart rise = ((λ no. absurd (cc)), (λ no. absurd no))
 
 -- a message without fault is not refused by another number than that of too many parts
-taken : (b c : Bool) (N : Message Lanes) (code : ℕ) → too_many_parts < code →
+taken : {F : Type 0} (b c : Bool) (N : Message F) (code : ℕ) → too_many_parts < code →
     Refuses code ≡ (if b then (if c then Replies N else Refuses too_many_parts) else Ends) → ⊥
 taken true true N code above e = absurd (cc)
 taken true false N code above e = let same : code ≡ too_many_parts = cc in omega arith
@@ -123,30 +123,32 @@ place_number places.MissingAnswer = omega arith
 place_number places.MarkCount = omega arith
 place_number places.AnswerRepeats = omega arith
 
-agrees : (P : Peer) (M : Message Lanes) (fault : Option ℕ) (C : Type 0) (r : Result Turn EndFault) →
+agrees : {F : Type 0} (S : Summary F) (P : Peer) (M : Message F) (fault : Option ℕ) (C : Type 0)
+    (r : Result (Turn F) EndFault) →
     (fault ≡ None) ↔ C → IsOther fault →
-    IfSome (answer_in r) (λ a. a ≡ answer_unless two_lanes P M fault) → AgreesWith C r
-agrees P M None C (Ok turn) comes late same = comes.0 refl
-agrees P M None C (Err (faults.Placing f)) comes late same =
-    let N = reply two_lanes P M in
+    IfSome (answer_in r) (λ a. a ≡ answer_unless S P M fault) → AgreesWith C r
+agrees S P M None C (Ok turn) comes late same = comes.0 refl
+agrees S P M None C (Err (faults.Placing f)) comes late same =
+    let N = reply S P M in
     absurd (taken (has_open M) (is_sendable N) N (place_fault_number f) (place_number f) same)
-agrees P M None C (Err faults.TooManyParts) comes late same = comes.0 refl
-agrees P M None C (Err faults.Spent) comes late same =
-    let N = reply two_lanes P M in
+agrees S P M None C (Err faults.TooManyParts) comes late same = comes.0 refl
+agrees S P M None C (Err faults.Spent) comes late same =
+    let N = reply S P M in
     absurd (taken (has_open M) (is_sendable N) N _ (omega arith) same)
-agrees P M None C (Err faults.Memory) comes late same = tt
-agrees P M (Some code) C (Ok (turns.Reply N)) comes late same = absurd (cc)
-agrees P M (Some code) C (Ok turns.Over) comes late same = absurd (cc)
-agrees P M (Some code) C (Err (faults.Placing f)) comes late same = λ may. let none = comes.1 may in absurd (cc)
-agrees P M (Some code) C (Err faults.TooManyParts) comes late same =
+agrees S P M None C (Err faults.Memory) comes late same = tt
+agrees S P M (Some code) C (Ok (turns.Reply N)) comes late same = absurd (cc)
+agrees S P M (Some code) C (Ok turns.Over) comes late same = absurd (cc)
+agrees S P M (Some code) C (Err (faults.Placing f)) comes late same = λ may. let none = comes.1 may in absurd (cc)
+agrees S P M (Some code) C (Err faults.TooManyParts) comes late same =
     let is : too_many_parts ≡ code = cc in
     absurd (omega arith)
-agrees P M (Some code) C (Err faults.Spent) comes late same = λ may. let none = comes.1 may in absurd (cc)
-agrees P M (Some code) C (Err faults.Memory) comes late same = tt
+agrees S P M (Some code) C (Err faults.Spent) comes late same = λ may. let none = comes.1 may in absurd (cc)
+agrees S P M (Some code) C (Err faults.Memory) comes late same = tt
 
-pub judged : (h : Held) (M : Message Lanes) (r : Result Turn EndFault) → PlacingIsExact Lanes → OpeningIsExact Lanes →
+pub judged : {F : Type 0} (S : Summary F) (h : Held F) (M : Message F) (r : Result (Turn F) EndFault) →
+    PlacingIsExact F → OpeningIsExact F →
     Apart (open_ranges (own_of h.end.stage)) → RangesRise M →
-    IfSome (answer_in r) (λ a. a ≡ answer two_lanes h.end M) → IsJudged h M r
-judged h M r placing opening apart rise same =
-    agrees h.end.peer M (stage_fault h.end.stage M) (Comes h.end.stage M) r
+    IfSome (answer_in r) (λ a. a ≡ answer S h.end M) → IsJudged h M r
+judged S h M r placing opening apart rise same =
+    agrees S h.end.peer M (stage_fault h.end.stage M) (Comes h.end.stage M) r
     (exact h.end.stage M placing opening apart rise) (other h.end.stage M) same

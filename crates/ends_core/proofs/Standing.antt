@@ -3,11 +3,11 @@ use Rattle.std.proofs.Common.{◌≡◌, ℕ, ◌≤◌, ◌<◌, ◌+◌, Bool,
 use Rattle.std.specs.List.{AllByRecursion}
 use Rattle.definitions.proofs.Lemmas.{All-append, fold-append}
 use Rattle.std.specs.Prelude.{fold, if◌then◌else◌}
-use Rattle.definitions.specs.Fingerprints.{Lanes, two_lanes}
+use Rattle.definitions.specs.Fingerprints.{Summary}
 use Rattle.definitions.specs.Messages.{Part, Message}
 use Rattle.definitions.specs.Ranks.{ranks_by, rank_by}
 use Rattle.definitions.specs.Replies.{Peer}
-use Rattle.definitions.specs.Wire.{two_lane_profile, IsPart}
+use Rattle.definitions.specs.Wire.{Profile, IsPart}
 use Rattle.definitions.specs.Ends.{End, Stage, Fresh, Waits, Over, Spent, Answer, Replies, Ends, Refuses, after, after_answer, answer, answer_unless, stage_fault, heard, is_live}
 use Rattle.definitions.specs.Placing.{Place, First, Behind, Refused, next, finish, refusal}
 use Rattle.definitions.specs.Refusals.{spent}
@@ -22,193 +22,249 @@ use Rattle.ends_core.specs.Standing.{Stands, Came}
 use Rattle.ends_core.specs.Turns.{behind, behind_end, behind_part, behind_parts, behind_message, fresh, spend}
 use Rattle.ends_core.proofs.Parts_taken.{message-end, dead-spends}
 
--- what the law says of an end with this start
-abbrev pub IsFirm : (Peer → End Lanes) → ℕ → Type 0
-IsFirm start most = (P : Peer) (f : List ℕ) (Ms : List (Message Lanes)) → Ready P f → AllByRecursion (AreParts two_lane_profile) Ms →
-    StandsFirm P f most (heard two_lanes (start P) Ms)
-
-abbrev pub ranks_of : Held → List ℕ
+abbrev pub ranks_of : {F : Type 0} → Held F → List ℕ
 ranks_of h = ranks_by h.steps h.end.peer.table.cap
-
-pub firm : (start : Peer → End Lanes) (most : ℕ) (h : Held) → IsFirm start most → Stands start h → StandsFirm h.end.peer (ranks_of h) most h.end
-firm start most h law s =
-    subst (StandsFirm h.end.peer (ranks_of h) most) (sym s.came.2)
-    (law h.end.peer (ranks_of h) s.came.0 (record { ranks = s.checked.serving.ranks; set = s.set; room = s.room }) s.came.1)
 
 abbrev pub ReadsRanks : Type 0
 ReadsRanks = (steps : List ℕ) (cap n : ℕ) → n ≤ cap → slice_index (ranks_by steps cap) n ≡ rank_by steps n
 
-pub few : (start : Peer → End Lanes) (most : ℕ) (h : Held) → IsFirm start most → ReadsRanks → Stands start h →
-    h.end.sent ≤ rank_by h.steps (length h.end.peer.items) + most
-few start most h law read s = omega (arith, (firm start most h law s).few, read h.steps h.end.peer.table.cap (length h.end.peer.items) s.room)
+module _ {F : Type 0} (S : Summary F) (Q : Profile F) where
+  -- what the law says of an end with this start
+  abbrev pub IsFirm : (Peer → End F) → ℕ → Type 0
+  IsFirm start most = (P : Peer) (f : List ℕ) (Ms : List (Message F)) → Ready P f → AllByRecursion (AreParts Q) Ms →
+      StandsFirm P f most (heard S (start P) Ms)
 
-pub able : (start : Peer → End Lanes) (most : ℕ) (h : Held) → IsFirm start most → Stands start h → IsAble h
-able start most h law s = record { checked = s.checked; room = s.room; apart = (firm start most h law s).apart }
+  pub firm : (start : Peer → End F) (most : ℕ) (h : Held F) → IsFirm start most → Stands S Q start h →
+      StandsFirm h.end.peer (ranks_of h) most h.end
+  firm start most h law s =
+      subst (StandsFirm h.end.peer (ranks_of h) most) (sym s.came.2)
+      (law h.end.peer (ranks_of h) s.came.0 (record {
+        ranks = s.checked.serving.ranks;
+        set = s.set;
+        room = s.room;
+      }) s.came.1)
 
-pub countable : (start : Peer → End Lanes) (most : ℕ) (h : Held) → most ≤ 2 → IsFirm start most → ReadsRanks → Stands start h → h.end.sent < 4294967295
-countable start most h small law read s =
-    let n = length h.end.peer.items in
-    let cap = h.end.peer.table.cap in
-    omega (arith, few start most h law read s, s.checked.serving.ranks.rises n cap s.room (omega arith), read h.steps cap n s.room, read h.steps cap cap (omega arith), s.checked.within, s.checked.is_table.rounds)
+  pub few : (start : Peer → End F) (most : ℕ) (h : Held F) → IsFirm start most → ReadsRanks → Stands S Q start h →
+      h.end.sent ≤ rank_by h.steps (length h.end.peer.items) + most
+  few start most h law read s =
+      omega (arith, (firm start most h law s).few, read h.steps h.end.peer.table.cap (length h.end.peer.items) s.room)
 
--- ---- a message that ended
+  pub able : (start : Peer → End F) (most : ℕ) (h : Held F) → IsFirm start most → Stands S Q start h → IsAble h
+  able start most h law s = record { checked = s.checked; room = s.room; apart = (firm start most h law s).apart }
 
--- the end behind the end of a message is the end behind the message
-behind-end : (h : Held) (M : Message Lanes) → PartsAreTaken two_lanes → h.taken ≡ taken_all two_lanes h.end M → is_live h.end.stage ≡ true → behind_end h (ended h.taken) ≡ behind h M
-behind-end h M law took live =
-    let e = h.end in
-    let alike = law e M in
-    let told : ended h.taken ≡ answer two_lanes e M = ap ended took ∙ alike.at_the_end in
-    let after_is : after two_lanes e M ≡ after_answer e M (answer two_lanes e M) = ap (λ b. if b then after_answer e M (answer two_lanes e M) else e) live in
-    ap (behind_end h) told ∙ by (answer two_lanes e M) (ap (λ t. after_ended e t (answer two_lanes e M)) took ∙ alike.behind_it ∙ sym after_is) where
-      by : (a : Answer Lanes) → after_ended h.end h.taken a ≡ after two_lanes h.end M → behind_end h a ≡ behind h M
-      by (Replies N) is = ap (fresh h.steps) is
-      by Ends is = ap (fresh h.steps) is
-      by (Refuses code) is = ap (λ b. if b then fresh h.steps (record h.end { stage = Spent; learned = nothing }) else h) live ∙ ap (fresh h.steps) is
+  pub countable : (start : Peer → End F) (most : ℕ) (h : Held F) → most ≤ 2 → IsFirm start most → ReadsRanks →
+      Stands S Q start h → h.end.sent < 4294967295
+  countable start most h small law read s =
+      let n = length h.end.peer.items in
+      let cap = h.end.peer.table.cap in
+      omega (
+        arith,
+        few start most h law read s,
+        s.checked.serving.ranks.rises n cap s.room
+            (omega arith),
+        read h.steps cap n s.room,
+        read h.steps cap cap
+            (omega arith),
+        s.checked.within,
+        s.checked.is_table.rounds,
+      )
 
--- an end that takes none refuses each message
-dead-answer : (e : End Lanes) (M : Message Lanes) → is_live e.stage ≡ false → answer two_lanes e M ≡ Refuses spent
-dead-answer e M none = by e.stage none where
-  by : (s : Stage Lanes) → is_live s ≡ false → answer_unless two_lanes e.peer M (stage_fault s M) ≡ Refuses spent
-  by Fresh none = absurd cc
-  by (Waits own) none = absurd cc
-  by Over none = refl
-  by Spent none = refl
+  -- ---- a message that ended
 
-came-behind : (start : Peer → End Lanes) (e : End Lanes) (M : Message Lanes) → EndsHearOn two_lanes → (after two_lanes e M).peer ≡ e.peer →
-    AreParts two_lane_profile M → Came start e → Came start (after two_lanes e M)
-came-behind start e M on same m came = (
-  came.0 ++ M ∷ [],
-  All-append (AreParts two_lane_profile) came.0 (M ∷ []) came.1 (m, tt),
-  ap (λ x. after two_lanes x M) came.2 ∙ sym (on (start e.peer) came.0 M) ∙ ap (λ P. heard two_lanes (start P) (came.0 ++ M ∷ [])) (sym same),
-)
+  -- the end behind the end of a message is the end behind the message
+  behind-end : (h : Held F) (M : Message F) → PartsAreTaken S → h.taken ≡ taken_all S h.end M →
+      is_live h.end.stage ≡ true → behind_end h (ended h.taken) ≡ behind S h M
+  behind-end h M law took live =
+      let e = h.end in
+      let alike = law e M in
+      let told : ended h.taken ≡ answer S e M = ap ended took ∙ alike.at_the_end in
+      let after_is : after S e M ≡ after_answer e M (answer S e M) = ap
+      (λ b. if b then after_answer e M (answer S e M) else e) live in
+      ap (behind_end h) told ∙ by (answer S e M)
+      (ap (λ t. after_ended e t (answer S e M)) took ∙ alike.behind_it ∙ sym after_is) where
+        by : (a : Answer F) → after_ended h.end h.taken a ≡ after S h.end M → behind_end h a ≡ behind S h M
+        by (Replies N) is = ap (fresh h.steps) is
+        by Ends is = ap (fresh h.steps) is
+        by (Refuses code) is =
+            ap (λ b. if b then fresh h.steps (record h.end { stage = Spent; learned = nothing }) else h) live
+            ∙ ap (fresh h.steps) is
 
--- behind a message nothing is taken
-stands-behind : (start : Peer → End Lanes) (h : Held) (M : Message Lanes) → EndsHearOn two_lanes → EndsKeepPeers two_lanes →
-    AreParts two_lane_profile M → Stands start h → Stands start (behind h M)
-stands-behind start h M on keep m s =
-    let same = keep h.end (M ∷ []) in
-    record {
-      checked = subst (λ P. IsChecked (record { table = P.table; steps = h.steps })) (sym same) s.checked;
-      room = subst (λ P. length P.items ≤ P.table.cap) (sym same) s.room;
-      set = subst (λ P. IsSet P.items) (sym same) s.set;
-      came = came-behind start h.end M on same m s.came;
-      took = ([], tt, refl);
-    }
+  -- an end that takes none refuses each message
+  dead-answer : (e : End F) (M : Message F) → is_live e.stage ≡ false → answer S e M ≡ Refuses spent
+  dead-answer e M none = by e.stage none where
+    by : (s : Stage F) → is_live s ≡ false → answer_unless S e.peer M (stage_fault s M) ≡ Refuses spent
+    by Fresh none = absurd cc
+    by (Waits own) none = absurd cc
+    by Over none = refl
+    by Spent none = refl
 
--- nor once the parts are given up
-pub stands-dropped : (start : Peer → End Lanes) (h new : Held) → new ≡ fresh h.steps h.end → Stands start h → Stands start new
-stands-dropped start h new is s = subst (Stands start) (sym is) (record { checked = s.checked; room = s.room; set = s.set; came = s.came; took = ([], tt, refl) })
+  came-behind : (start : Peer → End F) (e : End F) (M : Message F) → EndsHearOn S → (after S e M).peer ≡ e.peer →
+      AreParts Q M → Came S Q start e → Came S Q start (after S e M)
+  came-behind start e M on same m came = (
+    came.0 ++ M ∷ [],
+    All-append (AreParts Q) came.0 (M ∷ []) came.1 (m, tt),
+    ap (λ x. after S x M) came.2 ∙ sym (on (start e.peer) came.0 M)
+        ∙ ap (λ P. heard S (start P) (came.0 ++ M ∷ [])) (sym same),
+  )
 
--- ---- what a call leaves
+  -- behind a message nothing is taken
+  stands-behind : (start : Peer → End F) (h : Held F) (M : Message F) → EndsHearOn S → EndsKeepPeers S →
+      AreParts Q M → Stands S Q start h → Stands S Q start (behind S h M)
+  stands-behind start h M on keep m s =
+      let same = keep h.end (M ∷ []) in
+      record {
+        checked = subst (λ P. IsChecked (record { table = P.table; steps = h.steps })) (sym same) s.checked;
+        room = subst (λ P. length P.items ≤ P.table.cap) (sym same) s.room;
+        set = subst (λ P. IsSet P.items) (sym same) s.set;
+        came = came-behind start h.end M on same m s.came;
+        took = ([], tt, refl);
+      }
 
-abbrev pub Lawful : Type 0
-Lawful = EndsHearOn two_lanes × EndsKeepPeers two_lanes × PartsAreTaken two_lanes
+  -- nor once the parts are given up
+  pub stands-dropped : (start : Peer → End F) (h new : Held F) → new ≡ fresh h.steps h.end → Stands S Q start h →
+      Stands S Q start new
+  stands-dropped start h new is s =
+      subst (Stands S Q start) (sym is) (record {
+        checked = s.checked;
+        room = s.room;
+        set = s.set;
+        came = s.came;
+        took =
+            ([], tt, refl);
+      })
 
--- behind the end of a message
-ended-stands : (start : Peer → End Lanes) (h : Held) → Lawful → Stands start h → Stands start (behind_end h (ended h.taken))
-ended-stands start h law s = by (is_live h.end.stage) refl where
-  by : (b : Bool) → is_live h.end.stage ≡ b → Stands start (behind_end h (ended h.taken))
-  by true live = subst (Stands start) (sym (behind-end h s.took.0 law.2 s.took.2 live)) (stands-behind start h s.took.0 law.0 law.1 s.took.1 s)
-  by false none =
-      let alike = law.2 h.end s.took.0 in
-      let refuses : ended h.taken ≡ Refuses spent = ap ended s.took.2 ∙ alike.at_the_end ∙ dead-answer h.end s.took.0 none in
-      subst (λ a. Stands start (behind_end h a)) (sym refuses) (subst (Stands start) (sym (ap (λ b. if b then fresh h.steps (record h.end { stage = Spent; learned = nothing }) else h) none)) s)
+  -- ---- what a call leaves
 
-pub stands-ended : (start : Peer → End Lanes) (old new : Held) (o : Option (Answer Lanes)) → Lawful →
-    IfSome o (λ a. a ≡ ended old.taken) → IfSome o (λ a. new ≡ behind_end old a) → IfNone o (new ≡ old) → Stands start old → Stands start new
-stands-ended start old new None law some behind_it none s = subst (Stands start) (sym none) s
-stands-ended start old new (Some a) law some behind_it none s = subst (Stands start) (sym (behind_it ∙ ap (behind_end old) some)) (ended-stands start old law s)
+  abbrev pub Lawful : Type 0
+  Lawful = EndsHearOn S × EndsKeepPeers S × PartsAreTaken S
 
--- behind a part
-refused-finish : (x : Place Lanes) (code : ℕ) → refusal x ≡ Some code → finish x ≡ Some code
-refused-finish First code e = absurd cc
-refused-finish (Behind left inside) code e = absurd cc
-refused-finish (Refused n) code e = e
+  -- behind the end of a message
+  ended-stands : (start : Peer → End F) (h : Held F) → Lawful → Stands S Q start h →
+      Stands S Q start (behind_end h (ended h.taken))
+  ended-stands start h law s = by (is_live h.end.stage) refl where
+    by : (b : Bool) → is_live h.end.stage ≡ b → Stands S Q start (behind_end h (ended h.taken))
+    by true live =
+        subst (Stands S Q start) (sym (behind-end h s.took.0 law.2 s.took.2 live))
+        (stands-behind start h s.took.0 law.0 law.1 s.took.1 s)
+    by false none =
+        let alike = law.2 h.end s.took.0 in
+        let refuses : ended h.taken ≡ Refuses spent = ap ended s.took.2 ∙ alike.at_the_end
+        ∙ dead-answer h.end s.took.0 none in
+        subst (λ a. Stands S Q start (behind_end h a)) (sym refuses)
+        (subst (Stands S Q start) (sym (ap (λ b. if b then fresh h.steps
+        (record h.end { stage = Spent; learned = nothing }) else h) none)) s)
 
--- a part that is refused leaves the end as a message of these parts does
-part-spends : (h : Held) (M : Message Lanes) (p : Part Lanes) (code : ℕ) → PartsAreTaken two_lanes → h.taken ≡ taken_all two_lanes h.end M → is_live h.end.stage ≡ true →
-    refusal (next h.taken.place p) ≡ Some code → spend h ≡ behind h (M ++ p ∷ [])
-part-spends h M p code law took live refuses =
-    let e = h.end in
-    let N : Message Lanes = M ++ p ∷ [] in
-    let g : Held = record h { taken = taken two_lanes e h.taken p } in
-    let took_more : g.taken ≡ taken_all two_lanes e N = ap (λ t. taken two_lanes e t p) took ∙ sym (fold-append (taken two_lanes e) (nothing_taken e) M (p ∷ [])) in
-    let stops : ended g.taken ≡ Refuses code = ap (ended_unless g.taken) (refused-finish (next h.taken.place p) code refuses) in
-    let at : behind_end g (Refuses code) ≡ behind h N = ap (behind_end g) (sym stops) ∙ behind-end g N law took_more live in
-    let spent_by : Held = fresh h.steps (record e { stage = Spent; learned = nothing }) in
-    ap (λ b. if b then spent_by else h) live ∙ sym (ap (λ b. if b then spent_by else g) live) ∙ at
+  pub stands-ended : (start : Peer → End F) (old new : Held F) (o : Option (Answer F)) → Lawful →
+      IfSome o (λ a. a ≡ ended old.taken) → IfSome o (λ a. new ≡ behind_end old a) → IfNone o (new ≡ old) →
+      Stands S Q start old → Stands S Q start new
+  stands-ended start old new None law some behind_it none s = subst (Stands S Q start) (sym none) s
+  stands-ended start old new (Some a) law some behind_it none s =
+      subst (Stands S Q start) (sym (behind_it ∙ ap (behind_end old) some)) (ended-stands start old law s)
 
-part-stands : (start : Peer → End Lanes) (h : Held) (p : Part Lanes) (o : Option ℕ) → Lawful → IsPart two_lane_profile p → o ≡ refusal (next h.taken.place p) → Stands start h → Stands start (behind_part h p o)
-part-stands start h p None law part told s = record {
-  checked = s.checked;
-  room = s.room;
-  set = s.set;
-  came = s.came;
-  took = (
-    s.took.0 ++ p ∷ [],
-    All-append (IsPart two_lane_profile) s.took.0 (p ∷ []) s.took.1 (part, tt),
-    ap (λ t. taken two_lanes h.end t p) s.took.2 ∙ sym (fold-append (taken two_lanes h.end) (nothing_taken h.end) s.took.0 (p ∷ [])),
-  );
-}
-part-stands start h p (Some code) law part told s = by (is_live h.end.stage) refl where
-  by : (b : Bool) → is_live h.end.stage ≡ b → Stands start (spend h)
-  by true live =
-      subst (Stands start) (sym (part-spends h s.took.0 p code law.2 s.took.2 live (sym told)))
-      (stands-behind start h (s.took.0 ++ p ∷ []) law.0 law.1 (All-append (IsPart two_lane_profile) s.took.0 (p ∷ []) s.took.1 (part, tt)) s)
-  by false none = subst (Stands start) (sym (ap (λ b. if b then fresh h.steps (record h.end { stage = Spent; learned = nothing }) else h) none)) s
+  -- behind a part
+  refused-finish : (x : Place F) (code : ℕ) → refusal x ≡ Some code → finish x ≡ Some code
+  refused-finish First code e = absurd cc
+  refused-finish (Behind left inside) code e = absurd cc
+  refused-finish (Refused n) code e = e
 
-pub stands-taken : (start : Peer → End Lanes) (old new : Held) (p : Part Lanes) (o : Option (Option ℕ)) → Lawful → IsPart two_lane_profile p →
-    IfSome o (λ r. r ≡ refusal (next old.taken.place p)) → IfSome o (λ r. new ≡ behind_part old p r) → IfNone o (new ≡ old) → Stands start old → Stands start new
-stands-taken start old new p None law part told behind_it none s = subst (Stands start) (sym none) s
-stands-taken start old new p (Some r) law part told behind_it none s = subst (Stands start) (sym behind_it) (part-stands start old p r law part told s)
+  -- a part that is refused leaves the end as a message of these parts does
+  part-spends : (h : Held F) (M : Message F) (p : Part F) (code : ℕ) → PartsAreTaken S → h.taken ≡ taken_all S h.end M →
+      is_live h.end.stage ≡ true →
+      refusal (next h.taken.place p) ≡ Some code → spend h ≡ behind S h (M ++ p ∷ [])
+  part-spends h M p code law took live refuses =
+      let e = h.end in
+      let N : Message F = M ++ p ∷ [] in
+      let g : Held F = record h { taken = taken S e h.taken p } in
+      let took_more : g.taken ≡ taken_all S e N = ap (λ t. taken S e t p) took
+      ∙ sym (fold-append (taken S e) (nothing_taken e) M (p ∷ [])) in
+      let stops : ended g.taken ≡ Refuses code = ap (ended_unless g.taken)
+      (refused-finish (next h.taken.place p) code refuses) in
+      let at : behind_end g (Refuses code) ≡ behind S h N = ap (behind_end g) (sym stops)
+      ∙ behind-end g N law took_more live in
+      let spent_by : Held F = fresh h.steps (record e { stage = Spent; learned = nothing }) in
+      ap (λ b. if b then spent_by else h) live ∙ sym (ap (λ b. if b then spent_by else g) live) ∙ at
 
--- at the start
-pub stands-first : (start : Peer → End Lanes) (h : Held) (steps : List ℕ) (P : Peer) → h ≡ fresh steps (start P) → (start P).peer ≡ P →
-    IsChecked (record { table = P.table; steps = steps }) → length P.items ≤ P.table.cap → IsSet P.items → Stands start h
-stands-first start h steps P is same checked room set = subst (Stands start) (sym is) (record {
-  checked = subst (λ Q. IsChecked (record { table = Q.table; steps = steps })) (sym same) checked;
-  room = subst (λ Q. length Q.items ≤ Q.table.cap) (sym same) room;
-  set = subst (λ Q. IsSet Q.items) (sym same) set;
-  came = ([], tt, ap start (sym same));
-  took = ([], tt, refl);
-})
+  part-stands : (start : Peer → End F) (h : Held F) (p : Part F) (o : Option ℕ) → Lawful → IsPart Q p →
+      o ≡ refusal (next h.taken.place p) → Stands S Q start h → Stands S Q start (behind_part S h p o)
+  part-stands start h p None law part told s = record {
+    checked = s.checked;
+    room = s.room;
+    set = s.set;
+    came = s.came;
+    took = (
+      s.took.0 ++ p ∷ [],
+      All-append (IsPart Q) s.took.0 (p ∷ []) s.took.1 (part, tt),
+      ap (λ t. taken S h.end t p) s.took.2 ∙ sym (fold-append (taken S h.end) (nothing_taken h.end) s.took.0 (p ∷ [])),
+    );
+  }
+  part-stands start h p (Some code) law part told s = by (is_live h.end.stage) refl where
+    by : (b : Bool) → is_live h.end.stage ≡ b → Stands S Q start (spend h)
+    by true live =
+        subst (Stands S Q start) (sym (part-spends h s.took.0 p code law.2 s.took.2 live (sym told)))
+        (stands-behind start h (s.took.0 ++ p ∷ []) law.0 law.1
+        (All-append (IsPart Q) s.took.0 (p ∷ []) s.took.1 (part, tt)) s)
+    by false none =
+        subst (Stands S Q start) (sym (ap (λ b. if b then fresh h.steps
+        (record h.end { stage = Spent; learned = nothing }) else h) none)) s
 
--- behind a message, behind the parts that were taken before
-parts-stand : (start : Peer → End Lanes) (h : Held) (M : Message Lanes) → AreParts two_lane_profile M → Stands start h →
-    Stands start (behind_parts h M)
-parts-stand start h M m s = record {
-  checked = s.checked;
-  room = s.room;
-  set = s.set;
-  came = s.came;
-  took = (
-    s.took.0 ++ M,
-    All-append (IsPart two_lane_profile) s.took.0 M s.took.1 m,
-    ap (λ t. fold (taken two_lanes h.end) t M) s.took.2
-        ∙ sym (fold-append (taken two_lanes h.end) (nothing_taken h.end) s.took.0 M),
-  );
-}
+  pub stands-taken : (start : Peer → End F) (old new : Held F) (p : Part F) (o : Option (Option ℕ)) → Lawful →
+      IsPart Q p →
+      IfSome o (λ r. r ≡ refusal (next old.taken.place p)) → IfSome o (λ r. new ≡ behind_part S old p r) →
+      IfNone o (new ≡ old) → Stands S Q start old → Stands S Q start new
+  stands-taken start old new p None law part told behind_it none s = subst (Stands S Q start) (sym none) s
+  stands-taken start old new p (Some r) law part told behind_it none s =
+      subst (Stands S Q start) (sym behind_it) (part-stands start old p r law part told s)
 
-pub stands-received : (start : Peer → End Lanes) (old new : Held) (M : Message Lanes) (o : Option (Answer Lanes)) → Lawful →
-    AreParts two_lane_profile M → IfSome o (λ a. a ≡ by_parts two_lanes old.end old.taken M) →
-    IfSome o (λ a. new ≡ behind_message old M a) → IfNone o (new ≡ fresh old.steps old.end) → Stands start old → Stands start new
-stands-received start old new M None law m some at none s = stands-dropped start old new none s
-stands-received start old new M (Some a) law m some at none s = by (is_live old.end.stage) refl where
-  g : Held
-  g = behind_parts old M
+  -- at the start
+  pub stands-first : (start : Peer → End F) (h : Held F) (steps : List ℕ) (P : Peer) → h ≡ fresh steps (start P) →
+      (start P).peer ≡ P →
+      IsChecked (record { table = P.table; steps = steps }) → length P.items ≤ P.table.cap → IsSet P.items →
+      Stands S Q start h
+  stands-first start h steps P is same checked room set = subst (Stands S Q start) (sym is) (record {
+    checked = subst (λ Q. IsChecked (record { table = Q.table; steps = steps })) (sym same) checked;
+    room = subst (λ Q. length Q.items ≤ Q.table.cap) (sym same) room;
+    set = subst (λ Q. IsSet Q.items) (sym same) set;
+    came = ([], tt, ap start (sym same));
+    took = ([], tt, refl);
+  })
 
-  through : Stands start g
-  through = parts-stand start old M m s
+  -- behind a message, behind the parts that were taken before
+  parts-stand : (start : Peer → End F) (h : Held F) (M : Message F) → AreParts Q M → Stands S Q start h →
+      Stands S Q start (behind_parts S h M)
+  parts-stand start h M m s = record {
+    checked = s.checked;
+    room = s.room;
+    set = s.set;
+    came = s.came;
+    took = (
+      s.took.0 ++ M,
+      All-append (IsPart Q) s.took.0 M s.took.1 m,
+      ap (λ t. fold (taken S h.end) t M) s.took.2
+          ∙ sym (fold-append (taken S h.end) (nothing_taken h.end) s.took.0 M),
+    );
+  }
 
-  told : a ≡ ended g.taken
-  told = some ∙ (law.2 old.end M).from_any old.taken
+  pub stands-received : (start : Peer → End F) (old new : Held F) (M : Message F) (o : Option (Answer F)) → Lawful →
+      AreParts Q M → IfSome o (λ a. a ≡ by_parts S old.end old.taken M) →
+      IfSome o (λ a. new ≡ behind_message S old M a) → IfNone o (new ≡ fresh old.steps old.end) → Stands S Q start old →
+      Stands S Q start new
+  stands-received start old new M None law m some at none s = stands-dropped start old new none s
+  stands-received start old new M (Some a) law m some at none s = by (is_live old.end.stage) refl where
+    g : Held F
+    g = behind_parts S old M
 
-  by : (b : Bool) → is_live old.end.stage ≡ b → Stands start new
-  by true live =
-      subst (Stands start) (sym (at ∙ message-end old M a live ∙ ap (behind_end g) told)) (ended-stands start g law through)
-  by false dead =
-      let all = through.took in
-      let refuses : a ≡ Refuses spent =
-      told ∙ ap ended all.2 ∙ (law.2 old.end all.0).at_the_end ∙ dead-answer old.end all.0 dead in
-      subst (Stands start) (sym (at ∙ ap (behind_message old M) refuses ∙ sym (dead-spends old dead))) s
+    through : Stands S Q start g
+    through = parts-stand start old M m s
+
+    told : a ≡ ended g.taken
+    told = some ∙ (law.2 old.end M).from_any old.taken
+
+    by : (b : Bool) → is_live old.end.stage ≡ b → Stands S Q start new
+    by true live =
+        subst (Stands S Q start) (sym (at ∙ message-end S old M a live ∙ ap (behind_end g) told))
+        (ended-stands start g law through)
+    by false dead =
+        let all = through.took in
+        let refuses : a ≡ Refuses spent =
+        told ∙ ap ended all.2 ∙ (law.2 old.end all.0).at_the_end ∙ dead-answer old.end all.0 dead in
+        subst (Stands S Q start) (sym (at ∙ ap (behind_message S old M) refuses ∙ sym (dead-spends old dead))) s

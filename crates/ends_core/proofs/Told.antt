@@ -3,7 +3,7 @@ use Rattle.std.proofs.Common.{◌≡◌, ℕ, zero, suc, Bool, true, false, List
 use Rattle.std.specs.Prelude.{if◌then◌else◌, Some, None, not, ◌==◌, length, IsFalse, ⊤}
 use Rattle.std.specs.List.{AllByRecursion, list_any, items_where_true}
 use Rattle.std.proofs.lemmas.Bool.{false≢true}
-use Rattle.definitions.specs.Fingerprints.{Lanes, two_lanes}
+use Rattle.definitions.specs.Fingerprints.{Summary}
 use Rattle.definitions.specs.Items.{Item, Range, Apart, Rises, is_below, same_range}
 use Rattle.definitions.specs.Sets.{has, items_in, difference}
 use Rattle.definitions.specs.Messages.{Part, Sum, Listing, Answer, Message, open_parts, open_ranges}
@@ -41,16 +41,22 @@ other_range X Y rises apart = by (same_range X Y) refl where
       absurd (false≢true (sym apart ∙ lower))
 
 -- a List in front of the others
-finds_later : {F : Type 0} (Z : Range) (held : List Item) (sent ps : Message F) → Rises Z → AllByRecursion (λ Y. IsFalse (is_below Y.lower Z.upper)) (open_ranges ps) →
+finds_later : {F : Type 0} (Z : Range) (held : List Item) (sent ps : Message F) → Rises Z →
+    AllByRecursion (λ Y. IsFalse (is_below Y.lower Z.upper)) (open_ranges ps) →
     AllByRecursion (Finds sent) ps → AllByRecursion (Finds (Listing Z held ∷ sent)) ps
 finds_later Z held sent [] rises apart h = tt
 finds_later Z held sent (Sum X f ∷ ps) rises apart h = (tt, finds_later Z held sent ps rises apart.1 h.1)
 finds_later Z held sent (Answer X marks items ∷ ps) rises apart h = (tt, finds_later Z held sent ps rises apart h.1)
-finds_later Z held sent (Listing X listed ∷ ps) rises apart h =
-    (ap (λ b. if b then held else listed_in sent X) (other_range Z X rises apart.0) ∙ h.0, finds_later Z held sent ps rises apart.1 h.1)
+finds_later Z held sent (Listing X listed ∷ ps) rises apart h = (
+  ap (λ b. if b then held else listed_in sent X) (other_range Z X rises apart.0)
+      ∙ h.0,
+  finds_later Z held sent ps rises apart.1 h.1,
+)
 
 -- another part in front of them
-finds_past : {F : Type 0} (own : Part F) (sent ps : Message F) → ((X : Range) → listed_in (own ∷ sent) X ≡ listed_in sent X) → AllByRecursion (Finds sent) ps → AllByRecursion (Finds (own ∷ sent)) ps
+finds_past : {F : Type 0} (own : Part F) (sent ps : Message F) →
+    ((X : Range) → listed_in (own ∷ sent) X ≡ listed_in sent X) → AllByRecursion (Finds sent) ps →
+    AllByRecursion (Finds (own ∷ sent)) ps
 finds_past own sent [] same h = tt
 finds_past own sent (Sum Y f ∷ ps) same h = (tt, finds_past own sent ps same h.1)
 finds_past own sent (Listing Y listed ∷ ps) same h = (same Y ∙ h.0, finds_past own sent ps same h.1)
@@ -59,11 +65,16 @@ finds_past own sent (Answer Y ms xs ∷ ps) same h = (tt, finds_past own sent ps
 all_found : {F : Type 0} (sent : Message F) → Apart (open_ranges sent) → AllByRecursion (Finds sent) sent
 all_found [] apart = tt
 all_found (Sum X f ∷ sent) apart = (tt, finds_past (Sum X f) sent sent (λ Y. refl) (all_found sent apart.2))
-all_found (Listing X listed ∷ sent) apart =
-    (ap (λ b. if b then listed else listed_in sent X) (same_range-itself X), finds_later X listed sent sent apart.0 apart.1 (all_found sent apart.2))
-all_found (Answer X marks items ∷ sent) apart = (tt, finds_past (Answer X marks items) sent sent (λ Y. refl) (all_found sent apart))
+all_found (Listing X listed ∷ sent) apart = (
+  ap (λ b. if b then listed else listed_in sent X)
+      (same_range-itself X),
+  finds_later X listed sent sent apart.0 apart.1 (all_found sent apart.2),
+)
+all_found (Answer X marks items ∷ sent) apart =
+    (tt, finds_past (Answer X marks items) sent sent (λ Y. refl) (all_found sent apart))
 
-found-drop : {F : Type 0} (sent ps : Message F) (n : ℕ) → AllByRecursion (Finds sent) ps → AllByRecursion (Finds sent) (drop n ps)
+found-drop : {F : Type 0} (sent ps : Message F) (n : ℕ) → AllByRecursion (Finds sent) ps →
+    AllByRecursion (Finds sent) (drop n ps)
 found-drop sent ps zero h = h
 found-drop sent [] (suc n) h = tt
 found-drop sent (p ∷ ps) (suc n) h = found-drop sent ps n h.1
@@ -71,18 +82,22 @@ found-drop sent (p ∷ ps) (suc n) h = found-drop sent ps n h.1
 -- ---- the list that an Answer answers
 
 -- an Answer behind an open List is one of its range
-answers-range : {F : Type 0} (left : Message F) (Y : Range) (listed : List Item) (X : Range) (marks : List Bool) (items : List Item) →
+answers-range : {F : Type 0} (left : Message F) (Y : Range) (listed : List Item) (X : Range) (marks : List Bool)
+    (items : List Item) →
     refusal (next_answer left Y listed X marks items) ≡ None → same_range Y X ≡ true
 answers-range {F} left Y listed X marks items h = by (same_range Y X) refl where
   by : (b : Bool) → same_range Y X ≡ b → b ≡ true
   by true e = refl
   by false e =
       let refuses : refusal (next_answer left Y listed X marks items) ≡ Some misplaced
-      = ap (λ b. refusal (if not b then Refused misplaced else if not (length marks == length listed) then Refused mark_count else if list_any (has listed) items then Refused answer_repeats else placed left)) e in
+      = ap (λ b. refusal (if not b then Refused misplaced else if not
+      (length marks == length listed) then Refused mark_count else if list_any
+      (has listed) items then Refused answer_repeats else placed left)) e in
       let wrong : None ≡ Some misplaced = sym h ∙ refuses in
       absurd cc
 
-first_answered : {F : Type 0} (own ps : Message F) (X : Range) (marks : List Bool) (items : List Item) → AllByRecursion (Finds own) ps →
+first_answered : {F : Type 0} (own ps : Message F) (X : Range) (marks : List Bool) (items : List Item) →
+    AllByRecursion (Finds own) ps →
     refusal (next_outside (open_parts ps) (Answer X marks items)) ≡ None → listed_in own X ≡ first_list ps
 first_answered own [] X marks items found h = absurd cc
 first_answered own (Sum Y f ∷ ps) X marks items found h = first_answered own ps X marks items found.1 h
@@ -92,36 +107,50 @@ first_answered own (Listing Y listed ∷ ps) X marks items found h =
     ap (listed_in own) (sym same) ∙ found.0
 
 -- where a cursor stands
-pub due_answered : (own : Message Lanes) (c : Cursor) (X : Range) (marks : List Bool) (items : List Item) → Apart (open_ranges own) →
+pub due_answered : {F : Type 0} (own : Message F) (c : Cursor) (X : Range) (marks : List Bool) (items : List Item) →
+    Apart (open_ranges own) →
     refusal (next (place_at own c) (Answer X marks items)) ≡ None → listed_in own X ≡ due own c
 due_answered own cursors.First X marks items apart h = absurd cc
-due_answered own (cursors.Behind at None) X marks items apart h = first_answered own (drop at own) X marks items (found-drop own own at (all_found own apart)) h
+due_answered own (cursors.Behind at None) X marks items apart h =
+    first_answered own (drop at own) X marks items (found-drop own own at (all_found own apart)) h
 due_answered own (cursors.Behind at (Some Z)) X marks items apart h = absurd cc
 due_answered own (cursors.Refused f) X marks items apart h = absurd cc
 
 -- ---- what is told
 
-told-learned : (A : List Item) (own : Message Lanes) (c : Cursor) (p : Part Lanes) → Apart (open_ranges own) → refusal (next (place_at own c) p) ≡ None → told A (due own c) p ≡ learn A own (p ∷ [])
+told-learned : {F : Type 0} (A : List Item) (own : Message F) (c : Cursor) (p : Part F) → Apart (open_ranges own) →
+    refusal (next (place_at own c) p) ≡ None → told A (due own c) p ≡ learn A own (p ∷ [])
 told-learned A own c (Sum X f) apart h = refl
-told-learned A own c (Listing X listed) apart h = λ i. record { ours = sym (append-nil (difference (items_in A X) listed)) i; theirs = sym (append-nil (difference listed A)) i }
+told-learned A own c (Listing X listed) apart h =
+    λ i. record {
+      ours = sym (append-nil (difference (items_in A X) listed)) i;
+      theirs = sym
+          (append-nil (difference listed A)) i;
+    }
 told-learned A own c (Answer X marks items) apart h = λ i. record {
-  ours = (ap (λ (l : List Item). items_where_true marks l) (sym (due_answered own c X marks items apart h)) ∙ sym (append-nil (items_where_true marks (listed_in own X)))) i;
+  ours =
+      (ap (λ (l : List Item). items_where_true marks l) (sym (due_answered own c X marks items apart h))
+      ∙ sym (append-nil (items_where_true marks (listed_in own X)))) i;
   theirs = sym (append-nil items) i;
 }
 
 -- the own message at a place: the first message of all answers none
-own-at : (x : Placement) → (x.first ≡ true → x.own ≡ []) → own_of (stage_at x) ≡ x.own
+own-at : {F : Type 0} (x : Placement F) → (x.first ≡ true → x.own ≡ []) → own_of (stage_at x) ≡ x.own
 own-at x none = by x.first refl where
   by : (b : Bool) → x.first ≡ b → own_of (if b then Fresh else Waits x.own) ≡ x.own
   by true e = sym (none e)
   by false e = refl
 
 -- a part that was placed and drafted was taken
-pub part-taken : (P : Peer) (x y : Placement) (c : Cursor) (d e : Drafted) (p : Part Lanes) → (x.first ≡ true → x.own ≡ []) → Apart (open_ranges (own_of (stage_at x))) → x.now ≡ place_at x.own c →
-    y ≡ record x { now = next x.now p } → refusal (next x.now p) ≡ None → e ≡ drafted P d (due x.own c) p →
-    taken_at y e ≡ taken two_lanes (record { peer = P; stage = stage_at x; sent = 0; learned = nothing }) (taken_at x d) p
-part-taken P x y c d e p none apart at placed_at fine added =
+pub part-taken : {F : Type 0} (S : Summary F) (P : Peer) (x y : Placement F) (c : Cursor) (d e : Drafted F)
+    (p : Part F) → (x.first ≡ true → x.own ≡ []) → Apart (open_ranges (own_of (stage_at x))) →
+    x.now ≡ place_at x.own c →
+    y ≡ record x { now = next x.now p } → refusal (next x.now p) ≡ None → e ≡ drafted S P d (due x.own c) p →
+    taken_at y e ≡ taken S (record { peer = P; stage = stage_at x; sent = 0; learned = nothing }) (taken_at x d) p
+part-taken S P x y c d e p none apart at placed_at fine added =
     let learns : told P.items (due x.own c) p ≡ learn P.items (own_of (stage_at x)) (p ∷ []) =
-    told-learned P.items x.own c p (subst (λ o. Apart (open_ranges o)) (own-at x none) apart) (ap (λ z. refusal (next z p)) (sym at) ∙ fine) ∙ ap (λ o. learn P.items o (p ∷ [])) (sym (own-at x none)) in
-    let t = taken two_lanes (record { peer = P; stage = stage_at x; sent = 0; learned = nothing }) (taken_at x d) p in
-    (λ i. taken_at (placed_at i) (added i)) ∙ (λ i. record { place = t.place; opens = t.opens; reply = t.reply; learned = and_then d.learned (learns i) })
+    told-learned P.items x.own c p (subst (λ o. Apart (open_ranges o)) (own-at x none) apart)
+    (ap (λ z. refusal (next z p)) (sym at) ∙ fine) ∙ ap (λ o. learn P.items o (p ∷ [])) (sym (own-at x none)) in
+    let t = taken S (record { peer = P; stage = stage_at x; sent = 0; learned = nothing }) (taken_at x d) p in
+    (λ i. taken_at (placed_at i) (added i)) ∙
+    (λ i. record { place = t.place; opens = t.opens; reply = t.reply; learned = and_then d.learned (learns i) })

@@ -2,7 +2,6 @@
 --     IsDue d result          by what was drafted
 --     IsClosed h result       by what was taken
 use Rattle.std.specs.Prelude.{◌≡◌, Result, Ok, Err, IfSome, if◌then◌else◌}
-use Rattle.definitions.specs.Fingerprints.{Lanes}
 use Rattle.definitions.specs.Ends.{Stage, Over, Spent, Answer, Replies, Ends, Refuses, stage_behind}
 use Rattle.definitions.specs.Taking.{ended, replies_or_refuses}
 use Rattle.ends_core.specs.Held.{Held, stage_of, taken_of, none_at}
@@ -12,29 +11,29 @@ use Rattle.ends_core.specs.declared.stage.Stage as own
 use Rattle.ends_core.specs.declared.turn.EndFault.{EndFault}
 
 -- where the session stands behind an answer
-abbrev pub stage_after : Answer Lanes → Stage Lanes
+abbrev pub stage_after : {F : Type 0} → Answer F → Stage F
 stage_after (Replies N) = stage_behind N
 stage_after Ends = Over
 stage_after (Refuses code) = Spent
 
-abbrev pub IsTaking : Answer Lanes → Type 0
+abbrev pub IsTaking : {F : Type 0} → Answer F → Type 0
 IsTaking (Replies N) = Unit {0}
 IsTaking Ends = Unit {0}
 IsTaking (Refuses code) = ⊥
 
 -- what was drafted, where the placing refuses nothing
-abbrev pub drafted_answer : Drafted → Answer Lanes
+abbrev pub drafted_answer : {F : Type 0} → Drafted F → Answer F
 drafted_answer d = if d.opens then replies_or_refuses d.reply else Ends
 
 -- a stage behind this answer, of which no part of a message was taken
-pub record IsBehind (s : own.Stage) (a : Answer Lanes) : Type 0 where
+pub record IsBehind {F : Type 0} (s : own.Stage F) (a : Answer F) : Type 0 where
   pub taking : IsTaking a
   pub stage : stage_of s ≡ stage_after a
   pub none : taken_of s nothing_drafted ≡ none_at (stage_after a)
 
-abbrev pub IsDue : Answer Lanes → Result own.Stage EndFault → Type 0
+abbrev pub IsDue : {F : Type 0} → Answer F → Result (own.Stage F) EndFault → Type 0
 IsDue a (Ok s) = IsBehind s a
 IsDue a (Err f) = IfSome (refusal_of f) (λ r. r ≡ a)
 
-abbrev pub IsClosed : Held → Result own.Stage EndFault → Type 0
+abbrev pub IsClosed : {F : Type 0} → Held F → Result (own.Stage F) EndFault → Type 0
 IsClosed h r = IsDue (ended h.taken) r

@@ -4,7 +4,6 @@
 --     taken_of s d               what was taken
 --     IsAble h                   what an end keeps
 use Rattle.std.specs.Prelude.{◌≡◌, ℕ, ◌≤◌, false, List, [], Some, length, if◌then◌else◌}
-use Rattle.definitions.specs.Fingerprints.{Lanes}
 use Rattle.definitions.specs.Items.{Apart}
 use Rattle.definitions.specs.Messages.{open_ranges}
 use Rattle.definitions.specs.Talks.{nothing}
@@ -16,33 +15,33 @@ use Rattle.ends_core.specs.Drafts.{Drafted, taken_at}
 use Rattle.ends_core.specs.declared.stage.Stage as own
 use Rattle.ends_core.specs.declared.stage.Stage.TheVariants as stages
 
-pub record Held : Type 0 where
+pub record Held (F : Type 0) : Type 0 where
   pub steps : List ℕ
-  pub end : End Lanes
-  pub taken : Taken Lanes
+  pub end : End F
+  pub taken : Taken F
 
-abbrev pub HasNone : Held → Type 0
+abbrev pub HasNone : {F : Type 0} → Held F → Type 0
 HasNone h = h.taken ≡ nothing_taken h.end
 
-abbrev pub stage_at : Placement → Stage Lanes
+abbrev pub stage_at : {F : Type 0} → Placement F → Stage F
 stage_at x = if x.first then Fresh else Waits x.own
 
-abbrev pub stage_of : own.Stage → Stage Lanes
+abbrev pub stage_of : {F : Type 0} → own.Stage F → Stage F
 stage_of (stages.Open place) = stage_at place
 stage_of stages.Over = Over
 stage_of stages.Spent = Spent
 
 -- before the first part
-abbrev pub none_at : Stage Lanes → Taken Lanes
+abbrev pub none_at : {F : Type 0} → Stage F → Taken F
 none_at s = record { place = place_of s; opens = false; reply = Some []; learned = nothing }
 
-abbrev pub taken_of : own.Stage → Drafted → Taken Lanes
+abbrev pub taken_of : {F : Type 0} → own.Stage F → Drafted F → Taken F
 taken_of (stages.Open place) d = taken_at place d
 taken_of stages.Over d = none_at Over
 taken_of stages.Spent d = none_at Spent
 
 -- a checked table, a set that has room, and an own message whose open ranges do not overlap
-pub record IsAble (h : Held) : Type 0 where
+pub record IsAble {F : Type 0} (h : Held F) : Type 0 where
   pub checked : IsChecked (record { table = h.end.peer.table; steps = h.steps })
   pub room : length h.end.peer.items ≤ h.end.peer.table.cap
   pub apart : Apart (open_ranges (own_of h.end.stage))

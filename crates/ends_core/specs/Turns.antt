@@ -2,14 +2,14 @@
 --     end_fault_number f     the number of a refusal
 --     told_in result         whether a part was taken, or the number of its refusal, unless memory ran out
 --     answer_in result       the answer, unless memory ran out
---     behind_part h p o, behind_end h a     the end behind a part, and behind the end of a message
---     behind_message h M a   the end behind the parts of a message and its end
---     behind h M             the end behind a message, of which it had taken no part
+--     behind_part S h p o, behind_end h a   the end behind a part, and behind the end of a message
+--     behind_message S h M a the end behind the parts of a message and its end
+--     behind S h M           the end behind a message, of which it had taken no part
 --     Comes s M              the message may come at this stage
 --     IsJudged h M result    what a call answers agrees with whether the message may come
 use Rattle.std.specs.Prelude.{ℕ, List, Result, Ok, Err, Option, Some, None, if◌then◌else◌, fold, ⊤}
 use Rattle.std.specs.List.{AllByRecursion}
-use Rattle.definitions.specs.Fingerprints.{Lanes, two_lanes}
+use Rattle.definitions.specs.Fingerprints.{Summary}
 use Rattle.definitions.specs.Theorems.{IsShort}
 use Rattle.definitions.specs.Messages.{Part, Message, IsOpening}
 use Rattle.definitions.specs.Placing.{Placed}
@@ -44,29 +44,29 @@ abbrev pub told_in : Result ⊤ EndFault → Option (Option ℕ)
 told_in (Ok x) = Some None
 told_in (Err f) = some_of (number_of f)
 
-abbrev pub answer_of : Turn → Answer Lanes
+abbrev pub answer_of : {F : Type 0} → Turn F → Answer F
 answer_of (turns.Reply N) = Replies N
 answer_of turns.Over = Ends
 
-abbrev pub refusal_of : EndFault → Option (Answer Lanes)
+abbrev pub refusal_of : {F : Type 0} → EndFault → Option (Answer F)
 refusal_of (faults.Placing f) = Some (Refuses (place_fault_number f))
 refusal_of faults.TooManyParts = Some (Refuses codes.too_many_parts)
 refusal_of faults.Spent = Some (Refuses codes.spent)
 refusal_of faults.Memory = None
 
-abbrev pub answer_in : Result Turn EndFault → Option (Answer Lanes)
+abbrev pub answer_in : {F : Type 0} → Result (Turn F) EndFault → Option (Answer F)
 answer_in (Ok turn) = Some (answer_of turn)
 answer_in (Err f) = refusal_of f
 
 -- the end behind a message, or a refusal, holds no part
-abbrev pub fresh : List ℕ → End Lanes → Held
+abbrev pub fresh : {F : Type 0} → List ℕ → End F → Held F
 fresh steps e = record { steps = steps; end = e; taken = nothing_taken e }
 
-abbrev pub behind : Held → Message Lanes → Held
-behind h M = fresh h.steps (after two_lanes h.end M)
+abbrev pub behind : {F : Type 0} → Summary F → Held F → Message F → Held F
+behind S h M = fresh h.steps (after S h.end M)
 
 -- the message may come at this stage, by the relation
-abbrev pub Comes : Stage Lanes → Message Lanes → Type 0
+abbrev pub Comes : {F : Type 0} → Stage F → Message F → Type 0
 Comes Fresh M = IsOpening M
 Comes (Waits own) M = Placed own M
 Comes Over M = ⊥
@@ -74,52 +74,52 @@ Comes Spent M = ⊥
 
 -- a call agrees with C, that the message may come: it takes the message only then, and refuses it for its place, or
 -- since the end takes none, only else
-abbrev pub AgreesWith : Type 0 → Result Turn EndFault → Type 0
+abbrev pub AgreesWith : {F : Type 0} → Type 0 → Result (Turn F) EndFault → Type 0
 AgreesWith C (Ok turn) = C
 AgreesWith C (Err (faults.Placing f)) = C → ⊥
 AgreesWith C (Err faults.TooManyParts) = C
 AgreesWith C (Err faults.Spent) = C → ⊥
 AgreesWith C (Err faults.Memory) = ⊤
 
-abbrev pub IsJudged : Held → Message Lanes → Result Turn EndFault → Type 0
+abbrev pub IsJudged : {F : Type 0} → Held F → Message F → Result (Turn F) EndFault → Type 0
 IsJudged h M result = AgreesWith (Comes h.end.stage M) result
 
 -- the end behind a refusal: a spent end, and one whose session is over, stays as it is
-abbrev pub spend : Held → Held
+abbrev pub spend : {F : Type 0} → Held F → Held F
 spend h = if is_live h.end.stage then fresh h.steps (record h.end { stage = Spent; learned = nothing }) else h
 
-abbrev pub behind_part : Held → Part Lanes → Option ℕ → Held
-behind_part h p None = record h { taken = taken two_lanes h.end h.taken p }
-behind_part h p (Some code) = spend h
+abbrev pub behind_part : {F : Type 0} → Summary F → Held F → Part F → Option ℕ → Held F
+behind_part S h p None = record h { taken = taken S h.end h.taken p }
+behind_part S h p (Some code) = spend h
 
 -- behind parts that are taken
-abbrev pub behind_parts : Held → Message Lanes → Held
-behind_parts h M = record h { taken = fold (taken two_lanes h.end) h.taken M }
+abbrev pub behind_parts : {F : Type 0} → Summary F → Held F → Message F → Held F
+behind_parts S h M = record h { taken = fold (taken S h.end) h.taken M }
 
-abbrev pub behind_end : Held → Answer Lanes → Held
+abbrev pub behind_end : {F : Type 0} → Held F → Answer F → Held F
 behind_end h (Replies N) = fresh h.steps (after_ended h.end h.taken (Replies N))
 behind_end h Ends = fresh h.steps (after_ended h.end h.taken Ends)
 behind_end h (Refuses code) = spend h
 
 -- the end behind the parts of a message and its end: what it had taken before counts too
-abbrev pub behind_message : Held → Message Lanes → Answer Lanes → Held
-behind_message h M (Replies N) = behind_end (behind_parts h M) (Replies N)
-behind_message h M Ends = behind_end (behind_parts h M) Ends
-behind_message h M (Refuses code) = spend h
+abbrev pub behind_message : {F : Type 0} → Summary F → Held F → Message F → Answer F → Held F
+behind_message S h M (Replies N) = behind_end (behind_parts S h M) (Replies N)
+behind_message S h M Ends = behind_end (behind_parts S h M) Ends
+behind_message S h M (Refuses code) = spend h
 
-abbrev pub refused : Held → EndFault → Held
+abbrev pub refused : {F : Type 0} → Held F → EndFault → Held F
 refused h faults.Memory = h
 refused h (faults.Placing f) = spend h
 refused h faults.TooManyParts = spend h
 refused h faults.Spent = spend h
 
 -- how many messages are sent
-abbrev pub messages_in : Turn → ℕ
+abbrev pub messages_in : {F : Type 0} → Turn F → ℕ
 messages_in (turns.Reply N) = 1
 messages_in turns.Over = 0
 
 -- no List of a reply is longer than the limit
-abbrev pub KeepsLimit : Held → Result Turn EndFault → Type 0
+abbrev pub KeepsLimit : {F : Type 0} → Held F → Result (Turn F) EndFault → Type 0
 KeepsLimit h (Ok (turns.Reply N)) = AllByRecursion (IsShort h.end.peer.table.limit) N
 KeepsLimit h (Ok turns.Over) = ⊤
 KeepsLimit h (Err f) = ⊤

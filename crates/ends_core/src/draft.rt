@@ -16,6 +16,7 @@ use crate::learning::learn_part;
 use crate::replying::reply_part;
 use crate::stage::Stage;
 use crate::turn::{EndFault, Turn};
+use digest_core::Summary;
 use item_core::Item;
 use place_core::Place;
 use std::alloc::{AllocError, Global};
@@ -26,20 +27,20 @@ use wire_core::{MAX_PARTS, Message, Part, PartKind};
 
 /// What an end keeps of the parts of a message that has not ended, beside its place.
 #[derive(Debug, Drop)]
-pub(crate) struct Draft {
+pub(crate) struct Draft<F: Summary> {
     opens: bool,
     // The reply has too many parts, and is kept no further.
     overlong: bool,
-    reply: Vec<Part>,
+    reply: Vec<Part<F>>,
     learned: Learned,
 }
 
-impl Model for Draft {
+impl<F: Summary> Model for Draft<F> {
     ghost use Rattle.std.specs.Prelude.{◌≤◌, length};
     ghost use Rattle.definitions.specs.Wire.{max_parts};
     ghost use Rattle.ends_core.specs.Drafts.{Drafted, reply_kept};
 
-    ghost Value = { Drafted };
+    ghost Value = { Drafted F };
 
     ghost view = { λ a. record { opens = a.opens; reply = reply_kept a.overlong a.reply.items; learned = a.learned } };
 
@@ -47,11 +48,11 @@ impl Model for Draft {
 }
 
 /// Goes on with a reply, as long as it may be sent.
-fn grow_reply(
+fn grow_reply<F: Summary>(
     alloc: Global,
     overlong: &mut bool,
-    reply: &mut Vec<Part>,
-    more: Vec<Part>,
+    reply: &mut Vec<Part<F>>,
+    more: Vec<Part<F>>,
 ) -> Result<(), AllocError>
     requires { length reply.old.items ≤ max_parts }
     ensures ok { OnOk result (reply_kept overlong.new reply.new.items
@@ -72,13 +73,13 @@ fn grow_reply(
 }
 
 /// Adds what was learned and goes on with a reply; or nothing, where memory runs out.
-fn add_both(
+fn add_both<F: Summary>(
     alloc: Global,
     learned: &mut Learned,
     fresh: &Learned,
     overlong: &mut bool,
-    reply: &mut Vec<Part>,
-    more: Vec<Part>,
+    reply: &mut Vec<Part<F>>,
+    more: Vec<Part<F>>,
 ) -> Result<(), AllocError>
     requires { length reply.old.items ≤ max_parts }
     ensures learned { OnOk result (learned.new ≡ and_then learned.old fresh.now) }
@@ -101,21 +102,21 @@ fn add_both(
 }
 
 /// Whether the part wants a reply.
-fn is_open(part: &Part) -> bool
+fn is_open<F: Summary>(part: &Part<F>) -> bool
     ensures { result ≡ messages.is_open part.now }
 {
     part.kind() != PartKind::Answer
 }
 
 /// Whether another message follows one of these parts.
-fn has_open(parts: &[Part]) -> bool
+fn has_open<F: Summary>(parts: &[Part<F>]) -> bool
     ensures { result ≡ messages.has_open parts.now }
 {
     parts.iter().any(|part| is_open(part))
 }
 
 /// Where the session stands behind an own message of these parts, of which the open ones are kept.
-fn stage_behind(alloc: Global, sent: &[Part]) -> Result<Stage, AllocError>
+fn stage_behind<F: Summary>(alloc: Global, sent: &[Part<F>]) -> Result<Stage<F>, AllocError>
     ensures { IfOk result (λ s. (stage_of s ≡ ends.stage_behind sent.now)
         × (taken_of s nothing_drafted ≡ none_at (ends.stage_behind sent.now))) }
 {
@@ -125,9 +126,9 @@ fn stage_behind(alloc: Global, sent: &[Part]) -> Result<Stage, AllocError>
     Ok(Stage::Open(Place::after(alloc, sent)?))
 }
 
-impl Draft {
+impl<F: Summary> Draft<F> {
     /// Of no part.
-    pub(crate) fn nothing(alloc: Global) -> Draft
+    pub(crate) fn nothing(alloc: Global) -> Draft<F>
         ensures { result ≡ nothing_drafted }
     {
         Draft {
@@ -145,11 +146,12 @@ impl Draft {
         strategy: &Strategy,
         store: &S,
         listed: &[Item],
-        part: &Part,
+        part: &Part<F>,
     ) -> Result<(), AllocError>
         requires { length (S.content store.now) ≤ strategy.now.cap }
         ensures ok { OnOk result (self.new
-            ≡ drafted (record { table = strategy.now; items = S.content store.now }) self.old listed.now part.now) }
+            ≡ drafted F.summary (record { table = strategy.now; items = S.content store.now })
+            self.old listed.now part.now) }
         ensures err { OnErr result (self.new ≡ self.old) }
     {
         let fresh = learn_part(alloc, store, listed, part)?;
@@ -174,7 +176,7 @@ impl Draft {
     }
 
     /// Where the session stands behind the end of the message.
-    pub(crate) fn stage(&self, alloc: Global) -> Result<Stage, EndFault>
+    pub(crate) fn stage(&self, alloc: Global) -> Result<Stage<F>, EndFault>
         ensures { IsDue (drafted_answer self.now) result }
     {
         if !self.opens {
@@ -187,7 +189,7 @@ impl Draft {
     }
 
     /// What is answered at the end of the message.
-    pub(crate) fn into_turn(self) -> Turn
+    pub(crate) fn into_turn(self) -> Turn<F>
         requires { IsTaking (drafted_answer self) }
         ensures { answer_of result ≡ drafted_answer self }
     {

@@ -1,7 +1,6 @@
 //! What the two ends of a session share.
 
 ghost use Rattle.std.specs.Prelude.{◌≡◌, ◌≤◌, ◌<◌, true, false, length, IfSome, IfNone, IfErr, Err, OnOk};
-ghost use Rattle.definitions.specs.Fingerprints.{two_lanes};
 ghost use Rattle.definitions.specs.Messages as messages;
 ghost use Rattle.definitions.specs.Placing as placing;
 ghost use Rattle.definitions.specs.Ends as ends;
@@ -19,7 +18,7 @@ use crate::learned::Learned;
 use crate::stage::Stage;
 use crate::taking::take_part;
 use crate::turn::{EndFault, Turn};
-use digest_core::Fingerprint;
+use digest_core::Summary;
 use place_core::Place;
 use std::alloc::{AllocError, Global};
 use std::marker::Model;
@@ -30,20 +29,20 @@ use wire_core::{Message, Part};
 
 /// An end of a session: who speaks, where the session stands, what it took of a message, and what was learned.
 #[derive(Drop)]
-pub(crate) struct End<'a, S: RangeStore> {
+pub(crate) struct End<'a, S: RangeStore, F: Summary> {
     accepted: &'a Accepted,
     store: S,
-    stage: Stage,
-    draft: Draft,
+    stage: Stage<F>,
+    draft: Draft<F>,
     sent: u32,
     learned: Learned,
 }
 
-impl<'a, S: RangeStore> Model for End<'a, S> {
+impl<'a, S: RangeStore, F: Summary> Model for End<'a, S, F> {
     ghost use Rattle.definitions.specs.Ends as ends;
     ghost use Rattle.ends_core.specs.Held.{Held, stage_of, taken_of};
 
-    ghost Value = { Held };
+    ghost Value = { Held F };
 
     ghost view = { λ a. record {
       steps = a.accepted.now.steps;
@@ -57,9 +56,9 @@ impl<'a, S: RangeStore> Model for End<'a, S> {
     } };
 }
 
-impl<'a, S: RangeStore> End<'a, S> {
+impl<'a, S: RangeStore, F: Summary> End<'a, S, F> {
     /// An end that has received nothing, and is spoken to first.
-    pub(crate) fn responding(alloc: Global, accepted: &'a Accepted, store: S) -> End<'a, S>
+    pub(crate) fn responding(alloc: Global, accepted: &'a Accepted, store: S) -> End<'a, S, F>
         ensures { result ≡ fresh accepted.now.steps (ends.responder
             (record { table = accepted.now.table; items = S.content store })) }
     {
@@ -78,8 +77,8 @@ impl<'a, S: RangeStore> End<'a, S> {
         alloc: Global,
         accepted: &'a Accepted,
         store: S,
-        place: Place,
-    ) -> End<'a, S>
+        place: Place<F>,
+    ) -> End<'a, S, F>
         requires { place ≡ record { first = false; own = place.own; now = placing.behind place.own } }
         ensures { result ≡ fresh accepted.now.steps (record {
           peer = record { table = accepted.now.table; items = S.content store };
@@ -143,12 +142,12 @@ impl<'a, S: RangeStore> End<'a, S> {
     }
 
     /// Takes a part, and leaves the rest to `refuse`.
-    fn take_on(&mut self, alloc: Global, part: &Part) -> Result<(), EndFault>
+    fn take_on(&mut self, alloc: Global, part: &Part<F>) -> Result<(), EndFault>
         requires { IsAble self.old }
         ensures fault { IfSome (told_in result) (λ o. o ≡ placing.refusal
             (placing.next self.old.taken.place part.now)) }
         ensures ok { OnOk result (self.new ≡ record self.old {
-          taken = taken two_lanes self.old.end self.old.taken part.now;
+          taken = taken F.summary self.old.end self.old.taken part.now;
         }) }
         ensures end { (self.new.steps ≡ self.old.steps) × (self.new.end ≡ self.old.end) }
         ensures memory { result ≡ Err EndFault.Memory → self.new ≡ self.old }
@@ -182,11 +181,11 @@ impl<'a, S: RangeStore> End<'a, S> {
     }
 
     /// Takes the next part of a message, which may be any.
-    pub(crate) fn take(&mut self, alloc: Global, part: &Part) -> Result<(), EndFault>
+    pub(crate) fn take(&mut self, alloc: Global, part: &Part<F>) -> Result<(), EndFault>
         requires { IsAble self.old }
         ensures fault { IfSome (told_in result) (λ o. o ≡ placing.refusal
             (placing.next self.old.taken.place part.now)) }
-        ensures behind { IfSome (told_in result) (λ o. self.new ≡ behind_part self.old part.now o) }
+        ensures behind { IfSome (told_in result) (λ o. self.new ≡ behind_part F.summary self.old part.now o) }
         ensures memory { IfNone (told_in result) (self.new ≡ self.old) }
     {
         match self.take_on(alloc, part) {
@@ -199,7 +198,7 @@ impl<'a, S: RangeStore> End<'a, S> {
     }
 
     /// Where the session stands behind the end of the message. All growth but that of what was learned before is made here.
-    fn close(&self, alloc: Global) -> Result<Stage, EndFault>
+    fn close(&self, alloc: Global) -> Result<Stage<F>, EndFault>
         ensures { IsClosed self.now result }
     {
         let Stage::Open(place) = &self.stage else {
@@ -210,7 +209,7 @@ impl<'a, S: RangeStore> End<'a, S> {
     }
 
     /// What the end answers where the message ends here.
-    pub(crate) fn end(&mut self, alloc: Global) -> Result<Turn, EndFault>
+    pub(crate) fn end(&mut self, alloc: Global) -> Result<Turn<F>, EndFault>
         requires { self.old.end.sent < 4294967295 }
         ensures answer { IfSome (answer_in result) (λ a. a ≡ ended self.old.taken) }
         ensures behind { IfSome (answer_in result) (λ a. self.new ≡ behind_end self.old a) }
@@ -250,14 +249,14 @@ impl<'a, S: RangeStore> End<'a, S> {
     }
 
     /// Takes parts one after another, up to the first that is refused.
-    fn take_all(&mut self, alloc: Global, parts: &[Part]) -> Result<(), EndFault>
+    fn take_all(&mut self, alloc: Global, parts: &[Part<F>]) -> Result<(), EndFault>
         requires able { IsAble self.old }
         requires live { is_live self.old.end.stage ≡ true }
-        ensures all { OnOk result (self.new ≡ behind_parts self.old parts.now) }
-        ensures answer { OnOk result (by_parts two_lanes self.old.end self.old.taken parts.now ≡ ended self.new.taken) }
+        ensures all { OnOk result (self.new ≡ behind_parts F.summary self.old parts.now) }
+        ensures answer { OnOk result (by_parts F.summary self.old.end self.old.taken parts.now ≡ ended self.new.taken) }
         ensures refused { IfErr result (λ f. IfSome (refusal_of f) (λ a.
-            (by_parts two_lanes self.old.end self.old.taken parts.now ≡ a) × (self.new ≡ spend self.old))) }
-        ensures memory { IfErr result (λ f. IfNone (refusal_of f)
+            (by_parts F.summary self.old.end self.old.taken parts.now ≡ a) × (self.new ≡ spend self.old))) }
+        ensures memory { IfErr result (λ f. IfNone (refusal_of {F = F} f)
             ((self.new.steps ≡ self.old.steps) × (self.new.end ≡ self.old.end))) }
     {
         for part in parts {
@@ -267,13 +266,14 @@ impl<'a, S: RangeStore> End<'a, S> {
     }
 
     /// Takes parts, and then the end of the message.
-    fn receive_on(&mut self, alloc: Global, parts: &[Part]) -> Result<Turn, EndFault>
+    fn receive_on(&mut self, alloc: Global, parts: &[Part<F>]) -> Result<Turn<F>, EndFault>
         requires able { IsAble self.old }
         requires room { self.old.end.sent < 4294967295 }
         requires live { is_live self.old.end.stage ≡ true }
         ensures answer { IfSome (answer_in result) (λ a. a
-            ≡ by_parts two_lanes self.old.end self.old.taken parts.now) }
-        ensures behind { IfSome (answer_in result) (λ a. self.new ≡ behind_end (behind_parts self.old parts.now) a) }
+            ≡ by_parts F.summary self.old.end self.old.taken parts.now) }
+        ensures behind { IfSome (answer_in result) (λ a. self.new
+            ≡ behind_end (behind_parts F.summary self.old parts.now) a) }
         ensures memory { IfNone (answer_in result) ((self.new.steps ≡ self.old.steps) × (self.new.end ≡ self.old.end)) }
     {
         self.take_all(alloc, parts)?;
@@ -281,12 +281,16 @@ impl<'a, S: RangeStore> End<'a, S> {
     }
 
     /// What the end answers to a message, which may be any.
-    pub(crate) fn receive(&mut self, alloc: Global, message: &Message) -> Result<Turn, EndFault>
+    pub(crate) fn receive(
+        &mut self,
+        alloc: Global,
+        message: &Message<F>,
+    ) -> Result<Turn<F>, EndFault>
         requires able { IsAble self.old }
         requires room { self.old.end.sent < 4294967295 }
         ensures answer { IfSome (answer_in result) (λ a. a
-            ≡ by_parts two_lanes self.old.end self.old.taken message.now) }
-        ensures behind { IfSome (answer_in result) (λ a. self.new ≡ behind_message self.old message.now a) }
+            ≡ by_parts F.summary self.old.end self.old.taken message.now) }
+        ensures behind { IfSome (answer_in result) (λ a. self.new ≡ behind_message F.summary self.old message.now a) }
         ensures memory { IfNone (answer_in result) (self.new ≡ fresh self.old.steps self.old.end) }
     {
         if !self.is_live() {

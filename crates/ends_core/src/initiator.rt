@@ -3,7 +3,6 @@
 ghost use Rattle.std.specs.Prelude.{◌≡◌, ◌≤◌, ◌+◌, false, [], ◌∷◌, length, IfOk, IfErr, IfSome, IfNone};
 ghost use Rattle.std.specs.List.{IsDistinct};
 ghost use Rattle.definitions.specs.Items.{same_item};
-ghost use Rattle.definitions.specs.Fingerprints.{two_lanes};
 ghost use Rattle.definitions.specs.Items.{whole};
 ghost use Rattle.definitions.specs.Messages.{Sum, opening};
 ghost use Rattle.definitions.specs.Ranks.{rank_by};
@@ -16,8 +15,9 @@ ghost use Rattle.ends_core.specs.Turns.{IsJudged, KeepsLimit, answer_in, told_in
 
 use crate::end::End;
 use crate::learned::Learned;
+use crate::replying::sum_in;
 use crate::turn::{EndFault, Turn};
-use digest_core::Fingerprint;
+use digest_core::{Fingerprint, Summary};
 use item_core::Range;
 use place_core::Place;
 use std::alloc::{AllocError, Global};
@@ -28,25 +28,24 @@ use wire_core::{Message, Part};
 
 /// The end of a session that speaks first.
 #[derive(Drop)]
-pub struct Initiator<'a, S: RangeStore> {
-    end: End<'a, S>,
+pub struct Initiator<'a, S: RangeStore, F: Summary = Fingerprint> {
+    end: End<'a, S, F>,
 }
 
-impl<'a, S: RangeStore> Model for Initiator<'a, S> {
+impl<'a, S: RangeStore, F: Summary> Model for Initiator<'a, S, F> {
     ghost use Rattle.definitions.specs.Ends as ends;
-    ghost use Rattle.definitions.specs.Fingerprints.{two_lanes};
     ghost use Rattle.ends_core.specs.Held.{Held};
     ghost use Rattle.ends_core.specs.Standing.{Stands};
 
-    ghost Value = { Held };
+    ghost Value = { Held F };
 
     ghost view = { λ a. a.end };
 
-    ghost invariant = { λ a. Stands (ends.initiator two_lanes) a.end };
+    ghost invariant = { λ a. Stands F.summary F.profile (ends.initiator F.summary) a.end };
 }
 
 /// The message of one Sum over everything.
-fn opening(alloc: Global, sum: Fingerprint) -> Result<Message, AllocError>
+fn opening<F: Summary>(alloc: Global, sum: F) -> Result<Message<F>, AllocError>
     ensures { IfOk result (λ m. m ≡ Sum whole sum ∷ []) }
 {
     let mut parts = Vec::with_capacity(alloc, 1)?;
@@ -58,7 +57,7 @@ fn opening(alloc: Global, sum: Fingerprint) -> Result<Message, AllocError>
 }
 
 /// The first message, and the place behind it.
-fn begin(alloc: Global, sum: Fingerprint) -> Result<(Place, Message), AllocError>
+fn begin<F: Summary>(alloc: Global, sum: F) -> Result<(Place<F>, Message<F>), AllocError>
     ensures { IfOk result (λ r. (r.0 ≡ record {
       first = false;
       own = Sum whole sum ∷ [];
@@ -70,23 +69,23 @@ fn begin(alloc: Global, sum: Fingerprint) -> Result<(Place, Message), AllocError
     Ok((place, first))
 }
 
-impl<'a, S: RangeStore> Initiator<'a, S> {
+impl<'a, S: RangeStore, F: Summary> Initiator<'a, S, F> {
     /// The end, and its first message, which is to be sent: one Sum over everything. Where memory runs out the store is
     /// given back.
     pub fn start(
         alloc: Global,
         accepted: &'a Accepted,
         store: S,
-    ) -> Result<(Initiator<'a, S>, Message), S>
+    ) -> Result<(Initiator<'a, S, F>, Message<F>), S>
         requires { length (S.content store) ≤ accepted.now.table.cap }
-        ensures end { IfOk result (λ r. r.0 ≡ fresh accepted.now.steps (ends.initiator two_lanes
+        ensures end { IfOk result (λ r. r.0 ≡ fresh accepted.now.steps (ends.initiator F.summary
             (record { table = accepted.now.table; items = S.content store }))) }
-        ensures message { IfOk result (λ r. r.1 ≡ opening two_lanes (S.content store)) }
+        ensures message { IfOk result (λ r. r.1 ≡ opening F.summary (S.content store)) }
         ensures memory { IfErr result (λ s. s ≡ store) }
     {
         laws::whole_has_all();
         let _ = accepted.cap();
-        match begin(alloc, store.sum(&Range::whole())) {
+        match begin(alloc, sum_in(&store, &Range::whole())) {
             Ok((place, first)) => Ok((
                 Initiator {
                     end: End::initiating(alloc, accepted, store, place),
@@ -101,16 +100,16 @@ impl<'a, S: RangeStore> Initiator<'a, S> {
     ///
     /// Refused 20 to 25 where it is not placed: the end is spent then, and nothing is learned. Refused 26 where a message was
     /// refused before, or the session is over, and 90 where memory ran out: the end is as before.
-    pub fn take(&mut self, alloc: Global, part: &Part) -> Result<(), EndFault>
+    pub fn take(&mut self, alloc: Global, part: &Part<F>) -> Result<(), EndFault>
         ensures fault { IfSome (told_in result) (λ o. o ≡ placing.refusal
             (placing.next self.old.taken.place part.now)) }
-        ensures behind { IfSome (told_in result) (λ o. self.new ≡ behind_part self.old part.now o) }
+        ensures behind { IfSome (told_in result) (λ o. self.new ≡ behind_part F.summary self.old part.now o) }
         ensures memory { IfNone (told_in result) (self.new ≡ self.old) }
     {
-        laws::ends_stand_firm::<Fingerprint>();
-        laws::ends_hear_on::<Fingerprint>();
-        laws::ends_keep_peers::<Fingerprint>();
-        laws::parts_are_taken::<Fingerprint>();
+        laws::ends_stand_firm::<F>();
+        laws::ends_hear_on::<F>();
+        laws::ends_keep_peers::<F>();
+        laws::parts_are_taken::<F>();
         let _range = part.range(); // which tells that it has a spelling
         self.end.take(alloc, part)
     }
@@ -120,17 +119,17 @@ impl<'a, S: RangeStore> Initiator<'a, S> {
     /// Refused 20, 22 or 23 where something is missing, 12 where the reply would have more than 131,072 parts: the end is spent
     /// then, and nothing is learned. Refused 26 where a message was refused before, or the session is over, and 90 where memory
     /// ran out: the end is as before.
-    pub fn end(&mut self, alloc: Global) -> Result<Turn, EndFault>
+    pub fn end(&mut self, alloc: Global) -> Result<Turn<F>, EndFault>
         ensures answer { IfSome (answer_in result) (λ a. a ≡ ended self.old.taken) }
         ensures behind { IfSome (answer_in result) (λ a. self.new ≡ behind_end self.old a) }
         ensures memory { IfNone (answer_in result) (self.new ≡ self.old) }
         ensures short { KeepsLimit self.old result }
     {
-        laws::ends_stand_firm::<Fingerprint>();
-        laws::ends_hear_on::<Fingerprint>();
-        laws::ends_keep_peers::<Fingerprint>();
-        laws::parts_are_taken::<Fingerprint>();
-        laws::replies_are_short::<Fingerprint>();
+        laws::ends_stand_firm::<F>();
+        laws::ends_hear_on::<F>();
+        laws::ends_keep_peers::<F>();
+        laws::parts_are_taken::<F>();
+        laws::replies_are_short::<F>();
         rank_laws::ranks_are_read();
         self.end.end(alloc)
     }
@@ -148,27 +147,28 @@ impl<'a, S: RangeStore> Initiator<'a, S> {
     /// Refused 20 to 25 where the message is not placed behind the own one, 12 where the reply would have more than 131,072
     /// parts: the end is spent then, and nothing is learned. Refused 26 where a message was refused before, or the session
     /// is over, and 90 where memory ran out: the end is as before its first part.
-    pub fn receive(&mut self, alloc: Global, message: &Message) -> Result<Turn, EndFault>
+    pub fn receive(&mut self, alloc: Global, message: &Message<F>) -> Result<Turn<F>, EndFault>
         ensures judged { HasNone self.old → IsJudged self.old message.now result }
         ensures answer { HasNone self.old →
-            IfSome (answer_in result) (λ a. a ≡ ends.answer two_lanes self.old.end message.now) }
-        ensures behind { HasNone self.old → IfSome (answer_in result) (λ _. self.new ≡ behind self.old message.now) }
+            IfSome (answer_in result) (λ a. a ≡ ends.answer F.summary self.old.end message.now) }
+        ensures behind { HasNone self.old →
+            IfSome (answer_in result) (λ _. self.new ≡ behind F.summary self.old message.now) }
         ensures memory { HasNone self.old → IfNone (answer_in result) (self.new ≡ self.old) }
         ensures short { KeepsLimit self.old result }
         // Where parts were taken before, they belong to the message.
         ensures parts { IfSome (answer_in result) (λ a. a
-            ≡ by_parts two_lanes self.old.end self.old.taken message.now) }
-        ensures ended { IfSome (answer_in result) (λ a. self.new ≡ behind_message self.old message.now a) }
+            ≡ by_parts F.summary self.old.end self.old.taken message.now) }
+        ensures ended { IfSome (answer_in result) (λ a. self.new ≡ behind_message F.summary self.old message.now a) }
         ensures dropped { IfNone (answer_in result) (self.new ≡ fresh self.old.steps self.old.end) }
     {
-        laws::ends_stand_firm::<Fingerprint>();
-        laws::ends_hear_on::<Fingerprint>();
-        laws::ends_keep_peers::<Fingerprint>();
-        laws::opening_is_exact::<Fingerprint>();
-        laws::placing_is_exact::<Fingerprint>();
-        laws::messages_have_ranges::<Fingerprint>();
-        laws::parts_are_taken::<Fingerprint>();
-        laws::replies_are_short::<Fingerprint>();
+        laws::ends_stand_firm::<F>();
+        laws::ends_hear_on::<F>();
+        laws::ends_keep_peers::<F>();
+        laws::opening_is_exact::<F>();
+        laws::placing_is_exact::<F>();
+        laws::messages_have_ranges::<F>();
+        laws::parts_are_taken::<F>();
+        laws::replies_are_short::<F>();
         rank_laws::ranks_are_read();
         let _parts = message.parts(); // which tells that they have a spelling
         self.end.receive(alloc, message)
@@ -186,7 +186,7 @@ impl<'a, S: RangeStore> Initiator<'a, S> {
         ensures sent { result ≡ self.now.end.sent }
         ensures few { result ≤ rank_by self.now.steps (length self.now.end.peer.items) + 2 }
     {
-        laws::ends_stand_firm::<Fingerprint>();
+        laws::ends_stand_firm::<F>();
         rank_laws::ranks_are_read();
         self.end.sent()
     }
@@ -204,7 +204,7 @@ impl<'a, S: RangeStore> Initiator<'a, S> {
         ensures ours { IsDistinct same_item self.now.end.learned.ours }
         ensures theirs { IsDistinct same_item self.now.end.learned.theirs }
     {
-        laws::ends_stand_firm::<Fingerprint>();
+        laws::ends_stand_firm::<F>();
         self.end.learned()
     }
 

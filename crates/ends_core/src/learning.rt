@@ -7,6 +7,7 @@ ghost use Rattle.definitions.specs.Talks as talks;
 ghost use Rattle.ends_core.specs.Learning.{ours_told, told};
 
 use crate::learned::Learned;
+use digest_core::Summary;
 use item_core::{Item, is_listed};
 use std::alloc::{AllocError, Global};
 use store_core::RangeStore;
@@ -66,10 +67,10 @@ fn push_lacked<S: RangeStore>(
 }
 
 /// Appends what a part tells of items that the own peer lacks.
-fn push_theirs<S: RangeStore>(
+fn push_theirs<S: RangeStore, F: Summary>(
     theirs: &mut Vec<Item>,
     store: &S,
-    part: &Part,
+    part: &Part<F>,
 ) -> Result<(), AllocError>
     ensures { OnOk result (theirs.new.items ≡ theirs.old.items ++ talks.theirs_by (S.content store.now) part.now) }
 {
@@ -83,12 +84,12 @@ fn push_theirs<S: RangeStore>(
 }
 
 /// Appends what a part tells of items that the other peer lacks; an Answer answers this list.
-fn push_ours<S: RangeStore>(
+fn push_ours<S: RangeStore, F: Summary>(
     alloc: Global,
     ours: &mut Vec<Item>,
     store: &S,
     listed: &[Item],
-    part: &Part,
+    part: &Part<F>,
 ) -> Result<(), AllocError>
     ensures { OnOk result (ours.new.items ≡ ours.old.items ++ ours_told (S.content store.now) listed.now part.now) }
 {
@@ -103,11 +104,11 @@ fn push_ours<S: RangeStore>(
 }
 
 /// What a part tells; an Answer answers this list.
-pub(crate) fn learn_part<S: RangeStore>(
+pub(crate) fn learn_part<S: RangeStore, F: Summary>(
     alloc: Global,
     store: &S,
     listed: &[Item],
-    part: &Part,
+    part: &Part<F>,
 ) -> Result<Learned, AllocError>
     ensures { IfOk result (λ k. k ≡ told (S.content store.now) listed.now part.now) }
 {

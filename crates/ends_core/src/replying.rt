@@ -1,16 +1,15 @@
 //! The reply to a part of a message under a strategy.
 
 ghost use Rattle.std.specs.Prelude.{◌≡◌, ◌++◌, ◌<◌, ◌≤◌, ◌^◌, map, length, not, IfOk, OnOk, IsTrue};
-ghost use Rattle.definitions.specs.Fingerprints.{two_lanes};
 ghost use Rattle.definitions.specs.Messages.{Sum, Listing};
 ghost use Rattle.definitions.specs.Replies as replies;
 ghost use Rattle.definitions.specs.Sets.{has, items_in};
 ghost use Rattle.definitions.specs.Strategies.{IsTable, act, shares, is_split};
-ghost use Rattle.definitions.specs.Wire.{two_lane_profile, IsPart};
+ghost use Rattle.definitions.specs.Wire.{IsPart};
 
 use crate::cutting::cut_range;
 use crate::learning::push_unlisted;
-use digest_core::Fingerprint;
+use digest_core::Summary;
 use item_core::{Item, Range};
 use std::alloc::{AllocError, Global};
 use store_core::RangeStore;
@@ -30,17 +29,17 @@ fn marks_of<S: RangeStore>(alloc: Global, store: &S, listed: &[Item]) -> Result<
 }
 
 /// The answer to the list of a range.
-fn answer_to<S: RangeStore>(
+fn answer_to<S: RangeStore, F: Summary>(
     alloc: Global,
     store: &S,
     range: &Range,
     listed: &[Item],
-) -> Result<Part, AllocError>
+) -> Result<Part<F>, AllocError>
     requires few { length (S.content store.now) ≤ 65536 }
-    requires part { IsPart two_lane_profile (Listing range.now listed.now) }
+    requires part { IsPart F.profile (Listing range.now listed.now) }
     ensures { IfOk result (λ part. part ≡ replies.answer_to (S.content store.now) range.now listed.now) }
 {
-    codec_laws::answers_fit::<Fingerprint>();
+    codec_laws::answers_fit::<F>();
     let marks = marks_of(alloc, store, listed)?;
     let mut unlisted = Vec::new(alloc);
     push_unlisted(&mut unlisted, &store.items(alloc, range)?, listed)?;
@@ -51,11 +50,15 @@ fn answer_to<S: RangeStore>(
 }
 
 /// The list of a range.
-fn list_of<S: RangeStore>(alloc: Global, store: &S, range: Range) -> Result<Part, AllocError>
+fn list_of<S: RangeStore, F: Summary>(
+    alloc: Global,
+    store: &S,
+    range: Range,
+) -> Result<Part<F>, AllocError>
     requires { length (S.content store.now) ≤ 65536 }
     ensures { IfOk result (λ part. part ≡ Listing range (items_in (S.content store.now) range)) }
 {
-    codec_laws::sets_fit::<Fingerprint>();
+    codec_laws::sets_fit::<F>();
     Ok(Part::listing(range, store.items(alloc, &range)?))
 }
 
@@ -71,17 +74,25 @@ fn places_of(alloc: Global, strategy: &Strategy, n: u32) -> Result<Vec<usize>, A
     Ok(places)
 }
 
+/// The fingerprint of the items in the range.
+pub(crate) fn sum_in<S: RangeStore, F: Summary>(store: &S, range: &Range) -> F
+    ensures { result ≡ F.summary.of (items_in (S.content store.now) range.now) }
+{
+    let (count, lanes) = store.count_and_sum(range);
+    F::of_set(count, lanes)
+}
+
 /// Appends the Sum of each range.
-fn push_sums<S: RangeStore>(
-    parts: &mut Vec<Part>,
+fn push_sums<S: RangeStore, F: Summary>(
+    parts: &mut Vec<Part<F>>,
     store: &S,
     ranges: &[Range],
 ) -> Result<(), AllocError>
-    ensures { OnOk result (parts.new.items ≡ parts.old.items ++ map (replies.sum_of two_lanes (S.content store.now))
+    ensures { OnOk result (parts.new.items ≡ parts.old.items ++ map (replies.sum_of F.summary (S.content store.now))
         ranges.now) }
 {
     for range in ranges {
-        parts.push(Part::sum(*range, store.sum(range)))?;
+        parts.push(Part::sum(*range, sum_in(store, range)))?;
     }
     Ok(())
 }
@@ -98,16 +109,16 @@ fn count_in<S: RangeStore>(strategy: &Strategy, store: &S, range: &Range) -> u32
 }
 
 /// Appends the Sums of the parts that the strategy cuts the range into.
-fn push_cut<S: RangeStore>(
+fn push_cut<S: RangeStore, F: Summary>(
     alloc: Global,
     strategy: &Strategy,
     store: &S,
     range: &Range,
-    parts: &mut Vec<Part>,
+    parts: &mut Vec<Part<F>>,
 ) -> Result<(), AllocError>
     requires few { length (S.content store.now) ≤ strategy.now.cap }
     requires split { IsTrue (is_split (act strategy.now (length (items_in (S.content store.now) range.now)))) }
-    ensures { OnOk result (parts.new.items ≡ parts.old.items ++ map (replies.sum_of two_lanes (S.content store.now))
+    ensures { OnOk result (parts.new.items ≡ parts.old.items ++ map (replies.sum_of F.summary (S.content store.now))
         (replies.cutup (S.content store.now) range.now
         (shares strategy.now (length (items_in (S.content store.now) range.now))))) }
 {
@@ -118,15 +129,15 @@ fn push_cut<S: RangeStore>(
 }
 
 /// Appends what is said of a range that differs: its list, or the Sums of its parts.
-fn push_differing<S: RangeStore>(
+fn push_differing<S: RangeStore, F: Summary>(
     alloc: Global,
     strategy: &Strategy,
     store: &S,
     range: &Range,
-    parts: &mut Vec<Part>,
+    parts: &mut Vec<Part<F>>,
 ) -> Result<(), AllocError>
     requires { length (S.content store.now) ≤ strategy.now.cap }
-    ensures { OnOk result (parts.new.items ≡ parts.old.items ++ replies.differing two_lanes
+    ensures { OnOk result (parts.new.items ≡ parts.old.items ++ replies.differing F.summary
         (record { table = strategy.now; items = S.content store.now }) range.now) }
 {
     if strategy.act(count_in(strategy, store, range)) == Act::Split {
@@ -137,34 +148,35 @@ fn push_differing<S: RangeStore>(
 }
 
 /// Appends the reply to a Sum: nothing where the own fingerprint is the same.
-fn push_compared<S: RangeStore>(
+fn push_compared<S: RangeStore, F: Summary>(
     alloc: Global,
     strategy: &Strategy,
     store: &S,
     range: &Range,
-    sum: &Fingerprint,
-    parts: &mut Vec<Part>,
+    sum: &F,
+    parts: &mut Vec<Part<F>>,
 ) -> Result<(), AllocError>
     requires { length (S.content store.now) ≤ strategy.now.cap }
-    ensures { OnOk result (parts.new.items ≡ parts.old.items ++ replies.reply_to two_lanes
+    ensures { OnOk result (parts.new.items ≡ parts.old.items ++ replies.reply_to F.summary
         (record { table = strategy.now; items = S.content store.now }) (Sum range.now sum.now)) }
 {
-    if store.sum(range) == *sum {
+    let own: F = sum_in(store, range);
+    if own.equals(*sum) {
         return Ok(());
     }
     push_differing(alloc, strategy, store, range, parts)
 }
 
 /// Appends the reply to a part.
-fn push_reply<S: RangeStore>(
+fn push_reply<S: RangeStore, F: Summary>(
     alloc: Global,
     strategy: &Strategy,
     store: &S,
-    part: &Part,
-    parts: &mut Vec<Part>,
+    part: &Part<F>,
+    parts: &mut Vec<Part<F>>,
 ) -> Result<(), AllocError>
     requires { length (S.content store.now) ≤ strategy.now.cap }
-    ensures { OnOk result (parts.new.items ≡ parts.old.items ++ replies.reply_to two_lanes
+    ensures { OnOk result (parts.new.items ≡ parts.old.items ++ replies.reply_to F.summary
         (record { table = strategy.now; items = S.content store.now }) part.now) }
 {
     if let Some(sum) = part.fingerprint() {
@@ -179,14 +191,14 @@ fn push_reply<S: RangeStore>(
 }
 
 /// The reply to a part.
-pub(crate) fn reply_part<S: RangeStore>(
+pub(crate) fn reply_part<S: RangeStore, F: Summary>(
     alloc: Global,
     strategy: &Strategy,
     store: &S,
-    part: &Part,
-) -> Result<Vec<Part>, AllocError>
+    part: &Part<F>,
+) -> Result<Vec<Part<F>>, AllocError>
     requires { length (S.content store.now) ≤ strategy.now.cap }
-    ensures { IfOk result (λ parts. parts.items ≡ replies.reply_to two_lanes
+    ensures { IfOk result (λ parts. parts.items ≡ replies.reply_to F.summary
         (record { table = strategy.now; items = S.content store.now }) part.now) }
 {
     let mut parts = Vec::new(alloc);

@@ -3,7 +3,6 @@
 ghost use Rattle.std.specs.Prelude.{◌≡◌, ◌≤◌, ◌+◌, length, IfSome, IfNone};
 ghost use Rattle.std.specs.List.{IsDistinct};
 ghost use Rattle.definitions.specs.Items.{same_item};
-ghost use Rattle.definitions.specs.Fingerprints.{two_lanes};
 ghost use Rattle.definitions.specs.Ranks.{rank_by};
 ghost use Rattle.definitions.specs.Ends as ends;
 ghost use Rattle.definitions.specs.Ends.{is_over};
@@ -15,7 +14,7 @@ ghost use Rattle.ends_core.specs.Turns.{IsJudged, KeepsLimit, answer_in, told_in
 use crate::end::End;
 use crate::learned::Learned;
 use crate::turn::{EndFault, Turn};
-use digest_core::Fingerprint;
+use digest_core::{Fingerprint, Summary};
 use std::alloc::Global;
 use std::marker::Model;
 use store_core::RangeStore;
@@ -24,25 +23,25 @@ use wire_core::{Message, Part};
 
 /// The end of a session that is spoken to first.
 #[derive(Drop)]
-pub struct Responder<'a, S: RangeStore> {
-    end: End<'a, S>,
+pub struct Responder<'a, S: RangeStore, F: Summary = Fingerprint> {
+    end: End<'a, S, F>,
 }
 
-impl<'a, S: RangeStore> Model for Responder<'a, S> {
+impl<'a, S: RangeStore, F: Summary> Model for Responder<'a, S, F> {
     ghost use Rattle.definitions.specs.Ends as ends;
     ghost use Rattle.ends_core.specs.Held.{Held};
     ghost use Rattle.ends_core.specs.Standing.{Stands};
 
-    ghost Value = { Held };
+    ghost Value = { Held F };
 
     ghost view = { λ a. a.end };
 
-    ghost invariant = { λ a. Stands ends.responder a.end };
+    ghost invariant = { λ a. Stands F.summary F.profile ends.responder a.end };
 }
 
-impl<'a, S: RangeStore> Responder<'a, S> {
+impl<'a, S: RangeStore, F: Summary> Responder<'a, S, F> {
     /// An end that has received nothing.
-    pub fn new(alloc: Global, accepted: &'a Accepted, store: S) -> Responder<'a, S>
+    pub fn new(alloc: Global, accepted: &'a Accepted, store: S) -> Responder<'a, S, F>
         requires { length (S.content store) ≤ accepted.now.table.cap }
         ensures { result ≡ fresh accepted.now.steps (ends.responder
             (record { table = accepted.now.table; items = S.content store })) }
@@ -57,16 +56,16 @@ impl<'a, S: RangeStore> Responder<'a, S> {
     ///
     /// Refused 20 to 25 where it is not placed: the end is spent then, and nothing is learned. Refused 26 where a message was
     /// refused before, or the session is over, and 90 where memory ran out: the end is as before.
-    pub fn take(&mut self, alloc: Global, part: &Part) -> Result<(), EndFault>
+    pub fn take(&mut self, alloc: Global, part: &Part<F>) -> Result<(), EndFault>
         ensures fault { IfSome (told_in result) (λ o. o ≡ placing.refusal
             (placing.next self.old.taken.place part.now)) }
-        ensures behind { IfSome (told_in result) (λ o. self.new ≡ behind_part self.old part.now o) }
+        ensures behind { IfSome (told_in result) (λ o. self.new ≡ behind_part F.summary self.old part.now o) }
         ensures memory { IfNone (told_in result) (self.new ≡ self.old) }
     {
-        laws::ends_stand_firm::<Fingerprint>();
-        laws::ends_hear_on::<Fingerprint>();
-        laws::ends_keep_peers::<Fingerprint>();
-        laws::parts_are_taken::<Fingerprint>();
+        laws::ends_stand_firm::<F>();
+        laws::ends_hear_on::<F>();
+        laws::ends_keep_peers::<F>();
+        laws::parts_are_taken::<F>();
         let _range = part.range(); // which tells that it has a spelling
         self.end.take(alloc, part)
     }
@@ -76,17 +75,17 @@ impl<'a, S: RangeStore> Responder<'a, S> {
     /// Refused 20, 22 or 23 where something is missing, 12 where the reply would have more than 131,072 parts: the end is spent
     /// then, and nothing is learned. Refused 26 where a message was refused before, or the session is over, and 90 where memory
     /// ran out: the end is as before.
-    pub fn end(&mut self, alloc: Global) -> Result<Turn, EndFault>
+    pub fn end(&mut self, alloc: Global) -> Result<Turn<F>, EndFault>
         ensures answer { IfSome (answer_in result) (λ a. a ≡ ended self.old.taken) }
         ensures behind { IfSome (answer_in result) (λ a. self.new ≡ behind_end self.old a) }
         ensures memory { IfNone (answer_in result) (self.new ≡ self.old) }
         ensures short { KeepsLimit self.old result }
     {
-        laws::ends_stand_firm::<Fingerprint>();
-        laws::ends_hear_on::<Fingerprint>();
-        laws::ends_keep_peers::<Fingerprint>();
-        laws::parts_are_taken::<Fingerprint>();
-        laws::replies_are_short::<Fingerprint>();
+        laws::ends_stand_firm::<F>();
+        laws::ends_hear_on::<F>();
+        laws::ends_keep_peers::<F>();
+        laws::parts_are_taken::<F>();
+        laws::replies_are_short::<F>();
         rank_laws::ranks_are_read();
         self.end.end(alloc)
     }
@@ -104,27 +103,28 @@ impl<'a, S: RangeStore> Responder<'a, S> {
     /// Refused 20 to 25 where the message is not placed behind the own one, 12 where the reply would have more than 131,072
     /// parts: the end is spent then, and nothing is learned. Refused 26 where a message was refused before, or the session
     /// is over, and 90 where memory ran out: the end is as before its first part.
-    pub fn receive(&mut self, alloc: Global, message: &Message) -> Result<Turn, EndFault>
+    pub fn receive(&mut self, alloc: Global, message: &Message<F>) -> Result<Turn<F>, EndFault>
         ensures judged { HasNone self.old → IsJudged self.old message.now result }
         ensures answer { HasNone self.old →
-            IfSome (answer_in result) (λ a. a ≡ ends.answer two_lanes self.old.end message.now) }
-        ensures behind { HasNone self.old → IfSome (answer_in result) (λ _. self.new ≡ behind self.old message.now) }
+            IfSome (answer_in result) (λ a. a ≡ ends.answer F.summary self.old.end message.now) }
+        ensures behind { HasNone self.old →
+            IfSome (answer_in result) (λ _. self.new ≡ behind F.summary self.old message.now) }
         ensures memory { HasNone self.old → IfNone (answer_in result) (self.new ≡ self.old) }
         ensures short { KeepsLimit self.old result }
         // Where parts were taken before, they belong to the message.
         ensures parts { IfSome (answer_in result) (λ a. a
-            ≡ by_parts two_lanes self.old.end self.old.taken message.now) }
-        ensures ended { IfSome (answer_in result) (λ a. self.new ≡ behind_message self.old message.now a) }
+            ≡ by_parts F.summary self.old.end self.old.taken message.now) }
+        ensures ended { IfSome (answer_in result) (λ a. self.new ≡ behind_message F.summary self.old message.now a) }
         ensures dropped { IfNone (answer_in result) (self.new ≡ fresh self.old.steps self.old.end) }
     {
-        laws::ends_stand_firm::<Fingerprint>();
-        laws::ends_hear_on::<Fingerprint>();
-        laws::ends_keep_peers::<Fingerprint>();
-        laws::opening_is_exact::<Fingerprint>();
-        laws::placing_is_exact::<Fingerprint>();
-        laws::messages_have_ranges::<Fingerprint>();
-        laws::parts_are_taken::<Fingerprint>();
-        laws::replies_are_short::<Fingerprint>();
+        laws::ends_stand_firm::<F>();
+        laws::ends_hear_on::<F>();
+        laws::ends_keep_peers::<F>();
+        laws::opening_is_exact::<F>();
+        laws::placing_is_exact::<F>();
+        laws::messages_have_ranges::<F>();
+        laws::parts_are_taken::<F>();
+        laws::replies_are_short::<F>();
         rank_laws::ranks_are_read();
         let _parts = message.parts(); // which tells that they have a spelling
         self.end.receive(alloc, message)
@@ -142,7 +142,7 @@ impl<'a, S: RangeStore> Responder<'a, S> {
         ensures sent { result ≡ self.now.end.sent }
         ensures few { result ≤ rank_by self.now.steps (length self.now.end.peer.items) + 1 }
     {
-        laws::ends_stand_firm::<Fingerprint>();
+        laws::ends_stand_firm::<F>();
         rank_laws::ranks_are_read();
         self.end.sent()
     }
@@ -160,7 +160,7 @@ impl<'a, S: RangeStore> Responder<'a, S> {
         ensures ours { IsDistinct same_item self.now.end.learned.ours }
         ensures theirs { IsDistinct same_item self.now.end.learned.theirs }
     {
-        laws::ends_stand_firm::<Fingerprint>();
+        laws::ends_stand_firm::<F>();
         self.end.learned()
     }
 

@@ -1,10 +1,11 @@
+use digest_core::Summary;
 use place_core::Place;
 
 /// Where an end's session stands.
 #[derive(Debug, Drop)]
-pub(crate) enum Stage {
+pub(crate) enum Stage<F: Summary> {
     /// The peer's message is due, or has come in part: where its placing stands.
-    Open(Place),
+    Open(Place<F>),
     /// A message without open part was sent or received.
     Over,
     /// A message was refused.

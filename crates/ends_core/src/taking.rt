@@ -3,7 +3,6 @@
 ghost use Rattle.std.specs.Prelude.{◌≡◌, ◌≤◌, length, Err, OnOk, IfSome};
 ghost use Rattle.definitions.specs.Items.{Apart};
 ghost use Rattle.definitions.specs.Ends.{own_of};
-ghost use Rattle.definitions.specs.Fingerprints.{two_lanes};
 ghost use Rattle.definitions.specs.Messages.{open_ranges};
 ghost use Rattle.definitions.specs.Placing as placing;
 ghost use Rattle.definitions.specs.Talks.{nothing};
@@ -14,6 +13,7 @@ ghost use Rattle.ends_core.specs.Turns.{told_in};
 
 use crate::draft::Draft;
 use crate::turn::EndFault;
+use digest_core::Summary;
 use place_core::Place;
 use std::alloc::{AllocError, Global};
 use store_core::RangeStore;
@@ -22,18 +22,18 @@ use wire_core::Part;
 
 /// Places a part, and adds its reply and what it tells. Where memory runs out all is as before; where the part is refused
 /// the place keeps the refusal.
-pub(crate) fn take_part<S: RangeStore>(
+pub(crate) fn take_part<S: RangeStore, F: Summary>(
     alloc: Global,
     strategy: &Strategy,
     store: &S,
-    place: &mut Place,
-    draft: &mut Draft,
-    part: &Part,
+    place: &mut Place<F>,
+    draft: &mut Draft<F>,
+    part: &Part<F>,
 ) -> Result<(), EndFault>
     requires few { length (S.content store.now) ≤ strategy.now.cap }
     requires apart { Apart (open_ranges (own_of (stage_at place.old))) }
     ensures fault { IfSome (told_in result) (λ o. o ≡ placing.refusal (placing.next place.old.now part.now)) }
-    ensures ok { OnOk result (taken_at place.new draft.new ≡ taken two_lanes (record {
+    ensures ok { OnOk result (taken_at place.new draft.new ≡ taken F.summary (record {
       peer = record { table = strategy.now; items = S.content store.now };
       stage = stage_at place.old;
       sent = 0;

@@ -20,3 +20,4 @@ pub mod Staying
 pub mod Telling
 pub mod Finishing
 pub mod Refuted
+pub mod Sizes

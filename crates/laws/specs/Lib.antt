@@ -5,4 +5,5 @@ pub mod Saying
 pub mod Taking
 pub mod Hearing
 pub mod Sessions
+pub mod Sizes
 pub mod Weaker

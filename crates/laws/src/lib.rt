@@ -15,6 +15,7 @@ ghost use Rattle.laws.specs.Saying.{EndsSay};
 ghost use Rattle.laws.specs.Taking.{PartsAreTaken};
 ghost use Rattle.laws.specs.Hearing.{FramesAgree, BytesAgree, FramesSay, OwnBegins, OwnIsFew, OwnIsShort};
 ghost use Rattle.laws.specs.Sessions.{SessionsOpen, SessionsGoOn, SessionsStay, SessionsKeepNodes, SessionsTell};
+ghost use Rattle.laws.specs.Sizes.{CountsTellSizes};
 ghost use Rattle.laws.specs.Weaker.{InitiatorStopsAnyhow, ResponderStopsAnyhow, ListsAreShortAnyhow, KnowledgeIsExactAnyhow, PartsAreFewAnyhow, count_summary, blind, wary};
 
 // ---- fingerprints
@@ -29,6 +30,12 @@ pub fn lanes_are_exact()
 #[tactic(auto, using(crate::proofs::Refuted::counted_lanes_exact))]
 pub fn counted_lanes_are_exact()
     ensures { IsExact counted_lanes }
+{}
+
+/// Sets of fewer than 2^32 items that share a fingerprint of profile 2 are of one size, whoever made them.
+#[tactic(auto, using(crate::proofs::Sizes::counts_tell))]
+pub fn counts_tell_sizes()
+    ensures { CountsTellSizes }
 {}
 
 // ---- ranges

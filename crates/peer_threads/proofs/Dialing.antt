@@ -8,7 +8,7 @@ use Rattle.std.specs.Prelude.{⊤}
 use Rattle.std.proofs.KnownBytes.{Appends-nil, Consumes-nil}
 use Rattle.std.specs.Io.KnownBytes.{Appends}
 use Rattle.definitions.specs.Accounts.{Seen, IsOfTheTable}
-use Rattle.definitions.specs.Fingerprints.{Lanes, two_lanes}
+use Rattle.definitions.specs.Fingerprints.{Summary}
 use Rattle.definitions.specs.Histories.{History, content}
 use Rattle.definitions.specs.Items.{Item, IsBytes}
 use Rattle.definitions.specs.Messages.{Message, opening}
@@ -16,7 +16,7 @@ use Rattle.definitions.specs.Ranks.{rank_by}
 use Rattle.definitions.specs.Replies.{Peer}
 use Rattle.definitions.specs.Ends.{initiator}
 use Rattle.definitions.specs.Engines.{Speaker, initiating}
-use Rattle.definitions.specs.Wire.{two_lane_profile}
+use Rattle.definitions.specs.Wire.{Profile}
 use Rattle.strategy_check.specs.Checked.{Checked}
 use Rattle.ends_core.specs.Held.{Held}
 use Rattle.ends_core.specs.Turns.{fresh}
@@ -37,151 +37,153 @@ use Rattle.peer_threads.proofs.Breaks.{breaks-in-hello, breaks-in-message}
 use Rattle.peer_threads.proofs.Exchanges.{adds, adds-nothing, wrote-first}
 use Rattle.peer_threads.proofs.Endings.{stopped-speaks, of-pin}
 
--- the hello was written, and nothing else
-pub greets : (o p : OutboxState) (held holds : Option (List ℕ)) → o ≡ outbox_state false 0 →
-    Appends held holds (hello_due o) → p ≡ outbox_state true o.sent → HasWritten p held holds []
-greets o p held holds new whole greeted = record {
-  greeted = ap (λ x. x.greeted) greeted;
-  count = ap (λ x. x.sent) greeted ∙ ap (λ x. x.sent) new;
-  written = subst (Appends held holds) (ap hello_due new ∙ sym (append-nil two_lane_profile.hello)) whole;
-}
-
--- the first message too
-pub begun-first : (p : Peer) (h : Held) (steps : List ℕ) (b : InboxState) (o q r : OutboxState)
-    (unread held holds more : Option (List ℕ)) (first : Message Lanes) →
-    h ≡ fresh steps (initiator two_lanes p) → first ≡ opening two_lanes p.items → HasRead b [] [] →
-    o ≡ outbox_state false 0 → Appends held holds (hello_due o) → q ≡ outbox_state true o.sent →
-    Adds q r holds more (first ∷ []) →
-    Underway (initiating two_lanes p) h b r (traffic unread unread held more)
-begun-first p h steps b o q r unread held holds more first is opens came new whole greeted added = record {
-  events = [];
-  bytes = [];
-  are_bytes = tt;
-  read = Consumes-nil unread;
-  came = came;
-  written = subst (λ (M : Message Lanes). HasWritten r held more (M ∷ [])) opens
-      (adds q r held holds more [] (first ∷ []) (greets o q held holds new whole greeted) added);
-  heard = sym (ap heard_as is);
-}
-
--- memory ran out before anything was written
-pub stops-silent : (T : ℕ → Type 0) (s : Speaker Lanes) (o : OutboxState) (unread held : Option (List ℕ))
-    (r : Seen) (broken : Bool) →
-    o ≡ outbox_state false 0 → Stopped T s o (traffic unread unread held held) r broken stops.Memory
-stops-silent T s o unread held r broken new = record {
-  bytes = [];
-  are_bytes = tt;
-  read = Consumes-nil unread;
-  why = inr (record { greeted = ap (λ x. x.greeted) new; none = ap (λ x. x.sent) new; written = Appends-nil held });
-}
-
--- the writer failed before the hello was written
-pub stops-broken : (T : ℕ → Type 0) (s : Speaker Lanes) (o p : OutboxState) (unread held holds : Option (List ℕ))
-    (r : Seen) (broken : Bool) →
-    o ≡ outbox_state false 0 → p ≡ o → IsTrue broken → BreaksIn held holds (hello_due o) →
-    Stopped T s p (traffic unread unread held holds) r broken (stops.Io sides.Write)
-stops-broken T s o p unread held holds r broken new same failed front = record {
-  bytes = [];
-  are_bytes = tt;
-  read = Consumes-nil unread;
-  why =
-      let part = subst (λ x. BreaksIn held holds (hello_due x)) new front in
-      (breaks-in-hello s p (traffic unread unread held holds) [] (ap (λ x. x.sent) (same ∙ new)) part, failed);
-}
-
--- the first message was not said
-pub stops-first : (p : Peer) (o q r : OutboxState) (unread held holds more : Option (List ℕ)) (input : Seen)
-    (broken : Bool) (first : Message Lanes) (stop : Stop) →
-    first ≡ opening two_lanes p.items →
-    o ≡ outbox_state false 0 → Appends held holds (hello_due o) → q ≡ outbox_state true o.sent →
-    Unsaid q r holds more broken (first ∷ []) stop →
-    Stopped IsOfTheTable (initiating two_lanes p) r (traffic unread unread held more) input broken stop
-stops-first p o q r unread held holds more input broken first stop opens new whole greeted unsaid =
-    record { bytes = []; are_bytes = tt; read = Consumes-nil unread; why = by stop unsaid } where
-      t : Traffic
-      t = traffic unread unread held more
-
-      hello : HasWritten q held holds []
-      hello = greets o q held holds new whole greeted
-
-      none : Adds q r holds more [] → WroteFirst (initiating two_lanes p) r t []
-      none added = wrote-first (initiating two_lanes p) r t [] [] (opening two_lanes p.items ∷ []) refl
-          (adds-nothing q r held holds more [] hello added)
-
-      some : SomeOf q r holds more (first ∷ []) → WroteFirst (initiating two_lanes p) r t []
-      some (inl added) = none added
-      some (inr added) =
-          wrote-first (initiating two_lanes p) r t [] (opening two_lanes p.items ∷ []) [] refl
-          (subst (λ (M : Message Lanes). HasWritten r held more (M ∷ [])) opens
-          (adds q r held holds more [] (first ∷ []) hello added))
-
-      by : (stop : Stop) → Unsaid q r holds more broken (first ∷ []) stop →
-          WhyStopped IsOfTheTable (initiating two_lanes p) r t input broken [] stop
-      by (stops.Refused code) (table, added) = (inl (some added), inr table)
-      by (stops.PeerRefused code) r = absurd r
-      by stops.Memory added = inl (none added)
-      by (stops.Io side) (write, failed, part) =
-          let s = initiating two_lanes p in
-          let calls = sym (ap (λ (M : Message Lanes). M ∷ []) opens) ∙ part.one in (
-            breaks-in-message s q r t holds [] [] [] part.message calls hello part.same part.front,
-            subst (HasBroken input broken []) (sym write) failed,
-          )
-
--- the table of sessions refused before anything was written
-pub stops-unbooked : (s : Speaker Lanes) (o : OutboxState) (unread held : Option (List ℕ)) (input : Seen)
-    (broken : Bool) (code : ℕ) →
-    o ≡ outbox_state false 0 → IsOfTheTable code →
-    Stopped IsOfTheTable s o (traffic unread unread held held) input broken (stops.Refused code)
-stops-unbooked s o unread held input broken code new table = record {
-  bytes = [];
-  are_bytes = tt;
-  read = Consumes-nil unread;
-  why = (
-    inr
-        (record { greeted = ap (λ x. x.greeted) new; none = ap (λ x. x.sent) new; written = Appends-nil held }),
-    inr table,
-  );
-}
-
--- an end at its start, of the items that a pin has
-abbrev pub starting : Checked → List Item → Held
-starting a items = fresh a.steps (initiator two_lanes (peer_of a items))
-
-pub starts : (a : Checked) (own items : List Item) (h : Held) → h ≡ starting a own → own ≡ items → h ≡ starting a items
-starts a own items h is same = is ∙ ap (λ l. starting a l) same
-
-pub opens-with : (own items : List Item) (first : Message Lanes) → first ≡ opening two_lanes own → own ≡ items →
-    first ≡ opening two_lanes items
-opens-with own items first is same = is ∙ ap (λ l. opening two_lanes l) same
-
--- a session that stopped before anything was written: by memory, or by the table of sessions
-pub speaks-unsaid : (s : Speaker Lanes) (version bound : ℕ) (x : OutboxState) (unread held holds : Option (List ℕ))
-    (r w : Seen) (broken : Bool) (stop : Stop) (o : Outcome) →
-    x ≡ outbox_state false 0 →
-    Stopped IsOfTheTable s x (traffic unread unread held held) r broken stop →
-    Leaves x held holds broken w.failed stop →
-    o ≡ outcome_of x.sent stop → Spoke s version bound (traffic unread unread held holds) r w o
-speaks-unsaid s version bound x unread held holds r w broken stop o new stopped leaves is =
-    let few : x.sent ≤ bound = omega (arith, ap (λ y. y.sent) new) in
-    subst (λ y. Spoke s version bound (traffic unread unread held holds) r w y) (sym is)
-    (stopped-speaks s version bound x (traffic unread unread held held) holds r w broken stop stopped leaves few)
-
--- what the side that speaks first keeps to
-abbrev pub FirstIsModest : Checked → Type 0
-FirstIsModest a = (h : History) (bytes : List ℕ) → IsBytes bytes → length (content h) ≤ a.table.cap →
-    IsModest (initiating two_lanes (peer_of a (content h))) bytes
-    (rank_by a.steps (length (content h)) + 2) a.table.limit
-
-pub dials : (a b : Checked) (w : View) (pin : PinState) (t : Traffic) (r x : Seen) (o : Outcome) → IsPinOf pin w →
-    b ≡ a → length (content w.base) ≤ a.table.cap →
-    Spoke (initiating two_lanes (peer_of b pin.items)) pin.version (rank_by b.steps (length pin.items) + 2) t r x o →
-    FirstIsModest a →
-    Speaks ⊤ (initiating two_lanes (peer_at a w)) (length w.base)
-    (rank_by a.steps (length (peer_at a w).items) + 2) a.table.limit t r x o
-dials a b w pin t r x o is same fits spoke modest =
-    of-pin ⊤ (λ p. initiating two_lanes p) 2 a b w pin t r x o is same spoke
-    (λ bytes are known. modest w.base bytes are fits)
-
 -- what a pin found fits the table
 pub found-fits : (v w : View) (cap : ℕ) → Looked v w → v.cap ≤ cap → length (content w.base) ≤ cap
 found-fits v w cap looked fits = omega (arith, looked.once.fits, looked.once.cap, fits)
+
+module _ {F : Type 0} (S : Summary F) (W : Profile F) where
+  -- the hello was written, and nothing else
+  pub greets : (o p : OutboxState) (held holds : Option (List ℕ)) → o ≡ outbox_state false 0 →
+      Appends held holds (hello_due W o) → p ≡ outbox_state true o.sent → HasWritten W p held holds []
+  greets o p held holds new whole greeted = record {
+    greeted = ap (λ x. x.greeted) greeted;
+    count = ap (λ x. x.sent) greeted ∙ ap (λ x. x.sent) new;
+    written = subst (Appends held holds) (ap (hello_due W) new ∙ sym (append-nil W.hello)) whole;
+  }
+
+  -- the first message too
+  pub begun-first : (p : Peer) (h : Held F) (steps : List ℕ) (b : InboxState) (o q r : OutboxState)
+      (unread held holds more : Option (List ℕ)) (first : Message F) →
+      h ≡ fresh steps (initiator S p) → first ≡ opening S p.items → HasRead W b [] [] →
+      o ≡ outbox_state false 0 → Appends held holds (hello_due W o) → q ≡ outbox_state true o.sent →
+      Adds W q r holds more (first ∷ []) →
+      Underway S W (initiating S p) h b r (traffic unread unread held more)
+  begun-first p h steps b o q r unread held holds more first is opens came new whole greeted added = record {
+    events = [];
+    bytes = [];
+    are_bytes = tt;
+    read = Consumes-nil unread;
+    came = came;
+    written = subst (λ (M : Message F). HasWritten W r held more (M ∷ [])) opens
+        (adds S W q r held holds more [] (first ∷ []) (greets o q held holds new whole greeted) added);
+    heard = sym (ap heard_as is);
+  }
+
+  -- memory ran out before anything was written
+  pub stops-silent : (T : ℕ → Type 0) (s : Speaker F) (o : OutboxState) (unread held : Option (List ℕ))
+      (r : Seen) (broken : Bool) →
+      o ≡ outbox_state false 0 → Stopped S W T s o (traffic unread unread held held) r broken stops.Memory
+  stops-silent T s o unread held r broken new = record {
+    bytes = [];
+    are_bytes = tt;
+    read = Consumes-nil unread;
+    why = inr (record { greeted = ap (λ x. x.greeted) new; none = ap (λ x. x.sent) new; written = Appends-nil held });
+  }
+
+  -- the writer failed before the hello was written
+  pub stops-broken : (T : ℕ → Type 0) (s : Speaker F) (o p : OutboxState) (unread held holds : Option (List ℕ))
+      (r : Seen) (broken : Bool) →
+      o ≡ outbox_state false 0 → p ≡ o → IsTrue broken → BreaksIn held holds (hello_due W o) →
+      Stopped S W T s p (traffic unread unread held holds) r broken (stops.Io sides.Write)
+  stops-broken T s o p unread held holds r broken new same failed front = record {
+    bytes = [];
+    are_bytes = tt;
+    read = Consumes-nil unread;
+    why =
+        let part = subst (λ x. BreaksIn held holds (hello_due W x)) new front in
+        (breaks-in-hello S W s p (traffic unread unread held holds) [] (ap (λ x. x.sent) (same ∙ new)) part, failed);
+  }
+
+  -- the first message was not said
+  pub stops-first : (p : Peer) (o q r : OutboxState) (unread held holds more : Option (List ℕ)) (input : Seen)
+      (broken : Bool) (first : Message F) (stop : Stop) →
+      first ≡ opening S p.items →
+      o ≡ outbox_state false 0 → Appends held holds (hello_due W o) → q ≡ outbox_state true o.sent →
+      Unsaid W q r holds more broken (first ∷ []) stop →
+      Stopped S W IsOfTheTable (initiating S p) r (traffic unread unread held more) input broken stop
+  stops-first p o q r unread held holds more input broken first stop opens new whole greeted unsaid =
+      record { bytes = []; are_bytes = tt; read = Consumes-nil unread; why = by stop unsaid } where
+        t : Traffic
+        t = traffic unread unread held more
+
+        hello : HasWritten W q held holds []
+        hello = greets o q held holds new whole greeted
+
+        none : Adds W q r holds more [] → WroteFirst S W (initiating S p) r t []
+        none added = wrote-first S W (initiating S p) r t [] [] (opening S p.items ∷ []) refl
+            (adds-nothing S W q r held holds more [] hello added)
+
+        some : SomeOf W q r holds more (first ∷ []) → WroteFirst S W (initiating S p) r t []
+        some (inl added) = none added
+        some (inr added) =
+            wrote-first S W (initiating S p) r t [] (opening S p.items ∷ []) [] refl
+            (subst (λ (M : Message F). HasWritten W r held more (M ∷ [])) opens
+            (adds S W q r held holds more [] (first ∷ []) hello added))
+
+        by : (stop : Stop) → Unsaid W q r holds more broken (first ∷ []) stop →
+            WhyStopped S W IsOfTheTable (initiating S p) r t input broken [] stop
+        by (stops.Refused code) (table, added) = (inl (some added), inr table)
+        by (stops.PeerRefused code) r = absurd r
+        by stops.Memory added = inl (none added)
+        by (stops.Io side) (write, failed, part) =
+            let s = initiating S p in
+            let calls = sym (ap (λ (M : Message F). M ∷ []) opens) ∙ part.one in (
+              breaks-in-message S W s q r t holds [] [] [] part.message calls hello part.same part.front,
+              subst (HasBroken input broken []) (sym write) failed,
+            )
+
+  -- the table of sessions refused before anything was written
+  pub stops-unbooked : (s : Speaker F) (o : OutboxState) (unread held : Option (List ℕ)) (input : Seen)
+      (broken : Bool) (code : ℕ) →
+      o ≡ outbox_state false 0 → IsOfTheTable code →
+      Stopped S W IsOfTheTable s o (traffic unread unread held held) input broken (stops.Refused code)
+  stops-unbooked s o unread held input broken code new table = record {
+    bytes = [];
+    are_bytes = tt;
+    read = Consumes-nil unread;
+    why = (
+      inr
+          (record { greeted = ap (λ x. x.greeted) new; none = ap (λ x. x.sent) new; written = Appends-nil held }),
+      inr table,
+    );
+  }
+
+  -- an end at its start, of the items that a pin has
+  abbrev pub starting : Checked → List Item → Held F
+  starting a items = fresh a.steps (initiator S (peer_of a items))
+
+  pub starts : (a : Checked) (own items : List Item) (h : Held F) → h ≡ starting a own → own ≡ items →
+      h ≡ starting a items
+  starts a own items h is same = is ∙ ap (λ l. starting a l) same
+
+  pub opens-with : (own items : List Item) (first : Message F) → first ≡ opening S own → own ≡ items →
+      first ≡ opening S items
+  opens-with own items first is same = is ∙ ap (λ l. opening S l) same
+
+  -- a session that stopped before anything was written: by memory, or by the table of sessions
+  pub speaks-unsaid : (s : Speaker F) (version bound : ℕ) (x : OutboxState) (unread held holds : Option (List ℕ))
+      (r w : Seen) (broken : Bool) (stop : Stop) (o : Outcome) →
+      x ≡ outbox_state false 0 →
+      Stopped S W IsOfTheTable s x (traffic unread unread held held) r broken stop →
+      Leaves W x held holds broken w.failed stop →
+      o ≡ outcome_of x.sent stop → Spoke S W s version bound (traffic unread unread held holds) r w o
+  speaks-unsaid s version bound x unread held holds r w broken stop o new stopped leaves is =
+      let few : x.sent ≤ bound = omega (arith, ap (λ y. y.sent) new) in
+      subst (λ y. Spoke S W s version bound (traffic unread unread held holds) r w y) (sym is)
+      (stopped-speaks S W s version bound x (traffic unread unread held held) holds r w broken stop stopped leaves few)
+
+  -- what the side that speaks first keeps to
+  abbrev pub FirstIsModest : Checked → Type 0
+  FirstIsModest a = (h : History) (bytes : List ℕ) → IsBytes bytes → length (content h) ≤ a.table.cap →
+      IsModest S W (initiating S (peer_of a (content h))) bytes
+      (rank_by a.steps (length (content h)) + 2) a.table.limit
+
+  pub dials : (a b : Checked) (w : View) (pin : PinState) (t : Traffic) (r x : Seen) (o : Outcome) → IsPinOf pin w →
+      b ≡ a → length (content w.base) ≤ a.table.cap →
+      Spoke S W (initiating S (peer_of b pin.items)) pin.version (rank_by b.steps (length pin.items) + 2) t r x o →
+      FirstIsModest a →
+      Speaks S W ⊤ (initiating S (peer_at a w)) (length w.base)
+      (rank_by a.steps (length (peer_at a w).items) + 2) a.table.limit t r x o
+  dials a b w pin t r x o is same fits spoke modest =
+      of-pin S W ⊤ (λ p. initiating S p) 2 a b w pin t r x o is same spoke
+      (λ bytes are known. modest w.base bytes are fits)

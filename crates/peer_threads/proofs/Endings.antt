@@ -15,9 +15,9 @@ use Rattle.definitions.specs.Histories.{content}
 use Rattle.definitions.specs.Ranks.{rank_by}
 use Rattle.definitions.specs.Replies.{Peer}
 use Rattle.definitions.specs.Engines.{Speaker, text}
-use Rattle.definitions.specs.Fingerprints.{Lanes, two_lanes}
+use Rattle.definitions.specs.Fingerprints.{Summary}
 use Rattle.definitions.specs.Refusals.{no_memory}
-use Rattle.definitions.specs.Wire.{two_lane_profile, fault_text}
+use Rattle.definitions.specs.Wire.{Profile, fault_text}
 use Rattle.strategy_check.specs.Checked.{Checked}
 use Rattle.version_lock.specs.declared.view.View.{View}
 use Rattle.version_lock.specs.Calls.{PinState, IsPinOf}
@@ -27,7 +27,7 @@ use Rattle.peer_threads.specs.declared.outcome.Side.{Side}
 use Rattle.peer_threads.specs.declared.outcome.Side.TheVariants as sides
 use Rattle.peer_threads.specs.declared.stop.Stop.{Stop}
 use Rattle.peer_threads.specs.declared.stop.Stop.TheVariants as stops
-use Rattle.peer_threads.specs.Outcomes.{Traffic, traffic, SaidAll, Bears, IsModest, Speaks, SpeaksUnopened}
+use Rattle.peer_threads.specs.Outcomes.{Traffic, traffic_of, SaidAll, Bears, IsModest, Speaks, SpeaksUnopened}
 use Rattle.peer_threads.specs.Outcomes.{BearsUnopened, call_of, called_by, failing, sent_in, peer_of, peer_at}
 use Rattle.peer_threads.specs.Outboxes.{OutboxState, refusal_text, Begins, WroteSo}
 use Rattle.peer_threads.specs.Stops.{outcome_of}
@@ -46,232 +46,254 @@ pub wrote-nothing : (a b : Option (List ℕ)) (failed : Bool) (xs : List ℕ) �
     WroteSo a b failed xs
 wrote-nothing a b failed xs broke none = inr (broke, (0, none))
 
--- ---- the fault frame behind what was written
+module _ {F : Type 0} (S : Summary F) (W : Profile F) where
+  -- ---- the fault frame behind what was written
 
-abbrev first_text : Speaker Lanes → OutboxState → List ℕ → List ℕ
-first_text s o bytes = text two_lane_profile o.sent (called_by s bytes)
+  abbrev first_text : Speaker F → OutboxState → List ℕ → List ℕ
+  first_text s o bytes = text W o.sent (called_by S W s bytes)
 
--- the hello was written before
-frame-alone : (o : OutboxState) (code : ℕ) → IsTrue o.greeted → refusal_text o code ≡ fault_text code
-frame-alone o code greeted = ap (λ b. (if b then [] else two_lane_profile.hello) ++ fault_text code) greeted
+  -- the hello was written before
+  frame-alone : (o : OutboxState) (code : ℕ) → IsTrue o.greeted → refusal_text W o code ≡ fault_text code
+  frame-alone o code greeted = ap (λ b. (if b then [] else W.hello) ++ fault_text code) greeted
 
-record FrameBehind (s : Speaker Lanes) (version : ℕ) (o : OutboxState) (t : Traffic) (holds : Option (List ℕ))
-    (bytes : List ℕ) (r w : Seen) (code : ℕ) : Type 0 where
-  written : List ℕ
-  wrote : Appends t.held holds written
-  account : WroteFault two_lanes two_lane_profile (call_of s version bytes written r w) o.sent code
+  record FrameBehind (s : Speaker F) (version : ℕ) (o : OutboxState) (t : Traffic) (holds : Option (List ℕ))
+      (bytes : List ℕ) (r w : Seen) (code : ℕ) : Type 0 where
+    written : List ℕ
+    wrote : Appends t.held holds written
+    account : WroteFault S W (call_of s version bytes written r w) o.sent code
 
-frame-behind-first : (s : Speaker Lanes) (version : ℕ) (o : OutboxState) (t : Traffic) (holds : Option (List ℕ))
-    (bytes : List ℕ) (r w : Seen) (code : ℕ) →
-    WroteFirst s o t bytes → WroteSo t.holds holds w.failed (refusal_text o code) →
-    FrameBehind s version o t holds bytes r w code
-frame-behind-first s version o t holds bytes r w code first (inl whole) = record {
-  written = first_text s o bytes ++ fault_text code;
-  wrote = Appends-trans t.held t.holds holds (first_text s o bytes) (fault_text code) first.written
-      (subst (Appends t.holds holds) (frame-alone o code first.greeted) whole);
-  account = record { count = first.count; written = inl refl };
-}
-frame-behind-first s version o t holds bytes r w code first (inr (failed, (n, front))) =
-    let part : List ℕ = take n (fault_text code) in
-    record {
-      written = first_text s o bytes ++ part;
-      wrote = Appends-trans t.held t.holds holds (first_text s o bytes) part first.written
-          (subst (λ (l : List ℕ). Appends t.holds holds (take n l)) (frame-alone o code first.greeted) front);
-      account = record {
-        count = first.count;
-        written = inr (
-          failed,
-          (
-            drop n (fault_text code),
-            ap (λ (l : List ℕ). first_text s o bytes ++ l)
-                (sym (take-append-drop n (fault_text code)))
-                ∙ sym (append_assoc (first_text s o bytes) part (drop n (fault_text code))),
-          ),
-        );
-      };
-    }
+  frame-behind-first : (s : Speaker F) (version : ℕ) (o : OutboxState) (t : Traffic) (holds : Option (List ℕ))
+      (bytes : List ℕ) (r w : Seen) (code : ℕ) →
+      WroteFirst S W s o t bytes → WroteSo t.holds holds w.failed (refusal_text W o code) →
+      FrameBehind s version o t holds bytes r w code
+  frame-behind-first s version o t holds bytes r w code first (inl whole) = record {
+    written = first_text s o bytes ++ fault_text code;
+    wrote = Appends-trans t.held t.holds holds (first_text s o bytes) (fault_text code) first.written
+        (subst (Appends t.holds holds) (frame-alone o code first.greeted) whole);
+    account = record { count = first.count; written = inl refl };
+  }
+  frame-behind-first s version o t holds bytes r w code first (inr (failed, (n, front))) =
+      let part : List ℕ = take n (fault_text code) in
+      record {
+        written = first_text s o bytes ++ part;
+        wrote = Appends-trans t.held t.holds holds (first_text s o bytes) part first.written
+            (subst (λ (l : List ℕ). Appends t.holds holds (take n l)) (frame-alone o code first.greeted) front);
+        account = record {
+          count = first.count;
+          written = inr (
+            failed,
+            (
+              drop n (fault_text code),
+              ap (λ (l : List ℕ). first_text s o bytes ++ l)
+                  (sym (take-append-drop n (fault_text code)))
+                  ∙ sym (append_assoc (first_text s o bytes) part (drop n (fault_text code))),
+            ),
+          );
+        };
+      }
 
--- nothing was written before: the hello, and the frame
-alone-is : (s : Speaker Lanes) (o : OutboxState) (bytes : List ℕ) (code : ℕ) → o.greeted ≡ false → o.sent ≡ 0 →
-    refusal_text o code ≡ first_text s o bytes ++ fault_text code
-alone-is s o bytes code greeted none =
-    ap (λ b. (if b then [] else two_lane_profile.hello) ++ fault_text code) greeted
-    ∙ ap (λ (l : List ℕ). l ++ fault_text code)
-    (sym (ap (λ n. text two_lane_profile n (called_by s bytes)) none ∙ append-nil two_lane_profile.hello))
+  -- nothing was written before: the hello, and the frame
+  alone-is : (s : Speaker F) (o : OutboxState) (bytes : List ℕ) (code : ℕ) → o.greeted ≡ false → o.sent ≡ 0 →
+      refusal_text W o code ≡ first_text s o bytes ++ fault_text code
+  alone-is s o bytes code greeted none =
+      ap (λ b. (if b then [] else W.hello) ++ fault_text code) greeted
+      ∙ ap (λ (l : List ℕ). l ++ fault_text code)
+      (sym (ap (λ n. text W n (called_by S W s bytes)) none ∙ append-nil W.hello))
 
-frame-behind : (s : Speaker Lanes) (version : ℕ) (o : OutboxState) (t : Traffic) (holds : Option (List ℕ))
-    (bytes : List ℕ) (r w : Seen) (code : ℕ) →
-    WroteUpTo s o t bytes → WroteSo t.holds holds w.failed (refusal_text o code) →
-    FrameBehind s version o t holds bytes r w code
-frame-behind s version o t holds bytes r w code (inl first) so =
-    frame-behind-first s version o t holds bytes r w code first so
-frame-behind s version o t holds bytes r w code (inr none) (inl whole) = record {
-  written = refusal_text o code;
-  wrote = Appends-trans t.held t.holds holds [] (refusal_text o code) none.written whole;
-  account = record { count = omega (arith, none.none); written = inl (alone-is s o bytes code none.greeted none.none) };
-}
-frame-behind s version o t holds bytes r w code (inr none) (inr (failed, (n, front))) = record {
-  written = take n (refusal_text o code);
-  wrote = Appends-trans t.held t.holds holds [] (take n (refusal_text o code)) none.written front;
-  account = record {
-    count = omega (arith, none.none);
-    written = inr (
-      failed,
-      (
-        drop n (refusal_text o code),
-        sym (alone-is s o bytes code none.greeted none.none)
-            ∙ sym (take-append-drop n (refusal_text o code)),
-      ),
+  frame-behind : (s : Speaker F) (version : ℕ) (o : OutboxState) (t : Traffic) (holds : Option (List ℕ))
+      (bytes : List ℕ) (r w : Seen) (code : ℕ) →
+      WroteUpTo S W s o t bytes → WroteSo t.holds holds w.failed (refusal_text W o code) →
+      FrameBehind s version o t holds bytes r w code
+  frame-behind s version o t holds bytes r w code (inl first) so =
+      frame-behind-first s version o t holds bytes r w code first so
+  frame-behind s version o t holds bytes r w code (inr none) (inl whole) = record {
+    written = refusal_text W o code;
+    wrote = Appends-trans t.held t.holds holds [] (refusal_text W o code) none.written whole;
+    account = record {
+      count = omega (arith, none.none);
+      written = inl (alone-is s o bytes code none.greeted none.none);
+    };
+  }
+  frame-behind s version o t holds bytes r w code (inr none) (inr (failed, (n, front))) = record {
+    written = take n (refusal_text W o code);
+    wrote = Appends-trans t.held t.holds holds [] (take n (refusal_text W o code)) none.written front;
+    account = record {
+      count = omega (arith, none.none);
+      written = inr (
+        failed,
+        (
+          drop n (refusal_text W o code),
+          sym (alone-is s o bytes code none.greeted none.none)
+              ∙ sym (take-append-drop n (refusal_text W o code)),
+        ),
+      );
+    };
+  }
+
+  -- ---- each outcome
+
+  -- why this side refused
+  why : (T : ℕ → Type 0) (s : Speaker F) (version : ℕ) (bytes written : List ℕ) (r w : Seen) (k code : ℕ) →
+      IsFirst S W s r.ended bytes k code ⊎ T code →
+      IsFirstFault S W (call_of s version bytes written r w) k code ⊎ T code
+  why T s version bytes written r w k code (inr table) = inr table
+  why T s version bytes written r w k code (inl first) =
+      inl (record { first = first.first; behind = by first.behind }) where
+        by : ((length (called_by S W s bytes) ≡ k) ⊎ IsLong (called_by S W s bytes) k code) →
+            (length (called_by S W s bytes) ≡ k) ⊎ IsTooLong S W
+            (call_of s version bytes written r w) k code
+        by (inl all) = inl all
+        by (inr long) = inr
+            (record {
+              twelve = long.twelve;
+              count = long.count;
+              reply = long.reply;
+              last = long.last;
+              long = long.long;
+            })
+
+  said-kept : (s : Speaker F) (t : Traffic) (holds : Option (List ℕ)) (bytes : List ℕ) (sent : ℕ) →
+      Keeps t.holds holds → SaidAll S W s t bytes sent →
+      SaidAll S W s (traffic_of t.unread t.left t.held holds) bytes sent
+  said-kept s t holds bytes sent kept said =
+      record { written = Appends-kept t.held t.holds holds _ said.written kept; count = said.count }
+
+  pub bears : (s : Speaker F) (version : ℕ) (o : OutboxState) (t : Traffic) (holds : Option (List ℕ)) (r w : Seen)
+      (broken : Bool) (bytes : List ℕ) (stop : Stop) →
+      WhyStopped S W IsOfTheTable s o t r broken bytes stop → Leaves W o t.holds holds broken w.failed stop →
+      Bears S W s version (traffic_of t.unread t.left t.held holds) r w bytes (outcome_of o.sent stop)
+  bears s version o t holds r w broken bytes (stops.Refused code) x leaves =
+      let f = frame-behind s version o t holds bytes r w code x.0 leaves in
+      let reason = why IsOfTheTable s version bytes f.written r w o.sent code x.1 in
+      (f.written, f.wrote, record { wrote = f.account; why = reason })
+  bears s version o t holds r w broken bytes (stops.PeerRefused code) x leaves =
+      (said-kept s t holds bytes o.sent leaves x.said, x.frame, x.told)
+  bears s version o t holds r w broken bytes stops.Memory x leaves =
+      let f = frame-behind s version o t holds bytes r w no_memory x leaves in
+      (f.written, f.wrote, record { wrote = f.account })
+  bears s version o t holds r w broken bytes (stops.Io side) (breaks, failed) leaves = (
+    breaks.all,
+    Appends-kept t.held t.holds holds breaks.all breaks.written leaves.0,
+    record { wrote = breaks.broke version r w; failed = by side failed },
+  ) where
+    by : (side : Side) → HasBroken r broken bytes side →
+        HasFailed (call_of s version bytes breaks.all r w) (failing side)
+    by sides.Read failed = failed
+    by sides.Write failed = subst (λ b. IsTrue b) (sym leaves.1) failed
+
+  -- a session that stopped
+  pub stopped-speaks : (s : Speaker F) (version bound : ℕ) (o : OutboxState) (t : Traffic) (holds : Option (List ℕ))
+      (r w : Seen) (broken : Bool) (stop : Stop) →
+      Stopped S W IsOfTheTable s o t r broken stop →
+      Leaves W o t.holds holds broken w.failed stop → o.sent ≤ bound →
+      Spoke S W s version bound (traffic_of t.unread t.left t.held holds) r w (outcome_of o.sent stop)
+  stopped-speaks s version bound o t holds r w broken stop x leaves few = record {
+    bytes = x.bytes;
+    are_bytes = x.are_bytes;
+    read = x.read;
+    bears = bears s version o t holds r w broken x.bytes stop x.why leaves;
+    few = by stop;
+  } where
+    by : (stop : Stop) → sent_in (outcome_of o.sent stop) ≤ bound
+    by (stops.Refused code) = few
+    by (stops.PeerRefused code) = few
+    by stops.Memory = few
+    by (stops.Io side) = few
+
+  -- one that was talked to its end
+  pub finished-speaks : (s : Speaker F) (e : End F) (version bound : ℕ) (o : OutboxState) (t : Traffic)
+      (r w : Seen) →
+      Finished S W s e o t → o.sent ≤ bound →
+      Spoke S W s version bound t r w (outcomes.Ended e.learned o.sent version)
+  finished-speaks s e version bound o t r w f few = record {
+    bytes = f.bytes;
+    are_bytes = f.are_bytes;
+    read = f.read;
+    bears = (
+      f.said,
+      subst (λ (x : End F). IsTrue (is_over x.stage)) f.end f.over,
+      ap
+          (λ (x : End F). x.learned) f.end,
     );
-  };
-}
+    few = few;
+  }
 
--- ---- each outcome
+  -- ---- before a history is looked at
 
--- why this side refused
-why : (T : ℕ → Type 0) (s : Speaker Lanes) (version : ℕ) (bytes written : List ℕ) (r w : Seen) (k code : ℕ) →
-    IsFirst s r.ended bytes k code ⊎ T code →
-    IsFirstFault two_lanes two_lane_profile (call_of s version bytes written r w) k code ⊎ T code
-why T s version bytes written r w k code (inr table) = inr table
-why T s version bytes written r w k code (inl first) =
-    inl (record { first = first.first; behind = by first.behind }) where
-      by : ((length (called_by s bytes) ≡ k) ⊎ IsLong (called_by s bytes) k code) →
-          (length (called_by s bytes) ≡ k) ⊎ IsTooLong two_lanes two_lane_profile
-          (call_of s version bytes written r w) k code
-      by (inl all) = inl all
-      by (inr long) = inr
-          (record { twelve = long.twelve; count = long.count; reply = long.reply; last = long.last; long = long.long })
+  pub anyhow : (s : Speaker F) (o : OutboxState) (t : Traffic) (r : Seen) (broken : Bool) (bytes : List ℕ)
+      (stop : Stop) →
+      WhyStopped S W IsNone s o t r broken bytes stop → WhyStopped S W IsOfTheTable s o t r broken bytes stop
+  anyhow s o t r broken bytes (stops.Refused code) (wrote, inl first) = (wrote, inl first)
+  anyhow s o t r broken bytes (stops.Refused code) (wrote, inr none) = absurd none
+  anyhow s o t r broken bytes (stops.PeerRefused code) x = x
+  anyhow s o t r broken bytes stops.Memory x = x
+  anyhow s o t r broken bytes (stops.Io side) x = x
 
-said-kept : (s : Speaker Lanes) (t : Traffic) (holds : Option (List ℕ)) (bytes : List ℕ) (sent : ℕ) →
-    Keeps t.holds holds → SaidAll s t bytes sent → SaidAll s (traffic t.unread t.left t.held holds) bytes sent
-said-kept s t holds bytes sent kept said =
-    record { written = Appends-kept t.held t.holds holds _ said.written kept; count = said.count }
+  pub stopped-anyhow : (s : Speaker F) (o : OutboxState) (t : Traffic) (r : Seen) (broken : Bool) (stop : Stop) →
+      Stopped S W IsNone s o t r broken stop → Stopped S W IsOfTheTable s o t r broken stop
+  stopped-anyhow s o t r broken stop x =
+      record { bytes = x.bytes; are_bytes = x.are_bytes; read = x.read; why = anyhow s o t r broken x.bytes stop x.why }
 
-pub bears : (s : Speaker Lanes) (version : ℕ) (o : OutboxState) (t : Traffic) (holds : Option (List ℕ)) (r w : Seen)
-    (broken : Bool) (bytes : List ℕ) (stop : Stop) →
-    WhyStopped IsOfTheTable s o t r broken bytes stop → Leaves o t.holds holds broken w.failed stop →
-    Bears s version (traffic t.unread t.left t.held holds) r w bytes (outcome_of o.sent stop)
-bears s version o t holds r w broken bytes (stops.Refused code) x leaves =
-    let f = frame-behind s version o t holds bytes r w code x.0 leaves in
-    let reason = why IsOfTheTable s version bytes f.written r w o.sent code x.1 in
-    (f.written, f.wrote, record { wrote = f.account; why = reason })
-bears s version o t holds r w broken bytes (stops.PeerRefused code) x leaves =
-    (said-kept s t holds bytes o.sent leaves x.said, x.frame, x.told)
-bears s version o t holds r w broken bytes stops.Memory x leaves =
-    let f = frame-behind s version o t holds bytes r w no_memory x leaves in
-    (f.written, f.wrote, record { wrote = f.account })
-bears s version o t holds r w broken bytes (stops.Io side) (breaks, failed) leaves = (
-  breaks.all,
-  Appends-kept t.held t.holds holds breaks.all breaks.written leaves.0,
-  record { wrote = breaks.broke version r w; failed = by side failed },
-) where
-  by : (side : Side) → HasBroken r broken bytes side → HasFailed (call_of s version bytes breaks.all r w) (failing side)
-  by sides.Read failed = failed
-  by sides.Write failed = subst (λ b. IsTrue b) (sym leaves.1) failed
+  only-first : (s : Speaker F) (version : ℕ) (bytes written : List ℕ) (r w : Seen) (k code : ℕ) →
+      IsFirst S W s r.ended bytes k code ⊎ IsNone code →
+      IsFirstFault S W (call_of s version bytes written r w) k code
+  only-first s version bytes written r w k code x = by (why IsNone s version bytes written r w k code x) where
+    by : IsFirstFault S W (call_of s version bytes written r w) k code ⊎ IsNone code →
+        IsFirstFault S W (call_of s version bytes written r w) k code
+    by (inl first) = first
+    by (inr none) = absurd none
 
--- a session that stopped
-pub stopped-speaks : (s : Speaker Lanes) (version bound : ℕ) (o : OutboxState) (t : Traffic) (holds : Option (List ℕ))
-    (r w : Seen) (broken : Bool) (stop : Stop) →
-    Stopped IsOfTheTable s o t r broken stop →
-    Leaves o t.holds holds broken w.failed stop → o.sent ≤ bound →
-    Spoke s version bound (traffic t.unread t.left t.held holds) r w (outcome_of o.sent stop)
-stopped-speaks s version bound o t holds r w broken stop x leaves few = record {
-  bytes = x.bytes;
-  are_bytes = x.are_bytes;
-  read = x.read;
-  bears = bears s version o t holds r w broken x.bytes stop x.why leaves;
-  few = by stop;
-} where
-  by : (stop : Stop) → sent_in (outcome_of o.sent stop) ≤ bound
-  by (stops.Refused code) = few
-  by (stops.PeerRefused code) = few
-  by stops.Memory = few
-  by (stops.Io side) = few
+  pub bears-unopened : (s : Speaker F) (version : ℕ) (o : OutboxState) (t : Traffic) (holds : Option (List ℕ))
+      (r w : Seen) (broken : Bool) (bytes : List ℕ) (stop : Stop) →
+      WhyStopped S W IsNone s o t r broken bytes stop → Leaves W o t.holds holds broken w.failed stop →
+      BearsUnopened S W s version (traffic_of t.unread t.left t.held holds) r w bytes (outcome_of o.sent stop)
+  bears-unopened s version o t holds r w broken bytes (stops.Refused code) y l =
+      let f = frame-behind s version o t holds bytes r w code y.0 l in
+      let first = only-first s version bytes f.written r w o.sent code y.1 in
+      (f.written, f.wrote, record { wrote = f.account; why = inl first }, first)
+  bears-unopened s version o t holds r w broken bytes (stops.PeerRefused code) y l =
+      bears s version o t holds r w broken bytes (stops.PeerRefused code)
+      (anyhow s o t r broken bytes (stops.PeerRefused code) y) l
+  bears-unopened s version o t holds r w broken bytes stops.Memory y l =
+      bears s version o t holds r w broken bytes stops.Memory (anyhow s o t r broken bytes stops.Memory y) l
+  bears-unopened s version o t holds r w broken bytes (stops.Io side) y l =
+      bears s version o t holds r w broken bytes (stops.Io side) y l
 
--- one that was talked to its end
-pub finished-speaks : (s : Speaker Lanes) (e : End Lanes) (version bound : ℕ) (o : OutboxState) (t : Traffic)
-    (r w : Seen) →
-    Finished s e o t → o.sent ≤ bound →
-    Spoke s version bound t r w (outcomes.Ended e.learned o.sent version)
-finished-speaks s e version bound o t r w f few = record {
-  bytes = f.bytes;
-  are_bytes = f.are_bytes;
-  read = f.read;
-  bears = (
-    f.said,
-    subst (λ (x : End Lanes). IsTrue (is_over x.stage)) f.end f.over,
-    ap
-        (λ (x : End Lanes). x.learned) f.end,
-  );
-  few = few;
-}
+  pub stopped-unopened : (s : Speaker F) (version : ℕ) (o : OutboxState) (t : Traffic) (holds : Option (List ℕ))
+      (r w : Seen) (broken : Bool) (stop : Stop) →
+      Stopped S W IsNone s o t r broken stop →
+      Leaves W o t.holds holds broken w.failed stop →
+      SpeaksUnopened S W s version (traffic_of t.unread t.left t.held holds) r w (outcome_of o.sent stop)
+  stopped-unopened s version o t holds r w broken stop x leaves = record {
+    bytes = x.bytes;
+    read = x.read;
+    bears = bears-unopened s version o t holds r w broken x.bytes stop x.why leaves;
+  }
 
--- ---- before a history is looked at
+  -- ---- all that an outcome says
 
-anyhow : (s : Speaker Lanes) (o : OutboxState) (t : Traffic) (r : Seen) (broken : Bool) (bytes : List ℕ) (stop : Stop) →
-    WhyStopped IsNone s o t r broken bytes stop → WhyStopped IsOfTheTable s o t r broken bytes stop
-anyhow s o t r broken bytes (stops.Refused code) (wrote, inl first) = (wrote, inl first)
-anyhow s o t r broken bytes (stops.Refused code) (wrote, inr none) = absurd none
-anyhow s o t r broken bytes (stops.PeerRefused code) x = x
-anyhow s o t r broken bytes stops.Memory x = x
-anyhow s o t r broken bytes (stops.Io side) x = x
+  pub speaks : (A : Type 0) (s : Speaker F) (version bound limit : ℕ) (t : Traffic) (r w : Seen) (o : Outcome) →
+      Spoke S W s version bound t r w o →
+      ((bytes : List ℕ) → IsBytes bytes → A → IsModest S W s bytes bound limit) →
+      Speaks S W A s version bound limit t r w o
+  speaks A s version bound limit t r w o x modest =
+      record { bytes = x.bytes; read = x.read; bears = x.bears; sent = x.few; modest = modest x.bytes x.are_bytes }
 
-pub stopped-anyhow : (s : Speaker Lanes) (o : OutboxState) (t : Traffic) (r : Seen) (broken : Bool) (stop : Stop) →
-    Stopped IsNone s o t r broken stop → Stopped IsOfTheTable s o t r broken stop
-stopped-anyhow s o t r broken stop x =
-    record { bytes = x.bytes; are_bytes = x.are_bytes; read = x.read; why = anyhow s o t r broken x.bytes stop x.why }
-
-only-first : (s : Speaker Lanes) (version : ℕ) (bytes written : List ℕ) (r w : Seen) (k code : ℕ) →
-    IsFirst s r.ended bytes k code ⊎ IsNone code →
-    IsFirstFault two_lanes two_lane_profile (call_of s version bytes written r w) k code
-only-first s version bytes written r w k code x = by (why IsNone s version bytes written r w k code x) where
-  by : IsFirstFault two_lanes two_lane_profile (call_of s version bytes written r w) k code ⊎ IsNone code →
-      IsFirstFault two_lanes two_lane_profile (call_of s version bytes written r w) k code
-  by (inl first) = first
-  by (inr none) = absurd none
-
-pub stopped-unopened : (s : Speaker Lanes) (version : ℕ) (o : OutboxState) (t : Traffic) (holds : Option (List ℕ))
-    (r w : Seen) (broken : Bool) (stop : Stop) →
-    Stopped IsNone s o t r broken stop →
-    Leaves o t.holds holds broken w.failed stop →
-    SpeaksUnopened s version (traffic t.unread t.left t.held holds) r w (outcome_of o.sent stop)
-stopped-unopened s version o t holds r w broken stop x leaves =
-    record { bytes = x.bytes; read = x.read; bears = by stop x.why leaves } where
-      by : (stop : Stop) → WhyStopped IsNone s o t r broken x.bytes stop → Leaves o t.holds holds broken w.failed stop →
-          BearsUnopened s version (traffic t.unread t.left t.held holds) r w x.bytes (outcome_of o.sent stop)
-      by (stops.Refused code) y l =
-          let f = frame-behind s version o t holds x.bytes r w code y.0 l in
-          let first = only-first s version x.bytes f.written r w o.sent code y.1 in
-          (f.written, f.wrote, record { wrote = f.account; why = inl first }, first)
-      by (stops.PeerRefused code) y l =
-          bears s version o t holds r w broken x.bytes (stops.PeerRefused code)
-          (anyhow s o t r broken x.bytes (stops.PeerRefused code) y) l
-      by stops.Memory y l = bears s version o t holds r w broken x.bytes stops.Memory
-          (anyhow s o t r broken x.bytes stops.Memory y) l
-      by (stops.Io side) y l = bears s version o t holds r w broken x.bytes (stops.Io side) y l
-
--- ---- all that an outcome says
-
-pub speaks : (F : Type 0) (s : Speaker Lanes) (version bound limit : ℕ) (t : Traffic) (r w : Seen) (o : Outcome) →
-    Spoke s version bound t r w o →
-    ((bytes : List ℕ) → IsBytes bytes → F → IsModest s bytes bound limit) → Speaks F s version bound limit t r w o
-speaks F s version bound limit t r w o x modest =
-    record { bytes = x.bytes; read = x.read; bears = x.bears; sent = x.few; modest = modest x.bytes x.are_bytes }
-
--- a session of either side over a pin of the history that was found
-pub of-pin : (F : Type 0) (s : Peer → Speaker Lanes) (k : ℕ) (a b : Checked) (w : View) (pin : PinState) (t : Traffic)
-    (r x : Seen) (o : Outcome) →
-    IsPinOf pin w → b ≡ a →
-    Spoke (s (peer_of b pin.items)) pin.version (rank_by b.steps (length pin.items) + k) t r x o →
-    ((bytes : List ℕ) → IsBytes bytes → F →
-    IsModest (s (peer_at a w)) bytes (rank_by a.steps (length (content w.base)) + k) a.table.limit) →
-    Speaks F (s (peer_at a w)) (length w.base) (rank_by a.steps (length (content w.base)) + k) a.table.limit t r x o
-of-pin F s k a b w pin t r x o is same spoke modest =
-    let of_set = subst (λ (l : List Item). Spoke (s (peer_of b l)) pin.version
-    (rank_by b.steps (length l) + k) t r x o) is.items_are spoke in
-    let of_version = subst (λ (v : ℕ). Spoke (s (peer_of b (content w.base))) v
-    (rank_by b.steps (length (content w.base)) + k) t r x o) is.version_is of_set in
-    let of_table = subst (λ (d : Checked). Spoke (s (peer_of d (content w.base))) (length w.base)
-    (rank_by d.steps (length (content w.base)) + k) t r x o) same of_version in
-    speaks F (s (peer_at a w)) (length w.base)
-    (rank_by a.steps (length (content w.base)) + k) a.table.limit t r x o of_table modest
+  -- a session of either side over a pin of the history that was found
+  pub of-pin : (A : Type 0) (s : Peer → Speaker F) (k : ℕ) (a b : Checked) (w : View) (pin : PinState) (t : Traffic)
+      (r x : Seen) (o : Outcome) →
+      IsPinOf pin w → b ≡ a →
+      Spoke S W (s (peer_of b pin.items)) pin.version (rank_by b.steps (length pin.items) + k) t r x o →
+      ((bytes : List ℕ) → IsBytes bytes → A →
+      IsModest S W (s (peer_at a w)) bytes (rank_by a.steps (length (content w.base)) + k) a.table.limit) →
+      Speaks S W A (s (peer_at a w)) (length w.base) (rank_by a.steps (length (content w.base)) + k) a.table.limit t r x
+      o
+  of-pin A s k a b w pin t r x o is same spoke modest =
+      let of_set = subst (λ (l : List Item). Spoke S W (s (peer_of b l)) pin.version
+      (rank_by b.steps (length l) + k) t r x o) is.items_are spoke in
+      let of_version = subst (λ (v : ℕ). Spoke S W (s (peer_of b (content w.base))) v
+      (rank_by b.steps (length (content w.base)) + k) t r x o) is.version_is of_set in
+      let of_table = subst (λ (d : Checked). Spoke S W (s (peer_of d (content w.base))) (length w.base)
+      (rank_by d.steps (length (content w.base)) + k) t r x o) same of_version in
+      speaks A (s (peer_at a w)) (length w.base)
+      (rank_by a.steps (length (content w.base)) + k) a.table.limit t r x o of_table modest

@@ -14,11 +14,11 @@ use Rattle.std.proofs.Math.Seq.{take-append_seam, take-length}
 use Rattle.std.proofs.KnownBytes.{Appends-trans, Consumes-nil, Consumes-trans}
 use Rattle.std.specs.Io.KnownBytes.{Appends, Consumes}
 use Rattle.definitions.proofs.Lemmas.{All-append, fold-append}
-use Rattle.definitions.specs.Fingerprints.{Lanes, two_lanes}
+use Rattle.definitions.specs.Fingerprints.{Summary}
 use Rattle.definitions.specs.Items.{IsBytes}
 use Rattle.definitions.specs.Messages.{Message}
 use Rattle.definitions.specs.Refusals.{truncated}
-use Rattle.definitions.specs.Wire.{two_lane_profile, message_text, session_text, Event, Came, Ended, Failed}
+use Rattle.definitions.specs.Wire.{Profile, message_text, session_text, Event, Came, Ended, Failed}
 use Rattle.definitions.specs.Streams.{Standing, Before_hello, In_message, Meaning_over, Faulted, feed, messages_of}
 use Rattle.definitions.specs.Ends as answered
 use Rattle.definitions.specs.Ends.{End, Answer, Replies, Ends, is_live, is_over, is_sendable}
@@ -34,35 +34,15 @@ use Rattle.ends_core.specs.Held.{Held}
 use Rattle.peer_threads.specs.declared.stop.Stop.{Stop}
 use Rattle.peer_threads.specs.declared.stop.Stop.TheVariants as stops
 use Rattle.peer_threads.specs.declared.outcome.Side.TheVariants as sides
-use Rattle.peer_threads.specs.Outcomes.{Traffic, traffic, SaidAll, said_to, called_by}
+use Rattle.peer_threads.specs.Outcomes.{Traffic, Takes, traffic_of, SaidAll, said_to, called_by}
 use Rattle.peer_threads.specs.Inboxes.{InboxState, HasRead, IsFaulty, StopsAt, ReadOn}
 use Rattle.peer_threads.specs.Outboxes.{OutboxState, HasWritten, Adds}
 use Rattle.peer_threads.specs.Underway.{heard_as, said_by, Underway, SomeOf, Unsaid, Refuses, StopsBy, WroteFirst}
 use Rattle.peer_threads.specs.Underway.{WroteUpTo, IsLong, IsFirst, BreaksOff, HasBroken, WhyStopped}
 use Rattle.peer_threads.specs.Underway.{Stopped, Finished}
+use Rattle.peer_threads.proofs.Origins.{takes-on}
 use Rattle.peer_threads.proofs.Hearings.{heard-goes, heard-over}
 use Rattle.peer_threads.proofs.Breaks.{breaks-behind, breaks-in-message}
-
--- the laws that are cited, in one place
-pub record Laws : Type 0 where
-  pub say : FramesSay two_lanes
-  pub begin : OwnBegins two_lanes
-  pub agree : BytesAgree two_lanes two_lane_profile
-
-abbrev so_far : Speaker Lanes → List (Event Lanes) → List (Message Lanes)
-so_far s es = says two_lanes s (messages_of [] es)
-
-abbrev events_in : List ℕ → List (Event Lanes)
-events_in bytes = (feed two_lane_profile Before_hello bytes).events
-
--- ---- what was read
-
--- the events that are not handed out yet
-abbrev pub Behind : List ℕ → List (Event Lanes) → Type 0
-Behind bytes es = (more : List (Event Lanes)) × (events_in bytes ≡ es ++ more)
-
-pub all-events : (b : InboxState) (bytes : List ℕ) (es : List (Event Lanes)) → HasRead b bytes es → Behind bytes es
-all-events b bytes es has = (has.more, has.events)
 
 pub on-nothing : (unread : Option (List ℕ)) → ReadOn unread unread
 on-nothing unread = ([], tt, Consumes-nil unread)
@@ -71,479 +51,513 @@ pub on-further : (unread mid left : Option (List ℕ)) → ReadOn unread mid →
 on-further unread mid left a b =
     (a.0 ++ b.0, All-append (λ y. y < 256) a.0 b.0 a.1 b.1, Consumes-trans unread mid left a.0 b.0 a.2 b.2)
 
--- ---- what is said
+module _ {F : Type 0} (S : Summary F) (W : Profile F) where
+  -- the laws that are cited, in one place
+  pub record Laws : Type 0 where
+    pub say : FramesSay S
+    pub begin : OwnBegins S
+    pub agree : BytesAgree S W
 
-said-at : (s : Speaker Lanes) (es : List (Event Lanes)) →
-    answers two_lanes s.start (messages_of [] (es ++ [])) ≡ answers two_lanes s.start (messages_of [] es)
-said-at s es = ap (λ l. answers two_lanes s.start (messages_of [] l)) (append-nil es)
+  abbrev so_far : Speaker F → List (Event F) → List (Message F)
+  so_far s es = says S s (messages_of [] es)
 
--- one event more
-pub says-next : FramesSay two_lanes → (s : Speaker Lanes) (h : Held) (es : List (Event Lanes)) (e : Event Lanes) →
-    is_live s.start.stage ≡ true → hears two_lanes s es ≡ Goes_on h.end h.taken →
-    so_far s (es ++ e ∷ []) ≡ so_far s es ++ said_by h e
-says-next law s h es e live at = by e where
-  on : SaysOn (λ more. answers two_lanes s.start (messages_of [] (es ++ more))) (Goes_on h.end h.taken)
-  on = subst (SaysOn (λ more. answers two_lanes s.start (messages_of [] (es ++ more)))) at (law s.start es live)
+  abbrev events_in : List ℕ → List (Event F)
+  events_in bytes = (feed W Before_hello bytes).events
 
-  none : (e : Event Lanes) →
-      answers two_lanes s.start (messages_of [] (es ++ e ∷ [])) ≡ answers two_lanes s.start
-      (messages_of [] (es ++ [])) →
-      so_far s (es ++ e ∷ []) ≡ so_far s es ++ []
-  none e same = ap (λ (l : List (Message Lanes)). s.first ++ l) (same ∙ said-at s es) ∙ sym (append-nil (so_far s es))
+  -- ---- what was read
 
-  by : (e : Event Lanes) → so_far s (es ++ e ∷ []) ≡ so_far s es ++ said_by h e
-  by (Came p) = none (Came p) (on.0 p)
-  by Ended =
-      ap (λ (l : List (Message Lanes)). s.first ++ l)
-      (on.1 ∙ ap (λ (l : List (Message Lanes)). l ++ replied (ended h.taken)) (said-at s es))
-      ∙ sym (append_assoc s.first (answers two_lanes s.start (messages_of [] es)) (replied (ended h.taken)))
-  by (Failed code) = none (Failed code) (on.2 code)
+  -- the events that are not handed out yet
+  abbrev pub Behind : List ℕ → List (Event F) → Type 0
+  Behind bytes es = (more : List (Event F)) × (events_in bytes ≡ es ++ more)
 
--- behind a stop
-stop-says : (said : List (Event Lanes) → List (Message Lanes)) (h : Hearing Lanes) → has_stopped h ≡ true →
-    SaysOn said h → (more : List (Event Lanes)) → said more ≡ said []
-stop-says said (Goes_on e t) stopped on more = absurd cc
-stop-says said (Over_at e) stopped on more = on more
-stop-says said (Peer_refused code) stopped on more = on more
-stop-says said (Refused_for code) stopped on more = on more
+  pub all-events : (b : InboxState) (bytes : List ℕ) (es : List (Event F)) → HasRead W b bytes es → Behind bytes es
+  all-events b bytes es has = (has.more, has.events)
 
-pub says-stopped : FramesSay two_lanes → (s : Speaker Lanes) (es rest : List (Event Lanes)) →
-    is_live s.start.stage ≡ true → has_stopped (hears two_lanes s es) ≡ true → so_far s (es ++ rest) ≡ so_far s es
-says-stopped law s es rest live stopped =
-    ap (λ (l : List (Message Lanes)). s.first ++ l)
-    (stop-says (λ more. answers two_lanes s.start (messages_of [] (es ++ more))) (hears two_lanes s es) stopped
-    (law s.start es live) rest ∙ said-at s es)
+  -- ---- what is said
 
--- ---- what is heard
+  said-at : (s : Speaker F) (es : List (Event F)) →
+      answers S s.start (messages_of [] (es ++ [])) ≡ answers S s.start (messages_of [] es)
+  said-at s es = ap (λ l. answers S s.start (messages_of [] l)) (append-nil es)
 
-stays : (h : Hearing Lanes) (rest : List (Event Lanes)) → has_stopped h ≡ true → fold (hear two_lanes) h rest ≡ h
-stays h [] stopped = refl
-stays (Goes_on e t) (x ∷ rest) stopped = absurd cc
-stays (Over_at e) (x ∷ rest) stopped = stays (Over_at e) rest stopped
-stays (Peer_refused code) (x ∷ rest) stopped = stays (Peer_refused code) rest stopped
-stays (Refused_for code) (x ∷ rest) stopped = stays (Refused_for code) rest stopped
+  -- one event more
+  pub says-next : FramesSay S → (s : Speaker F) (h : Held F) (es : List (Event F)) (e : Event F) →
+      is_live s.start.stage ≡ true → hears S s es ≡ Goes_on h.end h.taken →
+      so_far s (es ++ e ∷ []) ≡ so_far s es ++ said_by h e
+  says-next law s h es e live at = by e where
+    on : SaysOn (λ more. answers S s.start (messages_of [] (es ++ more))) (Goes_on h.end h.taken)
+    on = subst (SaysOn (λ more. answers S s.start (messages_of [] (es ++ more)))) at (law s.start es live)
 
-kept : (h : Hearing Lanes) (to : Standing) (over : Bool) → has_stopped h ≡ true → with_end over (stop_at to h) ≡ h
-kept (Goes_on e t) to over stopped = absurd cc
-kept (Over_at e) to over stopped = refl
-kept (Peer_refused code) to over stopped = refl
-kept (Refused_for code) to over stopped = refl
+    none : (e : Event F) →
+        answers S s.start (messages_of [] (es ++ e ∷ [])) ≡ answers S s.start
+        (messages_of [] (es ++ [])) →
+        so_far s (es ++ e ∷ []) ≡ so_far s es ++ []
+    none e same = ap (λ (l : List (Message F)). s.first ++ l) (same ∙ said-at s es) ∙ sym (append-nil (so_far s es))
 
-pub hearing-stopped : (s : Speaker Lanes) (over : Bool) (bytes : List ℕ) (es rest : List (Event Lanes))
-    (h : Hearing Lanes) →
-    events_in bytes ≡ es ++ rest → hears two_lanes s es ≡ h → has_stopped h ≡ true →
-    hearing_to two_lanes two_lane_profile s over bytes ≡ h
-hearing-stopped s over bytes es rest h all at stopped =
-    let to = (feed two_lane_profile Before_hello bytes).to in
-    ap (λ l. with_end over (stop_at to (hears two_lanes s l))) all
-    ∙ ap (λ x. with_end over (stop_at to x))
-    (fold-append (hear two_lanes) (begins s) es rest ∙ ap (λ x. fold (hear two_lanes) x rest) at
-    ∙ stays h rest stopped)
-    ∙ kept h to over stopped
+    by : (e : Event F) → so_far s (es ++ e ∷ []) ≡ so_far s es ++ said_by h e
+    by (Came p) = none (Came p) (on.0 p)
+    by Ended =
+        ap (λ (l : List (Message F)). s.first ++ l)
+        (on.1 ∙ ap (λ (l : List (Message F)). l ++ replied (ended h.taken)) (said-at s es))
+        ∙ sym (append_assoc s.first (answers S s.start (messages_of [] es)) (replied (ended h.taken)))
+    by (Failed code) = none (Failed code) (on.2 code)
 
--- ---- what is told
+  -- behind a stop
+  stop-says : (said : List (Event F) → List (Message F)) (h : Hearing F) → has_stopped h ≡ true →
+      SaysOn said h → (more : List (Event F)) → said more ≡ said []
+  stop-says said (Goes_on e t) stopped on more = absurd cc
+  stop-says said (Over_at e) stopped on more = on more
+  stop-says said (Peer_refused code) stopped on more = on more
+  stop-says said (Refused_for code) stopped on more = on more
 
-slice_last : (xs : List (Message Lanes)) (N : Message Lanes) → slice_get (xs ++ N ∷ []) (length xs) ≡ Some N
-slice_last [] N = refl
-slice_last (x ∷ xs) N = slice_last xs N
+  pub says-stopped : FramesSay S → (s : Speaker F) (es rest : List (Event F)) →
+      is_live s.start.stage ≡ true → has_stopped (hears S s es) ≡ true → so_far s (es ++ rest) ≡ so_far s es
+  says-stopped law s es rest live stopped =
+      ap (λ (l : List (Message F)). s.first ++ l)
+      (stop-says (λ more. answers S s.start (messages_of [] (es ++ more))) (hears S s es) stopped
+      (law s.start es live) rest ∙ said-at s es)
 
-pub wrote-first : (s : Speaker Lanes) (o : OutboxState) (t : Traffic) (bytes : List ℕ)
-    (said more : List (Message Lanes)) →
-    called_by s bytes ≡ said ++ more → HasWritten o t.held t.holds said → WroteFirst s o t bytes
-wrote-first s o t bytes said more is w = record {
-  greeted = w.greeted;
-  count = omega (arith, w.count, ap (λ (l : List (Message Lanes)). length l) is, length-append said more);
-  written =
-      subst (λ (l : List (Message Lanes)). Appends t.held t.holds (session_text two_lane_profile l))
-      (sym ((λ i. take (w.count i) (is i)) ∙ take-append_seam said more)) w.written;
-}
+  -- ---- what is heard
 
--- the first fault, where nothing more is said
-pub first-at : Laws → (s : Speaker Lanes) (over : Bool) (bytes : List ℕ) (said : List (Message Lanes)) (k code : ℕ) →
-    is_live s.start.stage ≡ true →
-    hearing_to two_lanes two_lane_profile s over bytes ≡ Refused_for code →
-    says two_lanes s (messages_in two_lane_profile bytes) ≡ said → k ≡ length said → IsFirst s over bytes k code
-first-at laws s over bytes said k code live first same count = record { first = first; behind = by agreed.1 } where
-  Ms : List (Message Lanes)
-  Ms = messages_in two_lane_profile bytes
+  stays : (h : Hearing F) (rest : List (Event F)) → has_stopped h ≡ true → fold (hear S) h rest ≡ h
+  stays h [] stopped = refl
+  stays (Goes_on e t) (x ∷ rest) stopped = absurd cc
+  stays (Over_at e) (x ∷ rest) stopped = stays (Over_at e) rest stopped
+  stays (Peer_refused code) (x ∷ rest) stopped = stays (Peer_refused code) rest stopped
+  stays (Refused_for code) (x ∷ rest) stopped = stays (Refused_for code) rest stopped
 
-  agreed : AgreesBy (session two_lanes s Ms) (says two_lanes s Ms) (own two_lanes s Ms) (Refused_for code)
-  agreed = subst (AgreesBy (session two_lanes s Ms) (says two_lanes s Ms) (own two_lanes s Ms)) first
-      (laws.agree s over bytes live)
+  kept : (h : Hearing F) (to : Standing) (over : Bool) → has_stopped h ≡ true → with_end over (stop_at to h) ≡ h
+  kept (Goes_on e t) to over stopped = absurd cc
+  kept (Over_at e) to over stopped = refl
+  kept (Peer_refused code) to over stopped = refl
+  kept (Refused_for code) to over stopped = refl
 
-  by : SaidBut (says two_lanes s Ms) (own two_lanes s Ms) code →
-      (length (own two_lanes s Ms) ≡ k) ⊎ IsLong (own two_lanes s Ms) k code
-  by (inl all) = inl (ap (λ (l : List (Message Lanes)). length l) (all ∙ same) ∙ sym count)
-  by (inr (twelve, N, long, is)) = inr (record {
-    twelve = twelve;
-    count = omega (
-      arith,
-      ap (λ (l : List (Message Lanes)). length l)
-          (is ∙ ap (λ (l : List (Message Lanes)). l ++ N ∷ []) same),
-      length-append said (N ∷ []),
-      count,
-    );
-    reply = N;
-    last = (λ i. slice_get ((is ∙ ap (λ (l : List (Message Lanes)). l ++ N ∷ []) same) i) (count i))
-        ∙ slice_last said N;
-    long = long;
-  })
+  pub hearing-stopped : (s : Speaker F) (over : Bool) (bytes : List ℕ) (es rest : List (Event F))
+      (h : Hearing F) →
+      events_in bytes ≡ es ++ rest → hears S s es ≡ h → has_stopped h ≡ true →
+      hearing_to S W s over bytes ≡ h
+  hearing-stopped s over bytes es rest h all at stopped =
+      let to = (feed W Before_hello bytes).to in
+      ap (λ l. with_end over (stop_at to (hears S s l))) all
+      ∙ ap (λ x. with_end over (stop_at to x))
+      (fold-append (hear S) (begins s) es rest ∙ ap (λ x. fold (hear S) x rest) at
+      ∙ stays h rest stopped)
+      ∙ kept h to over stopped
 
--- all that was said, as a text of so many messages
-pub said-all : (s : Speaker Lanes) (o : OutboxState) (t : Traffic) (bytes : List ℕ) (said : List (Message Lanes)) →
-    said_to s bytes ≡ said → HasWritten o t.held t.holds said → SaidAll s t bytes o.sent
-said-all s o t bytes said is w = record {
-  written =
-      subst (λ (l : List (Message Lanes)). Appends t.held t.holds (session_text two_lane_profile l))
-      (sym (ap (λ n. take n (said_to s bytes)) w.count ∙ ap (λ l. take (length said) l) is ∙ take-length said))
-      w.written;
-  count = ap (λ (l : List (Message Lanes)). length l) is ∙ sym w.count;
-}
+  -- ---- what is told
 
--- a side that still hears has heard no fault frame, so the one that comes is the first
-first-frame : (h : Hearing Lanes) (es rest : List (Event Lanes)) (e : End Lanes) (t : Taken Lanes) (code : ℕ) →
-    fold (hear two_lanes) h es ≡ Goes_on e t → fault_of (es ++ Failed code ∷ rest) ≡ Some code
-first-frame h [] rest e t code at = refl
-first-frame h (Came p ∷ es) rest e t code at = first-frame (hear two_lanes h (Came p)) es rest e t code at
-first-frame h (Ended ∷ es) rest e t code at = first-frame (hear two_lanes h Ended) es rest e t code at
-first-frame h (Failed n ∷ es) rest e t code at = absurd (stopped h at) where
-  goes : (h : Hearing Lanes) → has_stopped h ≡ true → fold (hear two_lanes) h es ≡ Goes_on e t → ⊥
-  goes h stopped at =
-      let same : h ≡ Goes_on e t =
-      sym (stays h es stopped) ∙ at in let wrong = sym stopped ∙ ap has_stopped same in absurd cc
+  slice_last : (xs : List (Message F)) (N : Message F) → slice_get (xs ++ N ∷ []) (length xs) ≡ Some N
+  slice_last [] N = refl
+  slice_last (x ∷ xs) N = slice_last xs N
 
-  stopped : (h : Hearing Lanes) → fold (hear two_lanes) (hear two_lanes h (Failed n)) es ≡ Goes_on e t → ⊥
-  stopped (Goes_on f x) at = goes (Peer_refused n) refl at
-  stopped (Over_at f) at = goes (Over_at f) refl at
-  stopped (Peer_refused c) at = goes (Peer_refused c) refl at
-  stopped (Refused_for c) at = goes (Refused_for c) refl at
+  pub wrote-first : (s : Speaker F) (o : OutboxState) (t : Traffic) (bytes : List ℕ)
+      (said more : List (Message F)) →
+      called_by S W s bytes ≡ said ++ more → HasWritten W o t.held t.holds said → WroteFirst S W s o t bytes
+  wrote-first s o t bytes said more is w = record {
+    greeted = w.greeted;
+    count = omega (arith, w.count, ap (λ (l : List (Message F)). length l) is, length-append said more);
+    written =
+        subst (λ (l : List (Message F)). Appends t.held t.holds (session_text W l))
+        (sym ((λ i. take (w.count i) (is i)) ∙ take-append_seam said more)) w.written;
+  }
 
--- ---- what was written, and then more
+  -- the first fault, where nothing more is said
+  pub first-at : Laws → (s : Speaker F) (over : Bool) (bytes : List ℕ) (said : List (Message F)) (k code : ℕ) →
+      is_live s.start.stage ≡ true →
+      hearing_to S W s over bytes ≡ Refused_for code →
+      says S s (messages_in W bytes) ≡ said → k ≡ length said → IsFirst S W s over bytes k code
+  first-at laws s over bytes said k code live first same count = record { first = first; behind = by agreed.1 } where
+    Ms : List (Message F)
+    Ms = messages_in W bytes
 
-pub adds : (o p : OutboxState) (a b c : Option (List ℕ)) (Ms Ns : List (Message Lanes)) → HasWritten o a b Ms →
-    Adds o p b c Ns → HasWritten p a c (Ms ++ Ns)
-adds o p a b c Ms Ns w more = record {
-  greeted = more.greeted ∙ w.greeted;
-  count = more.count ∙ ap (λ (n : ℕ). n + length Ns) w.count ∙ sym (length-append Ms Ns);
-  written =
-      let f = message_text two_lane_profile in
-      subst (Appends a c) (append_assoc two_lane_profile.hello (flat_map f Ms) (flat_map f Ns)
-      ∙ ap (λ (l : List ℕ). two_lane_profile.hello ++ l) (sym (flat_map-append f Ms Ns)))
-      (Appends-trans a b c (session_text two_lane_profile Ms) (flat_map f Ns) w.written more.written);
-}
+    agreed : AgreesBy (session S s Ms) (says S s Ms) (own S s Ms) (Refused_for code)
+    agreed = subst (AgreesBy (session S s Ms) (says S s Ms) (own S s Ms)) first
+        (laws.agree s over bytes live)
 
-pub adds-nothing : (o p : OutboxState) (a b c : Option (List ℕ)) (Ms : List (Message Lanes)) → HasWritten o a b Ms →
-    Adds o p b c [] → HasWritten p a c Ms
-adds-nothing o p a b c Ms w more = subst (HasWritten p a c) (append-nil Ms) (adds o p a b c Ms [] w more)
+    by : SaidBut (says S s Ms) (own S s Ms) code →
+        (length (own S s Ms) ≡ k) ⊎ IsLong (own S s Ms) k code
+    by (inl all) = inl (ap (λ (l : List (Message F)). length l) (all ∙ same) ∙ sym count)
+    by (inr (twelve, N, long, is)) = inr (record {
+      twelve = twelve;
+      count = omega (
+        arith,
+        ap (λ (l : List (Message F)). length l)
+            (is ∙ ap (λ (l : List (Message F)). l ++ N ∷ []) same),
+        length-append said (N ∷ []),
+        count,
+      );
+      reply = N;
+      last = (λ i. slice_get ((is ∙ ap (λ (l : List (Message F)). l ++ N ∷ []) same) i) (count i))
+          ∙ slice_last said N;
+      long = long;
+    })
 
--- ---- an event comes
+  -- all that was said, as a text of so many messages
+  pub said-all : (s : Speaker F) (o : OutboxState) (t : Traffic) (bytes : List ℕ) (said : List (Message F)) →
+      said_to S W s bytes ≡ said → HasWritten W o t.held t.holds said → SaidAll S W s t bytes o.sent
+  said-all s o t bytes said is w = record {
+    written =
+        subst (λ (l : List (Message F)). Appends t.held t.holds (session_text W l))
+        (sym (ap (λ n. take n (said_to S W s bytes)) w.count ∙ ap (λ l. take (length said) l) is ∙ take-length said))
+        w.written;
+    count = ap (λ (l : List (Message F)). length l) is ∙ sym w.count;
+  }
 
-abbrev pub More : Option (List ℕ) → Option (List ℕ) → InboxState → List ℕ → List (Event Lanes) → Type 0
-More unread left c before es = (bytes : List ℕ) × IsBytes bytes × Consumes unread left bytes
-    × HasRead c (before ++ bytes) es
+  -- a side that still hears has heard no fault frame, so the one that comes is the first
+  first-frame : (h : Hearing F) (es rest : List (Event F)) (e : End F) (t : Taken F) (code : ℕ) →
+      fold (hear S) h es ≡ Goes_on e t → fault_of (es ++ Failed code ∷ rest) ≡ Some code
+  first-frame h [] rest e t code at = refl
+  first-frame h (Came p ∷ es) rest e t code at = first-frame (hear S h (Came p)) es rest e t code at
+  first-frame h (Ended ∷ es) rest e t code at = first-frame (hear S h Ended) es rest e t code at
+  first-frame h (Failed n ∷ es) rest e t code at = absurd (stopped h at) where
+    goes : (h : Hearing F) → has_stopped h ≡ true → fold (hear S) h es ≡ Goes_on e t → ⊥
+    goes h stopped at =
+        let same : h ≡ Goes_on e t =
+        sym (stays h es stopped) ∙ at in let wrong = sym stopped ∙ ap has_stopped same in absurd cc
 
--- the event e came behind es, which the end h has heard; all that was said to these was written
-pub record At (s : Speaker Lanes) (h : Held) (o : OutboxState) (t : Traffic) (e : Event Lanes) : Type 0 where
-  pub bytes : List ℕ
-  pub are_bytes : IsBytes bytes
-  pub read : Consumes t.unread t.left bytes
-  pub es : List (Event Lanes)
-  pub rest : List (Event Lanes)
-  pub all : events_in bytes ≡ (es ++ e ∷ []) ++ rest
-  pub written : HasWritten o t.held t.holds (so_far s es)
-  pub heard : hears two_lanes s es ≡ Goes_on h.end h.taken
+    stopped : (h : Hearing F) → fold (hear S) (hear S h (Failed n)) es ≡ Goes_on e t → ⊥
+    stopped (Goes_on f x) at = goes (Peer_refused n) refl at
+    stopped (Over_at f) at = goes (Over_at f) refl at
+    stopped (Peer_refused c) at = goes (Peer_refused c) refl at
+    stopped (Refused_for c) at = goes (Refused_for c) refl at
 
-abbrev pub at-event : (s : Speaker Lanes) (h : Held) (b c : InboxState) (o : OutboxState) (t : Traffic)
-    (left : Option (List ℕ)) (e : Event Lanes) →
-    (u : Underway s h b o t) → More t.left left c u.bytes (u.events ++ e ∷ []) → is_over h.end.stage ≡ false →
-    At s h o (traffic t.unread left t.held t.holds) e
-at-event s h b c o t left e u more goes =
-    let behind = all-events c (u.bytes ++ more.0) (u.events ++ e ∷ []) more.3 in
-    record {
-      bytes = u.bytes ++ more.0;
-      are_bytes = All-append (λ y. y < 256) u.bytes more.0 u.are_bytes more.1;
-      read = Consumes-trans t.unread t.left left u.bytes more.0 u.read more.2;
-      es = u.events;
-      rest = behind.0;
-      all = behind.1;
-      written = u.written;
-      heard = u.heard ∙ heard-goes h goes;
-    }
+  -- ---- what was written, and then more
 
--- it is heard, and the session goes on
-pub goes-on : Laws →
-    (s : Speaker Lanes) (h g : Held) (c : InboxState) (o p : OutboxState) (t : Traffic) (holds : Option (List ℕ))
-    (e : Event Lanes) →
-    is_live s.start.stage ≡ true →
-    (x : At s h o t e) → HasRead c x.bytes (x.es ++ e ∷ []) → heard_as g ≡ hear_now two_lanes h.end h.taken e →
-    Adds o p t.holds holds (said_by h e) → Underway s g c p (traffic t.unread t.left t.held holds)
-goes-on laws s h g c o p t holds e live x came now added = record {
-  events = x.es ++ e ∷ [];
-  bytes = x.bytes;
-  are_bytes = x.are_bytes;
-  read = x.read;
-  came = came;
-  written = subst (HasWritten p t.held holds) (sym (says-next laws.say s h x.es e live x.heard))
-      (adds o p t.held t.holds holds (so_far s x.es) (said_by h e) x.written added);
-  heard = fold-append (hear two_lanes) (begins s) x.es (e ∷ []) ∙ ap (λ y. hear two_lanes y e) x.heard ∙ sym now;
-}
+  pub adds : (o p : OutboxState) (a b c : Option (List ℕ)) (Ms Ns : List (Message F)) → HasWritten W o a b Ms →
+      Adds W o p b c Ns → HasWritten W p a c (Ms ++ Ns)
+  adds o p a b c Ms Ns w more = record {
+    greeted = more.greeted ∙ w.greeted;
+    count = more.count ∙ ap (λ (n : ℕ). n + length Ns) w.count ∙ sym (length-append Ms Ns);
+    written =
+        let f = message_text W in
+        subst (Appends a c) (append_assoc W.hello (flat_map f Ms) (flat_map f Ns)
+        ∙ ap (λ (l : List ℕ). W.hello ++ l) (sym (flat_map-append f Ms Ns)))
+        (Appends-trans a b c (session_text W Ms) (flat_map f Ns) w.written more.written);
+  }
 
--- so it does behind so many events, and then one more was handed out
-pub goes-on-behind : Laws → (s : Speaker Lanes) (h g : Held) (c : InboxState) (o p : OutboxState) (t : Traffic)
-    (holds : Option (List ℕ)) (e : Event Lanes) → is_live s.start.stage ≡ true →
-    (x : At s h o t e) → HasRead c x.bytes (x.es ++ e ∷ []) → heard_as g ≡ hear_now two_lanes h.end h.taken e →
-    Adds o p t.holds holds (said_by h e) → (n : ℕ) → n ≤ length x.es →
-    (u : Underway s g c p (traffic t.unread t.left t.held holds)) × (n + 1 ≤ length u.events)
-unfolding goes-on
-goes-on-behind laws s h g c o p t holds e live x came now added n few =
-    let more : n + 1 ≤ length (x.es ++ e ∷ []) = omega (arith, length-append x.es (e ∷ [])) in
-    (goes-on laws s h g c o p t holds e live x came now added, more)
+  pub adds-nothing : (o p : OutboxState) (a b c : Option (List ℕ)) (Ms : List (Message F)) → HasWritten W o a b Ms →
+      Adds W o p b c [] → HasWritten W p a c Ms
+  adds-nothing o p a b c Ms w more = subst (HasWritten W p a c) (append-nil Ms) (adds o p a b c Ms [] w more)
 
--- an event that is refused says nothing
-refused-says : (h : Held) (e : Event Lanes) (code : ℕ) → hear_now two_lanes h.end h.taken e ≡ Refused_for code →
-    said_by h e ≡ []
-refused-says h (Came p) code is = refl
-refused-says h (Failed n) code is = refl
-refused-says h Ended code is = by (ended h.taken) is where
-  stands : (f : End Lanes) → stands_at f ≡ Refused_for code → ⊥
-  stands f = by_over (is_over f.stage) where
-    by_over : (b : Bool) → (if b then Over_at f else Goes_on f (nothing_taken f)) ≡ Refused_for code → ⊥
-    by_over true wrong = cc
-    by_over false wrong = cc
+  -- ---- an event comes
 
-  by : (a : Answer Lanes) → ended_by h.end h.taken a ≡ Refused_for code → replied a ≡ []
-  by (Replies N) is = absurd (stands (after_ended h.end h.taken (Replies N)) is)
-  by Ends is = refl
-  by (answered.Refuses n) is = refl
+  abbrev pub More : Option (List ℕ) → Option (List ℕ) → InboxState → List ℕ → List (Event F) → Type 0
+  More unread left c before es = (bytes : List ℕ) × IsBytes bytes × Consumes unread left bytes
+      × HasRead W c (before ++ bytes) es
 
--- what was said before begins what is called for
-begun : Laws → (s : Speaker Lanes) (h : Held) (o : OutboxState) (t : Traffic) (e : Event Lanes) (x : At s h o t e) →
-    (more : List (Message Lanes)) × (called_by s x.bytes ≡ so_far s x.es ++ more)
-begun laws s h o t e x =
-    let r = laws.begin s x.es (e ∷ x.rest) in
-    (r.0, ap (λ l. own two_lanes s (messages_of [] l)) (x.all ∙ append_assoc x.es (e ∷ []) x.rest) ∙ r.1)
+  -- the event e came behind es, which the end h has heard; all that was said to these was written
+  pub record At (s : Speaker F) (h : Held F) (o : OutboxState) (t : Traffic) (e : Event F) : Type 0 where
+    pub bytes : List ℕ
+    pub are_bytes : IsBytes bytes
+    pub read : Takes t.unread t.left bytes
+    pub es : List (Event F)
+    pub rest : List (Event F)
+    pub all : events_in bytes ≡ (es ++ e ∷ []) ++ rest
+    pub written : HasWritten W o t.held t.holds (so_far s es)
+    pub heard : hears S s es ≡ Goes_on h.end h.taken
 
--- no message more was written
-first-kept : Laws →
-    (s : Speaker Lanes) (h : Held) (o p : OutboxState) (t : Traffic) (holds : Option (List ℕ)) (e : Event Lanes)
-    (x : At s h o t e) →
-    Adds o p t.holds holds [] →
-    WroteFirst s p (traffic t.unread t.left t.held holds) x.bytes
-first-kept laws s h o p t holds e x added =
-    let b = begun laws s h o t e x in
-    wrote-first s p (traffic t.unread t.left t.held holds) x.bytes (so_far s x.es) b.0 b.1
-    (adds-nothing o p t.held t.holds holds (so_far s x.es) x.written added)
+  abbrev pub at-event : (s : Speaker F) (h : Held F) (b c : InboxState) (o : OutboxState) (t : Traffic)
+      (left : Option (List ℕ)) (e : Event F) →
+      (u : Underway S W s h b o t) → More t.left left c u.bytes (u.events ++ e ∷ []) → is_over h.end.stage ≡ false →
+      At s h o (traffic_of t.unread left t.held t.holds) e
+  at-event s h b c o t left e u more goes =
+      let behind = all-events c (u.bytes ++ more.0) (u.events ++ e ∷ []) more.3 in
+      record {
+        bytes = u.bytes ++ more.0;
+        are_bytes = All-append (λ y. y < 256) u.bytes more.0 u.are_bytes more.1;
+        read = takes-on t.unread t.left left u.bytes more.0 u.read more.2;
+        es = u.events;
+        rest = behind.0;
+        all = behind.1;
+        written = u.written;
+        heard = u.heard ∙ heard-goes S W h goes;
+      }
 
-heard-next : (s : Speaker Lanes) (h : Held) (o : OutboxState) (t : Traffic) (e : Event Lanes) (x : At s h o t e) →
-    hears two_lanes s (x.es ++ e ∷ []) ≡ hear_now two_lanes h.end h.taken e
-heard-next s h o t e x = fold-append (hear two_lanes) (begins s) x.es (e ∷ []) ∙ ap (λ y. hear two_lanes y e) x.heard
+  -- it is heard, and the session goes on
+  pub goes-on : Laws →
+      (s : Speaker F) (h g : Held F) (c : InboxState) (o p : OutboxState) (t : Traffic) (holds : Option (List ℕ))
+      (e : Event F) →
+      is_live s.start.stage ≡ true →
+      (x : At s h o t e) → HasRead W c x.bytes (x.es ++ e ∷ []) → heard_as g ≡ hear_now S h.end h.taken e →
+      Adds W o p t.holds holds (said_by h e) → Underway S W s g c p (traffic_of t.unread t.left t.held holds)
+  goes-on laws s h g c o p t holds e live x came now added = record {
+    events = x.es ++ e ∷ [];
+    bytes = x.bytes;
+    are_bytes = x.are_bytes;
+    read = x.read;
+    came = came;
+    written = subst (HasWritten W p t.held holds) (sym (says-next laws.say s h x.es e live x.heard))
+        (adds o p t.held t.holds holds (so_far s x.es) (said_by h e) x.written added);
+    heard = fold-append (hear S) (begins s) x.es (e ∷ []) ∙ ap (λ y. hear S y e) x.heard ∙ sym now;
+  }
 
--- behind a stop at the event nothing more is said
-nothing-more : Laws → (s : Speaker Lanes) (h : Held) (o : OutboxState) (t : Traffic) (e : Event Lanes) →
-    is_live s.start.stage ≡ true → (x : At s h o t e) →
-    has_stopped (hear_now two_lanes h.end h.taken e) ≡ true → said_by h e ≡ [] → said_to s x.bytes ≡ so_far s x.es
-nothing-more laws s h o t e live x stopped none =
-    ap (λ l. so_far s l) x.all ∙ says-stopped laws.say s (x.es ++ e ∷ []) x.rest live
-    (ap has_stopped (heard-next s h o t e x) ∙ stopped)
-    ∙ says-next laws.say s h x.es e live x.heard ∙ ap (λ (l : List (Message Lanes)). so_far s x.es ++ l) none
-    ∙ append-nil (so_far s x.es)
+  -- so it does behind so many events, and then one more was handed out
+  pub goes-on-behind : Laws → (s : Speaker F) (h g : Held F) (c : InboxState) (o p : OutboxState) (t : Traffic)
+      (holds : Option (List ℕ)) (e : Event F) → is_live s.start.stage ≡ true →
+      (x : At s h o t e) → HasRead W c x.bytes (x.es ++ e ∷ []) → heard_as g ≡ hear_now S h.end h.taken e →
+      Adds W o p t.holds holds (said_by h e) → (n : ℕ) → n ≤ length x.es →
+      (u : Underway S W s g c p (traffic_of t.unread t.left t.held holds)) × (n + 1 ≤ length u.events)
+  unfolding goes-on
+  goes-on-behind laws s h g c o p t holds e live x came now added n few =
+      let more : n + 1 ≤ length (x.es ++ e ∷ []) = omega (arith, length-append x.es (e ∷ [])) in
+      (goes-on laws s h g c o p t holds e live x came now added, more)
 
--- the event itself stops the session
-pub stops-refusing : (T : ℕ → Type 0) → Laws →
-    (s : Speaker Lanes) (h : Held) (o p : OutboxState) (t : Traffic) (holds : Option (List ℕ)) (r : Seen)
-    (broken : Bool) (e : Event Lanes) (stop : Stop) →
-    is_live s.start.stage ≡ true → At s h o t e → Refuses h e stop → Adds o p t.holds holds [] →
-    Stopped T s p (traffic t.unread t.left t.held holds) r broken stop
-stops-refusing T laws s h o p t holds r broken e stop live x refuses added =
-    record { bytes = x.bytes; are_bytes = x.are_bytes; read = x.read; why = by stop refuses } where
-      u2 : Traffic
-      u2 = traffic t.unread t.left t.held holds
+  -- an event that is refused says nothing
+  refused-says : (h : Held F) (e : Event F) (code : ℕ) → hear_now S h.end h.taken e ≡ Refused_for code →
+      said_by h e ≡ []
+  refused-says h (Came p) code is = refl
+  refused-says h (Failed n) code is = refl
+  refused-says h Ended code is = by (ended h.taken) is where
+    stands : (f : End F) → stands_at f ≡ Refused_for code → ⊥
+    stands f = by_over (is_over f.stage) where
+      by_over : (b : Bool) → (if b then Over_at f else Goes_on f (nothing_taken f)) ≡ Refused_for code → ⊥
+      by_over true wrong = cc
+      by_over false wrong = cc
 
-      still : HasWritten p t.held holds (so_far s x.es)
-      still = adds-nothing o p t.held t.holds holds (so_far s x.es) x.written added
+    by : (a : Answer F) → ended_by h.end h.taken a ≡ Refused_for code → replied a ≡ []
+    by (Replies N) is = absurd (stands (after_ended h.end h.taken (Replies N)) is)
+    by Ends is = refl
+    by (answered.Refuses n) is = refl
 
-      by : (stop : Stop) → Refuses h e stop → WhyStopped T s p u2 r broken x.bytes stop
-      by (stops.Refused code) is =
-          let heard = heard-next s h o t e x ∙ is in
-          let said = nothing-more laws s h o t e live x (ap has_stopped is) (refused-says h e code is) in (
-            inl (first-kept laws s h o p t holds e x added),
-            inl (first-at laws s r.ended x.bytes (so_far s x.es) p.sent code live
-                (hearing-stopped s r.ended x.bytes (x.es ++ e ∷ []) x.rest
-                (Refused_for code) x.all heard refl) said still.count),
-          )
-      by (stops.PeerRefused code) is =
-          let now : hear_now two_lanes h.end h.taken e ≡ Peer_refused code = ap (hear_now two_lanes h.end h.taken) is in
-          let said = nothing-more laws s h o t e live x (ap has_stopped now) (ap (said_by h) is) in
-          let frames : events_in x.bytes ≡ x.es ++ Failed code ∷ x.rest =
-          x.all ∙ append_assoc x.es (e ∷ []) x.rest ∙ ap (λ y. x.es ++ y ∷ x.rest) is in
-          record {
-            said = said-all s p u2 x.bytes (so_far s x.es) said still;
-            frame = ap (λ l. fault_of l) frames ∙ first-frame (begins s) x.es x.rest h.end h.taken code x.heard;
-            told = hearing-stopped s r.ended x.bytes (x.es ++ e ∷ []) x.rest (Peer_refused code) x.all
-                (heard-next s h o t e x ∙ now) refl;
-          }
-      by stops.Memory is = inl (first-kept laws s h o p t holds e x added)
-      by (stops.Io side) is = absurd is
+  -- what was said before begins what is called for
+  begun : Laws → (s : Speaker F) (h : Held F) (o : OutboxState) (t : Traffic) (e : Event F) (x : At s h o t e) →
+      (more : List (Message F)) × (called_by S W s x.bytes ≡ so_far s x.es ++ more)
+  begun laws s h o t e x =
+      let r = laws.begin s x.es (e ∷ x.rest) in
+      (r.0, ap (λ l. own S s (messages_of [] l)) (x.all ∙ append_assoc x.es (e ∷ []) x.rest) ∙ r.1)
 
--- its reply is not said
-stops-unsaid : Laws →
-    (s : Speaker Lanes) (h : Held) (o p : OutboxState) (t : Traffic) (holds : Option (List ℕ)) (r : Seen)
-    (broken : Bool) (e : Event Lanes) (stop : Stop) →
-    is_live s.start.stage ≡ true → At s h o t e → Unsaid o p t.holds holds broken (said_by h e) stop →
-    Stopped IsOfTheTable s p (traffic t.unread t.left t.held holds) r broken stop
-stops-unsaid laws s h o p t holds r broken e stop live x unsaid =
-    record { bytes = x.bytes; are_bytes = x.are_bytes; read = x.read; why = by stop unsaid } where
-      u2 : Traffic
-      u2 = traffic t.unread t.left t.held holds
+  -- no message more was written
+  first-kept : Laws →
+      (s : Speaker F) (h : Held F) (o p : OutboxState) (t : Traffic) (holds : Option (List ℕ)) (e : Event F)
+      (x : At s h o t e) →
+      Adds W o p t.holds holds [] →
+      WroteFirst S W s p (traffic_of t.unread t.left t.held holds) x.bytes
+  first-kept laws s h o p t holds e x added =
+      let b = begun laws s h o t e x in
+      wrote-first s p (traffic_of t.unread t.left t.held holds) x.bytes (so_far s x.es) b.0 b.1
+      (adds-nothing o p t.held t.holds holds (so_far s x.es) x.written added)
 
-      begun_next : (more : List (Message Lanes)) × (called_by s x.bytes ≡ so_far s (x.es ++ e ∷ []) ++ more)
-      begun_next = let r = laws.begin s (x.es ++ e ∷ []) x.rest in
-          (r.0, ap (λ l. own two_lanes s (messages_of [] l)) x.all ∙ r.1)
+  heard-next : (s : Speaker F) (h : Held F) (o : OutboxState) (t : Traffic) (e : Event F) (x : At s h o t e) →
+      hears S s (x.es ++ e ∷ []) ≡ hear_now S h.end h.taken e
+  heard-next s h o t e x = fold-append (hear S) (begins s) x.es (e ∷ []) ∙ ap (λ y. hear S y e) x.heard
 
-      some : SomeOf o p t.holds holds (said_by h e) → WroteFirst s p u2 x.bytes
-      some (inl added) = first-kept laws s h o p t holds e x added
-      some (inr added) =
-          wrote-first s p u2 x.bytes (so_far s (x.es ++ e ∷ [])) begun_next.0 begun_next.1
-          (subst (HasWritten p t.held holds) (sym (says-next laws.say s h x.es e live x.heard))
-          (adds o p t.held t.holds holds (so_far s x.es) (said_by h e) x.written added))
+  -- behind a stop at the event nothing more is said
+  nothing-more : Laws → (s : Speaker F) (h : Held F) (o : OutboxState) (t : Traffic) (e : Event F) →
+      is_live s.start.stage ≡ true → (x : At s h o t e) →
+      has_stopped (hear_now S h.end h.taken e) ≡ true → said_by h e ≡ [] → said_to S W s x.bytes ≡ so_far s x.es
+  nothing-more laws s h o t e live x stopped none =
+      ap (λ l. so_far s l) x.all ∙ says-stopped laws.say s (x.es ++ e ∷ []) x.rest live
+      (ap has_stopped (heard-next s h o t e x) ∙ stopped)
+      ∙ says-next laws.say s h x.es e live x.heard ∙ ap (λ (l : List (Message F)). so_far s x.es ++ l) none
+      ∙ append-nil (so_far s x.es)
 
-      by : (stop : Stop) → Unsaid o p t.holds holds broken (said_by h e) stop →
-          WhyStopped IsOfTheTable s p u2 r broken x.bytes stop
-      by (stops.Refused code) (table, added) = (inl (some added), inr table)
-      by (stops.PeerRefused code) is = absurd is
-      by stops.Memory added = inl (first-kept laws s h o p t holds e x added)
-      by (stops.Io side) (write, failed, part) =
-          let one = says-next laws.say s h x.es e live x.heard
-          ∙ ap (λ (l : List (Message Lanes)). so_far s x.es ++ l) part.one in
-          let calls = begun_next.1 ∙ ap (λ (l : List (Message Lanes)). l ++ begun_next.0) one
-          ∙ append_assoc (so_far s x.es) (part.message ∷ []) begun_next.0 in (
-            breaks-in-message s o p u2 t.holds x.bytes (so_far s x.es) begun_next.0 part.message calls x.written
-                part.same part.front,
-            subst (HasBroken r broken x.bytes) (sym write) failed,
-          )
+  -- the event itself stops the session
+  pub stops-refusing : (T : ℕ → Type 0) → Laws →
+      (s : Speaker F) (h : Held F) (o p : OutboxState) (t : Traffic) (holds : Option (List ℕ)) (r : Seen)
+      (broken : Bool) (e : Event F) (stop : Stop) →
+      is_live s.start.stage ≡ true → At s h o t e → Refuses S h e stop → Adds W o p t.holds holds [] →
+      Stopped S W T s p (traffic_of t.unread t.left t.held holds) r broken stop
+  stops-refusing T laws s h o p t holds r broken e stop live x refuses added =
+      record { bytes = x.bytes; are_bytes = x.are_bytes; read = x.read; why = by stop refuses } where
+        u2 : Traffic
+        u2 = traffic_of t.unread t.left t.held holds
 
-pub stops-event : Laws →
-    (s : Speaker Lanes) (h : Held) (o p : OutboxState) (t : Traffic) (holds : Option (List ℕ)) (r : Seen)
-    (broken : Bool) (e : Event Lanes) (stop : Stop) →
-    is_live s.start.stage ≡ true → At s h o t e → StopsBy h e o p t.holds holds broken stop →
-    Stopped IsOfTheTable s p (traffic t.unread t.left t.held holds) r broken stop
-stops-event laws s h o p t holds r broken e stop live x (inl (refuses, added)) =
-    stops-refusing IsOfTheTable laws s h o p t holds r broken e stop live x refuses added
-stops-event laws s h o p t holds r broken e stop live x (inr unsaid) =
-    stops-unsaid laws s h o p t holds r broken e stop live x unsaid
+        still : HasWritten W p t.held holds (so_far s x.es)
+        still = adds-nothing o p t.held t.holds holds (so_far s x.es) x.written added
 
--- ---- no event comes
+        by : (stop : Stop) → Refuses S h e stop → WhyStopped S W T s p u2 r broken x.bytes stop
+        by (stops.Refused code) is =
+            let heard = heard-next s h o t e x ∙ is in
+            let said = nothing-more laws s h o t e live x (ap has_stopped is) (refused-says h e code is) in (
+              inl (first-kept laws s h o p t holds e x added),
+              inl (first-at laws s r.ended x.bytes (so_far s x.es) p.sent code live
+                  (hearing-stopped s r.ended x.bytes (x.es ++ e ∷ []) x.rest
+                  (Refused_for code) x.all heard refl) said still.count),
+            )
+        by (stops.PeerRefused code) is =
+            let now : hear_now S h.end h.taken e ≡ Peer_refused code = ap (hear_now S h.end h.taken) is in
+            let said = nothing-more laws s h o t e live x (ap has_stopped now) (ap (said_by h) is) in
+            let frames : events_in x.bytes ≡ x.es ++ Failed code ∷ x.rest =
+            x.all ∙ append_assoc x.es (e ∷ []) x.rest ∙ ap (λ y. x.es ++ y ∷ x.rest) is in
+            record {
+              said = said-all s p u2 x.bytes (so_far s x.es) said still;
+              frame = ap (λ l. fault_of l) frames ∙ first-frame (begins s) x.es x.rest h.end h.taken code x.heard;
+              told = hearing-stopped s r.ended x.bytes (x.es ++ e ∷ []) x.rest (Peer_refused code) x.all
+                  (heard-next s h o t e x ∙ now) refl;
+            }
+        by stops.Memory is = inl (first-kept laws s h o p t holds e x added)
+        by (stops.Io side) is = absurd is
 
-unfaulted : (to : Standing) (e : End Lanes) (t : Taken Lanes) → fault_at to ≡ None →
-    stop_at to (Goes_on e t) ≡ Goes_on e t
-unfaulted Before_hello e t none = refl
-unfaulted (In_message parts) e t none = refl
-unfaulted Meaning_over e t none = refl
-unfaulted (Faulted code) e t none = absurd cc
+  -- its reply is not said
+  stops-unsaid : Laws →
+      (s : Speaker F) (h : Held F) (o p : OutboxState) (t : Traffic) (holds : Option (List ℕ)) (r : Seen)
+      (broken : Bool) (e : Event F) (stop : Stop) →
+      is_live s.start.stage ≡ true → At s h o t e → Unsaid W o p t.holds holds broken (said_by h e) stop →
+      Stopped S W IsOfTheTable s p (traffic_of t.unread t.left t.held holds) r broken stop
+  stops-unsaid laws s h o p t holds r broken e stop live x unsaid =
+      record { bytes = x.bytes; are_bytes = x.are_bytes; read = x.read; why = by stop unsaid } where
+        u2 : Traffic
+        u2 = traffic_of t.unread t.left t.held holds
 
-faulty : (s : Speaker Lanes) (over : Bool) (bytes : List ℕ) (es : List (Event Lanes)) (e : End Lanes) (t : Taken Lanes)
-    (code : ℕ) →
-    IsFaulty over bytes es code → hears two_lanes s es ≡ Goes_on e t →
-    hearing_to two_lanes two_lane_profile s over bytes ≡ Refused_for code
-faulty s over bytes es e t code is at =
-    let to = (feed two_lane_profile Before_hello bytes).to in
-    ap (λ l. with_end over (stop_at to (hears two_lanes s l))) is.events ∙ ap (λ x. with_end over (stop_at to x)) at
-    ∙ by is.fault where
-      by : (((feed two_lane_profile Before_hello bytes).to ≡ Faulted code) ⊎
-          ((code ≡ truncated) × IsTrue over × (fault_at (feed two_lane_profile Before_hello bytes).to ≡ None))) →
-          with_end over (stop_at (feed two_lane_profile Before_hello bytes).to (Goes_on e t)) ≡ Refused_for code
-      by (inl fault) = ap (λ x. with_end over (stop_at x (Goes_on e t))) fault
-      by (inr (three, end, none)) =
-          ap (with_end over) (unfaulted (feed two_lane_profile Before_hello bytes).to e t none)
-          ∙ ap (λ b. if b then Refused_for truncated else Goes_on e t) end ∙ ap Refused_for (sym three)
+        begun_next : (more : List (Message F)) × (called_by S W s x.bytes ≡ so_far s (x.es ++ e ∷ []) ++ more)
+        begun_next = let r = laws.begin s (x.es ++ e ∷ []) x.rest in
+            (r.0, ap (λ l. own S s (messages_of [] l)) x.all ∙ r.1)
 
--- all events handed out were heard, and no more comes; what was written is a beginning of what all events call for
-pub stops-unheard-by : (T : ℕ → Type 0) → Laws →
-    (s : Speaker Lanes) (h : Held) (o : OutboxState) (t : Traffic) (r : Seen) (broken : Bool) (stop : Stop)
-    (bytes : List ℕ) (es : List (Event Lanes)) →
-    is_live s.start.stage ≡ true →
-    IsBytes bytes → Consumes t.unread t.left bytes → o.sent ≡ length (so_far s es) →
-    ((rest : List (Event Lanes)) → events_in bytes ≡ es ++ rest → WroteUpTo s o t bytes) →
-    hears two_lanes s es ≡ Goes_on h.end h.taken → StopsAt r bytes es stop → Stopped T s o t r broken stop
-stops-unheard-by T laws s h o t r broken stop bytes es live are read count wrote heard unheard =
-    record { bytes = bytes; are_bytes = are; read = read; why = by stop unheard } where
-      by : (stop : Stop) → StopsAt r bytes es stop → WhyStopped T s o t r broken bytes stop
-      by (stops.Refused code) is = (
-        wrote [] (is.events ∙ sym (append-nil es)),
-        inl (first-at laws s r.ended bytes (so_far s es) o.sent code live
-            (faulty s r.ended bytes es h.end h.taken code is heard)
-            (ap (λ l. so_far s l) is.events) count),
-      )
-      by (stops.PeerRefused code) is = absurd is
-      by stops.Memory is = wrote is.0 is.1
-      by (stops.Io side) (read, why, begins) =
-          (breaks-behind s o t bytes (wrote begins.0 begins.1), subst (HasBroken r broken bytes) (sym read) why)
+        some : SomeOf W o p t.holds holds (said_by h e) → WroteFirst S W s p u2 x.bytes
+        some (inl added) = first-kept laws s h o p t holds e x added
+        some (inr added) =
+            wrote-first s p u2 x.bytes (so_far s (x.es ++ e ∷ [])) begun_next.0 begun_next.1
+            (subst (HasWritten W p t.held holds) (sym (says-next laws.say s h x.es e live x.heard))
+            (adds o p t.held t.holds holds (so_far s x.es) (said_by h e) x.written added))
 
-pub stops-unheard : (T : ℕ → Type 0) → Laws →
-    (s : Speaker Lanes) (h : Held) (o : OutboxState) (t : Traffic) (r : Seen) (broken : Bool) (stop : Stop)
-    (bytes : List ℕ) (es : List (Event Lanes)) →
-    is_live s.start.stage ≡ true →
-    IsBytes bytes → Consumes t.unread t.left bytes → HasWritten o t.held t.holds (so_far s es) →
-    hears two_lanes s es ≡ Goes_on h.end h.taken → StopsAt r bytes es stop → Stopped T s o t r broken stop
-stops-unheard T laws s h o t r broken stop bytes es live are read written heard unheard =
-    stops-unheard-by T laws s h o t r broken stop bytes es live are read written.count wrote heard unheard where
-      wrote : (rest : List (Event Lanes)) → events_in bytes ≡ es ++ rest → WroteUpTo s o t bytes
-      wrote rest all =
-          let first = laws.begin s es rest in
-          inl (wrote-first s o t bytes (so_far s es) first.0
-          (ap (λ l. own two_lanes s (messages_of [] l)) all ∙ first.1) written)
+        by : (stop : Stop) → Unsaid W o p t.holds holds broken (said_by h e) stop →
+            WhyStopped S W IsOfTheTable s p u2 r broken x.bytes stop
+        by (stops.Refused code) (table, added) = (inl (some added), inr table)
+        by (stops.PeerRefused code) is = absurd is
+        by stops.Memory added = inl (first-kept laws s h o p t holds e x added)
+        by (stops.Io side) (write, failed, part) =
+            let one = says-next laws.say s h x.es e live x.heard
+            ∙ ap (λ (l : List (Message F)). so_far s x.es ++ l) part.one in
+            let calls = begun_next.1 ∙ ap (λ (l : List (Message F)). l ++ begun_next.0) one
+            ∙ append_assoc (so_far s x.es) (part.message ∷ []) begun_next.0 in (
+              breaks-in-message S W s o p u2 t.holds x.bytes (so_far s x.es) begun_next.0 part.message calls x.written
+                  part.same part.front,
+              subst (HasBroken r broken x.bytes) (sym write) failed,
+            )
 
-pub stops-underway : Laws →
-    (s : Speaker Lanes) (h : Held) (b : InboxState) (o : OutboxState) (t : Traffic) (left : Option (List ℕ))
-    (r : Seen) (broken : Bool) (stop : Stop) →
-    is_live s.start.stage ≡ true →
-    (u : Underway s h b o t) → is_over h.end.stage ≡ false →
-    ((bytes : List ℕ) × IsBytes bytes × Consumes t.left left bytes
-    × StopsAt r (u.bytes ++ bytes) u.events stop) →
-    Stopped IsOfTheTable s o (traffic t.unread left t.held t.holds) r broken stop
-stops-underway laws s h b o t left r broken stop live u goes more =
-    stops-unheard IsOfTheTable laws s h o (traffic t.unread left t.held t.holds) r broken stop
-    (u.bytes ++ more.0) u.events live
-    (All-append (λ y. y < 256) u.bytes more.0 u.are_bytes more.1)
-    (Consumes-trans t.unread t.left left u.bytes more.0 u.read more.2) u.written
-    (u.heard ∙ heard-goes h goes) more.3
+  pub stops-event : Laws →
+      (s : Speaker F) (h : Held F) (o p : OutboxState) (t : Traffic) (holds : Option (List ℕ)) (r : Seen)
+      (broken : Bool) (e : Event F) (stop : Stop) →
+      is_live s.start.stage ≡ true → At s h o t e → StopsBy S W h e o p t.holds holds broken stop →
+      Stopped S W IsOfTheTable s p (traffic_of t.unread t.left t.held holds) r broken stop
+  stops-event laws s h o p t holds r broken e stop live x (inl (refuses, added)) =
+      stops-refusing IsOfTheTable laws s h o p t holds r broken e stop live x refuses added
+  stops-event laws s h o p t holds r broken e stop live x (inr unsaid) =
+      stops-unsaid laws s h o p t holds r broken e stop live x unsaid
 
--- as many events were handed out as a session reads at the most, and each took a byte
-pub stops-late : Laws → (s : Speaker Lanes) (h : Held) (b : InboxState) (o : OutboxState) (t : Traffic) (r : Seen)
-    (broken : Bool) → (u : Underway s h b o t) → 2 ^ 32 ≤ length u.events →
-    Stopped IsOfTheTable s o t r broken (stops.Io sides.Read)
-stops-late laws s h b o t r broken u many =
-    record { bytes = u.bytes; are_bytes = u.are_bytes; read = u.read; why = (broke, inr enough) } where
-      enough : 2 ^ 32 ≤ length u.bytes
-      enough =
-          let took = u.came.took in
-          let split = ap (λ (l : List ℕ). length l) u.came.split in
-          omega (arith, length-append u.came.fed b.waiting)
+  -- ---- no event comes
 
-      broke : BreaksOff s o.sent t u.bytes
-      broke =
-          let first = laws.begin s u.events u.came.more in
-          breaks-behind s o t u.bytes (inl (wrote-first s o t u.bytes (so_far s u.events) first.0
-          (ap (λ l. own two_lanes s (messages_of [] l)) u.came.events ∙ first.1) u.written))
+  unfaulted : (to : Standing) (e : End F) (t : Taken F) → fault_at to ≡ None →
+      stop_at to (Goes_on e t) ≡ Goes_on e t
+  unfaulted Before_hello e t none = refl
+  unfaulted (In_message parts) e t none = refl
+  unfaulted Meaning_over e t none = refl
+  unfaulted (Faulted code) e t none = absurd cc
 
--- ---- the session is over
+  faulty : (s : Speaker F) (over : Bool) (bytes : List ℕ) (es : List (Event F)) (e : End F) (t : Taken F)
+      (code : ℕ) →
+      IsFaulty W over bytes es code → hears S s es ≡ Goes_on e t →
+      hearing_to S W s over bytes ≡ Refused_for code
+  faulty s over bytes es e t code is at =
+      let to = (feed W Before_hello bytes).to in
+      ap (λ l. with_end over (stop_at to (hears S s l))) is.events ∙ ap (λ x. with_end over (stop_at to x)) at
+      ∙ by is.fault where
+        by : (((feed W Before_hello bytes).to ≡ Faulted code) ⊎
+            ((code ≡ truncated) × IsTrue over × (fault_at (feed W Before_hello bytes).to ≡ None))) →
+            with_end over (stop_at (feed W Before_hello bytes).to (Goes_on e t)) ≡ Refused_for code
+        by (inl fault) = ap (λ x. with_end over (stop_at x (Goes_on e t))) fault
+        by (inr (three, end, none)) =
+            ap (with_end over) (unfaulted (feed W Before_hello bytes).to e t none)
+            ∙ ap (λ b. if b then Refused_for truncated else Goes_on e t) end ∙ ap Refused_for (sym three)
 
-pub finished : Laws → (s : Speaker Lanes) (h : Held) (b : InboxState) (o : OutboxState) (t : Traffic) →
-    is_live s.start.stage ≡ true → Underway s h b o t → is_over h.end.stage ≡ true → Finished s h.end o t
-finished laws s h b o t live u over =
-    let Ms = messages_in two_lane_profile u.bytes in
-    let at : hears two_lanes s u.events ≡ Over_at h.end = u.heard ∙ heard-over h over in
-    let behind = all-events b u.bytes u.events u.came in
-    let told = hearing-stopped s false u.bytes u.events behind.0 (Over_at h.end) behind.1 at refl in
-    let agreed = subst (AgreesBy (session two_lanes s Ms) (says two_lanes s Ms) (own two_lanes s Ms)) told
-    (laws.agree s false u.bytes live) in
-    let said : said_to s u.bytes ≡ so_far s u.events =
-    ap (λ l. so_far s l) behind.1 ∙ says-stopped laws.say s u.events behind.0 live (ap has_stopped at) in
-    record {
-      bytes = u.bytes;
-      are_bytes = u.are_bytes;
-      read = u.read;
-      said = said-all s o t u.bytes (so_far s u.events) said u.written;
-      end = agreed.0;
-      over = over;
-    }
+  -- all events handed out were heard, and no more comes; what was written is a beginning of what all events call for
+  pub why-unheard : (T : ℕ → Type 0) → Laws →
+      (s : Speaker F) (h : Held F) (o : OutboxState) (t : Traffic) (r : Seen) (broken : Bool) (stop : Stop)
+      (bytes : List ℕ) (es : List (Event F)) →
+      is_live s.start.stage ≡ true → o.sent ≡ length (so_far s es) →
+      ((rest : List (Event F)) → events_in bytes ≡ es ++ rest → WroteUpTo S W s o t bytes) →
+      hears S s es ≡ Goes_on h.end h.taken → StopsAt W r bytes es stop → WhyStopped S W T s o t r broken bytes stop
+  why-unheard T laws s h o t r broken (stops.Refused code) bytes es live count wrote heard is = (
+    wrote [] (is.events ∙ sym (append-nil es)),
+    inl (first-at laws s r.ended bytes (so_far s es) o.sent code live
+        (faulty s r.ended bytes es h.end h.taken code is heard)
+        (ap (λ l. so_far s l) is.events) count),
+  )
+  why-unheard T laws s h o t r broken (stops.PeerRefused code) bytes es live count wrote heard is = absurd is
+  why-unheard T laws s h o t r broken stops.Memory bytes es live count wrote heard is = wrote is.0 is.1
+  why-unheard T laws s h o t r broken (stops.Io side) bytes es live count wrote heard (read, why, begins) = (
+    breaks-behind S W s o t bytes (wrote begins.0 begins.1),
+    subst (HasBroken r broken bytes) (sym read) why,
+  )
+
+  pub stops-unheard-by : (T : ℕ → Type 0) → Laws →
+      (s : Speaker F) (h : Held F) (o : OutboxState) (t : Traffic) (r : Seen) (broken : Bool) (stop : Stop)
+      (bytes : List ℕ) (es : List (Event F)) →
+      is_live s.start.stage ≡ true →
+      IsBytes bytes → Takes t.unread t.left bytes → o.sent ≡ length (so_far s es) →
+      ((rest : List (Event F)) → events_in bytes ≡ es ++ rest → WroteUpTo S W s o t bytes) →
+      hears S s es ≡ Goes_on h.end h.taken → StopsAt W r bytes es stop → Stopped S W T s o t r broken stop
+  stops-unheard-by T laws s h o t r broken stop bytes es live are read count wrote heard unheard = record {
+    bytes = bytes;
+    are_bytes = are;
+    read = read;
+    why = why-unheard T laws s h o t r broken stop bytes es live count wrote heard unheard;
+  }
+
+  pub stops-unheard : (T : ℕ → Type 0) → Laws →
+      (s : Speaker F) (h : Held F) (o : OutboxState) (t : Traffic) (r : Seen) (broken : Bool) (stop : Stop)
+      (bytes : List ℕ) (es : List (Event F)) →
+      is_live s.start.stage ≡ true →
+      IsBytes bytes → Takes t.unread t.left bytes → HasWritten W o t.held t.holds (so_far s es) →
+      hears S s es ≡ Goes_on h.end h.taken → StopsAt W r bytes es stop → Stopped S W T s o t r broken stop
+  stops-unheard T laws s h o t r broken stop bytes es live are read written heard unheard =
+      stops-unheard-by T laws s h o t r broken stop bytes es live are read written.count wrote heard unheard where
+        wrote : (rest : List (Event F)) → events_in bytes ≡ es ++ rest → WroteUpTo S W s o t bytes
+        wrote rest all =
+            let first = laws.begin s es rest in
+            inl (wrote-first s o t bytes (so_far s es) first.0
+            (ap (λ l. own S s (messages_of [] l)) all ∙ first.1) written)
+
+  pub stops-underway : Laws →
+      (s : Speaker F) (h : Held F) (b : InboxState) (o : OutboxState) (t : Traffic) (left : Option (List ℕ))
+      (r : Seen) (broken : Bool) (stop : Stop) →
+      is_live s.start.stage ≡ true →
+      (u : Underway S W s h b o t) → is_over h.end.stage ≡ false →
+      ((bytes : List ℕ) × IsBytes bytes × Consumes t.left left bytes
+      × StopsAt W r (u.bytes ++ bytes) u.events stop) →
+      Stopped S W IsOfTheTable s o (traffic_of t.unread left t.held t.holds) r broken stop
+  stops-underway laws s h b o t left r broken stop live u goes more =
+      stops-unheard IsOfTheTable laws s h o (traffic_of t.unread left t.held t.holds) r broken stop
+      (u.bytes ++ more.0) u.events live
+      (All-append (λ y. y < 256) u.bytes more.0 u.are_bytes more.1)
+      (takes-on t.unread t.left left u.bytes more.0 u.read more.2) u.written
+      (u.heard ∙ heard-goes S W h goes) more.3
+
+  -- as many events were handed out as a session reads at the most, and each took a byte
+  pub stops-late : Laws → (s : Speaker F) (h : Held F) (b : InboxState) (o : OutboxState) (t : Traffic) (r : Seen)
+      (broken : Bool) → (u : Underway S W s h b o t) → 2 ^ 32 ≤ length u.events →
+      Stopped S W IsOfTheTable s o t r broken (stops.Io sides.Read)
+  stops-late laws s h b o t r broken u many =
+      record { bytes = u.bytes; are_bytes = u.are_bytes; read = u.read; why = (broke, inr enough) } where
+        enough : 2 ^ 32 ≤ length u.bytes
+        enough =
+            let took = u.came.took in
+            let split = ap (λ (l : List ℕ). length l) u.came.split in
+            omega (arith, length-append u.came.fed b.waiting)
+
+        broke : BreaksOff S W s o.sent t u.bytes
+        broke =
+            let first = laws.begin s u.events u.came.more in
+            breaks-behind S W s o t u.bytes (inl (wrote-first s o t u.bytes (so_far s u.events) first.0
+            (ap (λ l. own S s (messages_of [] l)) u.came.events ∙ first.1) u.written))
+
+  -- ---- the session is over
+
+  pub finished : Laws → (s : Speaker F) (h : Held F) (b : InboxState) (o : OutboxState) (t : Traffic) →
+      is_live s.start.stage ≡ true → Underway S W s h b o t → is_over h.end.stage ≡ true → Finished S W s h.end o t
+  finished laws s h b o t live u over =
+      let Ms = messages_in W u.bytes in
+      let at : hears S s u.events ≡ Over_at h.end = u.heard ∙ heard-over S W h over in
+      let behind = all-events b u.bytes u.events u.came in
+      let told = hearing-stopped s false u.bytes u.events behind.0 (Over_at h.end) behind.1 at refl in
+      let agreed = subst (AgreesBy (session S s Ms) (says S s Ms) (own S s Ms)) told
+      (laws.agree s false u.bytes live) in
+      let said : said_to S W s u.bytes ≡ so_far s u.events =
+      ap (λ l. so_far s l) behind.1 ∙ says-stopped laws.say s u.events behind.0 live (ap has_stopped at) in
+      record {
+        bytes = u.bytes;
+        are_bytes = u.are_bytes;
+        read = u.read;
+        said = said-all s o t u.bytes (so_far s u.events) said u.written;
+        end = agreed.0;
+        over = over;
+      }

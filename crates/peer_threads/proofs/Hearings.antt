@@ -5,11 +5,11 @@ use Rattle.std.proofs.Common.{Err, inl, inr, refl, sym, ap, ◌∙◌, subst, ap
 use Rattle.std.specs.Prelude.{if◌then◌else◌}
 use Rattle.std.proofs.KnownBytes.{Appends-nil}
 use Rattle.std.specs.Io.KnownBytes.{Appends}
-use Rattle.definitions.specs.Fingerprints.{Lanes, two_lanes}
+use Rattle.definitions.specs.Fingerprints.{Summary}
 use Rattle.definitions.specs.Messages.{Part, Message}
 use Rattle.definitions.specs.Placing.{next, refusal}
 use Rattle.definitions.specs.Refusals.{unknown, over_bound, table_full, serials_spent}
-use Rattle.definitions.specs.Wire.{two_lane_profile, message_text, Event, Came, Ended}
+use Rattle.definitions.specs.Wire.{Profile, message_text, Event, Came, Ended}
 use Rattle.definitions.specs.Ends.{Answer, is_over}
 use Rattle.definitions.specs.Engines.{replied}
 use Rattle.definitions.specs.Taking.{Taken, taken, ended}
@@ -26,81 +26,6 @@ use Rattle.peer_threads.specs.Stops.{of_end}
 use Rattle.peer_threads.specs.Outboxes.{OutboxState, outbox_state, Adds}
 use Rattle.peer_threads.specs.Underway.{heard_as, most_sent, Unsaid, Refuses, StopsBy}
 
--- ---- where the end stands then
-
-pub heard-goes : (h : Held) → is_over h.end.stage ≡ false → heard_as h ≡ Goes_on h.end h.taken
-heard-goes h goes = ap (λ b. if b then Over_at h.end else Goes_on h.end h.taken) goes
-
-pub heard-over : (h : Held) → is_over h.end.stage ≡ true → heard_as h ≡ Over_at h.end
-heard-over h over = ap (λ b. if b then Over_at h.end else Goes_on h.end h.taken) over
-
-pub taken-heard : (h g : Held) (p : Part Lanes) → None ≡ refusal (next h.taken.place p) → g ≡ behind_part h p None →
-    is_over h.end.stage ≡ false →
-    heard_as g ≡ hear_now two_lanes h.end h.taken (Came p)
-taken-heard h g p fine is goes =
-    let t : Taken Lanes = taken two_lanes h.end h.taken p in
-    ap heard_as is ∙ ap (λ b. if b then Over_at h.end else Goes_on h.end t) goes
-    ∙ ap (λ o. goes_unless o (Goes_on h.end t)) fine
-
-pub ended-heard : (h g : Held) (turn : Turn) → answer_of turn ≡ ended h.taken → g ≡ behind_end h (answer_of turn) →
-    heard_as g ≡ hear_now two_lanes h.end h.taken Ended
-ended-heard h g (turns.Reply N) told is = ap heard_as is ∙ ap (ended_by h.end h.taken) told
-ended-heard h g turns.Over told is = ap heard_as is ∙ ap (ended_by h.end h.taken) told
-
--- ---- how much it may send, and has sent
-
-pub most-kept : (most : ℕ) (h g : Held) (turn : Turn) → g ≡ behind_end h (answer_of turn) →
-    most_sent most g ≡ most_sent most h
-most-kept most h g (turns.Reply N) is = ap (most_sent most) is
-most-kept most h g turns.Over is = ap (most_sent most) is
-
-pub sent-behind : (h g : Held) (turn : Turn) → g ≡ behind_end h (answer_of turn) →
-    g.end.sent ≡ h.end.sent + messages_in turn
-sent-behind h g (turns.Reply N) is = ap (λ x. x.end.sent) is
-sent-behind h g turns.Over is = omega (arith, ap (λ x. x.end.sent) is)
-
--- ---- why it stops
-
-pub take-stops : (h : Held) (p : Part Lanes) (f : EndFault) →
-    IfSome (told_in (Err f)) (λ o. o ≡ refusal (next h.taken.place p)) → Refuses h (Came p) (of_end f)
-take-stops h p (faults.Placing f) told =
-    ap (λ o. goes_unless o (Goes_on h.end (taken two_lanes h.end h.taken p))) (sym told)
-take-stops h p faults.TooManyParts told =
-    ap (λ o. goes_unless o (Goes_on h.end (taken two_lanes h.end h.taken p))) (sym told)
-take-stops h p faults.Spent told = ap (λ o. goes_unless o (Goes_on h.end (taken two_lanes h.end h.taken p))) (sym told)
-take-stops h p faults.Memory told = tt
-
-pub end-stops : (h : Held) (f : EndFault) → IfSome (refusal_of f) (λ a. a ≡ ended h.taken) → Refuses h Ended (of_end f)
-end-stops h (faults.Placing f) told = ap (ended_by h.end h.taken) (sym told)
-end-stops h faults.TooManyParts told = ap (ended_by h.end h.taken) (sym told)
-end-stops h faults.Spent told = ap (ended_by h.end h.taken) (sym told)
-end-stops h faults.Memory told = tt
-
--- ---- what was written
-
--- one message was written
-pub adds-one : (o p : OutboxState) (a b : Option (List ℕ)) (M : Message Lanes) (text : List ℕ) →
-    text ≡ message_text two_lane_profile M → p ≡ outbox_state o.greeted (o.sent + 1) → Appends a b text →
-    Adds o p a b (M ∷ [])
-adds-one o p a b M text is counted w = record {
-  greeted = ap (λ x. x.greeted) counted;
-  count = ap (λ x. x.sent) counted;
-  written = subst (Appends a b) (is ∙ sym (append-nil (message_text two_lane_profile M))) w;
-}
-
--- none was
-pub adds-none : (o : OutboxState) (a : Option (List ℕ)) → Adds o o a a []
-adds-none o a = record { greeted = refl; count = omega arith; written = Appends-nil a }
-
-pub refuses-stops : (h : Held) (e : Event Lanes) (o : OutboxState) (a : Option (List ℕ)) (broken : Bool) (stop : Stop) →
-    Refuses h e stop → StopsBy h e o o a a broken stop
-refuses-stops h e o a broken stop r = inl (r, adds-none o a)
-
-pub unsaid-stops : (h : Held) (x : Answer Lanes) (o p : OutboxState) (a b : Option (List ℕ)) (broken : Bool)
-    (stop : Stop) →
-    x ≡ ended h.taken → Unsaid o p a b broken (replied x) stop → StopsBy h Ended o p a b broken stop
-unsaid-stops h x o p a b broken stop is r = inr (subst (λ y. Unsaid o p a b broken (replied y) stop) is r)
-
 pub of-the-table : (code : ℕ) → (code ≡ unknown) ⊎ (code ≡ over_bound) → IsOfTheTable code
 of-the-table code (inl is) = (omega (arith, is), omega (arith, is))
 of-the-table code (inr is) = (omega (arith, is), omega (arith, is))
@@ -108,3 +33,81 @@ of-the-table code (inr is) = (omega (arith, is), omega (arith, is))
 pub not-opened : (code : ℕ) → (code ≡ table_full) ⊎ (code ≡ serials_spent) → IsOfTheTable code
 not-opened code (inl is) = (omega (arith, is), omega (arith, is))
 not-opened code (inr is) = (omega (arith, is), omega (arith, is))
+
+module _ {F : Type 0} (S : Summary F) (W : Profile F) where
+  -- ---- where the end stands then
+
+  pub heard-goes : (h : Held F) → is_over h.end.stage ≡ false → heard_as h ≡ Goes_on h.end h.taken
+  heard-goes h goes = ap (λ b. if b then Over_at h.end else Goes_on h.end h.taken) goes
+
+  pub heard-over : (h : Held F) → is_over h.end.stage ≡ true → heard_as h ≡ Over_at h.end
+  heard-over h over = ap (λ b. if b then Over_at h.end else Goes_on h.end h.taken) over
+
+  pub taken-heard : (h g : Held F) (p : Part F) → None ≡ refusal (next h.taken.place p) → g ≡ behind_part S h p None →
+      is_over h.end.stage ≡ false →
+      heard_as g ≡ hear_now S h.end h.taken (Came p)
+  taken-heard h g p fine is goes =
+      let t : Taken F = taken S h.end h.taken p in
+      ap heard_as is ∙ ap (λ b. if b then Over_at h.end else Goes_on h.end t) goes
+      ∙ ap (λ o. goes_unless o (Goes_on h.end t)) fine
+
+  pub ended-heard : (h g : Held F) (turn : Turn F) → answer_of turn ≡ ended h.taken →
+      g ≡ behind_end h (answer_of turn) →
+      heard_as g ≡ hear_now S h.end h.taken Ended
+  ended-heard h g (turns.Reply N) told is = ap heard_as is ∙ ap (ended_by h.end h.taken) told
+  ended-heard h g turns.Over told is = ap heard_as is ∙ ap (ended_by h.end h.taken) told
+
+  -- ---- how much it may send, and has sent
+
+  pub most-kept : (most : ℕ) (h g : Held F) (turn : Turn F) → g ≡ behind_end h (answer_of turn) →
+      most_sent most g ≡ most_sent most h
+  most-kept most h g (turns.Reply N) is = ap (most_sent most) is
+  most-kept most h g turns.Over is = ap (most_sent most) is
+
+  pub sent-behind : (h g : Held F) (turn : Turn F) → g ≡ behind_end h (answer_of turn) →
+      g.end.sent ≡ h.end.sent + messages_in turn
+  sent-behind h g (turns.Reply N) is = ap (λ x. x.end.sent) is
+  sent-behind h g turns.Over is = omega (arith, ap (λ x. x.end.sent) is)
+
+  -- ---- why it stops
+
+  pub take-stops : (h : Held F) (p : Part F) (f : EndFault) →
+      IfSome (told_in (Err f)) (λ o. o ≡ refusal (next h.taken.place p)) → Refuses S h (Came p) (of_end f)
+  take-stops h p (faults.Placing f) told =
+      ap (λ o. goes_unless o (Goes_on h.end (taken S h.end h.taken p))) (sym told)
+  take-stops h p faults.TooManyParts told =
+      ap (λ o. goes_unless o (Goes_on h.end (taken S h.end h.taken p))) (sym told)
+  take-stops h p faults.Spent told = ap (λ o. goes_unless o (Goes_on h.end (taken S h.end h.taken p))) (sym told)
+  take-stops h p faults.Memory told = tt
+
+  pub end-stops : (h : Held F) (f : EndFault) → IfSome (refusal_of f) (λ a. a ≡ ended h.taken) →
+      Refuses S h Ended (of_end f)
+  end-stops h (faults.Placing f) told = ap (ended_by h.end h.taken) (sym told)
+  end-stops h faults.TooManyParts told = ap (ended_by h.end h.taken) (sym told)
+  end-stops h faults.Spent told = ap (ended_by h.end h.taken) (sym told)
+  end-stops h faults.Memory told = tt
+
+  -- ---- what was written
+
+  -- one message was written
+  pub adds-one : (o p : OutboxState) (a b : Option (List ℕ)) (M : Message F) (text : List ℕ) →
+      text ≡ message_text W M → p ≡ outbox_state o.greeted (o.sent + 1) → Appends a b text →
+      Adds W o p a b (M ∷ [])
+  adds-one o p a b M text is counted w = record {
+    greeted = ap (λ x. x.greeted) counted;
+    count = ap (λ x. x.sent) counted;
+    written = subst (Appends a b) (is ∙ sym (append-nil (message_text W M))) w;
+  }
+
+  -- none was
+  pub adds-none : (o : OutboxState) (a : Option (List ℕ)) → Adds W o o a a []
+  adds-none o a = record { greeted = refl; count = omega arith; written = Appends-nil a }
+
+  pub refuses-stops : (h : Held F) (e : Event F) (o : OutboxState) (a : Option (List ℕ)) (broken : Bool) (stop : Stop) →
+      Refuses S h e stop → StopsBy S W h e o o a a broken stop
+  refuses-stops h e o a broken stop r = inl (r, adds-none o a)
+
+  pub unsaid-stops : (h : Held F) (x : Answer F) (o p : OutboxState) (a b : Option (List ℕ)) (broken : Bool)
+      (stop : Stop) →
+      x ≡ ended h.taken → Unsaid W o p a b broken (replied x) stop → StopsBy S W h Ended o p a b broken stop
+  unsaid-stops h x o p a b broken stop is r = inr (subst (λ y. Unsaid W o p a b broken (replied y) stop) is r)

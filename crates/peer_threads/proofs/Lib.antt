@@ -1,5 +1,7 @@
 pub mod InboxSteps
 pub mod Beginnings
+pub mod Origins
+pub mod Hellos
 pub mod Hearings
 pub mod Breaks
 pub mod Exchanges
@@ -7,3 +9,4 @@ pub mod Modest
 pub mod Endings
 pub mod Serving
 pub mod Dialing
+pub mod Choosing

@@ -4,14 +4,15 @@
 -- one part and its end are handed out, and the end that the pin makes hears both, so its session is then underway as
 -- any other.
 use Rattle.std.proofs.Common.{◌≡◌, ℕ, ◌+◌, ◌<◌, ◌≤◌, Bool, true, false, List, [], ◌∷◌, ◌++◌, length, Option, Some}
-use Rattle.std.proofs.Common.{None, Result, Ok, Err, IfOk, IfErr, OnOk, inl, inr, refl, sym, ap, ◌∙◌, subst, IsTrue}
+use Rattle.std.proofs.Common.{None, Result, Ok, Err, IfOk, IfErr, OnOk, inl, inr, refl, sym, ap, ◌∙◌, subst, append-nil}
+use Rattle.std.proofs.Common.{IsTrue}
 use Rattle.std.proofs.Common.{arith}
 use Rattle.std.specs.Prelude.{if◌then◌else◌}
-use Rattle.std.proofs.KnownBytes.{Consumes-trans, Appends-nil}
+use Rattle.std.proofs.KnownBytes.{Appends-nil}
 use Rattle.std.specs.Io.KnownBytes.{Appends, Consumes}
 use Rattle.definitions.proofs.Lemmas.{All-append}
 use Rattle.definitions.specs.Accounts.{Seen, IsOfTheTable}
-use Rattle.definitions.specs.Fingerprints.{Lanes, two_lanes}
+use Rattle.definitions.specs.Fingerprints.{Summary}
 use Rattle.definitions.specs.Histories.{History, content}
 use Rattle.definitions.specs.Items.{IsBytes, Item, whole, same_range}
 use Rattle.definitions.specs.Messages.{Part, Sum, Listing, Answer, Message}
@@ -22,7 +23,7 @@ use Rattle.definitions.specs.Strategies.{Table}
 use Rattle.definitions.specs.Refusals.{misplaced}
 use Rattle.definitions.specs.Streams.{Before_hello, feed, messages_of}
 use Rattle.codec_laws.specs.Parts.{FeedsJoin}
-use Rattle.definitions.specs.Wire.{two_lane_profile, Event, Came, Ended}
+use Rattle.definitions.specs.Wire.{Profile, Event, Came, Ended}
 use Rattle.definitions.specs.Ends.{responder, is_over}
 use Rattle.definitions.specs.Engines.{responding, says}
 use Rattle.definitions.specs.Taking.{taken}
@@ -36,170 +37,21 @@ use Rattle.peer_threads.specs.declared.outcome.Side.TheVariants as sides
 use Rattle.peer_threads.specs.declared.stop.Stop.{Stop}
 use Rattle.peer_threads.specs.declared.stop.Stop.TheVariants as stops
 use Rattle.peer_threads.specs.declared.outcome.Outcome.{Outcome}
-use Rattle.peer_threads.specs.Outcomes.{Traffic, traffic, IsModest, Speaks, Unopened, CameFirst, peer_of, peer_at, sent_in}
+use Rattle.peer_threads.specs.Outcomes.{Traffic, Origin, Takes, traffic_of, traffic_behind, IsModest, Speaks, Unopened}
+use Rattle.peer_threads.specs.Outcomes.{CameFirst, peer_of}
+use Rattle.peer_threads.specs.Outcomes.{peer_at, sent_in}
 use Rattle.peer_threads.specs.Inboxes.{InboxState, HasRead, StopsAt, ReadOn}
 use Rattle.peer_threads.specs.Outboxes.{OutboxState, outbox_state, hello_due, HasWritten, Adds, BreaksIn}
 use Rattle.peer_threads.specs.Stops.{outcome_of}
 use Rattle.peer_threads.specs.Underway.{heard_as, most_sent, said_by, first_held, Underway, Exchanged, StopsFirst}
 use Rattle.peer_threads.specs.Underway.{FirstCame, EndCame, IsFirstPart, Refuses, IsNone, WroteUpTo}
 use Rattle.peer_threads.specs.Underway.{WhyStopped, Stopped, Leaves, Spoke}
+use Rattle.peer_threads.proofs.Origins.{takes-on, takes-front}
 use Rattle.peer_threads.proofs.Hearings.{adds-none, heard-goes}
 use Rattle.peer_threads.proofs.Breaks.{breaks-in-hello}
 use Rattle.peer_threads.proofs.Exchanges.{Laws, More, At, all-events, wrote-first, goes-on, stops-refusing}
 use Rattle.peer_threads.proofs.Exchanges.{stops-unheard, stops-unheard-by}
 use Rattle.peer_threads.proofs.Endings.{stopped-speaks, stopped-unopened, of-pin}
-
--- ---- the hello
-
--- a hello was read, and the own one written
-pub greeted : (r s w x : Option (List ℕ)) (b : InboxState) (o p : OutboxState) → o ≡ outbox_state false 0 →
-    p ≡ outbox_state true o.sent → Appends w x (hello_due o) →
-    More r s b [] [] → Exchanged b p (traffic r s w x) []
-greeted r s w x b o p new now written read = record {
-  bytes = read.0;
-  are_bytes = read.1;
-  read = read.2;
-  came = read.3;
-  written = record {
-    greeted = ap (λ y. y.greeted) now;
-    count = ap (λ y. y.sent) now ∙ ap (λ y. y.sent) new;
-    written = subst (λ y. Appends w x (hello_due y)) new written;
-  };
-}
-
--- it does not come
-pub stops-ungreeted : Laws →
-    (P : Peer) (o : OutboxState) (unread left held : Option (List ℕ)) (r : Seen) (broken : Bool) (stop : Stop) →
-    o ≡ outbox_state false 0 →
-    ((bytes : List ℕ) × IsBytes bytes × Consumes unread left bytes × StopsAt r bytes [] stop) →
-    Stopped IsNone (responding P) o (traffic unread left held held) r broken stop
-stops-ungreeted laws P o unread left held r broken stop new read =
-    stops-unheard-by IsNone laws (responding P) (first_held P []) o
-    (traffic unread left held held) r broken stop read.0 [] refl read.1 read.2
-    (ap (λ x. x.sent) new) (λ rest all. inr
-    (record { greeted = ap (λ x. x.greeted) new; none = ap (λ x. x.sent) new; written = Appends-nil held })) refl read.3
-
--- ---- the first message
-
-pub reads-on : (t : Traffic) (left : Option (List ℕ)) (b c : InboxState) (o : OutboxState) (es fs : List (Event Lanes))
-    (x : Exchanged b o t es) →
-    More t.left left c x.bytes fs →
-    Exchanged c o (traffic t.unread left t.held t.holds) fs
-reads-on t left b c o es fs x more = record {
-  bytes = x.bytes ++ more.0;
-  are_bytes = All-append (λ y. y < 256) x.bytes more.0 x.are_bytes more.1;
-  read = Consumes-trans t.unread t.left left x.bytes more.0 x.read more.2;
-  came = more.3;
-  written = x.written;
-}
-
--- whoever would answer has heard the part that may stand first
-part-heard : (P : Peer) (p : Part Lanes) → IsFirstPart p →
-    hears two_lanes (responding P) (Came p ∷ []) ≡ Goes_on (first_held P (p ∷ [])).end (first_held P (p ∷ [])).taken
-part-heard P p fits = ap (λ o. goes_unless o (Goes_on (first_held P (p ∷ [])).end (first_held P (p ∷ [])).taken)) fits
-
--- no part may stand behind it
-second-misplaced : (p q : Part Lanes) → IsFirstPart p → refusal (next (next First p) q) ≡ Some misplaced
-second-misplaced (Sum Y f) q fits = by (same_range Y whole) fits where
-  by : (b : Bool) → refusal {F = Lanes} (if b then placed {F = Lanes} [] else Refused misplaced) ≡ None →
-      refusal {F = Lanes} (next {F = Lanes} (if b then placed {F = Lanes} [] else Refused misplaced) q) ≡ Some misplaced
-  by true is = refl
-  by false is = absurd cc
-second-misplaced (Listing Y items) q fits = absurd cc
-second-misplaced (Answer Y marks items) q fits = absurd cc
-
-pub second-refused : (P : Peer) (p q : Part Lanes) → IsFirstPart p →
-    hear_now two_lanes (first_held P (p ∷ [])).end (first_held P (p ∷ [])).taken (Came q) ≡ Refused_for misplaced
-second-refused P p q fits =
-    let h = first_held P (p ∷ []) in
-    ap (λ o. goes_unless o (Goes_on h.end (taken two_lanes h.end h.taken q))) (second-misplaced p q fits)
-
-pub part-stops : (input : Seen) (b : InboxState) (bytes : List ℕ) (es : List (Event Lanes))
-    (r : Result (Part Lanes) Stop) (stop : Stop) →
-    r ≡ Err stop → StopsAt input bytes es stop → FirstCame input b bytes es r
-part-stops input b bytes es r stop is stopped = subst (FirstCame input b bytes es) (sym is) (inl stopped)
-
-pub part-came : (input : Seen) (b : InboxState) (bytes : List ℕ) (es : List (Event Lanes)) (e : Event Lanes)
-    (r : Result (Part Lanes) Stop) →
-    IfOk r (λ p. (e ≡ Came p) × IsFirstPart p) →
-    IfErr r (λ stop. (P : Peer) → Refuses (first_held P []) e stop) → HasRead b bytes (es ++ e ∷ []) →
-    FirstCame input b bytes es r
-part-came input b bytes es e (Ok p) came refused has = (came.1, subst (λ x. HasRead b bytes (es ++ x ∷ [])) came.0 has)
-part-came input b bytes es e (Err stop) came refused has = inr (record { event = e; came = has; refuses = refused })
-
-pub end-stops-first : (p : Part Lanes) (input : Seen) (b : InboxState) (bytes : List ℕ) (es : List (Event Lanes))
-    (r : Result (Unit {0}) Stop) (stop : Stop) →
-    r ≡ Err stop → StopsAt input bytes es stop → EndCame p input b bytes es r
-end-stops-first p input b bytes es r stop is stopped = subst (EndCame p input b bytes es) (sym is) (inl stopped)
-
-pub end-came : (p : Part Lanes) (input : Seen) (b : InboxState) (bytes : List ℕ) (es : List (Event Lanes))
-    (e : Event Lanes) (r : Result (Unit {0}) Stop) →
-    IsFirstPart p → OnOk r (e ≡ Ended) →
-    IfErr r (λ stop. (P : Peer) (q : Part Lanes) → IsFirstPart q → Refuses (first_held P (q ∷ [])) e stop) →
-    HasRead b bytes (es ++ e ∷ []) → EndCame p input b bytes es r
-end-came p input b bytes es e (Ok x) fits came refused has = subst (λ y. HasRead b bytes (es ++ y ∷ [])) came has
-end-came p input b bytes es e (Err stop) fits came refused has =
-    inr (record { event = e; came = has; refuses = λ P. refused P p fits })
-
-stops-there : Laws →
-    (P : Peer) (M : Message Lanes) (b c : InboxState) (o : OutboxState) (t : Traffic) (left : Option (List ℕ))
-    (r : Seen) (broken : Bool) (stop : Stop) (es : List (Event Lanes)) →
-    says two_lanes (responding P) (messages_of [] es) ≡ [] →
-    hears two_lanes (responding P) es ≡ Goes_on (first_held P M).end (first_held P M).taken →
-    (x : Exchanged b o t es) →
-    ((bytes : List ℕ) × IsBytes bytes × Consumes t.left left bytes × StopsFirst M r c (x.bytes ++ bytes) es stop) →
-    Stopped IsNone (responding P) o (traffic t.unread left t.held t.holds) r broken stop
-stops-there laws P M b c o t left r broken stop es quiet heard x more = by more.3 where
-  bytes : List ℕ
-  bytes = x.bytes ++ more.0
-
-  are : IsBytes bytes
-  are = All-append (λ y. y < 256) x.bytes more.0 x.are_bytes more.1
-
-  read : Consumes t.unread left bytes
-  read = Consumes-trans t.unread t.left left x.bytes more.0 x.read more.2
-
-  wrote : HasWritten o t.held t.holds (says two_lanes (responding P) (messages_of [] es))
-  wrote = subst (HasWritten o t.held t.holds) (sym quiet) x.written
-
-  by : StopsFirst M r c bytes es stop →
-      Stopped IsNone (responding P) o (traffic t.unread left t.held t.holds) r broken stop
-  by (inl stopped) = stops-unheard IsNone laws (responding P) (first_held P M) o
-      (traffic t.unread left t.held t.holds) r broken stop bytes es refl are read wrote heard stopped
-  by (inr there) =
-      let behind = all-events c bytes (es ++ there.event ∷ []) there.came in
-      stops-refusing IsNone laws (responding P) (first_held P M) o o
-      (traffic t.unread left t.held t.holds) t.holds r broken there.event stop refl
-      (record {
-        bytes = bytes;
-        are_bytes = are;
-        read = read;
-        es = es;
-        rest = behind.0;
-        all = behind.1;
-        written = wrote;
-        heard = heard;
-      }) (there.refuses P) (adds-none o t.holds)
-
--- its first part does not come, or may not
-pub stops-partless : Laws →
-    (P : Peer) (b c : InboxState) (o : OutboxState) (t : Traffic) (left : Option (List ℕ)) (r : Seen) (broken : Bool)
-    (stop : Stop) (x : Exchanged b o t []) →
-    ((bytes : List ℕ) × IsBytes bytes × Consumes t.left left bytes × StopsFirst [] r c (x.bytes ++ bytes) [] stop) →
-    Stopped IsNone (responding P) o (traffic t.unread left t.held t.holds) r broken stop
-stops-partless laws P b c o t left r broken stop x more =
-    stops-there laws P [] b c o t left r broken stop [] refl refl x more
-
--- its end does not come
-pub stops-endless : Laws →
-    (P : Peer) (p : Part Lanes) (b c : InboxState) (o : OutboxState) (t : Traffic) (left : Option (List ℕ))
-    (r : Seen) (broken : Bool) (stop : Stop) →
-    IsFirstPart p → (x : Exchanged b o t (Came p ∷ [])) →
-    ((bytes : List ℕ) × IsBytes bytes × Consumes t.left left bytes
-    × StopsFirst (p ∷ []) r c (x.bytes ++ bytes)
-    (Came p ∷ []) stop) → Stopped IsNone (responding P) o (traffic t.unread left t.held t.holds) r broken stop
-stops-endless laws P p b c o t left r broken stop fits x more =
-    stops-there laws P (p ∷ []) b c o t left r broken stop (Came p ∷ []) refl (part-heard P p fits) x more
 
 -- what is said of an error
 pub told : {X : Type 0} (r : Result X Stop) (stop : Stop) (Q : Stop → Type 0) → r ≡ Err stop → Q stop → IfErr r Q
@@ -208,168 +60,331 @@ told r stop Q is q = subst (λ a. IfErr a Q) (sym is) q
 pub untold : {X : Type 0} (r : Result X Stop) (stop : Stop) (Q : Stop → Type 0) → r ≡ Err stop → IfErr r Q → Q stop
 untold r stop Q is q = subst (λ a. IfErr a Q) is q
 
--- ---- behind the pin
+module _ {F : Type 0} (S : Summary F) (W : Profile F) where
+  -- ---- the hello
 
--- the hello was written, and no more: memory runs out, or the table of sessions refuses
-stops-behind : (T : ℕ → Type 0) (P : Peer) (b : InboxState) (o : OutboxState) (t : Traffic) (r : Seen) (broken : Bool)
-    (es : List (Event Lanes)) (stop : Stop) (x : Exchanged b o t es) →
-    (WroteUpTo (responding P) o t x.bytes → WhyStopped T (responding P) o t r broken x.bytes stop) →
-    Stopped T (responding P) o t r broken stop
-stops-behind T P b o t r broken es stop x why = record {
-  bytes = x.bytes;
-  are_bytes = x.are_bytes;
-  read = x.read;
-  why = why (inl (wrote-first (responding P) o t x.bytes [] _ refl x.written));
-}
+  -- a hello was read, and the own one written
+  pub greeted : (front : List ℕ) (unread w x : Option (List ℕ)) (b : InboxState) (o p : OutboxState) →
+      o ≡ outbox_state false 0 → p ≡ outbox_state true o.sent → Appends w x (hello_due W o) →
+      IsBytes front → HasRead W b front [] → Exchanged W b p (traffic_behind front unread unread w x) []
+  greeted front unread w x b o p new now written fits came = record {
+    bytes = front;
+    are_bytes = fits;
+    read = takes-front front unread;
+    came = came;
+    written = record {
+      greeted = ap (λ y. y.greeted) now;
+      count = ap (λ y. y.sent) now ∙ ap (λ y. y.sent) new;
+      written = subst (Appends w x) (ap (hello_due W) new ∙ sym (append-nil W.hello)) written;
+    };
+  }
 
-pub stops-poor : (P : Peer) (b : InboxState) (o : OutboxState) (t : Traffic) (r : Seen) (broken : Bool)
-    (es : List (Event Lanes)) →
-    Exchanged b o t es → Stopped IsOfTheTable (responding P) o t r broken stops.Memory
-stops-poor P b o t r broken es x = stops-behind IsOfTheTable P b o t r broken es stops.Memory x (λ wrote. wrote)
+  -- it is another, or memory runs out behind it
+  pub stops-ungreeted : Laws S W →
+      (P : Peer) (o : OutboxState) (front : List ℕ) (unread held : Option (List ℕ)) (r : Seen) (broken : Bool)
+      (stop : Stop) → o ≡ outbox_state false 0 → IsBytes front → StopsAt W r front [] stop →
+      Stopped S W IsNone (responding P) o (traffic_behind front unread unread held held) r broken stop
+  stops-ungreeted laws P o front unread held r broken stop new fits stopped =
+      stops-unheard-by S W IsNone laws (responding P) (first_held S P []) o
+      (traffic_behind front unread unread held held) r broken stop front [] refl fits (takes-front front unread)
+      (ap (λ x. x.sent) new) (λ rest all. inr
+      (record { greeted = ap (λ x. x.greeted) new; none = ap (λ x. x.sent) new; written = Appends-nil held })) refl
+      stopped
 
-pub stops-unlisted : (P : Peer) (b : InboxState) (o : OutboxState) (t : Traffic) (r : Seen) (broken : Bool)
-    (es : List (Event Lanes))
-    (code : ℕ) →
-    Exchanged b o t es → IsOfTheTable code →
-    Stopped IsOfTheTable (responding P) o t r broken (stops.Refused code)
-stops-unlisted P b o t r broken es code x table =
-    stops-behind IsOfTheTable P b o t r broken es (stops.Refused code) x (λ wrote. (wrote, inr table))
+  -- ---- the first message
 
--- the part waits for the end that was made
-abbrev pub at-part : (P : Peer) (steps : List ℕ) (h : Held) (b : InboxState) (o : OutboxState) (t : Traffic)
-    (p : Part Lanes) →
-    h ≡ fresh steps (responder P) →
-    Exchanged b o t (Came p ∷ Ended ∷ []) → At (responding P) h o t (Came p)
-at-part P steps h b o t p new x =
-    let behind = all-events b x.bytes (Came p ∷ Ended ∷ []) x.came in
-    record {
-      bytes = x.bytes;
-      are_bytes = x.are_bytes;
-      read = x.read;
-      es = [];
-      rest = Ended ∷ behind.0;
-      all = behind.1;
-      written = x.written;
-      heard = sym (ap (λ y. Goes_on y.end y.taken) new);
-    }
+  pub reads-on : (t : Traffic) (left : Option (List ℕ)) (b c : InboxState) (o : OutboxState) (es fs : List (Event F))
+      (x : Exchanged W b o t es) →
+      More S W t.left left c x.bytes fs →
+      Exchanged W c o (traffic_of t.unread left t.held t.holds) fs
+  reads-on t left b c o es fs x more = record {
+    bytes = x.bytes ++ more.0;
+    are_bytes = All-append (λ y. y < 256) x.bytes more.0 x.are_bytes more.1;
+    read = takes-on t.unread t.left left x.bytes more.0 x.read more.2;
+    came = more.3;
+    written = x.written;
+  }
 
--- it was heard, and the end of the message waits
-abbrev pub at-end : (P : Peer) (steps : List ℕ) (h g : Held) (b : InboxState) (o : OutboxState) (t : Traffic)
-    (p : Part Lanes) →
-    h ≡ fresh steps (responder P) →
-    heard_as g ≡ hear_now two_lanes h.end h.taken (Came p) → g.end ≡ h.end → Exchanged b o t (Came p ∷ Ended ∷ []) →
-    At (responding P) g o t Ended
-at-end P steps h g b o t p new now same x =
-    let behind = all-events b x.bytes (Came p ∷ Ended ∷ []) x.came in
-    let live : is_over g.end.stage ≡ false = ap (λ e. is_over e.stage) same ∙ ap (λ y. is_over y.end.stage) new in
-    record {
-      bytes = x.bytes;
-      are_bytes = x.are_bytes;
-      read = x.read;
-      es = Came p ∷ [];
-      rest = behind.0;
-      all = behind.1;
-      written = x.written;
-      heard = sym (ap (λ y. hear_now two_lanes y.end y.taken (Came p)) new) ∙ sym now ∙ heard-goes g live;
-    }
+  -- whoever would answer has heard the part that may stand first
+  part-heard : (P : Peer) (p : Part F) → IsFirstPart p →
+      hears S (responding P) (Came p ∷ []) ≡ Goes_on (first_held S P (p ∷ [])).end (first_held S P (p ∷ [])).taken
+  part-heard P p fits = ap (λ o. goes_unless o (Goes_on (first_held S P (p ∷ [])).end (first_held S P (p ∷ [])).taken))
+      fits
 
-pub answers-first : Laws →
-    (P : Peer) (steps : List ℕ) (h g k : Held) (b : InboxState) (o q : OutboxState) (t : Traffic)
-    (holds : Option (List ℕ)) (p : Part Lanes) →
-    h ≡ fresh steps (responder P) →
-    heard_as g ≡ hear_now two_lanes h.end h.taken (Came p) → g.end ≡ h.end →
-    (x : Exchanged b o t (Came p ∷ Ended ∷ [])) →
-    heard_as k ≡ hear_now two_lanes g.end g.taken Ended → Adds o q t.holds holds (said_by g Ended) →
-    Underway (responding P) k b q (traffic t.unread t.left t.held holds)
-answers-first laws P steps h g k b o q t holds p new now same x next added =
-    goes-on laws (responding P) g k b o q t holds Ended refl
-    (at-end P steps h g b o t p new now same x) x.came next added
+  -- no part may stand behind it
+  second-misplaced : (p q : Part F) → IsFirstPart p → refusal (next (next First p) q) ≡ Some misplaced
+  second-misplaced (Sum Y f) q fits = by (same_range Y whole) fits where
+    by : (b : Bool) → refusal {F = F} (if b then placed {F = F} [] else Refused misplaced) ≡ None →
+        refusal {F = F} (next {F = F} (if b then placed {F = F} [] else Refused misplaced) q) ≡ Some misplaced
+    by true is = refl
+    by false is = absurd cc
+  second-misplaced (Listing Y items) q fits = absurd cc
+  second-misplaced (Answer Y marks items) q fits = absurd cc
 
--- a responder that was just made
-pub responds : (h : Held) (steps : List ℕ) (table : Table) (store pinned : List Item) →
-    h ≡ fresh steps (responder (record { table = table; items = store })) → store ≡ pinned →
-    (h ≡ fresh steps (responder (record { table = table; items = pinned })))
-    × (most_sent 1 h ≡ rank_by steps (length pinned) + 1)
-responds h steps table store pinned is same = (
-  is ∙ ap (λ (i : List Item). fresh steps (responder (record { table = table; items = i }))) same,
-  ap (most_sent 1) is ∙ ap (λ (i : List Item). rank_by steps (length i) + 1) same,
-)
+  pub second-refused : (P : Peer) (p q : Part F) → IsFirstPart p →
+      hear_now S (first_held S P (p ∷ [])).end (first_held S P (p ∷ [])).taken (Came q) ≡ Refused_for misplaced
+  second-refused P p q fits =
+      let h = first_held S P (p ∷ []) in
+      ap (λ o. goes_unless o (Goes_on h.end (taken S h.end h.taken q))) (second-misplaced p q fits)
 
--- ---- all that is said of it
+  pub part-stops : (input : Seen) (b : InboxState) (bytes : List ℕ) (es : List (Event F))
+      (r : Result (Part F) Stop) (stop : Stop) →
+      r ≡ Err stop → StopsAt W input bytes es stop → FirstCame S W input b bytes es r
+  part-stops input b bytes es r stop is stopped = subst (FirstCame S W input b bytes es) (sym is) (inl stopped)
 
--- the writer failed behind what was read, before the hello was written
-pub stops-broken-behind : (T : ℕ → Type 0) (P : Peer) (b : InboxState) (o p : OutboxState)
-    (unread left held holds : Option (List ℕ)) (r : Seen) (broken : Bool) (es : List (Event Lanes)) →
-    o ≡ outbox_state false 0 → p ≡ o → IsTrue broken → BreaksIn held holds (hello_due o) → More unread left b [] es →
-    Stopped T (responding P) p (traffic unread left held holds) r broken (stops.Io sides.Write)
-stops-broken-behind T P b o p unread left held holds r broken es new same failed front read = record {
-  bytes = read.0;
-  are_bytes = read.1;
-  read = read.2;
-  why =
-      let t = traffic unread left held holds in
-      let part = subst (λ x. BreaksIn held holds (hello_due x)) new front in
-      (breaks-in-hello (responding P) p t read.0 (ap (λ x. x.sent) (same ∙ new)) part, failed);
-}
+  pub part-came : (input : Seen) (b : InboxState) (bytes : List ℕ) (es : List (Event F)) (e : Event F)
+      (r : Result (Part F) Stop) →
+      IfOk r (λ p. (e ≡ Came p) × IsFirstPart p) →
+      IfErr r (λ stop. (P : Peer) → Refuses S (first_held S P []) e stop) → HasRead W b bytes (es ++ e ∷ []) →
+      FirstCame S W input b bytes es r
+  part-came input b bytes es e (Ok p) came refused has = (
+    came.1,
+    subst (λ x. HasRead W b bytes (es ++ x ∷ [])) came.0
+        has,
+  )
+  part-came input b bytes es e (Err stop) came refused has = inr (record { event = e; came = has; refuses = refused })
 
--- a session that stopped before it said anything
-pub speaks-stopped : (P : Peer) (version bound : ℕ) (x : OutboxState) (t : Traffic) (holds : Option (List ℕ))
-    (r w : Seen) (broken : Bool) (stop : Stop) (o : Outcome) →
-    x.sent ≡ 0 →
-    Stopped IsOfTheTable (responding P) x t r broken stop → Leaves x t.holds holds broken w.failed stop →
-    o ≡ outcome_of x.sent stop → Spoke (responding P) version bound (traffic t.unread t.left t.held holds) r w o
-speaks-stopped P version bound x t holds r w broken stop o none stopped leaves is =
-    let few : x.sent ≤ bound = omega (arith, none) in
-    subst (λ y. Spoke (responding P) version bound (traffic t.unread t.left t.held holds) r w y) (sym is)
-    (stopped-speaks (responding P) version bound x t holds r w broken stop stopped leaves few)
+  pub end-stops-first : (p : Part F) (input : Seen) (b : InboxState) (bytes : List ℕ) (es : List (Event F))
+      (r : Result (Unit {0}) Stop) (stop : Stop) →
+      r ≡ Err stop → StopsAt W input bytes es stop → EndCame S W p input b bytes es r
+  end-stops-first p input b bytes es r stop is stopped = subst (EndCame S W p input b bytes es) (sym is) (inl stopped)
 
--- it was not opened
-pub unopened : (x : OutboxState) (t : Traffic) (holds : Option (List ℕ)) (r w : Seen) (broken : Bool) (stop : Stop)
-    (o : Outcome) →
-    x.sent ≡ 0 →
-    ((P : Peer) → Stopped IsNone (responding P) x t r broken stop) → Leaves x t.holds holds broken w.failed stop →
-    o ≡ outcome_of x.sent stop → Unopened (traffic t.unread t.left t.held holds) r w o
-unopened x t holds r w broken stop o none stopped leaves is =
-    subst (λ y. Unopened (traffic t.unread t.left t.held holds) r w y) (sym is) (record {
-      none = by stop;
-      anyone = λ P version. stopped-unopened (responding P) version x t holds r w broken stop (stopped P) leaves;
-    }) where
-      by : (stop : Stop) → sent_in (outcome_of x.sent stop) ≡ 0
-      by (stops.Refused code) = none
-      by (stops.PeerRefused code) = none
-      by stops.Memory = none
-      by (stops.Io side) = none
+  pub end-came : (p : Part F) (input : Seen) (b : InboxState) (bytes : List ℕ) (es : List (Event F))
+      (e : Event F) (r : Result (Unit {0}) Stop) →
+      IsFirstPart p → OnOk r (e ≡ Ended) →
+      IfErr r (λ stop. (P : Peer) (q : Part F) → IsFirstPart q → Refuses S (first_held S P (q ∷ [])) e stop) →
+      HasRead W b bytes (es ++ e ∷ []) → EndCame S W p input b bytes es r
+  end-came p input b bytes es e (Ok x) fits came refused has = subst (λ y. HasRead W b bytes (es ++ y ∷ [])) came has
+  end-came p input b bytes es e (Err stop) fits came refused has =
+      inr (record { event = e; came = has; refuses = λ P. refused P p fits })
 
--- what the side that is spoken to first keeps to
-abbrev pub SecondIsModest : Checked → Type 0
-SecondIsModest a = (h : History) (bytes : List ℕ) → IsBytes bytes → length (content h) ≤ a.table.cap →
-    IsModest (responding (peer_of a (content h))) bytes (rank_by a.steps (length (content h)) + 1) a.table.limit
+  stops-there : Laws S W →
+      (P : Peer) (M : Message F) (b c : InboxState) (o : OutboxState) (t : Traffic) (left : Option (List ℕ))
+      (r : Seen) (broken : Bool) (stop : Stop) (es : List (Event F)) →
+      says S (responding P) (messages_of [] es) ≡ [] →
+      hears S (responding P) es ≡ Goes_on (first_held S P M).end (first_held S P M).taken →
+      (x : Exchanged W b o t es) →
+      ((bytes : List ℕ) × IsBytes bytes × Consumes t.left left bytes × StopsFirst S W M r c (x.bytes ++ bytes) es
+      stop) →
+      Stopped S W IsNone (responding P) o (traffic_of t.unread left t.held t.holds) r broken stop
+  stops-there laws P M b c o t left r broken stop es quiet heard x more = by more.3 where
+    bytes : List ℕ
+    bytes = x.bytes ++ more.0
 
-pub serves : (a b : Checked) (w : View) (pin : PinState) (t : Traffic) (r x : Seen) (o : Outcome) → IsPinOf pin w →
-    b ≡ a →
-    Spoke (responding (peer_of b pin.items)) pin.version (rank_by b.steps (length pin.items) + 1) t r x o →
-    SecondIsModest a →
-    Speaks (length (content w.base) ≤ a.table.cap) (responding (peer_at a w)) (length w.base)
-    (rank_by a.steps (length (peer_at a w).items) + 1) a.table.limit t r x o
-serves a b w pin t r x o is same spoke modest =
-    of-pin (length (content w.base) ≤ a.table.cap) (λ p. responding p) 1 a b w pin t r x o is same spoke (modest w.base)
+    are : IsBytes bytes
+    are = All-append (λ y. y < 256) x.bytes more.0 x.are_bytes more.1
 
--- a first message was handed out, and more was read or not
-pub came-first : FeedsJoin two_lane_profile →
-    (b : InboxState) (o : OutboxState) (unread left last held holds : Option (List ℕ)) (p : Part Lanes) →
-    IsFirstPart p → Exchanged b o (traffic unread left held holds) (Came p ∷ Ended ∷ []) → ReadOn left last →
-    CameFirst unread last
-came-first join b o unread left last held holds p fits x on =
-    let behind = all-events b x.bytes (Came p ∷ Ended ∷ []) x.came in
-    let first = feed two_lane_profile Before_hello x.bytes in
-    let rest = feed two_lane_profile first.to (first.kept ++ on.0) in
-    record {
-      bytes = x.bytes ++ on.0;
-      read = Consumes-trans unread left last x.bytes on.0 x.read on.2;
-      part = p;
-      first = fits;
-      later = messages_of [] (behind.0 ++ rest.events);
-      messages =
-          ap (λ f. messages_of [] f.events) (join Before_hello x.bytes on.0 x.are_bytes on.1)
-          ∙ ap (λ es. messages_of [] (es ++ rest.events)) behind.1;
-    }
+    read : Takes t.unread left bytes
+    read = takes-on t.unread t.left left x.bytes more.0 x.read more.2
+
+    wrote : HasWritten W o t.held t.holds (says S (responding P) (messages_of [] es))
+    wrote = subst (HasWritten W o t.held t.holds) (sym quiet) x.written
+
+    by : StopsFirst S W M r c bytes es stop →
+        Stopped S W IsNone (responding P) o (traffic_of t.unread left t.held t.holds) r broken stop
+    by (inl stopped) = stops-unheard S W IsNone laws (responding P) (first_held S P M) o
+        (traffic_of t.unread left t.held t.holds) r broken stop bytes es refl are read wrote heard stopped
+    by (inr there) =
+        let behind = all-events S W c bytes (es ++ there.event ∷ []) there.came in
+        stops-refusing S W IsNone laws (responding P) (first_held S P M) o o
+        (traffic_of t.unread left t.held t.holds) t.holds r broken there.event stop refl
+        (record {
+          bytes = bytes;
+          are_bytes = are;
+          read = read;
+          es = es;
+          rest = behind.0;
+          all = behind.1;
+          written = wrote;
+          heard = heard;
+        }) (there.refuses P) (adds-none S W o t.holds)
+
+  -- its first part does not come, or may not
+  pub stops-partless : Laws S W →
+      (P : Peer) (b c : InboxState) (o : OutboxState) (t : Traffic) (left : Option (List ℕ)) (r : Seen) (broken : Bool)
+      (stop : Stop) (x : Exchanged W b o t []) →
+      ((bytes : List ℕ) × IsBytes bytes × Consumes t.left left bytes × StopsFirst S W [] r c (x.bytes ++ bytes) []
+      stop) →
+      Stopped S W IsNone (responding P) o (traffic_of t.unread left t.held t.holds) r broken stop
+  stops-partless laws P b c o t left r broken stop x more =
+      stops-there laws P [] b c o t left r broken stop [] refl refl x more
+
+  -- its end does not come
+  pub stops-endless : Laws S W →
+      (P : Peer) (p : Part F) (b c : InboxState) (o : OutboxState) (t : Traffic) (left : Option (List ℕ))
+      (r : Seen) (broken : Bool) (stop : Stop) →
+      IsFirstPart p → (x : Exchanged W b o t (Came p ∷ [])) →
+      ((bytes : List ℕ) × IsBytes bytes × Consumes t.left left bytes
+      × StopsFirst S W (p ∷ []) r c (x.bytes ++ bytes)
+      (Came p ∷ []) stop) → Stopped S W IsNone (responding P) o (traffic_of t.unread left t.held t.holds) r broken stop
+  stops-endless laws P p b c o t left r broken stop fits x more =
+      stops-there laws P (p ∷ []) b c o t left r broken stop (Came p ∷ []) refl (part-heard P p fits) x more
+
+  -- ---- behind the pin
+
+  -- the hello was written, and no more: memory runs out, or the table of sessions refuses
+  stops-behind : (T : ℕ → Type 0) (P : Peer) (b : InboxState) (o : OutboxState) (t : Traffic) (r : Seen) (broken : Bool)
+      (es : List (Event F)) (stop : Stop) (x : Exchanged W b o t es) →
+      (WroteUpTo S W (responding P) o t x.bytes → WhyStopped S W T (responding P) o t r broken x.bytes stop) →
+      Stopped S W T (responding P) o t r broken stop
+  stops-behind T P b o t r broken es stop x why = record {
+    bytes = x.bytes;
+    are_bytes = x.are_bytes;
+    read = x.read;
+    why = why (inl (wrote-first S W (responding P) o t x.bytes [] _ refl x.written));
+  }
+
+  pub stops-poor : (P : Peer) (b : InboxState) (o : OutboxState) (t : Traffic) (r : Seen) (broken : Bool)
+      (es : List (Event F)) →
+      Exchanged W b o t es → Stopped S W IsOfTheTable (responding P) o t r broken stops.Memory
+  stops-poor P b o t r broken es x = stops-behind IsOfTheTable P b o t r broken es stops.Memory x (λ wrote. wrote)
+
+  pub stops-unlisted : (P : Peer) (b : InboxState) (o : OutboxState) (t : Traffic) (r : Seen) (broken : Bool)
+      (es : List (Event F))
+      (code : ℕ) →
+      Exchanged W b o t es → IsOfTheTable code →
+      Stopped S W IsOfTheTable (responding P) o t r broken (stops.Refused code)
+  stops-unlisted P b o t r broken es code x table =
+      stops-behind IsOfTheTable P b o t r broken es (stops.Refused code) x (λ wrote. (wrote, inr table))
+
+  -- the part waits for the end that was made
+  abbrev pub at-part : (P : Peer) (steps : List ℕ) (h : Held F) (b : InboxState) (o : OutboxState) (t : Traffic)
+      (p : Part F) →
+      h ≡ fresh steps (responder P) →
+      Exchanged W b o t (Came p ∷ Ended ∷ []) → At S W (responding P) h o t (Came p)
+  at-part P steps h b o t p new x =
+      let behind = all-events S W b x.bytes (Came p ∷ Ended ∷ []) x.came in
+      record {
+        bytes = x.bytes;
+        are_bytes = x.are_bytes;
+        read = x.read;
+        es = [];
+        rest = Ended ∷ behind.0;
+        all = behind.1;
+        written = x.written;
+        heard = sym (ap (λ y. Goes_on y.end y.taken) new);
+      }
+
+  -- it was heard, and the end of the message waits
+  abbrev pub at-end : (P : Peer) (steps : List ℕ) (h g : Held F) (b : InboxState) (o : OutboxState) (t : Traffic)
+      (p : Part F) →
+      h ≡ fresh steps (responder P) →
+      heard_as g ≡ hear_now S h.end h.taken (Came p) → g.end ≡ h.end → Exchanged W b o t (Came p ∷ Ended ∷ []) →
+      At S W (responding P) g o t Ended
+  at-end P steps h g b o t p new now same x =
+      let behind = all-events S W b x.bytes (Came p ∷ Ended ∷ []) x.came in
+      let live : is_over g.end.stage ≡ false = ap (λ e. is_over e.stage) same ∙ ap (λ y. is_over y.end.stage) new in
+      record {
+        bytes = x.bytes;
+        are_bytes = x.are_bytes;
+        read = x.read;
+        es = Came p ∷ [];
+        rest = behind.0;
+        all = behind.1;
+        written = x.written;
+        heard = sym (ap (λ y. hear_now S y.end y.taken (Came p)) new) ∙ sym now ∙ heard-goes S W g live;
+      }
+
+  pub answers-first : Laws S W →
+      (P : Peer) (steps : List ℕ) (h g k : Held F) (b : InboxState) (o q : OutboxState) (t : Traffic)
+      (holds : Option (List ℕ)) (p : Part F) →
+      h ≡ fresh steps (responder P) →
+      heard_as g ≡ hear_now S h.end h.taken (Came p) → g.end ≡ h.end →
+      (x : Exchanged W b o t (Came p ∷ Ended ∷ [])) →
+      heard_as k ≡ hear_now S g.end g.taken Ended → Adds W o q t.holds holds (said_by g Ended) →
+      Underway S W (responding P) k b q (traffic_of t.unread t.left t.held holds)
+  answers-first laws P steps h g k b o q t holds p new now same x next added =
+      goes-on S W laws (responding P) g k b o q t holds Ended refl
+      (at-end P steps h g b o t p new now same x) x.came next added
+
+  -- a responder that was just made
+  pub responds : (h : Held F) (steps : List ℕ) (table : Table) (store pinned : List Item) →
+      h ≡ fresh steps (responder (record { table = table; items = store })) → store ≡ pinned →
+      (h ≡ fresh steps (responder (record { table = table; items = pinned })))
+      × (most_sent 1 h ≡ rank_by steps (length pinned) + 1)
+  responds h steps table store pinned is same = (
+    is ∙ ap (λ (i : List Item). fresh steps (responder (record { table = table; items = i }))) same,
+    ap (most_sent 1) is ∙ ap (λ (i : List Item). rank_by steps (length i) + 1) same,
+  )
+
+  -- ---- all that is said of it
+
+  -- the writer failed behind the hello that was read, before the own one was written
+  pub stops-broken-behind : (T : ℕ → Type 0) (P : Peer) (o p : OutboxState) (front : List ℕ)
+      (unread held holds : Option (List ℕ)) (r : Seen) (broken : Bool) →
+      o ≡ outbox_state false 0 → p ≡ o → IsTrue broken → BreaksIn held holds (hello_due W o) → IsBytes front →
+      Stopped S W T (responding P) p (traffic_behind front unread unread held holds) r broken (stops.Io sides.Write)
+  stops-broken-behind T P o p front unread held holds r broken new same failed begins fits = record {
+    bytes = front;
+    are_bytes = fits;
+    read = takes-front front unread;
+    why =
+        let t = traffic_behind front unread unread held holds in
+        let part = subst (λ x. BreaksIn held holds (hello_due W x)) new begins in
+        (breaks-in-hello S W (responding P) p t front (ap (λ x. x.sent) (same ∙ new)) part, failed);
+  }
+
+  -- a session that stopped before it said anything
+  pub speaks-stopped : (P : Peer) (version bound : ℕ) (x : OutboxState) (t : Traffic) (holds : Option (List ℕ))
+      (r w : Seen) (broken : Bool) (stop : Stop) (o : Outcome) →
+      x.sent ≡ 0 →
+      Stopped S W IsOfTheTable (responding P) x t r broken stop → Leaves W x t.holds holds broken w.failed stop →
+      o ≡ outcome_of x.sent stop → Spoke S W (responding P) version bound (traffic_of t.unread t.left t.held holds) r w
+      o
+  speaks-stopped P version bound x t holds r w broken stop o none stopped leaves is =
+      let few : x.sent ≤ bound = omega (arith, none) in
+      subst (λ y. Spoke S W (responding P) version bound (traffic_of t.unread t.left t.held holds) r w y) (sym is)
+      (stopped-speaks S W (responding P) version bound x t holds r w broken stop stopped leaves few)
+
+  -- it was not opened
+  pub unopened : (x : OutboxState) (t : Traffic) (holds : Option (List ℕ)) (r w : Seen) (broken : Bool) (stop : Stop)
+      (o : Outcome) →
+      x.sent ≡ 0 →
+      ((P : Peer) → Stopped S W IsNone (responding P) x t r broken stop) →
+      Leaves W x t.holds holds broken w.failed stop →
+      o ≡ outcome_of x.sent stop → Unopened S W (traffic_of t.unread t.left t.held holds) r w o
+  unopened x t holds r w broken stop o none stopped leaves is =
+      subst (λ y. Unopened S W (traffic_of t.unread t.left t.held holds) r w y) (sym is) (record {
+        none = by stop;
+        anyone = λ P version. stopped-unopened S W (responding P) version x t holds r w broken stop (stopped P) leaves;
+      }) where
+        by : (stop : Stop) → sent_in (outcome_of x.sent stop) ≡ 0
+        by (stops.Refused code) = none
+        by (stops.PeerRefused code) = none
+        by stops.Memory = none
+        by (stops.Io side) = none
+
+  -- what the side that is spoken to first keeps to
+  abbrev pub SecondIsModest : Checked → Type 0
+  SecondIsModest a = (h : History) (bytes : List ℕ) → IsBytes bytes → length (content h) ≤ a.table.cap →
+      IsModest S W (responding (peer_of a (content h))) bytes (rank_by a.steps (length (content h)) + 1) a.table.limit
+
+  pub serves : (a b : Checked) (w : View) (pin : PinState) (t : Traffic) (r x : Seen) (o : Outcome) → IsPinOf pin w →
+      b ≡ a →
+      Spoke S W (responding (peer_of b pin.items)) pin.version (rank_by b.steps (length pin.items) + 1) t r x o →
+      SecondIsModest a →
+      Speaks S W (length (content w.base) ≤ a.table.cap) (responding (peer_at a w)) (length w.base)
+      (rank_by a.steps (length (peer_at a w).items) + 1) a.table.limit t r x o
+  serves a b w pin t r x o is same spoke modest =
+      of-pin S W (length (content w.base) ≤ a.table.cap) (λ p. responding p) 1 a b w pin t r x o is same spoke
+      (modest w.base)
+
+  -- a first message was handed out, and more was read or not
+  pub came-first : FeedsJoin W →
+      (b : InboxState) (o : OutboxState) (unread : Origin) (left last held holds : Option (List ℕ)) (p : Part F) →
+      IsFirstPart p → Exchanged W b o (traffic_of unread left held holds) (Came p ∷ Ended ∷ []) → ReadOn left last →
+      CameFirst W unread last
+  came-first join b o unread left last held holds p fits x on =
+      let behind = all-events S W b x.bytes (Came p ∷ Ended ∷ []) x.came in
+      let first = feed W Before_hello x.bytes in
+      let rest = feed W first.to (first.kept ++ on.0) in
+      record {
+        bytes = x.bytes ++ on.0;
+        read = takes-on unread left last x.bytes on.0 x.read on.2;
+        part = p;
+        first = fits;
+        later = messages_of [] (behind.0 ++ rest.events);
+        messages =
+            ap (λ f. messages_of [] f.events) (join Before_hello x.bytes on.0 x.are_bytes on.1)
+            ∙ ap (λ es. messages_of [] (es ++ rest.events)) behind.1;
+      }

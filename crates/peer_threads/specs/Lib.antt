@@ -19,8 +19,10 @@ pub use Rattle.ends_core.specs.Held
 pub use Rattle.ends_core.specs.Turns
 pub mod Faults
 pub mod Outcomes
+pub mod Choices
 pub mod Stops
 pub mod Inboxes
+pub mod Hellos
 pub mod Outboxes
 pub mod Underway
 pub mod Workers

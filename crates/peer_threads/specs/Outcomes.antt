@@ -1,5 +1,8 @@
 -- What an outcome says of the bytes that a session read and wrote.
---     Traffic                  what a reader has left and a writer holds, before and after
+--     Origin                   where the bytes that were read come from
+--     Takes o left bytes       these bytes were read of it, so that this is left
+--     Traffic                  what was to be read and is left, and what a writer held and holds
+--     traffic, traffic_behind  the same of a reader, and behind bytes that were read before
 --     seen failed ended        what is seen of a watched reader or writer
 --     said_to s bytes          all that a side says to these bytes
 --     called_by s bytes        all that these bytes call for: a reply that is too long to be said, too
@@ -12,19 +15,19 @@
 --     failing side                             what failed, as the accounts have it
 --     Bears s version t r w bytes o      what the outcome o says
 --     IsModest s bytes bound limit       few own messages, short lists, and knowledge as told, whatever was read
---     Speaks F s version bound limit t r w o     all of it, of the bytes that were read, modest where F holds
+--     Speaks fits s version bound limit t r w o  all of it, of the bytes that were read, modest where it fits
 --     Unopened t r w o         what an outcome says where no history was looked at
 --     CameFirst unread left    what was read begins with a message that may stand first
-use Rattle.std.specs.Prelude.{◌≡◌, ℕ, ◌≤◌, Bool, List, [], ◌∷◌, Option, Some, None, length, IsTrue, ⊤}
+use Rattle.std.specs.Prelude.{◌≡◌, ℕ, ◌≤◌, Bool, List, [], ◌∷◌, ◌++◌, Option, Some, None, length, IsTrue, ⊤}
 use Rattle.std.specs.List.{AllByRecursion}
 use Rattle.std.specs.Io.KnownBytes.{Appends, Consumes}
-use Rattle.definitions.specs.Fingerprints.{Lanes, two_lanes}
+use Rattle.definitions.specs.Fingerprints.{Summary}
 use Rattle.definitions.specs.Items.{Item}
 use Rattle.definitions.specs.Messages.{Part, Message}
 use Rattle.definitions.specs.Placing.{First, next, refusal}
 use Rattle.definitions.specs.Replies.{Peer}
 use Rattle.definitions.specs.Histories.{content}
-use Rattle.definitions.specs.Wire.{two_lane_profile}
+use Rattle.definitions.specs.Wire.{Profile}
 use Rattle.definitions.specs.Talks.{Knowledge, knows}
 use Rattle.definitions.specs.Ends.{End, Stage, Fresh, Waits, Over, Spent, is_over}
 use Rattle.definitions.specs.Engines.{Speaker, says, session, own, takes, messages_in, fault_frame, text, responding}
@@ -40,26 +43,32 @@ use Rattle.peer_threads.specs.declared.outcome.Outcome.TheVariants.{Ended, Refus
 use Rattle.peer_threads.specs.declared.outcome.Side.{Side}
 use Rattle.peer_threads.specs.declared.outcome.Side.TheVariants as sides
 
+-- a reader that has these bytes left; or bytes that were read before, and then such a reader
+pub data Origin : Type 0 where
+  Reader : (unread : Option (List ℕ)) → Origin
+  Behind : (front : List ℕ) → (unread : Option (List ℕ)) → Origin
+
+abbrev pub Takes : Origin → Option (List ℕ) → List ℕ → Type 0
+Takes (Reader unread) left bytes = Consumes unread left bytes
+Takes (Behind front unread) left bytes = (rest : List ℕ) × (bytes ≡ front ++ rest) × Consumes unread left rest
+
 pub record Traffic : Type 0 where
-  pub unread : Option (List ℕ)
+  pub unread : Origin
   pub left : Option (List ℕ)
   pub held : Option (List ℕ)
   pub holds : Option (List ℕ)
 
+abbrev pub traffic_of : Origin → Option (List ℕ) → Option (List ℕ) → Option (List ℕ) → Traffic
+traffic_of unread left held holds = record { unread = unread; left = left; held = held; holds = holds }
+
 abbrev pub traffic : Option (List ℕ) → Option (List ℕ) → Option (List ℕ) → Option (List ℕ) → Traffic
-traffic unread left held holds = record { unread = unread; left = left; held = held; holds = holds }
+traffic unread left held holds = traffic_of (Reader unread) left held holds
+
+abbrev pub traffic_behind : List ℕ → Option (List ℕ) → Option (List ℕ) → Option (List ℕ) → Option (List ℕ) → Traffic
+traffic_behind front unread left held holds = traffic_of (Behind front unread) left held holds
 
 abbrev pub seen : Bool → Bool → Seen
 seen failed ended = record { failed = failed; ended = ended }
-
-abbrev pub said_to : Speaker Lanes → List ℕ → List (Message Lanes)
-said_to s bytes = says two_lanes s (messages_in two_lane_profile bytes)
-
-abbrev pub called_by : Speaker Lanes → List ℕ → List (Message Lanes)
-called_by s bytes = own two_lanes s (messages_in two_lane_profile bytes)
-
-abbrev pub session_at : Speaker Lanes → List ℕ → End Lanes
-session_at s bytes = session two_lanes s (messages_in two_lane_profile bytes)
 
 abbrev pub peer_of : Checked → List Item → Peer
 peer_of a items = record { table = a.table; items = items }
@@ -82,12 +91,7 @@ kind_of (PeerRefused code sent) = kinds.Refused
 kind_of (Io side sent) = kinds.Io
 kind_of (Memory sent) = kinds.Memory
 
--- the side has written all that it says to these bytes: so many messages, behind its hello
-pub record SaidAll (s : Speaker Lanes) (t : Traffic) (bytes : List ℕ) (sent : ℕ) : Type 0 where
-  pub written : Appends t.held t.holds (text two_lane_profile sent (said_to s bytes))
-  pub count : length (said_to s bytes) ≡ sent
-
-abbrev pub call_of : Speaker Lanes → ℕ → List ℕ → List ℕ → Seen → Seen → Call Lanes
+abbrev pub call_of : {F : Type 0} → Speaker F → ℕ → List ℕ → List ℕ → Seen → Seen → Call F
 call_of s version bytes written r w =
     record { speaker = s; version = version; read = bytes; written = written; reader = r; writer = w }
 
@@ -96,52 +100,12 @@ abbrev pub failing : Side → Failing
 failing sides.Read = Reading
 failing sides.Write = Writing
 
-abbrev pub Bears : Speaker Lanes → ℕ → Traffic → Seen → Seen → List ℕ → Outcome → Type 0
-Bears s version t r w bytes (Ended learned sent n) =
-    SaidAll s t bytes sent × IsTrue (is_over (session_at s bytes).stage) × (learned ≡ (session_at s bytes).learned)
-Bears s version t r w bytes (PeerRefused code sent) =
-    SaidAll s t bytes sent × (fault_frame two_lane_profile bytes ≡ Some code)
-    × (hearing_to two_lanes two_lane_profile s r.ended bytes ≡ Peer_refused code)
-Bears s version t r w bytes (Refused code sent) =
-    (written : List ℕ) × Appends t.held t.holds written
-    × IsRefused two_lanes two_lane_profile (call_of s version bytes written r w) sent code
-Bears s version t r w bytes (Io side sent) =
-    (written : List ℕ) × Appends t.held t.holds written
-    × IsIo two_lanes two_lane_profile (call_of s version bytes written r w) sent (failing side)
-Bears s version t r w bytes (Memory sent) =
-    (written : List ℕ) × Appends t.held t.holds written
-    × IsMemory two_lanes two_lane_profile (call_of s version bytes written r w) sent
-
 -- the own messages that the messages taken answer, one each: the first that a responder takes answers none
-abbrev pub answered : Stage Lanes → List (Message Lanes) → List (Message Lanes)
+abbrev pub answered : {F : Type 0} → Stage F → List (Message F) → List (Message F)
 answered Fresh own = [] ∷ own
 answered (Waits first) own = own
 answered Over own = own
 answered Spent own = own
-
--- what a side learns from the messages that it takes, each beside the own message that it answers
-abbrev pub known_at : Speaker Lanes → List ℕ → Knowledge
-known_at s bytes =
-    knows s.start.peer.items (answered s.start.stage (said_to s bytes))
-    (takes two_lanes s.start (messages_in two_lane_profile bytes))
-
--- whatever the bytes are, there are few own messages, no list in them is longer than the limit, and once the session is
--- over the side has learned just what the messages that it took say; this holds of what is called for, too
-pub record IsModest (s : Speaker Lanes) (bytes : List ℕ) (bound limit : ℕ) : Type 0 where
-  pub few : length (said_to s bytes) ≤ bound
-  pub few_called : length (called_by s bytes) ≤ bound
-  pub short : AllByRecursion (AllByRecursion (IsShort limit)) (said_to s bytes)
-  pub short_called : AllByRecursion (AllByRecursion (IsShort limit)) (called_by s bytes)
-  pub learned : IsTrue (is_over (session_at s bytes).stage) → (session_at s bytes).learned ≡ known_at s bytes
-
--- the bytes that were read, and what the outcome says of them; the side is modest where its set is known to fit
-pub record Speaks (fits : Type 0) (s : Speaker Lanes) (version bound limit : ℕ) (t : Traffic) (r w : Seen)
-    (o : Outcome) : Type 0 where
-  pub bytes : List ℕ
-  pub read : Consumes t.unread t.left bytes
-  pub bears : Bears s version t r w bytes o
-  pub sent : sent_in o ≤ bound
-  pub modest : fits → IsModest s bytes bound limit
 
 -- the version of a session that ended
 abbrev pub HasVersion : Outcome → ℕ → Type 0
@@ -151,34 +115,91 @@ HasVersion (PeerRefused code sent) v = ⊤
 HasVersion (Io side sent) v = ⊤
 HasVersion (Memory sent) v = ⊤
 
--- ---- before a history is looked at
+module _ {F : Type 0} (S : Summary F) (W : Profile F) where
+  abbrev pub said_to : Speaker F → List ℕ → List (Message F)
+  said_to s bytes = says S s (messages_in W bytes)
 
--- it did not end, and where this side refused, that is for the first fault in the bytes: no table of sessions was asked
-abbrev pub BearsUnopened : Speaker Lanes → ℕ → Traffic → Seen → Seen → List ℕ → Outcome → Type 0
-BearsUnopened s version t r w bytes (Ended learned sent n) = ⊥
-BearsUnopened s version t r w bytes (PeerRefused code sent) = Bears s version t r w bytes (PeerRefused code sent)
-BearsUnopened s version t r w bytes (Refused code sent) =
-    (written : List ℕ) × Appends t.held t.holds written
-    × IsRefused two_lanes two_lane_profile (call_of s version bytes written r w) sent code
-    × IsFirstFault two_lanes two_lane_profile (call_of s version bytes written r w) sent code
-BearsUnopened s version t r w bytes (Io side sent) = Bears s version t r w bytes (Io side sent)
-BearsUnopened s version t r w bytes (Memory sent) = Bears s version t r w bytes (Memory sent)
+  abbrev pub called_by : Speaker F → List ℕ → List (Message F)
+  called_by s bytes = own S s (messages_in W bytes)
 
-pub record SpeaksUnopened (s : Speaker Lanes) (version : ℕ) (t : Traffic) (r w : Seen) (o : Outcome) : Type 0 where
-  pub bytes : List ℕ
-  pub read : Consumes t.unread t.left bytes
-  pub bears : BearsUnopened s version t r w bytes o
+  abbrev pub session_at : Speaker F → List ℕ → End F
+  session_at s bytes = session S s (messages_in W bytes)
 
--- no message was said, and what the outcome says holds of whoever would have answered
-pub record Unopened (t : Traffic) (r w : Seen) (o : Outcome) : Type 0 where
-  pub none : sent_in o ≡ 0
-  pub anyone : (p : Peer) (version : ℕ) → SpeaksUnopened (responding p) version t r w o
+  -- the side has written all that it says to these bytes: so many messages, behind its hello
+  pub record SaidAll (s : Speaker F) (t : Traffic) (bytes : List ℕ) (sent : ℕ) : Type 0 where
+    pub written : Appends t.held t.holds (text W sent (said_to s bytes))
+    pub count : length (said_to s bytes) ≡ sent
 
--- what was read begins with a message of one part, which may stand first
-pub record CameFirst (unread left : Option (List ℕ)) : Type 0 where
-  pub bytes : List ℕ
-  pub read : Consumes unread left bytes
-  pub part : Part Lanes
-  pub first : refusal (next First part) ≡ None
-  pub later : List (Message Lanes)
-  pub messages : messages_in two_lane_profile bytes ≡ (part ∷ []) ∷ later
+  abbrev pub Bears : Speaker F → ℕ → Traffic → Seen → Seen → List ℕ → Outcome → Type 0
+  Bears s version t r w bytes (Ended learned sent n) =
+      SaidAll s t bytes sent × IsTrue (is_over (session_at s bytes).stage) × (learned ≡ (session_at s bytes).learned)
+  Bears s version t r w bytes (PeerRefused code sent) =
+      SaidAll s t bytes sent × (fault_frame W bytes ≡ Some code)
+      × (hearing_to S W s r.ended bytes ≡ Peer_refused code)
+  Bears s version t r w bytes (Refused code sent) =
+      (written : List ℕ) × Appends t.held t.holds written
+      × IsRefused S W (call_of s version bytes written r w) sent code
+  Bears s version t r w bytes (Io side sent) =
+      (written : List ℕ) × Appends t.held t.holds written
+      × IsIo S W (call_of s version bytes written r w) sent (failing side)
+  Bears s version t r w bytes (Memory sent) =
+      (written : List ℕ) × Appends t.held t.holds written
+      × IsMemory S W (call_of s version bytes written r w) sent
+
+  -- what a side learns from the messages that it takes, each beside the own message that it answers
+  abbrev pub known_at : Speaker F → List ℕ → Knowledge
+  known_at s bytes =
+      knows s.start.peer.items (answered s.start.stage (said_to s bytes))
+      (takes S s.start (messages_in W bytes))
+
+  -- whatever the bytes are, there are few own messages, no list in them is longer than the limit, and once the session
+  -- is over the side has learned just what the messages that it took say; this holds of what is called for, too
+  pub record IsModest (s : Speaker F) (bytes : List ℕ) (bound limit : ℕ) : Type 0 where
+    pub few : length (said_to s bytes) ≤ bound
+    pub few_called : length (called_by s bytes) ≤ bound
+    pub short : AllByRecursion (AllByRecursion (IsShort limit)) (said_to s bytes)
+    pub short_called : AllByRecursion (AllByRecursion (IsShort limit)) (called_by s bytes)
+    pub learned : IsTrue (is_over (session_at s bytes).stage) → (session_at s bytes).learned ≡ known_at s bytes
+
+  -- the bytes that were read, and what the outcome says of them; the side is modest where its set is known to fit
+  pub record Speaks (fits : Type 0) (s : Speaker F) (version bound limit : ℕ) (t : Traffic) (r w : Seen)
+      (o : Outcome) : Type 0 where
+    pub bytes : List ℕ
+    pub read : Takes t.unread t.left bytes
+    pub bears : Bears s version t r w bytes o
+    pub sent : sent_in o ≤ bound
+    pub modest : fits → IsModest s bytes bound limit
+
+  -- ---- before a history is looked at
+
+  -- it did not end, and where this side refused, that is for the first fault in the bytes: no table of sessions was
+  -- asked
+  abbrev pub BearsUnopened : Speaker F → ℕ → Traffic → Seen → Seen → List ℕ → Outcome → Type 0
+  BearsUnopened s version t r w bytes (Ended learned sent n) = ⊥
+  BearsUnopened s version t r w bytes (PeerRefused code sent) = Bears s version t r w bytes (PeerRefused code sent)
+  BearsUnopened s version t r w bytes (Refused code sent) =
+      (written : List ℕ) × Appends t.held t.holds written
+      × IsRefused S W (call_of s version bytes written r w) sent code
+      × IsFirstFault S W (call_of s version bytes written r w) sent code
+  BearsUnopened s version t r w bytes (Io side sent) = Bears s version t r w bytes (Io side sent)
+  BearsUnopened s version t r w bytes (Memory sent) = Bears s version t r w bytes (Memory sent)
+
+  pub record SpeaksUnopened (s : Speaker F) (version : ℕ) (t : Traffic) (r w : Seen) (o : Outcome) : Type 0 where
+    pub bytes : List ℕ
+    pub read : Takes t.unread t.left bytes
+    pub bears : BearsUnopened s version t r w bytes o
+
+  -- no message was said, and what the outcome says holds of whoever would have answered
+  pub record Unopened (t : Traffic) (r w : Seen) (o : Outcome) : Type 0 where
+    pub none : sent_in o ≡ 0
+    pub anyone : (p : Peer) (version : ℕ) → SpeaksUnopened (responding p) version t r w o
+
+module _ {F : Type 0} (W : Profile F) where
+  -- what was read begins with a message of one part, which may stand first
+  pub record CameFirst (unread : Origin) (left : Option (List ℕ)) : Type 0 where
+    pub bytes : List ℕ
+    pub read : Takes unread left bytes
+    pub part : Part F
+    pub first : refusal (next First part) ≡ None
+    pub later : List (Message F)
+    pub messages : messages_in W bytes ≡ (part ∷ []) ∷ later

@@ -16,14 +16,14 @@
 --     Spoke s version bound t r w o  what an outcome says, of the bytes that were read
 use Rattle.std.specs.Prelude.{◌≡◌, ℕ, ◌+◌, ◌≤◌, ◌^◌, ◌⊎◌, Bool, false, List, [], ◌∷◌, ◌++◌, length, Option, Some, None}
 use Rattle.std.specs.Prelude.{Result, Ok, Err, IsTrue, IsFalse, if◌then◌else◌, slice_get, ⊤}
-use Rattle.std.specs.Io.KnownBytes.{Appends, Consumes, Keeps}
-use Rattle.definitions.specs.Fingerprints.{Lanes, two_lanes}
+use Rattle.std.specs.Io.KnownBytes.{Appends, Keeps}
+use Rattle.definitions.specs.Fingerprints.{Summary}
 use Rattle.definitions.specs.Items.{IsBytes}
 use Rattle.definitions.specs.Messages.{Part, Message}
 use Rattle.definitions.specs.Placing.{First, next, refusal}
 use Rattle.definitions.specs.Ranks.{rank_by}
 use Rattle.definitions.specs.Refusals.{no_memory, too_many_parts}
-use Rattle.definitions.specs.Wire.{two_lane_profile, message_text, Event, Came, Ended, Failed}
+use Rattle.definitions.specs.Wire.{Profile, message_text, Event, Came, Ended, Failed}
 use Rattle.definitions.specs.Streams.{messages_of}
 use Rattle.definitions.specs.Replies.{Peer}
 use Rattle.definitions.specs.Ends.{End, responder, is_over, is_sendable}
@@ -38,105 +38,69 @@ use Rattle.peer_threads.specs.declared.outcome.Side.{Side}
 use Rattle.peer_threads.specs.declared.outcome.Side.TheVariants as sides
 use Rattle.peer_threads.specs.declared.stop.Stop.{Stop}
 use Rattle.peer_threads.specs.declared.stop.Stop.TheVariants as stops
-use Rattle.peer_threads.specs.Outcomes.{Traffic, SaidAll, Bears, sent_in, call_of, called_by, session_at}
+use Rattle.peer_threads.specs.Outcomes.{Traffic, Takes, SaidAll, Bears, sent_in, call_of, called_by, session_at}
 use Rattle.peer_threads.specs.Inboxes.{InboxState, HasRead, StopsAt}
 use Rattle.peer_threads.specs.Outboxes.{OutboxState, HasWritten, Adds, BreaksIn, WroteSo, refusal_text}
 
-abbrev pub most_sent : ℕ → Held → ℕ
+abbrev pub most_sent : {F : Type 0} → ℕ → Held F → ℕ
 most_sent most h = rank_by h.steps (length h.end.peer.items) + most
 
-abbrev pub heard_as : Held → Hearing Lanes
+abbrev pub heard_as : {F : Type 0} → Held F → Hearing F
 heard_as h = if is_over h.end.stage then Over_at h.end else Goes_on h.end h.taken
-
-pub record Underway (s : Speaker Lanes) (h : Held) (b : InboxState) (o : OutboxState) (t : Traffic) : Type 0 where
-  pub events : List (Event Lanes)
-  pub bytes : List ℕ
-  pub are_bytes : IsBytes bytes
-  pub read : Consumes t.unread t.left bytes
-  pub came : HasRead b bytes events
-  pub written : HasWritten o t.held t.holds (says two_lanes s (messages_of [] events))
-  pub heard : hears two_lanes s events ≡ heard_as h
 
 -- ---- one event
 
-abbrev pub said_by : Held → Event Lanes → List (Message Lanes)
+abbrev pub said_by : {F : Type 0} → Held F → Event F → List (Message F)
 said_by h (Came p) = []
 said_by h Ended = replied (ended h.taken)
 said_by h (Failed code) = []
 
--- none of these messages was written, or each
-abbrev pub SomeOf : OutboxState → OutboxState → Option (List ℕ) → Option (List ℕ) → List (Message Lanes) → Type 0
-SomeOf o p held holds Ms = Adds o p held holds [] ⊎ Adds o p held holds Ms
-
--- of the one message a proper beginning was written
-pub record BreaksSaying (o p : OutboxState) (held holds : Option (List ℕ)) (Ms : List (Message Lanes)) : Type 0 where
-  pub same : p ≡ o
-  pub message : Message Lanes
-  pub one : Ms ≡ message ∷ []
-  pub front : BreaksIn held holds (message_text two_lane_profile message)
-
--- why a message is not said
-abbrev pub Unsaid : OutboxState → OutboxState → Option (List ℕ) → Option (List ℕ) → Bool → List (Message Lanes) → Stop →
-    Type 0
-Unsaid o p held holds broken Ms (stops.Refused code) = IsOfTheTable code × SomeOf o p held holds Ms
-Unsaid o p held holds broken Ms (stops.PeerRefused code) = ⊥
-Unsaid o p held holds broken Ms stops.Memory = Adds o p held holds []
-Unsaid o p held holds broken Ms (stops.Io side) = (side ≡ sides.Write) × IsTrue broken × BreaksSaying o p held holds Ms
-
 -- this side refuses the event, or it tells that the peer refused, or memory runs out
-abbrev pub Refuses : Held → Event Lanes → Stop → Type 0
-Refuses h e (stops.Refused code) = hear_now two_lanes h.end h.taken e ≡ Refused_for code
-Refuses h e (stops.PeerRefused code) = e ≡ Failed code
-Refuses h e stops.Memory = ⊤
-Refuses h e (stops.Io side) = ⊥
+abbrev pub Refuses : {F : Type 0} → Summary F → Held F → Event F → Stop → Type 0
+Refuses S h e (stops.Refused code) = hear_now S h.end h.taken e ≡ Refused_for code
+Refuses S h e (stops.PeerRefused code) = e ≡ Failed code
+Refuses S h e stops.Memory = ⊤
+Refuses S h e (stops.Io side) = ⊥
 
--- so it stops, and writes no message; or its reply is not said
-abbrev pub StopsBy : Held → Event Lanes → OutboxState → OutboxState → Option (List ℕ) → Option (List ℕ) → Bool → Stop →
-    Type 0
-StopsBy h e o p held holds broken stop =
-    (Refuses h e stop × Adds o p held holds []) ⊎ Unsaid o p held holds broken (said_by h e) stop
+module _ {F : Type 0} (W : Profile F) where
+  -- none of these messages was written, or each
+  abbrev pub SomeOf : OutboxState → OutboxState → Option (List ℕ) → Option (List ℕ) → List (Message F) → Type 0
+  SomeOf o p held holds Ms = Adds W o p held holds [] ⊎ Adds W o p held holds Ms
+
+  -- of the one message a proper beginning was written
+  pub record BreaksSaying (o p : OutboxState) (held holds : Option (List ℕ)) (Ms : List (Message F)) : Type 0 where
+    pub same : p ≡ o
+    pub message : Message F
+    pub one : Ms ≡ message ∷ []
+    pub front : BreaksIn held holds (message_text W message)
+
+  -- why a message is not said
+  abbrev pub Unsaid : OutboxState → OutboxState → Option (List ℕ) → Option (List ℕ) → Bool → List (Message F) → Stop →
+      Type 0
+  Unsaid o p held holds broken Ms (stops.Refused code) = IsOfTheTable code × SomeOf o p held holds Ms
+  Unsaid o p held holds broken Ms (stops.PeerRefused code) = ⊥
+  Unsaid o p held holds broken Ms stops.Memory = Adds W o p held holds []
+  Unsaid o p held holds broken Ms (stops.Io side) = (side ≡ sides.Write) × IsTrue broken × BreaksSaying o p held holds
+      Ms
 
 -- ---- before a session is opened
 
-abbrev pub first_held : Peer → Message Lanes → Held
-first_held P M = behind_parts (fresh [] (responder P)) M
-
-pub record Exchanged (b : InboxState) (o : OutboxState) (t : Traffic) (es : List (Event Lanes)) : Type 0 where
-  pub bytes : List ℕ
-  pub are_bytes : IsBytes bytes
-  pub read : Consumes t.unread t.left bytes
-  pub came : HasRead b bytes es
-  pub written : HasWritten o t.held t.holds []
-
--- whoever would answer, it stops at the next event
-pub record StopsThere (M : Message Lanes) (b : InboxState) (bytes : List ℕ) (es : List (Event Lanes))
-    (stop : Stop) : Type 0 where
-  pub event : Event Lanes
-  pub came : HasRead b bytes (es ++ event ∷ [])
-  pub refuses : (P : Peer) → Refuses (first_held P M) event stop
-
-abbrev pub StopsFirst : Message Lanes → Seen → InboxState → List ℕ → List (Event Lanes) → Stop → Type 0
-StopsFirst M r b bytes es stop = StopsAt r bytes es stop ⊎ StopsThere M b bytes es stop
+abbrev pub first_held : {F : Type 0} → Summary F → Peer → Message F → Held F
+first_held S P M = behind_parts S (fresh [] (responder P)) M
 
 -- a part that may stand first
-abbrev pub IsFirstPart : Part Lanes → Type 0
+abbrev pub IsFirstPart : {F : Type 0} → Part F → Type 0
 IsFirstPart p = refusal (next First p) ≡ None
 
-abbrev pub FirstCame : Seen → InboxState → List ℕ → List (Event Lanes) → Result (Part Lanes) Stop → Type 0
-FirstCame r b bytes es (Ok p) = IsFirstPart p × HasRead b bytes (es ++ Came p ∷ [])
-FirstCame r b bytes es (Err stop) = StopsFirst [] r b bytes es stop
-
-abbrev pub EndCame : Part Lanes → Seen → InboxState → List ℕ → List (Event Lanes) → Result (Unit {0}) Stop → Type 0
-EndCame p r b bytes es (Ok x) = HasRead b bytes (es ++ Ended ∷ [])
-EndCame p r b bytes es (Err stop) = StopsFirst (p ∷ []) r b bytes es stop
+module _ {F : Type 0} (W : Profile F) where
+  pub record Exchanged (b : InboxState) (o : OutboxState) (t : Traffic) (es : List (Event F)) : Type 0 where
+    pub bytes : List ℕ
+    pub are_bytes : IsBytes bytes
+    pub read : Takes t.unread t.left bytes
+    pub came : HasRead W b bytes es
+    pub written : HasWritten W o t.held t.holds []
 
 -- ---- the end of a session
-
--- the first messages that the bytes call for were written, behind the hello: so many
-pub record WroteFirst (s : Speaker Lanes) (o : OutboxState) (t : Traffic) (bytes : List ℕ) : Type 0 where
-  pub greeted : IsTrue o.greeted
-  pub count : o.sent ≤ length (called_by s bytes)
-  pub written : Appends t.held t.holds (text two_lane_profile o.sent (called_by s bytes))
 
 -- nothing was written, not the hello either
 pub record WroteNone (o : OutboxState) (t : Traffic) : Type 0 where
@@ -144,82 +108,129 @@ pub record WroteNone (o : OutboxState) (t : Traffic) : Type 0 where
   pub none : o.sent ≡ 0
   pub written : Appends t.held t.holds []
 
-abbrev pub WroteUpTo : Speaker Lanes → OutboxState → Traffic → List ℕ → Type 0
-WroteUpTo s o t bytes = WroteFirst s o t bytes ⊎ WroteNone o t
-
 -- the one reply that is called for and was not written has too many parts
-pub record IsLong (called : List (Message Lanes)) (k code : ℕ) : Type 0 where
+pub record IsLong {F : Type 0} (called : List (Message F)) (k code : ℕ) : Type 0 where
   pub twelve : code ≡ too_many_parts
   pub count : length called ≡ k + 1
-  pub reply : Message Lanes
+  pub reply : Message F
   pub last : slice_get called k ≡ Some reply
   pub long : IsFalse (is_sendable reply)
-
--- the first fault in the bytes, behind all that they call for and may be said
-pub record IsFirst (s : Speaker Lanes) (over : Bool) (bytes : List ℕ) (k code : ℕ) : Type 0 where
-  pub first : hearing_to two_lanes two_lane_profile s over bytes ≡ Refused_for code
-  pub behind : (length (called_by s bytes) ≡ k) ⊎ IsLong (called_by s bytes) k code
-
--- a fault frame stands behind all that was answered
-pub record IsTold (s : Speaker Lanes) (o : OutboxState) (t : Traffic) (over : Bool) (bytes : List ℕ)
-    (code : ℕ) : Type 0 where
-  pub said : SaidAll s t bytes o.sent
-  pub frame : fault_frame two_lane_profile bytes ≡ Some code
-  pub told : hearing_to two_lanes two_lane_profile s over bytes ≡ Peer_refused code
-
--- exactly so many of the messages that the bytes call for were written whole, and nothing behind the beginning of one
--- more: whatever the version is, and whatever is seen of the reader and the writer
-pub record BreaksOff (s : Speaker Lanes) (k : ℕ) (t : Traffic) (bytes : List ℕ) : Type 0 where
-  pub all : List ℕ
-  pub written : Appends t.held t.holds all
-  pub broke : (version : ℕ) (r w : Seen) → BrokeOff two_lanes two_lane_profile (call_of s version bytes all r w) k
 
 -- the side of the connection that is named has failed
 abbrev pub HasBroken : Seen → Bool → List ℕ → Side → Type 0
 HasBroken r broken bytes sides.Read = IsTrue r.failed ⊎ (2 ^ 32 ≤ length bytes)
 HasBroken r broken bytes sides.Write = IsTrue broken
 
-abbrev pub WhyStopped : (ℕ → Type 0) → Speaker Lanes → OutboxState → Traffic → Seen → Bool → List ℕ → Stop → Type 0
-WhyStopped T s o t r broken bytes (stops.Refused code) =
-    WroteUpTo s o t bytes × (IsFirst s r.ended bytes o.sent code ⊎ T code)
-WhyStopped T s o t r broken bytes (stops.PeerRefused code) = IsTold s o t r.ended bytes code
-WhyStopped T s o t r broken bytes stops.Memory = WroteUpTo s o t bytes
-WhyStopped T s o t r broken bytes (stops.Io side) = BreaksOff s o.sent t bytes × HasBroken r broken bytes side
-
-pub record Stopped (T : ℕ → Type 0) (s : Speaker Lanes) (o : OutboxState) (t : Traffic) (r : Seen) (broken : Bool)
-    (stop : Stop) : Type 0 where
-  pub bytes : List ℕ
-  pub are_bytes : IsBytes bytes
-  pub read : Consumes t.unread t.left bytes
-  pub why : WhyStopped T s o t r broken bytes stop
-
 -- no table of sessions was asked
 abbrev pub IsNone : ℕ → Type 0
 IsNone code = ⊥
 
--- the session is over, and all was said
-pub record Finished (s : Speaker Lanes) (e : End Lanes) (o : OutboxState) (t : Traffic) : Type 0 where
-  pub bytes : List ℕ
-  pub are_bytes : IsBytes bytes
-  pub read : Consumes t.unread t.left bytes
-  pub said : SaidAll s t bytes o.sent
-  pub end : e ≡ session_at s bytes
-  pub over : IsTrue (is_over e.stage)
+module _ {F : Type 0} (W : Profile F) where
+  -- what a refusal writes behind all else: nothing where the connection failed, or the peer refused
+  abbrev pub Leaves : OutboxState → Option (List ℕ) → Option (List ℕ) → Bool → Bool → Stop → Type 0
+  Leaves o held holds broken failed (stops.Refused code) = WroteSo held holds failed (refusal_text W o code)
+  Leaves o held holds broken failed stops.Memory = WroteSo held holds failed (refusal_text W o no_memory)
+  Leaves o held holds broken failed (stops.PeerRefused code) = Keeps held holds
+  Leaves o held holds broken failed (stops.Io side) = Keeps held holds × (failed ≡ broken)
 
-abbrev pub Talked : Speaker Lanes → End Lanes → OutboxState → Traffic → Seen → Bool → Result (Unit {0}) Stop → Type 0
-Talked s e o t r broken (Ok x) = Finished s e o t
-Talked s e o t r broken (Err stop) = Stopped IsOfTheTable s o t r broken stop
+module _ {F : Type 0} (S : Summary F) (W : Profile F) where
+  pub record Underway (s : Speaker F) (h : Held F) (b : InboxState) (o : OutboxState) (t : Traffic) : Type 0 where
+    pub events : List (Event F)
+    pub bytes : List ℕ
+    pub are_bytes : IsBytes bytes
+    pub read : Takes t.unread t.left bytes
+    pub came : HasRead W b bytes events
+    pub written : HasWritten W o t.held t.holds (says S s (messages_of [] events))
+    pub heard : hears S s events ≡ heard_as h
 
--- what a refusal writes behind all else: nothing where the connection failed, or the peer refused
-abbrev pub Leaves : OutboxState → Option (List ℕ) → Option (List ℕ) → Bool → Bool → Stop → Type 0
-Leaves o held holds broken failed (stops.Refused code) = WroteSo held holds failed (refusal_text o code)
-Leaves o held holds broken failed stops.Memory = WroteSo held holds failed (refusal_text o no_memory)
-Leaves o held holds broken failed (stops.PeerRefused code) = Keeps held holds
-Leaves o held holds broken failed (stops.Io side) = Keeps held holds × (failed ≡ broken)
+  -- ---- one event
 
-pub record Spoke (s : Speaker Lanes) (version bound : ℕ) (t : Traffic) (r w : Seen) (o : Outcome) : Type 0 where
-  pub bytes : List ℕ
-  pub are_bytes : IsBytes bytes
-  pub read : Consumes t.unread t.left bytes
-  pub bears : Bears s version t r w bytes o
-  pub few : sent_in o ≤ bound
+  -- so it stops, and writes no message; or its reply is not said
+  abbrev pub StopsBy : Held F → Event F → OutboxState → OutboxState → Option (List ℕ) → Option (List ℕ) → Bool → Stop →
+      Type 0
+  StopsBy h e o p held holds broken stop =
+      (Refuses S h e stop × Adds W o p held holds []) ⊎ Unsaid W o p held holds broken (said_by h e) stop
+
+  -- ---- before a session is opened
+
+  -- whoever would answer, it stops at the next event
+  pub record StopsThere (M : Message F) (b : InboxState) (bytes : List ℕ) (es : List (Event F))
+      (stop : Stop) : Type 0 where
+    pub event : Event F
+    pub came : HasRead W b bytes (es ++ event ∷ [])
+    pub refuses : (P : Peer) → Refuses S (first_held S P M) event stop
+
+  abbrev pub StopsFirst : Message F → Seen → InboxState → List ℕ → List (Event F) → Stop → Type 0
+  StopsFirst M r b bytes es stop = StopsAt W r bytes es stop ⊎ StopsThere M b bytes es stop
+
+  abbrev pub FirstCame : Seen → InboxState → List ℕ → List (Event F) → Result (Part F) Stop → Type 0
+  FirstCame r b bytes es (Ok p) = IsFirstPart p × HasRead W b bytes (es ++ Came p ∷ [])
+  FirstCame r b bytes es (Err stop) = StopsFirst [] r b bytes es stop
+
+  abbrev pub EndCame : Part F → Seen → InboxState → List ℕ → List (Event F) → Result (Unit {0}) Stop → Type 0
+  EndCame p r b bytes es (Ok x) = HasRead W b bytes (es ++ Ended ∷ [])
+  EndCame p r b bytes es (Err stop) = StopsFirst (p ∷ []) r b bytes es stop
+
+  -- ---- the end of a session
+
+  -- the first messages that the bytes call for were written, behind the hello: so many
+  pub record WroteFirst (s : Speaker F) (o : OutboxState) (t : Traffic) (bytes : List ℕ) : Type 0 where
+    pub greeted : IsTrue o.greeted
+    pub count : o.sent ≤ length (called_by S W s bytes)
+    pub written : Appends t.held t.holds (text W o.sent (called_by S W s bytes))
+
+  abbrev pub WroteUpTo : Speaker F → OutboxState → Traffic → List ℕ → Type 0
+  WroteUpTo s o t bytes = WroteFirst s o t bytes ⊎ WroteNone o t
+
+  -- the first fault in the bytes, behind all that they call for and may be said
+  pub record IsFirst (s : Speaker F) (over : Bool) (bytes : List ℕ) (k code : ℕ) : Type 0 where
+    pub first : hearing_to S W s over bytes ≡ Refused_for code
+    pub behind : (length (called_by S W s bytes) ≡ k) ⊎ IsLong (called_by S W s bytes) k code
+
+  -- a fault frame stands behind all that was answered
+  pub record IsTold (s : Speaker F) (o : OutboxState) (t : Traffic) (over : Bool) (bytes : List ℕ)
+      (code : ℕ) : Type 0 where
+    pub said : SaidAll S W s t bytes o.sent
+    pub frame : fault_frame W bytes ≡ Some code
+    pub told : hearing_to S W s over bytes ≡ Peer_refused code
+
+  -- exactly so many of the messages that the bytes call for were written whole, and nothing behind the beginning of one
+  -- more: whatever the version is, and whatever is seen of the reader and the writer
+  pub record BreaksOff (s : Speaker F) (k : ℕ) (t : Traffic) (bytes : List ℕ) : Type 0 where
+    pub all : List ℕ
+    pub written : Appends t.held t.holds all
+    pub broke : (version : ℕ) (r w : Seen) → BrokeOff S W (call_of s version bytes all r w) k
+
+  abbrev pub WhyStopped : (ℕ → Type 0) → Speaker F → OutboxState → Traffic → Seen → Bool → List ℕ → Stop → Type 0
+  WhyStopped T s o t r broken bytes (stops.Refused code) =
+      WroteUpTo s o t bytes × (IsFirst s r.ended bytes o.sent code ⊎ T code)
+  WhyStopped T s o t r broken bytes (stops.PeerRefused code) = IsTold s o t r.ended bytes code
+  WhyStopped T s o t r broken bytes stops.Memory = WroteUpTo s o t bytes
+  WhyStopped T s o t r broken bytes (stops.Io side) = BreaksOff s o.sent t bytes × HasBroken r broken bytes side
+
+  pub record Stopped (T : ℕ → Type 0) (s : Speaker F) (o : OutboxState) (t : Traffic) (r : Seen) (broken : Bool)
+      (stop : Stop) : Type 0 where
+    pub bytes : List ℕ
+    pub are_bytes : IsBytes bytes
+    pub read : Takes t.unread t.left bytes
+    pub why : WhyStopped T s o t r broken bytes stop
+
+  -- the session is over, and all was said
+  pub record Finished (s : Speaker F) (e : End F) (o : OutboxState) (t : Traffic) : Type 0 where
+    pub bytes : List ℕ
+    pub are_bytes : IsBytes bytes
+    pub read : Takes t.unread t.left bytes
+    pub said : SaidAll S W s t bytes o.sent
+    pub end : e ≡ session_at S W s bytes
+    pub over : IsTrue (is_over e.stage)
+
+  abbrev pub Talked : Speaker F → End F → OutboxState → Traffic → Seen → Bool → Result (Unit {0}) Stop → Type 0
+  Talked s e o t r broken (Ok x) = Finished s e o t
+  Talked s e o t r broken (Err stop) = Stopped IsOfTheTable s o t r broken stop
+
+  pub record Spoke (s : Speaker F) (version bound : ℕ) (t : Traffic) (r w : Seen) (o : Outcome) : Type 0 where
+    pub bytes : List ℕ
+    pub are_bytes : IsBytes bytes
+    pub read : Takes t.unread t.left bytes
+    pub bears : Bears S W s version t r w bytes o
+    pub few : sent_in o ≤ bound

@@ -1,10 +1,9 @@
 //! How a session ends: the one place that makes an outcome, and that refuses on the wire.
 
 ghost use Rattle.std.specs.Prelude.{◌≡◌, ◌≤◌, ℕ, List, Option};
-ghost use Rattle.definitions.specs.Fingerprints.{Lanes};
 ghost use Rattle.definitions.specs.Accounts.{Seen};
 ghost use Rattle.definitions.specs.Engines.{Speaker};
-ghost use Rattle.peer_threads.specs.Outcomes.{traffic, seen, HasVersion};
+ghost use Rattle.peer_threads.specs.Outcomes.{Origin, traffic_of, seen, HasVersion};
 ghost use Rattle.peer_threads.specs.Stops.{outcome_of};
 ghost use Rattle.peer_threads.specs.Underway.{Talked, Spoke, Leaves};
 
@@ -12,6 +11,7 @@ use crate::outbox::Outbox;
 use crate::outcome::Outcome;
 use crate::party::Party;
 use crate::stop::Stop;
+use digest_core::Summary;
 use std::io::Write;
 use wire_core::Watched;
 
@@ -19,10 +19,14 @@ use wire_core::Watched;
 const NO_MEMORY: u8 = 90;
 
 /// The outcome of a session that stopped. Where this side refuses, one fault frame is written.
-pub(crate) fn stopped<W: Write>(outbox: Outbox, writer: &mut Watched<W>, stop: Stop) -> Outcome
+pub(crate) fn stopped<W: Write, F: Summary>(
+    outbox: Outbox<F>,
+    writer: &mut Watched<W>,
+    stop: Stop,
+) -> Outcome
     ensures outcome { result ≡ outcome_of outbox.sent stop }
-    ensures leaves { Leaves outbox (W.contents writer.old.inner) (W.contents writer.new.inner) writer.old.failed
-        writer.new.failed stop }
+    ensures leaves { Leaves F.profile outbox (W.contents writer.old.inner) (W.contents writer.new.inner)
+        writer.old.failed writer.new.failed stop }
 {
     let sent = outbox.sent();
     match stop {
@@ -40,17 +44,18 @@ pub(crate) fn stopped<W: Write>(outbox: Outbox, writer: &mut Watched<W>, stop: S
 }
 
 /// The outcome of a session that was talked to its end, or stopped.
-pub(crate) fn concluded<P: Party, W: Write>(
+pub(crate) fn concluded<P: Party<F>, W: Write, F: Summary>(
     party: P,
     version: usize,
-    outbox: Outbox,
+    outbox: Outbox<F>,
     writer: &mut Watched<W>,
     talked: Result<(), Stop>,
 ) -> Outcome
-    ensures bytes { (s : Speaker Lanes) (bound : ℕ) (unread left held : Option (List ℕ)) (r : Seen) →
-        Talked s (P.held party).end outbox (traffic unread left held (W.contents writer.old.inner)) r
-        writer.old.failed talked →
-        outbox.sent ≤ bound → Spoke s version bound (traffic unread left held (W.contents writer.new.inner)) r
+    ensures bytes { (s : Speaker F) (bound : ℕ) (unread : Origin) (left held : Option (List ℕ)) (r : Seen) →
+        Talked F.summary F.profile s (P.held party).end outbox
+        (traffic_of unread left held (W.contents writer.old.inner)) r writer.old.failed talked →
+        outbox.sent ≤ bound → Spoke F.summary F.profile s version bound
+        (traffic_of unread left held (W.contents writer.new.inner)) r
         (seen writer.new.failed writer.new.ended) result }
     ensures version { HasVersion result version }
 {

@@ -2,7 +2,6 @@
 
 ghost use Rattle.std.specs.Prelude.{◌≡◌, ◌≤◌, ◌+◌, ◌^◌, ◌⊎◌, ⊤, ℕ, false, [], ◌∷◌, List, Option, length};
 ghost use Rattle.std.specs.Prelude.{IfOk, IfErr, OnOk};
-ghost use Rattle.definitions.specs.Fingerprints.{Lanes, two_lanes};
 ghost use Rattle.definitions.specs.Messages as messages;
 ghost use Rattle.definitions.specs.Messages.{opening};
 ghost use Rattle.definitions.specs.Ranks.{rank_by};
@@ -16,7 +15,10 @@ ghost use Rattle.wire_core.specs.Events.{event_value};
 ghost use Rattle.ends_core.specs.Turns.{fresh};
 ghost use Rattle.version_lock.specs.Calls.{Looked};
 ghost use Rattle.peer_threads.specs.Inboxes.{Counts, Reads, ReadOn};
-ghost use Rattle.peer_threads.specs.Outcomes.{Speaks, Unopened, CameFirst, HasVersion, traffic, seen, peer_at, peer_of};
+ghost use Rattle.peer_threads.specs.Choices.{ChosenSpeaks, ChosenUnopened, ChosenFirst};
+ghost use Rattle.peer_threads.specs.Hellos.{IsHello};
+ghost use Rattle.peer_threads.specs.Outcomes.{Origin, Reader, Behind, traffic, traffic_of, traffic_behind, seen};
+ghost use Rattle.peer_threads.specs.Outcomes.{Speaks, Unopened, CameFirst, HasVersion, peer_at, peer_of};
 ghost use Rattle.peer_threads.specs.Outboxes.{outbox_state};
 ghost use Rattle.peer_threads.specs.Underway.{Exchanged, FirstCame, EndCame, IsFirstPart, first_held, most_sent};
 ghost use Rattle.peer_threads.specs.Underway.{IsNone, Refuses, Stopped, Talked, Spoke};
@@ -24,6 +26,7 @@ ghost use Rattle.peer_threads.specs.Underway.{IsNone, Refuses, Stopped, Talked, 
 use crate::booking::{Booking, Host};
 use crate::ending::{concluded, stopped};
 use crate::gate::Gate;
+use crate::hello::{Hello, read_hello};
 use crate::inbox::Inbox;
 use crate::modesty::sides_are_modest;
 use crate::outbox::Outbox;
@@ -32,7 +35,7 @@ use crate::party::Party;
 use crate::shared::Shared;
 use crate::stop::Stop;
 use crate::talk::{end, say, take, talk};
-use digest_core::Fingerprint;
+use digest_core::{Counted, Fingerprint, Summary};
 use ends_core::{Initiator, Responder};
 use place_core::{Place, PlaceFault};
 use std::alloc::{AllocError, Global};
@@ -45,15 +48,16 @@ use wire_core::{Event, Message, Part, Watched};
 /// What has come of a session before it is opened: the one part of the peer's first message, and what was read behind
 /// its end.
 #[derive(Drop)]
-struct Opening {
-    inbox: Inbox,
-    first: Part,
+struct Opening<F: Summary> {
+    inbox: Inbox<F>,
+    first: Part<F>,
 }
 
 /// The part that an event is, which has to be one that may stand first. Else 20.
-fn part_of(alloc: Global, event: Event) -> Result<Part, Stop>
+fn part_of<F: Summary>(alloc: Global, event: Event<F>) -> Result<Part<F>, Stop>
     ensures part { IfOk result (λ p. (event_value event ≡ Came p) × IsFirstPart p) }
-    ensures stopped { IfErr result (λ stop. (P : Peer) → Refuses (first_held P []) (event_value event) stop) }
+    ensures stopped { IfErr result (λ stop. (P : Peer) →
+        Refuses F.summary (first_held F.summary P []) (event_value event) stop) }
 {
     match event {
         Event::Part(part) => {
@@ -66,10 +70,10 @@ fn part_of(alloc: Global, event: Event) -> Result<Part, Stop>
 }
 
 /// Whether an event ends the first message, which has no second part. Else 20.
-fn end_of(event: Event) -> Result<(), Stop>
+fn end_of<F: Summary>(event: Event<F>) -> Result<(), Stop>
     ensures end { OnOk result (event_value event ≡ Ended) }
-    ensures stopped { IfErr result (λ stop. (P : Peer) (p : messages.Part Lanes) → IsFirstPart p →
-        Refuses (first_held P (p ∷ [])) (event_value event) stop) }
+    ensures stopped { IfErr result (λ stop. (P : Peer) (p : messages.Part F) → IsFirstPart p →
+        Refuses F.summary (first_held F.summary P (p ∷ [])) (event_value event) stop) }
 {
     match event {
         Event::Part(_) => Err(Stop::from(PlaceFault::Misplaced)),
@@ -79,13 +83,14 @@ fn end_of(event: Event) -> Result<(), Stop>
 }
 
 /// Waits for the first part of the peer's first message.
-fn first_part<R: Read>(
+fn first_part<R: Read, F: Summary>(
     alloc: Global,
-    inbox: &mut Inbox,
+    inbox: &mut Inbox<F>,
     reader: &mut Watched<R>,
-) -> Result<Part, Stop>
-    ensures read { Reads (R.remaining reader.old.inner) (R.remaining reader.new.inner) inbox.old
-        (λ bytes es. FirstCame (seen reader.new.failed reader.new.ended) inbox.new bytes es result) }
+) -> Result<Part<F>, Stop>
+    ensures read { Reads F.profile (R.remaining reader.old.inner) (R.remaining reader.new.inner) inbox.old
+        (λ bytes es. FirstCame F.summary F.profile (seen reader.new.failed reader.new.ended) inbox.new bytes es
+        result) }
     ensures reads { Counts reader.old.reads reader.new.reads inbox.old inbox.new }
 {
     let event = inbox.next(alloc, reader)?;
@@ -93,42 +98,50 @@ fn first_part<R: Read>(
 }
 
 /// Waits for the end of the peer's first message.
-fn first_end<R: Read>(alloc: Global, inbox: &mut Inbox, reader: &mut Watched<R>) -> Result<(), Stop>
-    ensures read { (p : messages.Part Lanes) → IsFirstPart p →
-        Reads (R.remaining reader.old.inner) (R.remaining reader.new.inner) inbox.old
-        (λ bytes es. EndCame p (seen reader.new.failed reader.new.ended) inbox.new bytes es result) }
+fn first_end<R: Read, F: Summary>(
+    alloc: Global,
+    inbox: &mut Inbox<F>,
+    reader: &mut Watched<R>,
+) -> Result<(), Stop>
+    ensures read { (p : messages.Part F) → IsFirstPart p →
+        Reads F.profile (R.remaining reader.old.inner) (R.remaining reader.new.inner) inbox.old
+        (λ bytes es. EndCame F.summary F.profile p (seen reader.new.failed reader.new.ended) inbox.new bytes es
+        result) }
     ensures reads { Counts reader.old.reads reader.new.reads inbox.old inbox.new }
 {
     let event = inbox.next(alloc, reader)?;
     end_of(event)
 }
 
-/// Reads the peer's hello, answers it with the own one, and waits for the first message, which is one Sum.
-fn meet<R: Read, W: Write>(
+/// Answers the peer's hello with the own one, and waits for the first message, which is one Sum. Refused 1 where the
+/// hello is not that of the profile.
+fn meet<R: Read, W: Write, F: Summary>(
     alloc: Global,
-    outbox: &mut Outbox,
+    hello: Hello,
+    outbox: &mut Outbox<F>,
     reader: &mut Watched<R>,
     writer: &mut Watched<W>,
-) -> Result<Opening, Stop>
+) -> Result<Opening<F>, Stop>
+    requires hello { IsHello hello }
     requires fine { writer.old.failed ≡ false }
     requires new { outbox.old ≡ outbox_state false 0 }
-    ensures met { IfOk result (λ o. IsFirstPart o.first × Exchanged o.inbox outbox.new
-        (traffic (R.remaining reader.old.inner) (R.remaining reader.new.inner) (W.contents writer.old.inner)
-        (W.contents writer.new.inner)) (Came o.first ∷ Ended ∷ [])) }
+    ensures met { IfOk result (λ o. IsFirstPart o.first × Exchanged F.profile o.inbox outbox.new
+        (traffic_behind hello.bytes (R.remaining reader.old.inner) (R.remaining reader.new.inner)
+        (W.contents writer.old.inner) (W.contents writer.new.inner)) (Came o.first ∷ Ended ∷ [])) }
     ensures fine { IfOk result (λ _. writer.new.failed ≡ false) }
-    ensures stopped { IfErr result (λ stop. (P : Peer) → Stopped IsNone (responding P) outbox.new
-        (traffic (R.remaining reader.old.inner) (R.remaining reader.new.inner) (W.contents writer.old.inner)
-        (W.contents writer.new.inner)) (seen reader.new.failed reader.new.ended) writer.new.failed stop) }
+    ensures stopped { IfErr result (λ stop. (P : Peer) → Stopped F.summary F.profile IsNone (responding P) outbox.new
+        (traffic_behind hello.bytes (R.remaining reader.old.inner) (R.remaining reader.new.inner)
+        (W.contents writer.old.inner) (W.contents writer.new.inner)) (seen reader.new.failed reader.new.ended)
+        writer.new.failed stop) }
     ensures none { outbox.new.sent ≡ 0 }
-    ensures reads { IfOk result (λ o. (reader.new.reads ≤ reader.old.reads + o.inbox.reads)
+    ensures reads { IfOk result (λ o. (reader.new.reads + hello.reads ≤ reader.old.reads + o.inbox.reads)
         × (o.inbox.reads ≤ 2 ^ 32)) }
-    ensures stopped_reads { IfErr result (λ _. reader.new.reads ≤ reader.old.reads + 2 ^ 32) }
+    ensures stopped_reads { IfErr result (λ _. reader.new.reads + hello.reads ≤ reader.old.reads + 2 ^ 32) }
 {
-    laws::frames_say::<Fingerprint>();
-    laws::own_begins::<Fingerprint>();
-    laws::bytes_agree::<Fingerprint>();
-    let mut inbox = Inbox::new(alloc)?;
-    inbox.read_hello(alloc, reader)?;
+    laws::frames_say::<F>();
+    laws::own_begins::<F>();
+    laws::bytes_agree::<F>();
+    let mut inbox = Inbox::<F>::behind(alloc, hello)?;
     outbox.greet(writer)?;
     let first = first_part(alloc, &mut inbox, reader)?;
     first_end(alloc, &mut inbox, reader)?;
@@ -136,36 +149,36 @@ fn meet<R: Read, W: Write>(
 }
 
 /// Answers the first message, and each one behind it.
-fn answer<T: Wait, G: Gate, P: Party, R: Read, W: Write>(
+fn answer<T: Wait, G: Gate, P: Party<F>, R: Read, W: Write, F: Summary>(
     booking: &Booking<'_, T, G>,
     party: &mut P,
-    opening: Opening,
-    outbox: &mut Outbox,
+    opening: Opening<F>,
+    outbox: &mut Outbox<F>,
     reader: &mut Watched<R>,
     writer: &mut Watched<W>,
 ) -> Result<(), Stop>
     requires fine { writer.old.failed ≡ false }
     requires count { outbox.old.sent ≡ (P.held party.old).end.sent }
     requires goes { is_over (P.held party.old).end.stage ≡ false }
-    ensures talked { (p : Peer) (steps : List ℕ) (unread held : Option (List ℕ)) →
+    ensures talked { (p : Peer) (steps : List ℕ) (unread : Origin) (held : Option (List ℕ)) →
         P.held party.old ≡ fresh steps (ends.responder p) →
-        Exchanged opening.inbox outbox.old (traffic unread (R.remaining reader.old.inner) held
+        Exchanged F.profile opening.inbox outbox.old (traffic_of unread (R.remaining reader.old.inner) held
         (W.contents writer.old.inner)) (Came opening.first ∷ Ended ∷ []) →
-        Talked (responding p) (P.held party.new).end outbox.new
-        (traffic unread (R.remaining reader.new.inner) held (W.contents writer.new.inner))
+        Talked F.summary F.profile (responding p) (P.held party.new).end outbox.new
+        (traffic_of unread (R.remaining reader.new.inner) held (W.contents writer.new.inner))
         (seen reader.new.failed reader.new.ended) writer.new.failed result }
-    ensures on { (p : Peer) (steps : List ℕ) (unread held : Option (List ℕ)) →
+    ensures on { (p : Peer) (steps : List ℕ) (unread : Origin) (held : Option (List ℕ)) →
         P.held party.old ≡ fresh steps (ends.responder p) →
-        Exchanged opening.inbox outbox.old (traffic unread (R.remaining reader.old.inner) held
+        Exchanged F.profile opening.inbox outbox.old (traffic_of unread (R.remaining reader.old.inner) held
         (W.contents writer.old.inner)) (Came opening.first ∷ Ended ∷ []) →
         ReadOn (R.remaining reader.old.inner) (R.remaining reader.new.inner) }
     ensures few { outbox.new.sent ≤ most_sent P.most (P.held party.old) }
     ensures reads { opening.inbox.reads ≤ 2 ^ 32 →
         reader.new.reads + opening.inbox.reads ≤ reader.old.reads + 2 ^ 32 }
 {
-    laws::frames_say::<Fingerprint>();
-    laws::own_begins::<Fingerprint>();
-    laws::bytes_agree::<Fingerprint>();
+    laws::frames_say::<F>();
+    laws::own_begins::<F>();
+    laws::bytes_agree::<F>();
     let Opening { mut inbox, first } = opening;
     let _few = party.sent();
     take(booking, party, &first)?;
@@ -174,26 +187,26 @@ fn answer<T: Wait, G: Gate, P: Party, R: Read, W: Write>(
 }
 
 /// The side that is spoken to first, with the version that it speaks of.
-fn respond<T: Wait, S: RangeStore, G: Gate, R: Read, W: Write>(
+fn respond<T: Wait, S: RangeStore, G: Gate, R: Read, W: Write, F: Summary>(
     host: &Host<'_, T, G>,
     pin: Pin<S>,
-    opening: Opening,
-    mut outbox: Outbox,
+    opening: Opening<F>,
+    mut outbox: Outbox<F>,
     reader: &mut Watched<R>,
     writer: &mut Watched<W>,
 ) -> Outcome
     requires fits { length pin.items ≤ host.now.accepted.now.table.cap }
     requires fine { writer.old.failed ≡ false }
     requires none { outbox.sent ≡ 0 }
-    ensures bytes { (unread held : Option (List ℕ)) →
-        Exchanged opening.inbox outbox (traffic unread (R.remaining reader.old.inner) held
+    ensures bytes { (unread : Origin) (held : Option (List ℕ)) →
+        Exchanged F.profile opening.inbox outbox (traffic_of unread (R.remaining reader.old.inner) held
         (W.contents writer.old.inner)) (Came opening.first ∷ Ended ∷ []) →
-        Spoke (responding (peer_of host.now.accepted.now pin.items)) pin.version
+        Spoke F.summary F.profile (responding (peer_of host.now.accepted.now pin.items)) pin.version
         (rank_by host.now.accepted.now.steps (length pin.items) + 1)
-        (traffic unread (R.remaining reader.new.inner) held (W.contents writer.new.inner))
+        (traffic_of unread (R.remaining reader.new.inner) held (W.contents writer.new.inner))
         (seen reader.new.failed reader.new.ended) (seen writer.new.failed writer.new.ended) result }
-    ensures on { (unread held : Option (List ℕ)) →
-        Exchanged opening.inbox outbox (traffic unread (R.remaining reader.old.inner) held
+    ensures on { (unread : Origin) (held : Option (List ℕ)) →
+        Exchanged F.profile opening.inbox outbox (traffic_of unread (R.remaining reader.old.inner) held
         (W.contents writer.old.inner)) (Came opening.first ∷ Ended ∷ []) →
         ReadOn (R.remaining reader.old.inner) (R.remaining reader.new.inner) }
     ensures version { HasVersion result pin.version }
@@ -201,7 +214,11 @@ fn respond<T: Wait, S: RangeStore, G: Gate, R: Read, W: Write>(
         reader.new.reads + opening.inbox.reads ≤ reader.old.reads + 2 ^ 32 }
 {
     let version = pin.version();
-    let mut party = Responder::new(host.alloc, host.accepted, pin.into_store());
+    let mut party: Responder<'_, S, F> = Responder::new(
+        host.alloc,
+        host.accepted,
+        pin.into_store(),
+    );
     let booking = match Booking::open(host, party.bound()) {
         Ok(booking) => booking,
         Err(fault) => return stopped(outbox, writer, Stop::from(fault)),
@@ -213,20 +230,20 @@ fn respond<T: Wait, S: RangeStore, G: Gate, R: Read, W: Write>(
 }
 
 /// Writes the hello and the first message, and answers each message that comes.
-fn speak<T: Wait, G: Gate, P: Party, R: Read, W: Write>(
+fn speak<T: Wait, G: Gate, P: Party<F>, R: Read, W: Write, F: Summary>(
     booking: &Booking<'_, T, G>,
     party: &mut P,
-    first: &Message,
-    outbox: &mut Outbox,
+    first: &Message<F>,
+    outbox: &mut Outbox<F>,
     reader: &mut Watched<R>,
     writer: &mut Watched<W>,
 ) -> Result<(), Stop>
     requires fine { writer.old.failed ≡ false }
     requires new { outbox.old ≡ outbox_state false 0 }
     requires one { (P.held party.old).end.sent ≡ 1 }
-    ensures talked { (p : Peer) (steps : List ℕ) → P.held party.old ≡ fresh steps (ends.initiator two_lanes p) →
-        first.now ≡ opening two_lanes p.items →
-        Talked (initiating two_lanes p) (P.held party.new).end outbox.new
+    ensures talked { (p : Peer) (steps : List ℕ) → P.held party.old ≡ fresh steps (ends.initiator F.summary p) →
+        first.now ≡ opening F.summary p.items →
+        Talked F.summary F.profile (initiating F.summary p) (P.held party.new).end outbox.new
         (traffic (R.remaining reader.old.inner) (R.remaining reader.new.inner) (W.contents writer.old.inner)
         (W.contents writer.new.inner))
         (seen reader.new.failed reader.new.ended) writer.new.failed result }
@@ -241,7 +258,7 @@ fn speak<T: Wait, G: Gate, P: Party, R: Read, W: Write>(
 }
 
 /// The side that speaks first, with the version that it speaks of.
-fn initiate<T: Wait, S: RangeStore, G: Gate, R: Read, W: Write>(
+fn initiate<T: Wait, S: RangeStore, G: Gate, R: Read, W: Write, F: Summary>(
     host: &Host<'_, T, G>,
     pin: Pin<S>,
     reader: &mut Watched<R>,
@@ -249,8 +266,8 @@ fn initiate<T: Wait, S: RangeStore, G: Gate, R: Read, W: Write>(
 ) -> Outcome
     requires fits { length pin.items ≤ host.now.accepted.now.table.cap }
     requires fine { writer.old.failed ≡ false }
-    ensures bytes { Spoke (initiating two_lanes (peer_of host.now.accepted.now pin.items)) pin.version
-        (rank_by host.now.accepted.now.steps (length pin.items) + 2)
+    ensures bytes { Spoke F.summary F.profile (initiating F.summary (peer_of host.now.accepted.now pin.items))
+        pin.version (rank_by host.now.accepted.now.steps (length pin.items) + 2)
         (traffic (R.remaining reader.old.inner) (R.remaining reader.new.inner) (W.contents writer.old.inner)
         (W.contents writer.new.inner)) (seen reader.new.failed reader.new.ended)
         (seen writer.new.failed writer.new.ended) result }
@@ -258,7 +275,7 @@ fn initiate<T: Wait, S: RangeStore, G: Gate, R: Read, W: Write>(
     ensures reads { reader.new.reads ≤ reader.old.reads + 2 ^ 32 }
 {
     let version = pin.version();
-    let mut outbox = Outbox::new();
+    let mut outbox = Outbox::<F>::new();
     let (mut party, first) = match Initiator::start(host.alloc, host.accepted, pin.into_store()) {
         Ok(started) => started,
         Err(_) => return stopped(outbox, writer, Stop::Memory),
@@ -273,8 +290,55 @@ fn initiate<T: Wait, S: RangeStore, G: Gate, R: Read, W: Write>(
     outcome
 }
 
-/// Answers the peer on this connection, which speaks first, until the session ends. The seat is used for one `pin`,
-/// once the peer's first message has come whole: one Sum over everything, and its end.
+/// Answers the peer behind its hello, in the profile of the summary, until the session ends.
+fn serve_behind<T: Wait, S: RangeStore, G: Gate, R: Read, W: Write, F: Summary>(
+    rt: &T,
+    alloc: Global,
+    shared: &Shared<'_, S, G>,
+    seat: &mut Seat<S>,
+    hello: Hello,
+    reader: &mut Watched<R>,
+    writer: &mut Watched<W>,
+) -> Outcome
+    requires lock { seat.old.table_id ≡ shared.now.lock.now }
+    requires fits { seat.old.view.cap ≤ shared.now.accepted.now.table.cap }
+    requires hello { IsHello hello }
+    requires fine { writer.old.failed ≡ false }
+    ensures seat { seat.new.table_id ≡ seat.old.table_id }
+    ensures view { (Looked seat.old.view seat.new.view
+        × (length (content seat.new.view.base) ≤ shared.now.accepted.now.table.cap)) ⊎ ((seat.new.view ≡ seat.old.view)
+        × Unopened F.summary F.profile (traffic_behind hello.bytes (R.remaining reader.old.inner)
+        (R.remaining reader.new.inner) (W.contents writer.old.inner) (W.contents writer.new.inner))
+        (seen reader.new.failed reader.new.ended) (seen writer.new.failed writer.new.ended) result) }
+    ensures opened { (seat.new.view ≡ seat.old.view) ⊎ CameFirst F.profile
+        (Behind hello.bytes (R.remaining reader.old.inner)) (R.remaining reader.new.inner) }
+    ensures bytes { Speaks F.summary F.profile
+        (length (content seat.new.view.base) ≤ shared.now.accepted.now.table.cap)
+        (responding (peer_at shared.now.accepted.now seat.new.view)) (length seat.new.view.base)
+        (rank_by shared.now.accepted.now.steps (length (peer_at shared.now.accepted.now seat.new.view).items) + 1)
+        shared.now.accepted.now.table.limit (traffic_behind hello.bytes (R.remaining reader.old.inner)
+        (R.remaining reader.new.inner) (W.contents writer.old.inner) (W.contents writer.new.inner))
+        (seen reader.new.failed reader.new.ended) (seen writer.new.failed writer.new.ended) result }
+    ensures version { HasVersion result (length seat.new.view.base) }
+    ensures reads { reader.new.reads + hello.reads ≤ reader.old.reads + 2 ^ 32 }
+{
+    codec_laws::feeds_join::<F>();
+    sides_are_modest::<F>(shared.accepted);
+    let host = Host::of(rt, alloc, shared);
+    let mut outbox = Outbox::<F>::new();
+    let opening = match meet(alloc, hello, &mut outbox, reader, writer) {
+        Ok(opening) => opening,
+        Err(stop) => return stopped(outbox, writer, stop),
+    };
+    match shared.lock.pin(rt, alloc, seat) {
+        Ok(pin) => respond(&host, pin, opening, outbox, reader, writer),
+        Err(AllocError) => stopped(outbox, writer, Stop::Memory),
+    }
+}
+
+/// Answers the peer on this connection, which speaks first, until the session ends, in the profile whose hello the peer
+/// says: that of the counted fingerprint, or else that of two lanes. The seat is used for one `pin`, once the peer's
+/// first message has come whole: one Sum over everything, and its end.
 pub fn serve_one<T: Wait, S: RangeStore, G: Gate, R: Read, W: Write>(
     rt: &T,
     alloc: Global,
@@ -291,14 +355,15 @@ pub fn serve_one<T: Wait, S: RangeStore, G: Gate, R: Read, W: Write>(
     // outcome says holds of any peer.
     ensures view { (Looked seat.old.view seat.new.view
         × (length (content seat.new.view.base) ≤ shared.now.accepted.now.table.cap)) ⊎ ((seat.new.view ≡ seat.old.view)
-        × Unopened (traffic (R.remaining reader.old.inner) (R.remaining reader.new.inner)
+        × ChosenUnopened (traffic (R.remaining reader.old.inner) (R.remaining reader.new.inner)
         (W.contents writer.old.inner) (W.contents writer.new.inner)) (seen reader.new.failed reader.new.ended)
         (seen writer.new.failed writer.new.ended) result) }
     // Where the seat was used, what this call read begins with a first message.
     ensures opened { (seat.new.view ≡ seat.old.view)
-        ⊎ CameFirst (R.remaining reader.old.inner) (R.remaining reader.new.inner) }
-    ensures bytes { Speaks (length (content seat.new.view.base) ≤ shared.now.accepted.now.table.cap)
-        (responding (peer_at shared.now.accepted.now seat.new.view)) (length seat.new.view.base)
+        ⊎ ChosenFirst (Reader (R.remaining reader.old.inner)) (R.remaining reader.new.inner) }
+    // What the outcome says, in the profile that the bytes read choose.
+    ensures bytes { ChosenSpeaks (length (content seat.new.view.base) ≤ shared.now.accepted.now.table.cap)
+        (peer_at shared.now.accepted.now seat.new.view) (length seat.new.view.base)
         (rank_by shared.now.accepted.now.steps (length (peer_at shared.now.accepted.now seat.new.view).items) + 1)
         shared.now.accepted.now.table.limit (traffic (R.remaining reader.old.inner) (R.remaining reader.new.inner)
         (W.contents writer.old.inner) (W.contents writer.new.inner)) (seen reader.new.failed reader.new.ended)
@@ -306,23 +371,23 @@ pub fn serve_one<T: Wait, S: RangeStore, G: Gate, R: Read, W: Write>(
     ensures version { HasVersion result (length seat.new.view.base) }
     ensures reads { reader.new.reads ≤ reader.old.reads + 2 ^ 32 }
 {
-    codec_laws::two_lanes_are_real();
-    codec_laws::feeds_join::<Fingerprint>();
-    sides_are_modest(shared.accepted);
-    let host = Host::of(rt, alloc, shared);
-    let mut outbox = Outbox::new();
-    let opening = match meet(alloc, &mut outbox, reader, writer) {
-        Ok(opening) => opening,
-        Err(stop) => return stopped(outbox, writer, stop),
+    laws::frames_say::<Fingerprint>();
+    laws::own_begins::<Fingerprint>();
+    laws::bytes_agree::<Fingerprint>();
+    sides_are_modest::<Fingerprint>(shared.accepted);
+    let hello = match read_hello(reader) {
+        Ok(hello) => hello,
+        Err(stop) => return stopped(Outbox::<Fingerprint>::new(), writer, stop),
     };
-    match shared.lock.pin(rt, alloc, seat) {
-        Ok(pin) => respond(&host, pin, opening, outbox, reader, writer),
-        Err(AllocError) => stopped(outbox, writer, Stop::Memory),
+    if hello.bytes == Counted::hello() {
+        serve_behind::<T, S, G, R, W, Counted>(rt, alloc, shared, seat, hello, reader, writer)
+    } else {
+        serve_behind::<T, S, G, R, W, Fingerprint>(rt, alloc, shared, seat, hello, reader, writer)
     }
 }
 
 /// Speaks first to the peer on this connection, until the session ends. The seat is used for one `pin`, first of all.
-pub fn dial_one<T: Wait, S: RangeStore, G: Gate, R: Read, W: Write>(
+pub fn dial_one<T: Wait, S: RangeStore, G: Gate, R: Read, W: Write, F: Summary>(
     rt: &T,
     alloc: Global,
     shared: &Shared<'_, S, G>,
@@ -335,7 +400,7 @@ pub fn dial_one<T: Wait, S: RangeStore, G: Gate, R: Read, W: Write>(
     requires fresh { (reader.old.failed ≡ false) × (reader.old.ended ≡ false) × (writer.old.failed ≡ false) }
     ensures seat { seat.new.table_id ≡ seat.old.table_id }
     ensures view { Looked seat.old.view seat.new.view }
-    ensures bytes { Speaks ⊤ (initiating two_lanes (peer_at shared.now.accepted.now seat.new.view))
+    ensures bytes { Speaks F.summary F.profile ⊤ (initiating F.summary (peer_at shared.now.accepted.now seat.new.view))
         (length seat.new.view.base)
         (rank_by shared.now.accepted.now.steps (length (peer_at shared.now.accepted.now seat.new.view).items) + 2)
         shared.now.accepted.now.table.limit (traffic (R.remaining reader.old.inner) (R.remaining reader.new.inner)
@@ -344,10 +409,10 @@ pub fn dial_one<T: Wait, S: RangeStore, G: Gate, R: Read, W: Write>(
     ensures version { HasVersion result (length seat.new.view.base) }
     ensures reads { reader.new.reads ≤ reader.old.reads + 2 ^ 32 }
 {
-    sides_are_modest(shared.accepted);
+    sides_are_modest::<F>(shared.accepted);
     let host = Host::of(rt, alloc, shared);
     match shared.lock.pin(rt, alloc, seat) {
-        Ok(pin) => initiate(&host, pin, reader, writer),
-        Err(AllocError) => stopped(Outbox::new(), writer, Stop::Memory),
+        Ok(pin) => initiate::<T, S, G, R, W, F>(&host, pin, reader, writer),
+        Err(AllocError) => stopped(Outbox::<F>::new(), writer, Stop::Memory),
     }
 }

@@ -1,14 +1,17 @@
 //! What comes in on a connection: the one place that reads.
 
-ghost use Rattle.std.specs.Prelude.{◌≡◌, ◌-◌, ◌<◌, ◌≤◌, ◌^◌, true, [], None, IfOk, OnOk, IfNone, length};
+ghost use Rattle.std.specs.Prelude.{◌≡◌, ◌-◌, ◌<◌, ◌≤◌, ◌^◌, [], None, IfOk, IfErr, OnOk, IfNone};
 ghost use Rattle.definitions.specs.Accounts.{Seen};
-ghost use Rattle.wire_core.specs.Feeds.{is_before_hello, fault_at};
+ghost use Rattle.wire_core.specs.Feeds.{fault_at};
+ghost use Rattle.peer_threads.specs.Hellos.{IsHello};
 ghost use Rattle.peer_threads.specs.Outcomes.{seen};
-ghost use Rattle.peer_threads.specs.Inboxes.{HasRead, Next, Greeted, SoFar, Reads, Counts, Held, Fetched};
+ghost use Rattle.peer_threads.specs.Inboxes.{HasRead, StopsAt, Next, SoFar, Reads, Counts, Held, Fetched};
 
+use crate::hello::Hello;
 use crate::outcome::Side;
 use crate::piece::Piece;
 use crate::stop::Stop;
+use digest_core::Summary;
 use std::alloc::{AllocError, Global};
 use std::io::Read;
 use std::marker::Model;
@@ -17,20 +20,17 @@ use wire_core::{Event, Feed, Watched, WireFault};
 /// How often a session may read.
 const MAX_READS: u64 = 1 << 32;
 
-/// The length of the hello. So many bytes behind a part of it are no whole frame.
-const HELLO_LENGTH: usize = 4;
-
 /// A stream that comes in by pieces, and hands out its events one by one.
 ///
 /// It keeps the piece that was read last, and of the stream before it the bytes of an unfinished frame.
 #[derive(Drop)]
-pub(crate) struct Inbox {
-    feed: Feed,
+pub(crate) struct Inbox<F: Summary> {
+    feed: Feed<F>,
     piece: Piece,
     reads: u64,
 }
 
-impl Model for Inbox {
+impl<F: Summary> Model for Inbox<F> {
     ghost use Rattle.std.specs.Prelude.{◌≤◌, ◌^◌};
     ghost use Rattle.peer_threads.specs.Inboxes.{InboxState};
 
@@ -41,10 +41,10 @@ impl Model for Inbox {
     ghost invariant = { λ a. a.reads ≤ 2 ^ 32 };
 }
 
-impl Inbox {
+impl<F: Summary> Inbox<F> {
     /// Nothing has been read.
-    pub(crate) fn new(alloc: Global) -> Result<Inbox, AllocError>
-        ensures read { IfOk result (λ b. HasRead b [] []) }
+    pub(crate) fn new(alloc: Global) -> Result<Inbox<F>, AllocError>
+        ensures read { IfOk result (λ b. HasRead F.profile b [] []) }
         ensures reads { IfOk result (λ b. b.reads ≡ 0) }
     {
         Ok(Inbox {
@@ -54,23 +54,21 @@ impl Inbox {
         })
     }
 
-    /// Reads until the four bytes of the hello have come, or less can come. No event is handed out, and none is lost.
-    pub(crate) fn read_hello<R: Read>(
-        &mut self,
-        alloc: Global,
-        reader: &mut Watched<R>,
-    ) -> Result<(), Stop>
-        ensures read { Reads (R.remaining reader.old.inner) (R.remaining reader.new.inner) self.old
-            (λ bytes es. Greeted (seen reader.new.failed reader.new.ended) self.new bytes es result) }
-        ensures reads { Counts reader.old.reads reader.new.reads self.old self.new }
+    /// Behind the hello that came. Refused 1 where it is not that of the profile.
+    pub(crate) fn behind(alloc: Global, hello: Hello) -> Result<Inbox<F>, Stop>
+        requires { IsHello hello }
+        ensures read { IfOk result (λ b. HasRead F.profile b hello.bytes []) }
+        ensures reads { IfOk result (λ b. b.reads ≡ hello.reads) }
+        ensures stopped { IfErr result (λ stop. (s : Seen) → StopsAt F.profile s hello.bytes [] stop) }
     {
-        'reads: loop {
-            self.feed_hello(alloc)?;
-            if !self.feed.hello_is_due() {
-                return Ok(());
-            }
-            self.read_more(reader)?;
+        if hello.bytes != F::hello() {
+            return Err(Stop::Refused(WireFault::BadHello.number()));
         }
+        Ok(Inbox {
+            feed: Feed::after_hello(alloc),
+            piece: Piece::new(alloc)?,
+            reads: hello.reads,
+        })
     }
 
     /// The next event.
@@ -80,9 +78,9 @@ impl Inbox {
         &mut self,
         alloc: Global,
         reader: &mut Watched<R>,
-    ) -> Result<Event, Stop>
-        ensures read { Reads (R.remaining reader.old.inner) (R.remaining reader.new.inner) self.old
-            (λ bytes es. Next (seen reader.new.failed reader.new.ended) self.new bytes es result) }
+    ) -> Result<Event<F>, Stop>
+        ensures read { Reads F.profile (R.remaining reader.old.inner) (R.remaining reader.new.inner) self.old
+            (λ bytes es. Next F.profile (seen reader.new.failed reader.new.ended) self.new bytes es result) }
         ensures reads { Counts reader.old.reads reader.new.reads self.old self.new }
     {
         'reads: loop {
@@ -94,8 +92,8 @@ impl Inbox {
     }
 
     /// The next event of the bytes that wait. Where there is none, all of them are fed.
-    fn next_held(&mut self, alloc: Global) -> Result<Option<Event>, Stop>
-        ensures held { SoFar self.old (λ bytes es. (s : Seen) → Held s self.new bytes es result) }
+    fn next_held(&mut self, alloc: Global) -> Result<Option<Event<F>>, Stop>
+        ensures held { SoFar F.profile self.old (λ bytes es. (s : Seen) → Held F.profile s self.new bytes es result) }
         ensures none { IfOk result (λ made. IfNone made ((self.new.waiting ≡ [])
             × (fault_at self.new.feed.standing ≡ None))) }
         ensures reads { (self.new.reads ≡ self.old.reads) × (self.new.reads ≤ 2 ^ 32) }
@@ -105,41 +103,11 @@ impl Inbox {
         Ok(event)
     }
 
-    /// Feeds what waits, a few bytes at a time, until the hello has come.
-    fn feed_hello(&mut self, alloc: Global) -> Result<(), Stop>
-        ensures held { SoFar self.old (λ bytes es. (s : Seen) → Greeted s self.new bytes es result) }
-        ensures due { OnOk result (is_before_hello self.new.feed.standing ≡ true → self.new.waiting ≡ []) }
-        ensures reads { (self.new.reads ≡ self.old.reads) × (self.new.reads ≤ 2 ^ 32) }
-    {
-        'pieces: while self.feed.hello_is_due() {
-            if self.piece.rest().is_empty() {
-                return Ok(());
-            }
-            self.feed_few(alloc)?;
-        }
-        Ok(())
-    }
-
-    /// Feeds a few bytes, where the hello is due. No event ends in them.
-    fn feed_few(&mut self, alloc: Global) -> Result<(), Stop>
-        requires due { is_before_hello self.old.feed.standing ≡ true }
-        requires some { 0 < length self.old.waiting }
-        ensures held { SoFar self.old (λ bytes es. (s : Seen) → Greeted s self.new bytes es result) }
-        ensures fewer { OnOk result (length self.new.waiting < length self.old.waiting) }
-        ensures reads { (self.new.reads ≡ self.old.reads) × (self.new.reads ≤ 2 ^ 32) }
-    {
-        let rest = self.piece.rest();
-        let count = rest.len().min(HELLO_LENGTH);
-        let (taken, _none) = self.feed.next(alloc, &rest[..count])?;
-        self.piece.skip(taken);
-        Ok(())
-    }
-
     /// Reads once.
     fn read_more<R: Read>(&mut self, reader: &mut Watched<R>) -> Result<(), Stop>
         requires { self.old.waiting ≡ [] }
-        ensures read { Reads (R.remaining reader.old.inner) (R.remaining reader.new.inner) self.old
-            (λ bytes es. Fetched (seen reader.new.failed reader.new.ended) self.new bytes es result) }
+        ensures read { Reads F.profile (R.remaining reader.old.inner) (R.remaining reader.new.inner) self.old
+            (λ bytes es. Fetched F.profile (seen reader.new.failed reader.new.ended) self.new bytes es result) }
         ensures feed { self.new.feed ≡ self.old.feed }
         ensures more { OnOk result (2 ^ 32 - self.new.reads < 2 ^ 32 - self.old.reads) }
         ensures reads { Counts reader.old.reads reader.new.reads self.old self.new }

@@ -5,6 +5,7 @@ mod booking;
 mod ending;
 mod engines;
 mod gate;
+mod hello;
 mod inbox;
 mod modesty;
 mod outbox;

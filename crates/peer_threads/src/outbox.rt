@@ -4,19 +4,21 @@ ghost use Rattle.std.specs.Prelude.{◌≡◌, ◌<◌, ◌+◌, false, true, On
 ghost use Rattle.std.specs.Io.KnownBytes.{Appends};
 ghost use Rattle.peer_threads.specs.Outboxes.{outbox_state, hello_due, refusal_text, Begins, BreaksIn, WroteSo};
 
+use digest_core::Summary;
 use ends_core::{WriterFailed, write_output};
 use std::io::Write;
-use std::marker::Model;
+use std::marker::{Model, PhantomData};
 use wire_core::{Watched, encode_fault, encode_hello};
 
 /// What a side has written: whether its hello, and how many messages whole.
 #[derive(Drop)]
-pub(crate) struct Outbox {
+pub(crate) struct Outbox<F: Summary> {
     greeted: bool,
     sent: u32,
+    of: PhantomData<F>,
 }
 
-impl Model for Outbox {
+impl<F: Summary> Model for Outbox<F> {
     ghost use Rattle.peer_threads.specs.Outboxes.{OutboxState, outbox_state};
 
     ghost Value = { OutboxState };
@@ -24,14 +26,15 @@ impl Model for Outbox {
     ghost view = { λ o. outbox_state o.greeted o.sent };
 }
 
-impl Outbox {
+impl<F: Summary> Outbox<F> {
     /// Nothing was written.
-    pub(crate) fn new() -> Outbox
+    pub(crate) fn new() -> Outbox<F>
         ensures { result ≡ outbox_state false 0 }
     {
         Outbox {
             greeted: false,
             sent: 0,
+            of: PhantomData,
         }
     }
 
@@ -46,18 +49,18 @@ impl Outbox {
     pub(crate) fn greet<W: Write>(&mut self, writer: &mut Watched<W>) -> Result<(), WriterFailed>
         requires { writer.old.failed ≡ false }
         ensures whole { OnOk result (Appends (W.contents writer.old.inner) (W.contents writer.new.inner)
-            (hello_due self.old)) }
+            (hello_due F.profile self.old)) }
         ensures greeted { OnOk result (self.new ≡ outbox_state true self.old.sent) }
         ensures fine { OnOk result (writer.new.failed ≡ false) }
         ensures front { OnErr result (BreaksIn (W.contents writer.old.inner) (W.contents writer.new.inner)
-            (hello_due self.old)) }
+            (hello_due F.profile self.old)) }
         ensures same { OnErr result (self.new ≡ self.old) }
         ensures failed { OnErr result (IsTrue writer.new.failed) }
     {
         if self.greeted {
             return Ok(());
         }
-        write_output(writer, &encode_hello())?;
+        write_output(writer, &encode_hello::<F>())?;
         self.greeted = true;
         Ok(())
     }
@@ -86,7 +89,7 @@ impl Outbox {
     /// memory, and where the writer fails a beginning of it was written.
     pub(crate) fn refuse<W: Write>(self, writer: &mut Watched<W>, code: u8)
         ensures { WroteSo (W.contents writer.old.inner) (W.contents writer.new.inner) writer.new.failed
-            (refusal_text self code) }
+            (refusal_text F.profile self code) }
     {
         if writer.failed() {
             return;
@@ -102,9 +105,9 @@ impl Outbox {
     ) -> Result<(), WriterFailed>
         requires { writer.old.failed ≡ false }
         ensures whole { OnOk result (Appends (W.contents writer.old.inner) (W.contents writer.new.inner)
-            (refusal_text self code)) }
+            (refusal_text F.profile self code)) }
         ensures front { OnErr result (Begins (W.contents writer.old.inner) (W.contents writer.new.inner)
-            (refusal_text self code)) }
+            (refusal_text F.profile self code)) }
         ensures failed { OnErr result (IsTrue writer.new.failed) }
     {
         self.greet(writer)?;

@@ -42,7 +42,7 @@ fn room_for(alloc: Global, length: usize) -> Result<Vec<u8>, AllocError>
 }
 
 /// Tells that each number of the bytes is below 256; nothing is done.
-fn are_bytes(bytes: &[u8])
+pub(crate) fn are_bytes(bytes: &[u8])
     ensures { IsBytes bytes.now }
 {
     codec_laws::reads_are_bytes();

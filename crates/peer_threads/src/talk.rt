@@ -1,7 +1,6 @@
 //! What a session says and hears, once it is opened.
 
 ghost use Rattle.std.specs.Prelude.{◌≡◌, ◌≤◌, ◌<◌, ◌+◌, ◌^◌, ◌⊎◌, ℕ, true, false, [], ◌∷◌, List, Option, OnOk, IfErr};
-ghost use Rattle.definitions.specs.Fingerprints.{Lanes, two_lanes};
 ghost use Rattle.definitions.specs.Wire.{Came, Ended};
 ghost use Rattle.definitions.specs.Ends.{is_live, is_over};
 ghost use Rattle.definitions.specs.Engines.{Speaker, replied};
@@ -9,7 +8,7 @@ ghost use Rattle.definitions.specs.Hearing.{hear_now};
 ghost use Rattle.ends_core.specs.Turns.{answer_of, messages_in};
 ghost use Rattle.wire_core.specs.Events.{event_value};
 ghost use Rattle.peer_threads.specs.Inboxes.{Counts, ReadOn};
-ghost use Rattle.peer_threads.specs.Outcomes.{traffic, seen};
+ghost use Rattle.peer_threads.specs.Outcomes.{Origin, traffic_of, seen};
 ghost use Rattle.peer_threads.specs.Outboxes.{Adds};
 ghost use Rattle.peer_threads.specs.Underway.{Underway, Talked, Unsaid, Refuses, StopsBy, heard_as, most_sent, said_by};
 
@@ -20,25 +19,25 @@ use crate::outbox::Outbox;
 use crate::outcome::Side;
 use crate::party::Party;
 use crate::stop::Stop;
-use digest_core::Fingerprint;
+use digest_core::Summary;
 use ends_core::Turn;
 use std::io::{Read, Write};
 use std::sync::Wait;
 use wire_core::{Event, Message, Part, Watched, encode_message};
 
 /// Says one message: takes all memory for it, counts it in the table, writes it, and asks the gate.
-pub(crate) fn say<T: Wait, G: Gate, W: Write>(
+pub(crate) fn say<T: Wait, G: Gate, W: Write, F: Summary>(
     booking: &Booking<'_, T, G>,
-    outbox: &mut Outbox,
+    outbox: &mut Outbox<F>,
     writer: &mut Watched<W>,
-    message: &Message,
+    message: &Message<F>,
 ) -> Result<(), Stop>
     requires fine { writer.old.failed ≡ false }
     requires room { outbox.old.sent < 4294967295 }
-    ensures said { OnOk result (Adds outbox.old outbox.new (W.contents writer.old.inner)
+    ensures said { OnOk result (Adds F.profile outbox.old outbox.new (W.contents writer.old.inner)
         (W.contents writer.new.inner) (message.now ∷ [])) }
     ensures fine { OnOk result (writer.new.failed ≡ false) }
-    ensures unsaid { IfErr result (λ stop. Unsaid outbox.old outbox.new (W.contents writer.old.inner)
+    ensures unsaid { IfErr result (λ stop. Unsaid F.profile outbox.old outbox.new (W.contents writer.old.inner)
         (W.contents writer.new.inner) writer.new.failed (message.now ∷ []) stop) }
     ensures few { (outbox.new.sent ≡ outbox.old.sent) ⊎ (outbox.new.sent ≡ outbox.old.sent + 1) }
 {
@@ -49,18 +48,18 @@ pub(crate) fn say<T: Wait, G: Gate, W: Write>(
 }
 
 /// Says the reply of an end, if it has one.
-fn reply<T: Wait, G: Gate, W: Write>(
+fn reply<T: Wait, G: Gate, W: Write, F: Summary>(
     booking: &Booking<'_, T, G>,
-    outbox: &mut Outbox,
+    outbox: &mut Outbox<F>,
     writer: &mut Watched<W>,
-    turn: Turn,
+    turn: Turn<F>,
 ) -> Result<(), Stop>
     requires fine { writer.old.failed ≡ false }
     requires room { outbox.old.sent + messages_in turn < 4294967296 }
-    ensures said { OnOk result (Adds outbox.old outbox.new (W.contents writer.old.inner)
+    ensures said { OnOk result (Adds F.profile outbox.old outbox.new (W.contents writer.old.inner)
         (W.contents writer.new.inner) (replied (answer_of turn))) }
     ensures fine { OnOk result (writer.new.failed ≡ false) }
-    ensures unsaid { IfErr result (λ stop. Unsaid outbox.old outbox.new (W.contents writer.old.inner)
+    ensures unsaid { IfErr result (λ stop. Unsaid F.profile outbox.old outbox.new (W.contents writer.old.inner)
         (W.contents writer.new.inner) writer.new.failed (replied (answer_of turn)) stop) }
     ensures few { outbox.new.sent ≤ outbox.old.sent + messages_in turn }
 {
@@ -71,38 +70,38 @@ fn reply<T: Wait, G: Gate, W: Write>(
 }
 
 /// Takes one part of the peer's message.
-pub(crate) fn take<T: Wait, G: Gate, P: Party>(
+pub(crate) fn take<T: Wait, G: Gate, P: Party<F>, F: Summary>(
     booking: &Booking<'_, T, G>,
     party: &mut P,
-    part: &Part,
+    part: &Part<F>,
 ) -> Result<(), Stop>
     requires { is_over (P.held party.old).end.stage ≡ false }
     ensures heard { OnOk result (heard_as (P.held party.new)
-        ≡ hear_now two_lanes (P.held party.old).end (P.held party.old).taken (Came part.now)) }
+        ≡ hear_now F.summary (P.held party.old).end (P.held party.old).taken (Came part.now)) }
     ensures end { OnOk result ((P.held party.new).end ≡ (P.held party.old).end) }
     ensures most { OnOk result (most_sent P.most (P.held party.new) ≡ most_sent P.most (P.held party.old)) }
-    ensures stopped { IfErr result (λ stop. Refuses (P.held party.old) (Came part.now) stop) }
+    ensures stopped { IfErr result (λ stop. Refuses F.summary (P.held party.old) (Came part.now) stop) }
 {
     Ok(party.take(booking.alloc(), part)?)
 }
 
 /// Takes the end of the peer's message, and says the reply to it, if it wants one.
-pub(crate) fn end<T: Wait, G: Gate, P: Party, W: Write>(
+pub(crate) fn end<T: Wait, G: Gate, P: Party<F>, W: Write, F: Summary>(
     booking: &Booking<'_, T, G>,
     party: &mut P,
-    outbox: &mut Outbox,
+    outbox: &mut Outbox<F>,
     writer: &mut Watched<W>,
 ) -> Result<(), Stop>
     requires fine { writer.old.failed ≡ false }
     requires count { outbox.old.sent ≡ (P.held party.old).end.sent }
     ensures heard { OnOk result (heard_as (P.held party.new)
-        ≡ hear_now two_lanes (P.held party.old).end (P.held party.old).taken Ended) }
-    ensures said { OnOk result (Adds outbox.old outbox.new (W.contents writer.old.inner)
+        ≡ hear_now F.summary (P.held party.old).end (P.held party.old).taken Ended) }
+    ensures said { OnOk result (Adds F.profile outbox.old outbox.new (W.contents writer.old.inner)
         (W.contents writer.new.inner) (said_by (P.held party.old) Ended)) }
     ensures fine { OnOk result (writer.new.failed ≡ false) }
     ensures count { OnOk result (outbox.new.sent ≡ (P.held party.new).end.sent) }
     ensures most { OnOk result (most_sent P.most (P.held party.new) ≡ most_sent P.most (P.held party.old)) }
-    ensures stopped { IfErr result (λ stop. StopsBy (P.held party.old) Ended outbox.old outbox.new
+    ensures stopped { IfErr result (λ stop. StopsBy F.summary F.profile (P.held party.old) Ended outbox.old outbox.new
         (W.contents writer.old.inner) (W.contents writer.new.inner) writer.new.failed stop) }
     ensures few { outbox.new.sent ≤ most_sent P.most (P.held party.old) }
 {
@@ -113,25 +112,25 @@ pub(crate) fn end<T: Wait, G: Gate, P: Party, W: Write>(
 }
 
 /// Hears one event: a part, the end of a message, or a fault frame.
-fn hear<T: Wait, G: Gate, P: Party, W: Write>(
+fn hear<T: Wait, G: Gate, P: Party<F>, W: Write, F: Summary>(
     booking: &Booking<'_, T, G>,
     party: &mut P,
-    outbox: &mut Outbox,
+    outbox: &mut Outbox<F>,
     writer: &mut Watched<W>,
-    event: &Event,
+    event: &Event<F>,
 ) -> Result<(), Stop>
     requires fine { writer.old.failed ≡ false }
     requires count { outbox.old.sent ≡ (P.held party.old).end.sent }
     requires goes { is_over (P.held party.old).end.stage ≡ false }
     ensures heard { OnOk result (heard_as (P.held party.new)
-        ≡ hear_now two_lanes (P.held party.old).end (P.held party.old).taken (event_value event.now)) }
-    ensures said { OnOk result (Adds outbox.old outbox.new (W.contents writer.old.inner)
+        ≡ hear_now F.summary (P.held party.old).end (P.held party.old).taken (event_value event.now)) }
+    ensures said { OnOk result (Adds F.profile outbox.old outbox.new (W.contents writer.old.inner)
         (W.contents writer.new.inner) (said_by (P.held party.old) (event_value event.now))) }
     ensures fine { OnOk result (writer.new.failed ≡ false) }
     ensures count { OnOk result (outbox.new.sent ≡ (P.held party.new).end.sent) }
     ensures most { OnOk result (most_sent P.most (P.held party.new) ≡ most_sent P.most (P.held party.old)) }
-    ensures stopped { IfErr result (λ stop. StopsBy (P.held party.old) (event_value event.now) outbox.old outbox.new
-        (W.contents writer.old.inner) (W.contents writer.new.inner) writer.new.failed stop) }
+    ensures stopped { IfErr result (λ stop. StopsBy F.summary F.profile (P.held party.old) (event_value event.now) outbox.old
+        outbox.new (W.contents writer.old.inner) (W.contents writer.new.inner) writer.new.failed stop) }
     ensures few { outbox.new.sent ≤ most_sent P.most (P.held party.old) }
 {
     let _few = party.sent();
@@ -143,32 +142,32 @@ fn hear<T: Wait, G: Gate, P: Party, W: Write>(
 }
 
 /// Hears one event after another until the session is over.
-pub(crate) fn talk<T: Wait, G: Gate, P: Party, R: Read, W: Write>(
+pub(crate) fn talk<T: Wait, G: Gate, P: Party<F>, R: Read, W: Write, F: Summary>(
     booking: &Booking<'_, T, G>,
     party: &mut P,
-    inbox: &mut Inbox,
-    outbox: &mut Outbox,
+    inbox: &mut Inbox<F>,
+    outbox: &mut Outbox<F>,
     reader: &mut Watched<R>,
     writer: &mut Watched<W>,
 ) -> Result<(), Stop>
     requires fine { writer.old.failed ≡ false }
     requires count { outbox.old.sent ≡ (P.held party.old).end.sent }
-    ensures talked { (s : Speaker Lanes) (unread held : Option (List ℕ)) → is_live s.start.stage ≡ true →
-        Underway s (P.held party.old) inbox.old outbox.old
-        (traffic unread (R.remaining reader.old.inner) held (W.contents writer.old.inner)) →
-        Talked s (P.held party.new).end outbox.new
-        (traffic unread (R.remaining reader.new.inner) held (W.contents writer.new.inner))
+    ensures talked { (s : Speaker F) (unread : Origin) (held : Option (List ℕ)) → is_live s.start.stage ≡ true →
+        Underway F.summary F.profile s (P.held party.old) inbox.old outbox.old
+        (traffic_of unread (R.remaining reader.old.inner) held (W.contents writer.old.inner)) →
+        Talked F.summary F.profile s (P.held party.new).end outbox.new
+        (traffic_of unread (R.remaining reader.new.inner) held (W.contents writer.new.inner))
         (seen reader.new.failed reader.new.ended) writer.new.failed result }
-    ensures on { (s : Speaker Lanes) (unread held : Option (List ℕ)) → is_live s.start.stage ≡ true →
-        Underway s (P.held party.old) inbox.old outbox.old
-        (traffic unread (R.remaining reader.old.inner) held (W.contents writer.old.inner)) →
+    ensures on { (s : Speaker F) (unread : Origin) (held : Option (List ℕ)) → is_live s.start.stage ≡ true →
+        Underway F.summary F.profile s (P.held party.old) inbox.old outbox.old
+        (traffic_of unread (R.remaining reader.old.inner) held (W.contents writer.old.inner)) →
         ReadOn (R.remaining reader.old.inner) (R.remaining reader.new.inner) }
     ensures few { outbox.new.sent ≤ most_sent P.most (P.held party.old) }
     ensures reads { inbox.old.reads ≤ 2 ^ 32 → Counts reader.old.reads reader.new.reads inbox.old inbox.new }
 {
-    laws::frames_say::<Fingerprint>();
-    laws::own_begins::<Fingerprint>();
-    laws::bytes_agree::<Fingerprint>();
+    laws::frames_say::<F>();
+    laws::own_begins::<F>();
+    laws::bytes_agree::<F>();
     let _few = party.sent();
     for _turn in 0..u64::MAX {
         if party.is_over() {

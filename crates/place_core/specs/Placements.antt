@@ -3,20 +3,19 @@
 --     start_of p                  before the first part
 --     due own cursor              the items of the first List at or behind the cursor
 use Rattle.std.specs.Prelude.{Bool, List, [], ◌∷◌, drop, if◌then◌else◌}
-use Rattle.definitions.specs.Fingerprints.{Lanes}
 use Rattle.definitions.specs.Items.{Item}
 use Rattle.definitions.specs.Messages.{Sum, Listing, Answer, Message}
 use Rattle.definitions.specs.Placing.{Place, First, behind}
 use Rattle.place_core.specs.declared.cursor.Cursor.{Cursor}
 use Rattle.place_core.specs.declared.cursor.Cursor.TheVariants as cursors
 
-pub record Placement : Type 0 where
+pub record Placement (F : Type 0) : Type 0 where
   -- it is the first message of all, which answers none
   pub first : Bool
-  pub own : Message Lanes
-  pub now : Place Lanes
+  pub own : Message F
+  pub now : Place F
 
-abbrev pub start_of : Placement → Place Lanes
+abbrev pub start_of : {F : Type 0} → Placement F → Place F
 start_of p = if p.first then First else behind p.own
 
 -- the items of the first List

@@ -2,7 +2,6 @@
 
 ghost use Rattle.std.specs.Prelude.{◌≡◌, drop};
 ghost use Rattle.std.specs.List.{list_any};
-ghost use Rattle.definitions.specs.Fingerprints.{Lanes};
 ghost use Rattle.definitions.specs.Messages.{Message, open_parts};
 ghost use Rattle.definitions.specs.Placing as placing;
 ghost use Rattle.place_core.specs.PlaceFaults.{fault_in};
@@ -12,6 +11,7 @@ ghost use Rattle.place_core.specs.Placements.{first_list as list_first};
 
 use crate::fault::PlaceFault;
 use crate::fit::{Fit, meet, rest_behind};
+use digest_core::Summary;
 use item_core::{Item, Range};
 use wire_core::{Part, PartKind};
 
@@ -29,14 +29,14 @@ pub enum Cursor {
 
 impl Cursor {
     /// Before the first part of a message that answers an own message.
-    pub fn start() -> Cursor
-        ensures { (sent : Message Lanes) → place_at sent result ≡ placing.behind sent }
+    pub fn start<F: Summary>() -> Cursor
+        ensures { (sent : Message F) → place_at sent result ≡ placing.behind sent }
     {
         Cursor::Behind(0, None)
     }
 
     /// Places the next part. A refusal stays.
-    pub fn next(&mut self, sent: &[Part], part: &Part) -> Result<(), PlaceFault>
+    pub fn next<F: Summary>(&mut self, sent: &[Part<F>], part: &Part<F>) -> Result<(), PlaceFault>
         ensures place { place_at sent.now self.new ≡ placing.next (place_at sent.now self.old) part.now }
         ensures fault { fault_in result ≡ placing.refusal (place_at sent.now self.new) }
     {
@@ -46,12 +46,12 @@ impl Cursor {
             Cursor::Behind(at, Some(rest)) => next_inside(at, &rest, part),
             Cursor::Refused(fault) => Cursor::Refused(fault),
         };
-        self.refused()
+        self.refused::<F>()
     }
 
     /// The refusal, if there is one.
-    fn refused(&self) -> Result<(), PlaceFault>
-        ensures { (sent : Message Lanes) → fault_in result ≡ placing.refusal (place_at sent self.now) }
+    fn refused<F: Summary>(&self) -> Result<(), PlaceFault>
+        ensures { (sent : Message F) → fault_in result ≡ placing.refusal (place_at sent self.now) }
     {
         match self {
             Cursor::Refused(fault) => Err(*fault),
@@ -60,7 +60,7 @@ impl Cursor {
     }
 
     /// The items of the first List at or behind the cursor.
-    pub fn due<'a>(&self, sent: &'a [Part]) -> &'a [Item]
+    pub fn due<'a, F: Summary>(&self, sent: &'a [Part<F>]) -> &'a [Item]
         ensures { result.now ≡ due sent.now self.now }
     {
         match self {
@@ -70,7 +70,7 @@ impl Cursor {
     }
 
     /// Whether the message may end here.
-    pub fn finish(&self, sent: &[Part]) -> Result<(), PlaceFault>
+    pub fn finish<F: Summary>(&self, sent: &[Part<F>]) -> Result<(), PlaceFault>
         ensures { fault_in result ≡ placing.finish (place_at sent.now self.now) }
     {
         match self {
@@ -83,7 +83,7 @@ impl Cursor {
 }
 
 /// The items of the first List of the parts.
-fn first_list(parts: &[Part]) -> &[Item]
+fn first_list<F: Summary>(parts: &[Part<F>]) -> &[Item]
     ensures { result.now ≡ list_first parts.now }
 {
     let mut left = parts;
@@ -97,21 +97,21 @@ fn first_list(parts: &[Part]) -> &[Item]
 }
 
 /// The parts from a place on.
-fn rest_of(sent: &[Part], at: usize) -> &[Part]
+fn rest_of<F: Summary>(sent: &[Part<F>], at: usize) -> &[Part<F>]
     ensures { result.now ≡ drop at sent.now }
 {
     &sent[at.min(sent.len())..]
 }
 
 /// Whether a part is a List.
-fn has_list(parts: &[Part]) -> bool
+fn has_list<F: Summary>(parts: &[Part<F>]) -> bool
     ensures { result ≡ list_any placing.is_list parts.now }
 {
     parts.iter().any(|part| part.kind() == PartKind::List)
 }
 
 /// Outside a partition no List may be left without an Answer.
-fn finish_outside(left: &[Part]) -> Result<(), PlaceFault>
+fn finish_outside<F: Summary>(left: &[Part<F>]) -> Result<(), PlaceFault>
     ensures { fault_in result ≡ placing.finish (placing.placed (open_parts left.now)) }
 {
     if has_list(left) {
@@ -121,7 +121,7 @@ fn finish_outside(left: &[Part]) -> Result<(), PlaceFault>
 }
 
 /// The first part of all: a Sum over everything, behind which nothing may come.
-fn next_first(sent: &[Part], part: &Part) -> Cursor
+fn next_first<F: Summary>(sent: &[Part<F>], part: &Part<F>) -> Cursor
     ensures { place_at sent.now result ≡ placing.next_first part.now }
 {
     if part.kind() == PartKind::Sum && *part.range() == Range::whole() {
@@ -132,7 +132,7 @@ fn next_first(sent: &[Part], part: &Part) -> Cursor
 }
 
 /// Outside a partition the own parts are looked at in order.
-fn next_outside(sent: &[Part], start: usize, part: &Part) -> Cursor
+fn next_outside<F: Summary>(sent: &[Part<F>], start: usize, part: &Part<F>) -> Cursor
     ensures { place_at sent.now result ≡ placing.next_outside (open_parts (drop start sent.now)) part.now }
 {
     let mut at = start;
@@ -148,8 +148,8 @@ fn next_outside(sent: &[Part], start: usize, part: &Part) -> Cursor
 }
 
 /// Inside a partition, of which a rest is still to come.
-fn next_inside(at: usize, rest: &Range, part: &Part) -> Cursor
-    ensures { (sent : Message Lanes) →
+fn next_inside<F: Summary>(at: usize, rest: &Range, part: &Part<F>) -> Cursor
+    ensures { (sent : Message F) →
         place_at sent result ≡ placing.next_inside (open_parts (drop at sent)) rest.now part.now }
 {
     if part.kind() != PartKind::Sum {

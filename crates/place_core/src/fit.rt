@@ -3,13 +3,13 @@
 ghost use Rattle.std.specs.Prelude.{◌≡◌, ◌∷◌};
 ghost use Rattle.std.specs.List.{list_any};
 ghost use Rattle.definitions.specs.Sets.{IsSet, has};
-ghost use Rattle.definitions.specs.Fingerprints.{Lanes};
 ghost use Rattle.definitions.specs.Messages as messages;
 ghost use Rattle.definitions.specs.Messages.{Message, Sum, Listing, open_parts};
 ghost use Rattle.definitions.specs.Placing.{next_outside, next_sum};
 ghost use Rattle.place_core.specs.Fits.{rest_between, after_fit};
 
 use crate::fault::PlaceFault;
+use digest_core::Summary;
 use item_core::{Item, Lower, Range, Upper, is_listed};
 use wire_core::{Part, PartKind};
 
@@ -43,9 +43,9 @@ fn repeats(listed: &[Item], items: &[Item]) -> bool
 }
 
 /// A part where a List of the range is open.
-fn list_fit(range: &Range, listed: &[Item], part: &Part) -> Fit
+fn list_fit<F: Summary>(range: &Range, listed: &[Item], part: &Part<F>) -> Fit
     requires { IsSet listed.now }
-    ensures { (left : Message Lanes) →
+    ensures { (left : Message F) →
         next_outside (Listing range.now listed.now ∷ left) part.now ≡ after_fit result left part.now }
 {
     let (Some(marks), Some(items)) = (part.marks(), part.items()) else {
@@ -64,8 +64,8 @@ fn list_fit(range: &Range, listed: &[Item], part: &Part) -> Fit
 }
 
 /// A Sum that begins where an open Sum of the range begins.
-fn cut_fit(range: &Range, part: &Range) -> Fit
-    ensures { (left : Message Lanes) (p : messages.Part Lanes) →
+fn cut_fit<F: Summary>(range: &Range, part: &Range) -> Fit
+    ensures { (left : Message F) (p : messages.Part F) →
         next_sum left range.now part.now ≡ after_fit result left p }
 {
     if range.upper() == part.upper() {
@@ -78,20 +78,20 @@ fn cut_fit(range: &Range, part: &Range) -> Fit
 }
 
 /// A part where a Sum of the range is open.
-fn sum_fit(range: &Range, part: &Part) -> Fit
-    ensures { (f : Lanes) (left : Message Lanes) →
+fn sum_fit<F: Summary>(range: &Range, part: &Part<F>) -> Fit
+    ensures { (f : F) (left : Message F) →
         next_outside (Sum range.now f ∷ left) part.now ≡ after_fit result left part.now }
 {
     match part.kind() {
         PartKind::List if part.range() == range => Fit::Placed(None),
-        PartKind::Sum if part.range().lower() == range.lower() => cut_fit(range, part.range()),
+        PartKind::Sum if part.range().lower() == range.lower() => cut_fit::<F>(range, part.range()),
         _ => Fit::Skipped,
     }
 }
 
 /// A part where this part of the own message is the next one; an Answer is open to nothing.
-pub fn meet(own: &Part, part: &Part) -> Fit
-    ensures { (left : Message Lanes) →
+pub fn meet<F: Summary>(own: &Part<F>, part: &Part<F>) -> Fit
+    ensures { (left : Message F) →
         next_outside (open_parts (own.now ∷ left)) part.now ≡ after_fit result (open_parts left) part.now }
 {
     if own.kind() == PartKind::Answer {

@@ -8,6 +8,7 @@ ghost use Rattle.place_core.specs.Placements.{start_of, due};
 
 use crate::cursor::Cursor;
 use crate::fault::PlaceFault;
+use digest_core::{Fingerprint, Summary};
 use item_core::Item;
 use std::alloc::{AllocError, Global};
 use std::marker::Model;
@@ -16,18 +17,18 @@ use wire_core::{Part, PartKind};
 /// Where the placing of a message stands: the open parts of the own message, of which it keeps a copy, and a cursor in
 /// them. Only `after` takes memory.
 #[derive(Debug, Drop)]
-pub struct Place {
+pub struct Place<F: Summary = Fingerprint> {
     first: bool,
-    own: Vec<Part>,
+    own: Vec<Part<F>>,
     cursor: Cursor,
 }
 
-impl Model for Place {
+impl<F: Summary> Model for Place<F> {
     ghost use Rattle.std.specs.Prelude.{◌≡◌, true, []};
     ghost use Rattle.place_core.specs.Cursors.{place_at};
     ghost use Rattle.place_core.specs.Placements.{Placement};
 
-    ghost Value = { Placement };
+    ghost Value = { Placement F };
 
     ghost view = { λ a. record { first = a.first; own = a.own.items; now = place_at a.own.items a.cursor } };
 
@@ -35,7 +36,11 @@ impl Model for Place {
 }
 
 /// Appends a copy of the part, where it is open.
-fn push_open(alloc: Global, kept: &mut Vec<Part>, part: &Part) -> Result<(), AllocError>
+fn push_open<F: Summary>(
+    alloc: Global,
+    kept: &mut Vec<Part<F>>,
+    part: &Part<F>,
+) -> Result<(), AllocError>
     ensures { OnOk result (kept.new.items
         ≡ kept.old.items ++ (if messages.is_open part.now then part.now ∷ [] else [])) }
 {
@@ -46,7 +51,7 @@ fn push_open(alloc: Global, kept: &mut Vec<Part>, part: &Part) -> Result<(), All
 }
 
 /// Copies of the open parts.
-fn open_of(alloc: Global, parts: &[Part]) -> Result<Vec<Part>, AllocError>
+fn open_of<F: Summary>(alloc: Global, parts: &[Part<F>]) -> Result<Vec<Part<F>>, AllocError>
     ensures { IfOk result (λ v. v.items ≡ open_parts parts.now) }
 {
     let mut kept = Vec::new(alloc);
@@ -56,9 +61,9 @@ fn open_of(alloc: Global, parts: &[Part]) -> Result<Vec<Part>, AllocError>
     Ok(kept)
 }
 
-impl Place {
+impl<F: Summary> Place<F> {
     /// Before the first message of all, which answers none.
-    pub fn opening(alloc: Global) -> Place
+    pub fn opening(alloc: Global) -> Place<F>
         ensures { result ≡ record { first = true; own = []; now = placing.First } }
     {
         Place {
@@ -69,7 +74,7 @@ impl Place {
     }
 
     /// Before a message that answers an own one, of these parts.
-    pub fn after(alloc: Global, sent: &[Part]) -> Result<Place, AllocError>
+    pub fn after(alloc: Global, sent: &[Part<F>]) -> Result<Place<F>, AllocError>
         ensures { IfOk result (λ p. p ≡ record {
           first = false;
           own = open_parts sent.now;
@@ -79,12 +84,12 @@ impl Place {
         Ok(Place {
             first: false,
             own: open_of(alloc, sent)?,
-            cursor: Cursor::start(),
+            cursor: Cursor::start::<F>(),
         })
     }
 
     /// Places the next part. A refusal stays.
-    pub fn next(&mut self, part: &Part) -> Result<(), PlaceFault>
+    pub fn next(&mut self, part: &Part<F>) -> Result<(), PlaceFault>
         ensures place { self.new ≡ record self.old { now = placing.next self.old.now part.now } }
         ensures fault { fault_in result ≡ placing.refusal self.new.now }
     {
@@ -105,7 +110,7 @@ impl Place {
         self.cursor = if self.first {
             Cursor::First
         } else {
-            Cursor::start()
+            Cursor::start::<F>()
         };
     }
 

@@ -9,11 +9,11 @@ ghost use Rattle.place_core.specs.PlaceFaults.{fault_in};
 
 use crate::cursor::Cursor;
 use crate::fault::PlaceFault;
-use digest_core::Fingerprint;
+use digest_core::Summary;
 use wire_core::{Message, Part};
 
 /// Places each of the parts. Of parts behind a refusal nothing is looked at.
-fn place_parts(cursor: &mut Cursor, sent: &[Part], parts: &[Part])
+fn place_parts<F: Summary>(cursor: &mut Cursor, sent: &[Part<F>], parts: &[Part<F>])
     ensures { place_at sent.now cursor.new ≡ fold placing.next (place_at sent.now cursor.old) parts.now }
 {
     for part in parts {
@@ -24,15 +24,15 @@ fn place_parts(cursor: &mut Cursor, sent: &[Part], parts: &[Part])
 /// Whether the message may follow the own message that it answers.
 ///
 /// Refused 20 to 25 by the first thing that is out of place.
-pub fn place_message(sent: &Message, message: &Message) -> Result<(), PlaceFault>
+pub fn place_message<F: Summary>(sent: &Message<F>, message: &Message<F>) -> Result<(), PlaceFault>
     ensures fault { fault_in result ≡ placing.place_fault sent.now message.now }
     ensures placed { Apart (open_ranges sent.now) → IsOk result ↔ placing.Placed sent.now message.now }
 {
-    laws::placing_is_exact::<Fingerprint>();
-    laws::messages_have_ranges::<Fingerprint>();
+    laws::placing_is_exact::<F>();
+    laws::messages_have_ranges::<F>();
     let own = sent.parts();
     let received = message.parts();
-    let mut cursor = Cursor::start();
+    let mut cursor = Cursor::start::<F>();
     place_parts(&mut cursor, own, received);
     cursor.finish(own)
 }
@@ -40,12 +40,14 @@ pub fn place_message(sent: &Message, message: &Message) -> Result<(), PlaceFault
 /// Whether the message may be the first of all: one Sum over everything.
 ///
 /// Refused 20 else.
-pub fn place_opening(message: &Message) -> Result<(), PlaceFault>
+pub fn place_opening<F: Summary>(message: &Message<F>) -> Result<(), PlaceFault>
     ensures fault { fault_in result ≡ placing.opening_fault message.now }
     ensures opening { IsOk result ↔ IsOpening message.now }
 {
-    laws::opening_is_exact::<Fingerprint>();
+    laws::opening_is_exact::<F>();
+    let received = message.parts();
+    let none = &received[..0];
     let mut cursor = Cursor::First;
-    place_parts(&mut cursor, &[], message.parts());
-    cursor.finish(&[])
+    place_parts(&mut cursor, none, received);
+    cursor.finish(none)
 }

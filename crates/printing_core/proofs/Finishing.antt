@@ -63,7 +63,7 @@ delivered_all (suc n) w k =
 
 -- ==== So a finish ends its session
 
-pub finish_ends : {D E : Type 0} (r : Result D E) (w v : World) (k n : ℕ) → EndsByDeliveries w → 513 ≤ n →
+pub finish_ends : {D E : Type 0} (r : Result D E) (w v : World) (k n : ℕ) → EndsByDeliveries two_lanes w → 513 ≤ n →
     OnOk r (v ≡ delivered n w k) → OnOk r (HasEnded k v)
 finish_ends (Err e) w v k n ends many ok = tt
 finish_ends (Ok d) w v k n ends many ok =

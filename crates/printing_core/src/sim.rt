@@ -133,7 +133,7 @@ pub fn sim_text(alloc: Global, scenario: Scenario) -> Result<String, Fault>
 {
     let Scenario { nodes, steps } = scenario;
     let setup = setup_of(alloc, nodes)?;
-    let mut world = World::new(alloc, &setup)?;
+    let mut world: World<'_> = World::new(alloc, &setup)?;
     do_steps(alloc, &mut world, &steps)?;
     Ok(reports_text(alloc, &world)?)
 }

@@ -11,6 +11,8 @@ use Rattle.range_tree.specs.Parts.{IsFull}
 use Rattle.range_tree.specs.Grown.{grown_parts, GrewWide}
 use Rattle.range_tree.specs.Leaves.{leaf_items, leaf_width}
 use Rattle.range_tree.specs.Branches.{branch_items, branch_width}
+use Rattle.range_tree.specs.declared.tree.Tree.{Tree}
+use Rattle.range_tree.specs.Trees.{tree_items}
 
 module _ {P : Type 0} (width : P → ℕ) where
   abbrev pub IsWide : List P → Type 0
@@ -111,7 +113,13 @@ wide_branches (b ∷ bs) all =
     let rest = wide_branches bs all.1 in
     omega arith
 
-pub few_branches : (bs : List Branch) → IsFull branch_width bs → length (flat_map branch_items bs) ≤ 65536 → length bs ≤ 64
+few_branches : (bs : List Branch) → IsFull branch_width bs → length (flat_map branch_items bs) ≤ 65536 → length bs ≤ 64
 few_branches [] full low = omega arith
 few_branches (b ∷ []) full low = omega arith
 few_branches (b ∷ c ∷ bs) full low = let most = wide_branches (b ∷ c ∷ bs) full in omega arith
+
+pub few_in_tree : (t : Tree) → length (tree_items t) ≤ 65536 → length t.branches.items ≤ 64
+few_in_tree t low =
+    let few = few_branches (map (arc_value {X = Branch}) t.branches.items) t.full low in
+    let len = length-map t.branches.items (arc_value {X = Branch}) in
+    omega arith

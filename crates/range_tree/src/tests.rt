@@ -57,6 +57,8 @@ fn counts(rt: &impl Abort, tree: &Tree) {
     assert!(rt; tree.sum_counted(&sixteen(rt)).1 <= 44);
     assert!(rt; tree.sum_counted(&last).1 <= 44);
     assert!(rt; tree.sum(&last) == Fingerprint::of_item(&item(rt, 0xffff)));
+    let (count, sum, compared) = tree.count_and_sum_counted(&last);
+    assert!(rt; count == 1 && sum == tree.sum(&last) && compared <= 44);
 }
 
 #[test]

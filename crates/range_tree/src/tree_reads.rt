@@ -57,6 +57,13 @@ impl Tree {
         (from, to, some.saturating_add(more))
     }
 
+    /// How many items stand from one place on and before another.
+    pub(crate) fn between(&self, from: usize, to: usize) -> usize
+        ensures { result ≡ length (span from to (tree_items self.now)) }
+    {
+        to.min(self.count).saturating_sub(from)
+    }
+
     /// The fingerprint of the items in the range, and how many comparisons of a node's item with a
     /// bound were made: at most 44 where there are at most 65,536 items.
     pub fn sum_counted(&self, range: &Range) -> (Fingerprint, usize)
@@ -65,6 +72,18 @@ impl Tree {
     {
         let (from, to, compared) = self.places(range);
         (parts::sum_between(&self.branches, from, to), compared)
+    }
+
+    /// How many items the range holds, their fingerprint, and how many comparisons of a node's item
+    /// with a bound were made: at most 44 where there are at most 65,536 items.
+    pub fn count_and_sum_counted(&self, range: &Range) -> (usize, Fingerprint, usize)
+        ensures count { result.0 ≡ length (items_in (tree_items self.now) range.now) }
+        ensures sum { result.1 ≡ two_lanes.of (items_in (tree_items self.now) range.now) }
+        ensures steps { length (tree_items self.now) ≤ 65536 → result.2 ≤ 44 }
+    {
+        let (from, to, compared) = self.places(range);
+        let sum = parts::sum_between(&self.branches, from, to);
+        (self.between(from, to), sum, compared)
     }
 
     /// Where the item would go, unless it is there.

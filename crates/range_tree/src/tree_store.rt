@@ -81,11 +81,16 @@ impl RangeStore for Tree {
 
     fn count(&self, range: &Range) -> usize {
         let (from, to, _) = self.places(range);
-        to.min(self.count).saturating_sub(from)
+        self.between(from, to)
     }
 
     fn sum(&self, range: &Range) -> Fingerprint {
         self.sum_counted(range).0
+    }
+
+    fn count_and_sum(&self, range: &Range) -> (usize, Fingerprint) {
+        let (count, sum, _) = self.count_and_sum_counted(range);
+        (count, sum)
     }
 
     fn nth(&self, range: &Range, place: usize) -> Item {

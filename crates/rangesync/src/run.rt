@@ -6,7 +6,7 @@ ghost use Rattle.settings_core.specs.Spans.{AreInSpan};
 
 use crate::opening::read_opening;
 use crate::serve::{Serving, serve};
-use crate::sync::sync;
+use crate::sync::{Asking, sync};
 use ends_core::{answer, list_reply, read_input, write_output};
 use printing_core::{Fault, checked_text, decode_text, encode_lines, sim_text, tell, tell_words};
 use settings_core::{Command, read_items, read_strategy, read_words, scenario_of};
@@ -122,8 +122,12 @@ where
         Command::Sync {
             table,
             address,
+            profile,
             items,
-        } => sync(rt, read_opening(rt, table, items)?, address, out),
+        } => {
+            let asking = Asking { address, profile };
+            sync(rt, read_opening(rt, table, items)?, asking, out)
+        }
     }
 }
 

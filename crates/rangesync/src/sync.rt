@@ -3,10 +3,12 @@
 ghost use Rattle.std.specs.Prelude.{◌≡◌};
 
 use crate::opening::Opening;
+use digest_core::{Counted, Fingerprint};
 use ends_core::write_output;
 use peer_threads::{OpenGate, Shared, dial_one};
 use printing_core::{Fault, outcome_text};
 use session_table::SessionTable;
+use settings_core::WireProfile;
 use std::io::Write;
 use std::net::{Net, TcpStream};
 use std::sync::{Mutex, Wait};
@@ -14,13 +16,22 @@ use tcp_front::connect;
 use version_lock::VersionLock;
 use wire_core::Watched;
 
+/// With whom a session is run.
+#[derive(Clone, Copy)]
+pub struct Asking<'a> {
+    /// The address to connect to.
+    pub address: &'a str,
+    /// The wire profile that is spoken.
+    pub profile: WireProfile,
+}
+
 /// Runs one session as the initiator, and prints what was learned.
 ///
 /// Else 90, 61, the number of the refusal of this side or of the peer, or `io read` or `io write`.
 pub fn sync<R: Net<Stream = TcpStream> + Wait + AllocGlobal, O: Write + Drop>(
     rt: &R,
     opening: Opening,
-    address: &str,
+    asking: Asking<'_>,
     out: O,
 ) -> Result<(), Fault>
     requires cap { opening.log.cap ≡ opening.accepted.table.cap }
@@ -29,7 +40,7 @@ pub fn sync<R: Net<Stream = TcpStream> + Wait + AllocGlobal, O: Write + Drop>(
     let Opening { accepted, log } = opening;
     let (lock, mut seat) = VersionLock::new(alloc, log)?;
     let sessions = Mutex::new(SessionTable::new(alloc, 1)?);
-    let stream = connect(rt, address)?;
+    let stream = connect(rt, asking.address)?;
     let shared = Shared {
         lock: &lock,
         accepted: &accepted,
@@ -38,7 +49,28 @@ pub fn sync<R: Net<Stream = TcpStream> + Wait + AllocGlobal, O: Write + Drop>(
     };
     let mut reader = Watched::new(&stream);
     let mut writer = Watched::new(&stream);
-    let outcome = dial_one(rt, alloc, &shared, &mut seat, &mut reader, &mut writer);
+    let outcome = match asking.profile {
+        WireProfile::One => {
+            dial_one::<_, _, _, _, _, Fingerprint>(
+                rt,
+                alloc,
+                &shared,
+                &mut seat,
+                &mut reader,
+                &mut writer,
+            )
+        }
+        WireProfile::Two => {
+            dial_one::<_, _, _, _, _, Counted>(
+                rt,
+                alloc,
+                &shared,
+                &mut seat,
+                &mut reader,
+                &mut writer,
+            )
+        }
+    };
     let text = outcome_text(alloc, &outcome)?;
     write_output(&mut Watched::new(out), text.as_bytes())?;
     Ok(())

@@ -7,7 +7,9 @@ use Rattle.std.specs.declared.num.ParseIntError.{ParseIntError}
 use Rattle.clap.specs.Words.{ReadsOne, TriesOne, Text, one_text, rows_of}
 use Rattle.clap.specs.declared.parser.matches.Found.{Found}
 use Rattle.clap.proofs.WalkLemmas.{one_text-rows}
-use Rattle.settings_core.specs.Calls.{Finds, IsNumber, IsWritten}
+use Rattle.settings_core.specs.Calls.{Finds, IsNumber, IsWritten, profile_number}
+use Rattle.settings_core.specs.declared.words.WireProfile.{WireProfile}
+use Rattle.settings_core.specs.declared.words.WireProfile.TheVariants as profiles
 use Rattle.settings_core.specs.Spans.{IsSessionCount}
 
 -- what `parse` gives at an unsigned number of k bits
@@ -27,6 +29,10 @@ pub one_number : (text : Option Text) (n : ℕ) (x : Option ℕ) → IsWritten t
 one_number None n x written other = absurd written
 one_number (Some text) n None written other = absurd other
 one_number (Some text) n (Some m) written other = ap Some (other.1 ∙ sym written.1)
+
+pub same_number : (text : Option Text) (n m : ℕ) → IsWritten text (Some n) → IsWritten text (Some m) → n ≡ m
+same_number None n m written other = absurd written
+same_number (Some text) n m written other = written.1 ∙ sym other.1
 
 -- a text that is no number of k bits writes none
 no_number : (k : ℕ) (text : Text) (e : ParseIntError) (n : ℕ) → ParsesUnsigned k 10 text (Err e) → n < 2 ^ k
@@ -83,3 +89,13 @@ number_tried k f id r none value = subst (λ t. Tells k t r) (one_text-rows f id
 pub small : (x : Option ℕ) → IfSome x IsSessionCount → IfSome x (λ n. n < 2 ^ 32)
 small None span = tt
 small (Some n) span = omega (arith, span)
+
+-- another number names no profile
+pub no_profile : (text : Option Text) (n : ℕ) → IsWritten text (Some n) → (n ≡ 1 → ⊥) → (n ≡ 2 → ⊥) →
+    (p : WireProfile) → IsWritten text (Some (profile_number p)) → ⊥
+no_profile text n written one two profiles.One other = one (same_number text n 1 written other)
+no_profile text n written one two profiles.Two other = two (same_number text n 2 written other)
+
+pub small_profile : (p : WireProfile) → profile_number p < 2 ^ 8
+small_profile profiles.One = omega arith
+small_profile profiles.Two = omega arith

@@ -1,6 +1,7 @@
 -- What the words of a call ask for.
 --     AsksFor name rows c    the command of this name, with these values, is c
 --     WordsAskFor words c    the words, of which the first is the program's own name, are well formed and ask for c
+--     profile_number p       how a wire profile is named
 --     Finds P found          what was found has this property; or nothing was found, and nothing has it
 use Rattle.std.specs.Prelude.{◌≡◌, ℕ, codes, Bool, true, false, List, [], Option, Some, None, IsSomeAnd, ⊤}
 use Rattle.std.specs.Str.Parse.{IsNumeral, digits_value, without_leading_plus}
@@ -8,6 +9,8 @@ use Rattle.clap.specs.Words.{Row, Text, fault_of, first_of, one_of, subcommand_o
 use Rattle.settings_core.specs.Program.{program}
 use Rattle.settings_core.specs.Spans.{AreInSpan}
 use Rattle.settings_core.specs.declared.words.Command.{Command}
+use Rattle.settings_core.specs.declared.words.WireProfile.{WireProfile}
+use Rattle.settings_core.specs.declared.words.WireProfile.TheVariants as profiles
 use Rattle.settings_core.specs.declared.words.Command.TheVariants.{Answer, Check, Sim, Serve, Sync}
 
 -- the value of an argument
@@ -34,6 +37,10 @@ abbrev pub IsFlag : Text → List Row → Bool → Type 0
 IsFlag id rows flag = (one_of id rows ≡ Some (codes "true") → flag ≡ true)
     × (one_of id rows ≡ Some (codes "false") → flag ≡ false)
 
+abbrev pub profile_number : WireProfile → ℕ
+profile_number profiles.One = 1
+profile_number profiles.Two = 2
+
 -- the values are those of the command
 abbrev pub HasValues : List Row → Command → Type 0
 HasValues rows (Answer hexed items) = IsFlag (codes "hex") rows hexed × IsText (codes "ITEMS") rows items.now
@@ -43,8 +50,9 @@ HasValues rows (Serve table address workers sessions items) =
     IsText (codes "table") rows table.now × IsText (codes "addr") rows address.now
     × IsNumber (codes "workers") rows (Some workers) × IsNumber (codes "sessions") rows sessions
     × IsText (codes "ITEMS") rows items.now
-HasValues rows (Sync table address items) =
+HasValues rows (Sync table address profile items) =
     IsText (codes "table") rows table.now × IsText (codes "addr") rows address.now
+    × IsNumber (codes "profile") rows (Some (profile_number profile))
     × IsText (codes "ITEMS") rows items.now
 
 abbrev pub name_of : Command → Text
@@ -52,7 +60,7 @@ name_of (Answer hexed items) = codes "answer"
 name_of (Check file) = codes "check"
 name_of Sim = codes "sim"
 name_of (Serve table address workers sessions items) = codes "serve"
-name_of (Sync table address items) = codes "sync"
+name_of (Sync table address profile items) = codes "sync"
 
 abbrev pub AsksFor : Text → List Row → Command → Type 0
 AsksFor name rows c = (name_of c ≡ name) × HasValues rows c × AreInSpan c

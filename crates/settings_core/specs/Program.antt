@@ -52,6 +52,15 @@ sessions = record (new_rule (codes "sessions")) {
   parser = Some (Signed (pos 1) (pos 1000000));
 }
 
+-- `--profile P`, of 1 or 2
+abbrev pub profile : Rule
+profile = record (new_rule (codes "profile")) {
+  long = Some (codes "profile");
+  value_names = 1;
+  defaults = codes "1" ∷ [];
+  parser = Some (Signed (pos 1) (pos 2));
+}
+
 -- `--hex`
 abbrev pub hex : Rule
 hex = record (new_rule (codes "hex")) { long = Some (codes "hex"); action = Some SetTrue }
@@ -76,7 +85,7 @@ serve = with_rule (with_rule (with_rule (with_rule (with_rule (new_app (codes "s
     sessions) items
 
 abbrev pub sync : App
-sync = with_rule (with_rule (with_rule (new_app (codes "sync")) table) address) items
+sync = with_rule (with_rule (with_rule (with_rule (new_app (codes "sync")) table) address) profile) items
 
 -- the program itself, which has a version and asks for a command
 abbrev pub top : App

@@ -15,4 +15,4 @@ AreInSpan (Answer hexed items) = ⊤
 AreInSpan (Check file) = ⊤
 AreInSpan Sim = ⊤
 AreInSpan (Serve table address workers sessions items) = IsWorkerCount workers × IfSome sessions IsSessionCount
-AreInSpan (Sync table address items) = ⊤
+AreInSpan (Sync table address profile items) = ⊤

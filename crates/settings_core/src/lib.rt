@@ -18,4 +18,4 @@ pub use scenario_fault::{ScenarioError, ScenarioFault};
 pub use scenario_text::scenario_of;
 pub use step_text::step_of;
 pub use strategy_file::read_strategy;
-pub use words::{Command, WordsFault, read_words};
+pub use words::{Command, WireProfile, WordsFault, read_words};

@@ -2,7 +2,7 @@
 
 ghost use Rattle.std.specs.Prelude.{◌≡◌, ◌≢◌, codes, map, option_map, IfErr, IfOk, IfSome, IsSomeAnd, Some};
 ghost use Rattle.clap.specs.Words.{first_of, found_of, kind_of, rows_of, subcommand_rows_of};
-ghost use Rattle.settings_core.specs.Calls.{AsksFor, Finds, IsNumber, WordsAskFor};
+ghost use Rattle.settings_core.specs.Calls.{AsksFor, Finds, IsNumber, WordsAskFor, profile_number};
 ghost use Rattle.settings_core.specs.Program.{IsWord, IsCommand};
 ghost use Rattle.settings_core.specs.Program as program;
 ghost use Rattle.settings_core.specs.Spans.{IsWorkerCount, IsSessionCount, AreInSpan};
@@ -55,9 +55,20 @@ pub enum Command<'a> {
         table: &'a str,
         /// The address to connect to.
         address: &'a str,
+        /// The wire profile that is spoken.
+        profile: WireProfile,
         /// The path of the item file.
         items: &'a str,
     },
+}
+
+/// What a Sum carries of the items in its range.
+#[derive(Clone, Copy, Debug, PartialEq, Eq)]
+pub enum WireProfile {
+    /// Profile 1: a fingerprint.
+    One,
+    /// Profile 2: how many items there are, and a fingerprint.
+    Two,
 }
 
 /// Why words ask for nothing that is done.
@@ -189,6 +200,18 @@ fn serve_words<'a>(alloc: Global) -> Result<clap::Command<'a>, AllocError>
         .arg(items_word(alloc))
 }
 
+/// The word for the wire profile.
+fn profile_word<'a>(alloc: Global) -> Arg<'a>
+    ensures { IsWord program.profile result }
+{
+    Arg::new(alloc, "profile")
+        .long("profile")
+        .value_name("P")
+        .help("The wire profile that is spoken, 1 or 2")
+        .value_parser(value_parser!(u8).range(1..=2))
+        .default_value("1")
+}
+
 /// The words of `sync`.
 fn sync_words<'a>(alloc: Global) -> Result<clap::Command<'a>, AllocError>
     ensures { IfOk result (IsCommand program.sync) }
@@ -197,6 +220,7 @@ fn sync_words<'a>(alloc: Global) -> Result<clap::Command<'a>, AllocError>
         .about("Run one session and print which items each side lacks")
         .arg(table_word(alloc))?
         .arg(address_word(alloc, "The address to connect to"))?
+        .arg(profile_word(alloc))?
         .arg(items_word(alloc))
 }
 
@@ -232,6 +256,18 @@ fn sessions_in(matches: &ArgMatches<'_>) -> Option<Option<u32>>
     match matches.try_get_one::<u32>("sessions").ok()? {
         Some(count) if !(1..=MAX_SESSIONS).contains(&count) => None,
         sessions => Some(sessions),
+    }
+}
+
+/// The wire profile, which `clap` has read as 1 or 2.
+fn profile_in(matches: &ArgMatches<'_>) -> Option<WireProfile>
+    ensures { Finds (λ p. IsNumber (codes "profile") (rows_of (found_of matches.now)) (Some (profile_number p))) result }
+{
+    let number = matches.get_one::<u8>("profile")?;
+    match number {
+        1 => Some(WireProfile::One),
+        2 => Some(WireProfile::Two),
+        _ => None,
     }
 }
 
@@ -281,6 +317,7 @@ fn sync_in<'a>(matches: &ArgMatches<'a>) -> Option<Command<'a>>
     Some(Command::Sync {
         table: text_in(matches, "table")?,
         address: text_in(matches, "addr")?,
+        profile: profile_in(matches)?,
         items: text_in(matches, "ITEMS")?,
     })
 }

@@ -50,6 +50,11 @@ impl RangeStore for FlatStore {
         spans::total(self.entries_in(range))
     }
 
+    fn count_and_sum(&self, range: &Range) -> (usize, Fingerprint) {
+        let entries = self.entries_in(range);
+        (entries.len(), spans::total(entries))
+    }
+
     fn nth(&self, range: &Range, place: usize) -> Item {
         *self.entries_in(range)[place].item()
     }

@@ -51,6 +51,11 @@ pub trait RangeStore: Drop + Sized {
     fn sum(&self, range: &Range) -> Fingerprint
         ensures { result ≡ two_lanes.of (items_in (content self.now) range.now) };
 
+    /// How many items the range holds, and their fingerprint.
+    fn count_and_sum(&self, range: &Range) -> (usize, Fingerprint)
+        ensures count { result.0 ≡ length (items_in (content self.now) range.now) }
+        ensures sum { result.1 ≡ two_lanes.of (items_in (content self.now) range.now) };
+
     /// The item at this place among those in the range, from 0.
     fn nth(&self, range: &Range, place: usize) -> Item
         requires { place < length (items_in (content self.now) range.now) }

@@ -56,6 +56,7 @@ fn a_to_c<S: RangeStore>(rt: &impl Abort, alloc: Global) {
     assert!(rt; two.len() == 2 && two[0] == item(rt, b"a") && two[1] == item(rt, b"b"));
     let sum = Fingerprint::of_item(&item(rt, b"b")).join(Fingerprint::of_item(&item(rt, b"a")));
     assert!(rt; all.sum(&before_c) == sum && none.sum(&before_c) == Fingerprint::zero());
+    assert!(rt; all.count_and_sum(&before_c) == (2, sum));
     let again = all.copy(alloc).expect(rt, "memory");
     assert!(rt; again.len() == 3 && again.sum(&before_c) == sum);
 }

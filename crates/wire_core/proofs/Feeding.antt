@@ -1,8 +1,7 @@
 -- Reading a stream frame by frame, as a loop does.
 use Rattle.std.proofs.Common.{rules, ◌≡◌, ℕ, zero, suc, ◌+◌, ◌<◌, ◌≤◌, Result, Ok, Err, IfOk, List, [], ◌∷◌, ◌++◌, length, take, drop, ◌-◌, refl, sym, ap, subst, append_assoc, ◌∙◌, arith}
 use Rattle.std.proofs.lemmas.List.{append-nil, length-append, length-drop, take_all, take-append-drop}
-use Rattle.definitions.specs.Fingerprints.{Lanes}
-use Rattle.definitions.specs.Wire.{two_lane_profile, Stream}
+use Rattle.definitions.specs.Wire.{Profile, Stream}
 use Rattle.definitions.specs.Wire as wire
 use Rattle.definitions.specs.Reading.{event_at}
 use Rattle.definitions.specs.Items.{IsBytes}
@@ -17,40 +16,54 @@ use Rattle.wire_core.specs.declared.standing.Step.{Step}
 use Rattle.wire_core.specs.declared.standing.Step.TheVariants as steps
 
 -- the events so far, in front of those that are still to be read, are all
-abbrev pub IsReached : List (wire.Event Lanes) → ℕ → List ℕ → List (wire.Event Lanes) → ℕ → List ℕ → Type 0
-IsReached events parts rest before first bytes = (fuel : ℕ) → length bytes ≤ fuel →
-    (left : ℕ) × (length rest ≤ left) × (behind events (feed_frames two_lane_profile left parts rest) ≡ behind before (feed_frames two_lane_profile fuel first bytes))
+abbrev pub IsReached : {F : Type 0} → Profile F → List (wire.Event F) → ℕ → List ℕ → List (wire.Event F) → ℕ →
+    List ℕ → Type 0
+IsReached P events parts rest before first bytes = (fuel : ℕ) → length bytes ≤ fuel →
+    (left : ℕ) × (length rest ≤ left)
+    × (behind events (feed_frames P left parts rest) ≡ behind before (feed_frames P fuel first bytes))
 
 -- one frame, whatever comes behind it
-abbrev pub IsStep : List (wire.Event Lanes) → ℕ → List ℕ → List (wire.Event Lanes) → Step → List ℕ → Type 0
-IsStep events parts rest more_events step after = (more : ℕ → List ℕ → Fed Lanes) →
-    behind events (fed_by (event_at two_lane_profile Stream parts rest) parts rest more) ≡ behind more_events (goes_on step after more)
+abbrev pub IsStep : {F : Type 0} → Profile F → List (wire.Event F) → ℕ → List ℕ → List (wire.Event F) → Step →
+    List ℕ → Type 0
+IsStep {F} P events parts rest more_events step after = (more : ℕ → List ℕ → Fed F) →
+    behind events (fed_by (event_at P Stream parts rest) parts rest more) ≡ behind more_events (goes_on step after more)
 
-a_step : (events : List (wire.Event Lanes)) (parts : ℕ) (rest : List ℕ) (more_events : List (wire.Event Lanes)) (step : Step) (after : List ℕ) → IsStep events parts rest more_events step after →
+a_step : {F : Type 0} (P : Profile F) (events : List (wire.Event F)) (parts : ℕ) (rest : List ℕ)
+    (more_events : List (wire.Event F)) (step : Step) (after : List ℕ) →
+    IsStep P events parts rest more_events step after →
     (fuel : ℕ) → length rest ≤ fuel →
-    (left : ℕ) × (length rest ≤ left + 1) × (behind events (feed_frames two_lane_profile fuel parts rest) ≡ behind more_events (goes_on step after (feed_frames two_lane_profile left)))
-a_step events parts [] more_events step after h zero le = (0, omega arith, h (feed_frames two_lane_profile 0))
-a_step events parts (b ∷ rest) more_events step after h zero le = absurd (omega arith)
-a_step events parts rest more_events step after h (suc fuel) le = (fuel, omega arith, h (feed_frames two_lane_profile fuel))
+    (left : ℕ) × (length rest ≤ left + 1)
+    × (behind events (feed_frames P fuel parts rest) ≡ behind more_events (goes_on step after (feed_frames P left)))
+a_step P events parts [] more_events step after h zero le = (0, omega arith, h (feed_frames P 0))
+a_step P events parts (b ∷ rest) more_events step after h zero le = absurd (omega arith)
+a_step P events parts rest more_events step after h (suc fuel) le = (fuel, omega arith, h (feed_frames P fuel))
 
-pub frames_begin : (events : List (wire.Event Lanes)) (parts : ℕ) (bytes : List ℕ) → IsReached events parts bytes events parts bytes
-frames_begin events parts bytes fuel le = (fuel, le, refl)
+pub frames_begin : {F : Type 0} (P : Profile F) (events : List (wire.Event F)) (parts : ℕ) (bytes : List ℕ) →
+    IsReached P events parts bytes events parts bytes
+frames_begin P events parts bytes fuel le = (fuel, le, refl)
 
-pub frames_go_on : (events : List (wire.Event Lanes)) (parts : ℕ) (rest : List ℕ) (before : List (wire.Event Lanes)) (first : ℕ) (bytes : List ℕ) (more_events : List (wire.Event Lanes)) (count : ℕ) (after : List ℕ) →
-    IsReached events parts rest before first bytes → IsStep events parts rest more_events (steps.More count) after → length after < length rest →
-    IsReached more_events count after before first bytes
-frames_go_on events parts rest before first bytes more_events count after so_far h shorter fuel le =
+pub frames_go_on : {F : Type 0} (P : Profile F) (events : List (wire.Event F)) (parts : ℕ) (rest : List ℕ)
+    (before : List (wire.Event F)) (first : ℕ) (bytes : List ℕ) (more_events : List (wire.Event F)) (count : ℕ)
+    (after : List ℕ) →
+    IsReached P events parts rest before first bytes →
+    IsStep P events parts rest more_events (steps.More count) after → length after < length rest →
+    IsReached P more_events count after before first bytes
+frames_go_on P events parts rest before first bytes more_events count after so_far h shorter fuel le =
     let r = so_far fuel le in
-    let s = a_step events parts rest more_events (steps.More count) after h r.0 r.1 in
+    let s = a_step P events parts rest more_events (steps.More count) after h r.0 r.1 in
     let room = s.1 in
     (s.0, omega arith, sym s.2 ∙ r.2)
 
-pub frames_rest : (events : List (wire.Event Lanes)) (parts : ℕ) (rest : List ℕ) (before : List (wire.Event Lanes)) (first : ℕ) (bytes : List ℕ) (out : List declared.Event) (standing : Standing) (after : List ℕ) →
-    IsReached events parts rest before first bytes → IsStep events parts rest (event_values out) (steps.Rest standing) after →
-    (fuel : ℕ) → length bytes ≤ fuel → behind before (feed_frames two_lane_profile fuel first bytes) ≡ fed_as out standing (left_at standing after)
-frames_rest events parts rest before first bytes out standing after so_far h fuel le =
+pub frames_rest : {F : Type 0} (P : Profile F) (events : List (wire.Event F)) (parts : ℕ) (rest : List ℕ)
+    (before : List (wire.Event F)) (first : ℕ) (bytes : List ℕ) (out : List (declared.Event F)) (standing : Standing)
+    (after : List ℕ) →
+    IsReached P events parts rest before first bytes →
+    IsStep P events parts rest (event_values out) (steps.Rest standing) after →
+    (fuel : ℕ) → length bytes ≤ fuel →
+    behind before (feed_frames P fuel first bytes) ≡ fed_as out standing (left_at standing after)
+frames_rest P events parts rest before first bytes out standing after so_far h fuel le =
     let r = so_far fuel le in
-    let s = a_step events parts rest (event_values out) (steps.Rest standing) after h r.0 r.1 in
+    let s = a_step P events parts rest (event_values out) (steps.Rest standing) after h r.0 r.1 in
     sym r.2 ∙ s.2 ∙ (λ i. record { events = append-nil (event_values out) i; to = standing_of standing; kept = left_at standing after })
 
 pub before_both : {X : Type 0} (a b c : List X) → take (length a) b ≡ a → take (length b) c ≡ b → take (length a) c ≡ a
@@ -67,29 +80,39 @@ before_both {X} (x ∷ a) (y ∷ b) (z ∷ c) h k =
 
 -- ---- in pieces
 
-fed_parts : (before : List (wire.Event Lanes)) (fed : Fed Lanes) (out : List declared.Event) (s : Standing) (kept : List ℕ) → behind before fed ≡ fed_as out s kept →
+fed_parts : {F : Type 0} (before : List (wire.Event F)) (fed : Fed F) (out : List (declared.Event F)) (s : Standing)
+    (kept : List ℕ) → behind before fed ≡ fed_as out s kept →
     (before ++ fed.events ≡ event_values out) × (fed.to ≡ standing_of s) × (fed.kept ≡ kept)
-fed_parts before fed out s kept h = (ap (λ (f : Fed Lanes). f.events) h, ap (λ (f : Fed Lanes). f.to) h, ap (λ (f : Fed Lanes). f.kept) h)
+fed_parts {F} before fed out s kept h =
+    (ap (λ (f : Fed F). f.events) h, ap (λ (f : Fed F). f.to) h, ap (λ (f : Fed F). f.kept) h)
 
-pub piece_joined : FeedsJoin two_lane_profile → (before : List (wire.Event Lanes)) (from : streams.Standing) (front : List ℕ) (out : List declared.Event) (s : Standing) (kept : List ℕ) → IsBytes front →
-    behind before (feed two_lane_profile from front) ≡ fed_as out s kept →
-    (back : List ℕ) → IsBytes back → behind before (feed two_lane_profile from (front ++ back)) ≡ behind (event_values out) (feed two_lane_profile (standing_of s) (kept ++ back))
-piece_joined join before from front out s kept fits h back more =
-    let a : Fed Lanes = feed two_lane_profile from front in
+pub piece_joined : {F : Type 0} (P : Profile F) → FeedsJoin P →
+    (before : List (wire.Event F)) (from : streams.Standing) (front : List ℕ) (out : List (declared.Event F))
+    (s : Standing) (kept : List ℕ) → IsBytes front →
+    behind before (feed P from front) ≡ fed_as out s kept →
+    (back : List ℕ) → IsBytes back →
+    behind before (feed P from (front ++ back)) ≡ behind (event_values out) (feed P (standing_of s) (kept ++ back))
+piece_joined {F} P join before from front out s kept fits h back more =
+    let a : Fed F = feed P from front in
     let p = fed_parts before a out s kept h in
-    let b : Fed Lanes = feed two_lane_profile a.to (a.kept ++ back) in
+    let b : Fed F = feed P a.to (a.kept ++ back) in
     ap (behind before) (join from front back fits more)
     ∙ (λ i. record { events = sym (append_assoc before a.events b.events) i; to = b.to; kept = b.kept })
-    ∙ (λ i. behind (p.0 i) (feed two_lane_profile (p.1 i) (p.2 i ++ back)))
+    ∙ (λ i. behind (p.0 i) (feed P (p.1 i) (p.2 i ++ back)))
 
-pub piece_rests : FeedsRest two_lane_profile → (before : List (wire.Event Lanes)) (from : streams.Standing) (front : List ℕ) (out : List declared.Event) (s : Standing) (kept : List ℕ) → IsBytes front →
-    behind before (feed two_lane_profile from front) ≡ fed_as out s kept →
-    (feed two_lane_profile (standing_of s) kept ≡ stays (standing_of s) kept) × IsEndOf front kept
-piece_rests rests before from front out s kept fits h =
-    let a : Fed Lanes = feed two_lane_profile from front in
+pub piece_rests : {F : Type 0} (P : Profile F) → FeedsRest P →
+    (before : List (wire.Event F)) (from : streams.Standing) (front : List ℕ) (out : List (declared.Event F))
+    (s : Standing) (kept : List ℕ) → IsBytes front →
+    behind before (feed P from front) ≡ fed_as out s kept →
+    (feed P (standing_of s) kept ≡ stays (standing_of s) kept) × IsEndOf front kept
+piece_rests {F} P rests before from front out s kept fits h =
+    let a : Fed F = feed P from front in
     let p = fed_parts before a out s kept h in
-    let r = rests from front fits in
-    (sym (λ i. feed two_lane_profile (p.1 i) (p.2 i)) ∙ r.0 ∙ (λ i. stays (p.1 i) (p.2 i)), subst (λ (t : List ℕ). IsEndOf front t) p.2 r.1)
+    let r = rests from front fits in (
+      sym (λ i. feed P (p.1 i) (p.2 i)) ∙ r.0
+          ∙ (λ i. stays (p.1 i) (p.2 i)),
+      subst (λ (t : List ℕ). IsEndOf front t) p.2 r.1,
+    )
 
 pub if_ok : {X E : Type 0} (r : Result X E) (P Q : X → Type 0) → ((x : X) → P x → Q x) → IfOk r P → IfOk r Q
 if_ok (Ok x) P Q goes h = goes x h

@@ -2,18 +2,18 @@
 use Rattle.std.proofs.Common.{◌≡◌, ℕ, ◌<◌, ◌≤◌, true, List, [], ◌∷◌, length, Result, Ok, Err, refl, ap, ◌∙◌, arith, rules}
 use Rattle.std.specs.Prelude.{nat_lt}
 use Rattle.definitions.specs.Items.{IsBytes}
-use Rattle.definitions.specs.Fingerprints.{Lanes}
 use Rattle.definitions.specs.Messages.{Part}
-use Rattle.definitions.specs.Wire.{Profile, Event, Input, two_lane_profile, IsPart, Came, One_message, max_body}
+use Rattle.definitions.specs.Wire.{Profile, Event, Input, IsPart, Came, One_message, max_body}
 use Rattle.definitions.specs.Refusals.{trailing}
 use Rattle.definitions.specs.Reading.{◌>>=◌, event_in, fields_at, nothing_after}
 use Rattle.wire_core.specs.Readers.{byte_at}
 use Rattle.codec_laws.specs.Codec.{BodyIsExact}
 
 -- the body of a part that is no longer than a body may be is that of a part with a spelling
-pub part_read : BodyIsExact two_lane_profile → (bytes : List ℕ) → IsBytes bytes → length bytes ≤ max_body → (p : Part Lanes) →
-    event_in two_lane_profile One_message bytes ≡ Ok (Came p) → IsPart two_lane_profile p
-part_read exact bytes fits short p read =
+pub part_read : {F : Type 0} (P : Profile F) → BodyIsExact P → (bytes : List ℕ) → IsBytes bytes →
+    length bytes ≤ max_body → (p : Part F) →
+    event_in P One_message bytes ≡ Ok (Came p) → IsPart P p
+part_read P exact bytes fits short p read =
     let says = ((exact One_message bytes).2 fits).0 (Came p) read in
     let same = ap length says.1 in
     record { fields = says.0; short = omega arith }

@@ -1,9 +1,9 @@
 -- A feed, and what a call of it answers.
 --     StreamState                    where a stream stands, and the bytes that are kept of it
 --     fed_into events state          what is fed: events, and the state behind them
---     Holds state bytes events       all that came so far: its bytes, from the hello on, and its events
+--     Holds P state bytes events     all that came so far: its bytes, from the hello on, and its events
 --     events_since old new           the events that came behind the old ones
---     Continues old piece new        what a state holds, the next one holds with the piece and its events behind it
+--     Continues P old piece new      what a state holds, the next one holds with the piece and its events behind it
 --     is_before_hello standing       whether the hello is due
 --     fault_at standing              the fault that a stream has, if any
 --     refusal_in, fault_in           the number of a refusal
@@ -11,8 +11,7 @@
 use Rattle.std.specs.Prelude.{◌≡◌, ℕ, Bool, true, false, List, ◌++◌, length, drop, ⊤}
 use Rattle.std.specs.Prelude.{Option, Some, None, Result, Ok, Err}
 use Rattle.definitions.specs.Items.{IsBytes}
-use Rattle.definitions.specs.Fingerprints.{Lanes}
-use Rattle.definitions.specs.Wire.{two_lane_profile, Event}
+use Rattle.definitions.specs.Wire.{Profile, Event}
 use Rattle.definitions.specs.Streams.{Standing, Before_hello, In_message, Meaning_over, Faulted, Fed, feed}
 use Rattle.wire_core.specs.Events.{event_values}
 use Rattle.wire_core.specs.Refused.{fault_number, decode_error_number}
@@ -25,20 +24,20 @@ pub record StreamState : Type 0 where
   pub standing : Standing
   pub kept : List ℕ
 
-abbrev pub fed_into : List (Event Lanes) → StreamState → Fed Lanes
+abbrev pub fed_into : {F : Type 0} → List (Event F) → StreamState → Fed F
 fed_into events state = record { events = events; to = state.standing; kept = state.kept }
 
 -- the bytes of a stream so far, from the hello on, are these events and then this state
-abbrev pub Holds : StreamState → List ℕ → List (Event Lanes) → Type 0
-Holds state bytes events = feed two_lane_profile Before_hello bytes ≡ fed_into events state
+abbrev pub Holds : {F : Type 0} → Profile F → StreamState → List ℕ → List (Event F) → Type 0
+Holds P state bytes events = feed P Before_hello bytes ≡ fed_into events state
 
-abbrev pub events_since : List declared.Event → List declared.Event → List (Event Lanes)
+abbrev pub events_since : {F : Type 0} → List (declared.Event F) → List (declared.Event F) → List (Event F)
 events_since old new = event_values (drop (length old) new)
 
 -- whatever the stream's bytes and events were so far, they go on with the piece and with what it is fed to
-abbrev pub Continues : StreamState → List ℕ → StreamState → Type 0
-Continues old piece new = (bytes : List ℕ) (events : List (Event Lanes)) → IsBytes bytes → Holds old bytes events →
-    Holds new (bytes ++ piece) (events ++ (feed two_lane_profile old.standing (old.kept ++ piece)).events)
+abbrev pub Continues : {F : Type 0} → Profile F → StreamState → List ℕ → StreamState → Type 0
+Continues {F} P old piece new = (bytes : List ℕ) (events : List (Event F)) → IsBytes bytes → Holds P old bytes events →
+    Holds P new (bytes ++ piece) (events ++ (feed P old.standing (old.kept ++ piece)).events)
 
 -- the hello is due
 abbrev pub is_before_hello : Standing → Bool

@@ -12,6 +12,7 @@ pub mod Readers
 pub mod Bodies
 pub mod Parts
 pub mod Same
+pub mod SameBodies
 pub mod Packed
 pub mod Watch
 pub mod Events

@@ -7,7 +7,6 @@
 --     IfMore step Q                  something of the number of parts, where more frames come
 --     fed_as events standing bytes   events that were given, where the stream stands then, and what is kept
 use Rattle.std.specs.Prelude.{ℕ, Bool, true, false, List, [], ◌++◌, ⊤}
-use Rattle.definitions.specs.Fingerprints.{Lanes}
 use Rattle.definitions.specs.Wire.{Event}
 use Rattle.definitions.specs.Streams as streams
 use Rattle.definitions.specs.Streams.{Fed, stays}
@@ -40,7 +39,7 @@ left_at (standings.Faulted f) bytes = []
 abbrev pub behind : {F : Type 0} → List (Event F) → Fed F → Fed F
 behind before fed = record { events = before ++ fed.events; to = fed.to; kept = fed.kept }
 
-abbrev pub goes_on : Step → List ℕ → (ℕ → List ℕ → Fed Lanes) → Fed Lanes
+abbrev pub goes_on : {F : Type 0} → Step → List ℕ → (ℕ → List ℕ → Fed F) → Fed F
 goes_on (steps.More parts) bytes more = more parts bytes
 goes_on (steps.Rest standing) bytes more = stays (standing_of standing) (left_at standing bytes)
 
@@ -48,5 +47,5 @@ abbrev pub IfMore : Step → (ℕ → Type 0) → Type 0
 IfMore (steps.More parts) Q = Q parts
 IfMore (steps.Rest standing) Q = ⊤
 
-abbrev pub fed_as : List declared.Event → Standing → List ℕ → Fed Lanes
+abbrev pub fed_as : {F : Type 0} → List (declared.Event F) → Standing → List ℕ → Fed F
 fed_as events standing bytes = record { events = event_values events; to = standing_of standing; kept = bytes }

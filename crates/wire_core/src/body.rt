@@ -2,17 +2,18 @@ ghost use Rattle.std.specs.Prelude.{◌≡◌, ◌↔◌, IsTrue, ◌+◌, ◌�
 ghost use Rattle.std.specs.Bool.{OnFalse};
 ghost use Rattle.std.specs.List.{AllByRecursion};
 ghost use Rattle.definitions.specs.Items.{IsItem};
-ghost use Rattle.definitions.specs.Wire.{two_lane_profile, short_text, upper_text, max_body};
+ghost use Rattle.definitions.specs.Wire.{short_text, upper_text, max_body};
 ghost use Rattle.definitions.specs.Wire as wire;
 ghost use Rattle.definitions.specs.Faults as faults;
 ghost use Rattle.item_core.specs.Bounds.{upper_value};
 ghost use Rattle.wire_core.specs.Bodies.{part_of, items_in, kind_byte};
+ghost use Rattle.wire_core.specs.SameBodies.{same_body};
 ghost use Rattle.wire_core.specs.PartFaults.{part_fault_number};
 
 use crate::fault::PartFault;
 use crate::field::rises_from;
 use crate::marks::Marks;
-use digest_core::Fingerprint;
+use digest_core::Summary;
 use item_core::{Item, Range, Upper};
 use std::alloc::{AllocError, Global};
 
@@ -20,14 +21,14 @@ use std::alloc::{AllocError, Global};
 pub const MAX_BODY: usize = 8_388_608;
 
 /// What a part has beside its range.
-#[derive(Debug, PartialEq, Eq, Drop)]
-pub enum Body {
-    Sum(Fingerprint),
+#[derive(Debug, Drop)]
+pub enum Body<F> {
+    Sum(F),
     List(Vec<Item>),
     Answer(Marks, Vec<Item>),
 }
 
-impl Body {
+impl<F: Summary> Body<F> {
     /// The kind's byte.
     pub fn kind(&self) -> u8
         ensures { result ≡ kind_byte self.now }
@@ -51,7 +52,7 @@ impl Body {
     }
 
     /// The same body again.
-    pub fn copy(&self, alloc: Global) -> Result<Body, AllocError>
+    pub fn copy(&self, alloc: Global) -> Result<Body<F>, AllocError>
         ensures { IfOk result (λ b. (X : _) → part_of X b ≡ part_of X self.now) }
     {
         match self {
@@ -64,17 +65,31 @@ impl Body {
         }
     }
 
+    /// Whether the two say the same.
+    pub fn is_same(&self, other: &Body<F>) -> bool
+        ensures { result ≡ same_body F.summary self.now other.now }
+    {
+        match (self, other) {
+            (Body::Sum(sum), Body::Sum(others)) => sum.equals(*others),
+            (Body::List(items), Body::List(others)) => items.as_slice() == others.as_slice(),
+            (Body::Answer(marks, items), Body::Answer(other_marks, others)) => {
+                *marks == *other_marks && items.as_slice() == others.as_slice()
+            }
+            _ => false,
+        }
+    }
+
     /// The length in bytes of what follows the range.
     #[tactic(auto, using(crate::proofs::Lengths::lengths))]
     fn fields_length(&self) -> usize
         requires { length (items_in self.now) ≤ max_body }
         ensures length { (X : _) →
-            length (wire.body two_lane_profile (part_of X self.now)) ≡ 1 + length (wire.range_text X) + result }
+            length (wire.body F.profile (part_of X self.now)) ≡ 1 + length (wire.range_text X) + result }
         ensures small { result < 2 ^ 32 }
         ensures each { AllByRecursion IsItem (items_in self.now) }
     {
         match self {
-            Body::Sum(_) => 32,
+            Body::Sum(_) => F::size(),
             Body::List(items) => 4 + texts_length(items),
             Body::Answer(marks, items) => 4 + marks.bytes().len() + 4 + texts_length(items),
         }
@@ -83,7 +98,7 @@ impl Body {
     /// The length in bytes of a body with this range.
     pub fn length(&self, range: &Range) -> usize
         requires { length (items_in self.now) ≤ max_body }
-        ensures length { result ≡ length (wire.body two_lane_profile (part_of range.now self.now)) }
+        ensures length { result ≡ length (wire.body F.profile (part_of range.now self.now)) }
         ensures each { AllByRecursion IsItem (items_in self.now) }
     {
         1 + range_length(range) + self.fields_length()
@@ -93,7 +108,7 @@ impl Body {
     #[tactic(auto, using(crate::proofs::Lengths::lengths))]
     pub fn is_too_long(&self, range: &Range) -> bool
         ensures long { IsTrue result ↔
-            (max_body < length (wire.body two_lane_profile (part_of range.now self.now))) }
+            (max_body < length (wire.body F.profile (part_of range.now self.now))) }
         ensures each { OnFalse result (AllByRecursion IsItem (items_in self.now)) }
     {
         self.items().len() > MAX_BODY || self.length(range) > MAX_BODY

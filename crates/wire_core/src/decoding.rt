@@ -1,7 +1,6 @@
 ghost use Rattle.std.specs.Prelude.{◌≡◌, ◌<◌, ◌≤◌, length, IfOk, IfSome, IfNone, OnOk, IfErr, Ok, option_map};
 ghost use Rattle.definitions.specs.Messages as messages;
-ghost use Rattle.definitions.specs.Fingerprints.{Lanes};
-ghost use Rattle.definitions.specs.Wire.{two_lane_profile, max_body, max_parts, Spells};
+ghost use Rattle.definitions.specs.Wire.{max_body, max_parts, Spells};
 ghost use Rattle.definitions.specs.Faults.{FaultyMessage};
 ghost use Rattle.definitions.specs.Reading as reading;
 ghost use Rattle.definitions.specs.Streams.{message_in};
@@ -14,7 +13,7 @@ use crate::field::{take_bytes, take_number};
 use crate::message::{MAX_PARTS, Message};
 use crate::part::Part;
 use crate::reading::part_in;
-use digest_core::Fingerprint;
+use digest_core::Summary;
 use std::alloc::Global;
 
 /// Takes a frame off the front and gives its body, if a whole one has come.
@@ -42,8 +41,12 @@ pub fn take_frame<'a>(bytes: &mut &'a [u8]) -> Result<Option<&'a [u8]>, WireFaul
 }
 
 /// Takes the next frame of a message off the front, behind so many parts of it: a part, or none at the message's end.
-fn take_part(alloc: Global, bytes: &mut &[u8], parts: usize) -> Result<Option<Part>, DecodeError>
-    ensures read { Gives (λ x. (event_of x, bytes.new.now)) result (next_at parts bytes.old.now) }
+fn take_part<F: Summary>(
+    alloc: Global,
+    bytes: &mut &[u8],
+    parts: usize,
+) -> Result<Option<Part<F>>, DecodeError>
+    ensures read { Gives (λ x. (event_of x, bytes.new.now)) result (next_at F.profile parts bytes.old.now) }
     ensures shorter { OnOk result (length bytes.new.now < length bytes.old.now) }
     ensures room { IfOk result (λ x. IfSome x (λ _. parts < max_parts)) }
 {
@@ -58,11 +61,11 @@ fn take_part(alloc: Global, bytes: &mut &[u8], parts: usize) -> Result<Option<Pa
 }
 
 /// The parts of the one message that the bytes spell.
-fn parts_in(alloc: Global, bytes: &[u8]) -> Result<Vec<Part>, DecodeError>
-    ensures exact { Gives (λ v. v.items) result (message_in two_lane_profile bytes.now) }
+fn parts_in<F: Summary>(alloc: Global, bytes: &[u8]) -> Result<Vec<Part<F>>, DecodeError>
+    ensures exact { Gives (λ v. v.items) result (message_in F.profile bytes.now) }
     ensures few { IfOk result (λ v. length v.items ≤ max_parts) }
 {
-    let mut parts: Vec<Part> = Vec::new(alloc);
+    let mut parts: Vec<Part<F>> = Vec::new(alloc);
     let mut rest = bytes;
     'frames: while let Some(part) = take_part(alloc, &mut rest, parts.len())? {
         parts.push(part)?;
@@ -74,30 +77,28 @@ fn parts_in(alloc: Global, bytes: &[u8]) -> Result<Vec<Part>, DecodeError>
 }
 
 /// The message that the bytes spell, or the first fault.
-fn message_of(alloc: Global, bytes: &[u8]) -> Result<Message, DecodeError>
-    ensures { Gives (λ message. message) result (message_in two_lane_profile bytes.now) }
+fn message_of<F: Summary>(alloc: Global, bytes: &[u8]) -> Result<Message<F>, DecodeError>
+    ensures { Gives (λ message. message) result (message_in F.profile bytes.now) }
 {
-    codec_laws::two_lanes_are_real();
     codec_laws::reads_are_bytes();
-    codec_laws::message_is_exact::<Fingerprint>();
+    codec_laws::message_is_exact::<F>();
     Ok(Message::of_parts(parts_in(alloc, bytes)?))
 }
 
 /// The one message that the bytes spell, from the first byte to the last, without a hello.
 ///
 /// Else the first fault from left to right, 2 to 12; memory may run out before any of these.
-pub fn decode_message(alloc: Global, bytes: &[u8]) -> Result<Message, DecodeError>
+pub fn decode_message<F: Summary>(alloc: Global, bytes: &[u8]) -> Result<Message<F>, DecodeError>
     // What is read is spelled so.
-    ensures found { IfOk result (λ message. Spells two_lane_profile message bytes.now) }
+    ensures found { IfOk result (λ message. Spells F.profile message bytes.now) }
     // What is spelled so is read, unless memory runs out.
-    ensures only { (M : messages.Message Lanes) → Spells two_lane_profile M bytes.now →
+    ensures only { (M : messages.Message F) → Spells F.profile M bytes.now →
         Gives (λ message. message) result (Ok M) }
     // Which fault it is.
-    ensures fault { IfFault result (FaultyMessage two_lane_profile bytes.now) }
-    ensures exact { Gives (λ message. message) result (message_in two_lane_profile bytes.now) }
+    ensures fault { IfFault result (FaultyMessage F.profile bytes.now) }
+    ensures exact { Gives (λ message. message) result (message_in F.profile bytes.now) }
 {
-    codec_laws::two_lanes_are_real();
     codec_laws::reads_are_bytes();
-    codec_laws::message_is_exact::<Fingerprint>();
+    codec_laws::message_is_exact::<F>();
     message_of(alloc, bytes)
 }

@@ -1,10 +1,11 @@
 use crate::part::Part;
+use digest_core::{Fingerprint, Summary};
 
 /// What a frame of a stream says.
 #[derive(Debug, PartialEq, Eq, Drop)]
-pub enum Event {
+pub enum Event<F: Summary = Fingerprint> {
     /// A part of a message.
-    Part(Part),
+    Part(Part<F>),
     /// The message's parts have all come.
     End,
     /// The other side refused, with this number.

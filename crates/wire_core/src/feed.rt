@@ -1,9 +1,9 @@
 ghost use Rattle.std.specs.Prelude.{◌≡◌, true, [], ◌++◌, ◌+◌, ◌<◌, length, take};
-ghost use Rattle.definitions.specs.Wire.{two_lane_profile, max_body};
-ghost use Rattle.definitions.specs.Streams.{Before_hello, feed, Means, finish_fault};
+ghost use Rattle.definitions.specs.Wire.{max_body};
+ghost use Rattle.definitions.specs.Streams.{Before_hello, In_message, feed, Means, finish_fault};
 ghost use Rattle.wire_core.specs.Events.{event_values};
 ghost use Rattle.wire_core.specs.Standings.{is_over, behind};
-ghost use Rattle.wire_core.specs.Feeds.{fed_into, events_since, Continues, fault_at, fault_in, refusal_in};
+ghost use Rattle.wire_core.specs.Feeds.{fed_into, Holds, events_since, Continues, fault_at, fault_in, refusal_in};
 ghost use Rattle.wire_core.specs.Feeds.{UnlessMemory, IfMemory, is_before_hello};
 ghost use Rattle.wire_core.specs.Nexts.{TakesNext, taken_by};
 
@@ -12,21 +12,21 @@ use crate::fault::{DecodeError, WireFault};
 use crate::pieces::{are_few, keep, next_length, read_behind};
 use crate::standing::Standing;
 use crate::stream::are_bytes;
-use digest_core::Fingerprint;
+use digest_core::{Fingerprint, Summary};
 use std::alloc::Global;
-use std::marker::Model;
+use std::marker::{Model, PhantomData};
 
 /// A stream that comes in pieces: a hello, and then frames. Keeps the bytes of an unfinished hello or frame, and no
 /// more.
 #[derive(Debug, Drop)]
-pub struct Feed {
+pub struct Feed<F: Summary = Fingerprint> {
     standing: Standing,
     kept: Vec<u8>,
+    of: PhantomData<F>,
 }
 
-impl Model for Feed {
+impl<F: Summary> Model for Feed<F> {
     ghost use Rattle.std.specs.Prelude.{◌≡◌};
-    ghost use Rattle.definitions.specs.Wire.{two_lane_profile};
     ghost use Rattle.definitions.specs.Streams.{feed, stays};
     ghost use Rattle.wire_core.specs.Feeds.{StreamState};
 
@@ -36,18 +36,31 @@ impl Model for Feed {
 
     ghost view = { λ a. record { standing = standing_of a.standing; kept = a.kept.items } };
 
-    ghost invariant = { λ a. feed two_lane_profile (standing_of a.standing) a.kept.items
+    ghost invariant = { λ a. feed F.profile (standing_of a.standing) a.kept.items
         ≡ stays (standing_of a.standing) a.kept.items };
 }
 
-impl Feed {
+impl<F: Summary> Feed<F> {
     /// Before the hello.
-    pub fn new(alloc: Global) -> Feed
+    pub fn new(alloc: Global) -> Feed<F>
         ensures { result ≡ record { standing = Before_hello; kept = [] } }
     {
         Feed {
             standing: Standing::BeforeHello,
             kept: Vec::new(alloc),
+            of: PhantomData,
+        }
+    }
+
+    /// Behind the hello: as the new feed is once the hello was fed to it, and nothing else.
+    pub fn after_hello(alloc: Global) -> Feed<F>
+        ensures state { result ≡ record { standing = In_message 0; kept = [] } }
+        ensures hello { Holds F.profile result F.profile.hello [] }
+    {
+        Feed {
+            standing: Standing::InMessage(0),
+            kept: Vec::new(alloc),
+            of: PhantomData,
         }
     }
 
@@ -61,14 +74,14 @@ impl Feed {
         &mut self,
         alloc: Global,
         piece: &[u8],
-        out: &mut Vec<Event>,
+        out: &mut Vec<Event<F>>,
     ) -> Result<(), DecodeError>
         // The meaning, by the grammar of a stream.
-        ensures means { UnlessMemory result (Means two_lane_profile self.old.standing
+        ensures means { UnlessMemory result (Means F.profile self.old.standing
             (events_since out.old.items out.new.items) (self.old.kept ++ piece.now) self.new.standing self.new.kept) }
         // The same by computation.
         ensures fed { UnlessMemory result (behind (event_values out.old.items)
-            (feed two_lane_profile self.old.standing (self.old.kept ++ piece.now))
+            (feed F.profile self.old.standing (self.old.kept ++ piece.now))
             ≡ fed_into (event_values out.new.items) self.new) }
         ensures before { take (length out.old.items) out.new.items ≡ out.old.items }
         ensures fault { UnlessMemory result (refusal_in result ≡ fault_at self.new.standing) }
@@ -77,20 +90,24 @@ impl Feed {
         ensures over { is_over self.old.standing ≡ true →
             (refusal_in result ≡ fault_at self.old.standing) × IfMemory result ⊥ }
         // The cutting does not matter: the events of all calls are those of the stream.
-        ensures joined { UnlessMemory result (Continues self.old piece.now self.new) }
+        ensures joined { UnlessMemory result (Continues F.profile self.old piece.now self.new) }
     {
-        codec_laws::two_lanes_are_real();
-        codec_laws::feed_is_exact::<Fingerprint>();
-        codec_laws::feeds_join::<Fingerprint>();
+        codec_laws::feed_is_exact::<F>();
+        codec_laws::feeds_join::<F>();
         are_bytes(&self.kept);
         are_bytes(piece);
         self.read(alloc, piece, out)
     }
 
     /// Reads on, with the clauses of `feed` that need no law.
-    fn read(&mut self, alloc: Global, piece: &[u8], out: &mut Vec<Event>) -> Result<(), DecodeError>
+    fn read(
+        &mut self,
+        alloc: Global,
+        piece: &[u8],
+        out: &mut Vec<Event<F>>,
+    ) -> Result<(), DecodeError>
         ensures fed { UnlessMemory result (behind (event_values out.old.items)
-            (feed two_lane_profile self.old.standing (self.old.kept ++ piece.now))
+            (feed F.profile self.old.standing (self.old.kept ++ piece.now))
             ≡ fed_into (event_values out.new.items) self.new) }
         ensures before { take (length out.old.items) out.new.items ≡ out.old.items }
         ensures fault { UnlessMemory result (refusal_in result ≡ fault_at self.new.standing) }
@@ -101,7 +118,7 @@ impl Feed {
         if self.standing.is_over() {
             return Ok(self.standing.fault()?);
         }
-        if keep(&mut self.kept, piece, self.standing)? {
+        if keep::<F>(&mut self.kept, piece, self.standing)? {
             return Ok(());
         }
         let kept = self.kept.len();
@@ -128,15 +145,14 @@ impl Feed {
         &mut self,
         alloc: Global,
         piece: &[u8],
-    ) -> Result<(usize, Option<Event>), DecodeError>
-        ensures next { TakesNext self.old piece.now result self.new }
+    ) -> Result<(usize, Option<Event<F>>), DecodeError>
+        ensures next { TakesNext F.profile self.old piece.now result self.new }
         ensures fault { UnlessMemory result (refusal_in result ≡ fault_at self.new.standing) }
         // The events of all calls are those of the stream.
-        ensures joined { UnlessMemory result (Continues self.old (taken_by result piece.now) self.new) }
+        ensures joined { UnlessMemory result (Continues F.profile self.old (taken_by result piece.now) self.new) }
     {
-        codec_laws::two_lanes_are_real();
-        codec_laws::next_is_exact::<Fingerprint>();
-        codec_laws::feeds_join::<Fingerprint>();
+        codec_laws::next_is_exact::<F>();
+        codec_laws::feeds_join::<F>();
         are_bytes(&self.kept);
         are_bytes(piece);
         let taken = next_length(&self.kept, piece, self.standing);
@@ -160,7 +176,7 @@ impl Feed {
         // Less than the longest frame is kept.
         ensures few { length self.now.kept < 4 + max_body }
     {
-        are_few(&self.kept, self.standing);
+        are_few::<F>(&self.kept, self.standing);
         match self.standing {
             Standing::MeaningOver => Ok(()),
             Standing::Faulted(fault) => Err(fault),

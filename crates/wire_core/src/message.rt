@@ -2,10 +2,11 @@ ghost use Rattle.std.specs.Prelude.{◌≡◌, ◌↔◌, ◌≤◌, IfOk, IsOk,
 ghost use Rattle.std.specs.List.{AllByRecursion};
 ghost use Rattle.std.specs.Cmp.{partial_equiv_from_equiv};
 ghost use Rattle.std.specs.Cmp.Lexicographic.{pointwise, lists_equiv};
-ghost use Rattle.definitions.specs.Wire.{max_parts, two_lane_profile, IsPart, IsMessage};
+ghost use Rattle.definitions.specs.Wire.{max_parts, IsPart, IsMessage};
 ghost use Rattle.wire_core.specs.Same.{same_part, same_part_equiv};
 
 use crate::part::Part;
+use digest_core::{Fingerprint, Summary};
 use std::alloc::{AllocError, Global};
 use std::marker::Model;
 
@@ -27,25 +28,24 @@ impl TooManyParts {
 
 /// A message: 0 to 131,072 parts in order.
 #[derive(Debug, Drop)]
-pub struct Message {
-    parts: Vec<Part>,
+pub struct Message<F: Summary = Fingerprint> {
+    parts: Vec<Part<F>>,
 }
 
-impl Model for Message {
+impl<F: Summary> Model for Message<F> {
     ghost use Rattle.definitions.specs.Messages as messages;
-    ghost use Rattle.definitions.specs.Fingerprints.{Lanes};
-    ghost use Rattle.definitions.specs.Wire.{two_lane_profile, IsMessage};
+    ghost use Rattle.definitions.specs.Wire.{IsMessage};
 
-    ghost Value = { messages.Message Lanes };
+    ghost Value = { messages.Message F };
 
     ghost view = { λ a. a.parts.items };
 
-    ghost invariant = { λ a. IsMessage two_lane_profile a.parts.items };
+    ghost invariant = { λ a. IsMessage F.profile a.parts.items };
 }
 
-impl Message {
+impl<F: Summary> Message<F> {
     /// The message of these parts, unless they are too many.
-    pub fn new(parts: Vec<Part>) -> Result<Message, TooManyParts>
+    pub fn new(parts: Vec<Part<F>>) -> Result<Message<F>, TooManyParts>
         ensures message { IfOk result (λ m. m ≡ parts.items) }
         ensures ok { IsOk result ↔ (length parts.items ≤ max_parts) }
     {
@@ -57,15 +57,15 @@ impl Message {
     }
 
     /// The message of parts that are known to be one.
-    pub(crate) fn of_parts(parts: Vec<Part>) -> Message
-        requires { IsMessage two_lane_profile parts.items }
+    pub(crate) fn of_parts(parts: Vec<Part<F>>) -> Message<F>
+        requires { IsMessage F.profile parts.items }
         ensures { result ≡ parts.items }
     {
         Message { parts }
     }
 
     /// The same message again.
-    pub fn copy(&self, alloc: Global) -> Result<Message, AllocError>
+    pub fn copy(&self, alloc: Global) -> Result<Message<F>, AllocError>
         ensures { IfOk result (λ m. m ≡ self.now) }
     {
         let mut parts = Vec::with_capacity(alloc, self.parts.len())?;
@@ -76,33 +76,33 @@ impl Message {
     }
 
     /// The parts in order.
-    pub fn parts(&self) -> &[Part]
+    pub fn parts(&self) -> &[Part<F>]
         ensures parts { result.now ≡ self.now }
-        ensures message { IsMessage two_lane_profile self.now }
+        ensures message { IsMessage F.profile self.now }
     {
         &self.parts
     }
 }
 
 /// Each of the parts has a spelling, as reading it tells.
-fn have_spellings(parts: &[Part])
-    ensures { AllByRecursion (IsPart two_lane_profile) parts.now }
+fn have_spellings<F: Summary>(parts: &[Part<F>])
+    ensures { AllByRecursion (IsPart F.profile) parts.now }
 {
     for part in parts {
         let _ = part.range();
     }
 }
 
-impl PartialEq for Message {
-    ghost eq = { pointwise same_part };
+impl<F: Summary> PartialEq for Message<F> {
+    ghost eq = { pointwise (same_part F.summary) };
 
-    ghost laws = { partial_equiv_from_equiv (lists_equiv same_part_equiv) };
+    ghost laws = { partial_equiv_from_equiv (lists_equiv (same_part_equiv F.summary F.exact)) };
 
     fn eq(&self, other: &Self) -> bool {
         self.parts() == other.parts()
     }
 }
 
-impl Eq for Message {
-    ghost laws = { lists_equiv same_part_equiv };
+impl<F: Summary> Eq for Message<F> {
+    ghost laws = { lists_equiv (same_part_equiv F.summary F.exact) };
 }

@@ -2,7 +2,7 @@ ghost use Rattle.std.specs.Prelude.{◌≡◌, ◌↔◌, ◌++◌, OnOk, Some, 
 ghost use Rattle.std.specs.Option.{option_copied};
 ghost use Rattle.std.specs.Cmp.{partial_equiv_from_equiv};
 ghost use Rattle.definitions.specs.Messages.{Sum, Listing, Answer, range_of};
-ghost use Rattle.definitions.specs.Wire.{two_lane_profile, IsPart, part_text};
+ghost use Rattle.definitions.specs.Wire.{IsPart, part_text};
 ghost use Rattle.definitions.specs.Faults as faults;
 ghost use Rattle.wire_core.specs.Bodies.{part_of, Lists};
 ghost use Rattle.wire_core.specs.Parts.{kind_of, sum_in, items_in, marks_in};
@@ -13,7 +13,7 @@ use crate::body::{Body, items_fault};
 use crate::fault::PartFault;
 use crate::marks::Marks;
 use crate::spelling::push_frame;
-use digest_core::Fingerprint;
+use digest_core::{Fingerprint, Summary};
 use item_core::{Item, Range};
 use std::alloc::{AllocError, Global};
 use std::marker::Model;
@@ -31,30 +31,30 @@ pub enum PartKind {
 
 /// A part of a message: a range, and what the sender says of its items there. Each part has a spelling.
 #[derive(Debug, Drop)]
-pub struct Part {
+pub struct Part<F: Summary = Fingerprint> {
     range: Range,
-    body: Body,
+    body: Body<F>,
 }
 
-impl Model for Part {
+impl<F: Summary> Model for Part<F> {
     ghost use Rattle.definitions.specs.Messages as messages;
-    ghost use Rattle.definitions.specs.Fingerprints.{Lanes};
-    ghost use Rattle.definitions.specs.Wire.{two_lane_profile, IsPart};
+    ghost use Rattle.definitions.specs.Wire.{IsPart};
 
-    ghost Value = { messages.Part Lanes };
+    ghost Value = { messages.Part F };
 
     ghost use Rattle.wire_core.specs.Bodies.{part_of};
 
     ghost view = { λ a. part_of a.range a.body };
 
-    ghost invariant = { λ a. IsPart two_lane_profile (part_of a.range a.body) };
+    ghost invariant = { λ a. IsPart F.profile (part_of a.range a.body) };
 }
 
-impl Part {
+impl<F: Summary> Part<F> {
     /// The fingerprint of the sender's items in the range.
-    pub fn sum(range: Range, sum: Fingerprint) -> Part
+    pub fn sum(range: Range, sum: F) -> Part<F>
         ensures { result ≡ Sum range sum }
     {
+        sum.known();
         Part {
             range,
             body: Body::Sum(sum),
@@ -65,18 +65,18 @@ impl Part {
     ///
     /// The first item that is not greater than the one before it (8) or is outside the range (9) is refused, and
     /// then a body above its limit (2).
-    pub fn list(range: Range, items: Vec<Item>) -> Result<Part, PartFault>
+    pub fn list(range: Range, items: Vec<Item>) -> Result<Part<F>, PartFault>
         ensures part { IfOk result (λ p. p ≡ Listing range items.items) }
-        ensures ok { IsOk result ↔ IsPart two_lane_profile (Listing range items.items) }
-        ensures fault { IfErr result (λ e. faults.part_fault two_lane_profile (Listing range items.items)
+        ensures ok { IsOk result ↔ IsPart F.profile (Listing range items.items) }
+        ensures fault { IfErr result (λ e. faults.part_fault F.profile (Listing range items.items)
             ≡ Some (part_fault_number e)) }
     {
         Part::checked(range, Body::List(items))
     }
 
     /// The sender's items in the range, which are known to rise and to lie in it. Nothing is tested.
-    pub fn listing(range: Range, items: Vec<Item>) -> Part
-        requires { IsPart two_lane_profile (Listing range items.items) }
+    pub fn listing(range: Range, items: Vec<Item>) -> Part<F>
+        requires { IsPart F.profile (Listing range items.items) }
         ensures { result ≡ Listing range items.items }
     {
         Part {
@@ -88,17 +88,17 @@ impl Part {
     /// The marks for the items of a list that is answered, and the sender's items in the range that the list had not.
     ///
     /// Refused as a list is.
-    pub fn answer(range: Range, marks: Marks, items: Vec<Item>) -> Result<Part, PartFault>
+    pub fn answer(range: Range, marks: Marks, items: Vec<Item>) -> Result<Part<F>, PartFault>
         ensures part { IfOk result (λ p. p ≡ Answer range marks items.items) }
-        ensures ok { IsOk result ↔ IsPart two_lane_profile (Answer range marks items.items) }
-        ensures fault { IfErr result (λ e. faults.part_fault two_lane_profile (Answer range marks items.items)
+        ensures ok { IsOk result ↔ IsPart F.profile (Answer range marks items.items) }
+        ensures fault { IfErr result (λ e. faults.part_fault F.profile (Answer range marks items.items)
             ≡ Some (part_fault_number e)) }
     {
         Part::checked(range, Body::Answer(marks, items))
     }
 
     /// The same part again.
-    pub fn copy(&self, alloc: Global) -> Result<Part, AllocError>
+    pub fn copy(&self, alloc: Global) -> Result<Part<F>, AllocError>
         ensures { IfOk result (λ p. p ≡ self.now) }
     {
         Ok(Part {
@@ -121,13 +121,13 @@ impl Part {
     /// The range.
     pub fn range(&self) -> &Range
         ensures range { result.now ≡ range_of self.now }
-        ensures part { IsPart two_lane_profile self.now }
+        ensures part { IsPart F.profile self.now }
     {
         &self.range
     }
 
     /// The fingerprint of a Sum.
-    pub fn fingerprint(&self) -> Option<&Fingerprint>
+    pub fn fingerprint(&self) -> Option<&F>
         ensures { option_copied result ≡ sum_in self.now }
     {
         match &self.body {
@@ -159,14 +159,14 @@ impl Part {
 
     /// Appends the frame of the part.
     pub(crate) fn push(&self, out: &mut Vec<u8>) -> Result<(), AllocError>
-        ensures { OnOk result (out.new.items ≡ out.old.items ++ part_text two_lane_profile self.now) }
+        ensures { OnOk result (out.new.items ≡ out.old.items ++ part_text F.profile self.now) }
     {
         push_frame(out, &self.range, &self.body)
     }
 
     /// The part of fields that were read.
-    pub(crate) fn of_fields(fields: (Range, Body)) -> Part
-        requires { IsPart two_lane_profile (part_of fields.0 fields.1) }
+    pub(crate) fn of_fields(fields: (Range, Body<F>)) -> Part<F>
+        requires { IsPart F.profile (part_of fields.0 fields.1) }
         ensures { result ≡ part_of fields.0 fields.1 }
     {
         Part {
@@ -176,15 +176,14 @@ impl Part {
     }
 
     /// The part, unless it has no spelling.
-    fn checked(range: Range, body: Body) -> Result<Part, PartFault>
+    fn checked(range: Range, body: Body<F>) -> Result<Part<F>, PartFault>
         requires { Lists body }
         ensures part { IfOk result (λ p. p ≡ part_of range body) }
-        ensures ok { IsOk result ↔ IsPart two_lane_profile (part_of range body) }
-        ensures fault { IfErr result (λ e. faults.part_fault two_lane_profile (part_of range body)
+        ensures ok { IsOk result ↔ IsPart F.profile (part_of range body) }
+        ensures fault { IfErr result (λ e. faults.part_fault F.profile (part_of range body)
             ≡ Some (part_fault_number e)) }
     {
-        codec_laws::two_lanes_are_real();
-        codec_laws::part_fault_is_exact::<Fingerprint>();
+        codec_laws::part_fault_is_exact::<F>();
         codec_laws::items_fault_is_exact();
         if let Some(fault) = items_fault(&range, body.items()) {
             return Err(fault);
@@ -196,16 +195,16 @@ impl Part {
     }
 }
 
-impl PartialEq for Part {
-    ghost eq = { same_part };
+impl<F: Summary> PartialEq for Part<F> {
+    ghost eq = { same_part F.summary };
 
-    ghost laws = { partial_equiv_from_equiv same_part_equiv };
+    ghost laws = { partial_equiv_from_equiv (same_part_equiv F.summary F.exact) };
 
     fn eq(&self, other: &Self) -> bool {
-        self.range == other.range && self.body == other.body
+        self.range == other.range && self.body.is_same(&other.body)
     }
 }
 
-impl Eq for Part {
-    ghost laws = { same_part_equiv };
+impl<F: Summary> Eq for Part<F> {
+    ghost laws = { same_part_equiv F.summary F.exact };
 }

@@ -4,7 +4,7 @@ ghost use Rattle.std.specs.Prelude.{◌≡◌, ℕ, ◌+◌, ◌-◌, ◌^◌, �
 ghost use Rattle.std.specs.Prelude.{IfOk, OnOk, OnErr, slice_index};
 ghost use Rattle.std.specs.Int.{w32, from_be_bytes};
 ghost use Rattle.definitions.specs.Items.{IsBytes};
-ghost use Rattle.definitions.specs.Wire.{two_lane_profile, max_body};
+ghost use Rattle.definitions.specs.Wire.{max_body};
 ghost use Rattle.definitions.specs.Streams.{feed, stays};
 ghost use Rattle.wire_core.specs.Events.{event_values};
 ghost use Rattle.wire_core.specs.Standings.{standing_of, is_over, behind, fed_as};
@@ -14,7 +14,7 @@ ghost use Rattle.wire_core.specs.Nexts.{IsReach};
 use crate::event::Event;
 use crate::standing::Standing;
 use crate::stream::{are_bytes, read_piece};
-use digest_core::Fingerprint;
+use digest_core::Summary;
 use std::alloc::{AllocError, Global};
 
 /// How many bytes an unfinished hello or frame wants beside those that have come, as far as these tell.
@@ -30,12 +30,11 @@ fn wanted(kept: &[u8]) -> usize
 }
 
 /// Tells that bytes that are kept and were read are less than the longest frame; nothing is done.
-pub fn are_few(kept: &[u8], standing: Standing)
-    requires { feed two_lane_profile (standing_of standing) kept.now ≡ stays (standing_of standing) kept.now }
+pub fn are_few<F: Summary>(kept: &[u8], standing: Standing)
+    requires { feed F.profile (standing_of standing) kept.now ≡ stays (standing_of standing) kept.now }
     ensures { length kept.now < 4 + max_body }
 {
-    codec_laws::two_lanes_are_real();
-    codec_laws::feeds_rest::<Fingerprint>();
+    codec_laws::feeds_rest::<F>();
     are_bytes(kept);
     let _ = standing;
 }
@@ -63,13 +62,17 @@ fn append(kept: &mut Vec<u8>, piece: &[u8]) -> Result<(), AllocError>
 }
 
 /// Keeps a piece that does not end the unfinished hello or frame, and tells whether it did.
-pub fn keep(kept: &mut Vec<u8>, piece: &[u8], standing: Standing) -> Result<bool, AllocError>
-    requires read { feed two_lane_profile (standing_of standing) kept.old.items
+pub fn keep<F: Summary>(
+    kept: &mut Vec<u8>,
+    piece: &[u8],
+    standing: Standing,
+) -> Result<bool, AllocError>
+    requires read { feed F.profile (standing_of standing) kept.old.items
         ≡ stays (standing_of standing) kept.old.items }
     requires counts { is_over (standing_of standing) ≡ false }
     // The piece is kept, and no event or fault comes of it.
     ensures kept { IfOk result (λ is_kept. is_kept ≡ true → (kept.new.items ≡ kept.old.items ++ piece.now)
-        × (feed two_lane_profile (standing_of standing) kept.new.items
+        × (feed F.profile (standing_of standing) kept.new.items
         ≡ stays (standing_of standing) kept.new.items) × (fault_at (standing_of standing) ≡ None)) }
     ensures same { IfOk result (λ is_kept. is_kept ≡ false → kept.new.items ≡ kept.old.items) }
     ensures memory { OnErr result (kept.new.items ≡ kept.old.items) }
@@ -82,21 +85,21 @@ pub fn keep(kept: &mut Vec<u8>, piece: &[u8], standing: Standing) -> Result<bool
 }
 
 /// Reads the kept bytes behind those that are taken, and the front of a piece, and tells which are taken then.
-fn read_kept(
+fn read_kept<F: Summary>(
     alloc: Global,
     kept: &mut Vec<u8>,
     taken: &mut usize,
     front: &[u8],
     standing: Standing,
-    out: &mut Vec<Event>,
+    out: &mut Vec<Event<F>>,
 ) -> Result<Standing, AllocError>
     requires { taken.old ≤ length kept.old.items }
     ensures joined { IfOk result (λ s. (back : List ℕ) → IsBytes back →
-        behind (event_values out.old.items) (feed two_lane_profile (standing_of standing)
+        behind (event_values out.old.items) (feed F.profile (standing_of standing)
         ((drop taken.old kept.old.items ++ front.now) ++ back))
-        ≡ behind (event_values out.new.items) (feed two_lane_profile (standing_of s)
+        ≡ behind (event_values out.new.items) (feed F.profile (standing_of s)
         (drop taken.new kept.new.items ++ back))) }
-    ensures rest { IfOk result (λ s. feed two_lane_profile (standing_of s) (drop taken.new kept.new.items)
+    ensures rest { IfOk result (λ s. feed F.profile (standing_of s) (drop taken.new kept.new.items)
         ≡ stays (standing_of s) (drop taken.new kept.new.items)) }
     ensures within { OnOk result (taken.new ≤ length kept.new.items) }
     ensures kept { take (length kept.old.items) kept.new.items ≡ kept.old.items }
@@ -110,22 +113,22 @@ fn read_kept(
 }
 
 /// Reads the rest of a piece where it lies, once all kept bytes are taken, and keeps what is left of it.
-fn read_rest(
+fn read_rest<F: Summary>(
     alloc: Global,
     kept: &mut Vec<u8>,
     taken: usize,
     rest: &[u8],
     standing: Standing,
-    out: &mut Vec<Event>,
+    out: &mut Vec<Event<F>>,
 ) -> Result<Standing, AllocError>
     requires within { taken ≤ length kept.old.items }
     requires done { taken < length kept.old.items → length rest.now ≡ 0 }
-    requires read { feed two_lane_profile (standing_of standing) (drop taken kept.old.items)
+    requires read { feed F.profile (standing_of standing) (drop taken kept.old.items)
         ≡ stays (standing_of standing) (drop taken kept.old.items) }
     ensures fed { IfOk result (λ s. behind (event_values out.old.items)
-        (feed two_lane_profile (standing_of standing) (drop taken kept.old.items ++ rest.now))
+        (feed F.profile (standing_of standing) (drop taken kept.old.items ++ rest.now))
         ≡ fed_as out.new.items s kept.new.items) }
-    ensures rest { IfOk result (λ s. feed two_lane_profile (standing_of s) kept.new.items
+    ensures rest { IfOk result (λ s. feed F.profile (standing_of s) kept.new.items
         ≡ stays (standing_of s) kept.new.items) }
     ensures kept { OnErr result (take (length kept.old.items) kept.new.items ≡ kept.old.items) }
     ensures before { take (length out.old.items) out.new.items ≡ out.old.items }
@@ -144,19 +147,19 @@ fn read_rest(
 /// Reads a piece behind the bytes that are kept of the stream, and keeps what is left.
 ///
 /// Where memory runs out the kept bytes and the events begin as before.
-pub fn read_behind(
+pub fn read_behind<F: Summary>(
     alloc: Global,
     kept: &mut Vec<u8>,
     piece: &[u8],
     standing: Standing,
-    out: &mut Vec<Event>,
+    out: &mut Vec<Event<F>>,
 ) -> Result<Standing, AllocError>
-    requires { feed two_lane_profile (standing_of standing) kept.old.items
+    requires { feed F.profile (standing_of standing) kept.old.items
         ≡ stays (standing_of standing) kept.old.items }
     ensures fed { IfOk result (λ s. behind (event_values out.old.items)
-        (feed two_lane_profile (standing_of standing) (kept.old.items ++ piece.now))
+        (feed F.profile (standing_of standing) (kept.old.items ++ piece.now))
         ≡ fed_as out.new.items s kept.new.items) }
-    ensures rest { IfOk result (λ s. feed two_lane_profile (standing_of s) kept.new.items
+    ensures rest { IfOk result (λ s. feed F.profile (standing_of s) kept.new.items
         ≡ stays (standing_of s) kept.new.items) }
     ensures kept { OnErr result (take (length kept.old.items) kept.new.items ≡ kept.old.items) }
     ensures before { take (length out.old.items) out.new.items ≡ out.old.items }

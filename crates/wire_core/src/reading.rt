@@ -1,7 +1,7 @@
 //! Reading what follows the kind of a part, and a whole body.
 
 ghost use Rattle.std.specs.Prelude.{◌≡◌, ◌<◌, ◌≤◌, None, [], OnOk, IfErr, length};
-ghost use Rattle.definitions.specs.Wire.{two_lane_profile, max_body, One_message, Stream};
+ghost use Rattle.definitions.specs.Wire.{max_body, One_message, Stream};
 ghost use Rattle.definitions.specs.Reading as reading;
 ghost use Rattle.wire_core.specs.Refused.{GivesField, Gives};
 ghost use Rattle.wire_core.specs.Bodies.{part_of, fields_event};
@@ -14,7 +14,7 @@ use crate::fault::{DecodeError, WireFault};
 use crate::field::{take_byte, take_bytes, take_items, take_number, take_range};
 use crate::marks::{Marks, has_padding};
 use crate::part::Part;
-use digest_core::Fingerprint;
+use digest_core::Summary;
 use item_core::{Item, Range};
 use std::alloc::Global;
 
@@ -38,19 +38,17 @@ fn take_marks(alloc: Global, bytes: &mut &[u8]) -> Result<Marks, DecodeError>
     Ok(Marks::of_packed(alloc, held, count)?)
 }
 
-/// A fingerprint, of 32 bytes.
-fn take_fingerprint(bytes: &mut &[u8]) -> Result<Fingerprint, WireFault>
-    ensures { GivesField (λ x. (x, bytes.new.now)) result (fingerprint_at bytes.old.now) }
+/// A fingerprint.
+fn take_fingerprint<F: Summary>(bytes: &mut &[u8]) -> Result<F, WireFault>
+    ensures { GivesField (λ x. (x, bytes.new.now)) result (fingerprint_at F.profile bytes.old.now) }
 {
-    let mut lanes = [0; 32];
-    lanes.copy_from_slice(take_bytes(bytes, 32)?);
-    Ok(Fingerprint::from_bytes(lanes))
+    Ok(F::read(take_bytes(bytes, F::size())?))
 }
 
 /// What follows the kind of a Sum.
-fn take_sum(bytes: &mut &[u8]) -> Result<(Range, Body), WireFault>
+fn take_sum<F: Summary>(bytes: &mut &[u8]) -> Result<(Range, Body<F>), WireFault>
     ensures { GivesField (λ x. (part_of x.0 x.1, bytes.new.now)) result
-        (reading.sum_at two_lane_profile bytes.old.now) }
+        (reading.sum_at F.profile bytes.old.now) }
 {
     let range = take_range(bytes)?;
     let sum = take_fingerprint(bytes)?;
@@ -58,7 +56,10 @@ fn take_sum(bytes: &mut &[u8]) -> Result<(Range, Body), WireFault>
 }
 
 /// What follows the kind of a List.
-fn take_listing(alloc: Global, bytes: &mut &[u8]) -> Result<(Range, Body), DecodeError>
+fn take_listing<F: Summary>(
+    alloc: Global,
+    bytes: &mut &[u8],
+) -> Result<(Range, Body<F>), DecodeError>
     ensures { Gives (λ x. (part_of x.0 x.1, bytes.new.now)) result (reading.listing_at bytes.old.now) }
 {
     let range = take_range(bytes)?;
@@ -67,7 +68,10 @@ fn take_listing(alloc: Global, bytes: &mut &[u8]) -> Result<(Range, Body), Decod
 }
 
 /// What follows the kind of an Answer.
-fn take_answer(alloc: Global, bytes: &mut &[u8]) -> Result<(Range, Body), DecodeError>
+fn take_answer<F: Summary>(
+    alloc: Global,
+    bytes: &mut &[u8],
+) -> Result<(Range, Body<F>), DecodeError>
     ensures { Gives (λ x. (part_of x.0 x.1, bytes.new.now)) result (reading.answer_at bytes.old.now) }
 {
     let range = take_range(bytes)?;
@@ -89,13 +93,13 @@ fn ends(bytes: &[u8]) -> Result<(), WireFault>
 }
 
 /// What follows a kind where one message is read: the fields of a part, or the end of the message.
-fn take_fields(
+fn take_fields<F: Summary>(
     alloc: Global,
     bytes: &mut &[u8],
     kind: u8,
-) -> Result<Option<(Range, Body)>, DecodeError>
+) -> Result<Option<(Range, Body<F>)>, DecodeError>
     ensures { Gives (λ x. (fields_event x, bytes.new.now)) result
-        (reading.fields_at two_lane_profile One_message kind bytes.old.now) }
+        (reading.fields_at F.profile One_message kind bytes.old.now) }
 {
     match kind {
         1 => Ok(Some(take_sum(bytes)?)),
@@ -107,8 +111,11 @@ fn take_fields(
 }
 
 /// All of a body where one message is read: the fields of a part, or the end of the message.
-fn fields_in(alloc: Global, body: &[u8]) -> Result<Option<(Range, Body)>, DecodeError>
-    ensures { Gives fields_event result (reading.event_in two_lane_profile One_message body.now) }
+fn fields_in<F: Summary>(
+    alloc: Global,
+    body: &[u8],
+) -> Result<Option<(Range, Body<F>)>, DecodeError>
+    ensures { Gives fields_event result (reading.event_in F.profile One_message body.now) }
 {
     let mut rest = body;
     let kind = take_byte(&mut rest)?;
@@ -118,13 +125,12 @@ fn fields_in(alloc: Global, body: &[u8]) -> Result<Option<(Range, Body)>, Decode
 }
 
 /// What a frame's body says where one message is read: a part, or the end of the message.
-pub fn part_in(alloc: Global, body: &[u8]) -> Result<Option<Part>, DecodeError>
+pub fn part_in<F: Summary>(alloc: Global, body: &[u8]) -> Result<Option<Part<F>>, DecodeError>
     requires { length body.now ≤ max_body }
-    ensures { Gives event_of result (reading.event_in two_lane_profile One_message body.now) }
+    ensures { Gives event_of result (reading.event_in F.profile One_message body.now) }
 {
-    codec_laws::two_lanes_are_real();
     codec_laws::reads_are_bytes();
-    codec_laws::body_is_exact::<Fingerprint>();
+    codec_laws::body_is_exact::<F>();
     let Some(fields) = fields_in(alloc, body)? else {
         return Ok(None);
     };
@@ -142,9 +148,9 @@ fn code_in(rest: &[u8]) -> Result<u8, WireFault>
 }
 
 /// What the body of a part's frame says, or that of a message's end.
-fn part_event_in(alloc: Global, body: &[u8]) -> Result<Event, DecodeError>
+fn part_event_in<F: Summary>(alloc: Global, body: &[u8]) -> Result<Event<F>, DecodeError>
     requires { length body.now ≤ max_body }
-    ensures { Gives event_value result (reading.event_in two_lane_profile One_message body.now) }
+    ensures { Gives event_value result (reading.event_in F.profile One_message body.now) }
 {
     let Some(part) = part_in(alloc, body)? else {
         return Ok(Event::End);
@@ -153,9 +159,9 @@ fn part_event_in(alloc: Global, body: &[u8]) -> Result<Event, DecodeError>
 }
 
 /// What a frame's body says in a stream.
-pub fn event_in(alloc: Global, body: &[u8]) -> Result<Event, DecodeError>
+pub fn event_in<F: Summary>(alloc: Global, body: &[u8]) -> Result<Event<F>, DecodeError>
     requires { length body.now ≤ max_body }
-    ensures { Gives event_value result (reading.event_in two_lane_profile Stream body.now) }
+    ensures { Gives event_value result (reading.event_in F.profile Stream body.now) }
 {
     let Some((&kind, rest)) = body.split_first() else {
         return Err(DecodeError::Fault(WireFault::FrameLength));

@@ -2,7 +2,7 @@
 
 ghost use Rattle.std.specs.Prelude.{◌≡◌, ◌++◌, ◌≤◌, ◌<◌, ◌^◌, length, IfOk, OnOk};
 ghost use Rattle.definitions.specs.Wire as wire;
-ghost use Rattle.definitions.specs.Wire.{two_lane_profile, part_text, fault_text, IsPart, Spells};
+ghost use Rattle.definitions.specs.Wire.{part_text, fault_text, IsPart, Spells};
 ghost use Rattle.item_core.specs.Bounds.{upper_value};
 ghost use Rattle.wire_core.specs.Bodies.{part_of, items_in, fields_text};
 
@@ -10,11 +10,9 @@ use crate::body::Body;
 use crate::marks::Marks;
 use crate::message::Message;
 use crate::part::Part;
+use digest_core::Summary;
 use item_core::{Item, Range, Upper};
 use std::alloc::{AllocError, Global};
-
-/// The first four bytes of a stream.
-pub const HELLO: [u8; 4] = [0x52, 0x52, 0x53, 0x31];
 
 /// The frame of a message's end.
 const END: [u8; 5] = [0, 0, 0, 1, 4];
@@ -80,15 +78,12 @@ fn push_marks(out: &mut Vec<u8>, marks: &Marks) -> Result<(), AllocError>
 }
 
 /// Appends the fields of a body behind its range.
-fn push_fields(out: &mut Vec<u8>, body: &Body) -> Result<(), AllocError>
+fn push_fields<F: Summary>(out: &mut Vec<u8>, body: &Body<F>) -> Result<(), AllocError>
     requires { length (items_in body.now) < 2 ^ 32 }
-    ensures { OnOk result (out.new.items ≡ out.old.items ++ fields_text body.now) }
+    ensures { OnOk result (out.new.items ≡ out.old.items ++ fields_text F.profile body.now) }
 {
     match body {
-        Body::Sum(sum) => {
-            out.extend_from_slice(&sum.to_bytes())?;
-            Ok(())
-        }
+        Body::Sum(sum) => sum.push(out),
         Body::List(items) => push_items(out, items),
         Body::Answer(marks, items) => {
             push_marks(out, marks)?;
@@ -99,9 +94,13 @@ fn push_fields(out: &mut Vec<u8>, body: &Body) -> Result<(), AllocError>
 
 /// Appends the frame of a part.
 #[tactic(auto, using(crate::proofs::Lengths::lengths))]
-pub fn push_frame(out: &mut Vec<u8>, range: &Range, body: &Body) -> Result<(), AllocError>
-    requires { IsPart two_lane_profile (part_of range.now body.now) }
-    ensures { OnOk result (out.new.items ≡ out.old.items ++ part_text two_lane_profile
+pub fn push_frame<F: Summary>(
+    out: &mut Vec<u8>,
+    range: &Range,
+    body: &Body<F>,
+) -> Result<(), AllocError>
+    requires { IsPart F.profile (part_of range.now body.now) }
+    ensures { OnOk result (out.new.items ≡ out.old.items ++ part_text F.profile
         (part_of range.now body.now)) }
 {
     let length = body.length(range);
@@ -113,8 +112,8 @@ pub fn push_frame(out: &mut Vec<u8>, range: &Range, body: &Body) -> Result<(), A
 }
 
 /// The one spelling of a part: a frame.
-pub fn encode_part(alloc: Global, part: &Part) -> Result<Vec<u8>, AllocError>
-    ensures { IfOk result (λ text. text.items ≡ part_text two_lane_profile part.now) }
+pub fn encode_part<F: Summary>(alloc: Global, part: &Part<F>) -> Result<Vec<u8>, AllocError>
+    ensures { IfOk result (λ text. text.items ≡ part_text F.profile part.now) }
 {
     let mut frame = Vec::new(alloc);
     part.push(&mut frame)?;
@@ -122,8 +121,11 @@ pub fn encode_part(alloc: Global, part: &Part) -> Result<Vec<u8>, AllocError>
 }
 
 /// The one spelling of a message: its parts' frames in order, and the frame of its end.
-pub fn encode_message(alloc: Global, message: &Message) -> Result<Vec<u8>, AllocError>
-    ensures { IfOk result (λ text. Spells two_lane_profile message.now text.items) }
+pub fn encode_message<F: Summary>(
+    alloc: Global,
+    message: &Message<F>,
+) -> Result<Vec<u8>, AllocError>
+    ensures { IfOk result (λ text. Spells F.profile message.now text.items) }
 {
     let mut out = Vec::new(alloc);
     for part in message.parts() {
@@ -134,10 +136,10 @@ pub fn encode_message(alloc: Global, message: &Message) -> Result<Vec<u8>, Alloc
 }
 
 /// The four bytes with which each side's stream begins.
-pub fn encode_hello() -> [u8; 4]
-    ensures { result ≡ two_lane_profile.hello }
+pub fn encode_hello<F: Summary>() -> [u8; 4]
+    ensures { result ≡ F.profile.hello }
 {
-    HELLO
+    F::hello()
 }
 
 /// The frame by which a side refuses, with this number.

@@ -1,7 +1,7 @@
-ghost use Rattle.std.specs.Prelude.{◌≡◌, ◌≤◌, length};
+ghost use Rattle.std.specs.Prelude.{◌≡◌, ◌≤◌};
 ghost use Rattle.wire_core.specs.Standings.{standing_of, is_over, left_at};
 ghost use Rattle.wire_core.specs.Feeds.{fault_at, fault_in};
-ghost use Rattle.wire_core.specs.Nexts.{hello_due};
+ghost use Rattle.wire_core.specs.Nexts.{hello_length};
 
 use crate::fault::WireFault;
 
@@ -40,7 +40,7 @@ impl Standing {
 
     /// The length of the hello, where it is due, and else 0.
     pub fn hello_length(self) -> usize
-        ensures length { result ≡ length (hello_due (standing_of self)) }
+        ensures length { result ≡ hello_length (standing_of self) }
         ensures short { result ≤ 4 }
     {
         match self {

@@ -2,8 +2,7 @@
 
 ghost use Rattle.std.specs.Prelude.{◌≡◌, ℕ, ◌<◌, ◌≤◌, List, ◌++◌, OnOk, IfOk, IfSome, IfNone, length, take, option_map};
 ghost use Rattle.definitions.specs.Items.{IsBytes};
-ghost use Rattle.definitions.specs.Fingerprints.{Lanes};
-ghost use Rattle.definitions.specs.Wire.{two_lane_profile, Stream, Counts};
+ghost use Rattle.definitions.specs.Wire.{Stream, Counts};
 ghost use Rattle.definitions.specs.Reading as reading;
 ghost use Rattle.definitions.specs.Streams.{Fed, go_on, with_event, fed_by, feed_frames, feed_start, feed, stays};
 ghost use Rattle.codec_laws.specs.Parts.{IsEndOf};
@@ -16,15 +15,18 @@ use crate::event::Event;
 use crate::fault::{DecodeError, WireFault};
 use crate::message::MAX_PARTS;
 use crate::reading::event_in;
-use crate::spelling::HELLO;
 use crate::standing::{Standing, Step};
-use digest_core::Fingerprint;
+use digest_core::Summary;
 use std::alloc::{AllocError, Global};
 
 /// Takes the next frame off the front, behind so many parts of its message, and gives its event, if a whole one has come.
-fn take_event(alloc: Global, bytes: &mut &[u8], parts: usize) -> Result<Option<Event>, DecodeError>
+fn take_event<F: Summary>(
+    alloc: Global,
+    bytes: &mut &[u8],
+    parts: usize,
+) -> Result<Option<Event<F>>, DecodeError>
     ensures read { Gives (λ x. option_map (λ e. (event_value e, bytes.new.now)) x) result
-        (reading.event_at two_lane_profile Stream parts bytes.old.now) }
+        (reading.event_at F.profile Stream parts bytes.old.now) }
     ensures shorter { IfOk result (λ x. IfSome x (λ _. length bytes.new.now < length bytes.old.now)) }
     ensures same { IfOk result (λ x. IfNone x (bytes.new.now ≡ bytes.old.now)) }
     ensures room { IfOk result (λ x. IfSome x (λ e. Counts parts (event_value e))) }
@@ -40,9 +42,9 @@ fn take_event(alloc: Global, bytes: &mut &[u8], parts: usize) -> Result<Option<E
 }
 
 /// Where reading goes on behind an event that came behind so many parts of its message.
-fn step_behind(event: &Event, parts: usize) -> Step
+fn step_behind<F: Summary>(event: &Event<F>, parts: usize) -> Step
     requires { Counts parts (event_value event.now) }
-    ensures { (rest : List ℕ) (more : ℕ → List ℕ → Fed Lanes) →
+    ensures { (rest : List ℕ) (more : ℕ → List ℕ → Fed F) →
         go_on (event_value event.now) parts (λ n. more n rest)
         ≡ with_event (event_value event.now) (goes_on result rest more) }
 {
@@ -54,14 +56,14 @@ fn step_behind(event: &Event, parts: usize) -> Step
 }
 
 /// Takes the next frame off the front, if a whole one has come, and appends its event.
-fn take_one(
+fn take_one<F: Summary>(
     alloc: Global,
     bytes: &mut &[u8],
     parts: usize,
-    out: &mut Vec<Event>,
+    out: &mut Vec<Event<F>>,
 ) -> Result<Step, AllocError>
-    ensures step { IfOk result (λ step. (more : ℕ → List ℕ → Fed Lanes) →
-        behind (event_values out.old.items) (fed_by (reading.event_at two_lane_profile Stream parts bytes.old.now)
+    ensures step { IfOk result (λ step. (more : ℕ → List ℕ → Fed F) →
+        behind (event_values out.old.items) (fed_by (reading.event_at F.profile Stream parts bytes.old.now)
         parts bytes.old.now more) ≡ behind (event_values out.new.items) (goes_on step bytes.new.now more)) }
     ensures before { take (length out.old.items) out.new.items ≡ out.old.items }
     ensures shorter { IfOk result (λ step. IfMore step (λ _. length bytes.new.now < length bytes.old.now)) }
@@ -79,14 +81,14 @@ fn take_one(
 }
 
 /// Takes all frames off the front that have come whole, behind so many parts of a message, and appends their events.
-fn take_frames(
+fn take_frames<F: Summary>(
     alloc: Global,
     bytes: &mut &[u8],
     parts: usize,
-    out: &mut Vec<Event>,
+    out: &mut Vec<Event<F>>,
 ) -> Result<Standing, AllocError>
     ensures fed { IfOk result (λ s. (fuel : ℕ) → length bytes.old.now ≤ fuel →
-        behind (event_values out.old.items) (feed_frames two_lane_profile fuel parts bytes.old.now)
+        behind (event_values out.old.items) (feed_frames F.profile fuel parts bytes.old.now)
         ≡ fed_as out.new.items s (left_at s bytes.new.now)) }
     ensures before { take (length out.old.items) out.new.items ≡ out.old.items }
 {
@@ -100,16 +102,16 @@ fn take_frames(
 }
 
 /// Takes the hello off the front, if its four bytes have come.
-fn take_hello(bytes: &mut &[u8]) -> Step
-    ensures step { feed_start two_lane_profile bytes.old.now
-        ≡ goes_on result bytes.new.now (feed_frames two_lane_profile (length bytes.old.now)) }
+fn take_hello<F: Summary>(bytes: &mut &[u8]) -> Step
+    ensures step { feed_start F.profile bytes.old.now
+        ≡ goes_on result bytes.new.now (feed_frames F.profile (length bytes.old.now)) }
     ensures shorter { length bytes.new.now ≤ length bytes.old.now }
 {
     if bytes.len() < 4 {
         return Step::Rest(Standing::BeforeHello);
     }
     let (hello, rest) = bytes.split_at(4);
-    if hello != HELLO.as_slice() {
+    if hello != F::hello().as_slice() {
         return Step::Rest(Standing::Faulted(WireFault::BadHello));
     }
     *bytes = rest;
@@ -117,30 +119,30 @@ fn take_hello(bytes: &mut &[u8]) -> Step
 }
 
 /// Takes the hello off the front, where it is due.
-fn take_start(bytes: &mut &[u8], standing: Standing) -> Step
-    ensures step { feed two_lane_profile (standing_of standing) bytes.old.now
-        ≡ goes_on result bytes.new.now (feed_frames two_lane_profile (length bytes.old.now)) }
+fn take_start<F: Summary>(bytes: &mut &[u8], standing: Standing) -> Step
+    ensures step { feed F.profile (standing_of standing) bytes.old.now
+        ≡ goes_on result bytes.new.now (feed_frames F.profile (length bytes.old.now)) }
     ensures shorter { length bytes.new.now ≤ length bytes.old.now }
 {
     match standing {
-        Standing::BeforeHello => take_hello(bytes),
+        Standing::BeforeHello => take_hello::<F>(bytes),
         Standing::InMessage(parts) => Step::More(parts),
         Standing::MeaningOver | Standing::Faulted(_) => Step::Rest(standing),
     }
 }
 
 /// Reads a stream on from where it stands, and appends its events. Leaves what is no whole frame yet.
-pub fn read_on(
+pub fn read_on<F: Summary>(
     alloc: Global,
     bytes: &mut &[u8],
     standing: Standing,
-    out: &mut Vec<Event>,
+    out: &mut Vec<Event<F>>,
 ) -> Result<Standing, AllocError>
     ensures fed { IfOk result (λ s. behind (event_values out.old.items)
-        (feed two_lane_profile (standing_of standing) bytes.old.now) ≡ fed_as out.new.items s bytes.new.now) }
+        (feed F.profile (standing_of standing) bytes.old.now) ≡ fed_as out.new.items s bytes.new.now) }
     ensures before { take (length out.old.items) out.new.items ≡ out.old.items }
 {
-    let there = match take_start(bytes, standing) {
+    let there = match take_start::<F>(bytes, standing) {
         Step::More(parts) => take_frames(alloc, bytes, parts, out)?,
         Step::Rest(standing) => standing,
     };
@@ -157,27 +159,26 @@ pub fn are_bytes(bytes: &[u8])
 }
 
 /// The same, and what comes behind the bytes may be read later.
-pub fn read_piece(
+pub fn read_piece<F: Summary>(
     alloc: Global,
     bytes: &mut &[u8],
     standing: Standing,
-    out: &mut Vec<Event>,
+    out: &mut Vec<Event<F>>,
 ) -> Result<Standing, AllocError>
     ensures fed { IfOk result (λ s. behind (event_values out.old.items)
-        (feed two_lane_profile (standing_of standing) bytes.old.now) ≡ fed_as out.new.items s bytes.new.now) }
+        (feed F.profile (standing_of standing) bytes.old.now) ≡ fed_as out.new.items s bytes.new.now) }
     // Reading goes on from here as from there.
     ensures joined { IfOk result (λ s. (back : List ℕ) → IsBytes back →
-        behind (event_values out.old.items) (feed two_lane_profile (standing_of standing) (bytes.old.now ++ back))
-        ≡ behind (event_values out.new.items) (feed two_lane_profile (standing_of s) (bytes.new.now ++ back))) }
+        behind (event_values out.old.items) (feed F.profile (standing_of standing) (bytes.old.now ++ back))
+        ≡ behind (event_values out.new.items) (feed F.profile (standing_of s) (bytes.new.now ++ back))) }
     // What is left has been read, and is the end of the bytes.
-    ensures rest { IfOk result (λ s. feed two_lane_profile (standing_of s) bytes.new.now
+    ensures rest { IfOk result (λ s. feed F.profile (standing_of s) bytes.new.now
         ≡ stays (standing_of s) bytes.new.now) }
     ensures end { OnOk result (IsEndOf bytes.old.now bytes.new.now) }
     ensures before { take (length out.old.items) out.new.items ≡ out.old.items }
 {
-    codec_laws::two_lanes_are_real();
-    codec_laws::feeds_join::<Fingerprint>();
-    codec_laws::feeds_rest::<Fingerprint>();
+    codec_laws::feeds_join::<F>();
+    codec_laws::feeds_rest::<F>();
     are_bytes(bytes);
     read_on(alloc, bytes, standing, out)
 }

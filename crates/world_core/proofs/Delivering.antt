@@ -4,11 +4,12 @@ use Rattle.std.specs.Prelude.{slice_get, slice_set, IfSome, option_map, unwrap_o
 use Rattle.std.proofs.lemmas.List.{map-set, set-get_or}
 use Rattle.std.proofs.lemmas.Option.{slice_get-map, slice_get_read}
 use Rattle.std.proofs.lemmas.Bool.{ne_eqb}
-use Rattle.definitions.proofs.Words.{AllByRecursion, World, Node, node_at, no_node, has_ended, IsExact, Lanes, Message, has_open, two_lanes, answer, after, Replies, Ends, Refuses, responder, reply}
+use Rattle.definitions.proofs.Words.{AllByRecursion, World, Node, node_at, no_node, has_ended, IsExact, Message, has_open, answer, after, Replies, Ends, Refuses, responder, reply}
 use Rattle.definitions.proofs.Lemmas.{cond-true, cond-false, eq-eqb, get_or_from_slice_get}
 use Rattle.definitions.specs.Ends.{Answer}
 use Rattle.definitions.specs.Worlds.{Deliver, deliver_at, after_delivery}
 use Rattle.definitions.specs.Worlds as worlds
+use Rattle.definitions.specs.Fingerprints.{Summary}
 use Rattle.laws.specs.Growing.{is_even}
 use Rattle.laws.specs.Sessions.{Kept, Keeps, GoesOnBy, Tells, SessionsGoOn, SessionsKeepNodes, SessionsTell, hearer_now, kept_behind}
 use Rattle.ends_core.specs.Held.{Held, HasNone}
@@ -16,17 +17,6 @@ use Rattle.world_core.specs.declared.session.Session.{Session}
 use Rattle.world_core.specs.Nodes.{newest}
 use Rattle.world_core.specs.Live.{session_of, kept_of, made, IsKept, world_of, IsRunning, IsTaken, last_by, parts_by, did_by, responder_from, hearer, heard_by}
 use Rattle.world_core.proofs.Running.{came_on, IsKept-stays, All-kept}
-
--- what the laws say of a session that is looked at
-pub record Laws : Type 0 where
-  pub exact : IsExact two_lanes
-  pub tell : SessionsTell two_lanes
-
--- and of one whose message is delivered
-pub record DeliveryLaws : Type 0 where
-  pub look : Laws
-  pub go_on : SessionsGoOn two_lanes
-  pub keep : SessionsKeepNodes two_lanes
 
 -- ==== Lists
 
@@ -36,7 +26,8 @@ All-found P [] k x e h = absurd cc
 All-found P (y ∷ ys) zero x e h = let same : y ≡ x = cc in subst P same h.0
 All-found P (y ∷ ys) (suc k) x e h = All-found P ys k x e h.1
 
-All-set : {X : Type 0} (P : X → Type 0) (xs : List X) (k : ℕ) (x : X) → P x → AllByRecursion P xs → AllByRecursion P (set xs k x)
+All-set : {X : Type 0} (P : X → Type 0) (xs : List X) (k : ℕ) (x : X) → P x → AllByRecursion P xs →
+    AllByRecursion P (set xs k x)
 All-set P [] k x p h = tt
 All-set P (y ∷ ys) zero x p h = (p, h.1)
 All-set P (y ∷ ys) (suc k) x p h = (h.0, All-set P ys k x p h.1)
@@ -44,211 +35,291 @@ All-set P (y ∷ ys) (suc k) x p h = (h.0, All-set P ys k x p h.1)
 set_found : {X : Type 0} (xs : List X) (k : ℕ) (x : X) → slice_get xs k ≡ Some x → set xs k x ≡ xs
 set_found xs k x e = ap (set xs k) (sym (get_or_from_slice_get xs k x x e)) ∙ set-get_or xs k x
 
--- ==== The session behind a delivery
+module _ {F : Type 0} (S : Summary F) where
+  -- what the laws say of a session that is looked at
+  pub record Laws : Type 0 where
+    pub exact : IsExact S
+    pub tell : SessionsTell S
 
-from_same : (node : Node) (o : Option Held) → (responder_from node o).end ≡ unwrap_or (option_map (λ h. h.end) o) (responder (newest node))
-from_same node None = refl
-from_same node (Some h) = refl
+  -- and of one whose message is delivered
+  pub record DeliveryLaws : Type 0 where
+    pub look : Laws
+    pub go_on : SessionsGoOn S
+    pub keep : SessionsKeepNodes S
 
-from_steps : (node : Node) (o : Option Held) → IfSome o (λ h. h.steps ≡ node.steps) → (responder_from node o).steps ≡ node.steps
-from_steps node None h = refl
-from_steps node (Some x) h = h
+  -- ==== The session behind a delivery
 
-from_none : (node : Node) (o : Option Held) → IfSome o HasNone → HasNone (responder_from node o)
-from_none node None h = refl
-from_none node (Some x) h = h
+  from_same : (node : Node) (o : Option (Held F)) →
+      (responder_from node o).end ≡ unwrap_or (option_map (λ h. h.end) o) (responder (newest node))
+  from_same node None = refl
+  from_same node (Some h) = refl
 
--- its parts, where the responder hears and where the initiator does
-pub record IsHeard (w : World) (l : Session) (node : Node) : Type 0 where
-  pub hears : (hearer l node).end ≡ hearer_now w (session_of l) (kept_of l)
-  pub session : session_of (heard_by l node) ≡ after_delivery w (session_of l)
-  pub kept : kept_of (heard_by l node) ≡ kept_behind (session_of l) (kept_of l) (after two_lanes (hearer_now w (session_of l) (kept_of l)) l.last) (last_by l.last (answer two_lanes (hearer l node).end l.last)) (parts_by l.parts (answer two_lanes (hearer l node).end l.last))
-  pub first : (heard_by l node).first.steps ≡ l.first.steps
-  pub second : IfSome l.second (λ h. h.steps ≡ node.steps) → IfSome (heard_by l node).second (λ h. h.steps ≡ node.steps)
-  pub first_none : HasNone l.first → HasNone (heard_by l node).first
-  pub second_none : IfSome l.second HasNone → IfSome (heard_by l node).second HasNone
-  pub hearer_none : HasNone l.first → IfSome l.second HasNone → HasNone (hearer l node)
-  pub responder : (heard_by l node).responder ≡ l.responder
-  pub initiator : (heard_by l node).initiator ≡ l.initiator
+  from_steps : (node : Node) (o : Option (Held F)) → IfSome o (λ h. h.steps ≡ node.steps) →
+      (responder_from node o).steps ≡ node.steps
+  from_steps node None h = refl
+  from_steps node (Some x) h = h
 
-heard : (w : World) (l : Session) (b : Bool) → is_even l.delivered ≡ b → IsHeard w l (node_at w l.responder)
-heard w l true e =
-    let from = from_same (node_at w l.responder) l.second in
-    record {
-      hears = rw e from;
-      session = rw e refl;
-      kept = rw (e, from) refl;
-      first = rw e refl;
-      second = λ h. rw e (from_steps (node_at w l.responder) l.second h);
-      first_none = λ h. rw e h;
-      second_none = λ h. rw e refl;
-      hearer_none = λ f h. rw e (from_none (node_at w l.responder) l.second h);
-      responder = rw e refl;
-      initiator = rw e refl;
-    }
-heard w l false e = record {
-  hears = rw e refl;
-  session = rw e refl;
-  kept = rw e refl;
-  first = rw e refl;
-  second = λ h. rw e h;
-  first_none = λ h. rw e refl;
-  second_none = λ h. rw e h;
-  hearer_none = λ f h. rw e f;
-  responder = rw e refl;
-  initiator = rw e refl;
-}
+  from_none : (node : Node) (o : Option (Held F)) → IfSome o HasNone → HasNone (responder_from node o)
+  from_none node None h = refl
+  from_none node (Some x) h = h
 
--- ==== What the hearer answers
+  -- its parts, where the responder hears and where the initiator does
+  pub record IsHeard (w : World) (l : Session F) (node : Node) : Type 0 where
+    pub hears : (hearer l node).end ≡ hearer_now w (session_of l) (kept_of l)
+    pub session : session_of (heard_by S l node) ≡ after_delivery w (session_of l)
+    pub kept : kept_of (heard_by S l node) ≡ kept_behind (session_of l) (kept_of l)
+        (after S (hearer_now w (session_of l) (kept_of l)) l.last)
+        (last_by l.last (answer S (hearer l node).end l.last)) (parts_by l.parts (answer S (hearer l node).end l.last))
+    pub first : (heard_by S l node).first.steps ≡ l.first.steps
+    pub second : IfSome l.second (λ h. h.steps ≡ node.steps) →
+        IfSome (heard_by S l node).second (λ h. h.steps ≡ node.steps)
+    pub first_none : HasNone l.first → HasNone (heard_by S l node).first
+    pub second_none : IfSome l.second HasNone → IfSome (heard_by S l node).second HasNone
+    pub hearer_none : HasNone l.first → IfSome l.second HasNone → HasNone (hearer l node)
+    pub responder : (heard_by S l node).responder ≡ l.responder
+    pub initiator : (heard_by S l node).initiator ≡ l.initiator
 
-refused_if : {F : Type 0} (b : Bool) (M : Message F) (code : ℕ) → Refuses code ≡ (if b then Replies M else Ends) → ⊥
-refused_if true M code e = cc
-refused_if false M code e = cc
+  heard : (w : World) (l : Session F) (b : Bool) → is_even l.delivered ≡ b → IsHeard w l (node_at w l.responder)
+  heard w l true e =
+      let from = from_same (node_at w l.responder) l.second in
+      record {
+        hears = rw e from;
+        session = rw e refl;
+        kept = rw (e, from) refl;
+        first = rw e refl;
+        second = λ h. rw e (from_steps (node_at w l.responder) l.second h);
+        first_none = λ h. rw e h;
+        second_none = λ h. rw e refl;
+        hearer_none = λ f h. rw e (from_none (node_at w l.responder) l.second h);
+        responder = rw e refl;
+        initiator = rw e refl;
+      }
+  heard w l false e = record {
+    hears = rw e refl;
+    session = rw e refl;
+    kept = rw e refl;
+    first = rw e refl;
+    second = λ h. rw e h;
+    first_none = λ h. rw e refl;
+    second_none = λ h. rw e h;
+    hearer_none = λ f h. rw e f;
+    responder = rw e refl;
+    initiator = rw e refl;
+  }
 
-pub record Goes (w : World) (s : worlds.Session) (k : Kept Lanes) (a : Answer Lanes) : Type 0 where
-  pub taken : IsTaken a
-  pub keeps : Keeps two_lanes w (after_delivery w s) (kept_behind s k (after two_lanes (hearer_now w s k) k.last) (last_by k.last a) (parts_by k.parts a))
-  pub did : did_by a ≡ (if has_ended two_lanes w (after_delivery w s) then worlds.Over else worlds.Sent)
+  -- ==== What the hearer answers
 
-goes : (w : World) (s : worlds.Session) (k : Kept Lanes) (a : Answer Lanes) → GoesOnBy two_lanes w s k → answer two_lanes (hearer_now w s k) k.last ≡ a → Goes w s k a
-goes w s k (Replies N) g e =
-    let on = g.replied N e in
-    record { taken = tt; keeps = on.0; did = sym (cond-false (has_ended two_lanes w (after_delivery w s)) worlds.Over worlds.Sent on.1) }
-goes w s k Ends g e =
-    let on = g.ended e in
-    record { taken = tt; keeps = on.0; did = sym (cond-true (has_ended two_lanes w (after_delivery w s)) worlds.Over worlds.Sent on.1) }
-goes w s k (Refuses code) g e = absurd (refused_if (has_open k.last) (reply two_lanes (hearer_now w s k).peer k.last) code (sym e ∙ g.taken))
+  refused_if : {F : Type 0} (b : Bool) (M : Message F) (code : ℕ) → Refuses code ≡ (if b then Replies M else Ends) → ⊥
+  refused_if true M code e = cc
+  refused_if false M code e = cc
 
--- ==== A session of a world that runs
+  pub record Goes (w : World) (s : worlds.Session) (k : Kept F) (a : Answer F) : Type 0 where
+    pub taken : IsTaken a
+    pub keeps : Keeps S w (after_delivery w s)
+        (kept_behind s k (after S (hearer_now w s k) k.last) (last_by k.last a) (parts_by k.parts a))
+    pub did : did_by a ≡ (if has_ended S w (after_delivery w s) then worlds.Over else worlds.Sent)
 
--- the session at its place, and its responder's node
-pub record IsAt (nodes : List Node) (lives : List Session) (k : ℕ) (l : Session) (node : Node) : Type 0 where
-  pub runs : IsRunning nodes lives
-  pub here : slice_get lives k ≡ Some l
-  pub it : node_at (world_of nodes lives) l.responder ≡ node
+  goes : (w : World) (s : worlds.Session) (k : Kept F) (a : Answer F) → GoesOnBy S w s k →
+      answer S (hearer_now w s k) k.last ≡ a → Goes w s k a
+  goes w s k (Replies N) g e =
+      let on = g.replied N e in
+      record {
+        taken = tt;
+        keeps = on.0;
+        did = sym
+            (cond-false (has_ended S w (after_delivery w s)) worlds.Over worlds.Sent on.1);
+      }
+  goes w s k Ends g e =
+      let on = g.ended e in
+      record {
+        taken = tt;
+        keeps = on.0;
+        did = sym
+            (cond-true (has_ended S w (after_delivery w s)) worlds.Over worlds.Sent on.1);
+      }
+  goes w s k (Refuses code) g e =
+      absurd (refused_if (has_open k.last) (reply S (hearer_now w s k).peer k.last) code (sym e ∙ g.taken))
 
-pub kept_at : (nodes : List Node) (lives : List Session) (k : ℕ) (l : Session) → IsRunning nodes lives → slice_get lives k ≡ Some l → IsKept (world_of nodes lives) l
-kept_at nodes lives k l runs here = All-found (IsKept (world_of nodes lives)) lives k l here runs.kept
+  -- ==== A session of a world that runs
 
-pub tells_at : Laws → (nodes : List Node) (lives : List Session) (k : ℕ) (l : Session) → IsRunning nodes lives → slice_get lives k ≡ Some l →
-    Tells two_lanes (world_of nodes lives) (session_of l) (kept_of l)
-tells_at laws nodes lives k l runs here = laws.tell laws.exact (world_of nodes lives) (session_of l) (kept_of l) runs.ready (kept_at nodes lives k l runs here).keeps
+  -- the session at its place, and its responder's node
+  pub record IsAt (nodes : List Node) (lives : List (Session F)) (k : ℕ) (l : Session F) (node : Node) : Type 0 where
+    pub runs : IsRunning S nodes lives
+    pub here : slice_get lives k ≡ Some l
+    pub it : node_at (world_of nodes lives) l.responder ≡ node
 
--- by the number of messages it is seen whether it has ended
-pub ended_at : Laws → (nodes : List Node) (lives : List Session) (k : ℕ) (l : Session) → IsRunning nodes lives → slice_get lives k ≡ Some l →
-    has_ended two_lanes (world_of nodes lives) (session_of l) ≡ (made l == l.delivered)
-ended_at laws nodes lives k l runs here = ap (λ n. n == l.delivered) (sym (tells_at laws nodes lives k l runs here).count)
+  pub kept_at : (nodes : List Node) (lives : List (Session F)) (k : ℕ) (l : Session F) → IsRunning S nodes lives →
+      slice_get lives k ≡ Some l → IsKept S (world_of nodes lives) l
+  kept_at nodes lives k l runs here = All-found (IsKept S (world_of nodes lives)) lives k l here runs.kept
 
-pub few_at : Laws → (nodes : List Node) (lives : List Session) (k : ℕ) (l : Session) → IsRunning nodes lives → slice_get lives k ≡ Some l → l.delivered ≤ made l
-few_at laws nodes lives k l runs here = let t = tells_at laws nodes lives k l runs here in omega (arith, t.count, t.delivered)
+  pub tells_at : Laws → (nodes : List Node) (lives : List (Session F)) (k : ℕ) (l : Session F) →
+      IsRunning S nodes lives → slice_get lives k ≡ Some l →
+      Tells S (world_of nodes lives) (session_of l) (kept_of l)
+  tells_at laws nodes lives k l runs here =
+      laws.tell laws.exact (world_of nodes lives) (session_of l) (kept_of l) runs.ready
+      (kept_at nodes lives k l runs here).keeps
 
-goes_at : DeliveryLaws → (nodes : List Node) (lives : List Session) (k : ℕ) (l : Session) (node : Node) → IsAt nodes lives k l node → l.delivered < made l →
-    Goes (world_of nodes lives) (session_of l) (kept_of l) (answer two_lanes (hearer l node).end l.last) × IsHeard (world_of nodes lives) l node
-goes_at laws nodes lives k l node at more =
-    let w : World = world_of nodes lives in
-    let going : has_ended two_lanes w (session_of l) ≡ false = ended_at laws.look nodes lives k l at.runs at.here ∙ ne_eqb (made l) l.delivered (λ e. omega arith) in
-    let g = laws.go_on laws.look.exact w (session_of l) (kept_of l) at.runs.ready (kept_at nodes lives k l at.runs at.here).keeps going in
-    let is : IsHeard w l node = subst (IsHeard w l) at.it (heard w l (is_even l.delivered) refl) in
-    (goes w (session_of l) (kept_of l) (answer two_lanes (hearer l node).end l.last) g (ap (λ e. answer two_lanes e l.last) (sym is.hears)), is)
+  -- by the number of messages it is seen whether it has ended
+  pub ended_at : Laws → (nodes : List Node) (lives : List (Session F)) (k : ℕ) (l : Session F) →
+      IsRunning S nodes lives → slice_get lives k ≡ Some l →
+      has_ended S (world_of nodes lives) (session_of l) ≡ (made l == l.delivered)
+  ended_at laws nodes lives k l runs here =
+      ap (λ n. n == l.delivered) (sym (tells_at laws nodes lives k l runs here).count)
 
-pub deliver_taken : DeliveryLaws → (nodes : List Node) (lives : List Session) (k : ℕ) (l : Session) (node : Node) → IsAt nodes lives k l node → l.delivered < made l →
-    IsTaken (answer two_lanes (hearer l node).end l.last)
-deliver_taken laws nodes lives k l node at more = (goes_at laws nodes lives k l node at more).0.taken
+  pub few_at : Laws → (nodes : List Node) (lives : List (Session F)) (k : ℕ) (l : Session F) → IsRunning S nodes lives →
+      slice_get lives k ≡ Some l → l.delivered ≤ made l
+  few_at laws nodes lives k l runs here =
+      let t = tells_at laws nodes lives k l runs here in omega (arith, t.count, t.delivered)
 
-pub deliver_none : (nodes : List Node) (lives : List Session) (k : ℕ) (l : Session) (node : Node) → IsAt nodes lives k l node → HasNone (hearer l node)
-deliver_none nodes lives k l node at =
-    let kept = kept_at nodes lives k l at.runs at.here in
-    (subst (IsHeard (world_of nodes lives) l) at.it (heard (world_of nodes lives) l (is_even l.delivered) refl)).hearer_none kept.first_none kept.second_none
+  goes_at : DeliveryLaws → (nodes : List Node) (lives : List (Session F)) (k : ℕ) (l : Session F) (node : Node) →
+      IsAt nodes lives k l node → l.delivered < made l →
+      Goes (world_of nodes lives) (session_of l) (kept_of l) (answer S (hearer l node).end l.last)
+      × IsHeard (world_of nodes lives) l node
+  goes_at laws nodes lives k l node at more =
+      let w : World = world_of nodes lives in
+      let going : has_ended S w (session_of l) ≡ false = ended_at laws.look nodes lives k l at.runs at.here
+      ∙ ne_eqb (made l) l.delivered (λ e. omega arith) in
+      let g = laws.go_on laws.look.exact w (session_of l) (kept_of l) at.runs.ready
+      (kept_at nodes lives k l at.runs at.here).keeps going in
+      let is : IsHeard w l node = subst (IsHeard w l) at.it (heard w l (is_even l.delivered) refl) in (
+        goes w (session_of l) (kept_of l) (answer S (hearer l node).end l.last) g
+            (ap (λ e. answer S e l.last) (sym is.hears)),
+        is,
+      )
 
--- ==== The world behind it
+  pub deliver_taken : DeliveryLaws → (nodes : List Node) (lives : List (Session F)) (k : ℕ) (l : Session F)
+      (node : Node) → IsAt nodes lives k l node → l.delivered < made l →
+      IsTaken (answer S (hearer l node).end l.last)
+  deliver_taken laws nodes lives k l node at more = (goes_at laws nodes lives k l node at more).0.taken
 
-abbrev delivered_to : World → ℕ → worlds.Session → World
-delivered_to w k s = record w { sessions = slice_set w.sessions k (after_delivery w s) }
+  pub deliver_none : (nodes : List Node) (lives : List (Session F)) (k : ℕ) (l : Session F) (node : Node) →
+      IsAt nodes lives k l node → HasNone (hearer l node)
+  deliver_none nodes lives k l node at =
+      let kept = kept_at nodes lives k l at.runs at.here in
+      (subst (IsHeard (world_of nodes lives) l) at.it
+      (heard (world_of nodes lives) l (is_even l.delivered) refl)).hearer_none kept.first_none kept.second_none
 
--- what the definitions make of it
-deliver_some : (w : World) (k : ℕ) (s : worlds.Session) → slice_get w.sessions k ≡ Some s → has_ended two_lanes w s ≡ false →
-    deliver_at two_lanes w k (slice_get w.sessions k) ≡ (delivered_to w k s, (if has_ended two_lanes w (after_delivery w s) then worlds.Over else worlds.Sent))
-deliver_some w k s e going = ap (deliver_at two_lanes w k) e ∙ cond-false (has_ended two_lanes w s) _ _ going
+  -- ==== The world behind it
 
-found_at : (nodes : List Node) (lives : List Session) (k : ℕ) (l : Session) → slice_get lives k ≡ Some l → slice_get (world_of nodes lives).sessions k ≡ Some (session_of l)
-found_at nodes lives k l here = slice_get-map session_of lives k ∙ ap (option_map session_of) here
+  abbrev delivered_to : World → ℕ → worlds.Session → World
+  delivered_to w k s = record w { sessions = slice_set w.sessions k (after_delivery w s) }
 
-abbrev with_sessions : List Node → List worlds.Session → World
-with_sessions nodes ss = record { nodes = nodes; sessions = ss }
+  -- what the definitions make of it
+  deliver_some : (w : World) (k : ℕ) (s : worlds.Session) → slice_get w.sessions k ≡ Some s → has_ended S w s ≡ false →
+      deliver_at S w k (slice_get w.sessions k)
+      ≡ (delivered_to w k s, (if has_ended S w (after_delivery w s) then worlds.Over else worlds.Sent))
+  deliver_some w k s e going = ap (deliver_at S w k) e ∙ cond-false (has_ended S w s) _ _ going
 
-both_made : DeliveryLaws → (nodes : List Node) (lives : List Session) (k : ℕ) (l : Session) (node : Node) → IsAt nodes lives k l node → l.delivered < made l →
-    deliver_at two_lanes (world_of nodes lives) k (slice_get (world_of nodes lives).sessions k) ≡ (world_of nodes (set lives k (heard_by l node)), did_by (answer two_lanes (hearer l node).end l.last))
-both_made laws nodes lives k l node at more =
-    let w : World = world_of nodes lives in
-    let both = goes_at laws nodes lives k l node at more in
-    let going : has_ended two_lanes w (session_of l) ≡ false = ended_at laws.look nodes lives k l at.runs at.here ∙ ne_eqb (made l) l.delivered (λ e. omega arith) in
-    let same : map session_of (set lives k (heard_by l node)) ≡ set (map session_of lives) k (after_delivery w (session_of l)) =
-    map-set session_of lives k (heard_by l node) ∙ ap (set (map session_of lives) k) both.1.session in
-    deliver_some w k (session_of l) (found_at nodes lives k l at.here) going
-    ∙ ap (λ d. (delivered_to w k (session_of l), d)) (sym both.0.did)
-    ∙ ap (λ ss. (with_sessions nodes ss, did_by (answer two_lanes (hearer l node).end l.last))) (sym same)
+  found_at : (nodes : List Node) (lives : List (Session F)) (k : ℕ) (l : Session F) → slice_get lives k ≡ Some l →
+      slice_get (world_of nodes lives).sessions k ≡ Some (session_of l)
+  found_at nodes lives k l here = slice_get-map session_of lives k ∙ ap (option_map session_of) here
 
-heard_runs : DeliveryLaws → (nodes : List Node) (lives : List Session) (k : ℕ) (l : Session) (node : Node) → IsAt nodes lives k l node → l.delivered < made l →
-    IsRunning nodes (set lives k (heard_by l node))
-heard_runs laws nodes lives k l node at more =
-    let w : World = world_of nodes lives in
-    let l' : Session = heard_by l node in
-    let v : World = world_of nodes (set lives k l') in
-    let both = goes_at laws nodes lives k l node at more in
-    let was = kept_at nodes lives k l at.runs at.here in
-    let stays : (m : Session) → IsKept w m → IsKept v m = λ m h. IsKept-stays w v m (λ s g. laws.keep w v s (kept_of m) refl g) (λ n. refl) h in
-    let new : IsKept w l' = record {
-      keeps = rw (both.1.session, both.1.kept) both.0.keeps;
-      first = both.1.first ∙ was.first ∙ ap (λ n. (node_at w n).steps) (sym both.1.initiator);
-      second = subst (λ r. IfSome l'.second (λ h. h.steps ≡ (node_at w r).steps)) (sym both.1.responder) (subst (λ n. IfSome l'.second (λ h. h.steps ≡ n.steps)) (sym at.it) (both.1.second (subst (λ n. IfSome l.second (λ h. h.steps ≡ n.steps)) at.it was.second)));
-      first_none = both.1.first_none was.first_none;
-      second_none = both.1.second_none was.second_none;
-    } in
-    record {
-      ready = at.runs.ready;
-      kept = All-set (IsKept v) lives k l' (stays l' new) (All-kept w v stays lives at.runs.kept);
-      came = came_on w v (Deliver k) (sym (ap (λ p. p.0) (both_made laws nodes lives k l node at more))) at.runs.came;
-    }
+  abbrev with_sessions : List Node → List worlds.Session → World
+  with_sessions nodes ss = record { nodes = nodes; sessions = ss }
 
-pub deliver_runs : {D E : Type 0} (r : Result D E) → DeliveryLaws → (nodes : List Node) (lives : List Session) (k : ℕ) (l m : Session) (node : Node) → IsAt nodes lives k l node → l.delivered < made l →
-    OnOk r (m ≡ heard_by l node) → OnErr r (m ≡ l) → IsRunning nodes (set lives k m)
-deliver_runs (Ok d) laws nodes lives k l m node at more ok err = subst (λ z. IsRunning nodes (set lives k z)) (sym ok) (heard_runs laws nodes lives k l node at more)
-deliver_runs (Err d) laws nodes lives k l m node at more ok err = subst (IsRunning nodes) (sym (ap (set lives k) err ∙ set_found lives k l at.here)) at.runs
+  both_made : DeliveryLaws → (nodes : List Node) (lives : List (Session F)) (k : ℕ) (l : Session F) (node : Node) →
+      IsAt nodes lives k l node → l.delivered < made l →
+      deliver_at S (world_of nodes lives) k (slice_get (world_of nodes lives).sessions k)
+      ≡ (world_of nodes (set lives k (heard_by S l node)), did_by (answer S (hearer l node).end l.last))
+  both_made laws nodes lives k l node at more =
+      let w : World = world_of nodes lives in
+      let both = goes_at laws nodes lives k l node at more in
+      let going : has_ended S w (session_of l) ≡ false = ended_at laws.look nodes lives k l at.runs at.here
+      ∙ ne_eqb (made l) l.delivered (λ e. omega arith) in
+      let same : map session_of (set lives k (heard_by S l node))
+      ≡ set (map session_of lives) k (after_delivery w (session_of l)) =
+      map-set session_of lives k (heard_by S l node) ∙ ap (set (map session_of lives) k) both.1.session in
+      deliver_some w k (session_of l) (found_at nodes lives k l at.here) going
+      ∙ ap (λ d. (delivered_to w k (session_of l), d)) (sym both.0.did)
+      ∙ ap (λ ss. (with_sessions nodes ss, did_by (answer S (hearer l node).end l.last))) (sym same)
 
-pub deliver_world : {D E : Type 0} (r : Result D E) → DeliveryLaws → (w : World) (nodes : List Node) (lives : List Session) (k : ℕ) (l m : Session) (node : Node) → world_of nodes lives ≡ w →
-    IsAt nodes lives k l node → l.delivered < made l → OnOk r (m ≡ heard_by l node) → OnOk r (world_of nodes (set lives k m) ≡ (deliver_at two_lanes w k (slice_get w.sessions k)).0)
-deliver_world (Ok d) laws w nodes lives k l m node v at more ok =
-    subst (λ u. world_of nodes (set lives k m) ≡ (deliver_at two_lanes u k (slice_get u.sessions k)).0) v
-    (ap (λ z. world_of nodes (set lives k z)) ok ∙ sym (ap (λ p. p.0) (both_made laws nodes lives k l node at more)))
-deliver_world (Err d) laws w nodes lives k l m node v at more ok = tt
+  heard_runs : DeliveryLaws → (nodes : List Node) (lives : List (Session F)) (k : ℕ) (l : Session F) (node : Node) →
+      IsAt nodes lives k l node → l.delivered < made l →
+      IsRunning S nodes (set lives k (heard_by S l node))
+  heard_runs laws nodes lives k l node at more =
+      let w : World = world_of nodes lives in
+      let l' : Session F = heard_by S l node in
+      let v : World = world_of nodes (set lives k l') in
+      let both = goes_at laws nodes lives k l node at more in
+      let was = kept_at nodes lives k l at.runs at.here in
+      let stays : (m : Session F) → IsKept S w m →
+      IsKept S v m = λ m h. IsKept-stays S w v m (λ s g. laws.keep w v s (kept_of m) refl g) (λ n. refl) h in
+      let new : IsKept S w l' = record {
+        keeps = rw (both.1.session, both.1.kept) both.0.keeps;
+        first = both.1.first ∙ was.first ∙ ap (λ n. (node_at w n).steps) (sym both.1.initiator);
+        second =
+            subst (λ r. IfSome l'.second (λ h. h.steps ≡ (node_at w r).steps)) (sym both.1.responder)
+            (subst (λ n. IfSome l'.second (λ h. h.steps ≡ n.steps)) (sym at.it)
+            (both.1.second (subst (λ n. IfSome l.second (λ h. h.steps ≡ n.steps)) at.it was.second)));
+        first_none = both.1.first_none was.first_none;
+        second_none = both.1.second_none was.second_none;
+      } in
+      record {
+        ready = at.runs.ready;
+        kept = All-set (IsKept S v) lives k l' (stays l' new) (All-kept S w v stays lives at.runs.kept);
+        came =
+            came_on S w v (Deliver k) (sym (ap (λ p. p.0) (both_made laws nodes lives k l node at more))) at.runs.came;
+      }
 
-pub deliver_did : {D E : Type 0} (f : D → worlds.Did) (r : Result D E) → DeliveryLaws → (w : World) (nodes : List Node) (lives : List Session) (k : ℕ) (l : Session) (node : Node) → world_of nodes lives ≡ w →
-    IsAt nodes lives k l node → l.delivered < made l → IfOk r (λ d. f d ≡ did_by (answer two_lanes (hearer l node).end l.last)) →
-    IfOk r (λ d. f d ≡ (deliver_at two_lanes w k (slice_get w.sessions k)).1)
-deliver_did f (Ok d) laws w nodes lives k l node v at more ok =
-    subst (λ u. f d ≡ (deliver_at two_lanes u k (slice_get u.sessions k)).1) v (ok ∙ sym (ap (λ p. p.1) (both_made laws nodes lives k l node at more)))
-deliver_did f (Err d) laws w nodes lives k l node v at more ok = tt
+  pub deliver_runs : {D E : Type 0} (r : Result D E) → DeliveryLaws →
+      (nodes : List Node) (lives : List (Session F)) (k : ℕ) (l m : Session F) (node : Node) →
+      IsAt nodes lives k l node → l.delivered < made l →
+      OnOk r (m ≡ heard_by S l node) → OnErr r (m ≡ l) → IsRunning S nodes (set lives k m)
+  deliver_runs (Ok d) laws nodes lives k l m node at more ok err =
+      subst (λ z. IsRunning S nodes (set lives k z)) (sym ok) (heard_runs laws nodes lives k l node at more)
+  deliver_runs (Err d) laws nodes lives k l m node at more ok err =
+      subst (IsRunning S nodes) (sym (ap (set lives k) err ∙ set_found lives k l at.here)) at.runs
 
-pub deliver_same : {D E : Type 0} (r : Result D E) (w : World) (nodes : List Node) (lives : List Session) (k : ℕ) (l m : Session) → world_of nodes lives ≡ w →
-    slice_get lives k ≡ Some l → OnErr r (m ≡ l) → OnErr r (world_of nodes (set lives k m) ≡ w)
-deliver_same (Ok d) w nodes lives k l m v here err = tt
-deliver_same (Err d) w nodes lives k l m v here err = ap (world_of nodes) (ap (set lives k) err ∙ set_found lives k l here) ∙ v
+  pub deliver_world : {D E : Type 0} (r : Result D E) → DeliveryLaws →
+      (w : World) (nodes : List Node) (lives : List (Session F)) (k : ℕ) (l m : Session F) (node : Node) →
+      world_of nodes lives ≡ w →
+      IsAt nodes lives k l node → l.delivered < made l → OnOk r (m ≡ heard_by S l node) →
+      OnOk r (world_of nodes (set lives k m) ≡ (deliver_at S w k (slice_get w.sessions k)).0)
+  deliver_world (Ok d) laws w nodes lives k l m node v at more ok =
+      subst (λ u. world_of nodes (set lives k m) ≡ (deliver_at S u k (slice_get u.sessions k)).0) v
+      (ap (λ z. world_of nodes (set lives k z)) ok ∙ sym (ap (λ p. p.0) (both_made laws nodes lives k l node at more)))
+  deliver_world (Err d) laws w nodes lives k l m node v at more ok = tt
 
-pub deliver_idle : Laws → (w : World) (nodes : List Node) (lives : List Session) (k : ℕ) (l : Session) → world_of nodes lives ≡ w → IsRunning nodes lives → slice_get lives k ≡ Some l →
-    made l ≤ l.delivered → deliver_at two_lanes w k (slice_get w.sessions k) ≡ (w, worlds.Idle)
-deliver_idle laws w nodes lives k l v runs here less =
-    let u : World = world_of nodes lives in
-    let over : has_ended two_lanes u (session_of l) ≡ true = ended_at laws nodes lives k l runs here ∙ eq-eqb (made l) l.delivered (omega (arith, few_at laws nodes lives k l runs here)) in
-    subst (λ t. deliver_at two_lanes t k (slice_get t.sessions k) ≡ (t, worlds.Idle)) v
-    (ap (deliver_at two_lanes u k) (found_at nodes lives k l here) ∙ cond-true (has_ended two_lanes u (session_of l)) _ _ over)
+  pub deliver_did : {D E : Type 0} (f : D → worlds.Did) (r : Result D E) → DeliveryLaws →
+      (w : World) (nodes : List Node) (lives : List (Session F)) (k : ℕ) (l : Session F) (node : Node) →
+      world_of nodes lives ≡ w →
+      IsAt nodes lives k l node → l.delivered < made l →
+      IfOk r (λ d. f d ≡ did_by (answer S (hearer l node).end l.last)) →
+      IfOk r (λ d. f d ≡ (deliver_at S w k (slice_get w.sessions k)).1)
+  deliver_did f (Ok d) laws w nodes lives k l node v at more ok =
+      subst (λ u. f d ≡ (deliver_at S u k (slice_get u.sessions k)).1) v
+      (ok ∙ sym (ap (λ p. p.1) (both_made laws nodes lives k l node at more)))
+  deliver_did f (Err d) laws w nodes lives k l node v at more ok = tt
 
-pub idle_world : Laws → (w : World) (nodes : List Node) (lives : List Session) (k : ℕ) (l : Session) → world_of nodes lives ≡ w → IsRunning nodes lives → slice_get lives k ≡ Some l →
-    made l ≤ l.delivered → world_of nodes (set lives k l) ≡ (deliver_at two_lanes w k (slice_get w.sessions k)).0
-idle_world laws w nodes lives k l v runs here less = ap (world_of nodes) (set_found lives k l here) ∙ v ∙ sym (ap (λ p. p.0) (deliver_idle laws w nodes lives k l v runs here less))
+  pub deliver_same : {D E : Type 0} (r : Result D E) (w : World) (nodes : List Node) (lives : List (Session F)) (k : ℕ)
+      (l m : Session F) → world_of nodes lives ≡ w →
+      slice_get lives k ≡ Some l → OnErr r (m ≡ l) → OnErr r (world_of nodes (set lives k m) ≡ w)
+  deliver_same (Ok d) w nodes lives k l m v here err = tt
+  deliver_same (Err d) w nodes lives k l m v here err =
+      ap (world_of nodes) (ap (set lives k) err ∙ set_found lives k l here) ∙ v
 
--- the node of the responder, as it is read
-pub at_node : (nodes : List Node) (lives : List Session) (k : ℕ) (l : Session) (node : Node) → IsRunning nodes lives → slice_get lives k ≡ Some l → node ≡ get_or nodes l.responder node →
-    node_at (world_of nodes lives) l.responder ≡ node
-at_node nodes lives k l node runs here e =
-    let there : l.responder < length nodes = (kept_at nodes lives k l runs here).keeps.responder_there in
-    get_or_from_slice_get nodes l.responder node no_node (slice_get_read nodes (length nodes) l.responder node refl there e)
+  pub deliver_idle : Laws → (w : World) (nodes : List Node) (lives : List (Session F)) (k : ℕ) (l : Session F) →
+      world_of nodes lives ≡ w → IsRunning S nodes lives → slice_get lives k ≡ Some l →
+      made l ≤ l.delivered → deliver_at S w k (slice_get w.sessions k) ≡ (w, worlds.Idle)
+  deliver_idle laws w nodes lives k l v runs here less =
+      let u : World = world_of nodes lives in
+      let over : has_ended S u (session_of l) ≡ true = ended_at laws nodes lives k l runs here
+      ∙ eq-eqb (made l) l.delivered (omega (arith, few_at laws nodes lives k l runs here)) in
+      subst (λ t. deliver_at S t k (slice_get t.sessions k) ≡ (t, worlds.Idle)) v
+      (ap (deliver_at S u k) (found_at nodes lives k l here) ∙ cond-true (has_ended S u (session_of l)) _ _ over)
+
+  pub idle_world : Laws → (w : World) (nodes : List Node) (lives : List (Session F)) (k : ℕ) (l : Session F) →
+      world_of nodes lives ≡ w → IsRunning S nodes lives → slice_get lives k ≡ Some l →
+      made l ≤ l.delivered → world_of nodes (set lives k l) ≡ (deliver_at S w k (slice_get w.sessions k)).0
+  idle_world laws w nodes lives k l v runs here less =
+      ap (world_of nodes) (set_found lives k l here) ∙ v
+      ∙ sym (ap (λ p. p.0) (deliver_idle laws w nodes lives k l v runs here less))
+
+  -- the node of the responder, as it is read
+  pub at_node : (nodes : List Node) (lives : List (Session F)) (k : ℕ) (l : Session F) (node : Node) →
+      IsRunning S nodes lives → slice_get lives k ≡ Some l → node ≡ get_or nodes l.responder node →
+      node_at (world_of nodes lives) l.responder ≡ node
+  at_node nodes lives k l node runs here e =
+      let there : l.responder < length nodes = (kept_at nodes lives k l runs here).keeps.responder_there in
+      get_or_from_slice_get nodes l.responder node no_node
+      (slice_get_read nodes (length nodes) l.responder node refl there e)

@@ -1,10 +1,10 @@
 -- What a world keeps of its sessions beside what the definitions say: their ends, the message made last, and the most parts of a message.
 --     session_of l, kept_of l, made l
---     IsKept w l, IsRunning nodes lives        what holds of each world
---     beginning i r node, heard_by l node      a session that is opened; one whose message made last is heard
+--     IsKept S w l, IsRunning S nodes lives    what holds of each world
+--     beginning S i r node, heard_by S l node  a session that is opened; one whose message made last is heard
 use Rattle.std.specs.Prelude.{◌≡◌, ℕ, ◌+◌, List, length, max, map, Option, Some, None, IfSome, option_map, unwrap_or, if◌then◌else◌, ⊤}
 use Rattle.std.specs.List.{AllByRecursion}
-use Rattle.definitions.specs.Fingerprints.{Lanes, two_lanes}
+use Rattle.definitions.specs.Fingerprints.{Summary}
 use Rattle.definitions.specs.Messages.{Message, opening}
 use Rattle.definitions.specs.Ends.{Answer, Replies, Ends, Refuses, answer, initiator, responder}
 use Rattle.definitions.specs.Theorems.{IsNode}
@@ -18,92 +18,106 @@ use Rattle.world_core.specs.Nodes.{newest}
 use Rattle.world_core.specs.Runs.{Came}
 use Rattle.world_core.specs.declared.session.Session.{Session}
 
-abbrev pub session_of : Session → worlds.Session
-session_of l = record { initiator = l.initiator; responder = l.responder; initiator_version = l.initiator_version; responder_version = l.responder_version; delivered = l.delivered }
+abbrev pub session_of : {F : Type 0} → Session F → worlds.Session
+session_of l = record {
+  initiator = l.initiator;
+  responder = l.responder;
+  initiator_version = l.initiator_version;
+  responder_version = l.responder_version;
+  delivered = l.delivered;
+}
 
-abbrev pub kept_of : Session → Kept Lanes
-kept_of l = record { initiator = l.first.end; responder = option_map (λ h. h.end) l.second; last = l.last; parts = l.parts }
+abbrev pub kept_of : {F : Type 0} → Session F → Kept F
+kept_of l =
+    record { initiator = l.first.end; responder = option_map (λ h. h.end) l.second; last = l.last; parts = l.parts }
 
 -- how many messages both ends sent
-abbrev pub made : Session → ℕ
+abbrev pub made : {F : Type 0} → Session F → ℕ
 made l = (kept_of l).initiator.sent + unwrap_or (option_map (λ e. e.sent) (kept_of l).responder) 0
 
 -- ---- what holds of each world
 
 -- the ends and the last message are the session's, and the ends have the staircases of their nodes and hold no part
-pub record IsKept (w : World) (l : Session) : Type 0 where
-  pub keeps : Keeps two_lanes w (session_of l) (kept_of l)
+pub record IsKept {F : Type 0} (S : Summary F) (w : World) (l : Session F) : Type 0 where
+  pub keeps : Keeps S w (session_of l) (kept_of l)
   pub first : l.first.steps ≡ (node_at w l.initiator).steps
   pub second : IfSome l.second (λ h. h.steps ≡ (node_at w l.responder).steps)
   pub first_none : HasNone l.first
   pub second_none : IfSome l.second HasNone
 
-abbrev pub world_of : List Node → List Session → World
+abbrev pub world_of : {F : Type 0} → List Node → List (Session F) → World
 world_of nodes lives = record { nodes = nodes; sessions = map session_of lives }
 
-pub record IsRunning (nodes : List Node) (lives : List Session) : Type 0 where
+pub record IsRunning {F : Type 0} (S : Summary F) (nodes : List Node) (lives : List (Session F)) : Type 0 where
   pub ready : AllByRecursion IsNode nodes
-  pub kept : AllByRecursion (IsKept (world_of nodes lives)) lives
-  pub came : Came (world_of nodes lives)
+  pub kept : AllByRecursion (IsKept S (world_of nodes lives)) lives
+  pub came : Came S (world_of nodes lives)
 
 -- ---- a session's steps
 
 -- a session that is opened at a node
-abbrev pub beginning : ℕ → ℕ → Node → Session
-beginning i r node = record {
+abbrev pub beginning : {F : Type 0} → Summary F → ℕ → ℕ → Node → Session F
+beginning S i r node = record {
   initiator = i;
   responder = r;
   initiator_version = length node.history;
   responder_version = None;
   delivered = 0;
-  first = fresh node.steps (initiator two_lanes (newest node));
+  first = fresh node.steps (initiator S (newest node));
   second = None;
-  last = opening two_lanes (newest node).items;
+  last = opening S (newest node).items;
   parts = 1;
 }
 
 -- the responder; where there is none it begins at its node
-abbrev pub responder_from : Node → Option Held → Held
+abbrev pub responder_from : {F : Type 0} → Node → Option (Held F) → Held F
 responder_from node (Some h) = h
 responder_from node None = fresh node.steps (responder (newest node))
 
 -- who hears the message made last
-abbrev pub hearer : Session → Node → Held
+abbrev pub hearer : {F : Type 0} → Session F → Node → Held F
 hearer l node = if is_even l.delivered then responder_from node l.second else l.first
 
 -- no message is refused
-abbrev pub IsTaken : Answer Lanes → Type 0
+abbrev pub IsTaken : {F : Type 0} → Answer F → Type 0
 IsTaken (Replies N) = ⊤
 IsTaken Ends = ⊤
 IsTaken (Refuses code) = ⊥
 
 -- the message made last, behind this answer
-abbrev pub last_by : Message Lanes → Answer Lanes → Message Lanes
+abbrev pub last_by : {F : Type 0} → Message F → Answer F → Message F
 last_by last (Replies N) = N
 last_by last Ends = last
 last_by last (Refuses code) = last
 
 -- and the most parts of a message
-abbrev pub parts_by : ℕ → Answer Lanes → ℕ
+abbrev pub parts_by : {F : Type 0} → ℕ → Answer F → ℕ
 parts_by n (Replies N) = max n (length N)
 parts_by n Ends = n
 parts_by n (Refuses code) = n
 
-abbrev pub did_by : Answer Lanes → worlds.Did
+abbrev pub did_by : {F : Type 0} → Answer F → worlds.Did
 did_by (Replies N) = worlds.Sent
 did_by Ends = worlds.Over
 did_by (Refuses code) = worlds.Over
 
 -- one message more was delivered, which was answered so
-abbrev pub advanced : Session → ℕ → Answer Lanes → Session
-advanced l newest a = record l { responder_version = Some (unwrap_or l.responder_version newest); delivered = l.delivered + 1; last = last_by l.last a; parts = parts_by l.parts a }
+abbrev pub advanced : {F : Type 0} → Session F → ℕ → Answer F → Session F
+advanced l newest a = record l {
+  responder_version = Some (unwrap_or l.responder_version newest);
+  delivered = l.delivered + 1;
+  last = last_by l.last a;
+  parts = parts_by l.parts a;
+}
 
-abbrev pub heard_by_responder : Session → Node → Session
-heard_by_responder l node = record l { second = Some (behind (responder_from node l.second) l.last) }
+abbrev pub heard_by_responder : {F : Type 0} → Summary F → Session F → Node → Session F
+heard_by_responder S l node = record l { second = Some (behind S (responder_from node l.second) l.last) }
 
-abbrev pub heard_by_initiator : Session → Session
-heard_by_initiator l = record l { first = behind l.first l.last }
+abbrev pub heard_by_initiator : {F : Type 0} → Summary F → Session F → Session F
+heard_by_initiator S l = record l { first = behind S l.first l.last }
 
 -- the session behind the delivery of the message made last
-abbrev pub heard_by : Session → Node → Session
-heard_by l node = advanced (if is_even l.delivered then heard_by_responder l node else heard_by_initiator l) (length node.history) (answer two_lanes (hearer l node).end l.last)
+abbrev pub heard_by : {F : Type 0} → Summary F → Session F → Node → Session F
+heard_by S l node =
+    advanced (if is_even l.delivered then heard_by_responder S l node else heard_by_initiator S l) (length node.history)
+    (answer S (hearer l node).end l.last)

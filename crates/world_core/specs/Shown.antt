@@ -9,21 +9,21 @@ use Rattle.ends_core.specs.Held.{Held}
 use Rattle.world_core.specs.Live.{kept_of, made}
 use Rattle.world_core.specs.declared.session.Session.{Session}
 
-abbrev pub learned_in : Option Held → Knowledge
+abbrev pub learned_in : {F : Type 0} → Option (Held F) → Knowledge
 learned_in second = unwrap_or (option_map (λ e. e.learned) (option_map (λ h. h.end) second)) nothing
 
-abbrev pub learned_by : Session → worlds.Side → Knowledge
+abbrev pub learned_by : {F : Type 0} → Session F → worlds.Side → Knowledge
 learned_by l worlds.Initiator = (kept_of l).initiator.learned
 learned_by l worlds.Responder = learned_in l.second
 
 -- the rank of the number of an end's items
-abbrev pub rank_held : Held → ℕ
+abbrev pub rank_held : {F : Type 0} → Held F → ℕ
 rank_held h = rank_by h.steps (length h.end.peer.items)
 
-abbrev pub bound_by : Session → Option ℕ
+abbrev pub bound_by : {F : Type 0} → Session F → Option ℕ
 bound_by l = option_map (λ h. message_bound (rank_held l.first) (rank_held h)) l.second
 
-abbrev pub shown : Session → worlds.Report
+abbrev pub shown : {F : Type 0} → Session F → worlds.Report
 shown l = record {
   initiator = l.initiator;
   responder = l.responder;

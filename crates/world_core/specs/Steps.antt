@@ -2,10 +2,10 @@
 --     side_of s, step_of e, did_of d
 --     added_in d                       how many items an insert put in
 --     absorbing w n node items         the world behind items that are put into a node
---     IsCutShort w e v                 the world v behind a step that memory cut short
+--     IsCutShort S w e v               the world v behind a step that memory cut short
 use Rattle.std.specs.Prelude.{◌≡◌, ℕ, List, take, slice_get, Option, Some, None, IsTrue}
 use Rattle.definitions.specs.Items.{Item}
-use Rattle.definitions.specs.Fingerprints.{two_lanes}
+use Rattle.definitions.specs.Fingerprints.{Summary}
 use Rattle.definitions.specs.Sets.{set_of}
 use Rattle.definitions.specs.Theorems.{node_of}
 use Rattle.definitions.specs.Worlds as worlds
@@ -49,9 +49,9 @@ added_in worlds.Over = Some 0
 added_in (worlds.Absorbed added) = Some 0
 
 -- what a side of a session learned, in rising order
-abbrev pub theirs_of : World → Session → worlds.Side → List Item
-theirs_of w s worlds.Initiator = set_of (initiator_knowledge two_lanes w s).theirs
-theirs_of w s worlds.Responder = set_of (responder_knowledge two_lanes w s).theirs
+abbrev pub theirs_of : {F : Type 0} → Summary F → World → Session → worlds.Side → List Item
+theirs_of S w s worlds.Initiator = set_of (initiator_knowledge S w s).theirs
+theirs_of S w s worlds.Responder = set_of (responder_knowledge S w s).theirs
 
 -- what putting these items into the node makes of its history
 abbrev pub absorbed_at : World → ℕ → List Item → Absorbing
@@ -62,14 +62,14 @@ abbrev pub absorbing : World → ℕ → Node → List Item → World
 absorbing w n node items = with_history w n node (absorb_all node.table.cap node.history items).history
 
 -- the session has ended, and only the first of the items that the side learned were put in
-abbrev pub AbsorbsSome : World → ℕ → worlds.Side → World → Type 0
-AbsorbsSome w k side v = (s : Session) × (n : ℕ) × (slice_get w.sessions k ≡ Some s)
-    × IsTrue (has_ended two_lanes w s)
-    × (v ≡ absorbing w (node_of s side) (node_at w (node_of s side)) (take n (theirs_of w s side)))
+abbrev pub AbsorbsSome : {F : Type 0} → Summary F → World → ℕ → worlds.Side → World → Type 0
+AbsorbsSome S w k side v = (s : Session) × (n : ℕ) × (slice_get w.sessions k ≡ Some s)
+    × IsTrue (has_ended S w s)
+    × (v ≡ absorbing w (node_of s side) (node_at w (node_of s side)) (take n (theirs_of S w s side)))
 
 -- where memory ran out nothing is changed, but that the Absorb of an ended session keeps what it put in before
-abbrev pub IsCutShort : World → worlds.Step → World → Type 0
-IsCutShort w (worlds.Insert n x) v = v ≡ w
-IsCutShort w (worlds.Open i r) v = v ≡ w
-IsCutShort w (worlds.Deliver k) v = v ≡ w
-IsCutShort w (worlds.Absorb k side) v = AbsorbsSome w k side v
+abbrev pub IsCutShort : {F : Type 0} → Summary F → World → worlds.Step → World → Type 0
+IsCutShort S w (worlds.Insert n x) v = v ≡ w
+IsCutShort S w (worlds.Open i r) v = v ≡ w
+IsCutShort S w (worlds.Deliver k) v = v ≡ w
+IsCutShort S w (worlds.Absorb k side) v = AbsorbsSome S w k side v

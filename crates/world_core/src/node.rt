@@ -1,7 +1,6 @@
 //! A node of a run.
 
 ghost use Rattle.std.specs.Prelude.{◌≡◌, length, IfOk, OnOk, OnErr};
-ghost use Rattle.definitions.specs.Fingerprints.{two_lanes};
 ghost use Rattle.definitions.specs.Histories.{insertion, history_after};
 ghost use Rattle.definitions.specs.Messages.{opening};
 ghost use Rattle.definitions.specs.Worlds.{told};
@@ -12,6 +11,7 @@ ghost use Rattle.world_core.specs.Nodes.{node_by, newest};
 ghost use Rattle.world_core.specs.Steps.{did_of};
 
 use crate::step::Did;
+use digest_core::Summary;
 use ends_core::{Initiator, Responder};
 use item_core::Item;
 use range_tree::Tree;
@@ -77,13 +77,13 @@ impl<'a> Node<'a> {
     }
 
     /// An initiator with the newest version, and its first message.
-    pub(crate) fn initiator(
+    pub(crate) fn initiator<F: Summary>(
         &self,
         alloc: Global,
-    ) -> Result<(Initiator<'a, Tree>, Message), AllocError>
+    ) -> Result<(Initiator<'a, Tree, F>, Message<F>), AllocError>
         ensures end { IfOk result
-            (λ r. r.0 ≡ fresh self.now.steps (ends.initiator two_lanes (newest self.now))) }
-        ensures message { IfOk result (λ r. r.1 ≡ opening two_lanes (newest self.now).items) }
+            (λ r. r.0 ≡ fresh self.now.steps (ends.initiator F.summary (newest self.now))) }
+        ensures message { IfOk result (λ r. r.1 ≡ opening F.summary (newest self.now).items) }
     {
         let _ = self.log.cap();
         let _ = self.log.count();
@@ -95,7 +95,10 @@ impl<'a> Node<'a> {
     }
 
     /// A responder with the newest version.
-    pub(crate) fn responder(&self, alloc: Global) -> Result<Responder<'a, Tree>, AllocError>
+    pub(crate) fn responder<F: Summary>(
+        &self,
+        alloc: Global,
+    ) -> Result<Responder<'a, Tree, F>, AllocError>
         ensures { IfOk result (λ r. r ≡ fresh self.now.steps (ends.responder (newest self.now))) }
     {
         let _ = self.log.cap();

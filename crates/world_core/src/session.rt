@@ -1,7 +1,6 @@
 //! A session of a run.
 
 ghost use Rattle.std.specs.Prelude.{◌≡◌, ◌<◌, ◌^◌, length, IfOk, IfSome, OnOk, OnErr};
-ghost use Rattle.definitions.specs.Fingerprints.{two_lanes};
 ghost use Rattle.definitions.specs.Ends.{answer};
 ghost use Rattle.laws.specs.Growing as growing;
 ghost use Rattle.ends_core.specs.Held.{HasNone};
@@ -15,6 +14,7 @@ ghost use Rattle.definitions.specs.Theorems.{node_of};
 use crate::node::Node;
 use crate::report::{Lists, Report};
 use crate::step::{Did, Side};
+use digest_core::Summary;
 use ends_core::{EndFault, Initiator, Responder, Turn};
 use range_tree::Tree;
 use std::alloc::{AllocError, Global};
@@ -22,20 +22,20 @@ use wire_core::Message;
 
 /// A session of a run: its numbers, its ends, the message made last, and the greatest number of parts of a message.
 #[derive(Drop)]
-pub(crate) struct Session<'a> {
+pub(crate) struct Session<'a, F: Summary> {
     pub(crate) initiator: usize,
     pub(crate) responder: usize,
     pub(crate) initiator_version: usize,
     pub(crate) responder_version: Option<usize>,
     pub(crate) delivered: usize,
-    pub(crate) first: Initiator<'a, Tree>,
-    pub(crate) second: Option<Responder<'a, Tree>>,
-    pub(crate) last: Message,
+    pub(crate) first: Initiator<'a, Tree, F>,
+    pub(crate) second: Option<Responder<'a, Tree, F>>,
+    pub(crate) last: Message<F>,
     pub(crate) parts: usize,
 }
 
 /// What an end answered that does not refuse.
-fn taken(answered: Result<Turn, EndFault>) -> Result<Turn, AllocError>
+fn taken<F: Summary>(answered: Result<Turn<F>, EndFault>) -> Result<Turn<F>, AllocError>
     requires { IfSome (answer_in answered) IsTaken }
     ensures turn { IfOk result (λ turn. answer_in answered ≡ Some (answer_of turn)) }
     ensures memory { OnErr result (answer_in answered ≡ None) }
@@ -48,47 +48,47 @@ fn taken(answered: Result<Turn, EndFault>) -> Result<Turn, AllocError>
 }
 
 /// The initiator hears a message.
-fn hear_first(
+fn hear_first<F: Summary>(
     alloc: Global,
-    end: &mut Initiator<'_, Tree>,
-    message: &Message,
-) -> Result<Turn, AllocError>
+    end: &mut Initiator<'_, Tree, F>,
+    message: &Message<F>,
+) -> Result<Turn<F>, AllocError>
     requires none { HasNone end.old }
-    requires taken { IsTaken (answer two_lanes end.old.end message.now) }
-    ensures turn { IfOk result (λ turn. answer_of turn ≡ answer two_lanes end.old.end message.now) }
-    ensures end { OnOk result (end.new ≡ behind end.old message.now) }
+    requires taken { IsTaken (answer F.summary end.old.end message.now) }
+    ensures turn { IfOk result (λ turn. answer_of turn ≡ answer F.summary end.old.end message.now) }
+    ensures end { OnOk result (end.new ≡ behind F.summary end.old message.now) }
     ensures memory { OnErr result (end.new ≡ end.old) }
 {
     taken(end.receive(alloc, message))
 }
 
 /// The responder hears a message.
-fn hear_second(
+fn hear_second<F: Summary>(
     alloc: Global,
-    end: &mut Responder<'_, Tree>,
-    message: &Message,
-) -> Result<Turn, AllocError>
+    end: &mut Responder<'_, Tree, F>,
+    message: &Message<F>,
+) -> Result<Turn<F>, AllocError>
     requires none { HasNone end.old }
-    requires taken { IsTaken (answer two_lanes end.old.end message.now) }
-    ensures turn { IfOk result (λ turn. answer_of turn ≡ answer two_lanes end.old.end message.now) }
-    ensures end { OnOk result (end.new ≡ behind end.old message.now) }
+    requires taken { IsTaken (answer F.summary end.old.end message.now) }
+    ensures turn { IfOk result (λ turn. answer_of turn ≡ answer F.summary end.old.end message.now) }
+    ensures end { OnOk result (end.new ≡ behind F.summary end.old message.now) }
     ensures memory { OnErr result (end.new ≡ end.old) }
 {
     taken(end.receive(alloc, message))
 }
 
 /// The responder hears a message. Where there is none yet it begins, with the newest version of its node.
-fn hear_at<'a>(
+fn hear_at<'a, F: Summary>(
     alloc: Global,
-    second: &mut Option<Responder<'a, Tree>>,
+    second: &mut Option<Responder<'a, Tree, F>>,
     node: &Node<'a>,
-    message: &Message,
-) -> Result<Turn, AllocError>
+    message: &Message<F>,
+) -> Result<Turn<F>, AllocError>
     requires none { HasNone (responder_from node.now second.old) }
-    requires taken { IsTaken (answer two_lanes (responder_from node.now second.old).end message.now) }
-    ensures turn { IfOk result (λ turn. answer_of turn ≡ answer two_lanes (responder_from node.now second.old).end
+    requires taken { IsTaken (answer F.summary (responder_from node.now second.old).end message.now) }
+    ensures turn { IfOk result (λ turn. answer_of turn ≡ answer F.summary (responder_from node.now second.old).end
         message.now) }
-    ensures end { OnOk result (second.new ≡ Some (behind (responder_from node.now second.old) message.now)) }
+    ensures end { OnOk result (second.new ≡ Some (behind F.summary (responder_from node.now second.old) message.now)) }
     ensures memory { OnErr result (second.new ≡ second.old) }
 {
     if let Some(end) = second {
@@ -101,7 +101,7 @@ fn hear_at<'a>(
 }
 
 /// What a responder learned so far.
-fn learned_second<'b>(second: &'b Option<Responder<'_, Tree>>) -> Lists<'b>
+fn learned_second<'b, F: Summary>(second: &'b Option<Responder<'_, Tree, F>>) -> Lists<'b>
     ensures { knowledge_of result ≡ learned_in second.now }
 {
     match second {
@@ -110,15 +110,15 @@ fn learned_second<'b>(second: &'b Option<Responder<'_, Tree>>) -> Lists<'b>
     }
 }
 
-impl<'a> Session<'a> {
+impl<'a, F: Summary> Session<'a, F> {
     /// A session that is opened at this node.
     pub(crate) fn open(
         alloc: Global,
         node: &Node<'a>,
         initiator: usize,
         responder: usize,
-    ) -> Result<Session<'a>, AllocError>
-        ensures { IfOk result (λ l. l ≡ beginning initiator responder node.now) }
+    ) -> Result<Session<'a, F>, AllocError>
+        ensures { IfOk result (λ l. l ≡ beginning F.summary initiator responder node.now) }
     {
         let (first, last) = node.initiator(alloc)?;
         Ok(Session {
@@ -193,7 +193,7 @@ impl<'a> Session<'a> {
     }
 
     /// One message more was delivered, which was answered so.
-    fn advance(&mut self, newest: usize, turn: Turn) -> Did
+    fn advance(&mut self, newest: usize, turn: Turn<F>) -> Did
         requires { self.old.delivered < 2 ^ 33 }
         ensures session { self.new ≡ advanced self.old newest (answer_of turn) }
         ensures did { did_of result ≡ did_by (answer_of turn) }
@@ -214,12 +214,12 @@ impl<'a> Session<'a> {
     fn deliver_to_responder(&mut self, alloc: Global, node: &Node<'a>) -> Result<Did, AllocError>
         requires few { self.old.delivered < 2 ^ 33 }
         requires none { HasNone (responder_from node.now self.old.second) }
-        requires taken { IsTaken (answer two_lanes (responder_from node.now self.old.second).end self.old.last) }
-        ensures session { OnOk result (self.new ≡ advanced (heard_by_responder self.old node.now)
-            (length node.now.history) (answer two_lanes (responder_from node.now self.old.second).end
+        requires taken { IsTaken (answer F.summary (responder_from node.now self.old.second).end self.old.last) }
+        ensures session { OnOk result (self.new ≡ advanced (heard_by_responder F.summary self.old node.now)
+            (length node.now.history) (answer F.summary (responder_from node.now self.old.second).end
             self.old.last)) }
         ensures did { IfOk result
-            (λ did. did_of did ≡ did_by (answer two_lanes (responder_from node.now self.old.second).end
+            (λ did. did_of did ≡ did_by (answer F.summary (responder_from node.now self.old.second).end
             self.old.last)) }
         ensures memory { OnErr result (self.new ≡ self.old) }
     {
@@ -231,10 +231,10 @@ impl<'a> Session<'a> {
     fn deliver_to_initiator(&mut self, alloc: Global, newest: usize) -> Result<Did, AllocError>
         requires few { self.old.delivered < 2 ^ 33 }
         requires none { HasNone self.old.first }
-        requires taken { IsTaken (answer two_lanes self.old.first.end self.old.last) }
-        ensures session { OnOk result (self.new ≡ advanced (heard_by_initiator self.old) newest
-            (answer two_lanes self.old.first.end self.old.last)) }
-        ensures did { IfOk result (λ did. did_of did ≡ did_by (answer two_lanes self.old.first.end self.old.last)) }
+        requires taken { IsTaken (answer F.summary self.old.first.end self.old.last) }
+        ensures session { OnOk result (self.new ≡ advanced (heard_by_initiator F.summary self.old) newest
+            (answer F.summary self.old.first.end self.old.last)) }
+        ensures did { IfOk result (λ did. did_of did ≡ did_by (answer F.summary self.old.first.end self.old.last)) }
         ensures memory { OnErr result (self.new ≡ self.old) }
     {
         let turn = hear_first(alloc, &mut self.first, &self.last)?;
@@ -245,10 +245,10 @@ impl<'a> Session<'a> {
     pub(crate) fn deliver(&mut self, alloc: Global, node: &Node<'a>) -> Result<Did, AllocError>
         requires few { self.old.delivered < 2 ^ 33 }
         requires none { HasNone (hearer self.old node.now) }
-        requires taken { IsTaken (answer two_lanes (hearer self.old node.now).end self.old.last) }
-        ensures session { OnOk result (self.new ≡ heard_by self.old node.now) }
+        requires taken { IsTaken (answer F.summary (hearer self.old node.now).end self.old.last) }
+        ensures session { OnOk result (self.new ≡ heard_by F.summary self.old node.now) }
         ensures did { IfOk result
-            (λ did. did_of did ≡ did_by (answer two_lanes (hearer self.old node.now).end self.old.last)) }
+            (λ did. did_of did ≡ did_by (answer F.summary (hearer self.old node.now).end self.old.last)) }
         ensures memory { OnErr result (self.new ≡ self.old) }
     {
         if is_even(self.delivered) {

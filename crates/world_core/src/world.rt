@@ -2,7 +2,6 @@
 
 ghost use Rattle.std.specs.Prelude.{◌≡◌, ◌<◌, ℕ, length, slice_get, take, map, option_map, IfOk, OnOk, OnErr};
 ghost use Rattle.std.specs.List.{AllByRecursion};
-ghost use Rattle.definitions.specs.Fingerprints.{two_lanes};
 ghost use Rattle.definitions.specs.Theorems.{IsNode};
 ghost use Rattle.definitions.specs.Worlds as worlds;
 ghost use Rattle.world_core.specs.Live.{IsRunning, world_of};
@@ -16,7 +15,7 @@ use crate::report::Report;
 use crate::session::Session;
 use crate::setup::{Prepared, Setup};
 use crate::step::{Did, Side, Step};
-use digest_core::Fingerprint;
+use digest_core::{Fingerprint, Summary};
 use item_core::Item;
 use std::alloc::{AllocError, Global};
 use std::marker::Model;
@@ -24,12 +23,12 @@ use store_core::spans::distinct;
 
 /// A run of nodes and sessions.
 #[derive(Drop)]
-pub struct World<'a> {
+pub struct World<'a, F: Summary = Fingerprint> {
     nodes: Vec<Node<'a>>,
-    sessions: Vec<Session<'a>>,
+    sessions: Vec<Session<'a, F>>,
 }
 
-impl<'a> Model for World<'a> {
+impl<'a, F: Summary> Model for World<'a, F> {
     ghost use Rattle.definitions.specs.Worlds as worlds;
     ghost use Rattle.world_core.specs.Live.{world_of, IsRunning};
 
@@ -37,7 +36,7 @@ impl<'a> Model for World<'a> {
 
     ghost view = { λ a. world_of a.nodes.items a.sessions.items };
 
-    ghost invariant = { λ a. IsRunning a.nodes.items a.sessions.items };
+    ghost invariant = { λ a. IsRunning F.summary a.nodes.items a.sessions.items };
 }
 
 /// The nodes of a run that begins.
@@ -51,9 +50,9 @@ fn live_nodes<'a>(alloc: Global, prepared: &'a [Prepared]) -> Result<Vec<Node<'a
     Ok(nodes)
 }
 
-impl<'a> World<'a> {
+impl<'a, F: Summary> World<'a, F> {
     /// The nodes of the setup, and no session.
-    pub fn new(alloc: Global, setup: &'a Setup) -> Result<World<'a>, AllocError>
+    pub fn new(alloc: Global, setup: &'a Setup) -> Result<World<'a, F>, AllocError>
         ensures { IfOk result (λ w. w ≡ worlds.start setup.now) }
     {
         Ok(World {
@@ -69,18 +68,17 @@ impl<'a> World<'a> {
     /// is one that a step inserts. A session that is delivered 513 times more, one after another, has ended.
     pub fn sessions(&self) -> usize
         ensures count { result ≡ length self.now.sessions }
-        ensures hold { AllByRecursion (Holds self.now) self.now.sessions }
-        ensures came { Came self.now }
-        ensures items { HasItemsOfRuns self.now }
-        ensures ends { EndsByDeliveries self.now }
+        ensures hold { AllByRecursion (Holds F.summary self.now) self.now.sessions }
+        ensures came { Came F.summary self.now }
+        ensures items { HasItemsOfRuns F.summary self.now }
+        ensures ends { EndsByDeliveries F.summary self.now }
     {
-        laws::history_claim::<Fingerprint>();
-        laws::sessions_end::<Fingerprint>();
-        laws::lanes_are_exact();
-        laws::headline::<Fingerprint>();
-        laws::knowledge_is_sound::<Fingerprint>();
-        laws::talks_begin::<Fingerprint>();
-        laws::cost_claim::<Fingerprint>();
+        laws::history_claim::<F>();
+        laws::sessions_end::<F>();
+        laws::headline::<F>();
+        laws::knowledge_is_sound::<F>();
+        laws::talks_begin::<F>();
+        laws::cost_claim::<F>();
         store_core::laws::set_of_a_list();
         self.sessions.len()
     }
@@ -93,8 +91,8 @@ impl<'a> World<'a> {
             (λ did. did_of did ≡ (worlds.insert_at self.old node item (slice_get self.old.nodes node)).1) }
         ensures memory { OnErr result (self.new ≡ self.old) }
     {
-        laws::sessions_stay::<Fingerprint>();
-        laws::sessions_keep_nodes::<Fingerprint>();
+        laws::sessions_stay::<F>();
+        laws::sessions_keep_nodes::<F>();
         let Some(node) = self.nodes.get_mut(node) else {
             return Ok(Did::Idle);
         };
@@ -111,8 +109,8 @@ impl<'a> World<'a> {
             (slice_get self.old.nodes responder)).1) }
         ensures memory { OnErr result (self.new ≡ self.old) }
     {
-        laws::sessions_open::<Fingerprint>();
-        laws::sessions_keep_nodes::<Fingerprint>();
+        laws::sessions_open::<F>();
+        laws::sessions_keep_nodes::<F>();
         if initiator == responder {
             return Ok(Did::Idle);
         }
@@ -131,16 +129,15 @@ impl<'a> World<'a> {
     /// Delivers the message of a session that was made last.
     fn deliver(&mut self, alloc: Global, number: usize) -> Result<Did, AllocError>
         ensures world { OnOk result
-            (self.new ≡ (worlds.deliver_at two_lanes self.old number (slice_get self.old.sessions number)).0) }
+            (self.new ≡ (worlds.deliver_at F.summary self.old number (slice_get self.old.sessions number)).0) }
         ensures did { IfOk result
-            (λ did. did_of did ≡ (worlds.deliver_at two_lanes self.old number
+            (λ did. did_of did ≡ (worlds.deliver_at F.summary self.old number
             (slice_get self.old.sessions number)).1) }
         ensures memory { OnErr result (self.new ≡ self.old) }
     {
-        laws::lanes_are_exact();
-        laws::sessions_go_on::<Fingerprint>();
-        laws::sessions_keep_nodes::<Fingerprint>();
-        laws::sessions_tell::<Fingerprint>();
+        laws::sessions_go_on::<F>();
+        laws::sessions_keep_nodes::<F>();
+        laws::sessions_tell::<F>();
         let Some(session) = self.sessions.get_mut(number) else {
             return Ok(Did::Idle);
         };
@@ -179,15 +176,14 @@ impl<'a> World<'a> {
     /// Puts what a side of an ended session learned into the history of its node.
     fn absorb(&mut self, alloc: Global, number: usize, side: Side) -> Result<Did, AllocError>
         ensures world { OnOk result
-            (self.new ≡ (worlds.absorb_at two_lanes self.old (side_of side)
+            (self.new ≡ (worlds.absorb_at F.summary self.old (side_of side)
             (slice_get self.old.sessions number)).0) }
         ensures did { IfOk result
-            (λ did. did_of did ≡ (worlds.absorb_at two_lanes self.old (side_of side)
+            (λ did. did_of did ≡ (worlds.absorb_at F.summary self.old (side_of side)
             (slice_get self.old.sessions number)).1) }
-        ensures memory { OnErr result (AbsorbsSome self.old number (side_of side) self.new) }
+        ensures memory { OnErr result (AbsorbsSome F.summary self.old number (side_of side) self.new) }
     {
-        laws::lanes_are_exact();
-        laws::sessions_tell::<Fingerprint>();
+        laws::sessions_tell::<F>();
         let Some(session) = self.sessions.get(number) else {
             return Ok(Did::Idle);
         };
@@ -202,21 +198,20 @@ impl<'a> World<'a> {
     /// Does a step, and says what it did. Where memory runs out nothing is changed, but that the Absorb of an ended
     /// session keeps what it put in before.
     pub fn step(&mut self, alloc: Global, step: Step) -> Result<Did, AllocError>
-        ensures world { OnOk result (self.new ≡ (worlds.step two_lanes self.old (step_of step)).0) }
-        ensures did { IfOk result (λ did. did_of did ≡ (worlds.step two_lanes self.old (step_of step)).1) }
-        ensures memory { OnErr result (IsCutShort self.old (step_of step) self.new) }
-        ensures absorbed { OnOk result (AbsorbsAll self.old (step_of step) self.new) }
+        ensures world { OnOk result (self.new ≡ (worlds.step F.summary self.old (step_of step)).0) }
+        ensures did { IfOk result (λ did. did_of did ≡ (worlds.step F.summary self.old (step_of step)).1) }
+        ensures memory { OnErr result (IsCutShort F.summary self.old (step_of step) self.new) }
+        ensures absorbed { OnOk result (AbsorbsAll F.summary self.old (step_of step) self.new) }
     {
-        laws::lanes_are_exact();
-        laws::absorb_claim::<Fingerprint>();
+        laws::absorb_claim::<F>();
         self.do_step(alloc, step)
     }
 
     /// Does a step, and says what it did.
     fn do_step(&mut self, alloc: Global, step: Step) -> Result<Did, AllocError>
-        ensures world { OnOk result (self.new ≡ (worlds.step two_lanes self.old (step_of step)).0) }
-        ensures did { IfOk result (λ did. did_of did ≡ (worlds.step two_lanes self.old (step_of step)).1) }
-        ensures memory { OnErr result (IsCutShort self.old (step_of step) self.new) }
+        ensures world { OnOk result (self.new ≡ (worlds.step F.summary self.old (step_of step)).0) }
+        ensures did { IfOk result (λ did. did_of did ≡ (worlds.step F.summary self.old (step_of step)).1) }
+        ensures memory { OnErr result (IsCutShort F.summary self.old (step_of step) self.new) }
     {
         match step {
             Step::Insert(node, item) => self.insert(alloc, node, item),
@@ -234,13 +229,13 @@ impl<'a> World<'a> {
     /// each item that only one of the two versions has, or one, and no more are shown. Whatever nodes and steps made
     /// this world, each item of a history was in one of the nodes, or is one that a step inserts.
     pub fn report(&self, session: usize) -> Option<Report<'_>>
-        ensures report { option_map report_of result ≡ worlds.report two_lanes self.now session }
-        ensures holds { (s : worlds.Session) → slice_get self.now.sessions session ≡ Some s → Holds self.now s }
-        ensures items { HasItemsOfRuns self.now }
+        ensures report { option_map report_of result ≡ worlds.report F.summary self.now session }
+        ensures holds { (s : worlds.Session) → slice_get self.now.sessions session ≡ Some s →
+            Holds F.summary self.now s }
+        ensures items { HasItemsOfRuns F.summary self.now }
     {
         let _count = self.sessions(); // which tells what holds of each
-        laws::lanes_are_exact();
-        laws::sessions_tell::<Fingerprint>();
+        laws::sessions_tell::<F>();
         let session = self.sessions.get(session)?;
         Some(session.report())
     }
@@ -265,8 +260,12 @@ fn rising(alloc: Global, items: &[Item]) -> Result<Vec<Item>, AllocError>
 }
 
 /// The world behind these steps, from the setup on.
-fn run_steps<'a>(alloc: Global, setup: &'a Setup, steps: &[Step]) -> Result<World<'a>, AllocError>
-    ensures { IfOk result (λ w. w ≡ worlds.run two_lanes (worlds.start setup.now) (map step_of steps.now)) }
+fn run_steps<'a, F: Summary>(
+    alloc: Global,
+    setup: &'a Setup,
+    steps: &[Step],
+) -> Result<World<'a, F>, AllocError>
+    ensures { IfOk result (λ w. w ≡ worlds.run F.summary (worlds.start setup.now) (map step_of steps.now)) }
 {
     let mut world = World::new(alloc, setup)?;
     for step in steps {
@@ -281,14 +280,18 @@ fn run_steps<'a>(alloc: Global, setup: &'a Setup, steps: &[Step]) -> Result<Worl
 /// is longer than its sender's limit; nothing wrong is learned, and once it has ended, where no unequal compared ranges
 /// share a fingerprint, both differences. No message has more parts than the widths of both tables allow for each item
 /// that only one of the two versions has, or one. Each item of a history was there at the start, or was inserted.
-pub fn run<'a>(alloc: Global, setup: &'a Setup, steps: &[Step]) -> Result<World<'a>, AllocError>
-    ensures world { IfOk result (λ w. w ≡ worlds.run two_lanes (worlds.start setup.now) (map step_of steps.now)) }
-    ensures few { IfOk result (λ w. AllByRecursion (HasFewMessages w) w.sessions) }
-    ensures bound { IfOk result (λ w. AllByRecursion (IsWithinBound w) w.sessions) }
-    ensures short { IfOk result (λ w. AllByRecursion (KeepsLimits w) w.sessions) }
-    ensures both { IfOk result (λ w. AllByRecursion (LearnsBoth w) w.sessions) }
-    ensures sound { IfOk result (λ w. AllByRecursion (LearnsNothingWrong w) w.sessions) }
-    ensures cost { IfOk result (λ w. AllByRecursion (HasFewParts w) w.sessions) }
+pub fn run<'a, F: Summary>(
+    alloc: Global,
+    setup: &'a Setup,
+    steps: &[Step],
+) -> Result<World<'a, F>, AllocError>
+    ensures world { IfOk result (λ w. w ≡ worlds.run F.summary (worlds.start setup.now) (map step_of steps.now)) }
+    ensures few { IfOk result (λ w. AllByRecursion (HasFewMessages F.summary w) w.sessions) }
+    ensures bound { IfOk result (λ w. AllByRecursion (IsWithinBound F.summary w) w.sessions) }
+    ensures short { IfOk result (λ w. AllByRecursion (KeepsLimits F.summary w) w.sessions) }
+    ensures both { IfOk result (λ w. AllByRecursion (LearnsBoth F.summary w) w.sessions) }
+    ensures sound { IfOk result (λ w. AllByRecursion (LearnsNothingWrong F.summary w) w.sessions) }
+    ensures cost { IfOk result (λ w. AllByRecursion (HasFewParts F.summary w) w.sessions) }
     ensures items { IfOk result (λ w. ComesFrom setup.now (map step_of steps.now) w) }
 {
     let world = run_steps(alloc, setup, steps)?;

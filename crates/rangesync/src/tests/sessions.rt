@@ -104,6 +104,67 @@ items 1
     fs::remove_file(&rt, "one.items")
 }
 
+/// Asks for the items of a server twice at once, in these profiles.
+fn ask_twice<R>(rt: &R, first: &str, second: &str) -> (Given, Given)
+where
+    R: Files
+        + Net<Listener = TcpListener, Stream = TcpStream>
+        + Threads
+        + Wait
+        + AllocGlobal
+        + Sync,
+{
+    let words = |profile| {
+        [
+            "rangesync",
+            "sync",
+            "--table",
+            "two.toml",
+            "--addr",
+            "127.0.0.1:7701",
+            "--profile",
+            profile,
+            "/dev/null",
+        ]
+    };
+    join(
+        rt,
+        || run_late(rt, &words(first)),
+        || run_late(rt, &words(second)),
+    )
+}
+
+#[test]
+fn a_session_of_each_profile(rt: HostRuntime) -> io::Result<()> {
+    fs::write(&rt, "two.toml", BINARY_EIGHT)?;
+    fs::write(&rt, "two.items", "616263\n")?;
+    let serve = [
+        "rangesync",
+        "serve",
+        "--table",
+        "two.toml",
+        "--addr",
+        "127.0.0.1:7701",
+        "--sessions",
+        "2",
+        "two.items",
+    ];
+    let (served, (second, first)) = join(
+        &rt,
+        || run_words(&rt, &serve),
+        || ask_twice(&rt, "2", "1"),
+    );
+    let lines = "listening 127.0.0.1:7701
+opened 2 ended 2 refused 0 io 0 memory 0 messages 2
+items 1
+";
+    compare(&rt, &served, 0, lines, "");
+    compare(&rt, &second, 0, "version 0\nsent 2\ntheirs 616263\n", "");
+    compare(&rt, &first, 0, "version 0\nsent 2\ntheirs 616263\n", "");
+    fs::remove_file(&rt, "two.toml")?;
+    fs::remove_file(&rt, "two.items")
+}
+
 /// A listener for one connection at a port that the system chose, and its address.
 fn opened<R>(rt: &R) -> Result<(Listener, String), AllocError>
 where

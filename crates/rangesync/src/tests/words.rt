@@ -180,6 +180,7 @@ Arguments:
 Options:
       --table <FILE>  A strategy in TOML
       --addr <A>      The address to connect to [default: 127.0.0.1:7700]
+      --profile <P>   The wire profile that is spoken, 1 or 2 [default: 1]
   -h, --help          Print help
 ",
     );
@@ -233,4 +234,18 @@ For more information, try '--help'.
     numbers(&rt, "--workers", "x", word);
     numbers(&rt, "--sessions", "0", no_session);
     numbers(&rt, "--sessions", "1000001", above);
+}
+
+#[test]
+fn a_profile_that_is_none(rt: HostRuntime) {
+    let three = "error: invalid value '3' for '--profile <P>': 3 is not in 1..=2
+
+For more information, try '--help'.
+";
+    gives(
+        &rt,
+        &["rangesync", "sync", "--table", "t", "--profile", "3", "i"],
+        &[],
+        &refused(2, three),
+    );
 }

@@ -11,6 +11,8 @@ returns-in-Ok-clause-ok g c =
     let P : Peer = record { table = c.args.strategy.now; items = g.S.RangeStore.content c.args.store.now } in
     let before = c.args.place.now in
     let fine : refusal (next before.now c.args.part.now) ≡ None = search rules in
-    let added : c.add.new.self ≡ drafted P c.args.draft.now (due before.own c.cursor-before.result) c.args.part.now = search rules in
-    part-taken P before c.next.new.self c.cursor-before.result c.args.draft.now c.add.new.self c.args.part.now c.cursor-before.ensures.first c.requires.apart c.cursor-before.ensures.now
+    let added : c.add.new.self ≡ drafted g.F.Summary.summary P c.args.draft.now
+    (due before.own c.cursor-before.result) c.args.part.now = search rules in
+    part-taken g.F.Summary.summary P before c.next.new.self c.cursor-before.result c.args.draft.now c.add.new.self
+    c.args.part.now c.cursor-before.ensures.first c.requires.apart c.cursor-before.ensures.now
     (search rules) fine added

@@ -1,7 +1,5 @@
 use Rattle.std.proofs.Common.{◌≤◌, rules, refl, subst, ◌∙◌}
 use Rattle.definitions.specs.Accounts.{IsOfTheTable}
-use Rattle.definitions.specs.Fingerprints.{two_lanes}
-use Rattle.definitions.specs.Wire.{two_lane_profile}
 use Rattle.definitions.specs.Engines.{responding}
 use Rattle.peer_threads.specs.Outcomes.{seen}
 use Rattle.peer_threads.proofs.Exchanges.{Laws, stops-refusing, stops-event, on-nothing}
@@ -11,28 +9,30 @@ use Rattle.peer_threads.proofs.engines.answer.Goals as goal
 
 pub returns-in_err-take-clause-talked : goal.returns-in_err-take-clause-talked
 returns-in_err-take-clause-talked g c = λ p steps unread held new x.
-    let laws : Laws = record {
-      say = c.frames_say.ensures two_lanes;
-      begin = c.own_begins.ensures two_lanes;
-      agree = c.bytes_agree.ensures two_lanes two_lane_profile;
+    let laws : Laws g.F.Summary.summary g.F.Summary.profile = record {
+      say = c.frames_say.ensures g.F.Summary.summary;
+      begin = c.own_begins.ensures g.F.Summary.summary;
+      agree = c.bytes_agree.ensures g.F.Summary.summary g.F.Summary.profile;
     } in
-    let stopped = stops-refusing IsOfTheTable laws
+    let stopped = stops-refusing g.F.Summary.summary g.F.Summary.profile IsOfTheTable laws
     (responding p) _ _ _ _ _ (seen c.args.reader.now.failed c.args.reader.now.ended) c.args.writer.now.failed _
     c.in_err-take.field-0.0 refl
-    (at-part p steps (g.P.Party.held c.args.party.now) _ _ _ _ new x) c.in_err-take.ensures.stopped
-    (adds-none _ _) in
+    (at-part g.F.Summary.summary g.F.Summary.profile p steps (g.P.Party.held c.args.party.now) _ _ _ _ new x)
+    c.in_err-take.ensures.stopped
+    (adds-none g.F.Summary.summary g.F.Summary.profile _ _) in
     search (rules, stopped)
 
 pub returns-in_err-end-clause-talked : goal.returns-in_err-end-clause-talked
 returns-in_err-end-clause-talked g c = λ p steps unread held new x.
-    let laws : Laws = record {
-      say = c.frames_say.ensures two_lanes;
-      begin = c.own_begins.ensures two_lanes;
-      agree = c.bytes_agree.ensures two_lanes two_lane_profile;
+    let laws : Laws g.F.Summary.summary g.F.Summary.profile = record {
+      say = c.frames_say.ensures g.F.Summary.summary;
+      begin = c.own_begins.ensures g.F.Summary.summary;
+      agree = c.bytes_agree.ensures g.F.Summary.summary g.F.Summary.profile;
     } in
-    let stopped = stops-event laws (responding p) _ _ _ _ _ (seen c.args.reader.now.failed c.args.reader.now.ended)
+    let stopped = stops-event g.F.Summary.summary g.F.Summary.profile laws (responding p) _ _ _ _ _
+    (seen c.args.reader.now.failed c.args.reader.now.ended)
     c.end.new.writer.failed _ c.in_err-end.field-0.0 refl
-    (at-end p steps (g.P.Party.held c.args.party.now)
+    (at-end g.F.Summary.summary g.F.Summary.profile p steps (g.P.Party.held c.args.party.now)
     (g.P.Party.held c.take.new.party) _ _ _ _ new c.in_ok-take.ensures.heard c.in_ok-take.ensures.end x)
     c.in_err-end.ensures.stopped in
     search (rules, stopped)
@@ -43,13 +43,14 @@ returns-in_err-end-clause-few g c =
 
 pub returns-clause-talked : goal.returns-clause-talked
 returns-clause-talked g c = λ p steps unread held new x.
-    let laws : Laws = record {
-      say = c.frames_say.ensures two_lanes;
-      begin = c.own_begins.ensures two_lanes;
-      agree = c.bytes_agree.ensures two_lanes two_lane_profile;
+    let laws : Laws g.F.Summary.summary g.F.Summary.profile = record {
+      say = c.frames_say.ensures g.F.Summary.summary;
+      begin = c.own_begins.ensures g.F.Summary.summary;
+      agree = c.bytes_agree.ensures g.F.Summary.summary g.F.Summary.profile;
     } in
     c.talk.ensures.talked (responding p) unread held refl
-    (answers-first laws p steps (g.P.Party.held c.args.party.now) (g.P.Party.held c.take.new.party)
+    (answers-first g.F.Summary.summary g.F.Summary.profile laws p steps (g.P.Party.held c.args.party.now)
+    (g.P.Party.held c.take.new.party)
     (g.P.Party.held c.end.new.party) _ _ _ _ _ _ new c.in_ok-take.ensures.heard c.in_ok-take.ensures.end x
     c.in_ok-end.ensures.heard c.in_ok-end.ensures.said)
 
@@ -65,12 +66,13 @@ returns-in_err-end-clause-on g c = λ p steps unread held new x. on-nothing _
 
 pub returns-clause-on : goal.returns-clause-on
 returns-clause-on g c = λ p steps unread held new x.
-    let laws : Laws = record {
-      say = c.frames_say.ensures two_lanes;
-      begin = c.own_begins.ensures two_lanes;
-      agree = c.bytes_agree.ensures two_lanes two_lane_profile;
+    let laws : Laws g.F.Summary.summary g.F.Summary.profile = record {
+      say = c.frames_say.ensures g.F.Summary.summary;
+      begin = c.own_begins.ensures g.F.Summary.summary;
+      agree = c.bytes_agree.ensures g.F.Summary.summary g.F.Summary.profile;
     } in
     c.talk.ensures.on (responding p) unread held refl
-    (answers-first laws p steps (g.P.Party.held c.args.party.now) (g.P.Party.held c.take.new.party)
+    (answers-first g.F.Summary.summary g.F.Summary.profile laws p steps (g.P.Party.held c.args.party.now)
+    (g.P.Party.held c.take.new.party)
     (g.P.Party.held c.end.new.party) _ _ _ _ _ _ new c.in_ok-take.ensures.heard c.in_ok-take.ensures.end x
     c.in_ok-end.ensures.heard c.in_ok-end.ensures.said)

@@ -1,4 +1,3 @@
-use Rattle.definitions.specs.Fingerprints.{two_lanes}
 use Rattle.definitions.specs.Accounts.{IsOfTheTable}
 use Rattle.definitions.specs.Engines.{initiating}
 use Rattle.peer_threads.specs.Outcomes.{peer_at, seen}
@@ -9,7 +8,8 @@ use Rattle.peer_threads.proofs.engines.dial_one.Goals as goal
 
 pub returns-in-Ok-clause-bytes : goal.returns-in-Ok-clause-bytes
 returns-in-Ok-clause-bytes g c =
-    dials c.args.shared.now.accepted.now _ c.pin.new.seat.view c.in-Ok.pin _ _ _ c.initiate.result c.in-Ok.ensures.pin
+    dials g.F.Summary.summary g.F.Summary.profile c.args.shared.now.accepted.now _ c.pin.new.seat.view c.in-Ok.pin _ _ _
+    c.initiate.result c.in-Ok.ensures.pin
     c.of-host.ensures
     (found-fits c.args.seat.now.view c.pin.new.seat.view c.args.shared.now.accepted.now.table.cap c.pin.ensures.view
     c.requires.fits) c.initiate.ensures.bytes c.sides_are_modest.ensures.initiator
@@ -17,17 +17,18 @@ returns-in-Ok-clause-bytes g c =
 pub returns-in-Err-clause-bytes : goal.returns-in-Err-clause-bytes
 returns-in-Err-clause-bytes g c =
     let found = c.pin.new.seat.view in
-    let s = initiating two_lanes (peer_at c.args.shared.now.accepted.now found) in
+    let s = initiating g.F.Summary.summary (peer_at c.args.shared.now.accepted.now found) in
     let unread = g.R.Read.remaining c.args.reader.now.inner in
     let held = g.W.Write.contents c.args.writer.now.inner in
     let r = seen c.args.reader.now.failed c.args.reader.now.ended in
     let w = seen c.stopped.new.writer.failed c.stopped.new.writer.ended in
     let fits =
     found-fits c.args.seat.now.view found c.args.shared.now.accepted.now.table.cap c.pin.ensures.view c.requires.fits in
-    speaks _ s _ _ _ _ r w c.stopped.result
-    (speaks-unsaid s _ _ c.new.result unread held
+    speaks g.F.Summary.summary g.F.Summary.profile _ s _ _ _ _ r w c.stopped.result
+    (speaks-unsaid g.F.Summary.summary g.F.Summary.profile s _ _ c.new.result unread held
     (g.W.Write.contents c.stopped.new.writer.inner) r w c.args.writer.now.failed Memory c.stopped.result
     c.new.ensures
-    (stops-silent IsOfTheTable s c.new.result unread held r c.args.writer.now.failed c.new.ensures)
+    (stops-silent g.F.Summary.summary g.F.Summary.profile IsOfTheTable s c.new.result unread held r
+    c.args.writer.now.failed c.new.ensures)
     c.stopped.ensures.leaves c.stopped.ensures.outcome)
     (λ bytes are known. c.sides_are_modest.ensures.initiator found.base bytes are fits)

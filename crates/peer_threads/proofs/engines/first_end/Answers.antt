@@ -1,5 +1,4 @@
 use Rattle.std.proofs.Common.{◌≡◌, ℕ, List, [], ◌∷◌, ◌++◌, Err, rules}
-use Rattle.definitions.specs.Fingerprints.{Lanes}
 use Rattle.definitions.specs.Wire.{Event}
 use Rattle.wire_core.specs.Events.{event_value}
 use Rattle.peer_threads.specs.Outcomes.{seen}
@@ -13,23 +12,30 @@ pub returns-in_err-event-clause-read : goal.returns-in_err-event-clause-read
 returns-in_err-event-clause-read g c = λ p first.
     let stop = c.in_err-event.field-0.0 in
     let is : c.from_residual.result ≡ Err stop = search rules in
-    reads_so (g.R.Read.remaining c.args.reader.now.inner) (g.R.Read.remaining c.next.new.reader.inner) c.args.inbox.now
-    (λ (bytes : List ℕ) (es : List (Event Lanes)). StopsAt (seen c.next.new.reader.failed c.next.new.reader.ended) bytes
+    reads_so g.F.Summary.profile g.met.F.Summary.real (g.R.Read.remaining c.args.reader.now.inner)
+    (g.R.Read.remaining c.next.new.reader.inner) c.args.inbox.now
+    (λ (bytes : List ℕ) (es : List (Event g.row.F.Denot)). StopsAt g.F.Summary.profile
+    (seen c.next.new.reader.failed c.next.new.reader.ended) bytes
     es stop)
     (λ (bytes : List ℕ)
-    (es : List (Event Lanes)). EndCame p (seen c.next.new.reader.failed c.next.new.reader.ended) c.next.new.self bytes
+    (es : List (Event g.row.F.Denot)). EndCame g.F.Summary.summary g.F.Summary.profile p
+    (seen c.next.new.reader.failed c.next.new.reader.ended) c.next.new.self bytes
     es c.from_residual.result)
-    (λ bytes es fits stopped. end-stops-first p (seen c.next.new.reader.failed c.next.new.reader.ended) c.next.new.self
+    (λ bytes es fits stopped. end-stops-first g.F.Summary.summary g.F.Summary.profile p
+    (seen c.next.new.reader.failed c.next.new.reader.ended) c.next.new.self
     bytes es c.from_residual.result stop is stopped) c.in_err-event.ensures.read
 
 pub returns-clause-read : goal.returns-clause-read
 returns-clause-read g c = λ p first.
-    reads_so (g.R.Read.remaining c.args.reader.now.inner) (g.R.Read.remaining c.next.new.reader.inner) c.args.inbox.now
-    (λ (bytes : List ℕ) (es : List (Event Lanes)). HasRead c.next.new.self bytes
+    reads_so g.F.Summary.profile g.met.F.Summary.real (g.R.Read.remaining c.args.reader.now.inner)
+    (g.R.Read.remaining c.next.new.reader.inner) c.args.inbox.now
+    (λ (bytes : List ℕ) (es : List (Event g.row.F.Denot)). HasRead g.F.Summary.profile c.next.new.self bytes
     (es ++ event_value c.in_ok-event.event ∷ []))
     (λ (bytes : List ℕ)
-    (es : List (Event Lanes)). EndCame p (seen c.next.new.reader.failed c.next.new.reader.ended) c.next.new.self bytes
+    (es : List (Event g.row.F.Denot)). EndCame g.F.Summary.summary g.F.Summary.profile p
+    (seen c.next.new.reader.failed c.next.new.reader.ended) c.next.new.self bytes
     es c.end_of.result)
-    (λ bytes es fits has. end-came p (seen c.next.new.reader.failed c.next.new.reader.ended) c.next.new.self bytes es
+    (λ bytes es fits has. end-came g.F.Summary.summary g.F.Summary.profile p (seen c.next.new.reader.failed
+    c.next.new.reader.ended) c.next.new.self bytes es
     (event_value c.in_ok-event.event) c.end_of.result first c.end_of.ensures.end c.end_of.ensures.stopped has)
     c.in_ok-event.ensures.read

@@ -1,11 +1,10 @@
 use Rattle.std.proofs.Common.{◌≤◌, ◌+◌, length, ap, subst, ◌∙◌}
-use Rattle.definitions.specs.Fingerprints.{two_lanes}
 use Rattle.definitions.specs.Accounts.{IsOfTheTable}
 use Rattle.definitions.specs.Ranks.{rank_by}
 use Rattle.definitions.specs.Engines.{initiating}
 use Rattle.session_table.specs.Faults.{table_fault_number}
 use Rattle.peer_threads.specs.declared.stop.Stop.TheVariants as stops
-use Rattle.peer_threads.specs.Outcomes.{traffic, seen, peer_of}
+use Rattle.peer_threads.specs.Outcomes.{Reader, traffic, seen, peer_of}
 use Rattle.peer_threads.specs.Stops.{outcome_of}
 use Rattle.peer_threads.specs.Underway.{Leaves, Spoke, most_sent}
 use Rattle.peer_threads.proofs.Dialing.{starts, opens-with, stops-silent, stops-unbooked, speaks-unsaid}
@@ -14,20 +13,22 @@ use Rattle.peer_threads.proofs.engines.initiate.Goals as goal
 
 pub returns-in-Err-clause-bytes : goal.returns-in-Err-clause-bytes
 returns-in-Err-clause-bytes g c =
-    let s = initiating two_lanes (peer_of c.args.host.now.accepted.now c.args.pin.items) in
+    let s = initiating g.F.Summary.summary (peer_of c.args.host.now.accepted.now c.args.pin.items) in
     let unread = g.R.Read.remaining c.args.reader.now.inner in
     let held = g.W.Write.contents c.args.writer.now.inner in
     let r = seen c.args.reader.now.failed c.args.reader.now.ended in
     let o = c.new-outbox.result in
-    speaks-unsaid s c.args.pin.version _ o unread held (g.W.Write.contents c.stopped.new.writer.inner) r
+    speaks-unsaid g.F.Summary.summary g.F.Summary.profile s c.args.pin.version _ o unread held
+    (g.W.Write.contents c.stopped.new.writer.inner) r
     (seen c.stopped.new.writer.failed c.stopped.new.writer.ended) c.args.writer.now.failed stops.Memory c.stopped.result
     c.new-outbox.ensures
-    (stops-silent IsOfTheTable s o unread held r c.args.writer.now.failed c.new-outbox.ensures) c.stopped.ensures.leaves
+    (stops-silent g.F.Summary.summary g.F.Summary.profile IsOfTheTable s o unread held r c.args.writer.now.failed
+    c.new-outbox.ensures) c.stopped.ensures.leaves
     c.stopped.ensures.outcome
 
 pub returns-in-Err-open-clause-bytes : goal.returns-in-Err-open-clause-bytes
 returns-in-Err-open-clause-bytes g c =
-    let s = initiating two_lanes (peer_of c.args.host.now.accepted.now c.args.pin.items) in
+    let s = initiating g.F.Summary.summary (peer_of c.args.host.now.accepted.now c.args.pin.items) in
     let unread = g.R.Read.remaining c.args.reader.now.inner in
     let held = g.W.Write.contents c.args.writer.now.inner in
     let holds = g.W.Write.contents c.stopped-in-Err-open.new.writer.inner in
@@ -36,20 +37,25 @@ returns-in-Err-open-clause-bytes g c =
     let o = c.new-outbox.result in
     let code = table_fault_number c.in-Err-open.fault in
     let broken = c.args.writer.now.failed in
-    speaks-unsaid s c.args.pin.version _ o unread held holds r w broken (stops.Refused code)
+    speaks-unsaid g.F.Summary.summary g.F.Summary.profile s c.args.pin.version _ o unread held holds r w broken
+    (stops.Refused code)
     c.stopped-in-Err-open.result
-    c.new-outbox.ensures (stops-unbooked s o unread held r broken code c.new-outbox.ensures
+    c.new-outbox.ensures (stops-unbooked g.F.Summary.summary g.F.Summary.profile s o unread held r broken code
+    c.new-outbox.ensures
     (not-opened code c.in-Err-open.ensures))
-    (subst (λ x. Leaves o held holds broken w.failed x) c.from.ensures c.stopped-in-Err-open.ensures.leaves)
+    (subst (λ x. Leaves g.F.Summary.profile o held holds broken w.failed x) c.from.ensures
+    c.stopped-in-Err-open.ensures.leaves)
     (c.stopped-in-Err-open.ensures.outcome ∙ ap (λ x. outcome_of o.sent x) c.from.ensures)
 
 pub returns-clause-bytes : goal.returns-clause-bytes
 returns-clause-bytes g c =
     let a = c.args.host.now.accepted.now in
     let items = c.args.pin.items in
-    let is = starts a _ items c.in-Ok.started.0 c.in-Ok.ensures.end c.into_store.ensures in
-    let opens = opens-with _ items c.in-Ok.started.1 c.in-Ok.ensures.message c.into_store.ensures in
-    let s = initiating two_lanes (peer_of a items) in
+    let is = starts g.F.Summary.summary g.F.Summary.profile a _ items c.in-Ok.started.0 c.in-Ok.ensures.end
+    c.into_store.ensures in
+    let opens = opens-with g.F.Summary.summary g.F.Summary.profile _ items c.in-Ok.started.1 c.in-Ok.ensures.message
+    c.into_store.ensures in
+    let s = initiating g.F.Summary.summary (peer_of a items) in
     let bound = rank_by a.steps (length items) + 2 in
     let unread = g.R.Read.remaining c.args.reader.now.inner in
     let left = g.R.Read.remaining c.speak-talked.new.reader.inner in
@@ -57,8 +63,8 @@ returns-clause-bytes g c =
     let holds = g.W.Write.contents c.concluded-outcome.new.writer.inner in
     let r = seen c.speak-talked.new.reader.failed c.speak-talked.new.reader.ended in
     let w = seen c.concluded-outcome.new.writer.failed c.concluded-outcome.new.writer.ended in
-    subst (λ v. Spoke s v bound
+    subst (λ v. Spoke g.F.Summary.summary g.F.Summary.profile s v bound
     (traffic unread left held holds) r w c.concluded-outcome.result) c.version-version.ensures
-    (c.concluded-outcome.ensures.bytes s bound unread left held r
+    (c.concluded-outcome.ensures.bytes s bound (Reader unread) left held r
     (c.speak-talked.ensures.talked (peer_of a items) a.steps is opens)
     (subst (λ x. c.speak-talked.new.outbox.sent ≤ most_sent 2 x) is c.speak-talked.ensures.few))

@@ -3,7 +3,7 @@ use Rattle.definitions.specs.Engines.{responding}
 use Rattle.definitions.specs.Ranks.{rank_by}
 use Rattle.session_table.specs.Faults.{table_fault_number}
 use Rattle.peer_threads.specs.declared.stop.Stop.TheVariants as stops
-use Rattle.peer_threads.specs.Outcomes.{traffic, seen, peer_of}
+use Rattle.peer_threads.specs.Outcomes.{traffic_of, seen, peer_of}
 use Rattle.peer_threads.specs.Stops.{outcome_of}
 use Rattle.peer_threads.specs.Underway.{Leaves, Spoke}
 use Rattle.peer_threads.proofs.Exchanges.{on-nothing}
@@ -14,7 +14,7 @@ use Rattle.peer_threads.proofs.engines.respond.Goals as goal
 pub returns-in-Err-clause-bytes : goal.returns-in-Err-clause-bytes
 returns-in-Err-clause-bytes g c = λ unread held x.
     let p = peer_of c.args.host.now.accepted.now c.args.pin.items in
-    let t = traffic unread (g.R.Read.remaining c.args.reader.now.inner) held
+    let t = traffic_of unread (g.R.Read.remaining c.args.reader.now.inner) held
     (g.W.Write.contents c.args.writer.now.inner) in
     let holds = g.W.Write.contents c.stopped.new.writer.inner in
     let r = seen c.args.reader.now.failed c.args.reader.now.ended in
@@ -22,23 +22,25 @@ returns-in-Err-clause-bytes g c = λ unread held x.
     let o = c.args.outbox in
     let code = table_fault_number c.in-Err.fault in
     let broken = c.args.writer.now.failed in
-    speaks-stopped p c.args.pin.version _ o t holds r w broken (stops.Refused code) c.stopped.result c.requires.none
-    (stops-unlisted p _ o t r broken _ code x (not-opened code c.in-Err.ensures))
-    (subst (λ y. Leaves o t.holds holds broken w.failed y) c.from.ensures c.stopped.ensures.leaves)
+    speaks-stopped g.F.Summary.summary g.F.Summary.profile p c.args.pin.version _ o t holds r w broken
+    (stops.Refused code) c.stopped.result c.requires.none
+    (stops-unlisted g.F.Summary.summary g.F.Summary.profile p _ o t r broken _ code x
+    (not-opened code c.in-Err.ensures))
+    (subst (λ y. Leaves g.F.Summary.profile o t.holds holds broken w.failed y) c.from.ensures c.stopped.ensures.leaves)
     (c.stopped.ensures.outcome ∙ ap (λ y. outcome_of o.sent y) c.from.ensures)
 
 pub returns-clause-bytes : goal.returns-clause-bytes
 returns-clause-bytes g c = λ unread held x.
     let a = c.args.host.now.accepted.now in
     let p = peer_of a c.args.pin.items in
-    let new = responds _ _ _ _ _ c.new-party.ensures c.into_store.ensures in
+    let new = responds g.F.Summary.summary g.F.Summary.profile _ _ _ _ _ c.new-party.ensures c.into_store.ensures in
     let bound = rank_by a.steps (length c.args.pin.items) + 1 in
     let left = g.R.Read.remaining c.answer-talked.new.reader.inner in
     let holds = g.W.Write.contents c.concluded-outcome.new.writer.inner in
     let r = seen c.answer-talked.new.reader.failed c.answer-talked.new.reader.ended in
     let w = seen c.concluded-outcome.new.writer.failed c.concluded-outcome.new.writer.ended in
-    subst (λ v. Spoke (responding p) v bound
-    (traffic unread left held holds) r w c.concluded-outcome.result) c.version-version.ensures
+    subst (λ v. Spoke g.F.Summary.summary g.F.Summary.profile (responding p) v bound
+    (traffic_of unread left held holds) r w c.concluded-outcome.result) c.version-version.ensures
     (c.concluded-outcome.ensures.bytes (responding p) bound unread left held r
     (c.answer-talked.ensures.talked p a.steps unread held new.0 x)
     (subst (λ n. c.answer-talked.new.outbox.sent ≤ n) new.1 c.answer-talked.ensures.few))
@@ -49,5 +51,5 @@ returns-in-Err-clause-on g c = λ unread held x. on-nothing _
 pub returns-clause-on : goal.returns-clause-on
 returns-clause-on g c = λ unread held x.
     let a = c.args.host.now.accepted.now in
-    let new = responds _ _ _ _ _ c.new-party.ensures c.into_store.ensures in
+    let new = responds g.F.Summary.summary g.F.Summary.profile _ _ _ _ _ c.new-party.ensures c.into_store.ensures in
     c.answer-talked.ensures.on (peer_of a c.args.pin.items) a.steps unread held new.0 x

@@ -1,76 +1,117 @@
-use Rattle.std.proofs.Common.{refl, inr}
-use Rattle.definitions.specs.Engines.{responding}
-use Rattle.definitions.specs.Wire.{two_lane_profile}
-use Rattle.peer_threads.specs.declared.stop.Stop.TheVariants as stops
-use Rattle.peer_threads.specs.Outcomes.{traffic, seen, peer_at}
-use Rattle.peer_threads.proofs.Endings.{speaks, stopped-anyhow}
-use Rattle.peer_threads.proofs.Exchanges.{on-nothing}
-use Rattle.peer_threads.proofs.Serving.{untold, unopened, serves, speaks-stopped, stops-poor, came-first}
+use Rattle.std.proofs.Common.{rules, ◌≡◌, false, inl, inr, refl}
+use Rattle.std.specs.Prelude.{bytes_eq}
+use Rattle.definitions.specs.Fingerprints.{two_lanes}
+use Rattle.definitions.specs.Wire.{two_lane_profile, counted_profile}
+use Rattle.peer_threads.specs.Outcomes.{seen, peer_at}
+use Rattle.peer_threads.proofs.Exchanges.{Laws}
+use Rattle.peer_threads.proofs.Choosing.{chooses-counted, chooses-two-lanes, counted-speaks, two-lanes-speak}
+use Rattle.peer_threads.proofs.Choosing.{counted-unopened, two-lanes-unopened, counted-first, two-lanes-first}
+use Rattle.peer_threads.proofs.Choosing.{short-speaks, short-unopened}
 use Rattle.peer_threads.proofs.engines.serve_one.Goals as goal
 
 pub returns-in-Err-clause-view : goal.returns-in-Err-clause-view
 returns-in-Err-clause-view g c =
-    let t = traffic (g.R.Read.remaining c.args.reader.now.inner) (g.R.Read.remaining c.meet.new.reader.inner)
-    (g.W.Write.contents c.args.writer.now.inner) (g.W.Write.contents c.meet.new.writer.inner) in
-    let r = seen c.meet.new.reader.failed c.meet.new.reader.ended in
+    let laws : Laws two_lanes two_lane_profile = record {
+      say = c.frames_say.ensures two_lanes;
+      begin = c.own_begins.ensures two_lanes;
+      agree = c.bytes_agree.ensures two_lanes two_lane_profile;
+    } in
+    let r = seen c.read_hello.new.reader.failed c.read_hello.new.reader.ended in
     let w = seen c.stopped.new.writer.failed c.stopped.new.writer.ended in
+    let x = c.in-Err.ensures.read in
     inr (
       refl,
-      unopened c.meet.new.outbox t
-          (g.W.Write.contents c.stopped.new.writer.inner) r w c.meet.new.writer.failed c.in-Err.stop c.stopped.result
-          c.meet.ensures.none
-          (untold c.meet.result c.in-Err.stop _ c.in-Err.is c.meet.ensures.stopped) c.stopped.ensures.leaves
-          c.stopped.ensures.outcome,
+      short-unopened laws c.new.result x.0 (g.R.Read.remaining c.args.reader.now.inner)
+          (g.R.Read.remaining c.read_hello.new.reader.inner) (g.W.Write.contents c.args.writer.now.inner)
+          (g.W.Write.contents c.stopped.new.writer.inner) r w c.args.writer.now.failed c.in-Err.stop c.stopped.result
+          c.new.ensures x.1 x.2 c.stopped.ensures.leaves c.stopped.ensures.outcome,
     )
 
 pub returns-in-Err-clause-bytes : goal.returns-in-Err-clause-bytes
 returns-in-Err-clause-bytes g c =
-    let v = c.args.seat.now.view in
-    let p = peer_at c.args.shared.now.accepted.now v in
-    let t = traffic (g.R.Read.remaining c.args.reader.now.inner) (g.R.Read.remaining c.meet.new.reader.inner)
-    (g.W.Write.contents c.args.writer.now.inner) (g.W.Write.contents c.meet.new.writer.inner) in
-    let r = seen c.meet.new.reader.failed c.meet.new.reader.ended in
+    let laws : Laws two_lanes two_lane_profile = record {
+      say = c.frames_say.ensures two_lanes;
+      begin = c.own_begins.ensures two_lanes;
+      agree = c.bytes_agree.ensures two_lanes two_lane_profile;
+    } in
+    let r = seen c.read_hello.new.reader.failed c.read_hello.new.reader.ended in
     let w = seen c.stopped.new.writer.failed c.stopped.new.writer.ended in
-    let why = stopped-anyhow (responding p) c.meet.new.outbox t r c.meet.new.writer.failed c.in-Err.stop
-    (untold c.meet.result c.in-Err.stop _ c.in-Err.is c.meet.ensures.stopped p) in
-    speaks _ (responding p) _ _ _ _ r w c.stopped.result
-    (speaks-stopped p _ _ c.meet.new.outbox t
-    (g.W.Write.contents c.stopped.new.writer.inner) r w c.meet.new.writer.failed c.in-Err.stop c.stopped.result
-    c.meet.ensures.none why c.stopped.ensures.leaves c.stopped.ensures.outcome)
-    (c.sides_are_modest.ensures.responder v.base)
+    let v = c.args.seat.now.view in
+    let x = c.in-Err.ensures.read in
+    short-speaks laws _ (peer_at c.args.shared.now.accepted.now v) _ _ _ c.new.result x.0
+    (g.R.Read.remaining c.args.reader.now.inner)
+    (g.R.Read.remaining c.read_hello.new.reader.inner) (g.W.Write.contents c.args.writer.now.inner)
+    (g.W.Write.contents c.stopped.new.writer.inner) r w c.args.writer.now.failed c.in-Err.stop c.stopped.result
+    c.new.ensures x.1 x.2 c.stopped.ensures.leaves c.stopped.ensures.outcome
+    (c.sides_are_modest.ensures.responder v.base x.0)
 
-pub returns-in-Ok-pin-clause-bytes : goal.returns-in-Ok-pin-clause-bytes
-returns-in-Ok-pin-clause-bytes g c =
-    let met = c.in-Ok.ensures.met in
-    serves c.args.shared.now.accepted.now _ c.pin.new.seat.view c.in-Ok-pin.pin _ _ _ c.respond.result
-    c.in-Ok-pin.ensures.pin c.of-host.ensures
-    (c.respond.ensures.bytes (g.R.Read.remaining c.args.reader.now.inner)
-    (g.W.Write.contents c.args.writer.now.inner) met.1) c.sides_are_modest.ensures.responder
+pub returns-then-eq-clause-view : goal.returns-then-eq-clause-view
+returns-then-eq-clause-view g c =
+    let h = c.in-Ok.hello in
+    let same : h.bytes ≡ counted_profile.hello = search rules in
+    let mid = g.R.Read.remaining c.read_hello.new.reader.inner in
+    elim c.serve_behind.ensures.view [
+      | inl x ↦ inl x
+      | inr x ↦ inr (
+        x.0,
+        counted-unopened h.bytes (g.R.Read.remaining c.args.reader.now.inner) mid _ _ _ _ _ _
+            c.in-Ok.ensures.read.0.four c.in-Ok.ensures.read.1 (chooses-counted h.bytes same) x.1,
+      )
+    ]
 
-pub returns-in-Err-pin-clause-bytes : goal.returns-in-Err-pin-clause-bytes
-returns-in-Err-pin-clause-bytes g c =
-    let found = c.pin.new.seat.view in
-    let p = peer_at c.args.shared.now.accepted.now found in
-    let t = traffic (g.R.Read.remaining c.args.reader.now.inner) (g.R.Read.remaining c.meet.new.reader.inner)
-    (g.W.Write.contents c.args.writer.now.inner) (g.W.Write.contents c.meet.new.writer.inner) in
-    let r = seen c.meet.new.reader.failed c.meet.new.reader.ended in
-    let w = seen c.stopped-in-Err-pin.new.writer.failed c.stopped-in-Err-pin.new.writer.ended in
-    speaks _ (responding p) _ _ _ _ r w c.stopped-in-Err-pin.result
-    (speaks-stopped p _ _ c.meet.new.outbox t
-    (g.W.Write.contents c.stopped-in-Err-pin.new.writer.inner) r w c.meet.new.writer.failed stops.Memory
-    c.stopped-in-Err-pin.result c.meet.ensures.none
-    (stops-poor p _ c.meet.new.outbox t r c.meet.new.writer.failed _ c.in-Ok.ensures.met.1)
-    c.stopped-in-Err-pin.ensures.leaves c.stopped-in-Err-pin.ensures.outcome)
-    (c.sides_are_modest.ensures.responder found.base)
+pub returns-then-eq-clause-opened : goal.returns-then-eq-clause-opened
+returns-then-eq-clause-opened g c =
+    let h = c.in-Ok.hello in
+    let same : h.bytes ≡ counted_profile.hello = search rules in
+    let mid = g.R.Read.remaining c.read_hello.new.reader.inner in
+    elim c.serve_behind.ensures.opened [
+      | inl x ↦ inl x
+      | inr x ↦ inr (counted-first h.bytes (g.R.Read.remaining c.args.reader.now.inner) mid _
+          c.in-Ok.ensures.read.0.four c.in-Ok.ensures.read.1 (chooses-counted h.bytes same) x)
+    ]
 
-pub returns-in-Ok-pin-clause-opened : goal.returns-in-Ok-pin-clause-opened
-returns-in-Ok-pin-clause-opened g c =
-    let met = c.in-Ok.ensures.met in
-    let join = c.feeds_join.ensures two_lane_profile c.two_lanes_are_real.ensures in
-    inr (came-first join _ _ _ _ _ _ _ _ met.0 met.1 (c.respond.ensures.on _ (g.W.Write.contents c.args.writer.now.inner) met.1))
+pub returns-then-eq-clause-bytes : goal.returns-then-eq-clause-bytes
+returns-then-eq-clause-bytes g c =
+    let h = c.in-Ok.hello in
+    let same : h.bytes ≡ counted_profile.hello = search rules in
+    let mid = g.R.Read.remaining c.read_hello.new.reader.inner in
+    counted-speaks _ (peer_at c.args.shared.now.accepted.now c.serve_behind.new.seat.view) _ _ _ h.bytes
+    (g.R.Read.remaining c.args.reader.now.inner) mid _ _ _ _ _ _
+    c.in-Ok.ensures.read.0.four c.in-Ok.ensures.read.1 (chooses-counted h.bytes same) c.serve_behind.ensures.bytes
 
-pub returns-in-Err-pin-clause-opened : goal.returns-in-Err-pin-clause-opened
-returns-in-Err-pin-clause-opened g c =
-    let met = c.in-Ok.ensures.met in
-    let join = c.feeds_join.ensures two_lane_profile c.two_lanes_are_real.ensures in
-    inr (came-first join _ _ _ _ _ _ _ _ met.0 met.1 (on-nothing _))
+pub returns-else-eq-clause-view : goal.returns-else-eq-clause-view
+returns-else-eq-clause-view g c =
+    let h = c.in-Ok.hello in
+    let other : bytes_eq h.bytes counted_profile.hello ≡ false = search rules in
+    let mid = g.R.Read.remaining c.read_hello.new.reader.inner in
+    elim c.serve_behind-else-eq.ensures.view [
+      | inl x ↦ inl x
+      | inr x ↦ inr (
+        x.0,
+        two-lanes-unopened h.bytes (g.R.Read.remaining c.args.reader.now.inner) mid _ _ _ _ _ _
+            c.in-Ok.ensures.read.0.four c.in-Ok.ensures.read.1
+            (chooses-two-lanes h.bytes c.in-Ok.ensures.read.0.four other) x.1,
+      )
+    ]
+
+pub returns-else-eq-clause-opened : goal.returns-else-eq-clause-opened
+returns-else-eq-clause-opened g c =
+    let h = c.in-Ok.hello in
+    let other : bytes_eq h.bytes counted_profile.hello ≡ false = search rules in
+    let mid = g.R.Read.remaining c.read_hello.new.reader.inner in
+    elim c.serve_behind-else-eq.ensures.opened [
+      | inl x ↦ inl x
+      | inr x ↦ inr (two-lanes-first h.bytes (g.R.Read.remaining c.args.reader.now.inner) mid _
+          c.in-Ok.ensures.read.0.four c.in-Ok.ensures.read.1
+          (chooses-two-lanes h.bytes c.in-Ok.ensures.read.0.four other) x)
+    ]
+
+pub returns-else-eq-clause-bytes : goal.returns-else-eq-clause-bytes
+returns-else-eq-clause-bytes g c =
+    let h = c.in-Ok.hello in
+    let other : bytes_eq h.bytes counted_profile.hello ≡ false = search rules in
+    let mid = g.R.Read.remaining c.read_hello.new.reader.inner in
+    two-lanes-speak _ (peer_at c.args.shared.now.accepted.now c.serve_behind-else-eq.new.seat.view) _ _ _ h.bytes
+    (g.R.Read.remaining c.args.reader.now.inner) mid _ _ _ _ _ _
+    c.in-Ok.ensures.read.0.four c.in-Ok.ensures.read.1
+    (chooses-two-lanes h.bytes c.in-Ok.ensures.read.0.four other) c.serve_behind-else-eq.ensures.bytes

@@ -1,14 +1,14 @@
 use Rattle.std.proofs.Common.{refl, rules}
-use Rattle.definitions.specs.Fingerprints.{two_lanes}
 use Rattle.definitions.specs.Accounts.{IsOfTheTable}
 use Rattle.definitions.specs.Engines.{initiating}
-use Rattle.peer_threads.specs.Outcomes.{seen}
+use Rattle.peer_threads.specs.Outcomes.{Reader, seen}
 use Rattle.peer_threads.proofs.Dialing.{begun-first, stops-silent, stops-broken, stops-first}
 use Rattle.peer_threads.proofs.engines.speak.Goals as goal
 
 pub returns-in_err-inbox-clause-talked : goal.returns-in_err-inbox-clause-talked
 returns-in_err-inbox-clause-talked g c = λ p steps is opens.
-    let stops = stops-silent IsOfTheTable (initiating two_lanes p) c.args.outbox.now
+    let stops = stops-silent g.F.Summary.summary g.F.Summary.profile IsOfTheTable (initiating g.F.Summary.summary p)
+    c.args.outbox.now
     (g.R.Read.remaining c.args.reader.now.inner)
     (g.W.Write.contents c.args.writer.now.inner) (seen c.args.reader.now.failed c.args.reader.now.ended)
     c.args.writer.now.failed c.requires.new in
@@ -16,7 +16,8 @@ returns-in_err-inbox-clause-talked g c = λ p steps is opens.
 
 pub returns-in_err-greet-clause-talked : goal.returns-in_err-greet-clause-talked
 returns-in_err-greet-clause-talked g c = λ p steps is opens.
-    let stops = stops-broken IsOfTheTable (initiating two_lanes p) c.args.outbox.now c.greet.new.self
+    let stops = stops-broken g.F.Summary.summary g.F.Summary.profile IsOfTheTable (initiating g.F.Summary.summary p)
+    c.args.outbox.now c.greet.new.self
     (g.R.Read.remaining c.args.reader.now.inner) (g.W.Write.contents c.args.writer.now.inner)
     (g.W.Write.contents c.greet.new.writer.inner) (seen c.args.reader.now.failed c.args.reader.now.ended)
     c.greet.new.writer.failed c.requires.new c.in_err-greet.ensures.same c.in_err-greet.ensures.failed
@@ -25,7 +26,8 @@ returns-in_err-greet-clause-talked g c = λ p steps is opens.
 
 pub returns-in_err-say-clause-talked : goal.returns-in_err-say-clause-talked
 returns-in_err-say-clause-talked g c = λ p steps is opens.
-    let stops = stops-first p c.args.outbox.now c.greet.new.self c.say.new.outbox
+    let stops = stops-first g.F.Summary.summary g.F.Summary.profile p c.args.outbox.now c.greet.new.self
+    c.say.new.outbox
     (g.R.Read.remaining c.args.reader.now.inner) (g.W.Write.contents c.args.writer.now.inner)
     (g.W.Write.contents c.greet.new.writer.inner)
     (g.W.Write.contents c.say.new.writer.inner) (seen c.args.reader.now.failed c.args.reader.now.ended)
@@ -35,11 +37,11 @@ returns-in_err-say-clause-talked g c = λ p steps is opens.
 
 pub returns-clause-talked : goal.returns-clause-talked
 returns-clause-talked g c = λ p steps is opens.
-    let u = begun-first p
+    let u = begun-first g.F.Summary.summary g.F.Summary.profile p
     (g.P.Party.held c.args.party.now) steps c.in_ok-inbox.inbox c.args.outbox.now c.greet.new.self c.say.new.outbox
     (g.R.Read.remaining c.args.reader.now.inner) (g.W.Write.contents c.args.writer.now.inner)
     (g.W.Write.contents c.greet.new.writer.inner)
     (g.W.Write.contents c.say.new.writer.inner) c.args.first.now is opens c.in_ok-inbox.ensures.read c.requires.new
     c.in_ok-greet.ensures.whole c.in_ok-greet.ensures.greeted c.in_ok-say.ensures.said in
-    c.talk.ensures.talked (initiating two_lanes p) (g.R.Read.remaining c.args.reader.now.inner)
+    c.talk.ensures.talked (initiating g.F.Summary.summary p) (Reader (g.R.Read.remaining c.args.reader.now.inner))
     (g.W.Write.contents c.args.writer.now.inner) refl u

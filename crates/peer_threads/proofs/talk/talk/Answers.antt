@@ -1,48 +1,50 @@
 use Rattle.std.proofs.Common.{◌≡◌, ◌≤◌, ◌^◌, false, true, length, rules, arith, subst, ◌∙◌}
-use Rattle.definitions.specs.Fingerprints.{two_lanes}
 use Rattle.definitions.specs.Ends.{is_over}
-use Rattle.definitions.specs.Wire.{two_lane_profile}
 use Rattle.peer_threads.specs.Outcomes.{seen}
 use Rattle.peer_threads.proofs.Exchanges.{Laws, at-event, goes-on-behind, stops-event, stops-underway, stops-late}
-use Rattle.peer_threads.proofs.Exchanges.{finished, on-nothing, on-further}
+use Rattle.peer_threads.proofs.Exchanges.{finished, on-further}
 use Rattle.peer_threads.proofs.talk.talk.Goals as goal
 
 pub returns-then-is_over-clause-talked : goal.returns-then-is_over-clause-talked
 returns-then-is_over-clause-talked g c = λ s unread held live start.
-    let laws : Laws = record {
-      say = c.frames_say.ensures two_lanes;
-      begin = c.own_begins.ensures two_lanes;
-      agree = c.bytes_agree.ensures two_lanes two_lane_profile;
+    let laws : Laws g.F.Summary.summary g.F.Summary.profile = record {
+      say = c.frames_say.ensures g.F.Summary.summary;
+      begin = c.own_begins.ensures g.F.Summary.summary;
+      agree = c.bytes_agree.ensures g.F.Summary.summary g.F.Summary.profile;
     } in
     let over : is_over (g.P.Party.held c.loop-turn.party).end.stage ≡ true = search rules in
-    finished laws s _ _ _ _ live (c.loop-turn.invariant.goes s unread held live start).0 over
+    finished g.F.Summary.summary g.F.Summary.profile laws s _ _ _ _ live (c.loop-turn.invariant.goes s unread held live
+    start).0 over
 
 pub returns-in_err-event-clause-talked : goal.returns-in_err-event-clause-talked
 returns-in_err-event-clause-talked g c = λ s unread held live start.
-    let laws : Laws = record {
-      say = c.frames_say.ensures two_lanes;
-      begin = c.own_begins.ensures two_lanes;
-      agree = c.bytes_agree.ensures two_lanes two_lane_profile;
+    let laws : Laws g.F.Summary.summary g.F.Summary.profile = record {
+      say = c.frames_say.ensures g.F.Summary.summary;
+      begin = c.own_begins.ensures g.F.Summary.summary;
+      agree = c.bytes_agree.ensures g.F.Summary.summary g.F.Summary.profile;
     } in
     let u = (c.loop-turn.invariant.goes s unread held live start).0 in
     let goes : is_over (g.P.Party.held c.loop-turn.party).end.stage ≡ false = search rules in
-    let stops = stops-underway laws s _ _ _ _ _ (seen c.next.new.reader.failed c.next.new.reader.ended)
+    let stops = stops-underway g.F.Summary.summary g.F.Summary.profile laws s _ _ _ _ _
+    (seen c.next.new.reader.failed c.next.new.reader.ended)
     c.loop-turn.writer.failed c.in_err-event.field-0.0 live u goes
     (c.in_err-event.ensures.read u.bytes u.events u.are_bytes u.came) in
     search (rules, stops)
 
 pub returns-in_err-hear-clause-talked : goal.returns-in_err-hear-clause-talked
 returns-in_err-hear-clause-talked g c = λ s unread held live start.
-    let laws : Laws = record {
-      say = c.frames_say.ensures two_lanes;
-      begin = c.own_begins.ensures two_lanes;
-      agree = c.bytes_agree.ensures two_lanes two_lane_profile;
+    let laws : Laws g.F.Summary.summary g.F.Summary.profile = record {
+      say = c.frames_say.ensures g.F.Summary.summary;
+      begin = c.own_begins.ensures g.F.Summary.summary;
+      agree = c.bytes_agree.ensures g.F.Summary.summary g.F.Summary.profile;
     } in
     let u = (c.loop-turn.invariant.goes s unread held live start).0 in
     let goes : is_over (g.P.Party.held c.loop-turn.party).end.stage ≡ false = search rules in
-    let x = at-event s _ _ _ _ _ _ _ u (c.in_ok-event.ensures.read u.bytes u.events u.are_bytes u.came) goes in
+    let x = at-event g.F.Summary.summary g.F.Summary.profile s _ _ _ _ _ _ _ u (c.in_ok-event.ensures.read u.bytes
+    u.events u.are_bytes u.came) goes in
     let stops =
-    stops-event laws s _ _ _ _ _ (seen c.next.new.reader.failed c.next.new.reader.ended) c.hear.new.writer.failed _
+    stops-event g.F.Summary.summary g.F.Summary.profile laws s _ _ _ _ _ (seen c.next.new.reader.failed
+    c.next.new.reader.ended) c.hear.new.writer.failed _
     c.in_err-hear.field-0.0 live x c.in_err-hear.ensures.stopped in
     search (rules, stops)
 
@@ -57,33 +59,35 @@ loop-turn-preserved g c = record {
       let now = c.in_ok-event.ensures.reads in
       (omega (arith, so.0, now.0), now.1);
   goes = λ s unread held live start.
-      let laws : Laws = record {
-        say = c.frames_say.ensures two_lanes;
-        begin = c.own_begins.ensures two_lanes;
-        agree = c.bytes_agree.ensures two_lanes two_lane_profile;
+      let laws : Laws g.F.Summary.summary g.F.Summary.profile = record {
+        say = c.frames_say.ensures g.F.Summary.summary;
+        begin = c.own_begins.ensures g.F.Summary.summary;
+        agree = c.bytes_agree.ensures g.F.Summary.summary g.F.Summary.profile;
       } in
       let u = (c.loop-turn.invariant.goes s unread held live start).0 in
       let goes : is_over (g.P.Party.held c.loop-turn.party).end.stage ≡ false = search rules in
       let more = c.in_ok-event.ensures.read u.bytes u.events u.are_bytes u.came in
-      let x = at-event s _ _ _ _ _ _ _ u more goes in
+      let x = at-event g.F.Summary.summary g.F.Summary.profile s _ _ _ _ _ _ _ u more goes in
       let late = (c.loop-turn.invariant.goes s unread held live start).1 in
       let next =
-      goes-on-behind laws s _ _ _ _ _ _ _ _ live x more.3 c.in_ok-hear.ensures.heard c.in_ok-hear.ensures.said _ late in
+      goes-on-behind g.F.Summary.summary g.F.Summary.profile laws s _ _ _ _ _ _ _ _ live x more.3
+      c.in_ok-hear.ensures.heard c.in_ok-hear.ensures.said _ late in
       let on = (c.loop-turn.invariant.goes s unread held live start).2 in
       (next.0, next.1, on-further _ _ _ on (more.0, more.1, more.2));
 }
 
 pub returns-clause-talked : goal.returns-clause-talked
 returns-clause-talked g c = λ s unread held live start.
-    let laws : Laws = record {
-      say = c.frames_say.ensures two_lanes;
-      begin = c.own_begins.ensures two_lanes;
-      agree = c.bytes_agree.ensures two_lanes two_lane_profile;
+    let laws : Laws g.F.Summary.summary g.F.Summary.profile = record {
+      say = c.frames_say.ensures g.F.Summary.summary;
+      begin = c.own_begins.ensures g.F.Summary.summary;
+      agree = c.bytes_agree.ensures g.F.Summary.summary g.F.Summary.profile;
     } in
     let u = (c.loop-turn.invariant.goes s unread held live start).0 in
     let late = (c.loop-turn.invariant.goes s unread held live start).1 in
     let many : 2 ^ 32 ≤ length u.events = omega arith in
-    stops-late laws s _ _ _ _ (seen c.loop-turn.reader.failed c.loop-turn.reader.ended) c.loop-turn.writer.failed u many
+    stops-late g.F.Summary.summary g.F.Summary.profile laws s _ _ _ _ (seen c.loop-turn.reader.failed
+    c.loop-turn.reader.ended) c.loop-turn.writer.failed u many
 
 pub returns-then-is_over-clause-on : goal.returns-then-is_over-clause-on
 returns-then-is_over-clause-on g c = λ s unread held live start.

@@ -1,9 +1,8 @@
 use Rattle.std.proofs.Common.{◌≡◌, ℕ, ◌≤◌, ◌^◌, true, false, List, length, Option}
-use Rattle.definitions.specs.Fingerprints.{Lanes}
 use Rattle.definitions.specs.Ends.{is_live}
 use Rattle.definitions.specs.Engines.{Speaker}
 use Rattle.peer_threads.specs.Inboxes.{Counts, ReadOn}
-use Rattle.peer_threads.specs.Outcomes.{traffic}
+use Rattle.peer_threads.specs.Outcomes.{Origin, traffic_of}
 use Rattle.peer_threads.specs.Underway.{Underway, most_sent}
 use Rattle.peer_threads.proofs.talk.talk.Given as goal
 
@@ -14,12 +13,13 @@ invariant-loop-turn g l = record {
   most : most_sent g.P.Party.most (g.P.Party.held l.party) ≡ most_sent g.P.Party.most (g.P.Party.held l.initial.party);
   few : l.outbox.sent ≤ most_sent g.P.Party.most (g.P.Party.held l.initial.party);
   reads : l.initial.inbox.reads ≤ 2 ^ 32 → Counts l.initial.reader.reads l.reader.reads l.initial.inbox l.inbox;
-  goes : (s : Speaker Lanes) (unread held : Option (List ℕ)) → is_live s.start.stage ≡ true →
-      Underway s (g.P.Party.held l.initial.party) l.initial.inbox l.initial.outbox
-      (traffic unread (g.R.Read.remaining l.initial.reader.inner) held
+  goes : (s : Speaker g.row.F.Denot) (unread : Origin) (held : Option (List ℕ)) → is_live s.start.stage ≡ true →
+      Underway g.F.Summary.summary g.F.Summary.profile s (g.P.Party.held l.initial.party) l.initial.inbox
+      l.initial.outbox
+      (traffic_of unread (g.R.Read.remaining l.initial.reader.inner) held
       (g.W.Write.contents l.initial.writer.inner)) →
-      (u : Underway s (g.P.Party.held l.party) l.inbox l.outbox
-      (traffic unread (g.R.Read.remaining l.reader.inner) held (g.W.Write.contents l.writer.inner)))
+      (u : Underway g.F.Summary.summary g.F.Summary.profile s (g.P.Party.held l.party) l.inbox l.outbox
+      (traffic_of unread (g.R.Read.remaining l.reader.inner) held (g.W.Write.contents l.writer.inner)))
       × (l._turn ≤ length u.events)
       × ReadOn (g.R.Read.remaining l.initial.reader.inner) (g.R.Read.remaining l.reader.inner);
 }

@@ -3,7 +3,7 @@ use Rattle.place_core.proofs.Walks.{open_lists}
 use Rattle.place_core.proofs.cursor.finish_outside.Goals as goal
 
 pub returns-then-has_list : goal.returns-then-has_list
-returns-then-has_list c = rw (open_lists c.args.left.now, sym c.has_list.ensures, c.if-has_list.true) refl
+returns-then-has_list g c = rw (open_lists c.args.left.now, sym c.has_list.ensures, c.if-has_list.true) refl
 
 pub returns : goal.returns
-returns c = rw (open_lists c.args.left.now, sym c.has_list.ensures, c.if-has_list.false) refl
+returns g c = rw (open_lists c.args.left.now, sym c.has_list.ensures, c.if-has_list.false) refl

@@ -4,7 +4,7 @@ use Rattle.place_core.proofs.cursor.first_list.Given as goal
 
 -- no List was passed
 abbrev pub invariant-loop-own : goal.invariant-loop-own
-invariant-loop-own l = first_list l.left ≡ first_list l.parts
+invariant-loop-own g l = first_list l.left ≡ first_list l.parts
 
 abbrev pub decreases-loop-own : goal.decreases-loop-own
-decreases-loop-own l = length l.left
+decreases-loop-own g l = length l.left

@@ -5,7 +5,8 @@ use Rattle.place_core.proofs.cursor.next_outside.Given as goal
 
 -- the parts before the place are skipped
 abbrev pub invariant-skipped : goal.invariant-skipped
-invariant-skipped l = placing.next_outside (open_parts (drop l.start l.sent)) l.part ≡ placing.next_outside (open_parts (drop l.at l.sent)) l.part
+invariant-skipped g l = placing.next_outside (open_parts (drop l.start l.sent)) l.part
+    ≡ placing.next_outside (open_parts (drop l.at l.sent)) l.part
 
 abbrev pub decreases-skipped : goal.decreases-skipped
-decreases-skipped l = length l.sent - l.at
+decreases-skipped g l = length l.sent - l.at

@@ -6,7 +6,7 @@ use Rattle.place_core.proofs.Refusals.{none_is_ok}
 use Rattle.place_core.proofs.placing.place_opening.Goals as goal
 
 pub returns-clause-opening : goal.returns-clause-opening
-returns-clause-opening c =
+returns-clause-opening g c =
     let message = c.args.message.now in
     let fault : fault_in c.finish.result ≡ opening_fault message = search rules in
     none_is_ok c.finish.result (opening_fault message) (IsOpening message) fault (c.opening_is_exact.ensures message)

@@ -5,4 +5,5 @@ use Rattle.place_core.specs.Cursors.{place_at}
 use Rattle.place_core.proofs.placing.place_parts.Given as goal
 
 abbrev pub invariant-loop-part : goal.invariant-loop-part
-invariant-loop-part l = place_at l.sent l.cursor ≡ fold placing.next (place_at l.sent l.fn.cursor) (take l.part-index l.parts)
+invariant-loop-part g l = place_at l.sent l.cursor
+    ≡ fold placing.next (place_at l.sent l.fn.cursor) (take l.part-index l.parts)

@@ -1,6 +1,5 @@
 use Rattle.std.proofs.Common.{◌≡◌, ◌++◌, drop, sym, ap, ◌∙◌, append_assoc}
 use Rattle.std.proofs.lemmas.List.{take-append-drop}
-use Rattle.definitions.specs.Wire.{two_lane_profile}
 use Rattle.definitions.specs.Streams.{feed}
 use Rattle.wire_core.specs.Events.{event_values}
 use Rattle.wire_core.specs.Standings.{standing_of, behind}
@@ -8,14 +7,17 @@ use Rattle.wire_core.proofs.Feeding.{before_both}
 use Rattle.wire_core.proofs.pieces.read_behind.Goals as goal
 
 pub pieces-preserved : goal.pieces-preserved
-pieces-preserved c =
+pieces-preserved g c =
     let live = drop c.pieces.taken c.pieces.kept.items in
     let front = c.split_at.result.0.now in
     let back = c.split_at.result.1.now in
     let rest : front ++ back ≡ c.pieces.rest.now = (λ i. c.split_at.ensures.front i ++ c.split_at.ensures.back i) ∙ take-append-drop _ c.pieces.rest.now in
     record {
       so_far = sym (c.in_ok-there.ensures.joined back c.are_bytes.ensures)
-          ∙ ap (λ bytes. behind (event_values c.pieces.out.items) (feed two_lane_profile (standing_of c.pieces.there) bytes)) (append_assoc live front back ∙ ap (λ bytes. live ++ bytes) rest)
+          ∙ ap
+          (λ bytes. behind (event_values c.pieces.out.items)
+          (feed g.F.Summary.profile (standing_of c.pieces.there) bytes)) (append_assoc live front back
+          ∙ ap (λ bytes. live ++ bytes) rest)
           ∙ c.pieces.invariant.so_far;
       read = c.in_ok-there.ensures.rest;
       within = c.in_ok-there.ensures.within;

@@ -1,5 +1,4 @@
 use Rattle.std.proofs.Common.{rules, ◌≡◌, ◌++◌, ◌-◌, length, drop, sym, ap, subst, ◌∙◌}
-use Rattle.definitions.specs.Wire.{two_lane_profile}
 use Rattle.definitions.specs.Streams.{feed, stays}
 use Rattle.codec_laws.specs.Parts.{IsEndOf}
 use Rattle.wire_core.specs.Events.{event_values}
@@ -8,7 +7,7 @@ use Rattle.wire_core.proofs.Feeding.{slice_back, drop_kept, end_of_dropped, end_
 use Rattle.wire_core.proofs.pieces.read_kept.Goals as goal
 
 pub returns-clause-joined : goal.returns-clause-joined
-returns-clause-joined c =
+returns-clause-joined g c =
     let grown = c.extend_from_slice.new.self.items in
     let left = c.read_piece.new.bytes.now in
     let slice = slice_back c.args.taken.now c.deref.result.now ∙ ap (drop c.args.taken.now) c.deref.ensures.value in
@@ -16,16 +15,20 @@ returns-clause-joined c =
     let count : c.len.result ≡ length grown = search rules in
     let end = end_of_dropped grown left c.args.taken.now (subst (λ bytes. IsEndOf bytes left) slice c.in_ok-there.ensures.end) in
     let dropped = ap (λ n. drop (n - length left) grown) count ∙ end_dropped grown left end in
-    λ back fits. ap (λ bytes. behind (event_values c.args.out.now.items) (feed two_lane_profile (standing_of c.args.standing) (bytes ++ back))) (sym same)
+    λ back fits. ap
+    (λ bytes. behind (event_values c.args.out.now.items)
+    (feed g.F.Summary.profile (standing_of c.args.standing) (bytes ++ back))) (sym same)
     ∙ c.in_ok-there.ensures.joined back fits
-    ∙ ap (λ bytes. behind (event_values c.read_piece.new.out.items) (feed two_lane_profile (standing_of c.in_ok-there.there) (bytes ++ back))) (sym dropped)
+    ∙ ap (λ bytes. behind (event_values c.read_piece.new.out.items)
+    (feed g.F.Summary.profile (standing_of c.in_ok-there.there) (bytes ++ back))) (sym dropped)
 
 pub returns-clause-rest : goal.returns-clause-rest
-returns-clause-rest c =
+returns-clause-rest g c =
     let grown = c.extend_from_slice.new.self.items in
     let left = c.read_piece.new.bytes.now in
     let slice = slice_back c.args.taken.now c.deref.result.now ∙ ap (drop c.args.taken.now) c.deref.ensures.value in
     let count : c.len.result ≡ length grown = search rules in
     let end = end_of_dropped grown left c.args.taken.now (subst (λ bytes. IsEndOf bytes left) slice c.in_ok-there.ensures.end) in
     let dropped = ap (λ n. drop (n - length left) grown) count ∙ end_dropped grown left end in
-    subst (λ bytes. feed two_lane_profile (standing_of c.in_ok-there.there) bytes ≡ stays (standing_of c.in_ok-there.there) bytes) (sym dropped) c.in_ok-there.ensures.rest
+    subst (λ bytes. feed g.F.Summary.profile (standing_of c.in_ok-there.there) bytes
+    ≡ stays (standing_of c.in_ok-there.there) bytes) (sym dropped) c.in_ok-there.ensures.rest

@@ -1,10 +1,10 @@
 use Rattle.std.proofs.Common.{rules, Ok, ap, ◌∙◌}
 use Rattle.wire_core.specs.Bodies.{fields_event}
-use Rattle.definitions.specs.Wire.{two_lane_profile}
 use Rattle.wire_core.proofs.Read.{part_read}
 use Rattle.wire_core.proofs.reading.part_in.Goals as goal
 
 pub of_fields-requires : goal.of_fields-requires
-of_fields-requires c =
-    part_read (c.body_is_exact.ensures two_lane_profile c.two_lanes_are_real.ensures) c.args.body.now ((c.reads_are_bytes.ensures c.args.body.now).1 (search rules)) c.requires _
+of_fields-requires g c =
+    part_read g.F.Summary.profile (c.body_is_exact.ensures g.F.Summary.profile g.met.F.Summary.real) c.args.body.now
+    ((c.reads_are_bytes.ensures c.args.body.now).1 (search rules)) c.requires _
     (c.in_ok-fields.ensures ∙ ap (λ o. Ok (fields_event o)) c.in-Some.is)

@@ -1,10 +1,10 @@
 use Rattle.std.proofs.Common.{◌≡◌, take}
 use Rattle.std.specs.Prelude.{flat_map}
-use Rattle.definitions.specs.Wire.{two_lane_profile, part_text}
+use Rattle.definitions.specs.Wire.{part_text}
 use Rattle.wire_core.proofs.spelling.encode_message.Given as goal
 
 abbrev pub invariant-loop-part : goal.invariant-loop-part
-invariant-loop-part l = record {
+invariant-loop-part g l = record {
   same : l.part-items ≡ l.message;
-  written : l.out.items ≡ flat_map (part_text two_lane_profile) (take l.part-index l.part-items);
+  written : l.out.items ≡ flat_map (part_text g.F.Summary.profile) (take l.part-index l.part-items);
 }

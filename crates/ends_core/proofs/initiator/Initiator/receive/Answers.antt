@@ -1,6 +1,4 @@
 use Rattle.std.proofs.Common.{◌≡◌, IfSome, IfNone, subst, arith, rules}
-use Rattle.definitions.specs.Fingerprints.{two_lanes}
-use Rattle.definitions.specs.Wire.{two_lane_profile}
 use Rattle.definitions.specs.Ends.{answer, initiator}
 use Rattle.ends_core.specs.Held.{HasNone}
 use Rattle.ends_core.specs.Turns.{IsJudged, answer_in, behind}
@@ -11,30 +9,41 @@ use Rattle.ends_core.proofs.Parts_taken.{whole-answer, whole-behind, whole-memor
 use Rattle.ends_core.proofs.initiator.Initiator.receive.Goals as goal
 
 pub receive-requires-clause-able : goal.receive-requires-clause-able
-receive-requires-clause-able g c = able (initiator two_lanes) 2 c.self.inside.end (λ P f Ms r a. (c.ends_stand_firm.ensures two_lanes two_lane_profile P f Ms r a).0) c.self.invariant
+receive-requires-clause-able g c =
+    able g.F.Summary.summary g.F.Summary.profile (initiator g.F.Summary.summary) 2 c.self.inside.end
+    (λ P f Ms r a. (c.ends_stand_firm.ensures g.F.Summary.summary g.F.Summary.profile P f Ms r a).0) c.self.invariant
 
 pub receive-requires-clause-room : goal.receive-requires-clause-room
-receive-requires-clause-room g c = countable (initiator two_lanes) 2 c.self.inside.end (omega arith) (λ P f Ms r a. (c.ends_stand_firm.ensures two_lanes two_lane_profile P f Ms r a).0) c.ranks_are_read.ensures c.self.invariant
+receive-requires-clause-room g c =
+    countable g.F.Summary.summary g.F.Summary.profile (initiator g.F.Summary.summary) 2 c.self.inside.end (omega arith)
+    (λ P f Ms r a. (c.ends_stand_firm.ensures g.F.Summary.summary g.F.Summary.profile P f Ms r a).0)
+    c.ranks_are_read.ensures c.self.invariant
 
 pub returns-clause-short : goal.returns-clause-short
 returns-clause-short g c =
-    let short = message-short (initiator two_lanes) c.self.inside.end c.args.message.now c.receive.result (c.replies_are_short.ensures two_lanes)
-    (c.parts_are_taken.ensures two_lanes) c.self.invariant c.receive.ensures.answer in
+    let short = message-short g.F.Summary.summary g.F.Summary.profile
+    (initiator g.F.Summary.summary) c.self.inside.end c.args.message.now c.receive.result
+    (c.replies_are_short.ensures g.F.Summary.summary)
+    (c.parts_are_taken.ensures g.F.Summary.summary) c.self.invariant c.receive.ensures.answer in
     search (rules, short)
 
 pub returns-clause-answer : goal.returns-clause-answer
 returns-clause-answer g c =
-    subst (λ h. HasNone h → IfSome (answer_in c.receive.result) (λ a. a ≡ answer two_lanes h.end c.args.message.now))
+    subst (λ h. HasNone h → IfSome (answer_in c.receive.result)
+    (λ a. a ≡ answer g.F.Summary.summary h.end c.args.message.now))
     c.self.view_is
-    (whole-answer c.self.inside.end c.args.message.now (answer_in c.receive.result) (c.parts_are_taken.ensures two_lanes)
+    (whole-answer g.F.Summary.summary c.self.inside.end c.args.message.now (answer_in c.receive.result)
+    (c.parts_are_taken.ensures g.F.Summary.summary)
     c.receive.ensures.answer)
 
 pub returns-clause-behind : goal.returns-clause-behind
 returns-clause-behind g c =
-    subst (λ h. HasNone h → IfSome (answer_in c.receive.result) (λ a. c.receive.new.self ≡ behind h c.args.message.now))
+    subst (λ h. HasNone h → IfSome (answer_in c.receive.result)
+    (λ a. c.receive.new.self ≡ behind g.F.Summary.summary h c.args.message.now))
     c.self.view_is
-    (whole-behind c.self.inside.end c.receive.new.self c.args.message.now (answer_in c.receive.result)
-    (c.parts_are_taken.ensures two_lanes) c.receive.ensures.answer c.receive.ensures.behind)
+    (whole-behind g.F.Summary.summary c.self.inside.end c.receive.new.self c.args.message.now
+    (answer_in c.receive.result)
+    (c.parts_are_taken.ensures g.F.Summary.summary) c.receive.ensures.answer c.receive.ensures.behind)
 
 pub returns-clause-memory : goal.returns-clause-memory
 returns-clause-memory g c =
@@ -43,18 +52,26 @@ returns-clause-memory g c =
 
 pub invariant_of-self : goal.invariant_of-self
 invariant_of-self g c =
-    stands-received (initiator two_lanes) c.self.inside.end c.receive.new.self c.args.message.now (answer_in c.receive.result)
-    (c.ends_hear_on.ensures two_lanes, c.ends_keep_peers.ensures two_lanes, c.parts_are_taken.ensures two_lanes)
-    c.parts-parts.ensures.message.parts c.receive.ensures.answer c.receive.ensures.behind c.receive.ensures.memory c.self.invariant
+    stands-received g.F.Summary.summary g.F.Summary.profile
+    (initiator g.F.Summary.summary) c.self.inside.end c.receive.new.self c.args.message.now (answer_in c.receive.result) (
+      c.ends_hear_on.ensures g.F.Summary.summary,
+      c.ends_keep_peers.ensures g.F.Summary.summary,
+      c.parts_are_taken.ensures g.F.Summary.summary,
+    )
+    c.parts-parts.ensures.message.parts c.receive.ensures.answer c.receive.ensures.behind c.receive.ensures.memory
+    c.self.invariant
 
 pub returns-clause-judged : goal.returns-clause-judged
 returns-clause-judged g c =
-    let rise = c.messages_have_ranges.ensures two_lane_profile c.args.message.now c.parts-parts.ensures.message in
+    let rise = c.messages_have_ranges.ensures g.F.Summary.profile c.args.message.now c.parts-parts.ensures.message in
     let has =
-    able (initiator two_lanes) 2 c.self.inside.end (λ P f Ms r a. (c.ends_stand_firm.ensures two_lanes two_lane_profile P f Ms r a).0)
+    able g.F.Summary.summary g.F.Summary.profile (initiator g.F.Summary.summary) 2 c.self.inside.end
+    (λ P f Ms r a. (c.ends_stand_firm.ensures g.F.Summary.summary g.F.Summary.profile P f Ms r a).0)
     c.self.invariant in
     subst (λ h. HasNone h → IsJudged h c.args.message.now c.receive.result) c.self.view_is
-    (λ none. judged c.self.inside.end c.args.message.now c.receive.result c.placing_is_exact.ensures c.opening_is_exact.ensures
+    (λ none. judged g.F.Summary.summary c.self.inside.end c.args.message.now c.receive.result c.placing_is_exact.ensures
+    c.opening_is_exact.ensures
     has.apart rise
-    (whole-answer c.self.inside.end c.args.message.now (answer_in c.receive.result) (c.parts_are_taken.ensures two_lanes)
+    (whole-answer g.F.Summary.summary c.self.inside.end c.args.message.now (answer_in c.receive.result)
+    (c.parts_are_taken.ensures g.F.Summary.summary)
     c.receive.ensures.answer none))

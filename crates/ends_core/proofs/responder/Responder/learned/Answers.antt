@@ -1,5 +1,3 @@
-use Rattle.definitions.specs.Fingerprints.{two_lanes}
-use Rattle.definitions.specs.Wire.{two_lane_profile}
 use Rattle.definitions.specs.Ends.{responder}
 use Rattle.std.proofs.Common.{rules}
 use Rattle.ends_core.proofs.Standing.{firm}
@@ -7,10 +5,14 @@ use Rattle.ends_core.proofs.responder.Responder.learned.Goals as goal
 
 pub returns-clause-ours : goal.returns-clause-ours
 returns-clause-ours g c =
-    let once = (firm responder 1 c.self.inside.end (λ P f Ms r a. (c.ends_stand_firm.ensures two_lanes two_lane_profile P f Ms r a).1) c.self.invariant).settled.ours in
+    let once = (firm g.F.Summary.summary g.F.Summary.profile responder 1 c.self.inside.end
+    (λ P f Ms r a. (c.ends_stand_firm.ensures g.F.Summary.summary g.F.Summary.profile P f Ms r a).1)
+    c.self.invariant).settled.ours in
     search (rules, once)
 
 pub returns-clause-theirs : goal.returns-clause-theirs
 returns-clause-theirs g c =
-    let once = (firm responder 1 c.self.inside.end (λ P f Ms r a. (c.ends_stand_firm.ensures two_lanes two_lane_profile P f Ms r a).1) c.self.invariant).settled.theirs in
+    let once = (firm g.F.Summary.summary g.F.Summary.profile responder 1 c.self.inside.end
+    (λ P f Ms r a. (c.ends_stand_firm.ensures g.F.Summary.summary g.F.Summary.profile P f Ms r a).1)
+    c.self.invariant).settled.theirs in
     search (rules, once)

@@ -9,8 +9,11 @@ use Rattle.peer_threads.proofs.inbox.Inbox.next.Goals as goal
 
 pub reads-init : goal.reads-init
 reads-init g c =
-    let unread = g.R.Read.remaining c.args.reader.now.inner in
-    (reads_nothing unread c.args.self.now (HasRead c.args.self.now) (λ bytes es fits has. has), omega arith)
+    let unread = g.R.Read.remaining c.args.reader.now.inner in (
+      reads_nothing g.F.Summary.profile g.met.F.Summary.real unread c.args.self.now (HasRead g.F.Summary.profile
+          c.args.self.now) (λ bytes es fits has. has),
+      omega arith,
+    )
 
 pub returns-in_err-event-clause-read : goal.returns-in_err-event-clause-read
 returns-in_err-event-clause-read g c =
@@ -19,9 +22,11 @@ returns-in_err-event-clause-read g c =
     let is : c.from_residual.result ≡ Err c.in_err-event.field-0.0 = search rules in
     let over = seen c.reads.reader.failed c.reads.reader.ended in
     let new = c.next_held.new.self in
-    reads_so unread left c.args.self.now (HasRead c.reads.self)
-    (λ bytes es. Next over new bytes es c.from_residual.result)
-    (λ bytes es fits has. subst (Next over new bytes es) (sym is) (c.in_err-event.ensures.held bytes es fits has over))
+    reads_so g.F.Summary.profile g.met.F.Summary.real unread left c.args.self.now (HasRead g.F.Summary.profile
+    c.reads.self)
+    (λ bytes es. Next g.F.Summary.profile over new bytes es c.from_residual.result)
+    (λ bytes es fits has. subst (Next g.F.Summary.profile over new bytes es) (sym is)
+    (c.in_err-event.ensures.held bytes es fits has over))
     c.reads.invariant.0
 
 pub returns-in-Some-clause-read : goal.returns-in-Some-clause-read
@@ -30,9 +35,11 @@ returns-in-Some-clause-read g c =
     let left = g.R.Read.remaining c.reads.reader.inner in
     let over = seen c.reads.reader.failed c.reads.reader.ended in
     let new = c.next_held.new.self in
-    reads_so unread left c.args.self.now (HasRead c.reads.self)
-    (λ bytes es. HasRead new bytes (es ++ event_value c.in-Some.event ∷ []))
-    (λ bytes es fits has. subst (λ (made : Option declared.Event). Held over new bytes es (Ok made)) c.in-Some.is
+    reads_so g.F.Summary.profile g.met.F.Summary.real unread left c.args.self.now (HasRead g.F.Summary.profile
+    c.reads.self)
+    (λ bytes es. HasRead g.F.Summary.profile new bytes (es ++ event_value c.in-Some.event ∷ []))
+    (λ bytes es fits has. subst (λ (made : Option (declared.Event g.row.F.Denot)). Held g.F.Summary.profile over new
+    bytes es (Ok made)) c.in-Some.is
     (c.in_ok-event.ensures.held bytes es fits has over))
     c.reads.invariant.0
 
@@ -44,8 +51,10 @@ reads-preserved g c =
     let over = seen c.reads.reader.failed c.reads.reader.ended in
     let fed = c.next_held.new.self in
     let new = c.read_more.new.self in
-    let all = reads_more unread mid left c.args.self.now c.reads.self fed (HasRead new) c.reads.invariant.0
-    (λ bytes es fits has. subst (λ (made : Option declared.Event). Held over fed bytes es (Ok made)) c.in-None.is
+    let all = reads_more g.F.Summary.profile g.met.F.Summary.real unread mid left c.args.self.now c.reads.self fed
+    (HasRead g.F.Summary.profile new) c.reads.invariant.0
+    (λ bytes es fits has. subst (λ (made : Option (declared.Event g.row.F.Denot)). Held g.F.Summary.profile over fed
+    bytes es (Ok made)) c.in-None.is
     (c.in_ok-event.ensures.held bytes es fits has over))
     c.in_ok-read_more-in-None.ensures.read in
     let before = c.reads.invariant.1 in
@@ -65,14 +74,19 @@ returns-in_err-read_more-in-None-clause-read g c =
     let fed = c.next_held.new.self in
     let new = c.read_more.new.self in
     let none = subst
-    (λ (made : Option declared.Event). IfNone made ((fed.waiting ≡ []) × (fault_at fed.feed.standing ≡ None)))
+    (λ (made : Option (declared.Event g.row.F.Denot)). IfNone made ((fed.waiting ≡ []) ×
+    (fault_at fed.feed.standing ≡ None)))
     c.in-None.is c.in_ok-event.ensures.none in
     let fine : fault_at new.feed.standing ≡ None =
     ap (λ (s : StreamState). fault_at s.standing) c.read_more.ensures.feed ∙ none.1 in
-    reads_more unread mid left c.args.self.now c.reads.self fed (λ bytes es. Next over new bytes es result)
+    reads_more g.F.Summary.profile g.met.F.Summary.real unread mid left c.args.self.now c.reads.self fed
+    (λ bytes es. Next g.F.Summary.profile over new bytes es result)
     c.reads.invariant.0
-    (λ bytes es fits has. subst (λ (made : Option declared.Event). Held over fed bytes es (Ok made)) c.in-None.is
+    (λ bytes es fits has. subst (λ (made : Option (declared.Event g.row.F.Denot)). Held g.F.Summary.profile over fed
+    bytes es (Ok made)) c.in-None.is
     (c.in_ok-event.ensures.held bytes es fits has over))
-    (reads_so mid left fed (λ bytes es. FetchStops over new bytes es stop) (λ bytes es. Next over new bytes es result)
-    (λ bytes es fits stopped. subst (Next over new bytes es) (sym is) (fetch_stops over new stop fine bytes es stopped))
+    (reads_so g.F.Summary.profile g.met.F.Summary.real mid left fed (λ bytes es. FetchStops g.F.Summary.profile over new
+    bytes es stop) (λ bytes es. Next g.F.Summary.profile over new bytes es result)
+    (λ bytes es fits stopped. subst (Next g.F.Summary.profile over new bytes es) (sym is)
+    (fetch_stops g.F.Summary.profile g.met.F.Summary.real over new stop fine bytes es stopped))
     c.in_err-read_more-in-None.ensures.read)

@@ -5,7 +5,7 @@ use Rattle.peer_threads.proofs.InboxSteps.{held, stopped}
 use Rattle.peer_threads.proofs.inbox.Inbox.next_held.Goals as goal
 
 pub returns-in_err-taken-clause-held : goal.returns-in_err-taken-clause-held
-returns-in_err-taken-clause-held c =
+returns-in_err-taken-clause-held g c =
     let inside = c.self.inside in
     let old : InboxState = record { feed = inside.feed; waiting = inside.piece; reads = inside.reads } in
     let new : InboxState = record { feed = c.next.new.self; waiting = inside.piece; reads = inside.reads } in
@@ -14,12 +14,13 @@ returns-in_err-taken-clause-held c =
     let rest = c.rest.result.now in
     let parts = sym c.rest.ensures ∙ sym (append-nil rest) in
     let did = c.in_err-taken.ensures in
-    λ bytes es fits has over. subst (Held over new bytes es) (sym is)
-    (stopped old c.next.new.self rest [] e parts did.next did.fault did.joined bytes es fits
-    (subst (λ (b : InboxState). HasRead b bytes es) (sym c.self.view_is) has) over)
+    λ bytes es fits has over. subst (Held g.F.Summary.profile over new bytes es) (sym is)
+    (stopped g.F.Summary.profile g.met.F.Summary.real old c.next.new.self rest [] e parts did.next did.fault did.joined
+    bytes es fits
+    (subst (λ (b : InboxState). HasRead g.F.Summary.profile b bytes es) (sym c.self.view_is) has) over)
 
 pub returns-clause-held : goal.returns-clause-held
-returns-clause-held c =
+returns-clause-held g c =
     let inside = c.self.inside in
     let old : InboxState = record { feed = inside.feed; waiting = inside.piece; reads = inside.reads } in
     let new : InboxState = record { feed = c.next.new.self; waiting = c.skip.new.self; reads = inside.reads } in
@@ -27,4 +28,5 @@ returns-clause-held c =
     let taken = c.in_ok-taken.taken in
     let event = c.in_ok-taken.event in
     rw (← c.self.view_is)
-    (held old new c.rest.result.now c.rest.ensures taken event did.next did.joined c.skip.ensures refl)
+    (held g.F.Summary.profile g.met.F.Summary.real old new c.rest.result.now c.rest.ensures taken event did.next
+    did.joined c.skip.ensures refl)

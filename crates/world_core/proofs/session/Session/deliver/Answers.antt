@@ -4,6 +4,6 @@ use Rattle.laws.specs.Growing.{is_even}
 use Rattle.world_core.proofs.session.Session.deliver.Goals as goal
 
 pub returns-then-is_even-clause-session : goal.returns-then-is_even-clause-session
-returns-then-is_even-clause-session c =
+returns-then-is_even-clause-session g c =
     let t : is_even c.args.self.now.delivered ≡ true = sym c.is_even.ensures ∙ c.if-is_even.true in
     rw t (c.deliver_to_responder.ensures.session)

@@ -1,72 +1,122 @@
 use Rattle.std.proofs.Common.{◌≡◌, refl, sym, ap, ◌∙◌, subst, arith, ◌<◌, ◌≤◌}
 use Rattle.std.specs.Prelude.{slice_get, Some}
 use Rattle.std.proofs.lemmas.Option.{slice_get_read}
-use Rattle.definitions.specs.Fingerprints.{two_lanes}
 use Rattle.definitions.specs.Sets.{set_of}
 use Rattle.definitions.specs.Theorems.{node_of}
 use Rattle.definitions.specs.Worlds as worlds
 use Rattle.world_core.specs.Live.{made, session_of}
 use Rattle.world_core.specs.Steps.{did_of, side_of, AbsorbsSome}
+use Rattle.world_core.specs.Reports.{knowledge_of}
 use Rattle.world_core.specs.Shown.{learned_by}
 use Rattle.world_core.proofs.Delivering.{Laws}
-use Rattle.world_core.proofs.Ended.{absorb_idle, absorb_is, absorbs_none, absorbed_world, absorbed_did, absorbed_memory, OnErr-any}
+use Rattle.world_core.proofs.Ended.{absorb_idle, absorb_is, absorbs_none, absorbed_world, absorbed_did, absorbed_memory, same_theirs, OnErr-any}
 use Rattle.world_core.proofs.world.World.absorb.Goals as goal
 
 pub returns-then-session-messages-clause-world : goal.returns-then-session-messages-clause-world
-returns-then-session-messages-clause-world c =
-    let laws : Laws = record { exact = c.lanes_are_exact.ensures; tell = c.sessions_tell.ensures two_lanes } in
+returns-then-session-messages-clause-world g c =
+    let laws : Laws g.F.Summary.summary = record {
+      exact = g.met.F.Summary.exact;
+      tell = c.sessions_tell.ensures g.F.Summary.summary;
+    } in
     let there : slice_get c.self.inside.sessions.items c.args.number ≡ Some c.in-Some.session.now =
     subst (λ xs. slice_get xs c.args.number ≡ Some c.in-Some.session.now) c.deref.ensures.value
-    (slice_get_read c.deref.result.now _ c.args.number c.in-Some.session.now refl c.in-Some.ensures.lookup.3.0 c.in-Some.ensures.lookup.1) in
+    (slice_get_read c.deref.result.now _ c.args.number c.in-Some.session.now refl c.in-Some.ensures.lookup.3.0
+    c.in-Some.ensures.lookup.1) in
     let more : c.in-Some.session.now.delivered < made c.in-Some.session.now = omega (arith, c.messages.ensures.made) in
-    sym (ap (λ p. p.0) (absorb_idle laws c.args.self.now c.self.inside.nodes.items c.self.inside.sessions.items c.args.number c.in-Some.session.now (side_of c.args.side) c.self.view_is c.self.invariant there more))
+    sym (ap (λ p. p.0) (absorb_idle g.F.Summary.summary laws c.args.self.now c.self.inside.nodes.items
+    c.self.inside.sessions.items c.args.number c.in-Some.session.now
+    (side_of c.args.side) c.self.view_is c.self.invariant there more))
 
 pub returns-then-session-messages-clause-did : goal.returns-then-session-messages-clause-did
-returns-then-session-messages-clause-did c =
-    let laws : Laws = record { exact = c.lanes_are_exact.ensures; tell = c.sessions_tell.ensures two_lanes } in
+returns-then-session-messages-clause-did g c =
+    let laws : Laws g.F.Summary.summary = record {
+      exact = g.met.F.Summary.exact;
+      tell = c.sessions_tell.ensures g.F.Summary.summary;
+    } in
     let there : slice_get c.self.inside.sessions.items c.args.number ≡ Some c.in-Some.session.now =
     subst (λ xs. slice_get xs c.args.number ≡ Some c.in-Some.session.now) c.deref.ensures.value
-    (slice_get_read c.deref.result.now _ c.args.number c.in-Some.session.now refl c.in-Some.ensures.lookup.3.0 c.in-Some.ensures.lookup.1) in
+    (slice_get_read c.deref.result.now _ c.args.number c.in-Some.session.now refl c.in-Some.ensures.lookup.3.0
+    c.in-Some.ensures.lookup.1) in
     let more : c.in-Some.session.now.delivered < made c.in-Some.session.now = omega (arith, c.messages.ensures.made) in
-    sym (ap (λ p. p.1) (absorb_idle laws c.args.self.now c.self.inside.nodes.items c.self.inside.sessions.items c.args.number c.in-Some.session.now (side_of c.args.side) c.self.view_is c.self.invariant there more))
+    sym (ap (λ p. p.1) (absorb_idle g.F.Summary.summary laws c.args.self.now c.self.inside.nodes.items
+    c.self.inside.sessions.items c.args.number c.in-Some.session.now
+    (side_of c.args.side) c.self.view_is c.self.invariant there more))
 
 pub returns-in_err-items-clause-memory : goal.returns-in_err-items-clause-memory
-returns-in_err-items-clause-memory c =
-    let laws : Laws = record { exact = c.lanes_are_exact.ensures; tell = c.sessions_tell.ensures two_lanes } in
+returns-in_err-items-clause-memory g c =
+    let laws : Laws g.F.Summary.summary = record {
+      exact = g.met.F.Summary.exact;
+      tell = c.sessions_tell.ensures g.F.Summary.summary;
+    } in
     let there : slice_get c.self.inside.sessions.items c.args.number ≡ Some c.in-Some.session.now =
     subst (λ xs. slice_get xs c.args.number ≡ Some c.in-Some.session.now) c.deref.ensures.value
-    (slice_get_read c.deref.result.now _ c.args.number c.in-Some.session.now refl c.in-Some.ensures.lookup.3.0 c.in-Some.ensures.lookup.1) in
+    (slice_get_read c.deref.result.now _ c.args.number c.in-Some.session.now refl c.in-Some.ensures.lookup.3.0
+    c.in-Some.ensures.lookup.1) in
     let less : made c.in-Some.session.now ≤ c.in-Some.session.now.delivered = omega (arith, c.messages.ensures.made) in
     OnErr-any c.from_residual.result
-    (AbsorbsSome c.args.self.now c.args.number (side_of c.args.side) c.args.self.now)
-    (absorbs_none laws c.args.self.now c.self.inside.nodes.items c.self.inside.sessions.items c.args.number c.in-Some.session.now (side_of c.args.side) c.self.view_is c.self.invariant there less)
+    (AbsorbsSome g.F.Summary.summary c.args.self.now c.args.number (side_of c.args.side) c.args.self.now)
+    (absorbs_none g.F.Summary.summary laws c.args.self.now c.self.inside.nodes.items c.self.inside.sessions.items
+    c.args.number c.in-Some.session.now (side_of c.args.side) c.self.view_is c.self.invariant there less)
 
 pub returns-clause-world : goal.returns-clause-world
-returns-clause-world c =
-    let laws : Laws = record { exact = c.lanes_are_exact.ensures; tell = c.sessions_tell.ensures two_lanes } in
+returns-clause-world g c =
+    let laws : Laws g.F.Summary.summary = record {
+      exact = g.met.F.Summary.exact;
+      tell = c.sessions_tell.ensures g.F.Summary.summary;
+    } in
     let there : slice_get c.self.inside.sessions.items c.args.number ≡ Some c.in-Some.session.now =
     subst (λ xs. slice_get xs c.args.number ≡ Some c.in-Some.session.now) c.deref.ensures.value
-    (slice_get_read c.deref.result.now _ c.args.number c.in-Some.session.now refl c.in-Some.ensures.lookup.3.0 c.in-Some.ensures.lookup.1) in
+    (slice_get_read c.deref.result.now _ c.args.number c.in-Some.session.now refl c.in-Some.ensures.lookup.3.0
+    c.in-Some.ensures.lookup.1) in
     let less : made c.in-Some.session.now ≤ c.in-Some.session.now.delivered = omega (arith, c.messages.ensures.made) in
-    let learned : c.in_ok-items.items.items ≡ set_of (learned_by c.in-Some.session.now (side_of c.args.side)).theirs = c.in_ok-items.ensures ∙ ap (λ k. set_of k.theirs) c.learned.ensures in
-    absorbed_world c.absorb_items.result c.args.self.now c.absorb_items.new.self c.node-node.result (node_of (session_of c.in-Some.session.now) (side_of c.args.side)) c.deref-2.result.now c.in_ok-items.items.items (worlds.absorb_at two_lanes c.args.self.now (side_of c.args.side) (slice_get c.args.self.now.sessions c.args.number)) c.absorb_items.ensures.world c.node-node.ensures c.deref-2.ensures.value (absorb_is laws c.args.self.now c.self.inside.nodes.items c.self.inside.sessions.items c.args.number c.in-Some.session.now (side_of c.args.side) c.in_ok-items.items.items c.self.view_is c.self.invariant there less learned)
+    let learned : c.in_ok-items.items.items ≡ set_of (learned_by c.in-Some.session.now (side_of c.args.side)).theirs =
+    same_theirs c.in_ok-items.items.items (knowledge_of c.learned.result)
+    (learned_by c.in-Some.session.now (side_of c.args.side)) c.in_ok-items.ensures c.learned.ensures in
+    absorbed_world c.absorb_items.result c.args.self.now c.absorb_items.new.self c.node-node.result
+    (node_of (session_of c.in-Some.session.now) (side_of c.args.side)) c.deref-2.result.now c.in_ok-items.items.items
+    (worlds.absorb_at g.F.Summary.summary c.args.self.now (side_of c.args.side)
+    (slice_get c.args.self.now.sessions c.args.number)) c.absorb_items.ensures.world c.node-node.ensures
+    c.deref-2.ensures.value (absorb_is g.F.Summary.summary laws c.args.self.now c.self.inside.nodes.items
+    c.self.inside.sessions.items c.args.number c.in-Some.session.now (side_of c.args.side) c.in_ok-items.items.items
+    c.self.view_is c.self.invariant there less learned)
 
 pub returns-clause-did : goal.returns-clause-did
-returns-clause-did c =
-    let laws : Laws = record { exact = c.lanes_are_exact.ensures; tell = c.sessions_tell.ensures two_lanes } in
+returns-clause-did g c =
+    let laws : Laws g.F.Summary.summary = record {
+      exact = g.met.F.Summary.exact;
+      tell = c.sessions_tell.ensures g.F.Summary.summary;
+    } in
     let there : slice_get c.self.inside.sessions.items c.args.number ≡ Some c.in-Some.session.now =
     subst (λ xs. slice_get xs c.args.number ≡ Some c.in-Some.session.now) c.deref.ensures.value
-    (slice_get_read c.deref.result.now _ c.args.number c.in-Some.session.now refl c.in-Some.ensures.lookup.3.0 c.in-Some.ensures.lookup.1) in
+    (slice_get_read c.deref.result.now _ c.args.number c.in-Some.session.now refl c.in-Some.ensures.lookup.3.0
+    c.in-Some.ensures.lookup.1) in
     let less : made c.in-Some.session.now ≤ c.in-Some.session.now.delivered = omega (arith, c.messages.ensures.made) in
-    let learned : c.in_ok-items.items.items ≡ set_of (learned_by c.in-Some.session.now (side_of c.args.side)).theirs = c.in_ok-items.ensures ∙ ap (λ k. set_of k.theirs) c.learned.ensures in
-    absorbed_did did_of c.absorb_items.result c.args.self.now c.node-node.result (node_of (session_of c.in-Some.session.now) (side_of c.args.side)) c.deref-2.result.now c.in_ok-items.items.items (worlds.absorb_at two_lanes c.args.self.now (side_of c.args.side) (slice_get c.args.self.now.sessions c.args.number)) c.absorb_items.ensures.added c.node-node.ensures c.deref-2.ensures.value (absorb_is laws c.args.self.now c.self.inside.nodes.items c.self.inside.sessions.items c.args.number c.in-Some.session.now (side_of c.args.side) c.in_ok-items.items.items c.self.view_is c.self.invariant there less learned)
+    let learned : c.in_ok-items.items.items ≡ set_of (learned_by c.in-Some.session.now (side_of c.args.side)).theirs =
+    same_theirs c.in_ok-items.items.items (knowledge_of c.learned.result)
+    (learned_by c.in-Some.session.now (side_of c.args.side)) c.in_ok-items.ensures c.learned.ensures in
+    absorbed_did did_of c.absorb_items.result c.args.self.now c.node-node.result
+    (node_of (session_of c.in-Some.session.now) (side_of c.args.side)) c.deref-2.result.now c.in_ok-items.items.items
+    (worlds.absorb_at g.F.Summary.summary c.args.self.now (side_of c.args.side)
+    (slice_get c.args.self.now.sessions c.args.number)) c.absorb_items.ensures.added c.node-node.ensures
+    c.deref-2.ensures.value (absorb_is g.F.Summary.summary laws c.args.self.now c.self.inside.nodes.items
+    c.self.inside.sessions.items c.args.number c.in-Some.session.now (side_of c.args.side) c.in_ok-items.items.items
+    c.self.view_is c.self.invariant there less learned)
 
 pub returns-clause-memory : goal.returns-clause-memory
-returns-clause-memory c =
-    let laws : Laws = record { exact = c.lanes_are_exact.ensures; tell = c.sessions_tell.ensures two_lanes } in
+returns-clause-memory g c =
+    let laws : Laws g.F.Summary.summary = record {
+      exact = g.met.F.Summary.exact;
+      tell = c.sessions_tell.ensures g.F.Summary.summary;
+    } in
     let there : slice_get c.self.inside.sessions.items c.args.number ≡ Some c.in-Some.session.now =
     subst (λ xs. slice_get xs c.args.number ≡ Some c.in-Some.session.now) c.deref.ensures.value
-    (slice_get_read c.deref.result.now _ c.args.number c.in-Some.session.now refl c.in-Some.ensures.lookup.3.0 c.in-Some.ensures.lookup.1) in
+    (slice_get_read c.deref.result.now _ c.args.number c.in-Some.session.now refl c.in-Some.ensures.lookup.3.0
+    c.in-Some.ensures.lookup.1) in
     let less : made c.in-Some.session.now ≤ c.in-Some.session.now.delivered = omega (arith, c.messages.ensures.made) in
-    let learned : c.in_ok-items.items.items ≡ set_of (learned_by c.in-Some.session.now (side_of c.args.side)).theirs = c.in_ok-items.ensures ∙ ap (λ k. set_of k.theirs) c.learned.ensures in
-    absorbed_memory c.absorb_items.result laws c.args.self.now c.absorb_items.new.self c.self.inside.nodes.items c.self.inside.sessions.items c.args.number c.in-Some.session.now (side_of c.args.side) c.node-node.result c.deref-2.result.now c.self.view_is c.self.invariant there less (c.deref-2.ensures.value ∙ learned) c.node-node.ensures c.absorb_items.ensures.memory
+    let learned : c.in_ok-items.items.items ≡ set_of (learned_by c.in-Some.session.now (side_of c.args.side)).theirs =
+    same_theirs c.in_ok-items.items.items (knowledge_of c.learned.result)
+    (learned_by c.in-Some.session.now (side_of c.args.side)) c.in_ok-items.ensures c.learned.ensures in
+    absorbed_memory g.F.Summary.summary c.absorb_items.result laws c.args.self.now c.absorb_items.new.self
+    c.self.inside.nodes.items c.self.inside.sessions.items c.args.number c.in-Some.session.now
+    (side_of c.args.side) c.node-node.result c.deref-2.result.now c.self.view_is c.self.invariant there less
+    (c.deref-2.ensures.value ∙ learned) c.node-node.ensures c.absorb_items.ensures.memory

@@ -1,7 +1,8 @@
-use Rattle.definitions.specs.Fingerprints.{two_lanes}
 use Rattle.world_core.specs.Steps.{step_of}
 use Rattle.world_core.proofs.Runs.{absorbs_by}
 use Rattle.world_core.proofs.world.World.step.Goals as goal
 
 pub returns-clause-absorbed : goal.returns-clause-absorbed
-returns-clause-absorbed c = absorbs_by c.do_step.result (c.absorb_claim.ensures two_lanes) c.lanes_are_exact.ensures c.args.self.now c.do_step.new.self (step_of c.args.step) c.do_step.ensures.world
+returns-clause-absorbed g c =
+    absorbs_by g.F.Summary.summary c.do_step.result (c.absorb_claim.ensures g.F.Summary.summary) g.met.F.Summary.exact
+    c.args.self.now c.do_step.new.self (step_of c.args.step) c.do_step.ensures.world

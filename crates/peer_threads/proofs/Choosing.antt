@@ -1,0 +1,271 @@
+-- The session in the profile that the first four bytes choose.
+--
+-- Behind four bytes that were read, all that is read begins with them, so they choose the profile of all. Where fewer
+-- came, they are not the hello of the counted profile.
+use Rattle.std.proofs.Common.{rules, ◌≡◌, ℕ, ◌<◌, ◌≤◌, inl, inr, Bool, true, false, List, [], length, take}
+use Rattle.std.proofs.Common.{Option, refl, sym, ap, ◌∙◌, subst, arith, nat_lt}
+use Rattle.std.specs.Prelude.{bytes_eq}
+use Rattle.std.proofs.lemmas.List.{length-take}
+use Rattle.std.proofs.Math.Seq.{take-length}
+use Rattle.std.proofs.KnownBytes.{Appends-nil}
+use Rattle.std.specs.Io.KnownBytes.{Consumes}
+use Rattle.definitions.proofs.Lemmas.{bytes_eq-Decides}
+use Rattle.definitions.specs.Accounts.{Seen}
+use Rattle.definitions.specs.Engines.{Speaker, responding}
+use Rattle.definitions.specs.Fingerprints.{Summary, two_lanes, counted_lanes}
+use Rattle.definitions.specs.Items.{IsBytes}
+use Rattle.definitions.specs.Replies.{Peer}
+use Rattle.definitions.specs.Streams.{Before_hello, Fed, feed, stays}
+use Rattle.definitions.specs.Wire.{Profile, two_lane_profile, counted_profile}
+use Rattle.wire_core.specs.Feeds.{fault_at}
+use Rattle.peer_threads.specs.declared.outcome.Outcome.{Outcome}
+use Rattle.peer_threads.specs.declared.outcome.Outcome.TheVariants as outcomes
+use Rattle.peer_threads.specs.declared.stop.Stop.{Stop}
+use Rattle.peer_threads.specs.declared.stop.Stop.TheVariants as stops
+use Rattle.peer_threads.specs.Choices.{is_counted, ChosenSpeaks, ChosenUnopened, ChosenFirst}
+use Rattle.peer_threads.specs.Hellos.{NoHello}
+use Rattle.peer_threads.specs.Inboxes.{StopsAt}
+use Rattle.peer_threads.specs.Outboxes.{OutboxState, outbox_state}
+use Rattle.peer_threads.specs.Outcomes.{Origin, Reader, Behind, traffic, traffic_of, traffic_behind, SaidAll}
+use Rattle.peer_threads.specs.Outcomes.{Bears}
+use Rattle.peer_threads.specs.Outcomes.{BearsUnopened, IsModest, Speaks, SpeaksUnopened, Unopened, CameFirst, sent_in}
+use Rattle.peer_threads.specs.Stops.{outcome_of}
+use Rattle.peer_threads.specs.Underway.{WhyStopped, IsNone, Leaves, first_held}
+use Rattle.peer_threads.proofs.Endings.{anyhow, bears, bears-unopened}
+use Rattle.peer_threads.proofs.Exchanges.{Laws, why-unheard}
+use Rattle.peer_threads.proofs.Origins.{takes-all, begins-alike}
+
+-- ---- what an outcome says is said of what was written, wherever the bytes read come from
+
+module _ {F : Type 0} (S : Summary F) (W : Profile F) where
+  said-of : (s : Speaker F) (o q : Origin) (left held holds : Option (List ℕ)) (bytes : List ℕ) (sent : ℕ) →
+      SaidAll S W s (traffic_of o left held holds) bytes sent → SaidAll S W s (traffic_of q left held holds) bytes sent
+  said-of s o q left held holds bytes sent x = record { written = x.written; count = x.count }
+
+  bears-of : (s : Speaker F) (version : ℕ) (o q : Origin) (left held holds : Option (List ℕ)) (r w : Seen)
+      (bytes : List ℕ) (x : Outcome) → Bears S W s version (traffic_of o left held holds) r w bytes x →
+      Bears S W s version (traffic_of q left held holds) r w bytes x
+  bears-of s version o q left held holds r w bytes (outcomes.Ended learned sent n) b =
+      (said-of s o q left held holds bytes sent b.0, b.1, b.2)
+  bears-of s version o q left held holds r w bytes (outcomes.PeerRefused code sent) b =
+      (said-of s o q left held holds bytes sent b.0, b.1, b.2)
+  bears-of s version o q left held holds r w bytes (outcomes.Refused code sent) b = b
+  bears-of s version o q left held holds r w bytes (outcomes.Io side sent) b = b
+  bears-of s version o q left held holds r w bytes (outcomes.Memory sent) b = b
+
+  unopened-of : (s : Speaker F) (version : ℕ) (o q : Origin) (left held holds : Option (List ℕ)) (r w : Seen)
+      (bytes : List ℕ) (x : Outcome) → BearsUnopened S W s version (traffic_of o left held holds) r w bytes x →
+      BearsUnopened S W s version (traffic_of q left held holds) r w bytes x
+  unopened-of s version o q left held holds r w bytes (outcomes.Ended learned sent n) b = absurd b
+  unopened-of s version o q left held holds r w bytes (outcomes.PeerRefused code sent) b =
+      bears-of s version o q left held holds r w bytes (outcomes.PeerRefused code sent) b
+  unopened-of s version o q left held holds r w bytes (outcomes.Refused code sent) b = b
+  unopened-of s version o q left held holds r w bytes (outcomes.Io side sent) b = b
+  unopened-of s version o q left held holds r w bytes (outcomes.Memory sent) b = b
+
+  -- ---- all that was read, the first four bytes too
+
+  speaks-all : (fits : Type 0) (s : Speaker F) (version bound limit : ℕ) (front : List ℕ)
+      (unread mid left held holds : Option (List ℕ)) (r w : Seen) (o : Outcome) → length front ≡ 4 →
+      Consumes unread mid front →
+      Speaks S W fits s version bound limit (traffic_behind front mid left held holds) r w o →
+      (x : Speaks S W fits s version bound limit (traffic unread left held holds) r w o)
+      × (is_counted x.bytes ≡ is_counted front)
+  speaks-all fits s version bound limit front unread mid left held holds r w o four first x = (
+    record {
+      bytes = x.bytes;
+      read = takes-all front x.bytes unread mid left first x.read;
+      bears = bears-of s version (Behind front mid) (Reader unread) left held holds r w x.bytes o x.bears;
+      sent = x.sent;
+      modest = x.modest;
+    },
+    begins-alike counted_profile front x.bytes mid left four x.read,
+  )
+
+  speaks-unopened-all : (s : Speaker F) (version : ℕ) (front : List ℕ) (unread mid left held holds : Option (List ℕ))
+      (r w : Seen) (o : Outcome) → length front ≡ 4 → Consumes unread mid front →
+      SpeaksUnopened S W s version (traffic_behind front mid left held holds) r w o →
+      (x : SpeaksUnopened S W s version (traffic unread left held holds) r w o)
+      × (is_counted x.bytes ≡ is_counted front)
+  speaks-unopened-all s version front unread mid left held holds r w o four first x = (
+    record {
+      bytes = x.bytes;
+      read = takes-all front x.bytes unread mid left first x.read;
+      bears = unopened-of s version (Behind front mid) (Reader unread) left held holds r w x.bytes o x.bears;
+    },
+    begins-alike counted_profile front x.bytes mid left four x.read,
+  )
+
+  first-all : (front : List ℕ) (unread mid left : Option (List ℕ)) → length front ≡ 4 → Consumes unread mid front →
+      CameFirst W (Behind front mid) left →
+      (x : CameFirst W (Reader unread) left) × (is_counted x.bytes ≡ is_counted front)
+  first-all front unread mid left four first x = (
+    record {
+      bytes = x.bytes;
+      read = takes-all front x.bytes unread mid left first x.read;
+      part = x.part;
+      first = x.first;
+      later = x.later;
+      messages = x.messages;
+    },
+    begins-alike counted_profile front x.bytes mid left four x.read,
+  )
+
+  -- ---- fewer than four bytes came
+
+  short-feed : (bytes : List ℕ) → length bytes < 4 → feed W Before_hello bytes ≡ stays Before_hello bytes
+  short-feed bytes less = let short : nat_lt (length bytes) 4 ≡ true = search (rules, less) in rw short refl
+
+  unheard-stops : (r : Seen) (bytes : List ℕ) (stop : Stop) → NoHello r bytes stop → StopsAt W r bytes [] stop
+  unheard-stops r bytes (stops.Refused code) x =
+      let fed = short-feed bytes x.less in
+      record {
+        events = ap (λ (f : Fed F). f.events) fed;
+        fault = inr (x.why.0, x.why.1, ap (λ (f : Fed F). fault_at f.to) fed);
+      }
+  unheard-stops r bytes (stops.PeerRefused code) x = absurd x.why
+  unheard-stops r bytes (stops.Io side) x =
+      (x.why.0, inl x.why.1, ([], ap (λ (f : Fed F). f.events) (short-feed bytes x.less)))
+  unheard-stops r bytes stops.Memory x = absurd x.why
+
+  why-short : Laws S W → (P : Peer) (o : OutboxState) (bytes : List ℕ) (unread left held : Option (List ℕ)) (r : Seen)
+      (broken : Bool) (stop : Stop) → o ≡ outbox_state false 0 → NoHello r bytes stop →
+      WhyStopped S W IsNone (responding P) o (traffic unread left held held) r broken bytes stop
+  why-short laws P o bytes unread left held r broken stop new x =
+      why-unheard S W IsNone laws (responding P) (first_held S P []) o (traffic unread left held held) r broken stop
+      bytes [] refl (ap (λ y. y.sent) new) (λ rest all. inr
+      (record { greeted = ap (λ y. y.greeted) new; none = ap (λ y. y.sent) new; written = Appends-nil held })) refl
+      (unheard-stops r bytes stop x)
+
+-- ---- the profile
+
+-- fewer than four bytes begin with no hello
+short-chooses : (bytes : List ℕ) → length bytes < 4 → is_counted bytes ≡ false
+short-chooses bytes less = by (is_counted bytes) refl where
+  by : (b : Bool) → is_counted bytes ≡ b → is_counted bytes ≡ false
+  by true is =
+      let same = ap (λ (l : List ℕ). length l) ((bytes_eq-Decides (take 4 bytes) counted_profile.hello).0 is) in
+      absurd (omega (arith, length-take 4 bytes))
+  by false is = is
+
+pub chooses-counted : (bytes : List ℕ) → bytes ≡ counted_profile.hello → is_counted bytes ≡ true
+chooses-counted bytes is = ap is_counted is
+
+pub chooses-two-lanes : (bytes : List ℕ) → length bytes ≡ 4 → bytes_eq bytes counted_profile.hello ≡ false →
+    is_counted bytes ≡ false
+chooses-two-lanes bytes four other =
+    let whole : take 4 bytes ≡ bytes = ap (λ (n : ℕ). take n bytes) (sym four) ∙ take-length bytes in
+    ap (λ (l : List ℕ). bytes_eq l counted_profile.hello) whole ∙ other
+
+pub counted-speaks : (fits : Type 0) (p : Peer) (version bound limit : ℕ) (front : List ℕ)
+    (unread mid left held holds : Option (List ℕ)) (r w : Seen) (o : Outcome) → length front ≡ 4 →
+    Consumes unread mid front → is_counted front ≡ true →
+    Speaks counted_lanes counted_profile fits (responding p) version bound limit
+    (traffic_behind front mid left held holds) r w o →
+    ChosenSpeaks fits p version bound limit (traffic unread left held holds) r w o
+counted-speaks fits p version bound limit front unread mid left held holds r w o four first is x =
+    let all = speaks-all counted_lanes counted_profile fits (responding p) version bound limit front unread mid left
+    held holds r w o four first x in
+    inl (all.0, all.1 ∙ is)
+
+pub two-lanes-speak : (fits : Type 0) (p : Peer) (version bound limit : ℕ) (front : List ℕ)
+    (unread mid left held holds : Option (List ℕ)) (r w : Seen) (o : Outcome) → length front ≡ 4 →
+    Consumes unread mid front → is_counted front ≡ false →
+    Speaks two_lanes two_lane_profile fits (responding p) version bound limit
+    (traffic_behind front mid left held holds) r w o →
+    ChosenSpeaks fits p version bound limit (traffic unread left held holds) r w o
+two-lanes-speak fits p version bound limit front unread mid left held holds r w o four first is x =
+    let all = speaks-all two_lanes two_lane_profile fits (responding p) version bound limit front unread mid left
+    held holds r w o four first x in
+    inr (all.0, all.1 ∙ is)
+
+pub counted-unopened : (front : List ℕ) (unread mid left held holds : Option (List ℕ)) (r w : Seen) (o : Outcome) →
+    length front ≡ 4 → Consumes unread mid front → is_counted front ≡ true →
+    Unopened counted_lanes counted_profile (traffic_behind front mid left held holds) r w o →
+    ChosenUnopened (traffic unread left held holds) r w o
+counted-unopened front unread mid left held holds r w o four first is x = record {
+  none = x.none;
+  anyone = λ p version.
+      let all = speaks-unopened-all counted_lanes counted_profile (responding p) version front unread mid left held
+      holds r w o four first (x.anyone p version) in
+      inl (all.0, all.1 ∙ is);
+}
+
+pub two-lanes-unopened : (front : List ℕ) (unread mid left held holds : Option (List ℕ)) (r w : Seen) (o : Outcome) →
+    length front ≡ 4 → Consumes unread mid front → is_counted front ≡ false →
+    Unopened two_lanes two_lane_profile (traffic_behind front mid left held holds) r w o →
+    ChosenUnopened (traffic unread left held holds) r w o
+two-lanes-unopened front unread mid left held holds r w o four first is x = record {
+  none = x.none;
+  anyone = λ p version.
+      let all = speaks-unopened-all two_lanes two_lane_profile (responding p) version front unread mid left held
+      holds r w o four first (x.anyone p version) in
+      inr (all.0, all.1 ∙ is);
+}
+
+pub counted-first : (front : List ℕ) (unread mid left : Option (List ℕ)) → length front ≡ 4 →
+    Consumes unread mid front → is_counted front ≡ true → CameFirst counted_profile (Behind front mid) left →
+    ChosenFirst (Reader unread) left
+counted-first front unread mid left four first is x =
+    let all = first-all counted_lanes counted_profile front unread mid left four first x in inl (all.0, all.1 ∙ is)
+
+pub two-lanes-first : (front : List ℕ) (unread mid left : Option (List ℕ)) → length front ≡ 4 →
+    Consumes unread mid front → is_counted front ≡ false → CameFirst two_lane_profile (Behind front mid) left →
+    ChosenFirst (Reader unread) left
+two-lanes-first front unread mid left four first is x =
+    let all = first-all two_lanes two_lane_profile front unread mid left four first x in inr (all.0, all.1 ∙ is)
+
+-- ---- the hello did not come
+
+pub short-speaks : Laws two_lanes two_lane_profile → (fits : Type 0) (p : Peer) (version bound limit : ℕ)
+    (x : OutboxState) (bytes : List ℕ) (unread left held holds : Option (List ℕ)) (r w : Seen) (broken : Bool)
+    (stop : Stop) (o : Outcome) → x ≡ outbox_state false 0 → NoHello r bytes stop → Consumes unread left bytes →
+    Leaves two_lane_profile x held holds broken w.failed stop → o ≡ outcome_of x.sent stop →
+    (IsBytes bytes → fits → IsModest two_lanes two_lane_profile (responding p) bytes bound limit) →
+    ChosenSpeaks fits p version bound limit (traffic unread left held holds) r w o
+short-speaks laws fits p version bound limit x bytes unread left held holds r w broken stop o new none read leaves is
+    modest =
+    let why = anyhow two_lanes two_lane_profile (responding p) x (traffic unread left held held) r broken bytes stop
+    (why-short two_lanes two_lane_profile laws p x bytes unread left held r broken stop new none) in
+    let sent : (s : Stop) → sent_in (outcome_of x.sent s) ≤ bound = few in
+    subst (λ y. ChosenSpeaks fits p version bound limit (traffic unread left held holds) r w y) (sym is) (inr (
+      record {
+        bytes = bytes;
+        read = read;
+        bears = bears two_lanes two_lane_profile (responding p) version x (traffic unread left held held) holds r w
+            broken bytes stop why leaves;
+        sent = sent stop;
+        modest = modest none.fits;
+      },
+      short-chooses bytes none.less,
+    )) where
+      few : (s : Stop) → sent_in (outcome_of x.sent s) ≤ bound
+      few (stops.Refused code) = omega (arith, ap (λ y. y.sent) new)
+      few (stops.PeerRefused code) = omega (arith, ap (λ y. y.sent) new)
+      few stops.Memory = omega (arith, ap (λ y. y.sent) new)
+      few (stops.Io side) = omega (arith, ap (λ y. y.sent) new)
+
+pub short-unopened : Laws two_lanes two_lane_profile → (x : OutboxState) (bytes : List ℕ)
+    (unread left held holds : Option (List ℕ)) (r w : Seen) (broken : Bool) (stop : Stop) (o : Outcome) →
+    x ≡ outbox_state false 0 → NoHello r bytes stop → Consumes unread left bytes →
+    Leaves two_lane_profile x held holds broken w.failed stop → o ≡ outcome_of x.sent stop →
+    ChosenUnopened (traffic unread left held holds) r w o
+short-unopened laws x bytes unread left held holds r w broken stop o new none read leaves is =
+    subst (λ y. ChosenUnopened (traffic unread left held holds) r w y) (sym is) (record {
+      none = by stop;
+      anyone = λ p version. inr (
+        record {
+          bytes = bytes;
+          read = read;
+          bears = bears-unopened two_lanes two_lane_profile (responding p) version x (traffic unread left held held)
+              holds r w broken bytes stop
+              (why-short two_lanes two_lane_profile laws p x bytes unread left held r broken stop new none) leaves;
+        },
+        short-chooses bytes none.less,
+      );
+    }) where
+      by : (s : Stop) → sent_in (outcome_of x.sent s) ≡ 0
+      by (stops.Refused code) = ap (λ y. y.sent) new
+      by (stops.PeerRefused code) = ap (λ y. y.sent) new
+      by stops.Memory = ap (λ y. y.sent) new
+      by (stops.Io side) = ap (λ y. y.sent) new

@@ -1,0 +1,48 @@
+//! The four bytes with which a peer begins, read before anything else is done.
+
+ghost use Rattle.std.specs.Prelude.{◌≡◌, ◌≤◌, ◌+◌, IfOk};
+ghost use Rattle.peer_threads.specs.Outcomes.{seen};
+ghost use Rattle.peer_threads.specs.Hellos.{HelloRead};
+
+use crate::outcome::Side;
+use crate::piece::are_bytes;
+use crate::stop::Stop;
+use std::io::Read;
+use wire_core::{Watched, WireFault};
+
+/// The length of a hello.
+const LENGTH: usize = 4;
+
+/// The first four bytes of a stream, and in how many reads they came.
+#[derive(Clone, Copy, Debug, Drop)]
+pub(crate) struct Hello {
+    pub(crate) bytes: [u8; 4],
+    pub(crate) reads: u64,
+}
+
+/// Reads the first four bytes. Refused 3 where the input ends inside them. It takes no memory.
+pub(crate) fn read_hello<R: Read>(reader: &mut Watched<R>) -> Result<Hello, Stop>
+    ensures read { HelloRead (R.remaining reader.old.inner) (R.remaining reader.new.inner)
+        (seen reader.new.failed reader.new.ended) result }
+    ensures reads { IfOk result (λ h. reader.new.reads ≤ reader.old.reads + h.reads) }
+    ensures stopped_reads { reader.new.reads ≤ reader.old.reads + 4 }
+{
+    let mut hello = Hello {
+        bytes: [0u8; 4],
+        reads: 0,
+    };
+    let mut came = 0;
+    'reads: while came < LENGTH {
+        are_bytes(&hello.bytes);
+        hello.reads += 1;
+        let Ok(count) = reader.read(&mut hello.bytes[came..]) else {
+            return Err(Stop::Io(Side::Read));
+        };
+        if count == 0 {
+            return Err(Stop::Refused(WireFault::Truncated.number()));
+        }
+        came += count;
+    }
+    are_bytes(&hello.bytes);
+    Ok(hello)
+}
