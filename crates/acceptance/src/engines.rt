@@ -222,7 +222,7 @@ fn counts(rt: &impl Abort, told: &Told, opened: u64, ended: u64, refused: u64) {
 }
 
 /// A case of a side with no items, which reads and writes 7 bytes a call at most.
-fn empty<'a>(engine: Engine, input: &'a [&'a [u8]]) -> Case<'a> {
+pub(crate) fn empty<'a>(engine: Engine, input: &'a [&'a [u8]]) -> Case<'a> {
     Case {
         engine,
         items: &[],

@@ -1,12 +1,11 @@
 //! Sessions in wire profile 2, whose Sums count their items, and hellos of no profile.
 
 use crate::devices::Rule;
-use crate::engines::{Case, Engine, comes_to, outcome_of};
+use crate::engines::{Case, Engine, comes_to, empty, outcome_of};
 use crate::frames::{
     ABC_IS_LACKED, END, HELLO, LIST_OF_ABC, LIST_OF_NOTHING, SUM_OF_NOTHING, fault,
 };
 use crate::letters::item;
-use item_core::Item;
 use std::process::Abort;
 use std::sync::Wait;
 use std::test::Fail;
@@ -42,23 +41,17 @@ const EMPTY_TO_ABC: &[&[u8]] = &[COUNTED_HELLO, COUNTED_NOTHING, END, ABC_IS_LAC
 /// All that a side with abc says to a side with no items that speaks first: 24 bytes.
 const ABC_TO_EMPTY: &[&[u8]] = &[COUNTED_HELLO, LIST_OF_ABC, END];
 
-/// Runs an engine with these items on this input, by 1, 7 and 1,000 bytes a call, and compares what comes of it.
+/// Runs the case by 1, 7 and 1,000 bytes a call, and compares what comes of it.
 fn comes<T: Wait + Abort + AllocGlobal>(
     rt: &T,
-    engine: Engine,
-    items: &[Item],
-    input: &[&[u8]],
+    case: Case<'_>,
     outcome: &str,
     written: &[&[u8]],
 ) -> Result<(), Fail> {
     let alloc = rt.alloc();
+    let mut case = case;
     for piece in [1, 7, 1_000] {
-        let case = Case {
-            engine,
-            items,
-            input,
-            piece,
-        };
+        case.piece = piece;
         let told = outcome_of(rt, alloc, &case, Rule::Always)?;
         comes_to(rt, alloc, &told, outcome, written)?;
     }
@@ -67,11 +60,10 @@ fn comes<T: Wait + Abort + AllocGlobal>(
 
 #[test]
 fn empty_dials_abc(rt: HostRuntime) -> Result<(), Fail> {
+    let case = empty(Engine::DialCounted, ABC_TO_EMPTY);
     comes(
         &rt,
-        Engine::DialCounted,
-        &[],
-        ABC_TO_EMPTY,
+        case,
         "Ended ours - theirs abc version 0 sent 2",
         EMPTY_TO_ABC,
     )
@@ -79,11 +71,15 @@ fn empty_dials_abc(rt: HostRuntime) -> Result<(), Fail> {
 
 #[test]
 fn abc_serves_empty(rt: HostRuntime) -> Result<(), Fail> {
+    let case = Case {
+        engine: Engine::Serve,
+        items: &[item(&rt, b"abc")],
+        input: EMPTY_TO_ABC,
+        piece: 1,
+    };
     comes(
         &rt,
-        Engine::Serve,
-        &[item(&rt, b"abc")],
-        EMPTY_TO_ABC,
+        case,
         "Ended ours abc theirs - version 1 sent 1",
         ABC_TO_EMPTY,
     )
@@ -91,11 +87,15 @@ fn abc_serves_empty(rt: HostRuntime) -> Result<(), Fail> {
 
 #[test]
 fn equal_singletons(rt: HostRuntime) -> Result<(), Fail> {
+    let case = Case {
+        engine: Engine::DialCounted,
+        items: &[item(&rt, b"abc")],
+        input: &[COUNTED_HELLO, END],
+        piece: 1,
+    };
     comes(
         &rt,
-        Engine::DialCounted,
-        &[item(&rt, b"abc")],
-        &[COUNTED_HELLO, END],
+        case,
         "Ended ours - theirs - version 1 sent 1",
         &[COUNTED_HELLO, COUNTED_ABC, END],
     )
@@ -104,19 +104,20 @@ fn equal_singletons(rt: HostRuntime) -> Result<(), Fail> {
 // The lanes are those of no items: the count alone tells the sets apart.
 #[test]
 fn one_item_of_lanes_zero(rt: HostRuntime) -> Result<(), Fail> {
+    let case = empty(
+        Engine::Serve,
+        &[COUNTED_HELLO, COUNTED_ZERO, END, ANSWER_OF_NOTHING, END],
+    );
     comes(
         &rt,
-        Engine::Serve,
-        &[],
-        &[COUNTED_HELLO, COUNTED_ZERO, END, ANSWER_OF_NOTHING, END],
+        case,
         "Ended ours - theirs - version 0 sent 1",
         &[COUNTED_HELLO, LIST_OF_NOTHING, END],
     )?;
+    let case = empty(Engine::Serve, &[HELLO, SUM_OF_NOTHING, END]);
     comes(
         &rt,
-        Engine::Serve,
-        &[],
-        &[HELLO, SUM_OF_NOTHING, END],
+        case,
         "Ended ours - theirs - version 0 sent 1",
         &[HELLO, END],
     )
@@ -124,11 +125,10 @@ fn one_item_of_lanes_zero(rt: HostRuntime) -> Result<(), Fail> {
 
 #[test]
 fn hello_of_profile_one_to_profile_two(rt: HostRuntime) -> Result<(), Fail> {
+    let case = empty(Engine::DialCounted, &[HELLO]);
     comes(
         &rt,
-        Engine::DialCounted,
-        &[],
-        &[HELLO],
+        case,
         "Refused 1 sent 1",
         &[COUNTED_HELLO, COUNTED_NOTHING, END, &fault(1)],
     )
@@ -136,36 +136,18 @@ fn hello_of_profile_one_to_profile_two(rt: HostRuntime) -> Result<(), Fail> {
 
 #[test]
 fn hello_of_no_profile(rt: HostRuntime) -> Result<(), Fail> {
-    comes(
-        &rt,
-        Engine::Serve,
-        &[],
-        &[&[0x52, 0x52, 0x53, 0x33]],
-        "Refused 1 sent 0",
-        &[HELLO, &fault(1)],
-    )
+    let case = empty(Engine::Serve, &[&[0x52, 0x52, 0x53, 0x33]]);
+    comes(&rt, case, "Refused 1 sent 0", &[HELLO, &fault(1)])
 }
 
 #[test]
 fn end_inside_the_hello(rt: HostRuntime) -> Result<(), Fail> {
-    comes(
-        &rt,
-        Engine::Serve,
-        &[],
-        &[&[0x52, 0x52, 0x53]],
-        "Refused 3 sent 0",
-        &[HELLO, &fault(3)],
-    )
+    let case = empty(Engine::Serve, &[&[0x52, 0x52, 0x53]]);
+    comes(&rt, case, "Refused 3 sent 0", &[HELLO, &fault(3)])
 }
 
 #[test]
 fn sum_of_profile_one_in_profile_two(rt: HostRuntime) -> Result<(), Fail> {
-    comes(
-        &rt,
-        Engine::Serve,
-        &[],
-        &[COUNTED_HELLO, SUM_OF_NOTHING, END],
-        "Refused 2 sent 0",
-        &[COUNTED_HELLO, &fault(2)],
-    )
+    let case = empty(Engine::Serve, &[COUNTED_HELLO, SUM_OF_NOTHING, END]);
+    comes(&rt, case, "Refused 2 sent 0", &[COUNTED_HELLO, &fault(2)])
 }

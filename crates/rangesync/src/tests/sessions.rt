@@ -104,8 +104,8 @@ items 1
     fs::remove_file(&rt, "one.items")
 }
 
-/// Asks for the items of a server twice at once, in these profiles.
-fn ask_twice<R>(rt: &R, first: &str, second: &str) -> (Given, Given)
+/// Asks for the items of a server in this profile.
+fn ask<R>(rt: &R, profile: &str) -> Given
 where
     R: Files
         + Net<Listener = TcpListener, Stream = TcpStream>
@@ -114,24 +114,31 @@ where
         + AllocGlobal
         + Sync,
 {
-    let words = |profile| {
-        [
-            "rangesync",
-            "sync",
-            "--table",
-            "two.toml",
-            "--addr",
-            "127.0.0.1:7701",
-            "--profile",
-            profile,
-            "/dev/null",
-        ]
-    };
-    join(
-        rt,
-        || run_late(rt, &words(first)),
-        || run_late(rt, &words(second)),
-    )
+    let words = [
+        "rangesync",
+        "sync",
+        "--table",
+        "two.toml",
+        "--addr",
+        "127.0.0.1:7701",
+        "--profile",
+        profile,
+        "/dev/null",
+    ];
+    run_late(rt, &words)
+}
+
+/// Asks for the items of a server twice at once, in profile 2 and in profile 1.
+fn ask_twice<R>(rt: &R) -> (Given, Given)
+where
+    R: Files
+        + Net<Listener = TcpListener, Stream = TcpStream>
+        + Threads
+        + Wait
+        + AllocGlobal
+        + Sync,
+{
+    join(rt, || ask(rt, "2"), || ask(rt, "1"))
 }
 
 #[test]
@@ -149,11 +156,7 @@ fn a_session_of_each_profile(rt: HostRuntime) -> io::Result<()> {
         "2",
         "two.items",
     ];
-    let (served, (second, first)) = join(
-        &rt,
-        || run_words(&rt, &serve),
-        || ask_twice(&rt, "2", "1"),
-    );
+    let (served, (second, first)) = join(&rt, || run_words(&rt, &serve), || ask_twice(&rt));
     let lines = "listening 127.0.0.1:7701
 opened 2 ended 2 refused 0 io 0 memory 0 messages 2
 items 1
