@@ -128,7 +128,7 @@ where
     run_late(rt, &words)
 }
 
-/// Asks for the items of a server twice at once, in profile 2 and in profile 1.
+/// Asks for the items of a server in profile 2, and then in profile 1.
 fn ask_twice<R>(rt: &R) -> (Given, Given)
 where
     R: Files
@@ -138,7 +138,7 @@ where
         + AllocGlobal
         + Sync,
 {
-    join(rt, || ask(rt, "2"), || ask(rt, "1"))
+    (ask(rt, "2"), ask(rt, "1"))
 }
 
 #[test]
