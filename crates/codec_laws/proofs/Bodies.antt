@@ -1,4 +1,12 @@
 -- The bodies of frames.
+-- A body is its fields in order, so each reading of a body is a chain of readings that tell (Fields). An item is read,
+-- tested against the one before it and against the range; n items are a run (`IsRun`), by induction on n; and a run is
+-- the same as items that rise strictly and lie in the range, which is what the definition of a part asks for. Two
+-- bounds and the test that the lower is below the upper make a range.
+-- Then by the kind, the first byte: a Sum, a List, an Answer, the end of a message, a fault frame, and no sixth. For
+-- each, the values are those of the event's spelling, and the faults those of the relation: the texts of right fields,
+-- and after them what is no right field. After the last field nothing may be left.
+-- docs/LAWS.md: Reading is exact.
 use Rattle.std.proofs.Common.{rules, ◌≡◌, ℕ, zero, suc, true, List, [], ◌∷◌, ◌++◌, length, Option, Some, None, Result, refl, sym, ap, subst, ◌∙◌, append_assoc, arith, inl, inr, Ordering, Less, ◌^◌, ◌<◌, ◌≤◌, Bool, false, ◌||◌, take, drop, Err}
 use Rattle.std.specs.Prelude.{◌⊎◌, not, IsTrue, flat_map, ⊤, ◌==◌, nat_lt, slice_index}
 use Rattle.std.specs.List.Sorted.{IsStrictlySortedBy}

@@ -1,4 +1,13 @@
 -- What it means that a reading tells, and the fields of a body.
+-- `Tells Fits r Good Bad`: r is Ok of what is Good and Err of what is Bad, and if Fits (these are bytes) it is one of
+-- the two. So the reading finds exactly the values and exactly the faults, and the relation of faults never has to
+-- read. Small lemmas put such facts together: a test decides between two cases; a reading and then another one, where
+-- the text of the first shows its own length, so that the bytes can be taken apart in one way only; a value that is
+-- made of what was read.
+-- With them each field is told: so many bytes, a number of four bytes, a lower bound, an upper bound, an item. What is
+-- left after a field are bytes again. Before that: 16 bytes come back from the number that they spell, since they are
+-- its digits at base 256.
+-- docs/LAWS.md: Reading is exact; Marks (`reads_are_bytes`).
 use Rattle.std.proofs.Common.{◌≡◌, ℕ, zero, suc, ◌+◌, ◌*◌, ◌/◌, ◌%◌, ◌<◌, List, [], ◌∷◌, length, reverse, get_or, refl, ap, ◌∙◌, arith, rules, Bool, true, false, ◌++◌, Result, Ok, Err, sym, subst, inl, inr, ◌^◌, ◌≤◌, Option, Some, None}
 use Rattle.std.specs.Prelude.{◌⊎◌, not, if◌then◌else◌, IsTrue, IsFalse, ◌≢◌, nat_lt, ◌==◌}
 use Rattle.definitions.proofs.Words.{w128, from_be_bytes, to_be_bytes, w32, IsBytes, IsItem, IsLower, IsUpper, Begins, Stops, NoLower, NoUpper, NoItem, IsItemLength, IsCount, unless, bytes_at, number_at, lower_at, upper_at, text_at, is_item_length, short_text, upper_text, count_text}

@@ -1,4 +1,10 @@
 -- What is kept of a stream between its pieces.
+-- Three things, each by going through what the bytes mean. It is an end of the bytes: the events take their texts off
+-- the front, and what is kept is the rest, or nothing. It is short: it is a beginning of a hello or of a frame and not
+-- a whole one, so it has fewer bytes than four and the longest body. It has been read: to feed it again from where the
+-- stream is gives no event and keeps it, since to feed the bytes in one piece is to feed them and then nothing more
+-- (Streams).
+-- docs/LAWS.md: A stream may come in pieces (`feeds_rest`).
 use Rattle.std.proofs.Common.{◌≡◌, ℕ, ◌+◌, ◌<◌, ◌≤◌, List, [], ◌∷◌, ◌++◌, length, refl, sym, ap, subst, ◌∙◌, arith, inl, inr, append_assoc}
 use Rattle.definitions.proofs.Words.{IsBytes, Profile, part_text, end_text, Event, Came, Ended, Failed, Stream, IsProfile, count_text, Standing, Before_hello, In_message, Meaning_over, Faulted, MeansFrames, Fed, feed, Means}
 use Rattle.definitions.specs.Wire.{max_body}

@@ -1,4 +1,13 @@
 -- Parts that are made, and the two profiles.
+-- Both profiles are real: their hellos are four bytes, and 32 bytes come back from two lanes of 16 bytes each, 36 from
+-- a count of 4 and the lanes.
+-- Items that are made have no fault exactly if each is above the one before and in the range. A part that is made of
+-- right bounds and items then has a fault exactly if it has no spelling, and the only one that is left is a body that
+-- is too long.
+-- Lengths: an item takes at most 65 bytes, so 65,536 items with two bounds stay below 8,388,608 bytes. What a set has
+-- in a range is such a list. An Answer to a List has a mark for each listed item; the List has a spelling, so it has
+-- fewer items than its body has bytes, and their marks take a megabyte at most.
+-- docs/LAWS.md: The wire format (that both profiles are such); What is made has a spelling.
 use Rattle.std.proofs.Common.{◌≡◌, ℕ, List, ◌++◌, length, take, drop, refl, sym, ◌∙◌, arith, ◌≤◌, Bool, true, not, [], ◌∷◌, Option, Some, None, ap, ◌*◌, length-append}
 use Rattle.std.specs.Prelude.{flat_map, if◌then◌else◌, filter, map, IsTrue}
 use Rattle.definitions.specs.Sets.{has, difference}

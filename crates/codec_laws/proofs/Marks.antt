@@ -1,4 +1,11 @@
 -- Marks and their bytes.
+-- Mark i is bit i mod 8 of byte i / 8. The bit at place i of a byte that is made of eight marks is the i-th mark, by
+-- induction over the marks, and so the marks come back from their bytes.
+-- Reading: a number of marks, then as many bytes as hold that number, then the test that these bytes are those of the
+-- marks in them. If they are not, a bit after the last mark is set: each byte but the last is made of eight marks and
+-- has no other bit; the last has r used bits, and it is the byte of its marks exactly if it is below 2^r. So testing
+-- the last byte alone is enough.
+-- docs/LAWS.md: Marks; Reading is exact.
 use Rattle.std.proofs.Common.{◌≡◌, ℕ, zero, suc, ◌+◌, ◌*◌, ◌/◌, ◌%◌, ◌^◌, ◌<◌, Bool, true, false, not, List, [], ◌∷◌, ◌++◌, length, get_or, take, drop, Result, refl, sym, ap, subst, ◌∙◌, append_assoc, arith, inl, inr, ◌≤◌}
 use Rattle.std.specs.Prelude.{◌⊎◌, IsTrue, IsFalse, ◌==◌, bytes_eq, ◌||◌, if◌then◌else◌}
 use Rattle.definitions.proofs.Words.{bit_at, same_text, IsBytes, Range, count_text, mark_byte, mark_bytes, mark_bytes_for, marks_text, Begins, IsPadded, FaultyMarks, FaultyList, FaultyAnswer, unless, bytes_at, number_at, mark_in, marks_in, marks_at, mark_padding}

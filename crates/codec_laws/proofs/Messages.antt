@@ -1,4 +1,14 @@
 -- Frames, and one message.
+-- A frame is a length and so many bytes. Bytes are a whole frame and a rest, or a beginning of a frame, or they begin
+-- with a length that none can have; never two of these. With the body (Bodies) this says what is next in a stream,
+-- after any number of parts: an event and the rest, or no whole frame yet, or a fault (`event_at_told`).
+-- One message: read what is next again and again until the end of the message, and then nothing may be left. Each step
+-- takes at least one byte, so the number of bytes is enough fuel. By induction on it, in both directions: what is read
+-- is spelled so, and what is spelled so is read; a fault comes after right parts only, and is the first thing that is
+-- wrong.
+-- No spelling begins another: both messages are read from the same bytes, the first is whole where it ends, and
+-- reading finds one message only.
+-- docs/LAWS.md: Reading is exact; No spelling begins another.
 use Rattle.std.proofs.Common.{◌≡◌, ℕ, ◌^◌, ◌<◌, ◌≤◌, Bool, true, false, not, ◌||◌, List, [], ◌∷◌, ◌++◌, length, take, drop, Option, Some, None, Result, Ok, refl, sym, ap, subst, ◌∙◌, arith, inl, inr, zero, suc, ◌+◌, Err, append_assoc}
 use Rattle.std.specs.Prelude.{◌⊎◌, ◌==◌, nat_lt, ⊤, if◌then◌else◌, flat_map}
 use Rattle.definitions.proofs.Words.{w32, from_be_bytes, AllByRecursion, IsBytes, IsItem, IsLower, IsUpper, Part, Message, Profile, body, frame, max_body, max_parts, count_text, Event, Came, Ended, Failed, Input, IsProfile, event_text, Says, Counts, part_text, end_text, message_text, IsPart, Spells, One_message, short_text, upper_text, Begins, IsBodyLength, IsPartial, FaultyBody, FaultyFrame, Stands, Trails, FaultyMessage, NoLower, NoUpper, NoItem, IsCount, Stops, unless, bytes_at, event_in, frame_of, frame_at, counted_event, event_of, event_at, lower_at, upper_at, text_at, number_at, frame_length, too_many_parts, truncated, trailing, message_by, message_from, message_in}

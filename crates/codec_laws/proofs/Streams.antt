@@ -1,4 +1,14 @@
 -- Streams: what they mean, in pieces too.
+-- What is fed is what the bytes mean: go on frame by frame with what is next (Messages). An event in front of what the
+-- rest means is what all means; no whole frame yet is kept; a fault ends it. Each event takes a byte, so the number of
+-- bytes is enough fuel, and more fuel changes nothing. The other way, by induction over the events of the meaning,
+-- feeding finds just these. The hello in front is one more step.
+-- A stream may be cut anywhere: an event at the front of the first piece is the event at the front of both, since a
+-- whole frame stays whole with more bytes after it; what is no whole frame yet is kept and read again with the second
+-- piece in front of the rest.
+-- What is heard are messages: the parts that came since the last end have spellings and are no more than a message may
+-- have. A session's text is heard as its messages, since each of its frames is next in turn.
+-- docs/LAWS.md: A stream may come in pieces.
 use Rattle.std.proofs.Common.{rules, ◌≡◌, ℕ, zero, suc, ◌+◌, ◌≤◌, Bool, true, false, take, drop, List, [], ◌∷◌, ◌++◌, length, Option, Some, None, Ok, refl, sym, ap, subst, ◌∙◌, arith, inl, inr, append_assoc, map}
 use Rattle.std.specs.Prelude.{◌≢◌, nat_lt, bytes_eq, if◌then◌else◌, flat_map}
 use Rattle.definitions.proofs.Words.{AllByRecursion, IsBytes, Profile, part_text, end_text, Event, Came, Ended, Failed, Stream, IsProfile, count_text, frame, fault_text, IsPart, IsMessage, max_parts, message_text, session_text, event_at, Standing, Before_hello, In_message, Meaning_over, Faulted, MeansFrames, Fed, fed_by, feed_frames, feed_start, feed, Means, messages_of, Stands, FaultyFrame, Message}

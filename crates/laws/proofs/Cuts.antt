@@ -1,4 +1,14 @@
 -- Ranges that are cut at own items: the parts, their sizes and their ranks.
+-- In a set in order exactly j items come before the one at place j. So one cut at that item leaves j items of the
+-- range before it and the rest after it, and each item of the range, of any set, lies on exactly one side. Several
+-- cuts follow one by one: the parts hold the shares, rise, lie in the range, and each item of the range is in one of
+-- them (`spread`).
+-- Then ranks. Call a range *under n* in a set if the rank of the number of the set's items in it is below n. A part
+-- has no more items than its range, so a cut raises no rank in either set. In the set that it is made by, each share
+-- has a lower rank than the whole, so the parts are under n - 1 there. This goes over from ranges to the Sums of a
+-- reply (`reply-own`, `reply-other`), and a message whose Sums are under 0 gets a reply without open parts
+-- (`reply-no_sums`).
+-- docs/LAWS.md: A cut is exact; the ranks are those of Messages are few.
 use Rattle.std.proofs.Common.{take, ◌≡◌, ℕ, zero, suc, ◌<◌, ◌≤◌, Bool, true, false, not, ◌&&◌, List, [], ◌∷◌, ◌++◌, length, refl, ap, cond, get_or, drop, arith, Less, ◌+◌, map, Option, Some, sym, ◌∙◌, subst, sum, ◌-◌}
 use Rattle.std.specs.Prelude.{filter, ⊤, slice_index}
 use Rattle.std.specs.List.{flat_map}

@@ -1,4 +1,14 @@
 -- What ranks bound: the messages of a talk, and what one end is led to compare. What the limit bounds: lists.
+-- Messages are few: let the Sums of a message be under a in the speaker's set and under b in the hearer's. The reply
+-- is under b - 1 in the hearer's set, and still under a in the speaker's (Cuts). So by induction at most 2 + min(2a,
+-- 2b - 1) messages follow, the message itself among them: if a or b is 0 the reply has no Sums, and at most two are
+-- left. The opening is under rank + 1 in both sets.
+-- Compared parts: a part that is placed lies in a range that our message opened, so it is no higher in rank than our
+-- message. One end alone needs no more than that to stop (Stops).
+-- Lists: a row that lists reaches no further than the limit, the rows reach the cap, and no set in a range has more
+-- items than the cap. This holds of each reply, so of talks, of what one end says, and of what is called for.
+-- docs/LAWS.md: A cut is exact; Open ranges do not overlap (that ranges rise); Messages are few; Lists are short; What
+-- is called for is little (its lists).
 use Rattle.std.proofs.Common.{◌≡◌, ℕ, zero, suc, ◌≤◌, true, List, [], ◌∷◌, length, refl, ◌+◌, ◌-◌, ◌*◌, false, min, arith, cond, ◌<◌, ◌∙◌, Bool, Option, Some, None, sym, subst, inl, inr}
 use Rattle.std.specs.Prelude.{⊤, nat_le}
 use Rattle.std.specs.List.{filter}

@@ -1,4 +1,14 @@
--- How many parts a message has: no range is asked about again unless an item in it differs, and then it is cut into no more than the width.
+-- How many parts a message has.
+-- Let D be a list that has each item which only one of the two sets has. If a range has no item of D, both sets have
+-- the same items in it, so the same fingerprint, and it is not asked about again. So each range that is replied to has
+-- an item of D in it.
+-- Call the items of D in the open ranges of a message its hits. Open ranges do not overlap, so an item lies in at most
+-- one of them, and there are at most `length D` hits. A range that differs is listed, or cut into at most w parts, so
+-- into at most w for each of its hits; a List, which is sent only of such a range, gets one Answer. So a reply has at
+-- most w parts for each hit, and no message more than w times `length D`, or one, the opening.
+-- With the symmetric difference for D and the widths of the tables for w this is the law. With all items of both sets
+-- for D, and w = 1, it says that messages fit, since a range is cut into no more parts than it has own items.
+-- docs/LAWS.md: Parts are few; Messages fit; Cost.
 use Rattle.std.proofs.Common.{◌≡◌, ℕ, ◌+◌, ◌*◌, ◌≤◌, Bool, true, false, not, ◌&&◌, zero, suc, List, [], ◌∷◌, ◌++◌, length, map, max, unwrap_or, ltb, Less, Equal, Greater, if◌then◌else◌, refl, sym, ap, ◌∙◌, arith}
 use Rattle.std.specs.List.Sorted.{IsStrictlySortedBy}
 use Rattle.std.specs.declared.cmp.Ordering.{Ordering}

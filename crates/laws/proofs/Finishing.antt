@@ -1,4 +1,12 @@
 -- Deliveries reach the end of a session: each delivers one message more, and a session has few.
+-- Of each session of a run something is kept that says all of it (`HasKept`), and this holds after every step:
+-- sessions that were there stay, one that is opened has it, and a delivery makes it of the one that it delivers. So,
+-- in each world of a run, a session has at most 3 + 2 * 255 messages, since its rank table is within rounds of at most
+-- 255.
+-- Deliver the same session again and again. By induction on n, after n deliveries it has ended, or n messages more
+-- were delivered (`Reaches`). It never has more delivered messages than messages, so after 513 deliveries it has
+-- ended. Steps on a session that is not there do nothing.
+-- docs/LAWS.md: Deliveries end a session.
 use Rattle.std.proofs.Common.{◌≡◌, ℕ, zero, suc, ◌+◌, ◌<◌, ◌≤◌, ◌⊎◌, inl, inr, Bool, true, false, List, [], ◌∷◌, ◌++◌, length, set, slice_get, Option, Some, None, unwrap_or, refl, sym, ap, subst, ◌∙◌, arith}
 use Rattle.std.specs.Prelude.{◌==◌}
 use Rattle.definitions.proofs.Words.{AllByRecursion, Summary, IsExact, has_open, reply, IsNode, IsRankTable, Ready, rank, SessionsEnd, deliveries, Item, World, Node, Session, Side, Initiator, Responder, Step, node_at, no_node, peer_at, initiator_of, responder_of, messages, has_ended, insert_at, absorb_side, absorb_at, step, run, start}

@@ -1,4 +1,13 @@
--- One end, whatever its peer sends: its own message stays apart, what it learned settled, and the messages it sent few.
+-- One end, whatever its peer sends: what its own message opens does not overlap, what it learned is settled, and it
+-- has sent few messages.
+-- The invariant goes by the stage (`FirmBy`). An end that has heard nothing knows nothing. An end that waits sent a
+-- message that is honest, whose open ranges do not overlap, and whose open ranges hold nothing that is known
+-- (`IsSent`). An end that is over or spent knows each item once.
+-- One message keeps it. If it is refused, nothing is known and nothing is open. If it is placed, what it opens does
+-- not overlap, since what our message opens does not; nor does what our reply opens; and what it teaches was not known
+-- and is not open again (Once). A first message teaches nothing and opens one range. Induction over the messages; that
+-- few were sent is Stops, with the count of Saying.
+-- docs/LAWS.md: An end stands firm.
 use Rattle.std.proofs.Common.{◌≡◌, ℕ, ◌+◌, ◌≤◌, ◌∙◌, List, [], ◌∷◌, Option, Some, None, refl, sym, ap, subst, arith}
 use Rattle.std.specs.List.{IsDistinct}
 use Rattle.definitions.proofs.Words.{AllByRecursion, Item, Apart, Summary, Message, has_open, open_ranges, opening, opening_fault, place_fault, Profile, AreParts, Peer, reply, Knowledge, nothing, and_then, learn, IsHonest, IsSettled, Ready, rank, RangesRise, EndsStandFirm, StandsFirm, End, Fresh, Over, Spent, Stage, Waits, after, after_answer, answer_unless, gained, heard, initiator, responder}

@@ -1,4 +1,14 @@
 -- What is heard frame by frame is what whole messages make of an end; only the refusal may be another one.
+-- Go through the events of a stream, with an end that takes messages and the parts that came so far. A part that is
+-- placed is kept; the rest is the claim for one part more. A part that is refused stops the hearing at once; if the
+-- stream ends that message later, the whole message is refused too, by the same number, since a refusal of the placing
+-- stays (`part-refused`). So nothing of it is said in either way. At the end of a message the parts kept are answered
+-- as the whole is (Taking), and the claim goes on with the end after it; if that is a refusal, or the session is over,
+-- nothing after it counts. A fault frame stops both.
+-- What is *called for* also has a reply that is too long to be said; it is refused 12 in both ways.
+-- For bytes: they are fed, and what the events make is stopped once more by the fault of the stream, or by the end of
+-- the input. A stop keeps what was said.
+-- docs/LAWS.md: Frames agree.
 use Rattle.std.proofs.Common.{◌≡◌, ℕ, ◌∙◌, Bool, true, false, List, [], ◌∷◌, ◌++◌, Option, Some, None, inl, inr, refl, sym, ap, subst, append_assoc}
 use Rattle.std.specs.Prelude.{◌⊎◌, fold, if◌then◌else◌}
 use Rattle.definitions.proofs.Words.{Summary, Part, Message, has_open, open_parts, reply, next, finish, too_many_parts, Came, Ended, Failed, Event, Profile, End, Ends, Fresh, Over, Refuses, Replies, Spent, Stage, Waits, after, after_answer, answer, answer_unless, answers, heard, is_live, is_sendable, replied, stage_fault, messages_of, Standing, Before_hello, In_message, Meaning_over, Faulted, Fed, feed, session}

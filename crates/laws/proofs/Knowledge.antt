@@ -1,4 +1,17 @@
 -- What is learned, counted for one item x over the parts of a message.
+-- Each part has numbers, added up over a message (`tally`): n if it is open and its range has x; how often an Answer
+-- marks x, or offers it; how often a List tells x. What a set learns from an honest message is such a sum
+-- (`learn-ours`, `learn-theirs`), and so are the parts of its reply: the Answers to the Lists, and the open parts,
+-- which cover exactly what the Sums covered (`reply-in_open`), if the talk is clear and the test of fingerprints is
+-- exact. For then a Sum that is taken for equal is of a range where both sets agree, in which x counts 0.
+-- So by induction over the messages that follow (`Learns`): from a message on, each side learns x once for each open
+-- range that has x and where x is in the one set alone; the hearer also learns what the Answers of the message tell.
+-- The opening has one open range, which has x. So x is learned once if only one set has it, and never otherwise.
+-- For soundness the same with at most in place of equal: a Sum that is wrongly taken for equal loses x and adds
+-- nothing.
+-- Last: a talk grows by the reply to its last message, and only the hearer of a message learns from it.
+-- docs/LAWS.md: A reply is honest; Knowledge is exact; Nothing wrong is learned; Talks grow by replies; Ranges and
+-- cuts (`whole_has_all`).
 use Rattle.std.proofs.Common.{rules, ◌≡◌, ℕ, ◌+◌, Bool, true, false, not, List, [], ◌∷◌, ◌++◌, map, length, if◌then◌else◌, refl, sym, ap, ◌∙◌, arith, ◌<◌, zero, suc, ◌≤◌, take, get_or, slice_get, Some, subst, append_assoc}
 use Rattle.std.specs.Prelude.{⊤}
 use Rattle.definitions.proofs.Words.{AllByRecursion, items_where_true, Item, Range, contains, whole, IsSet, items_in, difference, Summary, IsExact, Part, Sum, Listing, Answer, Message, has_open, opening, Peer, sum_of, reply_to, reply, listed_in, learn, IsClearAt, talk_from, knows, of_first, IsClear, talk, sender, Knowledge, nothing, and_then, of_second, IsHonest, RepliesAreHonest, KnowledgeIsExact, ListsSome, KnowledgeIsSound}

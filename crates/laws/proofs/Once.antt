@@ -1,4 +1,13 @@
--- What is learned from placed messages is learned once: an item that is learned lay in an open range, and lies in none afterwards.
+-- What is learned from placed messages is learned once: an item that is learned lay in an open range, and lies in none
+-- afterwards.
+-- Count for one item x. What a message teaches of x is at most the number of its Lists and Answers whose range has x:
+-- each lists items of its range, each once, and an Answer marks items that our message listed there once. In a placed
+-- message the parts that belong to one open part of ours lie in its range, and x lies in at most one of them. So the
+-- Lists, Answers and Sums of the message whose range has x are at most as many as our open ranges that have x, and
+-- these are at most one, since they do not overlap.
+-- A Sum is what is open next. So x is taught, or may still be, at most once in all. If x was known before, it is in no
+-- open range of ours, and nothing of it comes.
+-- docs/LAWS.md: Nothing is learned twice.
 use Rattle.std.proofs.Common.{◌≡◌, ℕ, ◌+◌, ◌≤◌, Bool, true, false, not, ◌||◌, List, [], ◌∷◌, ◌++◌, ltb, if◌then◌else◌, refl, sym, ap, subst, ◌∙◌, inl, inr, ◌⊎◌, arith}
 use Rattle.std.specs.Prelude.{IsTrue, IsFalse}
 use Rattle.std.specs.List.{IsDistinct}

@@ -1,4 +1,10 @@
--- The open parts of a message stand for it where the next message is placed and what it teaches.
+-- The open parts of a message stand for it where the next message is placed and in what that teaches.
+-- An end keeps the open parts of its own message and not its Answers. So all that is said of an end with the whole
+-- message has to hold with the open parts: the open parts of the open parts are these; the open ranges are the same;
+-- the same messages are placed, by the same refusals; the same Lists are found for a range, so the same is learned;
+-- and what is settled stays so. Each is an induction over the parts, in which an Answer falls out on both sides.
+-- docs/LAWS.md: no law of its own. An end stands firm, What an end learned and Two ends hand each other the talk need
+-- it.
 use Rattle.std.proofs.Common.{◌≡◌, List, [], ◌∷◌, refl, sym, ap, subst}
 use Rattle.std.specs.Prelude.{if◌then◌else◌, flat_map, map, fold, None, IsFalse}
 use Rattle.std.specs.List.{AllByRecursion, list_any, items_where_true}

@@ -1,4 +1,16 @@
 -- What may follow a message: the relation, the reading part by part, and ranges that do not overlap.
+-- Accepted is placed: by induction over the message, for both places at once, outside a partition (`Outside`) and
+-- inside one that has come to a bound (`Inside`). Each part that is accepted goes to the front of the pieces that the
+-- rest gives; a refusal stays, so it cannot come to a good end.
+-- Placed is accepted: the pieces of the relation are read back one by one. An open part without pieces is skipped,
+-- which is the right choice since no later open range begins where it does; the ranges sent do not overlap. Inside a
+-- partition each Sum begins where the one before ended, and the received ranges rise.
+-- An honest reply is placed: a Sum that differs is listed or cut by two shares or more, and an Answer marks each
+-- listed item and offers none of them.
+-- Apart: the pieces of one open part lie in its range, and a partition's parts do not overlap. So what a placed
+-- message opens does not overlap, if what it follows does not. A reply is placed, so the same holds of replies, and by
+-- induction of talks.
+-- docs/LAWS.md: An honest reply is placed; The placing part by part is the relation; Open ranges do not overlap.
 use Rattle.std.proofs.Common.{rules, ◌≡◌, ℕ, Bool, true, false, not, ◌&&◌, List, [], ◌∷◌, ◌++◌, length, refl, sym, ap, inl, inr, arith, if◌then◌else◌, ◌<◌, subst, ◌∙◌, map, ◌≤◌, IsTrue, get_or, ◌⊎◌, Option, Some}
 use Rattle.std.specs.Prelude.{None, fold, IsFalse, ◌==◌, bytes_eq, ⊤}
 use Rattle.definitions.proofs.Words.{AllByRecursion, list_any, same_text, Item, Range, cut_range, same_range, same_upper, same_item, whole, Rises, Apart, comes_before, is_below, ranges_between, has, items_in, difference, Part, Sum, Listing, Answer, Message, open_parts, IsOpening, RangesRise, range_of, is_open, open_ranges, opening, AreSums, FollowsAll, Placed, Place, Behind, Refused, next, next_sum, next_answer, next_inside, finish, ends_before, placed_to, place_fault, opening_fault, Follows, CutsUp, Lists, Answers, misplaced, stall, gap, missing_answer, mark_count, answer_repeats, OpeningIsExact, PlacingIsExact, RepliesArePlaced, RepliesAreApart, PlacedAreApart, TalksAreApart, Summary, act, shares, is_split, IsRankTable, Peer, inner_cuts, cutup, sum_of, differing, answer_to, reply_to, reply}

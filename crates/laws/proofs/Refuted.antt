@@ -1,4 +1,11 @@
 -- Fingerprints that are compared exactly, and why the premises are there.
+-- Both tests of fingerprints compare all that a fingerprint has, so they hold exactly of equal ones.
+-- Then an example against each claim with one premise less. All of them are small enough to be computed. Bounds that
+-- do not rise: a peer with two items is sent, again and again, a Sum that leads the partition back to its first item,
+-- and says one message more than it may. Rows that end below the cap: a table without rows and with limit 0 lists one
+-- item. A test that takes all for equal: a peer with one item and one with none end at once, and nothing is learned. A
+-- test that takes none for equal: two peers with the same two items cut their range in halves, though nothing differs.
+-- docs/LAWS.md: Fingerprints are compared exactly; What does not hold.
 use Rattle.std.proofs.Common.{◌≡◌, true, ap, ℕ, ◌≤◌, false, List, [], ◌∷◌, Some, refl, arith}
 use Rattle.std.specs.Prelude.{◌==◌}
 use Rattle.std.specs.List.Sorted.{IsStrictlySortedBy}

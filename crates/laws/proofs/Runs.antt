@@ -1,4 +1,15 @@
 -- Runs of nodes and sessions: each session is sound; what histories have, where it comes from, and what is absorbed.
+-- A set never outgrows its node's cap: an insert adds an item only below the cap, and an Absorb is inserts. So every
+-- step keeps that each node is a node, with an accepted table and a set within its cap, and that sessions are among
+-- nodes that are there (`IsSteady`). So the two peers of a session are ready for the laws of talks, and the bound that
+-- a report shows is the one by the ranks that the node keeps. From these laws come few messages, short lists, both
+-- differences and nothing wrong; parts are few is Few.
+-- Convergence: an absorbing node takes each item in turn until it is at its cap. If it stays below, it has taken all,
+-- and all that its version had is still there.
+-- Provenance: follow one item x back through the steps. An insert brings it, or some history had it before; an
+-- absorbed item is one that the other side's version had, since nothing wrong is learned, and that version is a
+-- beginning of a history.
+-- docs/LAWS.md: The main law; Provenance; Convergence.
 use Rattle.std.proofs.Common.{◌≡◌, ℕ, ◌+◌, List, length, take, unwrap_or, IsTrue, sym, subst, arith, suc, ◌≤◌, false, [], ◌∷◌, ◌++◌, drop, refl, ap, ◌∙◌, zero, ◌<◌, Bool, true, set, Option, Some, None, length-set, ◌⊎◌, not, ◌||◌, fold, if◌then◌else◌, inl, inr, slice_get, slice_index_or}
 use Rattle.std.specs.Prelude.{nat_lt, option_map}
 use Rattle.definitions.proofs.Words.{AllByRecursion, list_any, IsSet, has, add_item, union, set_of, difference, Summary, IsExact, Message, IsClear, initiator_knows, responder_knows, Knowledge, items_of, History, content, version, Insertion, New, Already, Full, insertion, history_after, World, Session, node_at, peer_at, messages, has_ended, initiator_of, responder_of, initiator_knowledge, responder_knowledge, Absorbing, absorb_by, absorb_one, absorb_all, Node, Side, Initiator, Responder, Step, no_node, with_history, insert_at, absorb_into, absorb_side, absorb_at, step, run, start, message_bound, rank_of, KnowsDifference, Ready, rank, IsNode, IsSound, Headline, AbsorbClaim, HistoryClaim, inserts, KnowsNothingWrong, Item, same_item, IsRankTable, ranks_by}

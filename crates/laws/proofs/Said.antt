@@ -1,4 +1,12 @@
--- What is said while frames are heard: the reply at the end of a message, and nothing more behind a stop.
+-- What is said while frames are heard: the reply at the end of a message, and nothing more after a stop.
+-- The claim speaks of all events that may still come (`SaysOn`): while an end goes on, one part more adds nothing to
+-- what is said, the end of the message adds its reply, and a fault frame nothing; once the hearing has stopped, what
+-- is said is the same whatever comes. It is proved along the events, as Hearing is. A part that is refused says
+-- nothing, since the whole message that has it is refused, if it ever ends. At the end of a message its reply comes in
+-- front of what the end after it says.
+-- What was said begins what is called for: the messages in all events begin with those in the events so far, and what
+-- is called for is what is said, or that and one reply that is too long to be said.
+-- docs/LAWS.md: What is said at each frame.
 use Rattle.std.proofs.Common.{◌≡◌, ℕ, ◌∙◌, Bool, true, false, List, [], ◌∷◌, ◌++◌, Option, Some, None, inl, inr, refl, sym, ap, subst, append_assoc}
 use Rattle.std.specs.Prelude.{◌⊎◌, fold}
 use Rattle.definitions.proofs.Words.{Summary, Part, Message, next, finish, Came, Ended, Failed, Event, End, Ends, Refuses, Replies, after, after_answer, answer, answer_unless, answers, is_live, replied, stage_fault, messages_of}

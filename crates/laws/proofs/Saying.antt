@@ -1,4 +1,10 @@
 -- What an end says, one message after another, whoever it is and whatever its peer sends.
+-- An answer is a reply, the end of the session, or a refusal (`answer-cases`), and only a reply is counted as a
+-- message sent. No message changes who speaks. An end that is over or spent refuses every message and does not change
+-- (`takes_none`). All else is induction over the messages: to hear one message more is to hear the others and then
+-- that one; the number sent is that at the start and one for each reply; an end that takes no messages says none,
+-- however many come.
+-- docs/LAWS.md: An end counts what it says; An end stands firm (`ends_hear_on`, `ends_keep_peers`).
 use Rattle.std.proofs.Common.{◌≡◌, ℕ, ◌+◌, ◌∙◌, true, false, List, [], ◌∷◌, ◌++◌, length, Option, Some, None, refl, sym, ap, subst, arith, append_assoc}
 use Rattle.definitions.proofs.Words.{AllByRecursion, Summary, Message, has_open, Peer, reply, EndsHearOn, EndsKeepPeers, End, Ends, Fresh, Over, Refuses, Replies, Spent, Stage, Waits, after, after_answer, answer, answer_unless, answers, heard, is_live, is_sendable, replied, reply_or_refuse, stage_fault, too_many_parts}
 use Rattle.definitions.specs.Ends.{Answer}

@@ -1,4 +1,13 @@
--- What is kept of a session: how it begins, what a delivery makes of it, that no other step touches it, and what it tells.
+-- What is kept of a session: how it begins, and what a delivery makes of it.
+-- What is kept is two ends, the message made last and the greatest number of parts so far. It begins with the
+-- initiator's end and the opening; the responder has no end yet, and every version of it would do.
+-- A delivery: the two versions are sets within their nodes' caps, so both ends hand each other the talk of these two
+-- peers (Turns), whose messages all may be sent. If d messages were delivered, what is kept is of the first d messages
+-- of that talk (`Holds`), also if the responder's version is chosen only now. Message number d is heard by the
+-- responder if d is even, and otherwise by the initiator. That end does not refuse it. Its answer is message number d
+-- + 1, which is then the message made last, or the session has ended. So what is kept after the delivery is of d + 1
+-- messages, and the greatest number of parts grows by the new message alone.
+-- docs/LAWS.md: What a session keeps (`sessions_open`, `sessions_go_on`).
 use Rattle.std.proofs.Common.{◌≡◌, ℕ, zero, suc, ◌+◌, ◌<◌, ◌≤◌, Bool, true, false, List, [], ◌∷◌, ◌++◌, length, max, slice_get, Option, Some, None, unwrap_or, if◌then◌else◌, refl, sym, ap, ◌∙◌, arith}
 use Rattle.std.specs.Prelude.{IfSome, ◌==◌}
 use Rattle.definitions.proofs.Words.{AllByRecursion, of_first, of_second, Summary, IsExact, Message, has_open, Peer, reply, sender, talk, Ready, End, Ends, Replies, after, answer, initiator, initiator_at, responder, responder_at, IsNode, World, Session, node_at, peer_at, initiator_of, responder_of, messages, has_ended, most_parts, no_node, ranks_by}

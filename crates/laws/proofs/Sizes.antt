@@ -1,4 +1,8 @@
--- A fingerprint of profile 2 carries the number of items modulo 2^32, and a smaller number is its own remainder.
+-- Sets that share a fingerprint of profile 2 have one size.
+-- Such a fingerprint has the number of items modulo 2^32 beside the lanes. If two are equal, their counts are, so the
+-- sizes are equal modulo 2^32. A number below 2^32 is its own remainder, so two sizes below it are equal. Nothing is
+-- asked of the digest.
+-- docs/LAWS.md: What the count of profile 2 gains.
 use Rattle.std.proofs.Common.{◌≡◌, ℕ, ◌<◌, ◌^◌, ◌%◌, ap, arith}
 use Rattle.definitions.specs.Fingerprints.{counted_lanes}
 use Rattle.laws.specs.Sizes.{CountsTellSizes}

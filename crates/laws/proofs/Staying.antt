@@ -1,4 +1,11 @@
--- No step touches what is kept of a session but its own delivery: histories only grow, and the versions of a session stay as they were.
+-- No step touches what is kept of a session but its own delivery.
+-- Histories only grow: after an insert or an Absorb a history begins with what it was before (`Extends`). So a
+-- version, the first n entries of a history, is the same set in each later world, and no node comes or goes (`Grows`).
+-- A step keeps accepted tables and sets within their caps (`Stays`): an open and a delivery change no node, an insert
+-- and an Absorb put in items only below the cap.
+-- What is kept of a session speaks of its two versions and of numbers of the session. A step that is not its own
+-- delivery changes neither. Its own delivery changes the numbers of this session alone.
+-- docs/LAWS.md: What a session keeps (`sessions_stay`, `sessions_keep_nodes`).
 use Rattle.std.proofs.Common.{◌≡◌, ℕ, ◌+◌, ◌≤◌, false, List, [], ◌∷◌, ◌++◌, length, take, fold, slice_get, Option, Some, None, unwrap_or, if◌then◌else◌, inl, inr, refl, sym, ap, subst, ◌∙◌, arith, length-set}
 use Rattle.std.specs.Prelude.{IfSome, option_map, slice_index_or, ◌==◌}
 use Rattle.definitions.proofs.Words.{AllByRecursion, Item, Summary, History, content, version, Insertion, New, Already, Full, insertion, history_after, World, Session, Node, Side, Initiator, Responder, Step, no_node, node_at, peer_at, initiator_of, responder_of, has_ended, talk, initiator_knowledge, responder_knowledge, set_of, with_history, insert_at, Absorbing, absorb_one, absorb_all, absorb_into, absorb_side, absorb_at, step, initiator_at, most_parts, responder_at, IsNode}

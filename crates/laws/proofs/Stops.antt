@@ -1,4 +1,12 @@
--- One end stops: what is placed compares no ranges of higher ranks than its own message, and each reply compares lower ones.
+-- One end stops: what is placed compares no ranges of higher ranks than its own message, and each reply compares lower
+-- ones.
+-- Say that an end may reply n times (`MayReply`): it has heard nothing and its rank is below n, or the Sums of the own
+-- message that waits are under n in its set, or it takes no more. A message that is refused ends this. One that is
+-- placed has only open parts under n (Ends), so if it has an open part, n is above 0, and the reply's Sums are under n
+-- - 1: the end may reply n - 1 times after it. By induction over the messages an end replies at most n times in all.
+-- An initiator of rank i may reply i + 1 times after its opening, a responder of rank r as often as r + 1.
+-- The same count holds of all that is called for: it never asks whether the last reply may be sent.
+-- docs/LAWS.md: An end stops; What is called for is little (its number).
 use Rattle.std.proofs.Common.{◌≡◌, ℕ, ◌+◌, ◌-◌, ◌≤◌, ◌∙◌, Bool, true, false, List, [], ◌∷◌, length, Option, Some, None, refl, sym, subst, arith}
 use Rattle.std.specs.Prelude.{⊤, if◌then◌else◌}
 use Rattle.definitions.proofs.Words.{AllByRecursion, Summary, Message, has_open, RangesRise, opening_fault, place_fault, Peer, reply, Ready, rank, InitiatorStops, ResponderStops, End, Fresh, Over, Spent, Stage, Waits, after, after_answer, answer, answer_unless, answers, initiator, replied, responder}

@@ -1,4 +1,12 @@
 -- A message that is taken part by part is answered as it is answered as a whole.
+-- What is taken of the parts is a fold, and each field of it is what the whole message gives: the place is the fold of
+-- the placing, whether a part is open adds up by *or*, the reply is the replies one after another, and what is learned
+-- is appended part by part. A refusal of the placing stays, so the place at the end has the refusal of the first part
+-- that is refused, which is that of the whole message. A reply has too many parts as soon as a beginning of it has, so
+-- it does not matter whether the test is made at each part or at the end.
+-- So the answer at the end is the answer to the message (`ended-all`), and the end after it is the same (`after-all`).
+-- If a part was refused, the parts after it count for nothing in both.
+-- docs/LAWS.md: Parts are taken.
 use Rattle.std.proofs.Common.{◌≡◌, ℕ, ◌+◌, ◌<◌, ◌∙◌, Bool, true, false, List, [], ◌∷◌, ◌++◌, length, Option, Some, None, refl, sym, ap, arith, append_assoc}
 use Rattle.std.specs.Prelude.{◌||◌, fold, if◌then◌else◌}
 use Rattle.definitions.proofs.Words.{Summary, Part, Message, has_open, is_open, reply, reply_to, Place, Behind, Refused, next, finish, and_then, learn, max_parts, End, Ends, Fresh, Over, Refuses, Replies, Spent, Stage, Waits, after_answer, answer, answer_unless, is_sendable, own_of, reply_or_refuse, stage_behind, stage_fault, too_many_parts}

@@ -1,4 +1,12 @@
--- What is kept of a session tells whether it has ended, what both sides learned, and how many messages were made.
+-- What is kept of a session gives whether it has ended, what both sides learned, and how many messages were made.
+-- Take the talk of the session's two versions, of which d messages were delivered. If there is a message number d with
+-- an open part, the end that is to hear it takes it, so that end is not over, and neither is the session. If there is
+-- none, message number d - 1 had no open part: who sent it is over, and so is who heard it. So the session has ended
+-- exactly if both ends are over (`IsWithin`). While the responder has not begun, nothing was delivered, and its end
+-- counts as not over.
+-- What each end has learned is what the talk so far teaches its side, and both ends together have sent each message
+-- that was made (Turns).
+-- docs/LAWS.md: What a session keeps (`sessions_tell`).
 use Rattle.std.proofs.Common.{◌≡◌, ℕ, zero, suc, ◌+◌, ◌<◌, ◌≤◌, Bool, true, false, ◌&&◌, length, take, slice_get, Option, Some, None, unwrap_or, if◌then◌else◌, inl, inr, refl, sym, ap, subst, ◌∙◌, arith}
 use Rattle.std.specs.Prelude.{IfSome, option_map, ◌==◌}
 use Rattle.definitions.proofs.Words.{Summary, Message, has_open, Peer, reply, sender, talk, nothing, initiator_knows, responder_knows, End, Ends, Fresh, Over, Replies, Spent, Stage, Waits, after, after_answer, answer, is_live, stage_behind, initiator_at, responder_at, World, Session, peer_at, initiator_of, responder_of}

@@ -1,4 +1,11 @@
--- How often an item stands in a list, and sets that are told apart by it.
+-- How often an item occurs in a list, and sets that are compared by it.
+-- Two lists have the same items, each once, if each item occurs equally often in both and at most once in one of them.
+-- So a claim about lists becomes, for one item x at a time, a claim about numbers: `times x (xs ++ ys)` is the sum, a
+-- filter keeps `times x xs` or makes it 0, and in a set `times x` is at most 1. The difference of two sets inside a
+-- range is the whole difference, or nothing, as the range has x or not. Last come the set of a list and the union of
+-- two: they are sets, and have what the lists have.
+-- docs/LAWS.md: no law of its own. Knowledge is exact, Nothing wrong is learned, Nothing is learned twice and Parts
+-- are few count in this way.
 use Rattle.std.proofs.Common.{rules, ◌≡◌, ℕ, ◌+◌, ◌≤◌, Bool, true, false, not, ◌&&◌, ◌||◌, map, zero-add, List, [], ◌∷◌, ◌++◌, cond, ltb, Less, Equal, refl, sym, ap, subst, ◌∙◌, arith, Greater}
 use Rattle.std.specs.List.{IsDistinct, filter}
 use Rattle.std.specs.List.Sorted.{IsStrictlySortedBy}
@@ -6,7 +13,7 @@ use Rattle.std.specs.declared.cmp.Ordering.{Ordering}
 use Rattle.definitions.proofs.Words.{AllByRecursion, items_where_true, match_ordering, ordering_reverse, Item, item_cmp, same_item, Range, contains, IsSet, has, items_in, difference, add_item, union, set_of, ListsOnce}
 use Rattle.definitions.proofs.Lemmas.{lt-ltb, ltb-false, nat_list_cmp_total, tied_itself, any-filter_same, IsStrictlySortedBy-filter, same_item-eq, same_item-itself, item_cmp-eq}
 
--- ==== How often an item stands in a list: it adds up over lists joined end to end, and tells which items a list has, each once
+-- ==== How often an item occurs in a list: it adds up over lists joined end to end, and shows which items a list has
 
 -- n where b is true, and else 0
 abbrev pub when : Bool → ℕ → ℕ

@@ -1,4 +1,13 @@
 -- How a talk goes on, and how its two ends step through it.
+-- A talk of k messages is how a longer one begins. Message number k is the last of the first k + 1, and the next one
+-- is the reply of the other peer to it, if it has an open part. Even messages are heard by the responder, odd ones by
+-- the initiator, so a message changes only the end that hears it.
+-- Two ends meet in a message M (`Meets`) if e spoke it last, d takes messages and does not refuse M, the open ranges
+-- of M do not overlap, and all messages from M on may be sent. Then d answers with its reply, or ends. If it replies,
+-- the two meet again in the reply with their parts changed: an honest reply is placed after M, and what it opens does
+-- not overlap. So by induction on k: what each has learned and sent is what the talk so far says, and message number k
+-- is answered by number k + 1 (`Turn`). The opening is such a meeting.
+-- docs/LAWS.md: Talks grow by replies; Two ends hand each other the talk.
 use Rattle.std.proofs.Common.{◌≡◌, ℕ, zero, suc, ◌+◌, ◌≤◌, Bool, true, false, not, List, [], ◌∷◌, ◌++◌, length, take, slice_get, Some, None, if◌then◌else◌, refl, sym, ap, subst, ◌∙◌, arith}
 use Rattle.definitions.proofs.Words.{AllByRecursion, Apart, Summary, IsExact, Message, has_open, open_ranges, opening, Peer, reply, and_then, knows, learn, of_first, of_second, sender, talk, talk_from, max_parts, Ready, End, Ends, Replies, Waits, Over, Refuses, too_many_parts, after, after_answer, answer, answer_unless, heard, initiator, initiator_at, is_live, own_of, reply_or_refuse, responder, responder_at, stage_behind, stage_fault}
 use Rattle.definitions.proofs.Lemmas.{le-leb, take_all, All-map}

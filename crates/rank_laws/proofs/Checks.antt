@@ -1,4 +1,15 @@
 -- The least rank table, and what a check answers.
+-- The ranks are found count by count, each from the ones before: the greater of the last rank and one more than the
+-- greatest rank of a share. A rank stays as it was found. So they do not fall, and if no count is stuck, each share is
+-- smaller than its count and has a rank below it: they are a rank table. They leave out no number, since one more than
+-- the rank of a smaller count is at most one more than the last rank. By induction on the count no rank table is below
+-- them anywhere. If there is a rank table, no count is stuck, since it asks for two shares or more of each count that
+-- is split.
+-- The checks by computation say what the definitions say: no list row past the limit, no stuck count, no rank above
+-- the rounds. If some rank table keeps to the rounds, the least one does.
+-- A staircase that is brought serves if each count up to the cap has a rank in it that its shares are below. Then the
+-- ranks by it are a rank table, so the table is to be accepted.
+-- docs/LAWS.md: The least rank table; What the checker says; A staircase that is brought.
 use Rattle.std.proofs.Common.{rules, ◌≡◌, ℕ, zero, suc, ◌+◌, ◌-◌, ◌<◌, ◌≤◌, false, None, List, [], ◌∷◌, length, refl, sym, ap, ◌∙◌, subst, arith, max, inl, inr, length-append, Bool, not, ◌||◌, cond}
 use Rattle.std.specs.Prelude.{slice_index, IsTrue, nat_lt, nat_le, option_map}
 use Rattle.definitions.proofs.Words.{AllByRecursion, list_all, list_any, option_or, Table, act, shares, is_split, Descends, IsRankTable, IsLeastRankTable, above_all, next_rank, ranks_upto, least_ranks, counts, is_stuck, first_stuck, Accepted, keeps_limit, first_long, first_deep, List_too_long, No_descent, Too_deep, Bad_certificate, deep_fault, check_fault, rank_by, ranks_by, is_unfit, first_unfit, check_with_fault, IsServing}

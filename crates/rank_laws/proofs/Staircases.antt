@@ -1,4 +1,15 @@
 -- Ranks that are kept as a staircase, and the loop that finds it.
+-- The staircase of a list of ranks has each count after which the rank rises, and the last count. It rises whatever
+-- the ranks are. The rank by it of n is the number of entries below n. If ranks begin at 0 and leave out no number,
+-- each entry is one step up, so that number is the rank: the ranks come back, and only such ranks do. Entry j is then
+-- the greatest count of rank at most j. Ranks that leave out numbers are packed by their staircase: lower ranks stay
+-- lower, so it still serves. The other way, two lists that rise, end alike and give the same ranks are the same, so a
+-- staircase comes back from its ranks.
+-- The loop keeps the steps below the last count. They rank all counts so far, and are as many as the last rank. So the
+-- next count is one step up exactly if the greatest rank of its shares is the last rank, which the steps alone decide.
+-- It finds the staircase of the least ranks, or the first count that is stuck.
+-- The first count that is too deep is the one after the entry at the rounds; so the check needs the steps alone.
+-- docs/LAWS.md: Ranks as a staircase; A staircase that is brought (`ranks_are_packed`); By the steps alone.
 use Rattle.std.proofs.Common.{rules, ◌≡◌, ℕ, zero, suc, ◌+◌, ◌-◌, ◌<◌, ◌≤◌, Bool, true, false, List, [], ◌∷◌, ◌++◌, length, refl, sym, ap, ◌∙◌, subst, arith, cond, inl, inr, length-append, Option, Some, None, max, ◌&&◌}
 use Rattle.std.specs.Prelude.{slice_index, nat_lt, find, option_map}
 use Rattle.definitions.proofs.Words.{AllByRecursion, range_with_len, IsStrictlyIncreasing, option_or, rank_by, IsStaircase, steps_from, staircase, IsRankTable, ranks_by, IsServing, above_all, next_rank, ranks_upto, least_ranks, is_stuck, first_stuck, found, counts, deep_fault, CheckFault, Too_deep, first_fall, steps_fault, check_fault, Table, shares, above_all_by, push_step, Climbing, Stuck_at, At, climbing_next, climb_to, find_steps, deep_by_steps, check_by_steps}

@@ -1,4 +1,11 @@
 -- The rows of a table, and the shares that a count is cut into.
+-- Shares are the differences of cuts that rise from 0 to n, without zeros; or, for a row that peels, the front and the
+-- rest. So they are positive and, if there are two or more, they add up to n; and since each is positive, two or more
+-- are each less than n. There are no more of them than the row has weights, so no more than the table is wide.
+-- Rows: they rise and the last one reaches the cap, so for each count up to the cap there is a first row that reaches
+-- it, none reaches past the cap, and some row reaches the cap.
+-- A count that is split is stuck exactly if it has fewer than two shares. Nothing is not cut: 0 has no two shares.
+-- docs/LAWS.md: Shares are parts; Lists are short (`each_served`, `rows_within`, `rows_cover`).
 use Rattle.std.proofs.Common.{rules, ◌≡◌, ℕ, suc, ◌+◌, ◌-◌, ◌*◌, ◌/◌, ◌<◌, ◌≤◌, Bool, true, false, List, [], ◌∷◌, length, refl, ap, ◌∙◌, arith, sum, cond, inl, inr, zero, ◌++◌, map}
 use Rattle.std.specs.Prelude.{nat_lt, nat_le, slice_index, IsTrue}
 use Rattle.definitions.proofs.Words.{AllByRecursion, list_any, Act, List_items, Split, Peel, Row, Table, act_in, act, running_sums, differences, cuts_by, without_zeros, shares_by, shares, width_of, widest, width, is_split, IsAct, IsTable, uptos, is_stuck}
