@@ -1,6 +1,5 @@
 -- The line that a fault prints.
---     wire_name f      the name of a refusal on the wire
---     code_name n      the name of the refusal of a session, by its number
+--     session_refusal_name n  the name of the refusal of a session, by its number
 --     accepted_text steps     the lines of a strategy that is accepted
 --     strategy_line f  the line of a text or a table that is no strategy
 --     check_line f     the line of a strategy that is not accepted
@@ -8,8 +7,6 @@
 use Rattle.std.specs.Prelude.{ℕ, List, [], ◌∷◌, ◌++◌, ◌==◌, if◌then◌else◌, codes, flat_map}
 use Rattle.std.specs.Fmt.{decimal}
 use Rattle.wire_core.specs.Refused.{fault_number}
-use Rattle.wire_core.specs.declared.fault.WireFault.{WireFault}
-use Rattle.wire_core.specs.declared.fault.WireFault.TheVariants.{BadHello, FrameLength, Truncated, BadKind, BadBound, EmptyRange, ItemLength, ItemOrder, ItemOutside, MarkPadding, Trailing, TooManyParts}
 use Rattle.strategy_core.specs.Texts.{key_of}
 use Rattle.strategy_core.specs.declared.fault.StrategyFault.{StrategyFault}
 use Rattle.strategy_core.specs.declared.fault.StrategyFault.TheVariants.{NotToml, Missing, BadNumber, RowOrder, RowAction, CapMismatch}
@@ -17,20 +14,6 @@ use Rattle.strategy_check.specs.declared.fault.CheckFault.{CheckFault}
 use Rattle.strategy_check.specs.declared.fault.CheckFault.TheVariants.{NoDescent, ListTooLong, TooDeep, BadCertificate}
 use Rattle.printing_core.specs.declared.fault.Fault.{Fault}
 use Rattle.printing_core.specs.declared.fault.Fault.TheVariants.{CannotRead, BadItemLine, TooManyItems, BadScenario, BadStep, Strategy, Check, Wire, Misplaced, Bind, Connect, Accept, Session, PeerRefused, ReaderFailed, WriterFailed, Memory}
-
-abbrev pub wire_name : WireFault → List ℕ
-wire_name BadHello = codes "BadHello"
-wire_name FrameLength = codes "FrameLength"
-wire_name Truncated = codes "Truncated"
-wire_name BadKind = codes "BadKind"
-wire_name BadBound = codes "BadBound"
-wire_name EmptyRange = codes "EmptyRange"
-wire_name ItemLength = codes "ItemLength"
-wire_name ItemOrder = codes "ItemOrder"
-wire_name ItemOutside = codes "ItemOutside"
-wire_name MarkPadding = codes "MarkPadding"
-wire_name Trailing = codes "Trailing"
-wire_name TooManyParts = codes "TooManyParts"
 
 abbrev pub strategy_line : StrategyFault → List ℕ
 strategy_line NotToml = codes "refused 30 NotToml"
@@ -46,10 +29,22 @@ check_line (ListTooLong upto) = codes "refused 37 ListTooLong " ++ decimal upto
 check_line (TooDeep count rank) = codes "refused 38 TooDeep " ++ (decimal count ++ (codes " " ++ decimal rank))
 check_line (BadCertificate count) = codes "refused 39 BadCertificate " ++ decimal count
 
--- the refusals of an end, and those of a session's table and gate
-abbrev pub late_name : ℕ → List ℕ
-late_name n =
-    if n == 20 then codes "Misplaced"
+-- the refusals of the wire, of an end, and of the table or the gate of its process
+abbrev pub session_refusal_name : ℕ → List ℕ
+session_refusal_name n =
+    if n == 1 then codes "BadHello"
+    else if n == 2 then codes "FrameLength"
+    else if n == 3 then codes "Truncated"
+    else if n == 4 then codes "BadKind"
+    else if n == 5 then codes "BadBound"
+    else if n == 6 then codes "EmptyRange"
+    else if n == 7 then codes "ItemLength"
+    else if n == 8 then codes "ItemOrder"
+    else if n == 9 then codes "ItemOutside"
+    else if n == 10 then codes "MarkPadding"
+    else if n == 11 then codes "Trailing"
+    else if n == 12 then codes "TooManyParts"
+    else if n == 20 then codes "Misplaced"
     else if n == 21 then codes "Stall"
     else if n == 22 then codes "Gap"
     else if n == 23 then codes "MissingAnswer"
@@ -63,22 +58,6 @@ late_name n =
     else if n == 54 then codes "GateClosed"
     else codes "Other"
 
-abbrev pub code_name : ℕ → List ℕ
-code_name n =
-    if n == 1 then codes "BadHello"
-    else if n == 2 then codes "FrameLength"
-    else if n == 3 then codes "Truncated"
-    else if n == 4 then codes "BadKind"
-    else if n == 5 then codes "BadBound"
-    else if n == 6 then codes "EmptyRange"
-    else if n == 7 then codes "ItemLength"
-    else if n == 8 then codes "ItemOrder"
-    else if n == 9 then codes "ItemOutside"
-    else if n == 10 then codes "MarkPadding"
-    else if n == 11 then codes "Trailing"
-    else if n == 12 then codes "TooManyParts"
-    else late_name n
-
 -- the line of every fault
 abbrev pub fault_line : Fault → List ℕ
 fault_line CannotRead = codes "refused 80 CannotRead"
@@ -88,12 +67,12 @@ fault_line BadScenario = codes "refused 83 BadScenario"
 fault_line (BadStep step) = codes "refused 84 BadStep " ++ decimal step
 fault_line (Strategy f) = strategy_line f
 fault_line (Check f) = check_line f
-fault_line (Wire f) = codes "refused " ++ (decimal (fault_number f) ++ (codes " " ++ wire_name f))
+fault_line (Wire f) = codes "refused " ++ (decimal (fault_number f) ++ (codes " " ++ session_refusal_name (fault_number f)))
 fault_line Misplaced = codes "refused 20 Misplaced"
 fault_line Bind = codes "refused 60 Bind"
 fault_line Connect = codes "refused 61 Connect"
 fault_line Accept = codes "refused 62 Accept"
-fault_line (Session code) = codes "refused " ++ (decimal code ++ (codes " " ++ code_name code))
+fault_line (Session code) = codes "refused " ++ (decimal code ++ (codes " " ++ session_refusal_name code))
 fault_line (PeerRefused code) = codes "peer refused " ++ decimal code
 fault_line ReaderFailed = codes "io read"
 fault_line WriterFailed = codes "io write"

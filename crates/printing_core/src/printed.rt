@@ -2,7 +2,7 @@
 
 ghost use Rattle.std.specs.Prelude.{◌≡◌, Some};
 ghost use Rattle.printing_core.specs.FaultsOf.{status_of, IsWordsStatus};
-ghost use Rattle.printing_core.specs.Lines.{wire_name, late_name, code_name, strategy_line, check_line, fault_line};
+ghost use Rattle.printing_core.specs.Lines.{session_refusal_name, strategy_line, check_line, fault_line};
 
 use crate::fault::Fault;
 use settings_core::WordsFault;
@@ -11,55 +11,13 @@ use std::io::Write;
 use std::net::SocketAddr;
 use strategy_check::CheckFault;
 use strategy_core::StrategyFault;
-use wire_core::WireFault;
 
 /// The status of a call whose words ask for nothing.
 const USAGE_STATUS: u8 = 2;
 
-/// The name of a refusal on the wire.
-fn wire_name(fault: WireFault) -> &'static str
-    ensures { result.now ≡ wire_name fault }
-{
-    match fault {
-        WireFault::BadHello => "BadHello",
-        WireFault::FrameLength => "FrameLength",
-        WireFault::Truncated => "Truncated",
-        WireFault::BadKind => "BadKind",
-        WireFault::BadBound => "BadBound",
-        WireFault::EmptyRange => "EmptyRange",
-        WireFault::ItemLength => "ItemLength",
-        WireFault::ItemOrder => "ItemOrder",
-        WireFault::ItemOutside => "ItemOutside",
-        WireFault::MarkPadding => "MarkPadding",
-        WireFault::Trailing => "Trailing",
-        WireFault::TooManyParts => "TooManyParts",
-    }
-}
-
-/// The name of a refusal by an end of a session, or by the table or the gate of its process.
-fn late_name(code: u8) -> &'static str
-    ensures { result.now ≡ late_name code }
-{
-    match code {
-        20 => "Misplaced",
-        21 => "Stall",
-        22 => "Gap",
-        23 => "MissingAnswer",
-        24 => "MarkCount",
-        25 => "AnswerRepeats",
-        26 => "Spent",
-        50 => "TableFull",
-        51 => "Unknown",
-        52 => "OverBound",
-        53 => "SerialsSpent",
-        54 => "GateClosed",
-        _ => "Other",
-    }
-}
-
-/// The name of the refusal of a session, by its number.
-fn code_name(code: u8) -> &'static str
-    ensures { result.now ≡ code_name code }
+/// The name of the refusal of a session, by its number: one of the wire, of an end, or of the table or the gate of its process.
+fn session_refusal_name(code: u8) -> &'static str
+    ensures { result.now ≡ session_refusal_name code }
 {
     match code {
         1 => "BadHello",
@@ -74,7 +32,19 @@ fn code_name(code: u8) -> &'static str
         10 => "MarkPadding",
         11 => "Trailing",
         12 => "TooManyParts",
-        _ => late_name(code),
+        20 => "Misplaced",
+        21 => "Stall",
+        22 => "Gap",
+        23 => "MissingAnswer",
+        24 => "MarkCount",
+        25 => "AnswerRepeats",
+        26 => "Spent",
+        50 => "TableFull",
+        51 => "Unknown",
+        52 => "OverBound",
+        53 => "SerialsSpent",
+        54 => "GateClosed",
+        _ => "Other",
     }
 }
 
@@ -153,12 +123,17 @@ impl fmt::Display for Fault {
             Fault::BadStep { step } => write!(f, "refused 84 BadStep {step}"),
             Fault::Strategy(fault) => write!(f, "{}", StrategyLine(*fault)),
             Fault::Check(fault) => write!(f, "{}", CheckLine(*fault)),
-            Fault::Wire(fault) => write!(f, "refused {} {}", fault.number(), wire_name(*fault)),
+            Fault::Wire(fault) => {
+                let code = fault.number();
+                write!(f, "refused {code} {}", session_refusal_name(code))
+            }
             Fault::Misplaced => write!(f, "refused 20 Misplaced"),
             Fault::Bind => write!(f, "refused 60 Bind"),
             Fault::Connect => write!(f, "refused 61 Connect"),
             Fault::Accept => write!(f, "refused 62 Accept"),
-            Fault::Session { code } => write!(f, "refused {code} {}", code_name(*code)),
+            Fault::Session { code } => {
+                write!(f, "refused {code} {}", session_refusal_name(*code))
+            },
             Fault::PeerRefused { code } => write!(f, "peer refused {code}"),
             Fault::ReaderFailed => write!(f, "io read"),
             Fault::WriterFailed => write!(f, "io write"),
