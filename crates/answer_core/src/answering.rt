@@ -1,16 +1,15 @@
 ghost use Rattle.std.specs.Prelude.{◌≡◌, ◌≤◌, false, length};
 ghost use Rattle.store_core.specs.Flat.{flat_items};
-ghost use Rattle.ends_core.specs.Answered.{Asked, Prepared, Answered};
-ghost use Rattle.ends_core.specs.declared.answering.AnswerFault.TheVariants as faults;
-ghost use Rattle.ends_core.specs.FaultsOf.{of_input, of_decoding, of_listing};
+ghost use Rattle.answer_core.specs.Answered.{Asked, Prepared, Answered};
+ghost use Rattle.answer_core.specs.declared.answering.AnswerFault.TheVariants as faults;
+ghost use Rattle.answer_core.specs.FaultsOf.{of_input, of_decoding, of_listing};
 
-use crate::input::{InputFault, read_input};
 use crate::listing::{ListReplyFault, list_reply};
-use crate::output::{WriterFailed, write_output};
+use io_core::{InputFault, Watched, WriterFailed, read_input, write_output};
 use std::alloc::{AllocError, Global};
 use std::io::{Read, Write};
 use store_core::FlatStore;
-use wire_core::{DecodeError, Message, Watched, WireFault, decode_message, encode_message};
+use wire_core::{DecodeError, Message, WireFault, decode_message, encode_message};
 
 /// Why no reply was written, or not all of it.
 #[derive(Clone, Copy, Debug, PartialEq, Eq)]

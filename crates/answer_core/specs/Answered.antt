@@ -11,10 +11,10 @@ use Rattle.definitions.specs.Wire.{two_lane_profile, Spells, message_text}
 use Rattle.definitions.specs.Faults.{FaultyMessage}
 use Rattle.definitions.specs.Replies.{reply}
 use Rattle.wire_core.specs.Refused.{fault_number}
-use Rattle.ends_core.specs.Inputs.{WasRead, IsTooLong}
-use Rattle.ends_core.specs.ListPeer.{list_peer, are_sums}
-use Rattle.ends_core.specs.declared.answering.AnswerFault.{AnswerFault}
-use Rattle.ends_core.specs.declared.answering.AnswerFault.TheVariants as faults
+use Rattle.io_core.specs.Inputs.{WasRead, IsTooLong}
+use Rattle.answer_core.specs.ListPeer.{list_peer, are_sums}
+use Rattle.answer_core.specs.declared.answering.AnswerFault.{AnswerFault}
+use Rattle.answer_core.specs.declared.answering.AnswerFault.TheVariants as faults
 
 -- the bytes that a reader has left before and after, and whether it failed
 pub record Reading : Type 0 where

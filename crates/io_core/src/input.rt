@@ -1,12 +1,12 @@
 //! Reading an input to its end.
 
 ghost use Rattle.std.specs.Prelude.{vec_len, ◌≡◌, ◌<◌, ◌≤◌, ◌⊎◌, ◌-◌, false, length, Err, IfOk, OnOk, IsTrue};
-ghost use Rattle.ends_core.specs.Inputs.{WasRead, ReadsMore, IsTooLong};
-ghost use Rattle.ends_core.specs.declared.input.InputFault.TheVariants as faults;
+ghost use Rattle.io_core.specs.Inputs.{WasRead, ReadsMore, IsTooLong};
+ghost use Rattle.io_core.specs.declared.input.InputFault.TheVariants as faults;
 
+use crate::watched::Watched;
 use std::alloc::{AllocError, Global};
 use std::io::Read;
-use wire_core::Watched;
 
 /// The greatest length of an input in bytes.
 pub const MAX_INPUT: usize = 16_777_216;

@@ -1,7 +1,7 @@
 ghost use Rattle.std.specs.Prelude.{◌≡◌, ◌||◌, false, is_err};
 ghost use Rattle.std.specs.Io.{ReadsAtMost, WritesAtMost};
 ghost use Rattle.std.specs.Io.KnownBytes.{ReadConsumes, WriteAppends, Keeps};
-ghost use Rattle.wire_core.specs.Watch.{failed_read, ended_read, failed_write, one_more};
+ghost use Rattle.io_core.specs.Watch.{failed_read, ended_read, failed_write, one_more};
 
 use std::io;
 use std::io::{Read, Write};
@@ -18,7 +18,7 @@ pub struct Watched<T> {
 }
 
 impl<T> Model for Watched<T> {
-    ghost use Rattle.wire_core.specs.Watch.{Watch};
+    ghost use Rattle.io_core.specs.Watch.{Watch};
 
     ghost Value = { Watch T };
 

@@ -1,7 +1,7 @@
 use Rattle.std.proofs.Common.{◌≡◌, length, inr, ap, arith, rules}
 use Rattle.std.proofs.lemmas.List.{length-append}
-use Rattle.ends_core.proofs.Streams.{consumes_nothing, consumes_more}
-use Rattle.ends_core.proofs.input.read_input.Goals as goal
+use Rattle.io_core.proofs.Streams.{consumes_nothing, consumes_more}
+use Rattle.io_core.proofs.input.read_input.Goals as goal
 
 pub chunks-init : goal.chunks-init
 chunks-init g c = record {

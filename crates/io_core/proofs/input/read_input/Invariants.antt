@@ -1,7 +1,7 @@
 use Rattle.std.proofs.Common.{◌≡◌, ◌<◌, ◌≤◌, ◌-◌, ◌+◌, false, length, vec_len}
 use Rattle.std.specs.Io.KnownBytes.{Consumes}
-use Rattle.ends_core.specs.Inputs.{max_input}
-use Rattle.ends_core.proofs.input.read_input.Given as goal
+use Rattle.io_core.specs.Inputs.{max_input}
+use Rattle.io_core.proofs.input.read_input.Given as goal
 
 -- what was read so far
 abbrev pub invariant-chunks : goal.invariant-chunks

@@ -3,8 +3,8 @@ use Rattle.std.specs.Prelude.{IsTrue}
 use Rattle.definitions.specs.Fingerprints.{two_lanes}
 use Rattle.definitions.specs.Replies as replies
 use Rattle.store_core.specs.Flat.{flat_items}
-use Rattle.ends_core.specs.ListPeer.{list_peer, are_sums}
-use Rattle.ends_core.proofs.listing.list_reply.Given as goal
+use Rattle.answer_core.specs.ListPeer.{list_peer, are_sums}
+use Rattle.answer_core.proofs.listing.list_reply.Given as goal
 
 abbrev pub invariant-loop-part : goal.invariant-loop-part
 invariant-loop-part l = record {

@@ -3,9 +3,9 @@ ghost use Rattle.std.specs.Option.{option_to_list};
 ghost use Rattle.definitions.specs.Fingerprints.{two_lanes};
 ghost use Rattle.definitions.specs.Replies as replies;
 ghost use Rattle.store_core.specs.Flat.{flat_items};
-ghost use Rattle.ends_core.specs.ListPeer.{list_peer, is_sum, are_sums};
-ghost use Rattle.ends_core.specs.FaultsOf.{list_fault_number};
-ghost use Rattle.ends_core.specs.declared.listing.ListReplyFault.TheVariants as faults;
+ghost use Rattle.answer_core.specs.ListPeer.{list_peer, is_sum, are_sums};
+ghost use Rattle.answer_core.specs.FaultsOf.{list_fault_number};
+ghost use Rattle.answer_core.specs.declared.listing.ListReplyFault.TheVariants as faults;
 
 use digest_core::Fingerprint;
 use std::alloc::{AllocError, AllocFailed, Global};

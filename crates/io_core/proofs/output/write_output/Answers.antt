@@ -1,7 +1,7 @@
 use Rattle.std.proofs.Common.{arith, ◌∙◌}
 use Rattle.std.proofs.lemmas.Grind.{common_steps}
-use Rattle.ends_core.proofs.Streams.{appends_more, took_some}
-use Rattle.ends_core.proofs.output.write_output.Goals as goal
+use Rattle.io_core.proofs.Streams.{appends_more, took_some}
+use Rattle.io_core.proofs.output.write_output.Goals as goal
 
 pub sent-preserved : goal.sent-preserved
 sent-preserved g c = record {

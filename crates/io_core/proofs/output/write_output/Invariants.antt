@@ -1,6 +1,6 @@
 use Rattle.std.proofs.Common.{length, take, false, ◌-◌, ◌≡◌, ◌≤◌}
 use Rattle.std.specs.Io.KnownBytes.{Appends}
-use Rattle.ends_core.proofs.output.write_output.Given as goal
+use Rattle.io_core.proofs.output.write_output.Given as goal
 
 abbrev pub invariant-sent : goal.invariant-sent
 invariant-sent g l = record {

@@ -3,8 +3,8 @@
 ghost use Rattle.std.specs.Prelude.{◌≡◌, ◌<◌, ℕ, false, length, take, OnOk, OnErr, IsTrue};
 ghost use Rattle.std.specs.Io.KnownBytes.{Appends};
 
+use crate::watched::Watched;
 use std::io::Write;
-use wire_core::Watched;
 
 /// The writer gave an error, or took no byte of a rest.
 #[derive(Clone, Copy, Debug, PartialEq, Eq)]

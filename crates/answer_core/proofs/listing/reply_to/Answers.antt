@@ -2,8 +2,8 @@ use Rattle.std.proofs.Common.{List, sym, subst}
 use Rattle.definitions.specs.Items.{Item, IsRange}
 use Rattle.definitions.specs.Messages.{Listing}
 use Rattle.definitions.specs.Wire.{two_lane_profile, IsPart}
-use Rattle.ends_core.proofs.Parts.{range_of_part}
-use Rattle.ends_core.proofs.listing.reply_to.Goals as goal
+use Rattle.answer_core.proofs.Parts.{range_of_part}
+use Rattle.answer_core.proofs.listing.reply_to.Goals as goal
 
 pub listing-requires : goal.listing-requires
 listing-requires c =
