@@ -3,7 +3,8 @@
 ghost use Rattle.std.specs.Prelude.{◌≤◌, length};
 ghost use Rattle.store_core.specs.Flat.{flat_items};
 
-use ends_core::{AnswerFault, answer};
+use answer_core::{AnswerFault, answer};
+use io_core::Watched;
 use item_core::Item;
 use std::alloc::Global;
 use std::io;
@@ -11,7 +12,6 @@ use std::io::{ErrorKind, Read, Write};
 use std::process::Abort;
 use std::test::Fail;
 use store_core::{FlatStore, RangeStore};
-use wire_core::Watched;
 
 /// A reader that gives one byte a call, and fails at call number `fail_at`, from 0.
 #[derive(Drop)]

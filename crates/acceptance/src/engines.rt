@@ -9,6 +9,7 @@ use crate::frames::{
 use crate::letters::item;
 use crate::tables::{BINARY_EIGHT, accepted};
 use digest_core::{Counted, Fingerprint};
+use io_core::Watched;
 use item_core::Item;
 use peer_threads::{Outcome, Shared, dial_one, serve_one};
 use range_tree::Tree;
@@ -22,7 +23,6 @@ use std::test::Fail;
 use strategy_check::Accepted;
 use version_lock::{Seat, VersionLock};
 use version_log::Published;
-use wire_core::Watched;
 
 type Lock = VersionLock<Tree>;
 

@@ -1,27 +1,19 @@
-//! The two ends of a session, and the reply to one message alone.
+//! The two ends of a session.
 #![tactic(auto)]
 
-mod answering;
 mod cutting;
 mod draft;
 mod end;
 mod initiator;
-mod input;
 mod learned;
 mod learning;
-mod listing;
-mod output;
 mod replying;
 mod responder;
 mod stage;
 mod taking;
 mod turn;
 
-pub use answering::{AnswerFault, answer};
 pub use initiator::Initiator;
-pub use input::{InputFault, MAX_INPUT, read_input};
 pub use learned::Learned;
-pub use listing::{ListReplyFault, list_reply};
-pub use output::{WriterFailed, write_output};
 pub use responder::Responder;
 pub use turn::{EndFault, Turn};

@@ -12,8 +12,8 @@ use crate::outcome::Outcome;
 use crate::party::Party;
 use crate::stop::Stop;
 use digest_core::Summary;
+use io_core::Watched;
 use std::io::Write;
-use wire_core::Watched;
 
 /// The number of the refusal for want of memory.
 const NO_MEMORY: u8 = 90;

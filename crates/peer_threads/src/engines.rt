@@ -37,13 +37,14 @@ use crate::stop::Stop;
 use crate::talk::{end, say, take, talk};
 use digest_core::{Counted, Fingerprint, Summary};
 use ends_core::{Initiator, Responder};
+use io_core::Watched;
 use place_core::{Place, PlaceFault};
 use std::alloc::{AllocError, Global};
 use std::io::{Read, Write};
 use std::sync::Wait;
 use store_core::RangeStore;
 use version_lock::{Pin, Seat};
-use wire_core::{Event, Message, Part, Watched};
+use wire_core::{Event, Message, Part};
 
 /// What has come of a session before it is opened: the one part of the peer's first message, and what was read behind
 /// its end.

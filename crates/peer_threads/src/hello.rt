@@ -7,8 +7,9 @@ ghost use Rattle.peer_threads.specs.Hellos.{HelloRead};
 use crate::outcome::Side;
 use crate::piece::are_bytes;
 use crate::stop::Stop;
+use io_core::Watched;
 use std::io::Read;
-use wire_core::{Watched, WireFault};
+use wire_core::WireFault;
 
 /// The length of a hello.
 const LENGTH: usize = 4;

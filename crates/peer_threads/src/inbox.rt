@@ -12,10 +12,11 @@ use crate::outcome::Side;
 use crate::piece::Piece;
 use crate::stop::Stop;
 use digest_core::Summary;
+use io_core::Watched;
 use std::alloc::{AllocError, Global};
 use std::io::Read;
 use std::marker::Model;
-use wire_core::{Event, Feed, Watched, WireFault};
+use wire_core::{Event, Feed, WireFault};
 
 /// How often a session may read.
 const MAX_READS: u64 = 1 << 32;

@@ -5,10 +5,10 @@ ghost use Rattle.std.specs.Io.KnownBytes.{Appends};
 ghost use Rattle.peer_threads.specs.Outboxes.{outbox_state, hello_due, refusal_text, Begins, BreaksIn, WroteSo};
 
 use digest_core::Summary;
-use ends_core::{WriterFailed, write_output};
+use io_core::{Watched, WriterFailed, write_output};
 use std::io::Write;
 use std::marker::{Model, PhantomData};
-use wire_core::{Watched, encode_fault, encode_hello};
+use wire_core::{encode_fault, encode_hello};
 
 /// What a side has written: whether its hello, and how many messages whole.
 #[derive(Drop)]

@@ -3,13 +3,13 @@
 ghost use Rattle.std.specs.Prelude.{◌≡◌, ◌≤◌, [], IfOk, OnErr, IsTrue, length, drop, vec_len};
 ghost use Rattle.std.specs.Io.KnownBytes.{Consumes};
 ghost use Rattle.definitions.specs.Items.{IsBytes};
-ghost use Rattle.wire_core.specs.Watch.{one_more};
+ghost use Rattle.io_core.specs.Watch.{one_more};
 
+use io_core::Watched;
 use std::alloc::{AllocError, Global};
 use std::io;
 use std::io::Read;
 use std::marker::Model;
-use wire_core::Watched;
 
 /// The greatest number of bytes that one read takes.
 const ROOM: usize = 65_536;

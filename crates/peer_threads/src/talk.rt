@@ -21,9 +21,10 @@ use crate::party::Party;
 use crate::stop::Stop;
 use digest_core::Summary;
 use ends_core::Turn;
+use io_core::Watched;
 use std::io::{Read, Write};
 use std::sync::Wait;
-use wire_core::{Event, Message, Part, Watched, encode_message};
+use wire_core::{Event, Message, Part, encode_message};
 
 /// Says one message: takes all memory for it, counts it in the table, writes it, and asks the gate.
 pub(crate) fn say<T: Wait, G: Gate, W: Write, F: Summary>(

@@ -9,6 +9,7 @@ use crate::outcome::Outcome;
 use crate::shared::Shared;
 use crate::source::{Source, SourceFault};
 use ends_core::Learned;
+use io_core::Watched;
 use item_core::Item;
 use std::alloc::Global;
 use std::io::{Read, Write};
@@ -16,7 +17,6 @@ use std::sync::{OnceLock, Wait};
 use store_core::RangeStore;
 use version_lock::Seat;
 use version_log::LogFault;
-use wire_core::Watched;
 
 /// Where all workers get their connections from.
 #[derive(Drop)]

@@ -1,2 +1,0 @@
-mod Sims
-mod Finishing

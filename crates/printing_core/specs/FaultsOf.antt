@@ -6,17 +6,17 @@
 use Rattle.std.specs.Prelude.{ℕ, ◌≡◌, ◌⊎◌}
 use Rattle.wire_core.specs.declared.fault.DecodeError.{DecodeError}
 use Rattle.wire_core.specs.declared.fault.DecodeError.TheVariants as errors
-use Rattle.ends_core.specs.declared.input.InputFault.{InputFault}
-use Rattle.ends_core.specs.declared.input.InputFault.TheVariants as inputs
-use Rattle.ends_core.specs.declared.listing.ListReplyFault.{ListReplyFault}
-use Rattle.ends_core.specs.declared.listing.ListReplyFault.TheVariants as lists
-use Rattle.ends_core.specs.declared.answering.AnswerFault.{AnswerFault}
-use Rattle.ends_core.specs.declared.answering.AnswerFault.TheVariants as answers
+use Rattle.io_core.specs.declared.input.InputFault.{InputFault}
+use Rattle.io_core.specs.declared.input.InputFault.TheVariants as inputs
+use Rattle.answer_core.specs.declared.listing.ListReplyFault.{ListReplyFault}
+use Rattle.answer_core.specs.declared.listing.ListReplyFault.TheVariants as lists
+use Rattle.answer_core.specs.declared.answering.AnswerFault.{AnswerFault}
+use Rattle.answer_core.specs.declared.answering.AnswerFault.TheVariants as answers
 use Rattle.settings_core.specs.declared.fault.SettingsFault.{SettingsFault}
 use Rattle.settings_core.specs.declared.fault.SettingsFault.TheVariants as settings
-use Rattle.settings_core.specs.declared.scenario_fault.ScenarioFault.TheVariants as scenarios
-use Rattle.settings_core.specs.declared.scenario_fault.ScenarioError.{ScenarioError}
-use Rattle.settings_core.specs.declared.scenario_fault.ScenarioError.TheVariants as scenario_errors
+use Rattle.sim_core.specs.declared.scenario_fault.ScenarioFault.TheVariants as scenarios
+use Rattle.sim_core.specs.declared.scenario_fault.ScenarioError.{ScenarioError}
+use Rattle.sim_core.specs.declared.scenario_fault.ScenarioError.TheVariants as scenario_errors
 use Rattle.settings_core.specs.declared.words.WordsFault.{WordsFault}
 use Rattle.settings_core.specs.declared.words.WordsFault.TheVariants as words
 use Rattle.strategy_check.specs.declared.fault.CheckError.{CheckError}

@@ -4,6 +4,4 @@ pub mod Endings
 pub mod FaultsOf
 pub mod HexLines
 pub mod Lines
-pub mod Reports
-pub mod Runs
 pub mod SessionTexts

@@ -4,9 +4,11 @@ ghost use Rattle.std.specs.Prelude.{◌≡◌};
 ghost use Rattle.printing_core.specs.FaultsOf.{of_answer, of_input, of_decoding, of_listing, of_settings, of_scenario, of_check, of_log, of_listen, of_connect, of_source};
 ghost use Rattle.printing_core.specs.declared.fault.Fault.TheVariants as faults;
 
-use ends_core::{AnswerFault, InputFault, ListReplyFault, WriterFailed};
+use answer_core::{AnswerFault, ListReplyFault};
+use io_core::{InputFault, WriterFailed};
 use peer_threads::SourceFault;
-use settings_core::{ScenarioError, ScenarioFault, SettingsFault};
+use settings_core::SettingsFault;
+use sim_core::{ScenarioError, ScenarioFault};
 use std::alloc::{AllocError, AllocFailed};
 use strategy_check::{CheckError, CheckFault};
 use strategy_core::StrategyFault;

@@ -6,9 +6,7 @@ mod ending;
 mod fault;
 mod hexed;
 mod printed;
-mod reports;
 mod session_texts;
-mod sim;
 
 pub use accepted::checked_text;
 pub use ending::refusal_of;
@@ -16,4 +14,3 @@ pub use fault::Fault;
 pub use hexed::{decode_text, encode_lines};
 pub use printed::{tell, tell_address, tell_no_text, tell_words};
 pub use session_texts::{listening_line, outcome_text, served_text};
-pub use sim::sim_text;

@@ -4,12 +4,14 @@ ghost use Rattle.std.specs.Prelude.{◌≤◌, length};
 ghost use Rattle.store_core.specs.Flat.{flat_items};
 ghost use Rattle.settings_core.specs.Spans.{AreInSpan};
 
+use answer_core::{answer, list_reply};
 use crate::opening::read_opening;
 use crate::serve::{Serving, serve};
 use crate::sync::{Asking, sync};
-use ends_core::{answer, list_reply, read_input, write_output};
-use printing_core::{Fault, checked_text, decode_text, encode_lines, sim_text, tell, tell_words};
-use settings_core::{Command, read_items, read_strategy, read_words, scenario_of};
+use io_core::{Watched, read_input, write_output};
+use printing_core::{Fault, checked_text, decode_text, encode_lines, tell, tell_words};
+use settings_core::{Command, read_items, read_strategy, read_words};
+use sim_core::{scenario_of, sim_text};
 use std::alloc::Global;
 use std::convert::AsStr;
 use std::io::{Read, Write};
@@ -18,7 +20,7 @@ use std::rt::Files;
 use std::sync::Wait;
 use std::thread::Threads;
 use store_core::FlatStore;
-use wire_core::{Watched, decode_message};
+use wire_core::decode_message;
 
 /// The greatest number of different items of `answer`.
 const MAX_ITEMS: usize = 65_536;

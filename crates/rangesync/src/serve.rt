@@ -4,7 +4,7 @@ ghost use Rattle.std.specs.Prelude.{◌≡◌};
 ghost use Rattle.settings_core.specs.Spans.{IsWorkerCount};
 
 use crate::opening::Opening;
-use ends_core::{WriterFailed, write_output};
+use io_core::{Watched, WriterFailed, write_output};
 use peer_threads::{OpenGate, Shared, run_workers};
 use printing_core::{Fault, listening_line, refusal_of, served_text, tell_address};
 use session_table::SessionTable;
@@ -15,7 +15,6 @@ use std::sync::{Mutex, Wait};
 use std::thread::Threads;
 use tcp_front::{Listener, listen};
 use version_lock::VersionLock;
-use wire_core::Watched;
 
 /// How sessions are served.
 #[derive(Clone, Copy)]

@@ -4,7 +4,7 @@ ghost use Rattle.std.specs.Prelude.{◌≡◌};
 
 use crate::opening::Opening;
 use digest_core::{Counted, Fingerprint};
-use ends_core::write_output;
+use io_core::{Watched, write_output};
 use peer_threads::{OpenGate, Shared, dial_one};
 use printing_core::{Fault, outcome_text};
 use session_table::SessionTable;
@@ -14,7 +14,6 @@ use std::net::{Net, TcpStream};
 use std::sync::{Mutex, Wait};
 use tcp_front::connect;
 use version_lock::VersionLock;
-use wire_core::Watched;
 
 /// With whom a session is run.
 #[derive(Clone, Copy)]

@@ -1,4 +1,2 @@
 mod Adding
-mod Numbers
-mod ScenarioReadings
 mod Values

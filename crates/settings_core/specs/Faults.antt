@@ -8,8 +8,8 @@ use Rattle.definitions.specs.Items.{Item}
 use Rattle.definitions.specs.Sets.{set_of}
 use Rattle.store_core.specs.declared.flat_store.FlatStore.{FlatStore}
 use Rattle.store_core.specs.Flat.{flat_items}
-use Rattle.ends_core.specs.declared.input.InputFault.{InputFault}
-use Rattle.ends_core.specs.declared.input.InputFault.TheVariants as inputs
+use Rattle.io_core.specs.declared.input.InputFault.{InputFault}
+use Rattle.io_core.specs.declared.input.InputFault.TheVariants as inputs
 use Rattle.strategy_core.specs.declared.fault.StrategyError.{StrategyError}
 use Rattle.strategy_core.specs.declared.fault.StrategyError.TheVariants as strategies
 use Rattle.settings_core.specs.ItemFiles.{file_items}

@@ -2,10 +2,5 @@ pub mod Calls
 pub mod Faults
 pub mod Files
 pub mod ItemFiles
-pub mod Nodes
 pub mod Program
-pub mod ScenarioFaults
-pub mod ScenarioOpens
-pub mod Scenarios
 pub mod Spans
-pub mod StepTexts

@@ -4,7 +4,7 @@ ghost use Rattle.std.specs.Prelude.{◌≡◌};
 ghost use Rattle.settings_core.specs.Faults.{of_input, of_strategy};
 ghost use Rattle.settings_core.specs.declared.fault.SettingsFault.TheVariants as faults;
 
-use ends_core::InputFault;
+use io_core::InputFault;
 use std::alloc::{AllocError, AllocFailed};
 use strategy_core::{StrategyError, StrategyFault};
 use thiserror::Error;

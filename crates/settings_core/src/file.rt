@@ -5,12 +5,11 @@ ghost use Rattle.definitions.specs.Items.{IsBytes};
 ghost use Rattle.settings_core.specs.Files.{IsFileText, IsUnread};
 
 use crate::fault::SettingsFault;
-use ends_core::read_input;
+use io_core::{Watched, read_input};
 use std::alloc::Global;
 use std::io::Read;
 use std::rt::Files;
 use std::{fs, io};
-use wire_core::Watched;
 
 /// Tells that each number of the bytes is below 256; nothing is done.
 fn are_bytes(bytes: &[u8])

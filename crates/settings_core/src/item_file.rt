@@ -62,7 +62,7 @@ fn digits_in(line: &[u8]) -> &[u8]
 }
 
 /// The item that hex digits spell, if they spell one.
-pub(crate) fn item_of(digits: &[u8]) -> Option<Item>
+pub fn item_of(digits: &[u8]) -> Option<Item>
     ensures { result ≡ decoded (decode_of digits.now) }
 {
     if digits.len() > 128 {

@@ -14,7 +14,6 @@ pub mod Parts
 pub mod Same
 pub mod SameBodies
 pub mod Packed
-pub mod Watch
 pub mod Events
 pub mod Standings
 pub mod Feeds

@@ -15,7 +15,6 @@ mod reading;
 mod spelling;
 mod standing;
 mod stream;
-mod watched;
 
 pub use decoding::decode_message;
 pub use event::Event;
@@ -25,4 +24,3 @@ pub use marks::Marks;
 pub use message::{MAX_PARTS, Message, TooManyParts};
 pub use part::{Part, PartKind};
 pub use spelling::{encode_fault, encode_hello, encode_message, encode_part};
-pub use watched::Watched;

@@ -1,0 +1,11 @@
+pub use Rattle.definitions.specs.Messages
+pub use Rattle.definitions.specs.Strategies
+pub use Rattle.definitions.specs.Replies
+pub use Rattle.definitions.specs.Wire
+pub use Rattle.definitions.specs.Faults
+pub use Rattle.store_core.specs.Flat
+pub use Rattle.wire_core.specs.Refused
+pub use Rattle.io_core.specs.Inputs
+pub mod ListPeer
+pub mod FaultsOf
+pub mod Answered

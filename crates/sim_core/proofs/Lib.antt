@@ -1,0 +1,4 @@
+mod Finishing
+mod Numbers
+mod ScenarioReadings
+mod Sims

@@ -1,0 +1,11 @@
+pub use Rattle.definitions.specs.Worlds
+pub use Rattle.world_core.specs.Nodes
+pub use Rattle.world_core.specs.Steps
+pub use Rattle.settings_core.specs.ItemFiles
+pub mod Nodes
+pub mod Reports
+pub mod Runs
+pub mod ScenarioFaults
+pub mod ScenarioOpens
+pub mod Scenarios
+pub mod StepTexts

@@ -1,0 +1,116 @@
+//! The run of a scenario.
+
+ghost use Rattle.std.specs.Prelude.{◌≡◌, [], ◌∷◌, ◌++◌, IfOk, OnOk, map, string_bytes};
+ghost use Rattle.definitions.specs.Fingerprints.{two_lanes};
+ghost use Rattle.definitions.specs.Worlds.{Deliver, step};
+ghost use Rattle.sim_core.specs.Runs.{node_of, is_sent, delivered, after_step, after_steps, HasEnded, EndsFinished, FinishesEnd, start_of, sim_text};
+
+use crate::reports::reports_text;
+use crate::scenario::{Scenario, ScenarioNode, ScenarioStep};
+use crate::scenario_fault::{ScenarioError, ScenarioFault};
+use std::alloc::{AllocError, Global};
+use world_core::{Did, Setup, SetupFault, Step, World};
+
+/// The most messages of a session: 3 + 2 * 255, as no rank is above 255.
+const MAX_MESSAGES: usize = 513;
+
+/// Adds a node of a scenario.
+fn add_node(alloc: Global, setup: &mut Setup, node: ScenarioNode) -> Result<(), ScenarioError>
+    ensures { OnOk result (setup.new ≡ setup.old ++ node_of node ∷ []) }
+{
+    let ScenarioNode { accepted, items } = node;
+    let Err(refused) = setup.add_node(alloc, accepted, &items) else {
+        return Ok(());
+    };
+    let (_accepted, fault) = refused;
+    match fault {
+        SetupFault::Full => Err(ScenarioError::Fault(ScenarioFault::TooManyItems)),
+        SetupFault::Memory => Err(ScenarioError::Memory),
+    }
+}
+
+/// The nodes that the run begins with.
+fn setup_of(alloc: Global, nodes: Vec<ScenarioNode>) -> Result<Setup, ScenarioError>
+    ensures { IfOk result (λ setup. setup ≡ map node_of nodes.items) }
+{
+    let mut setup = Setup::new(alloc);
+    for node in nodes {
+        add_node(alloc, &mut setup, node)?;
+    }
+    Ok(setup)
+}
+
+/// Hands the last message of a session over. Whether it was answered.
+fn deliver(alloc: Global, world: &mut World<'_>, session: usize) -> Result<bool, AllocError>
+    ensures world { OnOk result (world.new ≡ (step two_lanes world.old (Deliver session)).0) }
+    ensures sent { IfOk result (λ sent. sent ≡ is_sent (step two_lanes world.old (Deliver session)).1) }
+{
+    match world.step(alloc, Step::Deliver(session))? {
+        Did::Sent => Ok(true),
+        _ => Ok(false),
+    }
+}
+
+/// Hands the last message of a session over again and again, until none follows, at most so many times.
+fn deliver_often(
+    alloc: Global,
+    world: &mut World<'_>,
+    session: usize,
+    times: usize,
+) -> Result<(), AllocError>
+    ensures { OnOk result (world.new ≡ delivered times world.old session) }
+{
+    let mut left = times;
+    while left > 0 {
+        left -= 1;
+        if !deliver(alloc, world, session)? {
+            return Ok(());
+        }
+    }
+    Ok(())
+}
+
+/// Hands the last message of a session over again and again, until the session has ended.
+fn finish(alloc: Global, world: &mut World<'_>, session: usize) -> Result<(), AllocError>
+    ensures world { OnOk result (world.new ≡ delivered MAX_MESSAGES world.old session) }
+    ensures ended { OnOk result (HasEnded session world.new) }
+{
+    let _count = world.sessions(); // which tells that so many deliveries end it
+    deliver_often(alloc, world, session, MAX_MESSAGES)
+}
+
+/// Does a step of a scenario. Behind a `finish` the session has ended.
+fn do_step(alloc: Global, world: &mut World<'_>, step: &ScenarioStep) -> Result<(), AllocError>
+    ensures world { OnOk result (world.new ≡ after_step world.old step.now) }
+    ensures ended { OnOk result (EndsFinished step.now world.new) }
+{
+    let step = match step {
+        ScenarioStep::Do(step) => *step,
+        ScenarioStep::Finish(session) => return finish(alloc, world, *session),
+    };
+    world.step(alloc, step)?;
+    Ok(())
+}
+
+/// Does the steps of a scenario in turn.
+fn do_steps(alloc: Global, world: &mut World<'_>, steps: &[ScenarioStep]) -> Result<(), AllocError>
+    ensures world { OnOk result (world.new ≡ after_steps world.old steps.now) }
+    ensures ended { OnOk result (FinishesEnd world.old steps.now) }
+{
+    for step in steps {
+        do_step(alloc, world, step)?;
+    }
+    Ok(())
+}
+
+/// The lines of the sessions of a scenario that was run. Behind each `finish` of it the session has ended.
+pub fn sim_text(alloc: Global, scenario: Scenario) -> Result<String, ScenarioError>
+    ensures text { IfOk result (λ text. string_bytes text ≡ sim_text scenario) }
+    ensures ended { OnOk result (FinishesEnd (start_of scenario) scenario.steps) }
+{
+    let Scenario { nodes, steps } = scenario;
+    let setup = setup_of(alloc, nodes)?;
+    let mut world: World<'_> = World::new(alloc, &setup)?;
+    do_steps(alloc, &mut world, &steps)?;
+    Ok(reports_text(alloc, &world)?)
+}
