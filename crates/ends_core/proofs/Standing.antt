@@ -15,9 +15,11 @@ use Rattle.definitions.specs.Taking.{nothing_taken, taken, taken_all, ended, end
 use Rattle.definitions.specs.Talks.{nothing}
 use Rattle.laws.specs.Taking.{PartsAreTaken}
 use Rattle.definitions.specs.Sets.{IsSet}
-use Rattle.definitions.specs.Theorems.{AreParts, Ready, StandsFirm, EndsHearOn, EndsKeepPeers}
+use Rattle.definitions.specs.Theorems.{AreParts, Ready, StandsFirm, EndsStandFirm, EndsHearOn, EndsKeepPeers}
+use Rattle.definitions.specs.Worlds.{Side, Initiator, Responder}
 use Rattle.strategy_check.specs.Checked.{IsChecked}
 use Rattle.ends_core.specs.Held.{Held, IsAble}
+use Rattle.ends_core.specs.Roles.{start_of, most_of}
 use Rattle.ends_core.specs.Standing.{Stands, Came}
 use Rattle.ends_core.specs.Turns.{behind, behind_end, behind_part, behind_parts, behind_message, fresh, spend}
 use Rattle.ends_core.proofs.Parts_taken.{message-end, dead-spends}
@@ -28,11 +30,20 @@ ranks_of h = ranks_by h.steps h.end.peer.table.cap
 abbrev pub ReadsRanks : Type 0
 ReadsRanks = (steps : List ℕ) (cap n : ℕ) → n ≤ cap → slice_index (ranks_by steps cap) n ≡ rank_by steps n
 
+-- either side
+pub sends_few : (side : Side) → most_of side ≤ 2
+sends_few Initiator = omega arith
+sends_few Responder = omega arith
+
 module _ {F : Type 0} (S : Summary F) (Q : Profile F) where
   -- what the law says of an end with this start
   abbrev pub IsFirm : (Peer → End F) → ℕ → Type 0
   IsFirm start most = (P : Peer) (f : List ℕ) (Ms : List (Message F)) → Ready P f → AllByRecursion (AreParts Q) Ms →
       StandsFirm P f most (heard S (start P) Ms)
+
+  pub keeps_firm : (side : Side) → EndsStandFirm S → IsFirm (start_of side S) (most_of side)
+  keeps_firm Initiator law P f Ms r a = (law Q P f Ms r a).0
+  keeps_firm Responder law P f Ms r a = (law Q P f Ms r a).1
 
   pub firm : (start : Peer → End F) (most : ℕ) (h : Held F) → IsFirm start most → Stands S Q start h →
       StandsFirm h.end.peer (ranks_of h) most h.end

@@ -15,4 +15,5 @@ pub use Rattle.place_core.specs.PlaceFaults
 pub mod Held
 pub mod Turns
 pub mod Closing
+pub mod Roles
 pub mod Standing

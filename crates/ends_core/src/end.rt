@@ -1,6 +1,7 @@
 //! What the two ends of a session share.
 
 ghost use Rattle.std.specs.Prelude.{◌≡◌, ◌≤◌, ◌<◌, true, false, length, IfSome, IfNone, IfErr, Err, OnOk};
+ghost use Rattle.std.specs.Arc.{arc_value};
 ghost use Rattle.definitions.specs.Messages as messages;
 ghost use Rattle.definitions.specs.Placing as placing;
 ghost use Rattle.definitions.specs.Ends as ends;
@@ -23,14 +24,15 @@ use place_core::Place;
 use std::alloc::{AllocError, Global};
 use std::marker::Model;
 use std::mem;
+use std::sync::Arc;
 use store_core::RangeStore;
 use strategy_check::Accepted;
 use wire_core::{Message, Part};
 
 /// An end of a session: who speaks, where the session stands, what it took of a message, and what was learned.
 #[derive(Drop)]
-pub(crate) struct End<'a, S: RangeStore, F: Summary> {
-    accepted: &'a Accepted,
+pub(crate) struct End<S: RangeStore, F: Summary> {
+    accepted: Arc<Accepted>,
     store: S,
     stage: Stage<F>,
     draft: Draft<F>,
@@ -38,16 +40,17 @@ pub(crate) struct End<'a, S: RangeStore, F: Summary> {
     learned: Learned,
 }
 
-impl<'a, S: RangeStore, F: Summary> Model for End<'a, S, F> {
+impl<S: RangeStore, F: Summary> Model for End<S, F> {
+    ghost use Rattle.std.specs.Arc.{arc_value};
     ghost use Rattle.definitions.specs.Ends as ends;
     ghost use Rattle.ends_core.specs.Held.{Held, stage_of, taken_of};
 
     ghost Value = { Held F };
 
     ghost view = { λ a. record {
-      steps = a.accepted.now.steps;
+      steps = (arc_value a.accepted).steps;
       end = record {
-        peer = record { table = a.accepted.now.table; items = S.content a.store };
+        peer = record { table = (arc_value a.accepted).table; items = S.content a.store };
         stage = stage_of a.stage;
         sent = a.sent;
         learned = a.learned;
@@ -56,11 +59,11 @@ impl<'a, S: RangeStore, F: Summary> Model for End<'a, S, F> {
     } };
 }
 
-impl<'a, S: RangeStore, F: Summary> End<'a, S, F> {
+impl<S: RangeStore, F: Summary> End<S, F> {
     /// An end that has received nothing, and is spoken to first.
-    pub(crate) fn responding(alloc: Global, accepted: &'a Accepted, store: S) -> End<'a, S, F>
-        ensures { result ≡ fresh accepted.now.steps (ends.responder
-            (record { table = accepted.now.table; items = S.content store })) }
+    pub(crate) fn responding(alloc: Global, accepted: Arc<Accepted>, store: S) -> End<S, F>
+        ensures { result ≡ fresh (arc_value accepted).steps (ends.responder
+            (record { table = (arc_value accepted).table; items = S.content store })) }
     {
         End {
             accepted,
@@ -75,13 +78,13 @@ impl<'a, S: RangeStore, F: Summary> End<'a, S, F> {
     /// An end that has sent its first message, behind which this place stands.
     pub(crate) fn initiating(
         alloc: Global,
-        accepted: &'a Accepted,
+        accepted: Arc<Accepted>,
         store: S,
         place: Place<F>,
-    ) -> End<'a, S, F>
+    ) -> End<S, F>
         requires { place ≡ record { first = false; own = place.own; now = placing.behind place.own } }
-        ensures { result ≡ fresh accepted.now.steps (record {
-          peer = record { table = accepted.now.table; items = S.content store };
+        ensures { result ≡ fresh (arc_value accepted).steps (record {
+          peer = record { table = (arc_value accepted).table; items = S.content store };
           stage = ends.Waits place.own;
           sent = 1;
           learned = nothing;
@@ -98,10 +101,10 @@ impl<'a, S: RangeStore, F: Summary> End<'a, S, F> {
     }
 
     /// The accepted strategy.
-    pub(crate) fn accepted(&self) -> &'a Accepted
+    pub(crate) fn accepted(&self) -> &Accepted
         ensures { result.now ≡ record { table = self.now.end.peer.table; steps = self.now.steps } }
     {
-        self.accepted
+        &self.accepted
     }
 
     /// How many items it has: no more than its strategy's cap.
@@ -136,7 +139,7 @@ impl<'a, S: RangeStore, F: Summary> End<'a, S, F> {
 
     /// What was learned, for good.
     pub(crate) fn into_learned(self) -> Learned
-        ensures { result ≡ self.entry.end.learned }
+        ensures { result ≡ self.end.learned }
     {
         self.learned
     }

@@ -4,16 +4,16 @@
 mod cutting;
 mod draft;
 mod end;
-mod initiator;
 mod learned;
 mod learning;
 mod replying;
-mod responder;
+mod role;
+mod session_end;
 mod stage;
 mod taking;
 mod turn;
 
-pub use initiator::Initiator;
 pub use learned::Learned;
-pub use responder::Responder;
+pub use role::{Initiating, Responding, Role};
+pub use session_end::{Initiator, Responder, SessionEnd};
 pub use turn::{EndFault, Turn};

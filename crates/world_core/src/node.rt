@@ -1,6 +1,7 @@
 //! A node of a run.
 
 ghost use Rattle.std.specs.Prelude.{◌≡◌, length, IfOk, OnOk, OnErr};
+ghost use Rattle.std.specs.Arc.{arc_value};
 ghost use Rattle.definitions.specs.Histories.{insertion, history_after};
 ghost use Rattle.definitions.specs.Messages.{opening};
 ghost use Rattle.definitions.specs.Worlds.{told};
@@ -17,6 +18,7 @@ use item_core::Item;
 use range_tree::Tree;
 use std::alloc::{AllocError, Global};
 use std::marker::Model;
+use std::sync::Arc;
 use store_core::RangeStore;
 use strategy_check::Accepted;
 use version_log::{Added, LogFault, Published};
@@ -24,28 +26,29 @@ use wire_core::Message;
 
 /// A node of a run: a table of the setup, and a log of its own.
 #[derive(Drop)]
-pub(crate) struct Node<'a> {
-    accepted: &'a Accepted,
+pub(crate) struct Node {
+    accepted: Arc<Accepted>,
     log: Published<Tree>,
 }
 
-impl<'a> Model for Node<'a> {
+impl Model for Node {
     ghost use Rattle.std.specs.Prelude.{◌≡◌};
+    ghost use Rattle.std.specs.Arc.{arc_value};
     ghost use Rattle.definitions.specs.Worlds as worlds;
     ghost use Rattle.world_core.specs.Nodes.{node_by};
 
     ghost Value = { worlds.Node };
 
-    ghost view = { λ a. node_by a.accepted.now a.log.history };
+    ghost view = { λ a. node_by (arc_value a.accepted) a.log.history };
 
-    ghost invariant = { λ a. a.log.cap ≡ a.accepted.now.table.cap };
+    ghost invariant = { λ a. a.log.cap ≡ (arc_value a.accepted).table.cap };
 }
 
-impl<'a> Node<'a> {
+impl Node {
     /// The node of this table and this log.
-    pub(crate) fn new(accepted: &'a Accepted, log: Published<Tree>) -> Node<'a>
-        requires { log.cap ≡ accepted.now.table.cap }
-        ensures { result ≡ node_by accepted.now log.history }
+    pub(crate) fn new(accepted: Arc<Accepted>, log: Published<Tree>) -> Node
+        requires { log.cap ≡ (arc_value accepted).table.cap }
+        ensures { result ≡ node_by (arc_value accepted) log.history }
     {
         Node { accepted, log }
     }
@@ -80,7 +83,7 @@ impl<'a> Node<'a> {
     pub(crate) fn initiator<F: Summary>(
         &self,
         alloc: Global,
-    ) -> Result<(Initiator<'a, Tree, F>, Message<F>), AllocError>
+    ) -> Result<(Initiator<Tree, F>, Message<F>), AllocError>
         ensures end { IfOk result
             (λ r. r.0 ≡ fresh self.now.steps (ends.initiator F.summary (newest self.now))) }
         ensures message { IfOk result (λ r. r.1 ≡ opening F.summary (newest self.now).items) }
@@ -88,7 +91,7 @@ impl<'a> Node<'a> {
         let _ = self.log.cap();
         let _ = self.log.count();
         let store = self.log.store().copy(alloc)?;
-        match Initiator::start(alloc, self.accepted, store) {
+        match Initiator::start(alloc, Arc::try_clone(&self.accepted)?, store) {
             Ok(started) => Ok(started),
             Err(_) => Err(AllocError),
         }
@@ -98,12 +101,12 @@ impl<'a> Node<'a> {
     pub(crate) fn responder<F: Summary>(
         &self,
         alloc: Global,
-    ) -> Result<Responder<'a, Tree, F>, AllocError>
+    ) -> Result<Responder<Tree, F>, AllocError>
         ensures { IfOk result (λ r. r ≡ fresh self.now.steps (ends.responder (newest self.now))) }
     {
         let _ = self.log.cap();
         let _ = self.log.count();
         let store = self.log.store().copy(alloc)?;
-        Ok(Responder::new(alloc, self.accepted, store))
+        Ok(Responder::new(alloc, Arc::try_clone(&self.accepted)?, store))
     }
 }

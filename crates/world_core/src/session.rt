@@ -15,21 +15,21 @@ use crate::node::Node;
 use crate::report::{Lists, Report};
 use crate::step::{Did, Side};
 use digest_core::Summary;
-use ends_core::{EndFault, Initiator, Responder, Turn};
+use ends_core::{EndFault, Initiator, Responder, Role, SessionEnd, Turn};
 use range_tree::Tree;
 use std::alloc::{AllocError, Global};
 use wire_core::Message;
 
 /// A session of a run: its numbers, its ends, the message made last, and the greatest number of parts of a message.
 #[derive(Drop)]
-pub(crate) struct Session<'a, F: Summary> {
+pub(crate) struct Session<F: Summary> {
     pub(crate) initiator: usize,
     pub(crate) responder: usize,
     pub(crate) initiator_version: usize,
     pub(crate) responder_version: Option<usize>,
     pub(crate) delivered: usize,
-    pub(crate) first: Initiator<'a, Tree, F>,
-    pub(crate) second: Option<Responder<'a, Tree, F>>,
+    pub(crate) first: Initiator<Tree, F>,
+    pub(crate) second: Option<Responder<Tree, F>>,
     pub(crate) last: Message<F>,
     pub(crate) parts: usize,
 }
@@ -47,25 +47,10 @@ fn taken<F: Summary>(answered: Result<Turn<F>, EndFault>) -> Result<Turn<F>, All
     }
 }
 
-/// The initiator hears a message.
-fn hear_first<F: Summary>(
+/// An end hears a message.
+fn hear<R: Role, F: Summary>(
     alloc: Global,
-    end: &mut Initiator<'_, Tree, F>,
-    message: &Message<F>,
-) -> Result<Turn<F>, AllocError>
-    requires none { HasNone end.old }
-    requires taken { IsTaken (answer F.summary end.old.end message.now) }
-    ensures turn { IfOk result (λ turn. answer_of turn ≡ answer F.summary end.old.end message.now) }
-    ensures end { OnOk result (end.new ≡ behind F.summary end.old message.now) }
-    ensures memory { OnErr result (end.new ≡ end.old) }
-{
-    taken(end.receive(alloc, message))
-}
-
-/// The responder hears a message.
-fn hear_second<F: Summary>(
-    alloc: Global,
-    end: &mut Responder<'_, Tree, F>,
+    end: &mut SessionEnd<R, Tree, F>,
     message: &Message<F>,
 ) -> Result<Turn<F>, AllocError>
     requires none { HasNone end.old }
@@ -78,10 +63,10 @@ fn hear_second<F: Summary>(
 }
 
 /// The responder hears a message. Where there is none yet it begins, with the newest version of its node.
-fn hear_at<'a, F: Summary>(
+fn hear_at<F: Summary>(
     alloc: Global,
-    second: &mut Option<Responder<'a, Tree, F>>,
-    node: &Node<'a>,
+    second: &mut Option<Responder<Tree, F>>,
+    node: &Node,
     message: &Message<F>,
 ) -> Result<Turn<F>, AllocError>
     requires none { HasNone (responder_from node.now second.old) }
@@ -92,16 +77,16 @@ fn hear_at<'a, F: Summary>(
     ensures memory { OnErr result (second.new ≡ second.old) }
 {
     if let Some(end) = second {
-        return hear_second(alloc, end, message);
+        return hear(alloc, end, message);
     }
     let mut end = node.responder(alloc)?;
-    let turn = hear_second(alloc, &mut end, message)?;
+    let turn = hear(alloc, &mut end, message)?;
     *second = Some(end);
     Ok(turn)
 }
 
 /// What a responder learned so far.
-fn learned_second<'b, F: Summary>(second: &'b Option<Responder<'_, Tree, F>>) -> Lists<'b>
+fn learned_second<'b, F: Summary>(second: &'b Option<Responder<Tree, F>>) -> Lists<'b>
     ensures { knowledge_of result ≡ learned_in second.now }
 {
     match second {
@@ -110,14 +95,14 @@ fn learned_second<'b, F: Summary>(second: &'b Option<Responder<'_, Tree, F>>) ->
     }
 }
 
-impl<'a, F: Summary> Session<'a, F> {
+impl<F: Summary> Session<F> {
     /// A session that is opened at this node.
     pub(crate) fn open(
         alloc: Global,
-        node: &Node<'a>,
+        node: &Node,
         initiator: usize,
         responder: usize,
-    ) -> Result<Session<'a, F>, AllocError>
+    ) -> Result<Session<F>, AllocError>
         ensures { IfOk result (λ l. l ≡ beginning F.summary initiator responder node.now) }
     {
         let (first, last) = node.initiator(alloc)?;
@@ -211,7 +196,7 @@ impl<'a, F: Summary> Session<'a, F> {
     }
 
     /// The message made last is delivered to the responder.
-    fn deliver_to_responder(&mut self, alloc: Global, node: &Node<'a>) -> Result<Did, AllocError>
+    fn deliver_to_responder(&mut self, alloc: Global, node: &Node) -> Result<Did, AllocError>
         requires few { self.old.delivered < 2 ^ 33 }
         requires none { HasNone (responder_from node.now self.old.second) }
         requires taken { IsTaken (answer F.summary (responder_from node.now self.old.second).end self.old.last) }
@@ -237,12 +222,12 @@ impl<'a, F: Summary> Session<'a, F> {
         ensures did { IfOk result (λ did. did_of did ≡ did_by (answer F.summary self.old.first.end self.old.last)) }
         ensures memory { OnErr result (self.new ≡ self.old) }
     {
-        let turn = hear_first(alloc, &mut self.first, &self.last)?;
+        let turn = hear(alloc, &mut self.first, &self.last)?;
         Ok(self.advance(newest, turn))
     }
 
     /// The message made last is delivered; its responder is at this node.
-    pub(crate) fn deliver(&mut self, alloc: Global, node: &Node<'a>) -> Result<Did, AllocError>
+    pub(crate) fn deliver(&mut self, alloc: Global, node: &Node) -> Result<Did, AllocError>
         requires few { self.old.delivered < 2 ^ 33 }
         requires none { HasNone (hearer self.old node.now) }
         requires taken { IsTaken (answer F.summary (hearer self.old node.now).end self.old.last) }

@@ -1,6 +1,7 @@
 //! The nodes that a run begins with.
 
 ghost use Rattle.std.specs.Prelude.{◌≡◌, ◌<◌, ◌≤◌, [], ◌∷◌, ◌++◌, length, IfOk, IfErr, OnOk, OnErr};
+ghost use Rattle.std.specs.Arc.{arc_value};
 ghost use Rattle.definitions.specs.Sets.{set_of};
 ghost use Rattle.definitions.specs.Histories.{opening_history};
 ghost use Rattle.definitions.specs.Theorems.{IsNode};
@@ -14,6 +15,7 @@ use item_core::Item;
 use range_tree::Tree;
 use std::alloc::{AllocError, Global};
 use std::marker::Model;
+use std::sync::Arc;
 use strategy_check::Accepted;
 use version_log::{LogFault, Published};
 
@@ -52,28 +54,30 @@ impl From<LogFault> for SetupFault {
 /// A table that was accepted, and a log that it has room for.
 #[derive(Drop)]
 pub(crate) struct Prepared {
-    accepted: Accepted,
+    accepted: Arc<Accepted>,
     log: Published<Tree>,
 }
 
 impl Model for Prepared {
     ghost use Rattle.std.specs.Prelude.{◌≡◌};
+    ghost use Rattle.std.specs.Arc.{arc_value};
     ghost use Rattle.definitions.specs.Worlds.{Node};
     ghost use Rattle.world_core.specs.Nodes.{node_by};
 
     ghost Value = { Node };
 
-    ghost view = { λ a. node_by a.accepted a.log.history };
+    ghost view = { λ a. node_by (arc_value a.accepted) a.log.history };
 
-    ghost invariant = { λ a. a.log.cap ≡ a.accepted.table.cap };
+    ghost invariant = { λ a. a.log.cap ≡ (arc_value a.accepted).table.cap };
 }
 
 impl Prepared {
     /// A node of a run, with a copy of the log.
-    pub(crate) fn live<'a>(&'a self, alloc: Global) -> Result<Node<'a>, AllocError>
+    pub(crate) fn live(&self, alloc: Global) -> Result<Node, AllocError>
         ensures { IfOk result (λ n. n ≡ self.now) }
     {
-        Ok(Node::new(&self.accepted, self.log.copy(alloc)?))
+        let log = self.log.copy(alloc)?;
+        Ok(Node::new(Arc::try_clone(&self.accepted)?, log))
     }
 }
 
@@ -137,12 +141,16 @@ impl Setup {
         if self.nodes.reserve(1).is_err() {
             return Err((accepted, SetupFault::Memory));
         }
-        match log_of(alloc, &accepted, items) {
-            Ok(log) => {
+        let log = match log_of(alloc, &accepted, items) {
+            Ok(log) => log,
+            Err(fault) => return Err((accepted, fault)),
+        };
+        match Arc::new(alloc, accepted) {
+            Ok(accepted) => {
                 self.nodes.push_reserved(Prepared { accepted, log });
                 Ok(())
             }
-            Err(fault) => Err((accepted, fault)),
+            Err(refused) => Err((refused.value, SetupFault::Memory)),
         }
     }
 

@@ -23,12 +23,12 @@ use store_core::spans::distinct;
 
 /// A run of nodes and sessions.
 #[derive(Drop)]
-pub struct World<'a, F: Summary = Fingerprint> {
-    nodes: Vec<Node<'a>>,
-    sessions: Vec<Session<'a, F>>,
+pub struct World<F: Summary = Fingerprint> {
+    nodes: Vec<Node>,
+    sessions: Vec<Session<F>>,
 }
 
-impl<'a, F: Summary> Model for World<'a, F> {
+impl<F: Summary> Model for World<F> {
     ghost use Rattle.definitions.specs.Worlds as worlds;
     ghost use Rattle.world_core.specs.Live.{world_of, IsRunning};
 
@@ -40,7 +40,7 @@ impl<'a, F: Summary> Model for World<'a, F> {
 }
 
 /// The nodes of a run that begins.
-fn live_nodes<'a>(alloc: Global, prepared: &'a [Prepared]) -> Result<Vec<Node<'a>>, AllocError>
+fn live_nodes(alloc: Global, prepared: &[Prepared]) -> Result<Vec<Node>, AllocError>
     ensures { IfOk result (λ nodes. nodes.items ≡ prepared.now) }
 {
     let mut nodes = Vec::with_capacity(alloc, prepared.len())?;
@@ -50,9 +50,9 @@ fn live_nodes<'a>(alloc: Global, prepared: &'a [Prepared]) -> Result<Vec<Node<'a
     Ok(nodes)
 }
 
-impl<'a, F: Summary> World<'a, F> {
+impl<F: Summary> World<F> {
     /// The nodes of the setup, and no session.
-    pub fn new(alloc: Global, setup: &'a Setup) -> Result<World<'a, F>, AllocError>
+    pub fn new(alloc: Global, setup: &Setup) -> Result<World<F>, AllocError>
         ensures { IfOk result (λ w. w ≡ worlds.start setup.now) }
     {
         Ok(World {
@@ -260,11 +260,11 @@ fn rising(alloc: Global, items: &[Item]) -> Result<Vec<Item>, AllocError>
 }
 
 /// The world behind these steps, from the setup on.
-fn run_steps<'a, F: Summary>(
+fn run_steps<F: Summary>(
     alloc: Global,
-    setup: &'a Setup,
+    setup: &Setup,
     steps: &[Step],
-) -> Result<World<'a, F>, AllocError>
+) -> Result<World<F>, AllocError>
     ensures { IfOk result (λ w. w ≡ worlds.run F.summary (worlds.start setup.now) (map step_of steps.now)) }
 {
     let mut world = World::new(alloc, setup)?;
@@ -280,11 +280,7 @@ fn run_steps<'a, F: Summary>(
 /// is longer than its sender's limit; nothing wrong is learned, and once it has ended, where no unequal compared ranges
 /// share a fingerprint, both differences. No message has more parts than the widths of both tables allow for each item
 /// that only one of the two versions has, or one. Each item of a history was there at the start, or was inserted.
-pub fn run<'a, F: Summary>(
-    alloc: Global,
-    setup: &'a Setup,
-    steps: &[Step],
-) -> Result<World<'a, F>, AllocError>
+pub fn run<F: Summary>(alloc: Global, setup: &Setup, steps: &[Step]) -> Result<World<F>, AllocError>
     ensures world { IfOk result (λ w. w ≡ worlds.run F.summary (worlds.start setup.now) (map step_of steps.now)) }
     ensures few { IfOk result (λ w. AllByRecursion (HasFewMessages F.summary w) w.sessions) }
     ensures bound { IfOk result (λ w. AllByRecursion (IsWithinBound F.summary w) w.sessions) }

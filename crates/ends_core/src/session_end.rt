@@ -1,9 +1,9 @@
-//! The end of a session that speaks first.
+//! An end of a session.
 
 ghost use Rattle.std.specs.Prelude.{◌≡◌, ◌≤◌, ◌+◌, false, [], ◌∷◌, length, IfOk, IfErr, IfSome, IfNone};
 ghost use Rattle.std.specs.List.{IsDistinct};
-ghost use Rattle.definitions.specs.Items.{same_item};
-ghost use Rattle.definitions.specs.Items.{whole};
+ghost use Rattle.std.specs.Arc.{arc_value};
+ghost use Rattle.definitions.specs.Items.{same_item, whole};
 ghost use Rattle.definitions.specs.Messages.{Sum, opening};
 ghost use Rattle.definitions.specs.Ranks.{rank_by};
 ghost use Rattle.definitions.specs.Ends as ends;
@@ -11,38 +11,49 @@ ghost use Rattle.definitions.specs.Ends.{is_over};
 ghost use Rattle.definitions.specs.Placing as placing;
 ghost use Rattle.definitions.specs.Taking.{ended, by_parts};
 ghost use Rattle.ends_core.specs.Held.{HasNone};
-ghost use Rattle.ends_core.specs.Turns.{IsJudged, KeepsLimit, answer_in, told_in, behind, behind_part, behind_end, behind_message, fresh};
+ghost use Rattle.ends_core.specs.Roles.{most_of};
+ghost use Rattle.ends_core.specs.Turns.{IsJudged, KeepsLimit, answer_in, told_in, fresh};
+ghost use Rattle.ends_core.specs.Turns.{behind, behind_part, behind_end, behind_message};
 
 use crate::end::End;
 use crate::learned::Learned;
 use crate::replying::sum_in;
+use crate::role::{Initiating, Responding, Role};
 use crate::turn::{EndFault, Turn};
 use digest_core::{Fingerprint, Summary};
 use item_core::Range;
 use place_core::Place;
 use std::alloc::{AllocError, Global};
-use std::marker::Model;
+use std::marker::{Model, PhantomData};
+use std::sync::Arc;
 use store_core::RangeStore;
 use strategy_check::Accepted;
 use wire_core::{Message, Part};
 
-/// The end of a session that speaks first.
+/// An end of a session: what it is, and what it has taken, said and learned.
 #[derive(Drop)]
-pub struct Initiator<'a, S: RangeStore, F: Summary = Fingerprint> {
-    end: End<'a, S, F>,
+pub struct SessionEnd<R: Role, S: RangeStore, F: Summary = Fingerprint> {
+    end: End<S, F>,
+    role: PhantomData<R>,
 }
 
-impl<'a, S: RangeStore, F: Summary> Model for Initiator<'a, S, F> {
-    ghost use Rattle.definitions.specs.Ends as ends;
+impl<R: Role, S: RangeStore, F: Summary> Model for SessionEnd<R, S, F> {
     ghost use Rattle.ends_core.specs.Held.{Held};
+    ghost use Rattle.ends_core.specs.Roles.{start_of};
     ghost use Rattle.ends_core.specs.Standing.{Stands};
 
     ghost Value = { Held F };
 
     ghost view = { λ a. a.end };
 
-    ghost invariant = { λ a. Stands F.summary F.profile (ends.initiator F.summary) a.end };
+    ghost invariant = { λ a. Stands F.summary F.profile (start_of R.side F.summary) a.end };
 }
+
+/// The end of a session that speaks first.
+pub type Initiator<S, F = Fingerprint> = SessionEnd<Initiating, S, F>;
+
+/// The end of a session that is spoken to first.
+pub type Responder<S, F = Fingerprint> = SessionEnd<Responding, S, F>;
 
 /// The message of one Sum over everything.
 fn opening<F: Summary>(alloc: Global, sum: F) -> Result<Message<F>, AllocError>
@@ -56,7 +67,7 @@ fn opening<F: Summary>(alloc: Global, sum: F) -> Result<Message<F>, AllocError>
     }
 }
 
-/// The first message, and the place behind it.
+/// The first message, and the place after it.
 fn begin<F: Summary>(alloc: Global, sum: F) -> Result<(Place<F>, Message<F>), AllocError>
     ensures { IfOk result (λ r. (r.0 ≡ record {
       first = false;
@@ -69,17 +80,17 @@ fn begin<F: Summary>(alloc: Global, sum: F) -> Result<(Place<F>, Message<F>), Al
     Ok((place, first))
 }
 
-impl<'a, S: RangeStore, F: Summary> Initiator<'a, S, F> {
+impl<S: RangeStore, F: Summary> SessionEnd<Initiating, S, F> {
     /// The end, and its first message, which is to be sent: one Sum over everything. Where memory runs out the store is
     /// given back.
     pub fn start(
         alloc: Global,
-        accepted: &'a Accepted,
+        accepted: Arc<Accepted>,
         store: S,
-    ) -> Result<(Initiator<'a, S, F>, Message<F>), S>
-        requires { length (S.content store) ≤ accepted.now.table.cap }
-        ensures end { IfOk result (λ r. r.0 ≡ fresh accepted.now.steps (ends.initiator F.summary
-            (record { table = accepted.now.table; items = S.content store }))) }
+    ) -> Result<(Initiator<S, F>, Message<F>), S>
+        requires { length (S.content store) ≤ (arc_value accepted).table.cap }
+        ensures end { IfOk result (λ r. r.0 ≡ fresh (arc_value accepted).steps (ends.initiator F.summary
+            (record { table = (arc_value accepted).table; items = S.content store }))) }
         ensures message { IfOk result (λ r. r.1 ≡ opening F.summary (S.content store)) }
         ensures memory { IfErr result (λ s. s ≡ store) }
     {
@@ -87,19 +98,37 @@ impl<'a, S: RangeStore, F: Summary> Initiator<'a, S, F> {
         let _ = accepted.cap();
         match begin(alloc, sum_in(&store, &Range::whole())) {
             Ok((place, first)) => Ok((
-                Initiator {
+                SessionEnd {
                     end: End::initiating(alloc, accepted, store, place),
+                    role: PhantomData,
                 },
                 first,
             )),
             Err(AllocError) => Err(store),
         }
     }
+}
 
+impl<S: RangeStore, F: Summary> SessionEnd<Responding, S, F> {
+    /// An end that has received nothing.
+    pub fn new(alloc: Global, accepted: Arc<Accepted>, store: S) -> Responder<S, F>
+        requires { length (S.content store) ≤ (arc_value accepted).table.cap }
+        ensures { result ≡ fresh (arc_value accepted).steps (ends.responder
+            (record { table = (arc_value accepted).table; items = S.content store })) }
+    {
+        let _ = accepted.cap();
+        SessionEnd {
+            end: End::responding(alloc, accepted, store),
+            role: PhantomData,
+        }
+    }
+}
+
+impl<R: Role, S: RangeStore, F: Summary> SessionEnd<R, S, F> {
     /// Takes the next part of a message, which may be any.
     ///
-    /// Refused 20 to 25 where it is not placed: the end is spent then, and nothing is learned. Refused 26 where a message was
-    /// refused before, or the session is over, and 90 where memory ran out: the end is as before.
+    /// Refused 20 to 25 where it is not placed: the end is spent then, and nothing is learned. Refused 26 where a
+    /// message was refused before, or the session is over, and 90 where memory ran out: the end is as before.
     pub fn take(&mut self, alloc: Global, part: &Part<F>) -> Result<(), EndFault>
         ensures fault { IfSome (told_in result) (λ o. o ≡ placing.refusal
             (placing.next self.old.taken.place part.now)) }
@@ -114,11 +143,12 @@ impl<'a, S: RangeStore, F: Summary> Initiator<'a, S, F> {
         self.end.take(alloc, part)
     }
 
-    /// What the end answers where the message ends behind the parts that were taken: the reply, or that the session is over.
+    /// What the end answers where the message ends after the parts that were taken: the reply, or that the session is
+    /// over.
     ///
-    /// Refused 20, 22 or 23 where something is missing, 12 where the reply would have more than 131,072 parts: the end is spent
-    /// then, and nothing is learned. Refused 26 where a message was refused before, or the session is over, and 90 where memory
-    /// ran out: the end is as before.
+    /// Refused 20, 22 or 23 where something is missing, 12 where the reply would have more than 131,072 parts: the end
+    /// is spent then, and nothing is learned. Refused 26 where a message was refused before, or the session is over,
+    /// and 90 where memory ran out: the end is as before.
     pub fn end(&mut self, alloc: Global) -> Result<Turn<F>, EndFault>
         ensures answer { IfSome (answer_in result) (λ a. a ≡ ended self.old.taken) }
         ensures behind { IfSome (answer_in result) (λ a. self.new ≡ behind_end self.old a) }
@@ -141,12 +171,13 @@ impl<'a, S: RangeStore, F: Summary> Initiator<'a, S, F> {
         self.end.drop_parts(alloc);
     }
 
-    /// What the end answers to a message, which may be any: the reply, or that the session is over. It is what `take` over its
-    /// parts, up to the first that is refused, and then `end` answer; where memory runs out the parts are given up.
+    /// What the end answers to a message, which may be any: the reply, or that the session is over. It is what `take`
+    /// over its parts, up to the first that is refused, and then `end` answer; where memory runs out the parts are
+    /// given up.
     ///
-    /// Refused 20 to 25 where the message is not placed behind the own one, 12 where the reply would have more than 131,072
-    /// parts: the end is spent then, and nothing is learned. Refused 26 where a message was refused before, or the session
-    /// is over, and 90 where memory ran out: the end is as before its first part.
+    /// Refused 20 to 25 where the message is not placed after our message, 12 where the reply would have more than
+    /// 131,072 parts: the end is spent then, and nothing is learned. Refused 26 where a message was refused before, or
+    /// the session is over, and 90 where memory ran out: the end is as before its first part.
     pub fn receive(&mut self, alloc: Global, message: &Message<F>) -> Result<Turn<F>, EndFault>
         ensures judged { HasNone self.old → IsJudged self.old message.now result }
         ensures answer { HasNone self.old →
@@ -174,17 +205,18 @@ impl<'a, S: RangeStore, F: Summary> Initiator<'a, S, F> {
         self.end.receive(alloc, message)
     }
 
-    /// The greatest number of messages that it sends, whatever its peer sends: the rank of the number of its items, and 2.
+    /// The greatest number of messages that it sends, whatever its peer sends: the rank of the number of its items, and
+    /// 2 where it speaks first, else 1.
     pub fn bound(&self) -> u32
-        ensures { result ≡ rank_by self.now.steps (length self.now.end.peer.items) + 2 }
+        ensures { result ≡ rank_by self.now.steps (length self.now.end.peer.items) + most_of R.side }
     {
-        self.end.accepted().bound_as_initiator(self.end.count())
+        R::bound(self.end.accepted(), self.end.count())
     }
 
     /// How many messages were sent, which is never more than `bound()`.
     pub fn sent(&self) -> u32
         ensures sent { result ≡ self.now.end.sent }
-        ensures few { result ≤ rank_by self.now.steps (length self.now.end.peer.items) + 2 }
+        ensures few { result ≤ rank_by self.now.steps (length self.now.end.peer.items) + most_of R.side }
     {
         laws::ends_stand_firm::<F>();
         rank_laws::ranks_are_read();
@@ -210,7 +242,7 @@ impl<'a, S: RangeStore, F: Summary> Initiator<'a, S, F> {
 
     /// What was learned, for good.
     pub fn into_learned(self) -> Learned
-        ensures { result ≡ self.entry.end.learned }
+        ensures { result ≡ self.end.learned }
     {
         self.end.into_learned()
     }

@@ -1,27 +1,32 @@
-use Rattle.std.proofs.Common.{◌≡◌, IfSome, IfNone, subst, arith, rules}
-use Rattle.definitions.specs.Ends.{answer, responder}
+use Rattle.std.proofs.Common.{◌≡◌, IfSome, IfNone, subst, rules}
+use Rattle.definitions.specs.Ends.{answer}
 use Rattle.ends_core.specs.Held.{HasNone}
 use Rattle.ends_core.specs.Turns.{IsJudged, answer_in, behind}
 use Rattle.ends_core.proofs.Short.{message-short}
 use Rattle.ends_core.proofs.Judging.{judged}
-use Rattle.ends_core.proofs.Standing.{able, countable, stands-received}
+use Rattle.ends_core.proofs.Standing.{able, countable, stands-received, keeps_firm, sends_few}
 use Rattle.ends_core.proofs.Parts_taken.{whole-answer, whole-behind, whole-memory}
-use Rattle.ends_core.proofs.responder.Responder.receive.Goals as goal
+use Rattle.ends_core.specs.Roles.{start_of, most_of}
+use Rattle.ends_core.proofs.session_end.SessionEnd.receive.Goals as goal
 
 pub receive-requires-clause-able : goal.receive-requires-clause-able
 receive-requires-clause-able g c =
-    able g.F.Summary.summary g.F.Summary.profile responder 1 c.self.inside.end
-    (λ P f Ms r a. (c.ends_stand_firm.ensures g.F.Summary.summary g.F.Summary.profile P f Ms r a).1) c.self.invariant
+    able g.F.Summary.summary g.F.Summary.profile (start_of g.R.Role.side g.F.Summary.summary) (most_of g.R.Role.side)
+    c.self.inside.end
+    (keeps_firm g.F.Summary.summary g.F.Summary.profile g.R.Role.side (c.ends_stand_firm.ensures g.F.Summary.summary))
+    c.self.invariant
 
 pub receive-requires-clause-room : goal.receive-requires-clause-room
 receive-requires-clause-room g c =
-    countable g.F.Summary.summary g.F.Summary.profile responder 1 c.self.inside.end (omega arith)
-    (λ P f Ms r a. (c.ends_stand_firm.ensures g.F.Summary.summary g.F.Summary.profile P f Ms r a).1)
+    countable g.F.Summary.summary g.F.Summary.profile (start_of g.R.Role.side g.F.Summary.summary)
+    (most_of g.R.Role.side) c.self.inside.end (sends_few g.R.Role.side)
+    (keeps_firm g.F.Summary.summary g.F.Summary.profile g.R.Role.side (c.ends_stand_firm.ensures g.F.Summary.summary))
     c.ranks_are_read.ensures c.self.invariant
 
 pub returns-clause-short : goal.returns-clause-short
 returns-clause-short g c =
-    let short = message-short g.F.Summary.summary g.F.Summary.profile responder c.self.inside.end c.args.message.now
+    let short = message-short g.F.Summary.summary g.F.Summary.profile (start_of g.R.Role.side g.F.Summary.summary)
+    c.self.inside.end c.args.message.now
     c.receive.result (c.replies_are_short.ensures g.F.Summary.summary)
     (c.parts_are_taken.ensures g.F.Summary.summary) c.self.invariant c.receive.ensures.answer in
     search (rules, short)
@@ -51,7 +56,8 @@ returns-clause-memory g c =
 
 pub invariant_of-self : goal.invariant_of-self
 invariant_of-self g c =
-    stands-received g.F.Summary.summary g.F.Summary.profile responder c.self.inside.end c.receive.new.self
+    stands-received g.F.Summary.summary g.F.Summary.profile (start_of g.R.Role.side g.F.Summary.summary)
+    c.self.inside.end c.receive.new.self
     c.args.message.now (answer_in c.receive.result) (
       c.ends_hear_on.ensures g.F.Summary.summary,
       c.ends_keep_peers.ensures g.F.Summary.summary,
@@ -64,8 +70,9 @@ pub returns-clause-judged : goal.returns-clause-judged
 returns-clause-judged g c =
     let rise = c.messages_have_ranges.ensures g.F.Summary.profile c.args.message.now c.parts-parts.ensures.message in
     let has =
-    able g.F.Summary.summary g.F.Summary.profile responder 1 c.self.inside.end
-    (λ P f Ms r a. (c.ends_stand_firm.ensures g.F.Summary.summary g.F.Summary.profile P f Ms r a).1)
+    able g.F.Summary.summary g.F.Summary.profile (start_of g.R.Role.side g.F.Summary.summary) (most_of g.R.Role.side)
+    c.self.inside.end
+    (keeps_firm g.F.Summary.summary g.F.Summary.profile g.R.Role.side (c.ends_stand_firm.ensures g.F.Summary.summary))
     c.self.invariant in
     subst (λ h. HasNone h → IsJudged h c.args.message.now c.receive.result) c.self.view_is
     (λ none. judged g.F.Summary.summary c.self.inside.end c.args.message.now c.receive.result c.placing_is_exact.ensures

@@ -1,8 +1,0 @@
-use Rattle.definitions.specs.Ends.{initiator}
-use Rattle.ends_core.proofs.Standing.{stands-dropped}
-use Rattle.ends_core.proofs.initiator.Initiator.drop_parts.Goals as goal
-
-pub invariant_of-self : goal.invariant_of-self
-invariant_of-self g c =
-    stands-dropped g.F.Summary.summary g.F.Summary.profile (initiator g.F.Summary.summary) c.self.inside.end
-    c.drop_parts.new.self c.drop_parts.ensures c.self.invariant

@@ -1,0 +1,22 @@
+use Rattle.ends_core.specs.Turns.{told_in}
+use Rattle.ends_core.proofs.Standing.{able, stands-taken, keeps_firm}
+use Rattle.ends_core.specs.Roles.{start_of, most_of}
+use Rattle.ends_core.proofs.session_end.SessionEnd.take.Goals as goal
+
+pub take-requires : goal.take-requires
+take-requires g c =
+    able g.F.Summary.summary g.F.Summary.profile (start_of g.R.Role.side g.F.Summary.summary) (most_of g.R.Role.side)
+    c.self.inside.end
+    (keeps_firm g.F.Summary.summary g.F.Summary.profile g.R.Role.side (c.ends_stand_firm.ensures g.F.Summary.summary))
+    c.self.invariant
+
+pub invariant_of-self : goal.invariant_of-self
+invariant_of-self g c =
+    stands-taken g.F.Summary.summary g.F.Summary.profile (start_of g.R.Role.side g.F.Summary.summary) c.self.inside.end
+    c.take.new.self c.args.part.now
+    (told_in c.take.result) (
+      c.ends_hear_on.ensures g.F.Summary.summary,
+      c.ends_keep_peers.ensures g.F.Summary.summary,
+      c.parts_are_taken.ensures g.F.Summary.summary,
+    )
+    c.range-range.ensures.part c.take.ensures.fault c.take.ensures.behind c.take.ensures.memory c.self.invariant
