@@ -12,7 +12,7 @@ mod strategy_file;
 mod words;
 
 pub use fault::SettingsFault;
-pub use item_file::{read_items, store_of};
+pub use item_file::{item_set, read_items};
 pub use scenario::{Scenario, ScenarioNode, ScenarioStep, Side};
 pub use scenario_fault::{ScenarioError, ScenarioFault};
 pub use scenario_text::scenario_of;
