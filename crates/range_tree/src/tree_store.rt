@@ -1,6 +1,6 @@
 ghost use Rattle.std.specs.Prelude.{◌≡◌, ◌≤◌, ◌∷◌, ◌++◌, [], length, take, drop, map, IfOk};
 ghost use Rattle.std.specs.Arc.{arc_value};
-ghost use Rattle.definitions.specs.Sets.{add_item, set_of};
+ghost use Rattle.definitions.specs.Sets.{add_item};
 ghost use Rattle.range_tree.specs.Parts.{items_of, IsFull};
 ghost use Rattle.range_tree.specs.Branches.{branch_items, branch_width};
 ghost use Rattle.range_tree.specs.Trees.{tree_items};
@@ -65,9 +65,8 @@ impl RangeStore for Tree {
         }
     }
 
-    fn from_items(alloc: Global, items: Vec<Item>) -> Result<Tree, AllocError> {
-        store_core::laws::set_of_a_list();
-        let entries = spans::digested(alloc, &spans::distinct(items))?;
+    fn from_rising(alloc: Global, items: &[Item]) -> Result<Tree, AllocError> {
+        let entries = spans::digested(alloc, items)?;
         Ok(Tree {
             branches: branches_of(alloc, &entries)?,
             count: entries.len(),

@@ -2,13 +2,11 @@
 
 ghost use Rattle.std.specs.Prelude.{◌≡◌, IfOk};
 
-use item_core::Range;
 use printing_core::Fault;
 use range_tree::Tree;
 use settings_core::{read_items, read_strategy};
 use std::alloc::Global;
 use std::rt::Files;
-use store_core::RangeStore;
 use strategy_check::{Accepted, check};
 use strategy_core::Strategy;
 use version_log::Published;
@@ -43,8 +41,7 @@ pub fn read_opening<R: Files + AllocGlobal>(
 {
     let alloc = rt.alloc();
     let accepted = accepted(alloc, read_strategy(rt, table)?)?;
-    let store = read_items(rt, items, accepted.cap() as usize)?;
-    let items = store.items(alloc, &Range::whole())?;
-    let log = Published::new(alloc, accepted.cap(), &items)?;
+    let items = read_items(rt, items, accepted.cap() as usize)?;
+    let log = Published::of_set(alloc, accepted.cap(), &items)?;
     Ok(Opening { accepted, log })
 }

@@ -19,7 +19,7 @@ use std::net::{Net, TcpListener, TcpStream};
 use std::rt::Files;
 use std::sync::Wait;
 use std::thread::Threads;
-use store_core::FlatStore;
+use store_core::{FlatStore, RangeStore};
 use wire_core::decode_message;
 
 /// The greatest number of different items of `answer`.
@@ -102,7 +102,8 @@ where
 {
     match command {
         Command::Answer { hexed, items } => {
-            let store = read_items(rt, items, MAX_ITEMS)?;
+            let items = read_items(rt, items, MAX_ITEMS)?;
+            let store = FlatStore::from_rising(rt.alloc(), &items)?;
             answer_in(rt.alloc(), hexed, &store, reader, out)
         }
         Command::Check { file } => check_file(rt, file, out),

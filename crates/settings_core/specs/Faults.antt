@@ -1,13 +1,11 @@
 -- Why files are refused.
 --     of_input f                     the fault of an input that was not read
 --     of_strategy e                  the fault of a text that is no strategy
---     IsStoreOf text cap result      what an item file gives: the set of its items; or its first bad line, or that the set has more
---                                    items than cap; or memory ran out
+--     IsSetOf items_in text cap result   what an item file gives: the set of its items; or its first bad line, or that the set has
+--                                        more items than cap; or memory ran out
 use Rattle.std.specs.Prelude.{ℕ, ◌≡◌, ◌≤◌, ◌<◌, List, length, Result, Ok, Err, ⊤}
 use Rattle.definitions.specs.Items.{Item}
 use Rattle.definitions.specs.Sets.{set_of}
-use Rattle.store_core.specs.declared.flat_store.FlatStore.{FlatStore}
-use Rattle.store_core.specs.Flat.{flat_items}
 use Rattle.io_core.specs.declared.input.InputFault.{InputFault}
 use Rattle.io_core.specs.declared.input.InputFault.TheVariants as inputs
 use Rattle.strategy_core.specs.declared.fault.StrategyError.{StrategyError}
@@ -24,13 +22,14 @@ abbrev pub of_strategy : StrategyError → SettingsFault
 of_strategy (strategies.Fault f) = Strategy f
 of_strategy strategies.Memory = Memory
 
-abbrev pub IsStoreFault : List ℕ → ℕ → SettingsFault → Type 0
-IsStoreFault text cap CannotRead = ⊥
-IsStoreFault text cap (BadItemLine line) = file_items text ≡ Err line
-IsStoreFault text cap TooManyItems = (items : List Item) × (file_items text ≡ Ok items) × (cap < length (set_of items))
-IsStoreFault text cap (Strategy f) = ⊥
-IsStoreFault text cap Memory = ⊤
+abbrev pub IsSetFault : List ℕ → ℕ → SettingsFault → Type 0
+IsSetFault text cap CannotRead = ⊥
+IsSetFault text cap (BadItemLine line) = file_items text ≡ Err line
+IsSetFault text cap TooManyItems = (items : List Item) × (file_items text ≡ Ok items) × (cap < length (set_of items))
+IsSetFault text cap (Strategy f) = ⊥
+IsSetFault text cap Memory = ⊤
 
-abbrev pub IsStoreOf : List ℕ → ℕ → Result FlatStore SettingsFault → Type 0
-IsStoreOf text cap (Ok store) = (items : List Item) × (file_items text ≡ Ok items) × (flat_items store ≡ set_of items) × (length (set_of items) ≤ cap)
-IsStoreOf text cap (Err fault) = IsStoreFault text cap fault
+abbrev pub IsSetOf : {X : Type 0} → (X → List Item) → List ℕ → ℕ → Result X SettingsFault → Type 0
+IsSetOf items_in text cap (Ok set) = (items : List Item) × (file_items text ≡ Ok items) × (items_in set ≡ set_of items)
+    × (length (set_of items) ≤ cap)
+IsSetOf items_in text cap (Err fault) = IsSetFault text cap fault

@@ -6,8 +6,8 @@
 ghost use Rattle.std.specs.Prelude.{◌≡◌, ◌≢◌, ◌<◌, ◌≤◌, ℕ, List, [], ◌∷◌, ◌++◌, length, IfOk, IfErr, IfSome, OnOk, option_map, Some, None, Ok, Err};
 ghost use Rattle.definitions.specs.Items.{Item as Bytes};
 ghost use Rattle.hex.specs.Hex.{decode_of};
-ghost use Rattle.store_core.specs.Flat.{flat_items};
-ghost use Rattle.settings_core.specs.Faults.{IsStoreOf};
+ghost use Rattle.definitions.specs.Sets.{IsSet};
+ghost use Rattle.settings_core.specs.Faults.{IsSetOf};
 ghost use Rattle.settings_core.specs.Files.{IsFromFile};
 ghost use Rattle.settings_core.specs.ItemFiles.{is_blank, without_front, without_end, digits_in, decoded, line_items, lines, lines_in, file_items};
 
@@ -17,7 +17,7 @@ use item_core::Item;
 use memchr::memchr;
 use std::alloc::Global;
 use std::rt::Files;
-use store_core::{FlatStore, RangeStore};
+use store_core::{laws, spans};
 
 /// Whether a byte is a blank of an item line.
 fn is_blank(byte: u8) -> bool
@@ -121,21 +121,22 @@ fn items_of(alloc: Global, text: &[u8]) -> Result<Vec<Item>, SettingsFault>
     Ok(items)
 }
 
-/// The store of the items of a file's text.
+/// The set of the items of a file's text, in rising order.
 ///
 /// Refused 81 by its first bad line, and then 82 where it has more than `cap` different items.
-pub fn store_of(alloc: Global, text: &[u8], cap: usize) -> Result<FlatStore, SettingsFault>
-    ensures { IsStoreOf text.now cap result }
+pub fn item_set(alloc: Global, text: &[u8], cap: usize) -> Result<Vec<Item>, SettingsFault>
+    ensures set { IsSetOf (λ v. v.items) text.now cap result }
+    ensures rises { IfOk result (λ v. IsSet v.items) }
 {
-    let items = items_of(alloc, text)?;
-    let store = FlatStore::from_items(alloc, items)?;
-    if store.len() > cap {
+    laws::set_of_a_list();
+    let items = spans::distinct(items_of(alloc, text)?);
+    if items.len() > cap {
         return Err(SettingsFault::TooManyItems);
     }
-    Ok(store)
+    Ok(items)
 }
 
-/// The store of the items in the file.
+/// The set of the items in the file, in rising order.
 ///
 /// Refused 80 where the file is not read, 81 by its first bad line, and then 82 where there are more than `cap`
 /// different items.
@@ -143,9 +144,10 @@ pub fn read_items<R: Files + AllocGlobal>(
     rt: &R,
     path: &str,
     cap: usize,
-) -> Result<FlatStore, SettingsFault>
-    ensures store { IsFromFile (λ text. IsStoreOf text cap) result }
-    ensures few { IfOk result (λ s. length (flat_items s) ≤ cap) }
+) -> Result<Vec<Item>, SettingsFault>
+    ensures set { IsFromFile (λ text. IsSetOf (λ v. v.items) text cap) result }
+    ensures rises { IfOk result (λ v. IsSet v.items) }
+    ensures few { IfOk result (λ v. length v.items ≤ cap) }
 {
-    store_of(rt.alloc(), &read_file(rt, path)?, cap)
+    item_set(rt.alloc(), &read_file(rt, path)?, cap)
 }

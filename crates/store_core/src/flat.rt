@@ -32,9 +32,9 @@ impl RangeStore for FlatStore {
         }
     }
 
-    fn from_items(alloc: Global, items: Vec<Item>) -> Result<FlatStore, AllocError> {
+    fn from_rising(alloc: Global, items: &[Item]) -> Result<FlatStore, AllocError> {
         Ok(FlatStore {
-            entries: spans::digested(alloc, &spans::distinct(items))?,
+            entries: spans::digested(alloc, items)?,
         })
     }
 

@@ -6,6 +6,7 @@ ghost use Rattle.definitions.specs.Sets.{IsSet, has, items_in, add_item, set_of}
 ghost use Rattle.definitions.specs.Fingerprints.{two_lanes};
 ghost use Rattle.store_core.specs.Stores.{IfNew, is_new};
 
+use crate::{laws, spans};
 use digest_core::Fingerprint;
 use item_core::{Item, Range};
 use std::alloc::{AllocError, Global};
@@ -28,9 +29,18 @@ pub trait RangeStore: Drop + Sized {
     fn empty(alloc: Global) -> Self
         ensures { content result ≡ [] };
 
+    /// The store of the items of a set, in their order. Each one is hashed once.
+    fn from_rising(alloc: Global, items: &[Item]) -> Result<Self, AllocError>
+        requires { IsSet items.now }
+        ensures { IfOk result (λ s. content s ≡ items.now) };
+
     /// The store of these items, each one once.
     fn from_items(alloc: Global, items: Vec<Item>) -> Result<Self, AllocError>
-        ensures { IfOk result (λ s. content s ≡ set_of items.items) };
+        ensures { IfOk result (λ s. content s ≡ set_of items.items) }
+    {
+        laws::set_of_a_list();
+        Self::from_rising(alloc, &spans::distinct(items))
+    }
 
     /// How many items there are.
     fn len(&self) -> usize

@@ -19,7 +19,7 @@ differs_by : (x y : Item) (b : Bool) → same_item y x ≡ b → same_item x y �
 differs_by x y true there other = let same : y ≡ x = same_item-eq y x there in let back : same_item x y ≡ true = rw same (same_item-itself x) in absurd (cc)
 differs_by x y false there other = refl
 
-differs_back : (x y : Item) → same_item x y ≡ false → same_item y x ≡ false
+pub differs_back : (x y : Item) → same_item x y ≡ false → same_item y x ≡ false
 differs_back x y other = differs_by x y (same_item y x) refl other
 
 -- ---- a set with one new item

@@ -1,8 +1,8 @@
 //! The history that a log opens with.
 
 ghost use Rattle.std.specs.Prelude.{◌≡◌, length, IfOk};
-ghost use Rattle.definitions.specs.Histories.{IsHistory, opening_history};
-ghost use Rattle.definitions.specs.Sets.{set_of};
+ghost use Rattle.definitions.specs.Histories.{IsHistory, content, opening_history};
+ghost use Rattle.definitions.specs.Sets.{IsSet, set_of};
 
 use crate::entry::Entry;
 use item_core::Item;
@@ -24,6 +24,21 @@ pub(crate) fn opening(alloc: Global, items: &[Item]) -> Result<Vec<Entry>, Alloc
         if seen.insert(*item)? {
             entries.push(Entry::new(0, *item))?;
         }
+    }
+    Ok(entries)
+}
+
+/// The entries of the items of a set, in their order, by writer 0.
+pub(crate) fn opening_of_set(alloc: Global, items: &[Item]) -> Result<Vec<Entry>, AllocError>
+    requires { IsSet items.now }
+    ensures entries { IfOk result (λ entries. entries.items ≡ opening_history items.now) }
+    ensures content { IfOk result (λ entries. content entries.items ≡ items.now) }
+    ensures once { IfOk result (λ entries. IsHistory entries.items) }
+    ensures count { IfOk result (λ entries. length entries.items ≡ length items.now) }
+{
+    let mut entries = Vec::with_capacity(alloc, items.len())?;
+    for item in items {
+        entries.push(Entry::new(0, *item))?;
     }
     Ok(entries)
 }

@@ -1,12 +1,12 @@
 ghost use Rattle.std.specs.Prelude.{◌≡◌, ◌+◌, ◌<◌, ◌≤◌, length, slice_get, Some, Err, IfOk, IfErr, IfSome};
-ghost use Rattle.definitions.specs.Sets.{set_of};
+ghost use Rattle.definitions.specs.Sets.{IsSet, set_of};
 ghost use Rattle.definitions.specs.Histories.{content, version, insertion, New};
 ghost use Rattle.version_log.specs.Logs.{IsLog, IsCap, IsNextWriter, max_next_writer, opened, log_after, with_writer_given};
 ghost use Rattle.version_log.specs.Answers.{insertion_in};
 
 use crate::answer::{Added, LogFault, WritersSpent};
 use crate::entry::{Entry, items_of};
-use crate::opening::opening;
+use crate::opening::{opening, opening_of_set};
 use item_core::Item;
 use std::alloc::{AllocError, Global};
 use std::marker::Model;
@@ -73,6 +73,23 @@ impl<S: RangeStore> Published<S> {
             entries,
             store,
             next_writer,
+        })
+    }
+
+    /// The log of the items of a set, at most as many as the cap, by writer 0. The next writer number is 1.
+    ///
+    /// Nothing is sorted, and each item is hashed once.
+    pub fn of_set(alloc: Global, cap: u32, items: &[Item]) -> Result<Published<S>, AllocError>
+        requires cap { IsCap cap }
+        requires set { IsSet items.now }
+        requires fits { length items.now ≤ cap }
+        ensures { IfOk result (λ p. p ≡ opened cap items.now 1) }
+    {
+        Ok(Published {
+            cap,
+            entries: opening_of_set(alloc, items)?,
+            store: S::from_rising(alloc, items)?,
+            next_writer: 1,
         })
     }
 

@@ -5,7 +5,8 @@ use crate::{Added, LogFault, Published};
 use item_core::Item;
 use std::alloc::Global;
 use std::process::Abort;
-use store_core::{FlatStore, RangeStore};
+use std::test::Fail;
+use store_core::{FlatStore, RangeStore, laws, spans};
 
 // What a caller learns of an insert, in the words of the definitions.
 
@@ -64,6 +65,26 @@ fn two_items<S: RangeStore>(rt: &impl Abort, alloc: Global) {
 #[test]
 fn flat_store(rt: HostRuntime) {
     two_items::<FlatStore>(&rt, rt.alloc());
+}
+
+// The log of the set of these items, by the cap 2.
+fn of_set(rt: &impl Abort, alloc: Global, items: Vec<Item>) -> Published<FlatStore> {
+    laws::set_of_a_list();
+    let rising = spans::distinct(items);
+    assert!(rt; rising.len() <= 2);
+    Published::of_set(alloc, 2, &rising).expect(rt, "memory")
+}
+
+#[test]
+fn items_that_rise(rt: HostRuntime) -> Result<(), Fail> {
+    let a = item(&rt, b"a");
+    let b = item(&rt, b"b");
+    let log = of_set(&rt, rt.alloc(), vec![in rt.alloc(); b, a, b]?);
+    assert!(rt; log.version() == 2 && log.cap() == 2 && log.next_writer() == 1);
+    assert!(rt; log.store().has(&a) && log.store().has(&b));
+    assert!(rt; *log.entry(0).item() == a && *log.entry(1).item() == b);
+    assert!(rt; log.entry(0).writer() == 0 && log.entry(1).writer() == 0);
+    Ok(())
 }
 
 #[test]

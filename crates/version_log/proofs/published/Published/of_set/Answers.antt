@@ -1,0 +1,20 @@
+use Rattle.std.proofs.Common.{rules, arith, ◌∙◌, sym, length, ◌≤◌}
+use Rattle.version_log.proofs.Once.{writers_opened}
+use Rattle.version_log.proofs.published.Published.of_set.Goals as goal
+
+pub invariant_of-result : goal.invariant_of-result
+invariant_of-result g c =
+    let entries = c.in_ok-opening_of_set.field-0 in
+    let opening = c.in_ok-opening_of_set.ensures in
+    let count = opening.count in
+    let room = c.requires.fits in
+    let small : length entries.items ≤ c.args.cap = rw count room in (
+      c.in_ok-from_rising.ensures ∙ sym opening.content,
+      record {
+        once = opening.once;
+        fits = small;
+        cap = c.requires.cap;
+        writers = rw opening.entries (writers_opened 1 c.args.items.now (omega arith));
+        next_writer = (omega arith, omega arith);
+      },
+    )
