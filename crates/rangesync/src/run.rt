@@ -110,12 +110,14 @@ where
             address,
             workers,
             sessions,
+            patience,
             items,
         } => {
             let serving = Serving {
                 address,
                 workers,
                 sessions,
+                patience,
             };
             serve(rt, read_opening(rt, table, items)?, serving, out, err)
         }
@@ -123,9 +125,14 @@ where
             table,
             address,
             profile,
+            patience,
             items,
         } => {
-            let asking = Asking { address, profile };
+            let asking = Asking {
+                address,
+                profile,
+                patience,
+            };
             sync(rt, read_opening(rt, table, items)?, asking, out)
         }
     }

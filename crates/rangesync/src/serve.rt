@@ -26,6 +26,8 @@ pub struct Serving<'a> {
     pub workers: u8,
     /// After how many connections it ends, if it does.
     pub sessions: Option<u32>,
+    /// How many seconds a read or a write of a connection may take.
+    pub patience: u32,
 }
 
 /// Says at once that this address is listened at. Where the system chose the port, the real address goes to standard
@@ -66,7 +68,12 @@ where
     let Opening { accepted, log } = opening;
     let (lock, mut seat) = VersionLock::new(alloc, log)?;
     let sessions = Mutex::new(SessionTable::new(alloc, usize::from(serving.workers))?);
-    let listener = listen(rt, serving.address, serving.sessions)?;
+    let listener = listen(
+        rt,
+        serving.address,
+        serving.sessions,
+        serving.patience,
+    )?;
     announce(alloc, serving.address, &listener, &mut out, err)?;
     let shared = Shared {
         lock: &lock,

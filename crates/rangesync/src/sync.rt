@@ -23,6 +23,8 @@ pub struct Asking<'a> {
     pub address: &'a str,
     /// The wire profile that is spoken.
     pub profile: WireProfile,
+    /// How many seconds the connect, a read or a write may take.
+    pub patience: u32,
 }
 
 /// Runs one session as the initiator, and prints what was learned.
@@ -40,7 +42,7 @@ pub fn sync<R: Net<Stream = TcpStream> + Wait + AllocGlobal, O: Write + Drop>(
     let Opening { accepted, log } = opening;
     let (lock, mut seat) = VersionLock::new(alloc, log)?;
     let sessions = Mutex::new(SessionTable::new(alloc, 1)?);
-    let stream = connect(rt, asking.address)?;
+    let stream = connect(rt, asking.address, asking.patience)?;
     let shared = Shared {
         lock: &lock,
         accepted: &accepted,

@@ -1,6 +1,7 @@
 //! Runs over memory, on messages and replies that are typed in.
 
 mod checks;
+mod hostile;
 mod sessions;
 mod sims;
 mod words;

@@ -4,6 +4,7 @@
 mod connecting;
 mod fault;
 mod listener;
+mod patience;
 #[cfg(test)]
 mod tests;
 

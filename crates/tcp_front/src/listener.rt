@@ -4,6 +4,7 @@ ghost use Rattle.std.specs.Prelude.{◌≡◌, ◌≢◌};
 ghost use Rattle.std.specs.IoError.{error_kind};
 
 use crate::fault::ListenFault;
+use crate::patience::bounded;
 use peer_threads::{Source, SourceFault};
 use std::io;
 use std::io::ErrorKind;
@@ -18,6 +19,8 @@ use std::sync::atomic::{AtomicU64, Ordering};
 pub struct Listener {
     socket: TcpListener,
     left: AtomicU64,
+    // How many seconds a read or a write of a connection may take.
+    patience: u32,
 }
 
 /// Why a listener was not made.
@@ -43,18 +46,21 @@ fn accept_fault(error: &io::Error) -> SourceFault
 }
 
 /// Listens at an address: an IP address or a host's name, and a port, as `127.0.0.1:7700`; at port 0 the system chooses
-/// one. After so many connections the listener gives no more; with none it has no end.
+/// one. After this many connections the listener gives no more; with none it has no end. A read or a write of a connection
+/// that takes longer than `patience` seconds fails.
 ///
-/// Else 60 where the text is no address, or the address is in use or may not be listened at, or 90.
+/// Fails with 60 if the text is no address, or the address is in use or may not be listened at, and with 90.
 pub fn listen<R: Net<Listener = TcpListener, Stream = TcpStream>>(
     rt: &R,
     address: &str,
     connections: Option<u32>,
+    patience: u32,
 ) -> Result<Listener, ListenFault> {
     match TcpListener::bind(rt, address) {
         Ok(socket) => Ok(Listener {
             socket,
             left: AtomicU64::new(connections.map_or(u64::MAX, u64::from)),
+            patience,
         }),
         Err(error) => Err(listen_fault(&error)),
     }
@@ -79,6 +85,7 @@ impl Listener {
     fn accept(&self) -> io::Result<(TcpStream, TcpStream)> {
         let (stream, _peer) = self.socket.accept()?;
         let _set = stream.set_nodelay(true);
+        let stream = bounded(stream, self.patience)?;
         Ok((stream.try_clone()?, stream))
     }
 }

@@ -179,7 +179,7 @@ where
         + Sync
         + Abort,
 {
-    let listener = listen(rt, "127.0.0.1:0", Some(1))
+    let listener = listen(rt, "127.0.0.1:0", Some(1), 60)
         .ok()
         .expect(rt, "a listener");
     let address = listener.local_addr().expect(rt, "an address");
