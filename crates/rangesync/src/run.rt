@@ -17,6 +17,7 @@ use std::net::{Net, TcpListener, TcpStream};
 use std::rt::Files;
 use std::sync::Wait;
 use std::thread::Threads;
+use std::time::Clock;
 use store_core::FlatStore;
 use wire_core::{Watched, decode_message};
 
@@ -94,6 +95,7 @@ where
         + Net<Listener = TcpListener, Stream = TcpStream>
         + Threads
         + Wait
+        + Clock
         + AllocGlobal
         + Sync,
     requires { AreInSpan command }
@@ -152,6 +154,7 @@ where
         + Net<Listener = TcpListener, Stream = TcpStream>
         + Threads
         + Wait
+        + Clock
         + AllocGlobal
         + Sync,
     ensures known { result ≤ 3 }

@@ -13,6 +13,7 @@ use std::process::Abort;
 use std::rt::Files;
 use std::sync::Wait;
 use std::thread::Threads;
+use std::time::Clock;
 use std::{fs, io};
 
 /// The first message of an empty set, in hex.
@@ -60,6 +61,7 @@ where
         + Net<Listener = TcpListener, Stream = TcpStream>
         + Threads
         + Wait
+        + Clock
         + AllocGlobal
         + Sync
         + Abort,
@@ -100,6 +102,7 @@ where
         + Net<Listener = TcpListener, Stream = TcpStream>
         + Threads
         + Wait
+        + Clock
         + AllocGlobal
         + Sync
         + Abort,

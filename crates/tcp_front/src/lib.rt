@@ -7,6 +7,7 @@ mod listener;
 mod patience;
 #[cfg(test)]
 mod tests;
+mod trying;
 
 pub use connecting::connect;
 pub use fault::{ConnectFault, ListenFault};

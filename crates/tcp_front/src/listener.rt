@@ -5,22 +5,26 @@ ghost use Rattle.std.specs.IoError.{error_kind};
 
 use crate::fault::ListenFault;
 use crate::patience::bounded;
+use crate::trying::{Attempt, present, tried};
 use peer_threads::{Source, SourceFault};
 use std::io;
 use std::io::ErrorKind;
 use std::net::{Net, SocketAddr, TcpListener, TcpStream};
 use std::sync::atomic::{AtomicU64, Ordering};
+use std::time::Clock;
 
 /// A listener that workers share, and how many connections they may still wait for.
 ///
-/// A worker counts its connection before it waits to accept, so none waits for one beyond the number. After a failed
-/// accept no connection is left.
+/// A worker counts its connection before it waits to accept, so none waits for one beyond the number. A connection that is
+/// gone before it is accepted is passed over. Where there is no descriptor or memory for one, it is tried again after a
+/// pause, a bounded number of times. After an accept that failed no connection is left.
 #[derive(Drop)]
-pub struct Listener {
+pub struct Listener<'a, C> {
     socket: TcpListener,
     left: AtomicU64,
     // How many seconds a read or a write of a connection may take.
     patience: u32,
+    clock: &'a C,
 }
 
 /// Why a listener was not made.
@@ -50,23 +54,49 @@ fn accept_fault(error: &io::Error) -> SourceFault
 /// that takes longer than `patience` seconds fails.
 ///
 /// Fails with 60 if the text is no address, or the address is in use or may not be listened at, and with 90.
-pub fn listen<R: Net<Listener = TcpListener, Stream = TcpStream>>(
-    rt: &R,
+pub fn listen<'a, R: Net<Listener = TcpListener, Stream = TcpStream> + Clock>(
+    rt: &'a R,
     address: &str,
     connections: Option<u32>,
     patience: u32,
-) -> Result<Listener, ListenFault> {
+) -> Result<Listener<'a, R>, ListenFault> {
     match TcpListener::bind(rt, address) {
         Ok(socket) => Ok(Listener {
             socket,
             left: AtomicU64::new(connections.map_or(u64::MAX, u64::from)),
             patience,
+            clock: rt,
         }),
         Err(error) => Err(listen_fault(&error)),
     }
 }
 
-impl Listener {
+/// The next connection of a socket.
+#[derive(Drop)]
+struct Next<'a>(&'a TcpListener);
+
+impl Attempt for Next<'_> {
+    type Made = TcpStream;
+
+    fn attempt(&self) -> io::Result<TcpStream> {
+        let (stream, _peer) = self.0.accept()?;
+        Ok(stream)
+    }
+}
+
+/// Another handle of a socket.
+#[derive(Drop)]
+struct Handle<'a>(&'a TcpStream);
+
+impl Attempt for Handle<'_> {
+    type Made = TcpStream;
+
+    fn attempt(&self) -> io::Result<TcpStream> {
+        self.0.try_clone()
+    }
+}
+
+impl<C> Listener<'_, C> {
     /// The address that is listened at, with its real port, if the system tells it.
     pub fn local_addr(&self) -> Option<SocketAddr> {
         self.socket.local_addr().ok()
@@ -80,17 +110,19 @@ impl Listener {
             })
             .is_ok()
     }
+}
 
+impl<C: Clock> Listener<'_, C> {
     /// Waits for a connection: its reader and its writer are two handles of one socket.
     fn accept(&self) -> io::Result<(TcpStream, TcpStream)> {
-        let (stream, _peer) = self.socket.accept()?;
+        let stream = bounded(present(self.clock, &Next(&self.socket))?, self.patience)?;
         let _set = stream.set_nodelay(true);
-        let stream = bounded(stream, self.patience)?;
-        Ok((stream.try_clone()?, stream))
+        let reader = tried(self.clock, &Handle(&stream))?;
+        Ok((reader, stream))
     }
 }
 
-impl Source for Listener {
+impl<C: Clock> Source for Listener<'_, C> {
     type In = TcpStream;
 
     type Out = TcpStream;
@@ -110,7 +142,7 @@ impl Source for Listener {
 }
 
 #[cfg(test)]
-impl Listener {
+impl<C> Listener<'_, C> {
     // From now on an accept with no connection there fails, and does not wait.
     pub(crate) fn never_wait(&self) -> io::Result<()> {
         self.socket.set_nonblocking(true)

@@ -7,17 +7,17 @@ use std::io;
 use std::io::{Read, Write};
 use std::net::{Net, TcpListener, TcpStream};
 use std::process::Abort;
-use std::time::Duration;
+use std::time::{Clock, Duration};
 
 /// How many seconds a call may take, where a test does not wait for it.
 const PATIENCE: u32 = 60;
 
 /// A listener for so many connections, and its address.
-fn opened<R: Net<Listener = TcpListener, Stream = TcpStream> + AllocGlobal + Abort>(
-    rt: &R,
+fn opened<'a, R: Net<Listener = TcpListener, Stream = TcpStream> + AllocGlobal + Clock + Abort>(
+    rt: &'a R,
     connections: Option<u32>,
     patience: u32,
-) -> io::Result<(Listener, String)> {
+) -> io::Result<(Listener<'a, R>, String)> {
     let listener = listen(rt, "127.0.0.1:0", connections, patience)
         .ok()
         .expect(rt, "a listener");
@@ -26,7 +26,7 @@ fn opened<R: Net<Listener = TcpListener, Stream = TcpStream> + AllocGlobal + Abo
 }
 
 /// The two ends of the next connection.
-fn taken<R: Abort>(rt: &R, listener: &Listener) -> (TcpStream, TcpStream) {
+fn taken<R: Clock + Abort>(rt: &R, listener: &Listener<R>) -> (TcpStream, TcpStream) {
     let next = listener.take().ok().expect(rt, "no fault");
     next.expect(rt, "a connection")
 }

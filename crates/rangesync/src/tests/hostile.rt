@@ -9,6 +9,7 @@ use std::process::Abort;
 use std::rt::Files;
 use std::sync::Wait;
 use std::thread::{Threads, join};
+use std::time::Clock;
 use std::{fs, io};
 use tcp_front::{Listener, connect, listen};
 
@@ -61,6 +62,7 @@ where
         + Net<Listener = TcpListener, Stream = TcpStream>
         + Threads
         + Wait
+        + Clock
         + AllocGlobal
         + Sync
         + Abort,
@@ -126,9 +128,9 @@ items 1
 }
 
 /// A listener for one connection at a port that the system chose, and its address.
-fn opened<R>(rt: &R) -> Result<(Listener, String), AllocError>
+fn opened<'a, R>(rt: &'a R) -> Result<(Listener<'a, R>, String), AllocError>
 where
-    R: Net<Listener = TcpListener, Stream = TcpStream> + AllocGlobal + Abort,
+    R: Net<Listener = TcpListener, Stream = TcpStream> + Clock + AllocGlobal + Abort,
 {
     let listener = listen(rt, "127.0.0.1:0", Some(1), 60)
         .ok()
@@ -139,7 +141,7 @@ where
 }
 
 /// Takes the connection, reads hello and message 1 of no items, which are 48 bytes, and is silent until the peer closes.
-fn hears<R: Abort>(rt: &R, listener: &Listener) {
+fn hears<R: Clock + Abort>(rt: &R, listener: &Listener<R>) {
     let next = listener.take().ok().expect(rt, "no fault");
     let (mut reader, _writer) = next.expect(rt, "a connection");
     let mut read = [0u8; 48];
@@ -155,6 +157,7 @@ where
         + Net<Listener = TcpListener, Stream = TcpStream>
         + Threads
         + Wait
+        + Clock
         + AllocGlobal
         + Sync
         + Abort,

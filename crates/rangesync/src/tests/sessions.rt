@@ -10,6 +10,7 @@ use std::process::Abort;
 use std::rt::Files;
 use std::sync::Wait;
 use std::thread::{Threads, join};
+use std::time::Clock;
 use std::{fs, io};
 use tcp_front::{Listener, listen};
 
@@ -43,6 +44,7 @@ where
         + Net<Listener = TcpListener, Stream = TcpStream>
         + Threads
         + Wait
+        + Clock
         + AllocGlobal
         + Sync,
 {
@@ -60,6 +62,7 @@ where
         + Net<Listener = TcpListener, Stream = TcpStream>
         + Threads
         + Wait
+        + Clock
         + AllocGlobal
         + Sync,
 {
@@ -111,6 +114,7 @@ where
         + Net<Listener = TcpListener, Stream = TcpStream>
         + Threads
         + Wait
+        + Clock
         + AllocGlobal
         + Sync,
 {
@@ -135,6 +139,7 @@ where
         + Net<Listener = TcpListener, Stream = TcpStream>
         + Threads
         + Wait
+        + Clock
         + AllocGlobal
         + Sync,
 {
@@ -169,12 +174,13 @@ items 1
 }
 
 /// A listener for one connection at a port that the system chose, and its address.
-fn opened<R>(rt: &R) -> Result<(Listener, String), AllocError>
+fn opened<'a, R>(rt: &'a R) -> Result<(Listener<'a, R>, String), AllocError>
 where
     R: Files
         + Net<Listener = TcpListener, Stream = TcpStream>
         + Threads
         + Wait
+        + Clock
         + AllocGlobal
         + Sync
         + Abort,
@@ -188,12 +194,13 @@ where
 }
 
 /// Takes the connection, reads hello and message 1 of no items, which are 48 bytes, writes these bytes, and lets go of it.
-fn reply<R>(rt: &R, listener: &Listener, bytes: &[u8])
+fn reply<R>(rt: &R, listener: &Listener<R>, bytes: &[u8])
 where
     R: Files
         + Net<Listener = TcpListener, Stream = TcpStream>
         + Threads
         + Wait
+        + Clock
         + AllocGlobal
         + Sync
         + Abort,
@@ -212,6 +219,7 @@ where
         + Net<Listener = TcpListener, Stream = TcpStream>
         + Threads
         + Wait
+        + Clock
         + AllocGlobal
         + Sync
         + Abort,
@@ -235,6 +243,7 @@ where
         + Net<Listener = TcpListener, Stream = TcpStream>
         + Threads
         + Wait
+        + Clock
         + AllocGlobal
         + Sync
         + Abort,
@@ -318,6 +327,7 @@ where
         + Net<Listener = TcpListener, Stream = TcpStream>
         + Threads
         + Wait
+        + Clock
         + AllocGlobal
         + Sync
         + Abort,
@@ -399,6 +409,7 @@ where
         + Net<Listener = TcpListener, Stream = TcpStream>
         + Threads
         + Wait
+        + Clock
         + AllocGlobal
         + Sync
         + Abort,
