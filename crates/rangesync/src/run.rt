@@ -19,6 +19,7 @@ use std::sync::Wait;
 use std::thread::Threads;
 use std::time::Clock;
 use store_core::FlatStore;
+use tcp_front::Limits;
 use wire_core::{Watched, decode_message};
 
 /// The greatest number of different items of `answer`.
@@ -113,13 +114,17 @@ where
             workers,
             sessions,
             patience,
+            most_bytes,
             items,
         } => {
             let serving = Serving {
                 address,
                 workers,
                 sessions,
-                patience,
+                limits: Limits {
+                    patience,
+                    most_bytes,
+                },
             };
             serve(rt, read_opening(rt, table, items)?, serving, out, err)
         }
@@ -128,12 +133,16 @@ where
             address,
             profile,
             patience,
+            most_bytes,
             items,
         } => {
             let asking = Asking {
                 address,
                 profile,
-                patience,
+                limits: Limits {
+                    patience,
+                    most_bytes,
+                },
             };
             sync(rt, read_opening(rt, table, items)?, asking, out)
         }

@@ -14,7 +14,7 @@ use std::net::{Net, SocketAddr, TcpListener, TcpStream};
 use std::sync::{Mutex, Wait};
 use std::thread::Threads;
 use std::time::Clock;
-use tcp_front::listen;
+use tcp_front::{Limits, listen};
 use version_lock::VersionLock;
 use wire_core::Watched;
 
@@ -27,8 +27,8 @@ pub struct Serving<'a> {
     pub workers: u8,
     /// After how many connections it ends, if it does.
     pub sessions: Option<u32>,
-    /// How many seconds a read or a write of a connection may take.
-    pub patience: u32,
+    /// What each connection may cost.
+    pub limits: Limits,
 }
 
 /// Says at once that this address is listened at. Where the system chose the port, the real address goes to standard
@@ -73,7 +73,7 @@ where
         rt,
         serving.address,
         serving.sessions,
-        serving.patience,
+        serving.limits,
     )?;
     announce(
         alloc,

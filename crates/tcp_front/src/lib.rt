@@ -3,6 +3,7 @@
 
 mod connecting;
 mod fault;
+mod limits;
 mod listener;
 mod patience;
 #[cfg(test)]
@@ -11,4 +12,5 @@ mod trying;
 
 pub use connecting::connect;
 pub use fault::{ConnectFault, ListenFault};
+pub use limits::{Limits, limited};
 pub use listener::{Listener, listen};

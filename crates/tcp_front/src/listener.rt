@@ -4,11 +4,12 @@ ghost use Rattle.std.specs.Prelude.{◌≡◌, ◌≢◌};
 ghost use Rattle.std.specs.IoError.{error_kind};
 
 use crate::fault::ListenFault;
+use crate::limits::{Limits, limited};
 use crate::patience::bounded;
 use crate::trying::{Attempt, present, tried};
 use peer_threads::{Source, SourceFault};
 use std::io;
-use std::io::ErrorKind;
+use std::io::{ErrorKind, Take};
 use std::net::{Net, SocketAddr, TcpListener, TcpStream};
 use std::sync::atomic::{AtomicU64, Ordering};
 use std::time::Clock;
@@ -22,8 +23,8 @@ use std::time::Clock;
 pub struct Listener<'a, C> {
     socket: TcpListener,
     left: AtomicU64,
-    // How many seconds a read or a write of a connection may take.
-    patience: u32,
+    // What each connection may cost.
+    limits: Limits,
     clock: &'a C,
 }
 
@@ -51,20 +52,20 @@ fn accept_fault(error: &io::Error) -> SourceFault
 
 /// Listens at an address: an IP address or a host's name, and a port, as `127.0.0.1:7700`; at port 0 the system chooses
 /// one. After this many connections the listener gives no more; with none it has no end. A read or a write of a connection
-/// that takes longer than `patience` seconds fails.
+/// that takes longer than the limits say fails, and its input ends after the bytes that they say.
 ///
 /// Fails with 60 if the text is no address, or the address is in use or may not be listened at, and with 90.
 pub fn listen<'a, R: Net<Listener = TcpListener, Stream = TcpStream> + Clock>(
     rt: &'a R,
     address: &str,
     connections: Option<u32>,
-    patience: u32,
+    limits: Limits,
 ) -> Result<Listener<'a, R>, ListenFault> {
     match TcpListener::bind(rt, address) {
         Ok(socket) => Ok(Listener {
             socket,
             left: AtomicU64::new(connections.map_or(u64::MAX, u64::from)),
-            patience,
+            limits,
             clock: rt,
         }),
         Err(error) => Err(listen_fault(&error)),
@@ -114,20 +115,24 @@ impl<C> Listener<'_, C> {
 
 impl<C: Clock> Listener<'_, C> {
     /// Waits for a connection: its reader and its writer are two handles of one socket.
-    fn accept(&self) -> io::Result<(TcpStream, TcpStream)> {
-        let stream = bounded(present(self.clock, &Next(&self.socket))?, self.patience)?;
+    fn accept(&self) -> io::Result<(Take<TcpStream>, TcpStream)> {
+        let Limits {
+            patience,
+            most_bytes,
+        } = self.limits;
+        let stream = bounded(present(self.clock, &Next(&self.socket))?, patience)?;
         let _set = stream.set_nodelay(true);
         let reader = tried(self.clock, &Handle(&stream))?;
-        Ok((reader, stream))
+        Ok((limited(reader, most_bytes), stream))
     }
 }
 
 impl<C: Clock> Source for Listener<'_, C> {
-    type In = TcpStream;
+    type In = Take<TcpStream>;
 
     type Out = TcpStream;
 
-    fn take(&self) -> Result<Option<(TcpStream, TcpStream)>, SourceFault> {
+    fn take(&self) -> Result<Option<(Take<TcpStream>, TcpStream)>, SourceFault> {
         if !self.count() {
             return Ok(None);
         }

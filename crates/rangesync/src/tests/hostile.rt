@@ -1,4 +1,4 @@
-//! Peers that say nothing, over the loopback.
+//! Peers that say nothing or too much, over the loopback.
 
 use super::{Wanted, gives, refused};
 use peer_threads::Source;
@@ -11,7 +11,7 @@ use std::sync::Wait;
 use std::thread::{Threads, join};
 use std::time::Clock;
 use std::{fs, io};
-use tcp_front::{Listener, connect, listen};
+use tcp_front::{Limits, Listener, connect, listen};
 
 /// A strategy of at most one item.
 const ONE: &str = "cap = 1
@@ -25,6 +25,12 @@ list = true
 /// The hello of profile 1, and the first message of no items.
 const HELLO_AND_FIRST: &[u8; 48] = b"\x52\x52\x53\x31\0\0\0\x23\x01\0\xff\
 \0\0\0\0\0\0\0\0\0\0\0\0\0\0\0\0\0\0\0\0\0\0\0\0\0\0\0\0\0\0\0\0\0\0\0\x01\x04";
+
+/// What the connection of a listener that stands in for a server may cost.
+const LIMITS: Limits = Limits {
+    patience: 60,
+    most_bytes: 1_024,
+};
 
 /// How often a server is asked for anew while it does not listen.
 const MAX_TRIES: u32 = 1_000_000;
@@ -55,6 +61,15 @@ fn says<R: Net<Stream = TcpStream> + Abort>(rt: &R, address: &str, bytes: &[u8],
     assert_eq!(rt; count, answered);
 }
 
+/// Writes these bytes, and reads the reply and the fault frame of number 3.
+fn writes<R: Net<Stream = TcpStream> + Abort>(rt: &R, address: &str, bytes: &[u8]) {
+    let mut stream = reached(rt, address);
+    stream.write_all(bytes).ok().expect(rt, "a peer");
+    let mut read = [0u8; 30];
+    stream.read_exact(&mut read).ok().expect(rt, "the bytes");
+    assert!(rt; &read[24..] == b"\0\0\0\x02\x05\x03".as_slice());
+}
+
 /// Serves one connection at this address, which may be silent for a second, on the item `abc`.
 fn serves_one<R>(rt: &R, table: &str, items: &str, address: &str, wanted: &Wanted<'_>)
 where
@@ -78,6 +93,8 @@ where
         "1",
         "--patience",
         "1",
+        "--most-bytes",
+        "1024",
         items,
     ];
     gives(rt, &words, &[], wanted);
@@ -127,12 +144,38 @@ items 1
     fs::remove_file(&rt, items)
 }
 
+#[test]
+fn more_bytes_than_are_read(rt: HostRuntime) -> io::Result<()> {
+    let (table, items, address) = ("flood.toml", "flood.items", "127.0.0.1:7704");
+    fs::write(&rt, table, ONE)?;
+    fs::write(&rt, items, "616263\n")?;
+    let wanted = Wanted {
+        status: 0,
+        out: b"listening 127.0.0.1:7704
+opened 1 ended 0 refused 1 io 0 memory 0 messages 1
+items 1
+",
+        err: "",
+    };
+    // The hello, the first message and the length of the longest frame, whose bytes go on beyond 1,024 in all.
+    let mut bytes = [0u8; 1_100];
+    bytes[..48].copy_from_slice(HELLO_AND_FIRST);
+    bytes[49] = 0x80;
+    join(
+        &rt,
+        || serves_one(&rt, table, items, address, &wanted),
+        || writes(&rt, address, &bytes),
+    );
+    fs::remove_file(&rt, table)?;
+    fs::remove_file(&rt, items)
+}
+
 /// A listener for one connection at a port that the system chose, and its address.
 fn opened<'a, R>(rt: &'a R) -> Result<(Listener<'a, R>, String), AllocError>
 where
     R: Net<Listener = TcpListener, Stream = TcpStream> + Clock + AllocGlobal + Abort,
 {
-    let listener = listen(rt, "127.0.0.1:0", Some(1), 60)
+    let listener = listen(rt, "127.0.0.1:0", Some(1), LIMITS)
         .ok()
         .expect(rt, "a listener");
     let address = listener.local_addr().expect(rt, "an address");

@@ -12,7 +12,7 @@ use std::sync::Wait;
 use std::thread::{Threads, join};
 use std::time::Clock;
 use std::{fs, io};
-use tcp_front::{Listener, listen};
+use tcp_front::{Limits, Listener, listen};
 
 /// The strategy of at most eight items that lists one and cuts more in half.
 const BINARY_EIGHT: &str = "cap = 8
@@ -25,6 +25,12 @@ list = true
 upto = 8
 split = [1, 1]
 ";
+
+/// What the connection of a listener that stands in for a server may cost.
+const LIMITS: Limits = Limits {
+    patience: 60,
+    most_bytes: 1_024,
+};
 
 /// How often `sync` is run anew while nobody listens.
 const MAX_TRIES: u32 = 1_000_000;
@@ -185,7 +191,7 @@ where
         + Sync
         + Abort,
 {
-    let listener = listen(rt, "127.0.0.1:0", Some(1), 60)
+    let listener = listen(rt, "127.0.0.1:0", Some(1), LIMITS)
         .ok()
         .expect(rt, "a listener");
     let address = listener.local_addr().expect(rt, "an address");

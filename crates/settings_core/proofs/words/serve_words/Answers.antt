@@ -1,7 +1,7 @@
 use Rattle.std.proofs.Common.{rules, codes}
 use Rattle.std.proofs.lemmas.Result.{IfOk-weaker}
 use Rattle.clap.specs.Words.{App, new_app, with_rule}
-use Rattle.settings_core.specs.Program.{IsCommand, table, address, workers, sessions, patience, items}
+use Rattle.settings_core.specs.Program.{IsCommand, table, address, workers, sessions, patience, most_bytes, items}
 use Rattle.settings_core.proofs.Adding.{with_word}
 use Rattle.settings_core.proofs.words.serve_words.Goals as goal
 
@@ -15,7 +15,7 @@ abbrev counted : App
 counted = with_rule (with_rule placed workers) sessions
 
 abbrev bounded : App
-bounded = with_rule counted patience
+bounded = with_rule (with_rule counted patience) most_bytes
 
 pub returns : goal.returns
 returns c =
@@ -34,5 +34,8 @@ returns c =
     let five = with_word counted patience c.in_ok-arg-4.field-0 c.patience_word.result
     c.in_ok-arg-5.field-0 four
     c.patience_word.ensures c.in_ok-arg-5.ensures in
-    IfOk-weaker c.arg-6.result _ _ (λ new. with_word bounded items c.in_ok-arg-5.field-0 c.items_word.result new five
-    c.items_word.ensures) c.arg-6.ensures
+    let six = with_word (with_rule counted patience) most_bytes c.in_ok-arg-5.field-0 c.most_bytes_word.result
+    c.in_ok-arg-6.field-0 five
+    c.most_bytes_word.ensures c.in_ok-arg-6.ensures in
+    IfOk-weaker c.arg-7.result _ _ (λ new. with_word bounded items c.in_ok-arg-6.field-0 c.items_word.result new six
+    c.items_word.ensures) c.arg-7.ensures
