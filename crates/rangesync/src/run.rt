@@ -19,7 +19,9 @@ use std::net::{Net, TcpListener, TcpStream};
 use std::rt::Files;
 use std::sync::Wait;
 use std::thread::Threads;
+use std::time::Clock;
 use store_core::{FlatStore, RangeStore};
+use tcp_front::Limits;
 use wire_core::decode_message;
 
 /// The greatest number of different items of `answer`.
@@ -96,6 +98,7 @@ where
         + Net<Listener = TcpListener, Stream = TcpStream>
         + Threads
         + Wait
+        + Clock
         + AllocGlobal
         + Sync,
     requires { AreInSpan command }
@@ -113,12 +116,18 @@ where
             address,
             workers,
             sessions,
+            patience,
+            most_bytes,
             items,
         } => {
             let serving = Serving {
                 address,
                 workers,
                 sessions,
+                limits: Limits {
+                    patience,
+                    most_bytes,
+                },
             };
             serve(rt, read_opening(rt, table, items)?, serving, out, err)
         }
@@ -126,9 +135,18 @@ where
             table,
             address,
             profile,
+            patience,
+            most_bytes,
             items,
         } => {
-            let asking = Asking { address, profile };
+            let asking = Asking {
+                address,
+                profile,
+                limits: Limits {
+                    patience,
+                    most_bytes,
+                },
+            };
             sync(rt, read_opening(rt, table, items)?, asking, out)
         }
     }
@@ -148,6 +166,7 @@ where
         + Net<Listener = TcpListener, Stream = TcpStream>
         + Threads
         + Wait
+        + Clock
         + AllocGlobal
         + Sync,
     ensures known { result ≤ 3 }

@@ -10,10 +10,11 @@ use printing_core::{Fault, listening_line, refusal_of, served_text, tell_address
 use session_table::SessionTable;
 use std::alloc::Global;
 use std::io::Write;
-use std::net::{Net, TcpListener, TcpStream};
+use std::net::{Net, SocketAddr, TcpListener, TcpStream};
 use std::sync::{Mutex, Wait};
 use std::thread::Threads;
-use tcp_front::{Listener, listen};
+use std::time::Clock;
+use tcp_front::{Limits, listen};
 use version_lock::VersionLock;
 
 /// How sessions are served.
@@ -25,6 +26,8 @@ pub struct Serving<'a> {
     pub workers: u8,
     /// After how many connections it ends, if it does.
     pub sessions: Option<u32>,
+    /// What each connection may cost.
+    pub limits: Limits,
 }
 
 /// Says at once that this address is listened at. Where the system chose the port, the real address goes to standard
@@ -32,7 +35,7 @@ pub struct Serving<'a> {
 fn announce<O: Write, E: Write>(
     alloc: Global,
     address: &str,
-    listener: &Listener,
+    real: Option<SocketAddr>,
     out: &mut O,
     err: &mut E,
 ) -> Result<(), Fault> {
@@ -40,7 +43,7 @@ fn announce<O: Write, E: Write>(
     write_output(&mut Watched::new(&mut *out), line.as_bytes())?;
     out.flush().map_err(|_| WriterFailed)?;
     if address.ends_with(":0") {
-        tell_address(err, listener.local_addr());
+        tell_address(err, real);
     }
     Ok(())
 }
@@ -56,7 +59,7 @@ pub fn serve<R, O: Write + Drop, E: Write>(
     err: &mut E,
 ) -> Result<(), Fault>
 where
-    R: Net<Listener = TcpListener, Stream = TcpStream> + Threads + Wait + AllocGlobal + Sync,
+    R: Net<Listener = TcpListener, Stream = TcpStream> + Threads + Wait + Clock + AllocGlobal + Sync,
     requires cap { opening.log.cap ≡ opening.accepted.table.cap }
     requires workers { IsWorkerCount serving.workers }
 {
@@ -65,8 +68,19 @@ where
     let Opening { accepted, log } = opening;
     let (lock, mut seat) = VersionLock::new(alloc, log)?;
     let sessions = Mutex::new(SessionTable::new(alloc, usize::from(serving.workers))?);
-    let listener = listen(rt, serving.address, serving.sessions)?;
-    announce(alloc, serving.address, &listener, &mut out, err)?;
+    let listener = listen(
+        rt,
+        serving.address,
+        serving.sessions,
+        serving.limits,
+    )?;
+    announce(
+        alloc,
+        serving.address,
+        listener.local_addr(),
+        &mut out,
+        err,
+    )?;
     let shared = Shared {
         lock: &lock,
         accepted: &accepted,

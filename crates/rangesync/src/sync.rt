@@ -12,7 +12,7 @@ use settings_core::WireProfile;
 use std::io::Write;
 use std::net::{Net, TcpStream};
 use std::sync::{Mutex, Wait};
-use tcp_front::connect;
+use tcp_front::{Limits, connect, limited};
 use version_lock::VersionLock;
 
 /// With whom a session is run.
@@ -22,6 +22,8 @@ pub struct Asking<'a> {
     pub address: &'a str,
     /// The wire profile that is spoken.
     pub profile: WireProfile,
+    /// What the connection may cost.
+    pub limits: Limits,
 }
 
 /// Runs one session as the initiator, and prints what was learned.
@@ -39,14 +41,14 @@ pub fn sync<R: Net<Stream = TcpStream> + Wait + AllocGlobal, O: Write + Drop>(
     let Opening { accepted, log } = opening;
     let (lock, mut seat) = VersionLock::new(alloc, log)?;
     let sessions = Mutex::new(SessionTable::new(alloc, 1)?);
-    let stream = connect(rt, asking.address)?;
+    let stream = connect(rt, asking.address, asking.limits.patience)?;
     let shared = Shared {
         lock: &lock,
         accepted: &accepted,
         sessions: &sessions,
         gate: &OpenGate,
     };
-    let mut reader = Watched::new(&stream);
+    let mut reader = Watched::new(limited(&stream, asking.limits.most_bytes));
     let mut writer = Watched::new(&stream);
     let outcome = match asking.profile {
         WireProfile::One => {

@@ -1,6 +1,7 @@
 //! Runs over memory, on messages and replies that are typed in.
 
 mod checks;
+mod hostile;
 mod sessions;
 mod sims;
 mod words;
@@ -12,6 +13,7 @@ use std::process::Abort;
 use std::rt::Files;
 use std::sync::Wait;
 use std::thread::Threads;
+use std::time::Clock;
 use std::{fs, io};
 
 /// The first message of an empty set, in hex.
@@ -59,6 +61,7 @@ where
         + Net<Listener = TcpListener, Stream = TcpStream>
         + Threads
         + Wait
+        + Clock
         + AllocGlobal
         + Sync
         + Abort,
@@ -99,6 +102,7 @@ where
         + Net<Listener = TcpListener, Stream = TcpStream>
         + Threads
         + Wait
+        + Clock
         + AllocGlobal
         + Sync
         + Abort,

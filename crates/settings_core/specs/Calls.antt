@@ -46,21 +46,23 @@ abbrev pub HasValues : List Row → Command → Type 0
 HasValues rows (Answer hexed items) = IsFlag (codes "hex") rows hexed × IsText (codes "ITEMS") rows items.now
 HasValues rows (Check file) = IsText (codes "FILE") rows file.now
 HasValues rows Sim = ⊤
-HasValues rows (Serve table address workers sessions items) =
+HasValues rows (Serve table address workers sessions patience most_bytes items) =
     IsText (codes "table") rows table.now × IsText (codes "addr") rows address.now
     × IsNumber (codes "workers") rows (Some workers) × IsNumber (codes "sessions") rows sessions
+    × IsNumber (codes "patience") rows (Some patience) × IsNumber (codes "most-bytes") rows (Some most_bytes)
     × IsText (codes "ITEMS") rows items.now
-HasValues rows (Sync table address profile items) =
+HasValues rows (Sync table address profile patience most_bytes items) =
     IsText (codes "table") rows table.now × IsText (codes "addr") rows address.now
     × IsNumber (codes "profile") rows (Some (profile_number profile))
+    × IsNumber (codes "patience") rows (Some patience) × IsNumber (codes "most-bytes") rows (Some most_bytes)
     × IsText (codes "ITEMS") rows items.now
 
 abbrev pub name_of : Command → Text
 name_of (Answer hexed items) = codes "answer"
 name_of (Check file) = codes "check"
 name_of Sim = codes "sim"
-name_of (Serve table address workers sessions items) = codes "serve"
-name_of (Sync table address profile items) = codes "sync"
+name_of (Serve table address workers sessions patience most_bytes items) = codes "serve"
+name_of (Sync table address profile patience most_bytes items) = codes "sync"
 
 abbrev pub AsksFor : Text → List Row → Command → Type 0
 AsksFor name rows c = (name_of c ≡ name) × HasValues rows c × AreInSpan c

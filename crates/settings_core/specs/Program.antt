@@ -61,6 +61,24 @@ profile = record (new_rule (codes "profile")) {
   parser = Some (Signed (pos 1) (pos 2));
 }
 
+-- `--patience SECONDS`, of 1 to 86,400
+abbrev pub patience : Rule
+patience = record (new_rule (codes "patience")) {
+  long = Some (codes "patience");
+  value_names = 1;
+  defaults = codes "60" ∷ [];
+  parser = Some (Signed (pos 1) (pos 86400));
+}
+
+-- `--most-bytes N`, of 1,024 to 4,294,967,295
+abbrev pub most_bytes : Rule
+most_bytes = record (new_rule (codes "most-bytes")) {
+  long = Some (codes "most-bytes");
+  value_names = 1;
+  defaults = codes "33554432" ∷ [];
+  parser = Some (Signed (pos 1024) (pos 4294967295));
+}
+
 -- `--hex`
 abbrev pub hex : Rule
 hex = record (new_rule (codes "hex")) { long = Some (codes "hex"); action = Some SetTrue }
@@ -81,11 +99,12 @@ abbrev pub sim : App
 sim = new_app (codes "sim")
 
 abbrev pub serve : App
-serve = with_rule (with_rule (with_rule (with_rule (with_rule (new_app (codes "serve")) table) address) workers)
-    sessions) items
+serve = with_rule (with_rule (with_rule (with_rule (with_rule (with_rule (with_rule (new_app (codes "serve")) table)
+    address) workers) sessions) patience) most_bytes) items
 
 abbrev pub sync : App
-sync = with_rule (with_rule (with_rule (with_rule (new_app (codes "sync")) table) address) profile) items
+sync = with_rule (with_rule (with_rule (with_rule (with_rule (with_rule (new_app (codes "sync")) table) address)
+    profile) patience) most_bytes) items
 
 -- the program itself, which has a version and asks for a command
 abbrev pub top : App

@@ -5,7 +5,7 @@ ghost use Rattle.clap.specs.Words.{first_of, found_of, kind_of, rows_of, subcomm
 ghost use Rattle.settings_core.specs.Calls.{AsksFor, Finds, IsNumber, WordsAskFor, profile_number};
 ghost use Rattle.settings_core.specs.Program.{IsWord, IsCommand};
 ghost use Rattle.settings_core.specs.Program as program;
-ghost use Rattle.settings_core.specs.Spans.{IsWorkerCount, IsSessionCount, AreInSpan};
+ghost use Rattle.settings_core.specs.Spans.{IsWorkerCount, IsSessionCount, IsPatience, IsByteCount, AreInSpan};
 ghost use Rattle.settings_core.specs.declared.words.WordsFault.TheVariants as faults;
 
 use clap::error::ErrorKind;
@@ -18,6 +18,12 @@ const MAX_WORKERS: u8 = 16;
 
 /// The greatest number of connections that can be asked for.
 const MAX_SESSIONS: u32 = 1_000_000;
+
+/// The greatest number of seconds that a read, a write or a connect may take: a day.
+const MAX_PATIENCE: u32 = 86_400;
+
+/// The least number of bytes that may be read of a session. The greatest is that of its type.
+const MIN_BYTES: u32 = 1_024;
 
 /// What a call asks for.
 #[derive(Clone, Copy, Debug, PartialEq, Eq)]
@@ -46,6 +52,10 @@ pub enum Command<'a> {
         workers: u8,
         /// After how many connections it ends, 1 to 1,000,000; `None` where it has no end.
         sessions: Option<u32>,
+        /// How many seconds a read or a write of a connection may take, 1 to 86,400.
+        patience: u32,
+        /// How many bytes of a session are read, from 1,024 on.
+        most_bytes: u32,
         /// The path of the item file.
         items: &'a str,
     },
@@ -57,6 +67,10 @@ pub enum Command<'a> {
         address: &'a str,
         /// The wire profile that is spoken.
         profile: WireProfile,
+        /// How many seconds the connect, a read or a write may take, 1 to 86,400.
+        patience: u32,
+        /// How many bytes of the session are read, from 1,024 on.
+        most_bytes: u32,
         /// The path of the item file.
         items: &'a str,
     },
@@ -187,6 +201,30 @@ fn sessions_word<'a>(alloc: Global) -> Arg<'a>
         .value_parser(value_parser!(u32).range(1..=i64::from(MAX_SESSIONS)))
 }
 
+/// The word for the seconds that are waited, with what is waited for.
+fn patience_word<'a>(alloc: Global, help: &'a str) -> Arg<'a>
+    ensures { IsWord program.patience result }
+{
+    Arg::new(alloc, "patience")
+        .long("patience")
+        .value_name("SECONDS")
+        .help(help)
+        .value_parser(value_parser!(u32).range(1..=i64::from(MAX_PATIENCE)))
+        .default_value("60")
+}
+
+/// The word for the bytes that are read, with what is done with more.
+fn most_bytes_word<'a>(alloc: Global, help: &'a str) -> Arg<'a>
+    ensures { IsWord program.most_bytes result }
+{
+    Arg::new(alloc, "most-bytes")
+        .long("most-bytes")
+        .value_name("N")
+        .help(help)
+        .value_parser(value_parser!(u32).range(i64::from(MIN_BYTES)..=i64::from(u32::MAX)))
+        .default_value("33554432")
+}
+
 /// The words of `serve`.
 fn serve_words<'a>(alloc: Global) -> Result<clap::Command<'a>, AllocError>
     ensures { IfOk result (IsCommand program.serve) }
@@ -197,6 +235,14 @@ fn serve_words<'a>(alloc: Global) -> Result<clap::Command<'a>, AllocError>
         .arg(address_word(alloc, "The address to listen at"))?
         .arg(workers_word(alloc))?
         .arg(sessions_word(alloc))?
+        .arg(patience_word(
+            alloc,
+            "End a session whose read or write takes longer, 1 to 86,400",
+        ))?
+        .arg(most_bytes_word(
+            alloc,
+            "Refuse a session that sends more bytes, 1,024 to 4,294,967,295",
+        ))?
         .arg(items_word(alloc))
 }
 
@@ -221,6 +267,14 @@ fn sync_words<'a>(alloc: Global) -> Result<clap::Command<'a>, AllocError>
         .arg(table_word(alloc))?
         .arg(address_word(alloc, "The address to connect to"))?
         .arg(profile_word(alloc))?
+        .arg(patience_word(
+            alloc,
+            "End if the connect, a read or a write takes longer, 1 to 86,400",
+        ))?
+        .arg(most_bytes_word(
+            alloc,
+            "Refuse a server that sends more bytes, 1,024 to 4,294,967,295",
+        ))?
         .arg(items_word(alloc))
 }
 
@@ -271,6 +325,26 @@ fn profile_in(matches: &ArgMatches<'_>) -> Option<WireProfile>
     }
 }
 
+/// The seconds that are waited, which `clap` has read in their span.
+fn patience_in(matches: &ArgMatches<'_>) -> Option<u32>
+    ensures { Finds (λ n. IsNumber (codes "patience") (rows_of (found_of matches.now)) (Some n)
+        × IsPatience n) result }
+{
+    let patience = matches.get_one::<u32>("patience")?;
+    (1..=MAX_PATIENCE).contains(&patience).then_some(patience)
+}
+
+/// The bytes that are read, which `clap` has read in their span.
+fn most_bytes_in(matches: &ArgMatches<'_>) -> Option<u32>
+    ensures { Finds (λ n. IsNumber (codes "most-bytes") (rows_of (found_of matches.now)) (Some n)
+        × IsByteCount n) result }
+{
+    let most_bytes = matches.get_one::<u32>("most-bytes")?;
+    (MIN_BYTES..=u32::MAX)
+        .contains(&most_bytes)
+        .then_some(most_bytes)
+}
+
 /// The text that is given for an argument.
 fn text_in<'a>(matches: &ArgMatches<'a>, id: &str) -> Option<&'a str>
     ensures { option_map (λ text. text.now) result ≡ first_of id.now (rows_of (found_of matches.now)) }
@@ -306,6 +380,8 @@ fn serve_in<'a>(matches: &ArgMatches<'a>) -> Option<Command<'a>>
         address: text_in(matches, "addr")?,
         workers: workers_in(matches)?,
         sessions: sessions_in(matches)?,
+        patience: patience_in(matches)?,
+        most_bytes: most_bytes_in(matches)?,
         items: text_in(matches, "ITEMS")?,
     })
 }
@@ -318,6 +394,8 @@ fn sync_in<'a>(matches: &ArgMatches<'a>) -> Option<Command<'a>>
         table: text_in(matches, "table")?,
         address: text_in(matches, "addr")?,
         profile: profile_in(matches)?,
+        patience: patience_in(matches)?,
+        most_bytes: most_bytes_in(matches)?,
         items: text_in(matches, "ITEMS")?,
     })
 }

@@ -4,9 +4,10 @@ ghost use Rattle.std.specs.Prelude.{◌≡◌, ◌≢◌};
 ghost use Rattle.std.specs.IoError.{error_kind};
 
 use crate::fault::ConnectFault;
+use crate::patience::{bounded, seconds};
 use std::io;
 use std::io::ErrorKind;
-use std::net::{Net, TcpStream};
+use std::net::{Net, SocketAddr, TcpStream, ToSocketAddrs};
 
 /// Why a connection was not made.
 fn fault_of(error: &io::Error) -> ConnectFault
@@ -19,15 +20,45 @@ fn fault_of(error: &io::Error) -> ConnectFault
     }
 }
 
+/// A connection to this address, none of whose calls takes longer.
+fn reach<R: Net<Stream = TcpStream>>(
+    rt: &R,
+    address: &SocketAddr,
+    patience: u32,
+) -> io::Result<TcpStream> {
+    bounded(
+        TcpStream::connect_timeout(rt, address, seconds(patience))?,
+        patience,
+    )
+}
+
+/// A connection to the first address of the text that answers in time.
+fn reach_any<R: Net<Stream = TcpStream>>(
+    rt: &R,
+    address: &str,
+    patience: u32,
+) -> io::Result<TcpStream> {
+    let mut last = io::Error::from(ErrorKind::InvalidInput);
+    for place in address.to_socket_addrs(rt)? {
+        match reach(rt, &place, patience) {
+            Ok(stream) => return Ok(stream),
+            Err(error) => last = error,
+        }
+    }
+    Err(last)
+}
+
 /// Connects to an address: an IP address or a host's name, and a port, as `127.0.0.1:7700`. Small messages are sent at
-/// once, where the system takes that setting.
+/// once, where the system takes that setting. The connect, a read or a write that takes longer than this many seconds
+/// fails; the look-up of a host's name may take as long as the system lets it.
 ///
-/// Else 61 where the text is no address or nobody answers there, or 90.
+/// Fails with 61 if the text is no address or nobody answers there in time, and with 90.
 pub fn connect<R: Net<Stream = TcpStream>>(
     rt: &R,
     address: &str,
+    patience: u32,
 ) -> Result<TcpStream, ConnectFault> {
-    match TcpStream::connect(rt, address) {
+    match reach_any(rt, address, patience) {
         Ok(stream) => {
             let _set = stream.set_nodelay(true);
             Ok(stream)

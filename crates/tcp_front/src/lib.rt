@@ -3,10 +3,14 @@
 
 mod connecting;
 mod fault;
+mod limits;
 mod listener;
+mod patience;
 #[cfg(test)]
 mod tests;
+mod trying;
 
 pub use connecting::connect;
 pub use fault::{ConnectFault, ListenFault};
+pub use limits::{Limits, limited};
 pub use listener::{Listener, listen};

@@ -4,20 +4,28 @@ ghost use Rattle.std.specs.Prelude.{◌≡◌, ◌≢◌};
 ghost use Rattle.std.specs.IoError.{error_kind};
 
 use crate::fault::ListenFault;
+use crate::limits::{Limits, limited};
+use crate::patience::bounded;
+use crate::trying::{Attempt, present, tried};
 use peer_threads::{Source, SourceFault};
 use std::io;
-use std::io::ErrorKind;
+use std::io::{ErrorKind, Take};
 use std::net::{Net, SocketAddr, TcpListener, TcpStream};
 use std::sync::atomic::{AtomicU64, Ordering};
+use std::time::Clock;
 
 /// A listener that workers share, and how many connections they may still wait for.
 ///
-/// A worker counts its connection before it waits to accept, so none waits for one beyond the number. After a failed
-/// accept no connection is left.
+/// A worker counts its connection before it waits to accept, so none waits for one beyond the number. A connection that is
+/// gone before it is accepted is passed over. Where there is no descriptor or memory for one, it is tried again after a
+/// pause, a bounded number of times. After an accept that failed no connection is left.
 #[derive(Drop)]
-pub struct Listener {
+pub struct Listener<'a, C> {
     socket: TcpListener,
     left: AtomicU64,
+    // What each connection may cost.
+    limits: Limits,
+    clock: &'a C,
 }
 
 /// Why a listener was not made.
@@ -43,24 +51,53 @@ fn accept_fault(error: &io::Error) -> SourceFault
 }
 
 /// Listens at an address: an IP address or a host's name, and a port, as `127.0.0.1:7700`; at port 0 the system chooses
-/// one. After so many connections the listener gives no more; with none it has no end.
+/// one. After this many connections the listener gives no more; with none it has no end. A read or a write of a connection
+/// that takes longer than the limits say fails, and its input ends after the bytes that they say.
 ///
-/// Else 60 where the text is no address, or the address is in use or may not be listened at, or 90.
-pub fn listen<R: Net<Listener = TcpListener, Stream = TcpStream>>(
-    rt: &R,
+/// Fails with 60 if the text is no address, or the address is in use or may not be listened at, and with 90.
+pub fn listen<'a, R: Net<Listener = TcpListener, Stream = TcpStream> + Clock>(
+    rt: &'a R,
     address: &str,
     connections: Option<u32>,
-) -> Result<Listener, ListenFault> {
+    limits: Limits,
+) -> Result<Listener<'a, R>, ListenFault> {
     match TcpListener::bind(rt, address) {
         Ok(socket) => Ok(Listener {
             socket,
             left: AtomicU64::new(connections.map_or(u64::MAX, u64::from)),
+            limits,
+            clock: rt,
         }),
         Err(error) => Err(listen_fault(&error)),
     }
 }
 
-impl Listener {
+/// The next connection of a socket.
+#[derive(Drop)]
+struct Next<'a>(&'a TcpListener);
+
+impl Attempt for Next<'_> {
+    type Made = TcpStream;
+
+    fn attempt(&self) -> io::Result<TcpStream> {
+        let (stream, _peer) = self.0.accept()?;
+        Ok(stream)
+    }
+}
+
+/// Another handle of a socket.
+#[derive(Drop)]
+struct Handle<'a>(&'a TcpStream);
+
+impl Attempt for Handle<'_> {
+    type Made = TcpStream;
+
+    fn attempt(&self) -> io::Result<TcpStream> {
+        self.0.try_clone()
+    }
+}
+
+impl<C> Listener<'_, C> {
     /// The address that is listened at, with its real port, if the system tells it.
     pub fn local_addr(&self) -> Option<SocketAddr> {
         self.socket.local_addr().ok()
@@ -74,21 +111,28 @@ impl Listener {
             })
             .is_ok()
     }
+}
 
+impl<C: Clock> Listener<'_, C> {
     /// Waits for a connection: its reader and its writer are two handles of one socket.
-    fn accept(&self) -> io::Result<(TcpStream, TcpStream)> {
-        let (stream, _peer) = self.socket.accept()?;
+    fn accept(&self) -> io::Result<(Take<TcpStream>, TcpStream)> {
+        let Limits {
+            patience,
+            most_bytes,
+        } = self.limits;
+        let stream = bounded(present(self.clock, &Next(&self.socket))?, patience)?;
         let _set = stream.set_nodelay(true);
-        Ok((stream.try_clone()?, stream))
+        let reader = tried(self.clock, &Handle(&stream))?;
+        Ok((limited(reader, most_bytes), stream))
     }
 }
 
-impl Source for Listener {
-    type In = TcpStream;
+impl<C: Clock> Source for Listener<'_, C> {
+    type In = Take<TcpStream>;
 
     type Out = TcpStream;
 
-    fn take(&self) -> Result<Option<(TcpStream, TcpStream)>, SourceFault> {
+    fn take(&self) -> Result<Option<(Take<TcpStream>, TcpStream)>, SourceFault> {
         if !self.count() {
             return Ok(None);
         }
@@ -103,7 +147,7 @@ impl Source for Listener {
 }
 
 #[cfg(test)]
-impl Listener {
+impl<C> Listener<'_, C> {
     // From now on an accept with no connection there fails, and does not wait.
     pub(crate) fn never_wait(&self) -> io::Result<()> {
         self.socket.set_nonblocking(true)

@@ -10,8 +10,9 @@ use std::process::Abort;
 use std::rt::Files;
 use std::sync::Wait;
 use std::thread::{Threads, join};
+use std::time::Clock;
 use std::{fs, io};
-use tcp_front::{Listener, listen};
+use tcp_front::{Limits, Listener, listen};
 
 /// The strategy of at most eight items that lists one and cuts more in half.
 const BINARY_EIGHT: &str = "cap = 8
@@ -24,6 +25,12 @@ list = true
 upto = 8
 split = [1, 1]
 ";
+
+/// What the connection of a listener that stands in for a server may cost.
+const LIMITS: Limits = Limits {
+    patience: 60,
+    most_bytes: 1_024,
+};
 
 /// How often `sync` is run anew while nobody listens.
 const MAX_TRIES: u32 = 1_000_000;
@@ -43,6 +50,7 @@ where
         + Net<Listener = TcpListener, Stream = TcpStream>
         + Threads
         + Wait
+        + Clock
         + AllocGlobal
         + Sync,
 {
@@ -60,6 +68,7 @@ where
         + Net<Listener = TcpListener, Stream = TcpStream>
         + Threads
         + Wait
+        + Clock
         + AllocGlobal
         + Sync,
 {
@@ -111,6 +120,7 @@ where
         + Net<Listener = TcpListener, Stream = TcpStream>
         + Threads
         + Wait
+        + Clock
         + AllocGlobal
         + Sync,
 {
@@ -135,6 +145,7 @@ where
         + Net<Listener = TcpListener, Stream = TcpStream>
         + Threads
         + Wait
+        + Clock
         + AllocGlobal
         + Sync,
 {
@@ -169,17 +180,18 @@ items 1
 }
 
 /// A listener for one connection at a port that the system chose, and its address.
-fn opened<R>(rt: &R) -> Result<(Listener, String), AllocError>
+fn opened<'a, R>(rt: &'a R) -> Result<(Listener<'a, R>, String), AllocError>
 where
     R: Files
         + Net<Listener = TcpListener, Stream = TcpStream>
         + Threads
         + Wait
+        + Clock
         + AllocGlobal
         + Sync
         + Abort,
 {
-    let listener = listen(rt, "127.0.0.1:0", Some(1))
+    let listener = listen(rt, "127.0.0.1:0", Some(1), LIMITS)
         .ok()
         .expect(rt, "a listener");
     let address = listener.local_addr().expect(rt, "an address");
@@ -188,12 +200,13 @@ where
 }
 
 /// Takes the connection, reads hello and message 1 of no items, which are 48 bytes, writes these bytes, and lets go of it.
-fn reply<R>(rt: &R, listener: &Listener, bytes: &[u8])
+fn reply<R>(rt: &R, listener: &Listener<R>, bytes: &[u8])
 where
     R: Files
         + Net<Listener = TcpListener, Stream = TcpStream>
         + Threads
         + Wait
+        + Clock
         + AllocGlobal
         + Sync
         + Abort,
@@ -212,6 +225,7 @@ where
         + Net<Listener = TcpListener, Stream = TcpStream>
         + Threads
         + Wait
+        + Clock
         + AllocGlobal
         + Sync
         + Abort,
@@ -235,6 +249,7 @@ where
         + Net<Listener = TcpListener, Stream = TcpStream>
         + Threads
         + Wait
+        + Clock
         + AllocGlobal
         + Sync
         + Abort,
@@ -318,6 +333,7 @@ where
         + Net<Listener = TcpListener, Stream = TcpStream>
         + Threads
         + Wait
+        + Clock
         + AllocGlobal
         + Sync
         + Abort,
@@ -399,6 +415,7 @@ where
         + Net<Listener = TcpListener, Stream = TcpStream>
         + Threads
         + Wait
+        + Clock
         + AllocGlobal
         + Sync
         + Abort,

@@ -7,6 +7,7 @@ use std::process::Abort;
 use std::rt::Files;
 use std::sync::Wait;
 use std::thread::Threads;
+use std::time::Clock;
 
 /// Nodes of at most 16 items that list one and cut more in half: a to h, and a to g.
 const NEARLY_EQUAL: &str = r#"
@@ -79,6 +80,7 @@ where
         + Net<Listener = TcpListener, Stream = TcpStream>
         + Threads
         + Wait
+        + Clock
         + AllocGlobal
         + Sync
         + Abort,

@@ -6,6 +6,7 @@ use std::process::Abort;
 use std::rt::Files;
 use std::sync::Wait;
 use std::thread::Threads;
+use std::time::Clock;
 
 #[test]
 fn helps(rt: HostRuntime) {
@@ -162,11 +163,13 @@ Arguments:
   <ITEMS>  A file of items, one a line in hex
 
 Options:
-      --table <FILE>  A strategy in TOML
-      --addr <A>      The address to listen at [default: 127.0.0.1:7700]
-      --workers <N>   How many sessions there are at once, 1 to 16 [default: 4]
-      --sessions <N>  End after so many connections, 1 to 1,000,000 [default: no end]
-  -h, --help          Print help
+      --table <FILE>        A strategy in TOML
+      --addr <A>            The address to listen at [default: 127.0.0.1:7700]
+      --workers <N>         How many sessions there are at once, 1 to 16 [default: 4]
+      --sessions <N>        End after so many connections, 1 to 1,000,000 [default: no end]
+      --patience <SECONDS>  End a session whose read or write takes longer, 1 to 86,400 [default: 60]
+      --most-bytes <N>      Refuse a session that sends more bytes, 1,024 to 4,294,967,295 [default: 33554432]
+  -h, --help                Print help
 ",
     );
     let sync = answered(
@@ -178,10 +181,12 @@ Arguments:
   <ITEMS>  A file of items, one a line in hex
 
 Options:
-      --table <FILE>  A strategy in TOML
-      --addr <A>      The address to connect to [default: 127.0.0.1:7700]
-      --profile <P>   The wire profile that is spoken, 1 or 2 [default: 1]
-  -h, --help          Print help
+      --table <FILE>        A strategy in TOML
+      --addr <A>            The address to connect to [default: 127.0.0.1:7700]
+      --profile <P>         The wire profile that is spoken, 1 or 2 [default: 1]
+      --patience <SECONDS>  End if the connect, a read or a write takes longer, 1 to 86,400 [default: 60]
+      --most-bytes <N>      Refuse a server that sends more bytes, 1,024 to 4,294,967,295 [default: 33554432]
+  -h, --help                Print help
 ",
     );
     gives(&rt, &["rangesync", "serve", "--help"], &[], &serve);
@@ -195,6 +200,7 @@ where
         + Net<Listener = TcpListener, Stream = TcpStream>
         + Threads
         + Wait
+        + Clock
         + AllocGlobal
         + Sync
         + Abort,
@@ -229,11 +235,31 @@ For more information, try '--help'.
 
 For more information, try '--help'.
 ";
+    let no_patience = "error: invalid value '0' for '--patience <SECONDS>': 0 is not in 1..=86400
+
+For more information, try '--help'.
+";
+    let over_a_day = "error: invalid value '86401' for '--patience <SECONDS>': 86401 is not in 1..=86400
+
+For more information, try '--help'.
+";
+    let few_bytes = "error: invalid value '1023' for '--most-bytes <N>': 1023 is not in 1024..=4294967295
+
+For more information, try '--help'.
+";
+    let many_bytes = "error: invalid value '4294967296' for '--most-bytes <N>': 4294967296 is not in 1024..=4294967295
+
+For more information, try '--help'.
+";
     numbers(&rt, "--workers", "0", none);
     numbers(&rt, "--workers", "17", many);
     numbers(&rt, "--workers", "x", word);
     numbers(&rt, "--sessions", "0", no_session);
     numbers(&rt, "--sessions", "1000001", above);
+    numbers(&rt, "--patience", "0", no_patience);
+    numbers(&rt, "--patience", "86401", over_a_day);
+    numbers(&rt, "--most-bytes", "1023", few_bytes);
+    numbers(&rt, "--most-bytes", "4294967296", many_bytes);
 }
 
 #[test]

@@ -1,7 +1,7 @@
 use Rattle.std.proofs.Common.{rules, codes}
 use Rattle.std.proofs.lemmas.Result.{IfOk-weaker}
 use Rattle.clap.specs.Words.{App, new_app, with_rule}
-use Rattle.settings_core.specs.Program.{IsCommand, table, address, workers, sessions, items}
+use Rattle.settings_core.specs.Program.{IsCommand, table, address, workers, sessions, patience, most_bytes, items}
 use Rattle.settings_core.proofs.Adding.{with_word}
 use Rattle.settings_core.proofs.words.serve_words.Goals as goal
 
@@ -13,6 +13,9 @@ placed = with_rule (with_rule named table) address
 
 abbrev counted : App
 counted = with_rule (with_rule placed workers) sessions
+
+abbrev bounded : App
+bounded = with_rule (with_rule counted patience) most_bytes
 
 pub returns : goal.returns
 returns c =
@@ -28,5 +31,11 @@ returns c =
     let four = with_word (with_rule placed workers) sessions c.in_ok-arg-3.field-0 c.sessions_word.result
     c.in_ok-arg-4.field-0 three
     c.sessions_word.ensures c.in_ok-arg-4.ensures in
-    IfOk-weaker c.arg-5.result _ _ (λ new. with_word counted items c.in_ok-arg-4.field-0 c.items_word.result new four
-    c.items_word.ensures) c.arg-5.ensures
+    let five = with_word counted patience c.in_ok-arg-4.field-0 c.patience_word.result
+    c.in_ok-arg-5.field-0 four
+    c.patience_word.ensures c.in_ok-arg-5.ensures in
+    let six = with_word (with_rule counted patience) most_bytes c.in_ok-arg-5.field-0 c.most_bytes_word.result
+    c.in_ok-arg-6.field-0 five
+    c.most_bytes_word.ensures c.in_ok-arg-6.ensures in
+    IfOk-weaker c.arg-7.result _ _ (λ new. with_word bounded items c.in_ok-arg-6.field-0 c.items_word.result new six
+    c.items_word.ensures) c.arg-7.ensures

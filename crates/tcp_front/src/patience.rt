@@ -1,0 +1,22 @@
+//! How long a call on a connection may take.
+
+ghost use Rattle.std.specs.Prelude.{◌≡◌, ◌*◌};
+ghost use Rattle.std.specs.Duration.{as_nanos};
+
+use std::io;
+use std::net::TcpStream;
+use std::time::Duration;
+
+/// This many seconds.
+pub(crate) fn seconds(patience: u32) -> Duration
+    ensures { as_nanos result ≡ patience * 1_000_000_000 }
+{
+    Duration::from_secs(u64::from(patience))
+}
+
+/// The connection, of which from now on a read or a write that takes longer than this many seconds fails.
+pub(crate) fn bounded(stream: TcpStream, patience: u32) -> io::Result<TcpStream> {
+    stream.set_read_timeout(Some(seconds(patience)))?;
+    stream.set_write_timeout(Some(seconds(patience)))?;
+    Ok(stream)
+}
