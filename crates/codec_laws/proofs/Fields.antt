@@ -4,9 +4,9 @@
 -- read. Small lemmas put such facts together: a test decides between two cases; a reading and then another one, where
 -- the text of the first shows its own length, so that the bytes can be taken apart in one way only; a value that is
 -- made of what was read.
--- With them each field is told: so many bytes, a number of four bytes, a lower bound, an upper bound, an item. What is
--- left after a field are bytes again. Before that: 16 bytes come back from the number that they spell, since they are
--- its digits at base 256.
+-- With them each field is told: n bytes, a number of four bytes, a lower bound, an upper bound, an item. What is left
+-- after a field are bytes again. Before that: 16 bytes come back from the number that they spell, since they are its
+-- digits at base 256.
 -- docs/LAWS.md: Reading is exact; Marks (`reads_are_bytes`).
 use Rattle.std.proofs.Common.{◌≡◌, ℕ, zero, suc, ◌+◌, ◌*◌, ◌/◌, ◌%◌, ◌<◌, List, [], ◌∷◌, length, reverse, get_or, refl, ap, ◌∙◌, arith, rules, Bool, true, false, ◌++◌, Result, Ok, Err, sym, subst, inl, inr, ◌^◌, ◌≤◌, Option, Some, None}
 use Rattle.std.specs.Prelude.{◌⊎◌, not, if◌then◌else◌, IsTrue, IsFalse, ◌≢◌, nat_lt, ◌==◌}

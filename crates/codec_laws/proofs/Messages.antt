@@ -1,7 +1,7 @@
 -- Frames, and one message.
--- A frame is a length and so many bytes. Bytes are a whole frame and a rest, or a beginning of a frame, or they begin
--- with a length that none can have; never two of these. With the body (Bodies) this says what is next in a stream,
--- after any number of parts: an event and the rest, or no whole frame yet, or a fault (`event_at_told`).
+-- A frame is a length n and n bytes. Bytes are a whole frame and a rest, or a beginning of a frame, or they begin with
+-- a length that none can have; never two of these. With the body (Bodies) this says what is next in a stream, after
+-- any number of parts: an event and the rest, or no whole frame yet, or a fault (`event_at_told`).
 -- One message: read what is next again and again until the end of the message, and then nothing may be left. Each step
 -- takes at least one byte, so the number of bytes is enough fuel. By induction on it, in both directions: what is read
 -- is spelled so, and what is spelled so is read; a fault comes after right parts only, and is the first thing that is

@@ -1,8 +1,8 @@
 -- What an end learned, whatever its peer sends.
--- The claim is made for an end at any stage, its own message that waits, and the messages that come: what it has
--- learned after them is what it knew, and then what its set learns from the messages that it takes, each beside the
--- own message that it answers (`learns_by`). Induction over the messages, by the answer to the first one:
--- a reply: the end knows what the message teaches, and the reply is the own message that waits next;
+-- The claim is made for an end at any stage, the message of its own that waits, and the messages that come: what it
+-- has learned after them is what it knew, and then what its set learns from the messages that it takes, each beside
+-- the end's own message that it answers (`learns_by`). Induction over the messages, by the answer to the first one:
+-- a reply: the end knows what the message teaches, and the reply is the message of its own that waits next;
 -- Ends: it takes nothing more, so nothing is added (`learns_no_more`);
 -- a refusal: the end stays spent, and of such ends nothing is claimed.
 -- An end keeps the open parts of its own message alone. They teach as much as the whole message (Opens).
