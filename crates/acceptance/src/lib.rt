@@ -36,6 +36,8 @@ mod splitting;
 #[cfg(test)]
 mod tables;
 #[cfg(test)]
+mod vectors;
+#[cfg(test)]
 mod workers;
 #[cfg(test)]
 mod worlds;
