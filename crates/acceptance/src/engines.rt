@@ -1,6 +1,7 @@
 //! One session over memory, with peers that are honest and peers that are not.
 
 ghost use Rattle.std.specs.Prelude.{◌≡◌, ◌≤◌};
+ghost use Rattle.std.specs.Arc.{arc_value};
 
 use crate::devices::{PieceReader, PieceWriter, Rule, Witness, shown_outcome};
 use crate::frames::{
@@ -18,7 +19,7 @@ use std::alloc::Global;
 use std::io::{Read, Write};
 use std::process::Abort;
 use std::sync::atomic::Ordering;
-use std::sync::{Mutex, Wait};
+use std::sync::{Arc, Mutex, Wait};
 use std::test::Fail;
 use strategy_check::Accepted;
 use version_lock::{Seat, VersionLock};
@@ -28,15 +29,16 @@ type Lock = VersionLock<Tree>;
 
 type TreeSeat = Seat<Tree>;
 
-/// The lock over a log of these items under the cap 8 with this next writer number, 1 to 4,294,967,296, and its first seat.
+/// The lock over a log of these items under the cap 8 with this next writer number, 1 to 4,294,967,296, and its first
+/// seat.
 pub(crate) fn opened(
     rt: &impl Abort,
     alloc: Global,
-    accepted: &Accepted,
+    accepted: &Arc<Accepted>,
     items: &[Item],
     next_writer: u64,
 ) -> (Lock, TreeSeat)
-    ensures { (result.1.table_id ≡ result.0) × (result.1.view.cap ≤ accepted.now.table.cap) }
+    ensures { (result.1.table_id ≡ result.0) × (result.1.view.cap ≤ (arc_value accepted.now).table.cap) }
 {
     assert!(rt; accepted.cap() == 8 && 1 <= next_writer && next_writer <= 1 << 32);
     let log = Published::starting_at(alloc, 8, items, next_writer);
@@ -86,7 +88,8 @@ fn called<T: Wait, R: Read + Drop, W: Write + Drop>(
     input: R,
     output: W,
 ) -> Outcome
-    requires { (seat.old.table_id ≡ shared.now.lock.now) × (seat.old.view.cap ≤ shared.now.accepted.now.table.cap) }
+    requires { (seat.old.table_id ≡ shared.now.lock.now)
+        × (seat.old.view.cap ≤ (arc_value shared.now.accepted.now).table.cap) }
 {
     let mut reader = Watched::new(input);
     let mut writer = Watched::new(output);
@@ -114,7 +117,7 @@ fn called<T: Wait, R: Read + Drop, W: Write + Drop>(
 /// What the sessions of a test share, beside the log.
 #[derive(Clone, Copy)]
 pub(crate) struct Ground<'a> {
-    pub(crate) accepted: &'a Accepted,
+    pub(crate) accepted: &'a Arc<Accepted>,
     pub(crate) sessions: &'a Mutex<SessionTable>,
     pub(crate) gate: &'a Witness,
 }

@@ -31,7 +31,7 @@ fn both(rt: &impl Abort, alloc: Global, first: Part, second: Part) -> Result<Mes
 fn first_reply(
     rt: &impl Abort,
     alloc: Global,
-    end: &mut Responder<'_, Tree>,
+    end: &mut Responder<Tree>,
 ) -> Result<String, Fail> {
     let opening = alone(rt, alloc, sum(Range::whole()))?;
     let Ok(Turn::Reply(reply)) = end.receive(alloc, &opening) else {
@@ -56,7 +56,7 @@ fn refusal_at_start(rt: &impl Abort, alloc: Global, message: &Message) -> Result
 fn refusal_behind(
     rt: &impl Abort,
     alloc: Global,
-    end: &mut Responder<'_, Tree>,
+    end: &mut Responder<Tree>,
     reply: &str,
     message: &Message,
 ) -> Result<Option<u8>, Fail> {
@@ -177,7 +177,7 @@ fn a_sum_over_an_open_range_or_past_it(rt: HostRuntime) -> Result<(), Fail> {
 fn refuses_a_stall(
     rt: &impl Abort,
     alloc: Global,
-    end: &mut Initiator<'_, Tree>,
+    end: &mut Initiator<Tree>,
 ) -> Result<(), Fail> {
     let stalls = alone(rt, alloc, sum(Range::whole()))?;
     assert_eq!(rt; number(end.receive(alloc, &stalls)), Some(21));
@@ -221,7 +221,7 @@ pub(crate) fn flood(rt: &impl Abort, alloc: Global, last: u32) -> Result<Message
 fn is_spent(
     rt: &impl Abort,
     alloc: Global,
-    end: &mut Responder<'_, Tree>,
+    end: &mut Responder<Tree>,
     message: &Message,
 ) -> Result<(), Fail> {
     assert_eq!(rt; number(end.receive(alloc, message)), Some(26));
@@ -245,7 +245,7 @@ pub(crate) fn length(taken: Result<Turn, EndFault>) -> Result<usize, u8> {
 fn flooded(
     rt: &impl Abort,
     alloc: Global,
-    end: &mut Responder<'_, Tree>,
+    end: &mut Responder<Tree>,
     last: u32,
 ) -> Result<Result<usize, u8>, Fail> {
     assert_eq!(rt;

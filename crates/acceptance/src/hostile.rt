@@ -11,7 +11,7 @@ use digest_core::Fingerprint;
 use session_table::SessionTable;
 use std::alloc::{AllocError, Global};
 use std::process::Abort;
-use std::sync::{Mutex, Wait};
+use std::sync::{Arc, Mutex, Wait};
 use std::test::Fail;
 use strategy_check::Accepted;
 use wire_core::{Part, encode_part};
@@ -161,7 +161,7 @@ fn more_sums_than_a_message_has(rt: HostRuntime) -> Result<(), Fail> {
 fn served<T: Wait + Abort>(
     rt: &T,
     alloc: Global,
-    accepted: &Accepted,
+    accepted: &Arc<Accepted>,
     sessions: &Mutex<SessionTable>,
     input: &[&[u8]],
 ) -> Result<(String, Vec<u8>), Fail> {
@@ -199,7 +199,7 @@ fn a_list_as_first_message(rt: HostRuntime) -> Result<(), Fail> {
 fn cut_off<T: Wait + Abort>(
     rt: &T,
     alloc: Global,
-    accepted: &Accepted,
+    accepted: &Arc<Accepted>,
     sessions: &Mutex<SessionTable>,
     count: usize,
 ) -> Result<(), Fail> {

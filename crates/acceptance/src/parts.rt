@@ -18,7 +18,7 @@ fn number(taken: Result<(), EndFault>) -> Option<u8> {
 }
 
 /// What the end answers where the message ends here: its reply, or `over`, or the number of the refusal.
-fn ended(alloc: Global, end: &mut Responder<'_, Tree>) -> Result<String, Fail> {
+fn ended(alloc: Global, end: &mut Responder<Tree>) -> Result<String, Fail> {
     match end.end(alloc) {
         Ok(Turn::Reply(reply)) => Ok(shown(alloc, &vec![in alloc; reply]?)?),
         Ok(Turn::Over) => Ok(format!(in alloc; "over")?),
@@ -34,14 +34,14 @@ fn lists(rt: &impl Abort, alloc: Global) -> Result<(Part, Part), Fail> {
 }
 
 /// Takes a Sum over everything, to which the reply has a Sum before b and one from b on.
-fn take_opening(rt: &impl Abort, alloc: Global, end: &mut Responder<'_, Tree>) -> Result<(), Fail> {
+fn take_opening(rt: &impl Abort, alloc: Global, end: &mut Responder<Tree>) -> Result<(), Fail> {
     assert_eq!(rt; number(end.take(alloc, &sum(Range::whole()))), None);
     assert_eq!(rt; ended(alloc, end)?.as_str(), "1 Sum S..b Sum b..E\n");
     Ok(())
 }
 
 /// Takes the list from b on, and then refuses the one before it: the end is spent, and has learned nothing.
-fn take_turned(rt: &impl Abort, alloc: Global, end: &mut Responder<'_, Tree>) -> Result<(), Fail> {
+fn take_turned(rt: &impl Abort, alloc: Global, end: &mut Responder<Tree>) -> Result<(), Fail> {
     let (last, front) = lists(rt, alloc)?;
     assert_eq!(rt; number(end.take(alloc, &last)), None);
     assert_eq!(rt; number(end.take(alloc, &front)), Some(20));
@@ -60,7 +60,7 @@ fn a_part_out_of_order(rt: HostRuntime) -> Result<(), Fail> {
 }
 
 /// Takes the list from b on, and gives it up: then both lists may come, and what they teach counts at their end.
-fn take_again(rt: &impl Abort, alloc: Global, end: &mut Responder<'_, Tree>) -> Result<(), Fail> {
+fn take_again(rt: &impl Abort, alloc: Global, end: &mut Responder<Tree>) -> Result<(), Fail> {
     let (last, front) = lists(rt, alloc)?;
     assert_eq!(rt; number(end.take(alloc, &last)), None);
     end.drop_parts(alloc);
@@ -72,7 +72,7 @@ fn take_again(rt: &impl Abort, alloc: Global, end: &mut Responder<'_, Tree>) -> 
 fn learned(
     rt: &impl Abort,
     alloc: Global,
-    end: &Responder<'_, Tree>,
+    end: &Responder<Tree>,
     text: &str,
 ) -> Result<(), Fail> {
     assert_eq!(rt; shown_learned(alloc, end.learned())?.as_str(), text);
@@ -99,7 +99,7 @@ fn parts_that_are_given_up(rt: HostRuntime) -> Result<(), Fail> {
 fn take_flood(
     rt: &impl Abort,
     alloc: Global,
-    end: &mut Responder<'_, Tree>,
+    end: &mut Responder<Tree>,
     last: u32,
 ) -> Result<Result<usize, u8>, Fail> {
     assert_eq!(rt; number(end.take(alloc, &sum(Range::whole()))), None);

@@ -5,11 +5,12 @@ use crate::shown::{shown, shown_learned};
 use crate::tables::{
     BINARY_EIGHT, BINARY_TWO, THREE_OFF_THE_FRONT, accepted, initiator, responder,
 };
-use ends_core::{Initiator, Responder, Turn};
+use ends_core::{Initiator, Responder, Role, SessionEnd, Turn};
 use item_core::Item;
 use range_tree::Tree;
 use std::alloc::Global;
 use std::process::Abort;
+use std::sync::Arc;
 use std::test::Fail;
 use strategy_check::Accepted;
 use wire_core::{Message, encode_message};
@@ -30,16 +31,11 @@ struct Told {
     responder: Side,
 }
 
-fn of_initiator(rt: &impl Abort, alloc: Global, end: &Initiator<'_, Tree>) -> Result<Side, Fail> {
-    assert!(rt; end.is_over());
-    Ok(Side {
-        learned: shown_learned(alloc, end.learned())?,
-        sent: end.sent(),
-        bound: end.bound(),
-    })
-}
-
-fn of_responder(rt: &impl Abort, alloc: Global, end: &Responder<'_, Tree>) -> Result<Side, Fail> {
+fn of_end<R: Role>(
+    rt: &impl Abort,
+    alloc: Global,
+    end: &SessionEnd<R, Tree>,
+) -> Result<Side, Fail> {
     assert!(rt; end.is_over());
     Ok(Side {
         learned: shown_learned(alloc, end.learned())?,
@@ -53,8 +49,8 @@ fn talk(
     rt: &impl Abort,
     alloc: Global,
     first: Message,
-    initiator: &mut Initiator<'_, Tree>,
-    responder: &mut Responder<'_, Tree>,
+    initiator: &mut Initiator<Tree>,
+    responder: &mut Responder<Tree>,
 ) -> Result<Vec<Message>, Fail> {
     let mut messages = Vec::new(alloc);
     let mut last = first;
@@ -78,14 +74,14 @@ fn session_of(
     rt: &impl Abort,
     alloc: Global,
     first: Message,
-    initiator: &mut Initiator<'_, Tree>,
-    responder: &mut Responder<'_, Tree>,
+    initiator: &mut Initiator<Tree>,
+    responder: &mut Responder<Tree>,
 ) -> Result<Told, Fail> {
     let messages = talk(rt, alloc, first, initiator, responder)?;
     Ok(Told {
         messages,
-        initiator: of_initiator(rt, alloc, initiator)?,
-        responder: of_responder(rt, alloc, responder)?,
+        initiator: of_end(rt, alloc, initiator)?,
+        responder: of_end(rt, alloc, responder)?,
     })
 }
 
@@ -93,9 +89,9 @@ fn session_of(
 fn session_with(
     rt: &impl Abort,
     alloc: Global,
-    accepted: &Accepted,
+    accepted: &Arc<Accepted>,
     first: Message,
-    initiator: &mut Initiator<'_, Tree>,
+    initiator: &mut Initiator<Tree>,
     items: Vec<Item>,
 ) -> Result<Told, Fail> {
     let mut responder = responder(rt, alloc, accepted, items)?;

@@ -70,7 +70,7 @@ fn answered(rt: &impl Abort, alloc: Global, heard: &Message) -> Result<Message, 
 fn talk(
     rt: &impl Abort,
     alloc: Global,
-    end: &mut Initiator<'_, Tree>,
+    end: &mut Initiator<Tree>,
     first: Message,
 ) -> Result<(), Fail> {
     let mut last = first;

@@ -5,6 +5,7 @@ use item_core::Item;
 use range_tree::Tree;
 use std::alloc::Global;
 use std::process::Abort;
+use std::sync::Arc;
 use std::test::Fail;
 use store_core::RangeStore;
 use strategy_check::{Accepted, check};
@@ -27,32 +28,38 @@ pub(crate) const THREE_OFF_THE_FRONT: &[u8] =
 pub(crate) const LISTS_TWO: &[u8] =
     b"cap = 2\nlimit = 2\nrounds = 0\nrow = [{upto = 2, list = true}]";
 
-pub(crate) fn accepted(rt: &impl Abort, alloc: Global, text: &[u8]) -> Accepted {
+pub(crate) fn checked(rt: &impl Abort, alloc: Global, text: &[u8]) -> Accepted {
     let strategy = Strategy::read(alloc, text).ok().expect(rt, "a strategy");
     check(alloc, strategy).ok().expect(rt, "accepted")
 }
 
+/// The same, as the ends of a test share it.
+pub(crate) fn accepted(rt: &impl Abort, alloc: Global, text: &[u8]) -> Arc<Accepted> {
+    let shared = Arc::new(alloc, checked(rt, alloc, text));
+    shared.ok().expect(rt, "memory")
+}
+
 /// An initiator with these items, and its first message.
-pub(crate) fn initiator<'a>(
+pub(crate) fn initiator(
     rt: &impl Abort,
     alloc: Global,
-    accepted: &'a Accepted,
+    accepted: &Arc<Accepted>,
     items: Vec<Item>,
-) -> Result<(Initiator<'a, Tree>, Message), Fail> {
+) -> Result<(Initiator<Tree>, Message), Fail> {
     let store = Tree::from_items(alloc, items)?;
     assert!(rt; store.len() <= accepted.cap() as usize);
-    let started = Initiator::start(alloc, accepted, store);
+    let started = Initiator::start(alloc, Arc::try_clone(accepted)?, store);
     Ok(started.ok().expect(rt, "started"))
 }
 
 /// A responder with these items.
-pub(crate) fn responder<'a>(
+pub(crate) fn responder(
     rt: &impl Abort,
     alloc: Global,
-    accepted: &'a Accepted,
+    accepted: &Arc<Accepted>,
     items: Vec<Item>,
-) -> Result<Responder<'a, Tree>, Fail> {
+) -> Result<Responder<Tree>, Fail> {
     let store = Tree::from_items(alloc, items)?;
     assert!(rt; store.len() <= accepted.cap() as usize);
-    Ok(Responder::new(alloc, accepted, store))
+    Ok(Responder::new(alloc, Arc::try_clone(accepted)?, store))
 }

@@ -1,7 +1,7 @@
 //! Runs of inserts and sessions over nodes that speak of their versions.
 
 use crate::letters::{item, items};
-use crate::tables::accepted;
+use crate::tables::checked;
 use item_core::Item;
 use std::alloc::Global;
 use std::process::Abort;
@@ -23,7 +23,7 @@ fn add(
 ) -> Result<u8, Fail> {
     let items = items(rt, alloc, bytes)?;
     Ok(
-        match setup.add_node(alloc, accepted(rt, alloc, text), &items) {
+        match setup.add_node(alloc, checked(rt, alloc, text), &items) {
             Ok(()) => 0,
             Err(refused) => refused.1.number(),
         },
@@ -38,12 +38,12 @@ fn two_nodes(rt: &impl Abort, alloc: Global) -> Result<Setup, Fail> {
     Ok(setup)
 }
 
-fn step(rt: &impl Abort, alloc: Global, world: &mut World<'_>, step: Step) -> Did {
+fn step(rt: &impl Abort, alloc: Global, world: &mut World, step: Step) -> Did {
     world.step(alloc, step).ok().expect(rt, "memory")
 }
 
 /// Delivers to the end of the session; how many messages these were.
-fn finish(rt: &impl Abort, alloc: Global, world: &mut World<'_>, session: usize) -> usize {
+fn finish(rt: &impl Abort, alloc: Global, world: &mut World, session: usize) -> usize {
     for count in 1..100 {
         if step(rt, alloc, world, Step::Deliver(session)) == Did::Over {
             return count;
@@ -68,19 +68,19 @@ fn learned(rt: &impl Abort, alloc: Global, lists: Lists<'_>, ours: &[u8], theirs
     reads(rt, alloc, lists.ours, ours) && reads(rt, alloc, lists.theirs, theirs)
 }
 
-fn report<'b>(rt: &impl Abort, world: &'b World<'_>, session: usize) -> Report<'b> {
+fn report<'b>(rt: &impl Abort, world: &'b World, session: usize) -> Report<'b> {
     world.report(session).expect(rt, "a session")
 }
 
 /// A session that has ended: its messages, their bound, and the most parts of one.
-fn ended(rt: &impl Abort, world: &World<'_>, session: usize) -> (usize, Option<usize>, usize) {
+fn ended(rt: &impl Abort, world: &World, session: usize) -> (usize, Option<usize>, usize) {
     let report = report(rt, world, session);
     assert!(rt; report.ended && report.initiator == 0 && report.responder == 1);
     (report.messages, report.bound, report.parts)
 }
 
 /// The first session, in whose course each node gets an item.
-fn first_session(rt: &impl Abort, alloc: Global, world: &mut World<'_>) {
+fn first_session(rt: &impl Abort, alloc: Global, world: &mut World) {
     assert_eq!(rt; step(rt, alloc, world, Step::Open(0, 1)), Did::Opened(0));
     assert_eq!(rt; step(rt, alloc, world, Step::Deliver(0)), Did::Sent);
     assert_eq!(rt;
@@ -95,7 +95,7 @@ fn first_session(rt: &impl Abort, alloc: Global, world: &mut World<'_>) {
 }
 
 /// The second session, and what is absorbed of it.
-fn second_session(rt: &impl Abort, alloc: Global, world: &mut World<'_>) {
+fn second_session(rt: &impl Abort, alloc: Global, world: &mut World) {
     assert_eq!(rt; step(rt, alloc, world, Step::Open(0, 1)), Did::Opened(1));
     assert_eq!(rt; finish(rt, alloc, world, 1), 7);
     let initiator = step(rt, alloc, world, Step::Absorb(1, Side::Initiator));
@@ -108,7 +108,7 @@ fn second_session(rt: &impl Abort, alloc: Global, world: &mut World<'_>) {
 fn shows(
     rt: &impl Abort,
     alloc: Global,
-    world: &World<'_>,
+    world: &World,
     session: usize,
     parts: usize,
     ours: &[u8],
@@ -125,7 +125,7 @@ fn shows(
 fn two_sessions(rt: HostRuntime) -> Result<(), Fail> {
     let alloc = rt.alloc();
     let setup = two_nodes(&rt, alloc)?;
-    let mut world: World<'_> = World::new(alloc, &setup).ok().expect(&rt, "memory");
+    let mut world: World = World::new(alloc, &setup).ok().expect(&rt, "memory");
     first_session(&rt, alloc, &mut world);
     second_session(&rt, alloc, &mut world);
     shows(&rt, alloc, &world, 0, 2, b"h", b"");
@@ -139,7 +139,7 @@ fn two_sessions(rt: HostRuntime) -> Result<(), Fail> {
 fn idle_steps(rt: HostRuntime) -> Result<(), Fail> {
     let alloc = rt.alloc();
     let setup = two_nodes(&rt, alloc)?;
-    let mut world: World<'_> = World::new(alloc, &setup).ok().expect(&rt, "memory");
+    let mut world: World = World::new(alloc, &setup).ok().expect(&rt, "memory");
     assert_eq!(rt; step(&rt, alloc, &mut world, Step::Open(0, 0)), Did::Idle);
     assert_eq!(rt; step(&rt, alloc, &mut world, Step::Deliver(9)), Did::Idle);
     assert_eq!(rt;
@@ -163,7 +163,7 @@ fn full_node(rt: HostRuntime) -> Result<(), Fail> {
     assert!(rt; add(&rt, alloc, &mut setup, ONE, b"a")? == 0);
     assert!(rt; add(&rt, alloc, &mut setup, ONE, b"b")? == 0);
     let opened = run(alloc, &setup, &[Step::Open(0, 1)]);
-    let mut world: World<'_> = opened.ok().expect(&rt, "memory");
+    let mut world: World = opened.ok().expect(&rt, "memory");
     assert!(rt; report(&rt, &world, 0).bound.is_none() && report(&rt, &world, 0).messages == 1);
     assert_eq!(rt;
         step(&rt, alloc, &mut world, Step::Absorb(0, Side::Initiator)),

@@ -148,18 +148,6 @@ module _ {F : Type 0} (S : Summary F) (W : Profile F) where
     );
   }
 
-  -- an end at its start, of the items that a pin has
-  abbrev pub starting : Checked → List Item → Held F
-  starting a items = fresh a.steps (initiator S (peer_of a items))
-
-  pub starts : (a : Checked) (own items : List Item) (h : Held F) → h ≡ starting a own → own ≡ items →
-      h ≡ starting a items
-  starts a own items h is same = is ∙ ap (λ l. starting a l) same
-
-  pub opens-with : (own items : List Item) (first : Message F) → first ≡ opening S own → own ≡ items →
-      first ≡ opening S items
-  opens-with own items first is same = is ∙ ap (λ l. opening S l) same
-
   -- a session that stopped before anything was written: by memory, or by the table of sessions
   pub speaks-unsaid : (s : Speaker F) (version bound : ℕ) (x : OutboxState) (unread held holds : Option (List ℕ))
       (r w : Seen) (broken : Bool) (stop : Stop) (o : Outcome) →

@@ -297,16 +297,6 @@ module _ {F : Type 0} (S : Summary F) (W : Profile F) where
       goes-on S W laws (responding P) g k b o q t holds Ended refl
       (at-end P steps h g b o t p new now same x) x.came next added
 
-  -- a responder that was just made
-  pub responds : (h : Held F) (steps : List ℕ) (table : Table) (store pinned : List Item) →
-      h ≡ fresh steps (responder (record { table = table; items = store })) → store ≡ pinned →
-      (h ≡ fresh steps (responder (record { table = table; items = pinned })))
-      × (most_sent 1 h ≡ rank_by steps (length pinned) + 1)
-  responds h steps table store pinned is same = (
-    is ∙ ap (λ (i : List Item). fresh steps (responder (record { table = table; items = i }))) same,
-    ap (most_sent 1) is ∙ ap (λ (i : List Item). rank_by steps (length i) + 1) same,
-  )
-
   -- ---- all that is said of it
 
   -- the writer failed behind the hello that was read, before the own one was written

@@ -9,11 +9,12 @@ ghost use Rattle.peer_threads.specs.Underway.{Talked, Spoke, Leaves};
 
 use crate::outbox::Outbox;
 use crate::outcome::Outcome;
-use crate::party::Party;
 use crate::stop::Stop;
 use digest_core::Summary;
+use ends_core::{Role, SessionEnd};
 use io_core::Watched;
 use std::io::Write;
+use store_core::RangeStore;
 
 /// The number of the refusal for want of memory.
 const NO_MEMORY: u8 = 90;
@@ -44,15 +45,15 @@ pub(crate) fn stopped<W: Write, F: Summary>(
 }
 
 /// The outcome of a session that was talked to its end, or stopped.
-pub(crate) fn concluded<P: Party<F>, W: Write, F: Summary>(
-    party: P,
+pub(crate) fn concluded<P: Role, S: RangeStore, W: Write, F: Summary>(
+    party: SessionEnd<P, S, F>,
     version: usize,
     outbox: Outbox<F>,
     writer: &mut Watched<W>,
     talked: Result<(), Stop>,
 ) -> Outcome
     ensures bytes { (s : Speaker F) (bound : ℕ) (unread : Origin) (left held : Option (List ℕ)) (r : Seen) →
-        Talked F.summary F.profile s (P.held party).end outbox
+        Talked F.summary F.profile s party.end outbox
         (traffic_of unread left held (W.contents writer.old.inner)) r writer.old.failed talked →
         outbox.sent ≤ bound → Spoke F.summary F.profile s version bound
         (traffic_of unread left held (W.contents writer.new.inner)) r

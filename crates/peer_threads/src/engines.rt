@@ -2,6 +2,7 @@
 
 ghost use Rattle.std.specs.Prelude.{◌≡◌, ◌≤◌, ◌+◌, ◌^◌, ◌⊎◌, ⊤, ℕ, false, [], ◌∷◌, List, Option, length};
 ghost use Rattle.std.specs.Prelude.{IfOk, IfErr, OnOk};
+ghost use Rattle.std.specs.Arc.{arc_value};
 ghost use Rattle.definitions.specs.Messages as messages;
 ghost use Rattle.definitions.specs.Messages.{opening};
 ghost use Rattle.definitions.specs.Ranks.{rank_by};
@@ -12,6 +13,7 @@ ghost use Rattle.definitions.specs.Ends as ends;
 ghost use Rattle.definitions.specs.Ends.{is_over};
 ghost use Rattle.definitions.specs.Engines.{initiating, responding};
 ghost use Rattle.wire_core.specs.Events.{event_value};
+ghost use Rattle.ends_core.specs.Roles.{most_of};
 ghost use Rattle.ends_core.specs.Turns.{fresh};
 ghost use Rattle.version_lock.specs.Calls.{Looked};
 ghost use Rattle.peer_threads.specs.Inboxes.{Counts, Reads, ReadOn};
@@ -31,12 +33,12 @@ use crate::inbox::Inbox;
 use crate::modesty::sides_are_modest;
 use crate::outbox::Outbox;
 use crate::outcome::Outcome;
-use crate::party::Party;
+use crate::pinned_ends::{new_initiator, new_responder};
 use crate::shared::Shared;
 use crate::stop::Stop;
 use crate::talk::{end, say, take, talk};
 use digest_core::{Counted, Fingerprint, Summary};
-use ends_core::{Initiator, Responder};
+use ends_core::{Role, SessionEnd};
 use io_core::Watched;
 use place_core::{Place, PlaceFault};
 use std::alloc::{AllocError, Global};
@@ -150,30 +152,30 @@ fn meet<R: Read, W: Write, F: Summary>(
 }
 
 /// Answers the first message, and each one behind it.
-fn answer<T: Wait, G: Gate, P: Party<F>, R: Read, W: Write, F: Summary>(
+fn answer<T: Wait, G: Gate, P: Role, S: RangeStore, R: Read, W: Write, F: Summary>(
     booking: &Booking<'_, T, G>,
-    party: &mut P,
+    party: &mut SessionEnd<P, S, F>,
     opening: Opening<F>,
     outbox: &mut Outbox<F>,
     reader: &mut Watched<R>,
     writer: &mut Watched<W>,
 ) -> Result<(), Stop>
     requires fine { writer.old.failed ≡ false }
-    requires count { outbox.old.sent ≡ (P.held party.old).end.sent }
-    requires goes { is_over (P.held party.old).end.stage ≡ false }
+    requires count { outbox.old.sent ≡ party.old.end.sent }
+    requires goes { is_over party.old.end.stage ≡ false }
     ensures talked { (p : Peer) (steps : List ℕ) (unread : Origin) (held : Option (List ℕ)) →
-        P.held party.old ≡ fresh steps (ends.responder p) →
+        party.old ≡ fresh steps (ends.responder p) →
         Exchanged F.profile opening.inbox outbox.old (traffic_of unread (R.remaining reader.old.inner) held
         (W.contents writer.old.inner)) (Came opening.first ∷ Ended ∷ []) →
-        Talked F.summary F.profile (responding p) (P.held party.new).end outbox.new
+        Talked F.summary F.profile (responding p) party.new.end outbox.new
         (traffic_of unread (R.remaining reader.new.inner) held (W.contents writer.new.inner))
         (seen reader.new.failed reader.new.ended) writer.new.failed result }
     ensures on { (p : Peer) (steps : List ℕ) (unread : Origin) (held : Option (List ℕ)) →
-        P.held party.old ≡ fresh steps (ends.responder p) →
+        party.old ≡ fresh steps (ends.responder p) →
         Exchanged F.profile opening.inbox outbox.old (traffic_of unread (R.remaining reader.old.inner) held
         (W.contents writer.old.inner)) (Came opening.first ∷ Ended ∷ []) →
         ReadOn (R.remaining reader.old.inner) (R.remaining reader.new.inner) }
-    ensures few { outbox.new.sent ≤ most_sent P.most (P.held party.old) }
+    ensures few { outbox.new.sent ≤ most_sent (most_of P.side) party.old }
     ensures reads { opening.inbox.reads ≤ 2 ^ 32 →
         reader.new.reads + opening.inbox.reads ≤ reader.old.reads + 2 ^ 32 }
 {
@@ -196,14 +198,14 @@ fn respond<T: Wait, S: RangeStore, G: Gate, R: Read, W: Write, F: Summary>(
     reader: &mut Watched<R>,
     writer: &mut Watched<W>,
 ) -> Outcome
-    requires fits { length pin.items ≤ host.now.accepted.now.table.cap }
+    requires fits { length pin.items ≤ (arc_value host.now.accepted.now).table.cap }
     requires fine { writer.old.failed ≡ false }
     requires none { outbox.sent ≡ 0 }
     ensures bytes { (unread : Origin) (held : Option (List ℕ)) →
         Exchanged F.profile opening.inbox outbox (traffic_of unread (R.remaining reader.old.inner) held
         (W.contents writer.old.inner)) (Came opening.first ∷ Ended ∷ []) →
-        Spoke F.summary F.profile (responding (peer_of host.now.accepted.now pin.items)) pin.version
-        (rank_by host.now.accepted.now.steps (length pin.items) + 1)
+        Spoke F.summary F.profile (responding (peer_of (arc_value host.now.accepted.now) pin.items)) pin.version
+        (rank_by (arc_value host.now.accepted.now).steps (length pin.items) + 1)
         (traffic_of unread (R.remaining reader.new.inner) held (W.contents writer.new.inner))
         (seen reader.new.failed reader.new.ended) (seen writer.new.failed writer.new.ended) result }
     ensures on { (unread : Origin) (held : Option (List ℕ)) →
@@ -215,11 +217,10 @@ fn respond<T: Wait, S: RangeStore, G: Gate, R: Read, W: Write, F: Summary>(
         reader.new.reads + opening.inbox.reads ≤ reader.old.reads + 2 ^ 32 }
 {
     let version = pin.version();
-    let mut party: Responder<'_, S, F> = Responder::new(
-        host.alloc,
-        host.accepted,
-        pin.into_store(),
-    );
+    let mut party = match new_responder(host, pin) {
+        Ok(party) => party,
+        Err(AllocError) => return stopped(outbox, writer, Stop::Memory),
+    };
     let booking = match Booking::open(host, party.bound()) {
         Ok(booking) => booking,
         Err(fault) => return stopped(outbox, writer, Stop::from(fault)),
@@ -231,9 +232,9 @@ fn respond<T: Wait, S: RangeStore, G: Gate, R: Read, W: Write, F: Summary>(
 }
 
 /// Writes the hello and the first message, and answers each message that comes.
-fn speak<T: Wait, G: Gate, P: Party<F>, R: Read, W: Write, F: Summary>(
+fn speak<T: Wait, G: Gate, P: Role, S: RangeStore, R: Read, W: Write, F: Summary>(
     booking: &Booking<'_, T, G>,
-    party: &mut P,
+    party: &mut SessionEnd<P, S, F>,
     first: &Message<F>,
     outbox: &mut Outbox<F>,
     reader: &mut Watched<R>,
@@ -241,14 +242,14 @@ fn speak<T: Wait, G: Gate, P: Party<F>, R: Read, W: Write, F: Summary>(
 ) -> Result<(), Stop>
     requires fine { writer.old.failed ≡ false }
     requires new { outbox.old ≡ outbox_state false 0 }
-    requires one { (P.held party.old).end.sent ≡ 1 }
-    ensures talked { (p : Peer) (steps : List ℕ) → P.held party.old ≡ fresh steps (ends.initiator F.summary p) →
+    requires one { party.old.end.sent ≡ 1 }
+    ensures talked { (p : Peer) (steps : List ℕ) → party.old ≡ fresh steps (ends.initiator F.summary p) →
         first.now ≡ opening F.summary p.items →
-        Talked F.summary F.profile (initiating F.summary p) (P.held party.new).end outbox.new
+        Talked F.summary F.profile (initiating F.summary p) party.new.end outbox.new
         (traffic (R.remaining reader.old.inner) (R.remaining reader.new.inner) (W.contents writer.old.inner)
         (W.contents writer.new.inner))
         (seen reader.new.failed reader.new.ended) writer.new.failed result }
-    ensures few { outbox.new.sent ≤ most_sent P.most (P.held party.old) }
+    ensures few { outbox.new.sent ≤ most_sent (most_of P.side) party.old }
     ensures reads { reader.new.reads ≤ reader.old.reads + 2 ^ 32 }
 {
     let mut inbox = Inbox::new(booking.alloc())?;
@@ -265,10 +266,11 @@ fn initiate<T: Wait, S: RangeStore, G: Gate, R: Read, W: Write, F: Summary>(
     reader: &mut Watched<R>,
     writer: &mut Watched<W>,
 ) -> Outcome
-    requires fits { length pin.items ≤ host.now.accepted.now.table.cap }
+    requires fits { length pin.items ≤ (arc_value host.now.accepted.now).table.cap }
     requires fine { writer.old.failed ≡ false }
-    ensures bytes { Spoke F.summary F.profile (initiating F.summary (peer_of host.now.accepted.now pin.items))
-        pin.version (rank_by host.now.accepted.now.steps (length pin.items) + 2)
+    ensures bytes { Spoke F.summary F.profile
+        (initiating F.summary (peer_of (arc_value host.now.accepted.now) pin.items)) pin.version
+        (rank_by (arc_value host.now.accepted.now).steps (length pin.items) + 2)
         (traffic (R.remaining reader.old.inner) (R.remaining reader.new.inner) (W.contents writer.old.inner)
         (W.contents writer.new.inner)) (seen reader.new.failed reader.new.ended)
         (seen writer.new.failed writer.new.ended) result }
@@ -277,9 +279,9 @@ fn initiate<T: Wait, S: RangeStore, G: Gate, R: Read, W: Write, F: Summary>(
 {
     let version = pin.version();
     let mut outbox = Outbox::<F>::new();
-    let (mut party, first) = match Initiator::start(host.alloc, host.accepted, pin.into_store()) {
+    let (mut party, first) = match new_initiator(host, pin) {
         Ok(started) => started,
-        Err(_) => return stopped(outbox, writer, Stop::Memory),
+        Err(AllocError) => return stopped(outbox, writer, Stop::Memory),
     };
     let booking = match Booking::open(host, party.bound()) {
         Ok(booking) => booking,
@@ -302,22 +304,24 @@ fn serve_behind<T: Wait, S: RangeStore, G: Gate, R: Read, W: Write, F: Summary>(
     writer: &mut Watched<W>,
 ) -> Outcome
     requires lock { seat.old.table_id ≡ shared.now.lock.now }
-    requires fits { seat.old.view.cap ≤ shared.now.accepted.now.table.cap }
+    requires fits { seat.old.view.cap ≤ (arc_value shared.now.accepted.now).table.cap }
     requires hello { IsHello hello }
     requires fine { writer.old.failed ≡ false }
     ensures seat { seat.new.table_id ≡ seat.old.table_id }
     ensures view { (Looked seat.old.view seat.new.view
-        × (length (content seat.new.view.base) ≤ shared.now.accepted.now.table.cap)) ⊎ ((seat.new.view ≡ seat.old.view)
+        × (length (content seat.new.view.base) ≤ (arc_value shared.now.accepted.now).table.cap))
+        ⊎ ((seat.new.view ≡ seat.old.view)
         × Unopened F.summary F.profile (traffic_behind hello.bytes (R.remaining reader.old.inner)
         (R.remaining reader.new.inner) (W.contents writer.old.inner) (W.contents writer.new.inner))
         (seen reader.new.failed reader.new.ended) (seen writer.new.failed writer.new.ended) result) }
     ensures opened { (seat.new.view ≡ seat.old.view) ⊎ CameFirst F.profile
         (Behind hello.bytes (R.remaining reader.old.inner)) (R.remaining reader.new.inner) }
     ensures bytes { Speaks F.summary F.profile
-        (length (content seat.new.view.base) ≤ shared.now.accepted.now.table.cap)
-        (responding (peer_at shared.now.accepted.now seat.new.view)) (length seat.new.view.base)
-        (rank_by shared.now.accepted.now.steps (length (peer_at shared.now.accepted.now seat.new.view).items) + 1)
-        shared.now.accepted.now.table.limit (traffic_behind hello.bytes (R.remaining reader.old.inner)
+        (length (content seat.new.view.base) ≤ (arc_value shared.now.accepted.now).table.cap)
+        (responding (peer_at (arc_value shared.now.accepted.now) seat.new.view)) (length seat.new.view.base)
+        (rank_by (arc_value shared.now.accepted.now).steps
+        (length (peer_at (arc_value shared.now.accepted.now) seat.new.view).items) + 1)
+        (arc_value shared.now.accepted.now).table.limit (traffic_behind hello.bytes (R.remaining reader.old.inner)
         (R.remaining reader.new.inner) (W.contents writer.old.inner) (W.contents writer.new.inner))
         (seen reader.new.failed reader.new.ended) (seen writer.new.failed writer.new.ended) result }
     ensures version { HasVersion result (length seat.new.view.base) }
@@ -349,13 +353,14 @@ pub fn serve_one<T: Wait, S: RangeStore, G: Gate, R: Read, W: Write>(
     writer: &mut Watched<W>,
 ) -> Outcome
     requires lock { seat.old.table_id ≡ shared.now.lock.now }
-    requires fits { seat.old.view.cap ≤ shared.now.accepted.now.table.cap }
+    requires fits { seat.old.view.cap ≤ (arc_value shared.now.accepted.now).table.cap }
     requires fresh { (reader.old.failed ≡ false) × (reader.old.ended ≡ false) × (writer.old.failed ≡ false) }
     ensures seat { seat.new.table_id ≡ seat.old.table_id }
     // The seat is as one `pin` leaves it, and its set fits; or as before, and then no message was said, and what the
     // outcome says holds of any peer.
     ensures view { (Looked seat.old.view seat.new.view
-        × (length (content seat.new.view.base) ≤ shared.now.accepted.now.table.cap)) ⊎ ((seat.new.view ≡ seat.old.view)
+        × (length (content seat.new.view.base) ≤ (arc_value shared.now.accepted.now).table.cap))
+        ⊎ ((seat.new.view ≡ seat.old.view)
         × ChosenUnopened (traffic (R.remaining reader.old.inner) (R.remaining reader.new.inner)
         (W.contents writer.old.inner) (W.contents writer.new.inner)) (seen reader.new.failed reader.new.ended)
         (seen writer.new.failed writer.new.ended) result) }
@@ -363,11 +368,13 @@ pub fn serve_one<T: Wait, S: RangeStore, G: Gate, R: Read, W: Write>(
     ensures opened { (seat.new.view ≡ seat.old.view)
         ⊎ ChosenFirst (Reader (R.remaining reader.old.inner)) (R.remaining reader.new.inner) }
     // What the outcome says, in the profile that the bytes read choose.
-    ensures bytes { ChosenSpeaks (length (content seat.new.view.base) ≤ shared.now.accepted.now.table.cap)
-        (peer_at shared.now.accepted.now seat.new.view) (length seat.new.view.base)
-        (rank_by shared.now.accepted.now.steps (length (peer_at shared.now.accepted.now seat.new.view).items) + 1)
-        shared.now.accepted.now.table.limit (traffic (R.remaining reader.old.inner) (R.remaining reader.new.inner)
-        (W.contents writer.old.inner) (W.contents writer.new.inner)) (seen reader.new.failed reader.new.ended)
+    ensures bytes { ChosenSpeaks (length (content seat.new.view.base) ≤ (arc_value shared.now.accepted.now).table.cap)
+        (peer_at (arc_value shared.now.accepted.now) seat.new.view) (length seat.new.view.base)
+        (rank_by (arc_value shared.now.accepted.now).steps
+        (length (peer_at (arc_value shared.now.accepted.now) seat.new.view).items) + 1)
+        (arc_value shared.now.accepted.now).table.limit
+        (traffic (R.remaining reader.old.inner) (R.remaining reader.new.inner) (W.contents writer.old.inner)
+        (W.contents writer.new.inner)) (seen reader.new.failed reader.new.ended)
         (seen writer.new.failed writer.new.ended) result }
     ensures version { HasVersion result (length seat.new.view.base) }
     ensures reads { reader.new.reads ≤ reader.old.reads + 2 ^ 32 }
@@ -397,15 +404,18 @@ pub fn dial_one<T: Wait, S: RangeStore, G: Gate, R: Read, W: Write, F: Summary>(
     writer: &mut Watched<W>,
 ) -> Outcome
     requires lock { seat.old.table_id ≡ shared.now.lock.now }
-    requires fits { seat.old.view.cap ≤ shared.now.accepted.now.table.cap }
+    requires fits { seat.old.view.cap ≤ (arc_value shared.now.accepted.now).table.cap }
     requires fresh { (reader.old.failed ≡ false) × (reader.old.ended ≡ false) × (writer.old.failed ≡ false) }
     ensures seat { seat.new.table_id ≡ seat.old.table_id }
     ensures view { Looked seat.old.view seat.new.view }
-    ensures bytes { Speaks F.summary F.profile ⊤ (initiating F.summary (peer_at shared.now.accepted.now seat.new.view))
+    ensures bytes { Speaks F.summary F.profile ⊤
+        (initiating F.summary (peer_at (arc_value shared.now.accepted.now) seat.new.view))
         (length seat.new.view.base)
-        (rank_by shared.now.accepted.now.steps (length (peer_at shared.now.accepted.now seat.new.view).items) + 2)
-        shared.now.accepted.now.table.limit (traffic (R.remaining reader.old.inner) (R.remaining reader.new.inner)
-        (W.contents writer.old.inner) (W.contents writer.new.inner)) (seen reader.new.failed reader.new.ended)
+        (rank_by (arc_value shared.now.accepted.now).steps
+        (length (peer_at (arc_value shared.now.accepted.now) seat.new.view).items) + 2)
+        (arc_value shared.now.accepted.now).table.limit
+        (traffic (R.remaining reader.old.inner) (R.remaining reader.new.inner) (W.contents writer.old.inner)
+        (W.contents writer.new.inner)) (seen reader.new.failed reader.new.ended)
         (seen writer.new.failed writer.new.ended) result }
     ensures version { HasVersion result (length seat.new.view.base) }
     ensures reads { reader.new.reads ≤ reader.old.reads + 2 ^ 32 }

@@ -1,6 +1,7 @@
 //! What each side keeps to, whatever its peer sends.
 
 ghost use Rattle.std.specs.Prelude.{◌≡◌, ◌≤◌, ◌+◌, ℕ, List, length};
+ghost use Rattle.std.specs.Arc.{arc_value};
 ghost use Rattle.definitions.specs.Items.{IsBytes};
 ghost use Rattle.definitions.specs.Histories.{History, content};
 ghost use Rattle.definitions.specs.Ranks.{rank_by};
@@ -8,19 +9,20 @@ ghost use Rattle.definitions.specs.Engines.{initiating, responding};
 ghost use Rattle.peer_threads.specs.Outcomes.{IsModest, peer_of};
 
 use digest_core::Summary;
+use std::sync::Arc;
 use strategy_check::Accepted;
 
 /// A side that goes by an accepted strategy sends few messages and short lists, and learns just what the messages that
 /// it takes say, whatever the bytes are that it reads.
-pub(crate) fn sides_are_modest<F: Summary>(accepted: &Accepted)
+pub(crate) fn sides_are_modest<F: Summary>(accepted: &Arc<Accepted>)
     ensures initiator { (h : History) (bytes : List ℕ) → IsBytes bytes →
-        length (content h) ≤ accepted.now.table.cap →
-        IsModest F.summary F.profile (initiating F.summary (peer_of accepted.now (content h))) bytes
-        (rank_by accepted.now.steps (length (content h)) + 2) accepted.now.table.limit }
+        length (content h) ≤ (arc_value accepted.now).table.cap →
+        IsModest F.summary F.profile (initiating F.summary (peer_of (arc_value accepted.now) (content h))) bytes
+        (rank_by (arc_value accepted.now).steps (length (content h)) + 2) (arc_value accepted.now).table.limit }
     ensures responder { (h : History) (bytes : List ℕ) → IsBytes bytes →
-        length (content h) ≤ accepted.now.table.cap →
-        IsModest F.summary F.profile (responding (peer_of accepted.now (content h))) bytes
-        (rank_by accepted.now.steps (length (content h)) + 1) accepted.now.table.limit }
+        length (content h) ≤ (arc_value accepted.now).table.cap →
+        IsModest F.summary F.profile (responding (peer_of (arc_value accepted.now) (content h))) bytes
+        (rank_by (arc_value accepted.now).steps (length (content h)) + 1) (arc_value accepted.now).table.limit }
 {
     codec_laws::heard_are_messages::<F>();
     laws::messages_have_ranges::<F>();

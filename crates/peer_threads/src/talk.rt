@@ -5,6 +5,7 @@ ghost use Rattle.definitions.specs.Wire.{Came, Ended};
 ghost use Rattle.definitions.specs.Ends.{is_live, is_over};
 ghost use Rattle.definitions.specs.Engines.{Speaker, replied};
 ghost use Rattle.definitions.specs.Hearing.{hear_now};
+ghost use Rattle.ends_core.specs.Roles.{most_of};
 ghost use Rattle.ends_core.specs.Turns.{answer_of, messages_in};
 ghost use Rattle.wire_core.specs.Events.{event_value};
 ghost use Rattle.peer_threads.specs.Inboxes.{Counts, ReadOn};
@@ -17,13 +18,13 @@ use crate::gate::Gate;
 use crate::inbox::Inbox;
 use crate::outbox::Outbox;
 use crate::outcome::Side;
-use crate::party::Party;
 use crate::stop::Stop;
 use digest_core::Summary;
-use ends_core::Turn;
+use ends_core::{Role, SessionEnd, Turn};
 use io_core::Watched;
 use std::io::{Read, Write};
 use std::sync::Wait;
+use store_core::RangeStore;
 use wire_core::{Event, Message, Part, encode_message};
 
 /// Says one message: takes all memory for it, counts it in the table, writes it, and asks the gate.
@@ -71,40 +72,40 @@ fn reply<T: Wait, G: Gate, W: Write, F: Summary>(
 }
 
 /// Takes one part of the peer's message.
-pub(crate) fn take<T: Wait, G: Gate, P: Party<F>, F: Summary>(
+pub(crate) fn take<T: Wait, G: Gate, P: Role, S: RangeStore, F: Summary>(
     booking: &Booking<'_, T, G>,
-    party: &mut P,
+    party: &mut SessionEnd<P, S, F>,
     part: &Part<F>,
 ) -> Result<(), Stop>
-    requires { is_over (P.held party.old).end.stage ≡ false }
-    ensures heard { OnOk result (heard_as (P.held party.new)
-        ≡ hear_now F.summary (P.held party.old).end (P.held party.old).taken (Came part.now)) }
-    ensures end { OnOk result ((P.held party.new).end ≡ (P.held party.old).end) }
-    ensures most { OnOk result (most_sent P.most (P.held party.new) ≡ most_sent P.most (P.held party.old)) }
-    ensures stopped { IfErr result (λ stop. Refuses F.summary (P.held party.old) (Came part.now) stop) }
+    requires { is_over party.old.end.stage ≡ false }
+    ensures heard { OnOk result (heard_as party.new
+        ≡ hear_now F.summary party.old.end party.old.taken (Came part.now)) }
+    ensures end { OnOk result (party.new.end ≡ party.old.end) }
+    ensures most { OnOk result (most_sent (most_of P.side) party.new ≡ most_sent (most_of P.side) party.old) }
+    ensures stopped { IfErr result (λ stop. Refuses F.summary party.old (Came part.now) stop) }
 {
     Ok(party.take(booking.alloc(), part)?)
 }
 
 /// Takes the end of the peer's message, and says the reply to it, if it wants one.
-pub(crate) fn end<T: Wait, G: Gate, P: Party<F>, W: Write, F: Summary>(
+pub(crate) fn end<T: Wait, G: Gate, P: Role, S: RangeStore, W: Write, F: Summary>(
     booking: &Booking<'_, T, G>,
-    party: &mut P,
+    party: &mut SessionEnd<P, S, F>,
     outbox: &mut Outbox<F>,
     writer: &mut Watched<W>,
 ) -> Result<(), Stop>
     requires fine { writer.old.failed ≡ false }
-    requires count { outbox.old.sent ≡ (P.held party.old).end.sent }
-    ensures heard { OnOk result (heard_as (P.held party.new)
-        ≡ hear_now F.summary (P.held party.old).end (P.held party.old).taken Ended) }
+    requires count { outbox.old.sent ≡ party.old.end.sent }
+    ensures heard { OnOk result (heard_as party.new
+        ≡ hear_now F.summary party.old.end party.old.taken Ended) }
     ensures said { OnOk result (Adds F.profile outbox.old outbox.new (W.contents writer.old.inner)
-        (W.contents writer.new.inner) (said_by (P.held party.old) Ended)) }
+        (W.contents writer.new.inner) (said_by party.old Ended)) }
     ensures fine { OnOk result (writer.new.failed ≡ false) }
-    ensures count { OnOk result (outbox.new.sent ≡ (P.held party.new).end.sent) }
-    ensures most { OnOk result (most_sent P.most (P.held party.new) ≡ most_sent P.most (P.held party.old)) }
-    ensures stopped { IfErr result (λ stop. StopsBy F.summary F.profile (P.held party.old) Ended outbox.old outbox.new
+    ensures count { OnOk result (outbox.new.sent ≡ party.new.end.sent) }
+    ensures most { OnOk result (most_sent (most_of P.side) party.new ≡ most_sent (most_of P.side) party.old) }
+    ensures stopped { IfErr result (λ stop. StopsBy F.summary F.profile party.old Ended outbox.old outbox.new
         (W.contents writer.old.inner) (W.contents writer.new.inner) writer.new.failed stop) }
-    ensures few { outbox.new.sent ≤ most_sent P.most (P.held party.old) }
+    ensures few { outbox.new.sent ≤ most_sent (most_of P.side) party.old }
 {
     let _few = party.sent();
     let turn = party.end(booking.alloc())?;
@@ -113,26 +114,26 @@ pub(crate) fn end<T: Wait, G: Gate, P: Party<F>, W: Write, F: Summary>(
 }
 
 /// Hears one event: a part, the end of a message, or a fault frame.
-fn hear<T: Wait, G: Gate, P: Party<F>, W: Write, F: Summary>(
+fn hear<T: Wait, G: Gate, P: Role, S: RangeStore, W: Write, F: Summary>(
     booking: &Booking<'_, T, G>,
-    party: &mut P,
+    party: &mut SessionEnd<P, S, F>,
     outbox: &mut Outbox<F>,
     writer: &mut Watched<W>,
     event: &Event<F>,
 ) -> Result<(), Stop>
     requires fine { writer.old.failed ≡ false }
-    requires count { outbox.old.sent ≡ (P.held party.old).end.sent }
-    requires goes { is_over (P.held party.old).end.stage ≡ false }
-    ensures heard { OnOk result (heard_as (P.held party.new)
-        ≡ hear_now F.summary (P.held party.old).end (P.held party.old).taken (event_value event.now)) }
+    requires count { outbox.old.sent ≡ party.old.end.sent }
+    requires goes { is_over party.old.end.stage ≡ false }
+    ensures heard { OnOk result (heard_as party.new
+        ≡ hear_now F.summary party.old.end party.old.taken (event_value event.now)) }
     ensures said { OnOk result (Adds F.profile outbox.old outbox.new (W.contents writer.old.inner)
-        (W.contents writer.new.inner) (said_by (P.held party.old) (event_value event.now))) }
+        (W.contents writer.new.inner) (said_by party.old (event_value event.now))) }
     ensures fine { OnOk result (writer.new.failed ≡ false) }
-    ensures count { OnOk result (outbox.new.sent ≡ (P.held party.new).end.sent) }
-    ensures most { OnOk result (most_sent P.most (P.held party.new) ≡ most_sent P.most (P.held party.old)) }
-    ensures stopped { IfErr result (λ stop. StopsBy F.summary F.profile (P.held party.old) (event_value event.now) outbox.old
+    ensures count { OnOk result (outbox.new.sent ≡ party.new.end.sent) }
+    ensures most { OnOk result (most_sent (most_of P.side) party.new ≡ most_sent (most_of P.side) party.old) }
+    ensures stopped { IfErr result (λ stop. StopsBy F.summary F.profile party.old (event_value event.now) outbox.old
         outbox.new (W.contents writer.old.inner) (W.contents writer.new.inner) writer.new.failed stop) }
-    ensures few { outbox.new.sent ≤ most_sent P.most (P.held party.old) }
+    ensures few { outbox.new.sent ≤ most_sent (most_of P.side) party.old }
 {
     let _few = party.sent();
     match event {
@@ -143,27 +144,27 @@ fn hear<T: Wait, G: Gate, P: Party<F>, W: Write, F: Summary>(
 }
 
 /// Hears one event after another until the session is over.
-pub(crate) fn talk<T: Wait, G: Gate, P: Party<F>, R: Read, W: Write, F: Summary>(
+pub(crate) fn talk<T: Wait, G: Gate, P: Role, S: RangeStore, R: Read, W: Write, F: Summary>(
     booking: &Booking<'_, T, G>,
-    party: &mut P,
+    party: &mut SessionEnd<P, S, F>,
     inbox: &mut Inbox<F>,
     outbox: &mut Outbox<F>,
     reader: &mut Watched<R>,
     writer: &mut Watched<W>,
 ) -> Result<(), Stop>
     requires fine { writer.old.failed ≡ false }
-    requires count { outbox.old.sent ≡ (P.held party.old).end.sent }
+    requires count { outbox.old.sent ≡ party.old.end.sent }
     ensures talked { (s : Speaker F) (unread : Origin) (held : Option (List ℕ)) → is_live s.start.stage ≡ true →
-        Underway F.summary F.profile s (P.held party.old) inbox.old outbox.old
+        Underway F.summary F.profile s party.old inbox.old outbox.old
         (traffic_of unread (R.remaining reader.old.inner) held (W.contents writer.old.inner)) →
-        Talked F.summary F.profile s (P.held party.new).end outbox.new
+        Talked F.summary F.profile s party.new.end outbox.new
         (traffic_of unread (R.remaining reader.new.inner) held (W.contents writer.new.inner))
         (seen reader.new.failed reader.new.ended) writer.new.failed result }
     ensures on { (s : Speaker F) (unread : Origin) (held : Option (List ℕ)) → is_live s.start.stage ≡ true →
-        Underway F.summary F.profile s (P.held party.old) inbox.old outbox.old
+        Underway F.summary F.profile s party.old inbox.old outbox.old
         (traffic_of unread (R.remaining reader.old.inner) held (W.contents writer.old.inner)) →
         ReadOn (R.remaining reader.old.inner) (R.remaining reader.new.inner) }
-    ensures few { outbox.new.sent ≤ most_sent P.most (P.held party.old) }
+    ensures few { outbox.new.sent ≤ most_sent (most_of P.side) party.old }
     ensures reads { inbox.old.reads ≤ 2 ^ 32 → Counts reader.old.reads reader.new.reads inbox.old inbox.new }
 {
     laws::frames_say::<F>();

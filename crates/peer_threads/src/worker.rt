@@ -1,6 +1,7 @@
 //! One worker: it takes connections from the source, serves each, and adds what their peers were first to know.
 
 ghost use Rattle.std.specs.Prelude.{◌≡◌, ◌≤◌, IsSome};
+ghost use Rattle.std.specs.Arc.{arc_value};
 ghost use Rattle.peer_threads.specs.Workers.{MayWork};
 
 use crate::engines::serve_one;
@@ -62,7 +63,7 @@ pub(crate) fn work<T: Wait, S: RangeStore, G: Gate, C: Source>(
     seat: &mut Seat<S>,
 ) -> bool
     requires lock { seat.old.table_id ≡ shared.now.lock.now }
-    requires seat { MayWork shared.now.accepted.now.table.cap seat.old.view }
+    requires seat { MayWork (arc_value shared.now.accepted.now).table.cap seat.old.view }
     ensures { seat.new.table_id ≡ seat.old.table_id }
 {
     if shared.lock.enroll(rt, seat).is_err() {
@@ -81,7 +82,7 @@ fn serve_all<T: Wait, S: RangeStore, G: Gate, C: Source>(
     seat: &mut Seat<S>,
 )
     requires lock { seat.old.table_id ≡ shared.now.lock.now }
-    requires fits { seat.old.view.cap ≤ shared.now.accepted.now.table.cap }
+    requires fits { seat.old.view.cap ≤ (arc_value shared.now.accepted.now).table.cap }
     requires enrolled { IsSome seat.old.view.writer }
     ensures { seat.new.table_id ≡ seat.old.table_id }
 {
@@ -106,7 +107,7 @@ fn serve<T: Wait, S: RangeStore, G: Gate, R: Read + Drop, W: Write + Drop>(
     writer: W,
 ) -> Option<Learned>
     requires lock { seat.old.table_id ≡ shared.now.lock.now }
-    requires fits { seat.old.view.cap ≤ shared.now.accepted.now.table.cap }
+    requires fits { seat.old.view.cap ≤ (arc_value shared.now.accepted.now).table.cap }
     ensures seat { seat.new.table_id ≡ seat.old.table_id }
     ensures kept { (seat.new.view.writer ≡ seat.old.view.writer) × (seat.new.view.cap ≡ seat.old.view.cap) }
 {

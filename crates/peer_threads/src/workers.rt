@@ -2,6 +2,7 @@
 
 ghost use Rattle.std.specs.Prelude.{◌≡◌, ◌≤◌, ◌<◌, ◌-◌};
 ghost use Rattle.std.specs.Thread.{IsSync};
+ghost use Rattle.std.specs.Arc.{arc_value};
 ghost use Rattle.version_lock.specs.Beginnings.{StartsWith};
 ghost use Rattle.peer_threads.specs.Workers.{Outlives, MayWork};
 
@@ -43,7 +44,7 @@ pub fn run_workers<
     workers: u8,
 ) -> Report
     requires lock { seat.old.table_id ≡ shared.now.lock.now }
-    requires fits { seat.old.view.cap ≤ shared.now.accepted.now.table.cap }
+    requires fits { seat.old.view.cap ≤ (arc_value shared.now.accepted.now).table.cap }
     requires count { (1 ≤ workers) × (workers ≤ 16) }
     ensures seat { seat.new.table_id ≡ seat.old.table_id }
     ensures view { Outlives seat.old.view seat.new.view }
@@ -93,7 +94,7 @@ fn run_half<T: Threads + Wait + Sync, S: RangeStore + Send, G: Gate + Sync, C: S
     workers: u8,
 ) -> Team<S>
     requires lock { seat.table_id ≡ shared.now.lock.now }
-    requires seat { MayWork shared.now.accepted.now.table.cap seat.view }
+    requires seat { MayWork (arc_value shared.now.accepted.now).table.cap seat.view }
     requires count { 1 ≤ workers }
     ensures seat { result.seat.table_id ≡ shared.now.lock.now }
     ensures started { result.started ≤ workers }
@@ -108,12 +109,12 @@ fn run_half<T: Threads + Wait + Sync, S: RangeStore + Send, G: Gate + Sync, C: S
         rt,
         move || -> Team<S>
             requires { IsSync T.row × (seat.table_id ≡ shared.now.lock.now)
-                × MayWork shared.now.accepted.now.table.cap seat.view × (1 ≤ half) }
+                × MayWork (arc_value shared.now.accepted.now).table.cap seat.view × (1 ≤ half) }
             ensures { (result.seat.table_id ≡ shared.entry.now.lock.now) × (result.started ≤ half) }
         { run_half(rt, alloc, shared, intake, seat, half) },
         move || -> Team<S>
             requires { IsSync T.row × (other.table_id ≡ shared.now.lock.now)
-                × MayWork shared.now.accepted.now.table.cap other.view × (half < workers) }
+                × MayWork (arc_value shared.now.accepted.now).table.cap other.view × (half < workers) }
             ensures { (result.seat.table_id ≡ shared.entry.now.lock.now) × (result.started ≤ workers - half) }
         { run_half(rt, alloc, shared, intake, other, workers - half) },
     );

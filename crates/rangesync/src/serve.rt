@@ -11,7 +11,7 @@ use session_table::SessionTable;
 use std::alloc::Global;
 use std::io::Write;
 use std::net::{Net, SocketAddr, TcpListener, TcpStream};
-use std::sync::{Mutex, Wait};
+use std::sync::{Arc, Mutex, Wait};
 use std::thread::Threads;
 use std::time::Clock;
 use tcp_front::{Limits, listen};
@@ -66,6 +66,7 @@ where
     let alloc = rt.alloc();
     let mut out = out;
     let Opening { accepted, log } = opening;
+    let accepted = Arc::new(alloc, accepted)?;
     let (lock, mut seat) = VersionLock::new(alloc, log)?;
     let sessions = Mutex::new(SessionTable::new(alloc, usize::from(serving.workers))?);
     let listener = listen(

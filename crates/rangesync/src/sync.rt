@@ -11,7 +11,7 @@ use session_table::SessionTable;
 use settings_core::WireProfile;
 use std::io::Write;
 use std::net::{Net, TcpStream};
-use std::sync::{Mutex, Wait};
+use std::sync::{Arc, Mutex, Wait};
 use tcp_front::{Limits, connect, limited};
 use version_lock::VersionLock;
 
@@ -39,6 +39,7 @@ pub fn sync<R: Net<Stream = TcpStream> + Wait + AllocGlobal, O: Write + Drop>(
 {
     let alloc = rt.alloc();
     let Opening { accepted, log } = opening;
+    let accepted = Arc::new(alloc, accepted)?;
     let (lock, mut seat) = VersionLock::new(alloc, log)?;
     let sessions = Mutex::new(SessionTable::new(alloc, 1)?);
     let stream = connect(rt, asking.address, asking.limits.patience)?;

@@ -111,7 +111,7 @@ fn push_report(
 fn push_shown(
     alloc: Global,
     text: &mut String,
-    world: &World<'_>,
+    world: &World,
     session: usize,
 ) -> Result<(), AllocError>
     ensures { OnOk result (string_bytes text.new ≡ string_bytes text.old ++ shown session
@@ -124,7 +124,7 @@ fn push_shown(
 }
 
 /// The lines of all sessions.
-pub fn reports_text(alloc: Global, world: &World<'_>) -> Result<String, AllocError>
+pub fn reports_text(alloc: Global, world: &World) -> Result<String, AllocError>
     ensures { IfOk result (λ text. string_bytes text ≡ reports_text world.now) }
 {
     let mut text = String::new(alloc);

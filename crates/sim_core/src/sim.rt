@@ -41,7 +41,7 @@ fn setup_of(alloc: Global, nodes: Vec<ScenarioNode>) -> Result<Setup, ScenarioEr
 }
 
 /// Hands the last message of a session over. Whether it was answered.
-fn deliver(alloc: Global, world: &mut World<'_>, session: usize) -> Result<bool, AllocError>
+fn deliver(alloc: Global, world: &mut World, session: usize) -> Result<bool, AllocError>
     ensures world { OnOk result (world.new ≡ (step two_lanes world.old (Deliver session)).0) }
     ensures sent { IfOk result (λ sent. sent ≡ is_sent (step two_lanes world.old (Deliver session)).1) }
 {
@@ -54,7 +54,7 @@ fn deliver(alloc: Global, world: &mut World<'_>, session: usize) -> Result<bool,
 /// Hands the last message of a session over again and again, until none follows, at most so many times.
 fn deliver_often(
     alloc: Global,
-    world: &mut World<'_>,
+    world: &mut World,
     session: usize,
     times: usize,
 ) -> Result<(), AllocError>
@@ -71,7 +71,7 @@ fn deliver_often(
 }
 
 /// Hands the last message of a session over again and again, until the session has ended.
-fn finish(alloc: Global, world: &mut World<'_>, session: usize) -> Result<(), AllocError>
+fn finish(alloc: Global, world: &mut World, session: usize) -> Result<(), AllocError>
     ensures world { OnOk result (world.new ≡ delivered MAX_MESSAGES world.old session) }
     ensures ended { OnOk result (HasEnded session world.new) }
 {
@@ -80,7 +80,7 @@ fn finish(alloc: Global, world: &mut World<'_>, session: usize) -> Result<(), Al
 }
 
 /// Does a step of a scenario. Behind a `finish` the session has ended.
-fn do_step(alloc: Global, world: &mut World<'_>, step: &ScenarioStep) -> Result<(), AllocError>
+fn do_step(alloc: Global, world: &mut World, step: &ScenarioStep) -> Result<(), AllocError>
     ensures world { OnOk result (world.new ≡ after_step world.old step.now) }
     ensures ended { OnOk result (EndsFinished step.now world.new) }
 {
@@ -93,7 +93,7 @@ fn do_step(alloc: Global, world: &mut World<'_>, step: &ScenarioStep) -> Result<
 }
 
 /// Does the steps of a scenario in turn.
-fn do_steps(alloc: Global, world: &mut World<'_>, steps: &[ScenarioStep]) -> Result<(), AllocError>
+fn do_steps(alloc: Global, world: &mut World, steps: &[ScenarioStep]) -> Result<(), AllocError>
     ensures world { OnOk result (world.new ≡ after_steps world.old steps.now) }
     ensures ended { OnOk result (FinishesEnd world.old steps.now) }
 {
@@ -110,7 +110,7 @@ pub fn sim_text(alloc: Global, scenario: Scenario) -> Result<String, ScenarioErr
 {
     let Scenario { nodes, steps } = scenario;
     let setup = setup_of(alloc, nodes)?;
-    let mut world: World<'_> = World::new(alloc, &setup)?;
+    let mut world: World = World::new(alloc, &setup)?;
     do_steps(alloc, &mut world, &steps)?;
     Ok(reports_text(alloc, &world)?)
 }

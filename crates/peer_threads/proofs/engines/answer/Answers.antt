@@ -17,7 +17,7 @@ returns-in_err-take-clause-talked g c = λ p steps unread held new x.
     let stopped = stops-refusing g.F.Summary.summary g.F.Summary.profile IsOfTheTable laws
     (responding p) _ _ _ _ _ (seen c.args.reader.now.failed c.args.reader.now.ended) c.args.writer.now.failed _
     c.in_err-take.field-0.0 refl
-    (at-part g.F.Summary.summary g.F.Summary.profile p steps (g.P.Party.held c.args.party.now) _ _ _ _ new x)
+    (at-part g.F.Summary.summary g.F.Summary.profile p steps c.args.party.now _ _ _ _ new x)
     c.in_err-take.ensures.stopped
     (adds-none g.F.Summary.summary g.F.Summary.profile _ _) in
     search (rules, stopped)
@@ -32,8 +32,8 @@ returns-in_err-end-clause-talked g c = λ p steps unread held new x.
     let stopped = stops-event g.F.Summary.summary g.F.Summary.profile laws (responding p) _ _ _ _ _
     (seen c.args.reader.now.failed c.args.reader.now.ended)
     c.end.new.writer.failed _ c.in_err-end.field-0.0 refl
-    (at-end g.F.Summary.summary g.F.Summary.profile p steps (g.P.Party.held c.args.party.now)
-    (g.P.Party.held c.take.new.party) _ _ _ _ new c.in_ok-take.ensures.heard c.in_ok-take.ensures.end x)
+    (at-end g.F.Summary.summary g.F.Summary.profile p steps c.args.party.now
+    c.take.new.party _ _ _ _ new c.in_ok-take.ensures.heard c.in_ok-take.ensures.end x)
     c.in_err-end.ensures.stopped in
     search (rules, stopped)
 
@@ -49,9 +49,9 @@ returns-clause-talked g c = λ p steps unread held new x.
       agree = c.bytes_agree.ensures g.F.Summary.summary g.F.Summary.profile;
     } in
     c.talk.ensures.talked (responding p) unread held refl
-    (answers-first g.F.Summary.summary g.F.Summary.profile laws p steps (g.P.Party.held c.args.party.now)
-    (g.P.Party.held c.take.new.party)
-    (g.P.Party.held c.end.new.party) _ _ _ _ _ _ new c.in_ok-take.ensures.heard c.in_ok-take.ensures.end x
+    (answers-first g.F.Summary.summary g.F.Summary.profile laws p steps c.args.party.now
+    c.take.new.party
+    c.end.new.party _ _ _ _ _ _ new c.in_ok-take.ensures.heard c.in_ok-take.ensures.end x
     c.in_ok-end.ensures.heard c.in_ok-end.ensures.said)
 
 pub returns-clause-few : goal.returns-clause-few
@@ -72,7 +72,7 @@ returns-clause-on g c = λ p steps unread held new x.
       agree = c.bytes_agree.ensures g.F.Summary.summary g.F.Summary.profile;
     } in
     c.talk.ensures.on (responding p) unread held refl
-    (answers-first g.F.Summary.summary g.F.Summary.profile laws p steps (g.P.Party.held c.args.party.now)
-    (g.P.Party.held c.take.new.party)
-    (g.P.Party.held c.end.new.party) _ _ _ _ _ _ new c.in_ok-take.ensures.heard c.in_ok-take.ensures.end x
+    (answers-first g.F.Summary.summary g.F.Summary.profile laws p steps c.args.party.now
+    c.take.new.party
+    c.end.new.party _ _ _ _ _ _ new c.in_ok-take.ensures.heard c.in_ok-take.ensures.end x
     c.in_ok-end.ensures.heard c.in_ok-end.ensures.said)

@@ -1,3 +1,4 @@
+use Rattle.std.specs.Arc.{arc_value}
 use Rattle.definitions.specs.Accounts.{IsOfTheTable}
 use Rattle.definitions.specs.Engines.{initiating}
 use Rattle.peer_threads.specs.Outcomes.{peer_at, seen}
@@ -8,22 +9,25 @@ use Rattle.peer_threads.proofs.engines.dial_one.Goals as goal
 
 pub returns-in-Ok-clause-bytes : goal.returns-in-Ok-clause-bytes
 returns-in-Ok-clause-bytes g c =
-    dials g.F.Summary.summary g.F.Summary.profile c.args.shared.now.accepted.now _ c.pin.new.seat.view c.in-Ok.pin _ _ _
+    dials g.F.Summary.summary g.F.Summary.profile (arc_value c.args.shared.now.accepted.now) _ c.pin.new.seat.view
+    c.in-Ok.pin _ _ _
     c.initiate.result c.in-Ok.ensures.pin
     c.of-host.ensures
-    (found-fits c.args.seat.now.view c.pin.new.seat.view c.args.shared.now.accepted.now.table.cap c.pin.ensures.view
+    (found-fits c.args.seat.now.view c.pin.new.seat.view (arc_value c.args.shared.now.accepted.now).table.cap
+    c.pin.ensures.view
     c.requires.fits) c.initiate.ensures.bytes c.sides_are_modest.ensures.initiator
 
 pub returns-in-Err-clause-bytes : goal.returns-in-Err-clause-bytes
 returns-in-Err-clause-bytes g c =
     let found = c.pin.new.seat.view in
-    let s = initiating g.F.Summary.summary (peer_at c.args.shared.now.accepted.now found) in
+    let s = initiating g.F.Summary.summary (peer_at (arc_value c.args.shared.now.accepted.now) found) in
     let unread = g.R.Read.remaining c.args.reader.now.inner in
     let held = g.W.Write.contents c.args.writer.now.inner in
     let r = seen c.args.reader.now.failed c.args.reader.now.ended in
     let w = seen c.stopped.new.writer.failed c.stopped.new.writer.ended in
     let fits =
-    found-fits c.args.seat.now.view found c.args.shared.now.accepted.now.table.cap c.pin.ensures.view c.requires.fits in
+    found-fits c.args.seat.now.view found (arc_value c.args.shared.now.accepted.now).table.cap c.pin.ensures.view
+    c.requires.fits in
     speaks g.F.Summary.summary g.F.Summary.profile _ s _ _ _ _ r w c.stopped.result
     (speaks-unsaid g.F.Summary.summary g.F.Summary.profile s _ _ c.new.result unread held
     (g.W.Write.contents c.stopped.new.writer.inner) r w c.args.writer.now.failed Memory c.stopped.result

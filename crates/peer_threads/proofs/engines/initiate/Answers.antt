@@ -1,4 +1,5 @@
 use Rattle.std.proofs.Common.{◌≤◌, ◌+◌, length, ap, subst, ◌∙◌}
+use Rattle.std.specs.Arc.{arc_value}
 use Rattle.definitions.specs.Accounts.{IsOfTheTable}
 use Rattle.definitions.specs.Ranks.{rank_by}
 use Rattle.definitions.specs.Engines.{initiating}
@@ -7,13 +8,13 @@ use Rattle.peer_threads.specs.declared.stop.Stop.TheVariants as stops
 use Rattle.peer_threads.specs.Outcomes.{Reader, traffic, seen, peer_of}
 use Rattle.peer_threads.specs.Stops.{outcome_of}
 use Rattle.peer_threads.specs.Underway.{Leaves, Spoke, most_sent}
-use Rattle.peer_threads.proofs.Dialing.{starts, opens-with, stops-silent, stops-unbooked, speaks-unsaid}
+use Rattle.peer_threads.proofs.Dialing.{stops-silent, stops-unbooked, speaks-unsaid}
 use Rattle.peer_threads.proofs.Hearings.{not-opened}
 use Rattle.peer_threads.proofs.engines.initiate.Goals as goal
 
 pub returns-in-Err-clause-bytes : goal.returns-in-Err-clause-bytes
 returns-in-Err-clause-bytes g c =
-    let s = initiating g.F.Summary.summary (peer_of c.args.host.now.accepted.now c.args.pin.items) in
+    let s = initiating g.F.Summary.summary (peer_of (arc_value c.args.host.now.accepted.now) c.args.pin.items) in
     let unread = g.R.Read.remaining c.args.reader.now.inner in
     let held = g.W.Write.contents c.args.writer.now.inner in
     let r = seen c.args.reader.now.failed c.args.reader.now.ended in
@@ -28,7 +29,7 @@ returns-in-Err-clause-bytes g c =
 
 pub returns-in-Err-open-clause-bytes : goal.returns-in-Err-open-clause-bytes
 returns-in-Err-open-clause-bytes g c =
-    let s = initiating g.F.Summary.summary (peer_of c.args.host.now.accepted.now c.args.pin.items) in
+    let s = initiating g.F.Summary.summary (peer_of (arc_value c.args.host.now.accepted.now) c.args.pin.items) in
     let unread = g.R.Read.remaining c.args.reader.now.inner in
     let held = g.W.Write.contents c.args.writer.now.inner in
     let holds = g.W.Write.contents c.stopped-in-Err-open.new.writer.inner in
@@ -49,12 +50,10 @@ returns-in-Err-open-clause-bytes g c =
 
 pub returns-clause-bytes : goal.returns-clause-bytes
 returns-clause-bytes g c =
-    let a = c.args.host.now.accepted.now in
+    let a = arc_value c.args.host.now.accepted.now in
     let items = c.args.pin.items in
-    let is = starts g.F.Summary.summary g.F.Summary.profile a _ items c.in-Ok.started.0 c.in-Ok.ensures.end
-    c.into_store.ensures in
-    let opens = opens-with g.F.Summary.summary g.F.Summary.profile _ items c.in-Ok.started.1 c.in-Ok.ensures.message
-    c.into_store.ensures in
+    let is = c.in-Ok.ensures.end in
+    let opens = c.in-Ok.ensures.message in
     let s = initiating g.F.Summary.summary (peer_of a items) in
     let bound = rank_by a.steps (length items) + 2 in
     let unread = g.R.Read.remaining c.args.reader.now.inner in

@@ -1,4 +1,5 @@
 use Rattle.std.proofs.Common.{refl, inr}
+use Rattle.std.specs.Arc.{arc_value}
 use Rattle.definitions.specs.Engines.{responding}
 use Rattle.peer_threads.specs.declared.stop.Stop.TheVariants as stops
 use Rattle.peer_threads.specs.Outcomes.{Behind, traffic_behind, seen, peer_at}
@@ -26,7 +27,7 @@ returns-in-Err-clause-view g c =
 pub returns-in-Err-clause-bytes : goal.returns-in-Err-clause-bytes
 returns-in-Err-clause-bytes g c =
     let v = c.args.seat.now.view in
-    let p = peer_at c.args.shared.now.accepted.now v in
+    let p = peer_at (arc_value c.args.shared.now.accepted.now) v in
     let t = traffic_behind c.args.hello.bytes (g.R.Read.remaining c.args.reader.now.inner)
     (g.R.Read.remaining c.meet.new.reader.inner)
     (g.W.Write.contents c.args.writer.now.inner) (g.W.Write.contents c.meet.new.writer.inner) in
@@ -44,7 +45,8 @@ returns-in-Err-clause-bytes g c =
 pub returns-in-Ok-pin-clause-bytes : goal.returns-in-Ok-pin-clause-bytes
 returns-in-Ok-pin-clause-bytes g c =
     let met = c.in-Ok.ensures.met in
-    serves g.F.Summary.summary g.F.Summary.profile c.args.shared.now.accepted.now _ c.pin.new.seat.view c.in-Ok-pin.pin
+    serves g.F.Summary.summary g.F.Summary.profile (arc_value c.args.shared.now.accepted.now) _ c.pin.new.seat.view
+    c.in-Ok-pin.pin
     _ _ _ c.respond.result
     c.in-Ok-pin.ensures.pin c.of-host.ensures
     (c.respond.ensures.bytes (Behind c.args.hello.bytes (g.R.Read.remaining c.args.reader.now.inner))
@@ -53,7 +55,7 @@ returns-in-Ok-pin-clause-bytes g c =
 pub returns-in-Err-pin-clause-bytes : goal.returns-in-Err-pin-clause-bytes
 returns-in-Err-pin-clause-bytes g c =
     let found = c.pin.new.seat.view in
-    let p = peer_at c.args.shared.now.accepted.now found in
+    let p = peer_at (arc_value c.args.shared.now.accepted.now) found in
     let t = traffic_behind c.args.hello.bytes (g.R.Read.remaining c.args.reader.now.inner)
     (g.R.Read.remaining c.meet.new.reader.inner)
     (g.W.Write.contents c.args.writer.now.inner) (g.W.Write.contents c.meet.new.writer.inner) in

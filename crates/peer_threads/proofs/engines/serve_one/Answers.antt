@@ -1,5 +1,6 @@
 use Rattle.std.proofs.Common.{rules, ◌≡◌, false, inl, inr, refl}
 use Rattle.std.specs.Prelude.{bytes_eq}
+use Rattle.std.specs.Arc.{arc_value}
 use Rattle.definitions.specs.Fingerprints.{two_lanes}
 use Rattle.definitions.specs.Wire.{two_lane_profile, counted_profile}
 use Rattle.peer_threads.specs.Outcomes.{seen, peer_at}
@@ -38,7 +39,7 @@ returns-in-Err-clause-bytes g c =
     let w = seen c.stopped.new.writer.failed c.stopped.new.writer.ended in
     let v = c.args.seat.now.view in
     let x = c.in-Err.ensures.read in
-    short-speaks laws _ (peer_at c.args.shared.now.accepted.now v) _ _ _ c.new.result x.0
+    short-speaks laws _ (peer_at (arc_value c.args.shared.now.accepted.now) v) _ _ _ c.new.result x.0
     (g.R.Read.remaining c.args.reader.now.inner)
     (g.R.Read.remaining c.read_hello.new.reader.inner) (g.W.Write.contents c.args.writer.now.inner)
     (g.W.Write.contents c.stopped.new.writer.inner) r w c.args.writer.now.failed c.in-Err.stop c.stopped.result
@@ -75,7 +76,7 @@ returns-then-eq-clause-bytes g c =
     let h = c.in-Ok.hello in
     let same : h.bytes ≡ counted_profile.hello = search rules in
     let mid = g.R.Read.remaining c.read_hello.new.reader.inner in
-    counted-speaks _ (peer_at c.args.shared.now.accepted.now c.serve_behind.new.seat.view) _ _ _ h.bytes
+    counted-speaks _ (peer_at (arc_value c.args.shared.now.accepted.now) c.serve_behind.new.seat.view) _ _ _ h.bytes
     (g.R.Read.remaining c.args.reader.now.inner) mid _ _ _ _ _ _
     c.in-Ok.ensures.read.0.four c.in-Ok.ensures.read.1 (chooses-counted h.bytes same) c.serve_behind.ensures.bytes
 
@@ -111,7 +112,8 @@ returns-else-eq-clause-bytes g c =
     let h = c.in-Ok.hello in
     let other : bytes_eq h.bytes counted_profile.hello ≡ false = search rules in
     let mid = g.R.Read.remaining c.read_hello.new.reader.inner in
-    two-lanes-speak _ (peer_at c.args.shared.now.accepted.now c.serve_behind-else-eq.new.seat.view) _ _ _ h.bytes
+    two-lanes-speak _ (peer_at (arc_value c.args.shared.now.accepted.now) c.serve_behind-else-eq.new.seat.view) _ _ _
+    h.bytes
     (g.R.Read.remaining c.args.reader.now.inner) mid _ _ _ _ _ _
     c.in-Ok.ensures.read.0.four c.in-Ok.ensures.read.1
     (chooses-two-lanes h.bytes c.in-Ok.ensures.read.0.four other) c.serve_behind-else-eq.ensures.bytes

@@ -38,7 +38,7 @@ returns-in_err-say-clause-talked g c = λ p steps is opens.
 pub returns-clause-talked : goal.returns-clause-talked
 returns-clause-talked g c = λ p steps is opens.
     let u = begun-first g.F.Summary.summary g.F.Summary.profile p
-    (g.P.Party.held c.args.party.now) steps c.in_ok-inbox.inbox c.args.outbox.now c.greet.new.self c.say.new.outbox
+    c.args.party.now steps c.in_ok-inbox.inbox c.args.outbox.now c.greet.new.self c.say.new.outbox
     (g.R.Read.remaining c.args.reader.now.inner) (g.W.Write.contents c.args.writer.now.inner)
     (g.W.Write.contents c.greet.new.writer.inner)
     (g.W.Write.contents c.say.new.writer.inner) c.args.first.now is opens c.in_ok-inbox.ensures.read c.requires.new

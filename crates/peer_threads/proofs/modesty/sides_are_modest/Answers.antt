@@ -1,11 +1,14 @@
+use Rattle.std.proofs.Common.{subst}
+use Rattle.std.specs.Arc.{arc_value}
 use Rattle.definitions.specs.Histories.{content, items_of}
+use Rattle.strategy_check.specs.Checked.{IsChecked}
 use Rattle.peer_threads.proofs.Modest.{first_modest, second_modest}
 use Rattle.peer_threads.proofs.modesty.sides_are_modest.Goals as goal
 
 pub returns-clause-initiator : goal.returns-clause-initiator
 returns-clause-initiator g c = λ h bytes are room. first_modest g.F.Summary.summary g.F.Summary.profile
-    c.args.accepted.now
-    (content h) bytes c.cap-cap.ensures.checked c.ranks_are_read.ensures
+    (arc_value c.args.accepted.now)
+    (content h) bytes (subst IsChecked c.deref.ensures c.cap-cap.ensures.checked) c.ranks_are_read.ensures
     (c.heard_are_messages.ensures g.F.Summary.profile g.met.F.Summary.real)
     (c.messages_have_ranges.ensures g.F.Summary.profile) (c.initiator_stops.ensures g.F.Summary.summary)
     (c.ends_keep_limits.ensures g.F.Summary.summary) (c.initiator_learns.ensures g.F.Summary.summary)
@@ -14,8 +17,8 @@ returns-clause-initiator g c = λ h bytes are room. first_modest g.F.Summary.sum
 
 pub returns-clause-responder : goal.returns-clause-responder
 returns-clause-responder g c = λ h bytes are room. second_modest g.F.Summary.summary g.F.Summary.profile
-    c.args.accepted.now
-    (content h) bytes c.cap-cap.ensures.checked c.ranks_are_read.ensures
+    (arc_value c.args.accepted.now)
+    (content h) bytes (subst IsChecked c.deref.ensures c.cap-cap.ensures.checked) c.ranks_are_read.ensures
     (c.heard_are_messages.ensures g.F.Summary.profile g.met.F.Summary.real)
     (c.messages_have_ranges.ensures g.F.Summary.profile) (c.responder_stops.ensures g.F.Summary.summary)
     (c.ends_keep_limits.ensures g.F.Summary.summary) (c.responder_learns.ensures g.F.Summary.summary)

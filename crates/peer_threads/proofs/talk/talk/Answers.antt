@@ -12,7 +12,7 @@ returns-then-is_over-clause-talked g c = λ s unread held live start.
       begin = c.own_begins.ensures g.F.Summary.summary;
       agree = c.bytes_agree.ensures g.F.Summary.summary g.F.Summary.profile;
     } in
-    let over : is_over (g.P.Party.held c.loop-turn.party).end.stage ≡ true = search rules in
+    let over : is_over c.loop-turn.party.end.stage ≡ true = search rules in
     finished g.F.Summary.summary g.F.Summary.profile laws s _ _ _ _ live (c.loop-turn.invariant.goes s unread held live
     start).0 over
 
@@ -24,7 +24,7 @@ returns-in_err-event-clause-talked g c = λ s unread held live start.
       agree = c.bytes_agree.ensures g.F.Summary.summary g.F.Summary.profile;
     } in
     let u = (c.loop-turn.invariant.goes s unread held live start).0 in
-    let goes : is_over (g.P.Party.held c.loop-turn.party).end.stage ≡ false = search rules in
+    let goes : is_over c.loop-turn.party.end.stage ≡ false = search rules in
     let stops = stops-underway g.F.Summary.summary g.F.Summary.profile laws s _ _ _ _ _
     (seen c.next.new.reader.failed c.next.new.reader.ended)
     c.loop-turn.writer.failed c.in_err-event.field-0.0 live u goes
@@ -39,7 +39,7 @@ returns-in_err-hear-clause-talked g c = λ s unread held live start.
       agree = c.bytes_agree.ensures g.F.Summary.summary g.F.Summary.profile;
     } in
     let u = (c.loop-turn.invariant.goes s unread held live start).0 in
-    let goes : is_over (g.P.Party.held c.loop-turn.party).end.stage ≡ false = search rules in
+    let goes : is_over c.loop-turn.party.end.stage ≡ false = search rules in
     let x = at-event g.F.Summary.summary g.F.Summary.profile s _ _ _ _ _ _ _ u (c.in_ok-event.ensures.read u.bytes
     u.events u.are_bytes u.came) goes in
     let stops =
@@ -65,7 +65,7 @@ loop-turn-preserved g c = record {
         agree = c.bytes_agree.ensures g.F.Summary.summary g.F.Summary.profile;
       } in
       let u = (c.loop-turn.invariant.goes s unread held live start).0 in
-      let goes : is_over (g.P.Party.held c.loop-turn.party).end.stage ≡ false = search rules in
+      let goes : is_over c.loop-turn.party.end.stage ≡ false = search rules in
       let more = c.in_ok-event.ensures.read u.bytes u.events u.are_bytes u.came in
       let x = at-event g.F.Summary.summary g.F.Summary.profile s _ _ _ _ _ _ _ u more goes in
       let late = (c.loop-turn.invariant.goes s unread held live start).1 in
