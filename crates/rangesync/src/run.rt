@@ -4,10 +4,10 @@ ghost use Rattle.std.specs.Prelude.{◌≤◌, length};
 ghost use Rattle.store_core.specs.Flat.{flat_items};
 ghost use Rattle.settings_core.specs.Spans.{AreInSpan};
 
-use answer_core::{answer, list_reply};
 use crate::opening::read_opening;
 use crate::serve::{Serving, serve};
 use crate::sync::{Asking, sync};
+use answer_core::{answer, list_reply};
 use io_core::{Watched, read_input, write_output};
 use printing_core::{Fault, checked_text, decode_text, encode_lines, tell, tell_words};
 use settings_core::{Command, read_items, read_strategy, read_words};
