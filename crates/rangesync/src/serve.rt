@@ -59,7 +59,12 @@ pub fn serve<R, O: Write + Drop, E: Write>(
     err: &mut E,
 ) -> Result<(), Fault>
 where
-    R: Net<Listener = TcpListener, Stream = TcpStream> + Threads + Wait + Clock + AllocGlobal + Sync,
+    R: Net<Listener = TcpListener, Stream = TcpStream>
+        + Threads
+        + Wait
+        + Clock
+        + AllocGlobal
+        + Sync,
     requires cap { opening.log.cap ≡ opening.accepted.table.cap }
     requires workers { IsWorkerCount serving.workers }
 {
@@ -69,19 +74,8 @@ where
     let accepted = Arc::new(alloc, accepted)?;
     let (lock, mut seat) = VersionLock::new(alloc, log)?;
     let sessions = Mutex::new(SessionTable::new(alloc, usize::from(serving.workers))?);
-    let listener = listen(
-        rt,
-        serving.address,
-        serving.sessions,
-        serving.limits,
-    )?;
-    announce(
-        alloc,
-        serving.address,
-        listener.local_addr(),
-        &mut out,
-        err,
-    )?;
+    let listener = listen(rt, serving.address, serving.sessions, serving.limits)?;
+    announce(alloc, serving.address, listener.local_addr(), &mut out, err)?;
     let shared = Shared {
         lock: &lock,
         accepted: &accepted,

@@ -42,7 +42,9 @@ fn taken<R: Clock + Abort>(rt: &R, listener: &Listener<R>) -> (Take<TcpStream>, 
 #[test]
 fn bytes_both_ways(rt: HostRuntime) -> io::Result<()> {
     let (listener, address) = opened(&rt, Some(1), PATIENCE)?;
-    let mut near = connect(&rt, &address, PATIENCE).ok().expect(&rt, "a connection");
+    let mut near = connect(&rt, &address, PATIENCE)
+        .ok()
+        .expect(&rt, "a connection");
     let (mut reader, mut writer) = taken(&rt, &listener);
     let mut bytes = [0u8; 5];
     near.write_all(b"there")?;
@@ -81,7 +83,9 @@ fn a_silent_peer(rt: HostRuntime) -> io::Result<()> {
 #[test]
 fn the_input_ends_at_its_limit(rt: HostRuntime) -> io::Result<()> {
     let (listener, address) = opened(&rt, Some(1), PATIENCE)?;
-    let mut near = connect(&rt, &address, PATIENCE).ok().expect(&rt, "a connection");
+    let mut near = connect(&rt, &address, PATIENCE)
+        .ok()
+        .expect(&rt, "a connection");
     let (mut reader, _writer) = taken(&rt, &listener);
     near.write_all(&[7; 1_025])?;
     let mut bytes = [0u8; 1_024];
@@ -104,9 +108,15 @@ fn bytes_up_to_a_limit(rt: HostRuntime) -> io::Result<()> {
 #[test]
 fn connections_are_counted(rt: HostRuntime) -> io::Result<()> {
     let (two, address) = opened(&rt, Some(2), PATIENCE)?;
-    let _first = connect(&rt, &address, PATIENCE).ok().expect(&rt, "a connection");
-    let _second = connect(&rt, &address, PATIENCE).ok().expect(&rt, "a connection");
-    let _third = connect(&rt, &address, PATIENCE).ok().expect(&rt, "a connection");
+    let _first = connect(&rt, &address, PATIENCE)
+        .ok()
+        .expect(&rt, "a connection");
+    let _second = connect(&rt, &address, PATIENCE)
+        .ok()
+        .expect(&rt, "a connection");
+    let _third = connect(&rt, &address, PATIENCE)
+        .ok()
+        .expect(&rt, "a connection");
     let _one = taken(&rt, &two);
     let _other = taken(&rt, &two);
     assert!(rt; matches!(two.take(), Ok(None)));
@@ -123,7 +133,9 @@ fn after_a_failed_accept(rt: HostRuntime) -> io::Result<()> {
     let failed = listener.take().err().expect(&rt, "a fault");
     assert_eq!(rt; failed, SourceFault::Accept);
     assert_eq!(rt; failed.number(), 62);
-    let _late = connect(&rt, &address, PATIENCE).ok().expect(&rt, "a connection");
+    let _late = connect(&rt, &address, PATIENCE)
+        .ok()
+        .expect(&rt, "a connection");
     assert!(rt; matches!(listener.take(), Ok(None)));
     Ok(())
 }
@@ -131,10 +143,14 @@ fn after_a_failed_accept(rt: HostRuntime) -> io::Result<()> {
 #[test]
 fn addresses_in_use_or_of_nobody(rt: HostRuntime) -> io::Result<()> {
     let (listener, address) = opened(&rt, None, PATIENCE)?;
-    let again = listen(&rt, &address, None, limits(PATIENCE)).err().map(ListenFault::number);
+    let again = listen(&rt, &address, None, limits(PATIENCE))
+        .err()
+        .map(ListenFault::number);
     assert_eq!(rt; again, Some(60));
     drop(listener);
-    let nobody = connect(&rt, &address, PATIENCE).err().map(ConnectFault::number);
+    let nobody = connect(&rt, &address, PATIENCE)
+        .err()
+        .map(ConnectFault::number);
     assert_eq!(rt; nobody, Some(61));
     Ok(())
 }
@@ -142,7 +158,9 @@ fn addresses_in_use_or_of_nobody(rt: HostRuntime) -> io::Result<()> {
 #[test]
 fn texts_that_are_no_addresses(rt: HostRuntime) {
     for text in ["", "127.0.0.1", "127.0.0.1:65536", "127.0.0.1:x", "none"] {
-        let here = listen(&rt, text, None, limits(PATIENCE)).err().map(ListenFault::number);
+        let here = listen(&rt, text, None, limits(PATIENCE))
+            .err()
+            .map(ListenFault::number);
         assert_eq!(rt; here, Some(60));
         let there = connect(&rt, text, PATIENCE).err().map(ConnectFault::number);
         assert_eq!(rt; there, Some(61));

@@ -235,27 +235,34 @@ For more information, try '--help'.
 
 For more information, try '--help'.
 ";
-    let no_patience = "error: invalid value '0' for '--patience <SECONDS>': 0 is not in 1..=86400
-
-For more information, try '--help'.
-";
-    let over_a_day = "error: invalid value '86401' for '--patience <SECONDS>': 86401 is not in 1..=86400
-
-For more information, try '--help'.
-";
-    let few_bytes = "error: invalid value '1023' for '--most-bytes <N>': 1023 is not in 1024..=4294967295
-
-For more information, try '--help'.
-";
-    let many_bytes = "error: invalid value '4294967296' for '--most-bytes <N>': 4294967296 is not in 1024..=4294967295
-
-For more information, try '--help'.
-";
     numbers(&rt, "--workers", "0", none);
     numbers(&rt, "--workers", "17", many);
     numbers(&rt, "--workers", "x", word);
     numbers(&rt, "--sessions", "0", no_session);
     numbers(&rt, "--sessions", "1000001", above);
+}
+
+#[test]
+fn limits_out_of_their_span(rt: HostRuntime) {
+    let no_patience = "error: invalid value '0' for '--patience <SECONDS>': 0 is not in 1..=86400
+
+For more information, try '--help'.
+";
+    let over_a_day =
+        "error: invalid value '86401' for '--patience <SECONDS>': 86401 is not in 1..=86400
+
+For more information, try '--help'.
+";
+    let few_bytes =
+        "error: invalid value '1023' for '--most-bytes <N>': 1023 is not in 1024..=4294967295
+
+For more information, try '--help'.
+";
+    let many_bytes =
+        "error: invalid value '4294967296' for '--most-bytes <N>': 4294967296 is not in 1024..=4294967295
+
+For more information, try '--help'.
+";
     numbers(&rt, "--patience", "0", no_patience);
     numbers(&rt, "--patience", "86401", over_a_day);
     numbers(&rt, "--most-bytes", "1023", few_bytes);
