@@ -2,7 +2,7 @@ pub use Rattle.definitions.specs.Worlds
 pub use Rattle.world_core.specs.Nodes
 pub use Rattle.world_core.specs.Steps
 pub use Rattle.settings_core.specs.ItemFiles
-pub mod Nodes
+pub mod NodeTexts
 pub mod Reports
 pub mod Runs
 pub mod ScenarioFaults

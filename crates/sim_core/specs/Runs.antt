@@ -9,7 +9,7 @@ use Rattle.definitions.specs.Worlds as worlds
 use Rattle.definitions.specs.Worlds.{World, Node, Did, has_ended, step, start}
 use Rattle.world_core.specs.Nodes.{node_by}
 use Rattle.world_core.specs.Steps.{step_of}
-use Rattle.sim_core.specs.Nodes.{NodeText, ScenarioText}
+use Rattle.sim_core.specs.NodeTexts.{NodeText, ScenarioText}
 use Rattle.sim_core.specs.declared.scenario.ScenarioStep.{ScenarioStep}
 use Rattle.sim_core.specs.declared.scenario.ScenarioStep.TheVariants.{Do, Finish}
 use Rattle.sim_core.specs.Reports.{reports_text}

@@ -24,7 +24,7 @@ pub struct ScenarioNode {
 }
 
 impl Model for ScenarioNode {
-    ghost use Rattle.sim_core.specs.Nodes.{NodeText};
+    ghost use Rattle.sim_core.specs.NodeTexts.{NodeText};
 
     ghost Value = { NodeText };
 
@@ -41,7 +41,7 @@ pub struct Scenario {
 }
 
 impl Model for Scenario {
-    ghost use Rattle.sim_core.specs.Nodes.{ScenarioText};
+    ghost use Rattle.sim_core.specs.NodeTexts.{ScenarioText};
 
     ghost Value = { ScenarioText };
 

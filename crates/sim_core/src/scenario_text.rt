@@ -202,7 +202,12 @@ fn step_in(number: usize, value: &Value) -> Result<ScenarioStep, ScenarioFault>
     let Some(text) = value.as_str() else {
         return Err(ScenarioFault::BadScenario);
     };
-    step_of(text).ok_or(ScenarioFault::BadStep { step: number })
+    // By name, and so in `steps_in`: docs/PROVING.md, on an enum in an enum of another crate.
+    match step_of(text) {
+        Some(ScenarioStep::Do(step)) => Ok(ScenarioStep::Do(step)),
+        Some(finish) => Ok(finish),
+        None => Err(ScenarioFault::BadStep { step: number }),
+    }
 }
 
 /// The steps of an array.
@@ -211,7 +216,10 @@ fn steps_in(alloc: Global, array: &Array) -> Result<Vec<ScenarioStep>, ScenarioE
 {
     let mut steps = Vec::new(alloc);
     for value in array {
-        steps.push(step_in(steps.len(), value)?)?;
+        match step_in(steps.len(), value)? {
+            ScenarioStep::Do(step) => steps.push(ScenarioStep::Do(step))?,
+            ScenarioStep::Finish(session) => steps.push(ScenarioStep::Finish(session))?,
+        }
     }
     Ok(steps)
 }
