@@ -28,11 +28,7 @@ fn both(rt: &impl Abort, alloc: Global, first: Part, second: Part) -> Result<Mes
 }
 
 /// The reply of a responder to a Sum over everything.
-fn first_reply(
-    rt: &impl Abort,
-    alloc: Global,
-    end: &mut Responder<Tree>,
-) -> Result<String, Fail> {
+fn first_reply(rt: &impl Abort, alloc: Global, end: &mut Responder<Tree>) -> Result<String, Fail> {
     let opening = alone(rt, alloc, sum(Range::whole()))?;
     let Ok(Turn::Reply(reply)) = end.receive(alloc, &opening) else {
         panic!(rt; "no reply");
@@ -174,11 +170,7 @@ fn a_sum_over_an_open_range_or_past_it(rt: HostRuntime) -> Result<(), Fail> {
 }
 
 /// Asserts that an initiator refuses a Sum over everything, and then the same again, and that it has learned nothing.
-fn refuses_a_stall(
-    rt: &impl Abort,
-    alloc: Global,
-    end: &mut Initiator<Tree>,
-) -> Result<(), Fail> {
+fn refuses_a_stall(rt: &impl Abort, alloc: Global, end: &mut Initiator<Tree>) -> Result<(), Fail> {
     let stalls = alone(rt, alloc, sum(Range::whole()))?;
     assert_eq!(rt; number(end.receive(alloc, &stalls)), Some(21));
     assert_eq!(rt; number(end.receive(alloc, &stalls)), Some(26));

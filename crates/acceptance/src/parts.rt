@@ -69,12 +69,7 @@ fn take_again(rt: &impl Abort, alloc: Global, end: &mut Responder<Tree>) -> Resu
     Ok(())
 }
 
-fn learned(
-    rt: &impl Abort,
-    alloc: Global,
-    end: &Responder<Tree>,
-    text: &str,
-) -> Result<(), Fail> {
+fn learned(rt: &impl Abort, alloc: Global, end: &Responder<Tree>, text: &str) -> Result<(), Fail> {
     assert_eq!(rt; shown_learned(alloc, end.learned())?.as_str(), text);
     Ok(())
 }
