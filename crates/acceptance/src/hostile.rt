@@ -30,8 +30,8 @@ const NO_KIND: &[u8] = &[0, 0, 0, 1, 6];
 /// The message that a side without items writes first, behind its hello.
 const FIRST_OF_EMPTY: &[&[u8]] = &[HELLO, SUM_OF_NOTHING, END];
 
-/// Appends the frame of a Sum from this bound, where no bytes are the start, up to the other, where none are the end. All its
-/// lanes are zero.
+/// Appends the frame of a Sum from this bound, where no bytes are the start, up to the other, where none are the end.
+/// All its lanes are zero.
 fn push_sum(
     rt: &impl Abort,
     alloc: Global,

@@ -89,8 +89,8 @@ fn parts_that_are_given_up(rt: HostRuntime) -> Result<(), Fail> {
     learned(&rt, alloc, &end, "ours ab theirs -")
 }
 
-/// Takes the parts of a flood up to this number one by one, and then its end: the number of parts of the reply, or that of
-/// the refusal.
+/// Takes the parts of a flood up to this number one by one, and then its end: the number of parts of the reply, or that
+/// of the refusal.
 fn take_flood(
     rt: &impl Abort,
     alloc: Global,

@@ -154,7 +154,8 @@ fn source_that_fails_at_once(rt: HostRuntime) -> Result<(), Fail> {
     Ok(())
 }
 
-// Of aa, x and y, in the order learned, the log has room for one. Workers that add them in another order fail in this test.
+// Of aa, x and y, in the order learned, the log has room for one. Workers that add them in another order fail in this
+// test.
 #[test]
 fn room_for_one_of_three(rt: HostRuntime) -> Result<(), Fail> {
     let alloc = rt.alloc();

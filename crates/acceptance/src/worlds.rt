@@ -119,8 +119,8 @@ fn shows(
     assert!(rt; learned(rt, alloc, lists, ours, theirs));
 }
 
-// A session speaks of the versions that were chosen at its opening and its first delivery; what the next one brings goes
-// into both histories.
+// A session speaks of the versions that were chosen at its opening and its first delivery; what the next one brings
+// goes into both histories.
 #[test]
 fn two_sessions(rt: HostRuntime) -> Result<(), Fail> {
     let alloc = rt.alloc();

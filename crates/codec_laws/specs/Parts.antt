@@ -4,13 +4,15 @@
 --     MarksComeBack, PaddingIsLast               marks and their bytes
 --     FeedsJoin P, FeedsRest P                   readings of streams in steps, and what is kept between them
 --     HeardAreMessages P, SessionsAreHeard P     what a stream spells
-use Rattle.std.specs.Prelude.{◌≡◌, ◌↔◌, ℕ, ◌+◌, ◌/◌, ◌%◌, ◌^◌, ◌<◌, ◌≤◌, ◌==◌, ◌||◌, Bool, List, ◌++◌, length, None, bytes_eq, slice_index}
+use Rattle.std.specs.Prelude.{◌≡◌, ◌↔◌, ℕ, ◌+◌, ◌/◌, ◌%◌, ◌^◌, ◌<◌, ◌≤◌, ◌==◌, ◌||◌, Bool, List, ◌++◌, length, None}
+use Rattle.std.specs.Prelude.{bytes_eq, slice_index}
 use Rattle.std.specs.List.{AllByRecursion}
 use Rattle.definitions.specs.Items.{IsBytes, Item, IsItem, Range, IsRange}
 use Rattle.definitions.specs.Sets.{IsSet, items_in}
 use Rattle.definitions.specs.Messages.{Part, Sum, Listing, Answer, Message}
 use Rattle.definitions.specs.Replies.{answer_to}
-use Rattle.definitions.specs.Wire.{Profile, AreItemsOf, IsFingerprint, IsPart, IsMessage, session_text, mark_bytes, mark_bytes_for, max_body}
+use Rattle.definitions.specs.Wire.{Profile, AreItemsOf, IsFingerprint, IsPart, IsMessage, session_text, mark_bytes}
+use Rattle.definitions.specs.Wire.{mark_bytes_for, max_body}
 use Rattle.definitions.specs.Faults.{items_fault, part_fault}
 use Rattle.definitions.specs.Reading.{marks_in}
 use Rattle.definitions.specs.Engines.{messages_in}
@@ -57,11 +59,13 @@ FeedsRest {F} P = (from : Standing) (bytes : List ℕ) → IsBytes bytes → (le
 
 -- the items that a set has in a range fit a frame
 abbrev pub SetsFit : {F : Type 0} → Profile F → Type 0
-SetsFit P = (A : List Item) (X : Range) → IsSet A → AllByRecursion IsItem A → length A ≤ 65536 → IsRange X → IsPart P (Listing X (items_in A X))
+SetsFit P = (A : List Item) (X : Range) → IsSet A → AllByRecursion IsItem A → length A ≤ 65536 → IsRange X →
+    IsPart P (Listing X (items_in A X))
 
 -- what a set answers to a list fits a frame
 abbrev pub AnswersFit : {F : Type 0} → Profile F → Type 0
-AnswersFit P = (A : List Item) (X : Range) (listed : List Item) → IsSet A → AllByRecursion IsItem A → length A ≤ 65536 → IsPart P (Listing X listed) → IsPart P (answer_to A X listed)
+AnswersFit P = (A : List Item) (X : Range) (listed : List Item) → IsSet A → AllByRecursion IsItem A → length A ≤ 65536 →
+    IsPart P (Listing X listed) → IsPart P (answer_to A X listed)
 
 -- the whole messages of a stream have a spelling
 abbrev pub HeardAreMessages : {F : Type 0} → Profile F → Type 0
@@ -69,4 +73,5 @@ HeardAreMessages P = (bytes : List ℕ) → IsBytes bytes → AllByRecursion (Is
 
 -- a session's text spells its messages
 abbrev pub SessionsAreHeard : {F : Type 0} → Profile F → Type 0
-SessionsAreHeard {F} P = (Ms : List (Message F)) → AllByRecursion (IsMessage P) Ms → messages_in P (session_text P Ms) ≡ Ms
+SessionsAreHeard {F} P =
+    (Ms : List (Message F)) → AllByRecursion (IsMessage P) Ms → messages_in P (session_text P Ms) ≡ Ms

@@ -4,11 +4,14 @@
 
 ghost use Rattle.std.specs.Prelude.{ℕ, List, ◌<◌, ◌↔◌, slice_index};
 ghost use Rattle.definitions.specs.Items.{IsBytes, IsItem, IsLower, IsUpper};
-ghost use Rattle.definitions.specs.Wire.{Profile, IsProfile, short_text, upper_text, count_text, two_lane_profile, counted_profile};
+ghost use Rattle.definitions.specs.Wire.{Profile, IsProfile, short_text, upper_text, count_text, two_lane_profile};
+ghost use Rattle.definitions.specs.Wire.{counted_profile};
 ghost use Rattle.definitions.specs.Faults.{NoLower, NoUpper, NoItem, IsCount, Stops};
 ghost use Rattle.definitions.specs.Reading.{lower_at, upper_at, text_at, number_at};
-ghost use Rattle.codec_laws.specs.Codec.{FieldIsExact, BodyIsExact, NextIsExact, MessageIsExact, SpellingsStandAlone, FeedIsExact};
-ghost use Rattle.codec_laws.specs.Parts.{ItemsFaultIsExact, PartFaultIsExact, MarksComeBack, PaddingIsLast, FeedsJoin, FeedsRest, HeardAreMessages, SessionsAreHeard, SetsFit, AnswersFit};
+ghost use Rattle.codec_laws.specs.Codec.{FieldIsExact, BodyIsExact, NextIsExact, MessageIsExact, SpellingsStandAlone};
+ghost use Rattle.codec_laws.specs.Codec.{FeedIsExact};
+ghost use Rattle.codec_laws.specs.Parts.{ItemsFaultIsExact, PartFaultIsExact, MarksComeBack, PaddingIsLast, FeedsJoin};
+ghost use Rattle.codec_laws.specs.Parts.{FeedsRest, HeardAreMessages, SessionsAreHeard, SetsFit, AnswersFit};
 
 /// Numbers are bytes exactly if each that is read from them is below 256.
 /// docs/LAWS.md: *Marks*.

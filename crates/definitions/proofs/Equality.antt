@@ -33,4 +33,5 @@ same_range-eq X Y h =
     λ i. record { lower = lower i; upper = upper i }
 
 pub same_range-itself : (X : Range) → same_range X X ≡ true
-same_range-itself X = and_from (same_item X.lower X.lower) (same_upper X.upper X.upper) (same_item-itself X.lower) (same_upper-itself X.upper)
+same_range-itself X = and_from (same_item X.lower X.lower) (same_upper X.upper X.upper) (same_item-itself X.lower)
+    (same_upper-itself X.upper)

@@ -1,5 +1,6 @@
 -- The items of a range stand next to each other in a set.
-use Rattle.std.proofs.Common.{◌≡◌, ℕ, zero, suc, Bool, true, false, cond, not, ◌&&◌, List, [], ◌∷◌, get_or, take, drop, filter, Option, Some, None, refl, ap, arith, inl, inr}
+use Rattle.std.proofs.Common.{◌≡◌, ℕ, zero, suc, Bool, true, false, cond, not, ◌&&◌, List, [], ◌∷◌, get_or, take, drop}
+use Rattle.std.proofs.Common.{filter, Option, Some, None, refl, ap, arith, inl, inr}
 use Rattle.std.specs.Ordering.{is_lt}
 use Rattle.std.specs.declared.cmp.Ordering.{Ordering}
 use Rattle.std.specs.declared.cmp.Ordering.TheVariants.{Less, Equal, Greater}
@@ -15,24 +16,35 @@ abbrev pub PassFirst : {X : Type 0} → (X → Bool) → List X → ℕ → Type
 PassFirst p xs i = IsPartitionPoint (λ y. p y ≡ true) (λ y. p y ≡ false) xs i
 
 pub later : {X : Type 0} (p : X → Bool) (x : X) (xs : List X) (i : ℕ) → PassFirst p (x ∷ xs) (suc i) → PassFirst p xs i
-later p x xs i parted = ((λ k d low high. parted.0 (suc k) d (omega arith) (omega arith)), (λ k d low high. parted.1 (suc k) d (omega arith) (omega arith)))
+later p x xs i parted = (
+  (λ k d low high. parted.0 (suc k) d (omega arith) (omega arith)),
+  (λ k d low high. parted.1 (suc k) d (omega arith) (omega arith)),
+)
 
 none_later : {X : Type 0} (p : X → Bool) (x : X) (xs : List X) → PassFirst p (x ∷ xs) zero → PassFirst p xs zero
-none_later p x xs parted = ((λ k d low high. absurd (omega arith)), (λ k d low high. parted.1 (suc k) d (omega arith) (omega arith)))
+none_later p x xs parted =
+    ((λ k d low high. absurd (omega arith)), (λ k d low high. parted.1 (suc k) d (omega arith) (omega arith)))
 
 pub filter_is_front : {X : Type 0} (p : X → Bool) (xs : List X) (i : ℕ) → PassFirst p xs i → filter p xs ≡ take i xs
 filter_is_front p [] zero parted = refl
 filter_is_front p [] (suc i) parted = refl
-filter_is_front p (x ∷ xs) zero parted = rw (parted.1 zero x (omega arith) (omega arith)) (filter_is_front p xs zero (none_later p x xs parted))
-filter_is_front p (x ∷ xs) (suc i) parted = rw (parted.0 zero x (omega arith) (omega arith)) (ap (λ ys. x ∷ ys) (filter_is_front p xs i (later p x xs i parted)))
+filter_is_front p (x ∷ xs) zero parted =
+    rw (parted.1 zero x (omega arith) (omega arith)) (filter_is_front p xs zero (none_later p x xs parted))
+filter_is_front p (x ∷ xs) (suc i) parted = rw (parted.0 zero x (omega arith) (omega arith))
+    (ap (λ ys. x ∷ ys) (filter_is_front p xs i (later p x xs i parted)))
 
-pub filter_is_back : {X : Type 0} (p : X → Bool) (xs : List X) (i : ℕ) → PassFirst p xs i → filter (λ y. not (p y)) xs ≡ drop i xs
+pub filter_is_back : {X : Type 0} (p : X → Bool) (xs : List X) (i : ℕ) → PassFirst p xs i →
+    filter (λ y. not (p y)) xs ≡ drop i xs
 filter_is_back p [] zero parted = refl
 filter_is_back p [] (suc i) parted = refl
-filter_is_back p (x ∷ xs) zero parted = rw (parted.1 zero x (omega arith) (omega arith)) (ap (λ ys. x ∷ ys) (filter_is_back p xs zero (none_later p x xs parted)))
-filter_is_back p (x ∷ xs) (suc i) parted = rw (parted.0 zero x (omega arith) (omega arith)) (filter_is_back p xs i (later p x xs i parted))
+filter_is_back p (x ∷ xs) zero parted = rw (parted.1 zero x (omega arith) (omega arith))
+    (ap (λ ys. x ∷ ys) (filter_is_back p xs zero (none_later p x xs parted)))
+filter_is_back p (x ∷ xs) (suc i) parted =
+    rw (parted.0 zero x (omega arith) (omega arith)) (filter_is_back p xs i (later p x xs i parted))
 
-twice_step : {X : Type 0} (p q : X → Bool) (x : X) (xs : List X) (b : Bool) → p x ≡ b → filter q (filter p xs) ≡ filter (λ y. p y && q y) xs → filter q (filter p (x ∷ xs)) ≡ filter (λ y. p y && q y) (x ∷ xs)
+twice_step : {X : Type 0} (p q : X → Bool) (x : X) (xs : List X) (b : Bool) →
+    p x ≡ b → filter q (filter p xs) ≡ filter (λ y. p y && q y) xs →
+    filter q (filter p (x ∷ xs)) ≡ filter (λ y. p y && q y) (x ∷ xs)
 twice_step p q x xs true e rest = rw e (ap (λ ys. cond (q x) (x ∷ ys) ys) rest)
 twice_step p q x xs false e rest = rw e rest
 
@@ -50,7 +62,8 @@ pub parted_below : (A : List Item) (x : List ℕ) → IsSet A → IsPartitionedB
 parted_below A x rises i j d le lt e =
     elim (cases_order i j) [
       | inl same ↦ rw same e
-      | inr (inl below) ↦ ap is_lt (nat_list_cmp_total.trans (get_or A i d) (get_or A j d) x (Less-from_sorted item_cmp A i j d rises below lt) (less_of _ e))
+      | inr (inl below) ↦ ap is_lt (nat_list_cmp_total.trans (get_or A i d) (get_or A j d) x
+          (Less-from_sorted item_cmp A i j d rises below lt) (less_of _ e))
       | inr (inr other) ↦ absurd (omega arith)
     ]
 

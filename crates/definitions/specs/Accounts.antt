@@ -1,11 +1,12 @@
--- What each outcome of a session tells, by what is seen from outside: who spoke, what was read and written, and how many
--- messages were written whole.
+-- What each outcome of a session tells, by what is seen from outside: who spoke, what was read and written, and how
+-- many messages were written whole.
 --     Role, speaker_of S role P              which side speaks first
 --     Call F                                 what is seen of one session
 --     called_for S P c, said S P c k         what the bytes read call for, and the text of the first k messages of it
 --     IsEnded, IsRefused, IsMemory, IsPeerRefused, IsIo      what the outcome tells, each with k messages written
 --     IsFew S P c bound limit                whatever was read, few messages are called for, and their lists are short
-use Rattle.std.specs.Prelude.{◌≡◌, ℕ, ◌+◌, ◌≤◌, ◌<◌, ◌^◌, ◌⊎◌, Bool, List, ◌++◌, length, Option, Some, slice_get, IsTrue, IsFalse}
+use Rattle.std.specs.Prelude.{◌≡◌, ℕ, ◌+◌, ◌≤◌, ◌<◌, ◌^◌, ◌⊎◌, Bool, List, ◌++◌, length, Option, Some, slice_get}
+use Rattle.std.specs.Prelude.{IsTrue, IsFalse}
 use Rattle.std.specs.List.{AllByRecursion}
 use Rattle.definitions.specs.Fingerprints.{Summary}
 use Rattle.definitions.specs.Messages.{Message}
@@ -88,7 +89,8 @@ pub record BrokeOff {F : Type 0} (S : Summary F) (P : Profile F) (c : Call F) (k
 -- ---- the outcomes
 
 -- the session is over, and what it taught is told
-pub record IsEnded {F : Type 0} (S : Summary F) (P : Profile F) (c : Call F) (k : ℕ) (learned : Knowledge) (version : ℕ) : Type 0 where
+pub record IsEnded {F : Type 0} (S : Summary F) (P : Profile F) (c : Call F) (k : ℕ) (learned : Knowledge)
+    (version : ℕ) : Type 0 where
   pub wrote : WroteAll S P c k
   pub over : IsTrue (is_over (session_of S P c).stage)
   pub learned_is : learned ≡ (session_of S P c).learned

@@ -2,7 +2,8 @@
 --     climb_to T n         the steps below n, or the first count up to n that is cut into fewer than two parts
 --     find_steps T         the same as found T
 --     check_by_steps T     the same as check_fault T
-use Rattle.std.specs.Prelude.{ℕ, zero, suc, ◌+◌, ◌&&◌, List, [], ◌∷◌, ◌++◌, length, max, nat_lt, slice_index, if◌then◌else◌, Option, Some, None, option_map, Result, Ok, Err}
+use Rattle.std.specs.Prelude.{ℕ, zero, suc, ◌+◌, ◌&&◌, List, [], ◌∷◌, ◌++◌, length, max, nat_lt, slice_index}
+use Rattle.std.specs.Prelude.{if◌then◌else◌, Option, Some, None, option_map, Result, Ok, Err}
 use Rattle.std.specs.Option.{option_or}
 use Rattle.definitions.specs.Strategies.{Table, shares}
 use Rattle.definitions.specs.Ranks.{rank_by, is_stuck, first_long, CheckFault, List_too_long, No_descent, Too_deep}
@@ -40,7 +41,8 @@ find_steps T = climbing_end T.cap (climb_to T T.cap)
 -- the first count whose rank exceeds the rounds is the one after entry number rounds
 abbrev pub deep_by_steps : ℕ → ℕ → List ℕ → Option CheckFault
 deep_by_steps cap rounds steps =
-    if nat_lt rounds (length steps) && nat_lt (slice_index steps rounds) cap then Some (Too_deep (slice_index steps rounds + 1) (rounds + 1)) else None
+    if nat_lt rounds (length steps) && nat_lt (slice_index steps rounds) cap
+    then Some (Too_deep (slice_index steps rounds + 1) (rounds + 1)) else None
 
 abbrev pub after_find : Table → Result (List ℕ) ℕ → Option CheckFault
 after_find T (Err n) = Some (No_descent n)

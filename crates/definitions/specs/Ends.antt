@@ -4,8 +4,10 @@
 --     answer S e M, after S e M       what the end answers to M, and the end behind that
 --     heard S e Ms                    the end behind these messages
 --     is_over s                       whether the session is over
---     initiator_at S I R k, responder_at S I R k      the two ends of a talk, which heard their share of its first k messages
-use Rattle.std.specs.Prelude.{ℕ, ◌+◌, nat_le, length, Bool, true, false, List, [], Option, Some, None, fold, if◌then◌else◌}
+--     initiator_at S I R k, responder_at S I R k      the two ends of a talk, which heard their share of its first k
+--                                                     messages
+use Rattle.std.specs.Prelude.{ℕ, ◌+◌, nat_le, length, Bool, true, false, List, [], Option, Some, None, fold}
+use Rattle.std.specs.Prelude.{if◌then◌else◌}
 use Rattle.definitions.specs.Fingerprints.{Summary}
 use Rattle.definitions.specs.Messages.{Message, has_open, open_parts, opening}
 use Rattle.definitions.specs.Replies.{Peer, reply}

@@ -3,7 +3,8 @@
 --     Lanes, IsLanes f, two_lanes    the two-lane sum over SHA-256
 --     join_lanes f g             the fingerprint of two sets together
 --     Counted, counted_lanes     the same, with the count of items beside it
-use Rattle.std.specs.Prelude.{◌≡◌, ℕ, ◌+◌, ◌%◌, ◌<◌, ◌^◌, Bool, ◌&&◌, ◌==◌, ◌↔◌, List, length, take, drop, sum_by, IsTrue}
+use Rattle.std.specs.Prelude.{◌≡◌, ℕ, ◌+◌, ◌%◌, ◌<◌, ◌^◌, Bool, ◌&&◌, ◌==◌, ◌↔◌, List, length, take, drop, sum_by}
+use Rattle.std.specs.Prelude.{IsTrue}
 use Rattle.std.specs.Int.{w128, from_be_bytes}
 use Rattle.sha2.specs.Sha256.{sha256}
 use Rattle.definitions.specs.Items.{Item}

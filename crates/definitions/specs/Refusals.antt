@@ -7,7 +7,8 @@ use Rattle.std.specs.Prelude.{ℕ}
 abbrev pub bad_hello : ℕ
 bad_hello = 1
 
--- a frame's length is 0 or above the limit, or its body ends before a field does; a part's body would be above the limit
+-- a frame's length is 0 or above the limit, or its body ends before a field does; a part's body would be above the
+-- limit
 abbrev pub frame_length : ℕ
 frame_length = 2
 

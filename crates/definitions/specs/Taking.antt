@@ -12,7 +12,8 @@ use Rattle.definitions.specs.Replies.{reply_to}
 use Rattle.definitions.specs.Placing.{Place, First, Refused, next, finish, refusal, behind}
 use Rattle.definitions.specs.Talks.{Knowledge, nothing, and_then, learn}
 use Rattle.definitions.specs.Refusals.{too_many_parts, spent}
-use Rattle.definitions.specs.Ends.{Stage, Fresh, Waits, Over, Spent, End, own_of, is_sendable, Answer, Replies, Ends, Refuses, stage_behind}
+use Rattle.definitions.specs.Ends.{Stage, Fresh, Waits, Over, Spent, End, own_of, is_sendable, Answer, Replies, Ends}
+use Rattle.definitions.specs.Ends.{Refuses, stage_behind}
 
 -- what an end keeps of the parts of a message that has not ended
 pub record Taken (F : Type 0) : Type 0 where
@@ -65,7 +66,8 @@ ended t = ended_unless t (finish t.place)
 
 -- what was learned counts from now on; a refusal leaves nothing learned
 abbrev pub after_ended : {F : Type 0} → End F → Taken F → Answer F → End F
-after_ended e t (Replies N) = record e { stage = stage_behind N; sent = e.sent + 1; learned = and_then e.learned t.learned }
+after_ended e t (Replies N) =
+    record e { stage = stage_behind N; sent = e.sent + 1; learned = and_then e.learned t.learned }
 after_ended e t Ends = record e { stage = Over; learned = and_then e.learned t.learned }
 after_ended e t (Refuses code) = record e { stage = Spent; learned = nothing }
 

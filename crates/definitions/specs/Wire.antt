@@ -2,10 +2,14 @@
 --     Profile F, two_lane_profile, counted_profile      what differs between profiles
 --     part_text P p, message_text P M, session_text P Ms, fault_text code      the one spelling
 --     IsPart P p, IsMessage P M, Spells P M bytes       what has a spelling
---     Event F, event_text P e                           what a frame's body says: a part, the end of a message or a fault
---     Input, HasEvent P input e, Says P input bytes e   which events may come where one message is read, and which in a stream
---     IsProfile P                                       four bytes of hello, and each fingerprint's bytes have one reading
-use Rattle.std.specs.Prelude.{◌≡◌, ℕ, ◌+◌, ◌*◌, ◌/◌, ◌<◌, ◌≤◌, ◌^◌, Bool, List, [], ◌∷◌, ◌++◌, length, map, take, drop, flat_map, Option, Some, None, IsTrue, if◌then◌else◌, ⊤}
+--     Event F, event_text P e                           what a frame's body says: a part, the end of a message or a
+--                                                       fault
+--     Input, HasEvent P input e, Says P input bytes e   which events may come where one message is read, and which in a
+--                                                       stream
+--     IsProfile P                                       four bytes of hello, and each fingerprint's bytes have one
+--                                                       reading
+use Rattle.std.specs.Prelude.{◌≡◌, ℕ, ◌+◌, ◌*◌, ◌/◌, ◌<◌, ◌≤◌, ◌^◌, Bool, List, [], ◌∷◌, ◌++◌, length, map, take, drop}
+use Rattle.std.specs.Prelude.{flat_map, Option, Some, None, IsTrue, if◌then◌else◌, ⊤}
 use Rattle.std.specs.List.{AllByRecursion, range_with_len}
 use Rattle.std.specs.Int.{w32, w128, to_be_bytes, from_be_bytes}
 use Rattle.definitions.specs.Items.{IsBytes, Item, IsItem, Range, IsRange, contains}

@@ -19,7 +19,8 @@ drop-fits zero bs fit = fit
 drop-fits (suc k) [] fit = tt
 drop-fits (suc k) (b ∷ bs) fit = drop-fits k bs fit.1
 
-pub lanes_fit : ((bs : List ℕ) → IsBytes bs → (i : ℕ) → get_or bs i 0 < 256) → (bytes : List ℕ) → IsBytes bytes → IsLanes (lanes_read bytes)
+pub lanes_fit : ((bs : List ℕ) → IsBytes bs → (i : ℕ) → get_or bs i 0 < 256) → (bytes : List ℕ) → IsBytes bytes →
+    IsLanes (lanes_read bytes)
 lanes_fit reads bytes fit = record {
   first_fits = number_fits (take 16 bytes) (reads (take 16 bytes) (take-fits 16 bytes fit));
   second_fits = number_fits (drop 16 bytes) (reads (drop 16 bytes) (drop-fits 16 bytes fit));
@@ -27,7 +28,8 @@ lanes_fit reads bytes fit = record {
 
 -- the two halves of 32 bytes, read one by one
 pub halves_back : (bytes : List ℕ) (a b : ℕ) → lanes_text (lanes_read bytes) ≡ bytes → length bytes ≡ 32 →
-    a ≡ from_be_bytes w128 (take 16 bytes) → b ≡ from_be_bytes w128 (take 16 (drop 16 bytes)) → lanes_text (record { first = a; second = b }) ≡ bytes
+    a ≡ from_be_bytes w128 (take 16 bytes) → b ≡ from_be_bytes w128 (take 16 (drop 16 bytes)) →
+    lanes_text (record { first = a; second = b }) ≡ bytes
 halves_back bytes a b back len front rest =
     let half : take 16 (drop 16 bytes) ≡ drop 16 bytes = rw len at (take_rest bytes 16) in
     let whole : b ≡ from_be_bytes w128 (drop 16 bytes) = rest ∙ ap (from_be_bytes w128) half in

@@ -22,7 +22,8 @@ sum_put : (f : Item → ℕ) (x y : Item) (ys : List Item) (o : Ordering) → o 
     sum_by f (add_item ys x) ≡ f x + sum_by f ys →
     sum_by f (match_ordering o (x ∷ y ∷ ys) (y ∷ ys) (y ∷ add_item ys x)) ≡ f x + sum_by f (y ∷ ys)
 sum_put f x y ys Less is differ rest = sum_by-cons f x (y ∷ ys)
-sum_put f x y ys Equal is differ rest = let same : is_eq (item_cmp x y) ≡ same_item x y = is_eq-slice_cmp x y in let other : is_eq (item_cmp x y) ≡ true = ap is_eq (sym is) in absurd (cc)
+sum_put f x y ys Equal is differ rest = let same : is_eq (item_cmp x y) ≡ same_item x y = is_eq-slice_cmp x y in
+    let other : is_eq (item_cmp x y) ≡ true = ap is_eq (sym is) in absurd (cc)
 sum_put f x y ys Greater is differ rest = omega (arith, rest, sum_by-cons f y (add_item ys x), sum_by-cons f y ys)
 
 sum_add_item : (f : Item → ℕ) (A : List Item) (x : Item) → has A x ≡ false → sum_by f (add_item A x) ≡ f x + sum_by f A
@@ -32,10 +33,12 @@ sum_add_item f (y ∷ ys) x lacks =
     sum_put f x y ys (item_cmp x y) refl parts.0 (sum_add_item f ys x parts.1)
 
 differ_flip : (x y : Item) (b : Bool) → b ≡ same_item y x → same_item x y ≡ false → b ≡ false
-differ_flip x y true is differ = let same : same_item x y ≡ true = (bytes_eq-Decides x y).1 (sym ((bytes_eq-Decides y x).0 (sym is))) in absurd (cc)
+differ_flip x y true is differ =
+    let same : same_item x y ≡ true = (bytes_eq-Decides x y).1 (sym ((bytes_eq-Decides y x).0 (sym is))) in absurd (cc)
 differ_flip x y false is differ = refl
 
-lacks_put : (x y z : Item) (zs : List Item) (o : Ordering) → same_item y x ≡ false → has (z ∷ zs) y ≡ false → has (add_item zs x) y ≡ false →
+lacks_put : (x y z : Item) (zs : List Item) (o : Ordering) → same_item y x ≡ false → has (z ∷ zs) y ≡ false →
+    has (add_item zs x) y ≡ false →
     has (match_ordering o (x ∷ z ∷ zs) (z ∷ zs) (z ∷ add_item zs x)) y ≡ false
 lacks_put x y z zs Less differ lacks rest = rw differ lacks
 lacks_put x y z zs Equal differ lacks rest = lacks
@@ -44,23 +47,36 @@ lacks_put x y z zs Greater differ lacks rest = rw ((or_parts (same_item y z) (ha
 lacks_add_item : (A : List Item) (x y : Item) → same_item y x ≡ false → has A y ≡ false → has (add_item A x) y ≡ false
 lacks_add_item [] x y differ lacks = rw differ refl
 lacks_add_item (z ∷ zs) x y differ lacks =
-    lacks_put x y z zs (item_cmp x z) differ lacks (lacks_add_item zs x y differ (or_parts (same_item y z) (has zs y) lacks).1)
+    lacks_put x y z zs (item_cmp x z) differ lacks
+    (lacks_add_item zs x y differ (or_parts (same_item y z) (has zs y) lacks).1)
 
 lack_add_item : (A : List Item) (x : Item) (B : List Item) → AllByRecursion (λ y. eq_by_cmp item_cmp x y ≡ false) B →
     AllByRecursion (λ y. IsFalse (has A y)) B → AllByRecursion (λ y. IsFalse (has (add_item A x) y)) B
 lack_add_item A x [] differ lack = tt
-lack_add_item A x (y ∷ ys) differ lack =
-    (lacks_add_item A x y (differ_flip x y (same_item y x) refl (sym (is_eq-slice_cmp x y) ∙ differ.0)) lack.0, lack_add_item A x ys differ.1 lack.1)
+lack_add_item A x (y ∷ ys) differ lack = (
+  lacks_add_item A x y (differ_flip x y (same_item y x) refl (sym (is_eq-slice_cmp x y) ∙ differ.0)) lack.0,
+  lack_add_item A x ys differ.1 lack.1,
+)
 
-sum_union : (f : Item → ℕ) (A B : List Item) → IsDistinct (eq_by_cmp item_cmp) B → AllByRecursion (λ x. IsFalse (has A x)) B →
+sum_union : (f : Item → ℕ) (A B : List Item) → IsDistinct (eq_by_cmp item_cmp) B →
+    AllByRecursion (λ x. IsFalse (has A x)) B →
     sum_by f (union A B) ≡ sum_by f A + sum_by f B
 unfolding IsDistinct
 sum_union f A [] distinct lack = search rules
 sum_union f A (x ∷ xs) distinct lack =
-    omega (arith, sum_union f (add_item A x) xs distinct.1 (lack_add_item A x xs distinct.0 lack.1), sum_add_item f A x lack.0, sum_by-cons f x xs)
+    omega (
+      arith,
+      sum_union f (add_item A x) xs distinct.1 (lack_add_item A x xs distinct.0 lack.1),
+      sum_add_item f A x lack.0,
+      sum_by-cons f x xs,
+    )
 
-pub new_item : (A : List Item) (x : Item) → IsFalse (has A x) → two_lanes.of (add_item A x) ≡ join_lanes (two_lanes.of (x ∷ [])) (two_lanes.of A)
-new_item A x lacks = joined_from_sums (x ∷ []) A (add_item A x) (λ f. omega (arith, sum_add_item f A x lacks, sum_by-cons f x []))
+pub new_item : (A : List Item) (x : Item) → IsFalse (has A x) →
+    two_lanes.of (add_item A x) ≡ join_lanes (two_lanes.of (x ∷ [])) (two_lanes.of A)
+new_item A x lacks =
+    joined_from_sums (x ∷ []) A (add_item A x) (λ f. omega (arith, sum_add_item f A x lacks, sum_by-cons f x []))
 
-pub disjoint : (A B : List Item) → IsSet B → AllByRecursion (λ x. IsFalse (has A x)) B → two_lanes.of (union A B) ≡ join_lanes (two_lanes.of A) (two_lanes.of B)
-disjoint A B set lack = joined_from_sums A B (union A B) (λ f. sum_union f A B (IsDistinct-from_sorted item_cmp B set) lack)
+pub disjoint : (A B : List Item) → IsSet B → AllByRecursion (λ x. IsFalse (has A x)) B →
+    two_lanes.of (union A B) ≡ join_lanes (two_lanes.of A) (two_lanes.of B)
+disjoint A B set lack =
+    joined_from_sums A B (union A B) (λ f. sum_union f A B (IsDistinct-from_sorted item_cmp B set) lack)

@@ -14,9 +14,11 @@ pub add_mod : (m a b : ℕ) → (a + b) % m ≡ (a % m + b % m) % m
 add_mod m a b = sym (mod-add-mod a m (b % m) ∙ add-mod-mod a b m)
 
 -- where each sum over C is the sum of those over A and B, so is the fingerprint
-pub joined_from_sums : (A B C : List Item) → ((f : Item → ℕ) → sum_by f C ≡ sum_by f A + sum_by f B) → two_lanes.of C ≡ join_lanes (two_lanes.of A) (two_lanes.of B)
+pub joined_from_sums : (A B C : List Item) → ((f : Item → ℕ) → sum_by f C ≡ sum_by f A + sum_by f B) →
+    two_lanes.of C ≡ join_lanes (two_lanes.of A) (two_lanes.of B)
 joined_from_sums A B C sums =
-    let lane : (f : Item → ℕ) → sum_by f C % 2 ^ 128 ≡ (sum_by f A % 2 ^ 128 + sum_by f B % 2 ^ 128) % 2 ^ 128 = λ f. ap (λ n. n % 2 ^ 128) (sums f) ∙ add_mod (2 ^ 128) (sum_by f A) (sum_by f B) in
+    let lane : (f : Item → ℕ) → sum_by f C % 2 ^ 128 ≡ (sum_by f A % 2 ^ 128 + sum_by f B % 2 ^ 128) % 2 ^ 128 =
+    λ f. ap (λ n. n % 2 ^ 128) (sums f) ∙ add_mod (2 ^ 128) (sum_by f A) (sum_by f B) in
     λ i. record {
       first = lane (λ x. from_be_bytes w128 (take 16 (sha256 x))) i;
       second = lane (λ x. from_be_bytes w128 (drop 16 (sha256 x))) i;

@@ -1,19 +1,22 @@
 -- Parts that are taken one after another, up to the first that is refused.
-use Rattle.std.proofs.Common.{◌≡◌, ℕ, ◌+◌, ◌<◌, ◌≤◌, true, false, Bool, [], ◌∷◌, ◌++◌, length, get_or, take, drop, Option, Some, None, IfSome, IfNone, refl, sym, ap, ◌∙◌, subst}
+use Rattle.std.proofs.Common.{◌≡◌, ℕ, ◌+◌, ◌<◌, ◌≤◌, true, false, Bool, [], ◌∷◌, ◌++◌, length, get_or, take, drop}
+use Rattle.std.proofs.Common.{Option, Some, None, IfSome, IfNone, refl, sym, ap, ◌∙◌, subst}
 use Rattle.std.specs.Prelude.{fold, if◌then◌else◌, Err}
 use Rattle.std.proofs.lemmas.List.{drop_more, drop_all, take_more, take_all}
 use Rattle.definitions.proofs.Lemmas.{fold-append}
 use Rattle.definitions.specs.Fingerprints.{Summary}
 use Rattle.definitions.specs.Messages.{Part, Message}
 use Rattle.definitions.specs.Placing.{Refused, next, finish, refusal}
-use Rattle.definitions.specs.Ends.{Stage, Fresh, Waits, Over, Spent, Answer, Replies, Ends, Refuses, after, after_answer, answer, answer_unless, stage_fault, is_live}
+use Rattle.definitions.specs.Ends.{Stage, Fresh, Waits, Over, Spent, Answer, Replies, Ends, Refuses, after}
+use Rattle.definitions.specs.Ends.{after_answer, answer, answer_unless, stage_fault, is_live}
 use Rattle.definitions.specs.Refusals.{spent}
 use Rattle.definitions.specs.Talks.{nothing}
 use Rattle.laws.specs.Taking.{PartsAreTaken}
 use Rattle.definitions.specs.Taking.{Taken, taken, taken_all, ended, ended_unless, after_ended, by_parts, refuses_or}
 use Rattle.ends_core.specs.Drafts.{Drafted}
 use Rattle.ends_core.specs.Held.{Held, HasNone, IsAble, stage_of, taken_of}
-use Rattle.ends_core.specs.Turns.{told_in, refusal_of, behind, behind_part, behind_parts, behind_end, behind_message, fresh, spend}
+use Rattle.ends_core.specs.Turns.{told_in, refusal_of, behind, behind_part, behind_parts, behind_end, behind_message}
+use Rattle.ends_core.specs.Turns.{fresh, spend}
 use Rattle.ends_core.specs.declared.turn.EndFault.{EndFault}
 use Rattle.ends_core.specs.declared.turn.EndFault.TheVariants as faults
 use Rattle.ends_core.specs.declared.stage.Stage as own

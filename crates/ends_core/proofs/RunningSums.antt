@@ -1,5 +1,6 @@
 -- The inner cuts of sizes are their running sums: they rise, and are below the sum of all.
-use Rattle.std.proofs.Common.{◌≡◌, ℕ, zero, suc, ◌+◌, ◌-◌, ◌<◌, ◌≤◌, List, [], ◌∷◌, ◌++◌, length, take, sum, get_or, refl, sym, ap, ◌∙◌, arith, take_all}
+use Rattle.std.proofs.Common.{◌≡◌, ℕ, zero, suc, ◌+◌, ◌-◌, ◌<◌, ◌≤◌, List, [], ◌∷◌, ◌++◌, length, take, sum, get_or}
+use Rattle.std.proofs.Common.{refl, sym, ap, ◌∙◌, arith, take_all}
 use Rattle.std.proofs.lemmas.List.{take_more}
 use Rattle.std.specs.List.{AllByRecursion}
 use Rattle.std.specs.List.Sorted.{IsStrictlySortedBy}
@@ -12,32 +13,45 @@ use Rattle.definitions.specs.Replies.{inner_cuts}
 sum-cons : (x : ℕ) (xs : List ℕ) → sum (x ∷ xs) ≡ x + sum xs
 sum-cons x xs = sum_by-cons (λ y. y) x xs
 
-all_above : (low start : ℕ) (sizes : List ℕ) → low ≤ start → AllByRecursion (λ s. 0 < s) sizes → AllByRecursion (λ y. nat_cmp low y ≡ Less) (inner_cuts start sizes)
+all_above : (low start : ℕ) (sizes : List ℕ) → low ≤ start → AllByRecursion (λ s. 0 < s) sizes →
+    AllByRecursion (λ y. nat_cmp low y ≡ Less) (inner_cuts start sizes)
 all_above low start [] le some = tt
 all_above low start (s ∷ []) le some = tt
-all_above low start (s ∷ t ∷ ss) le some = (sym (nat_cmp_is low (start + s) Less (omega (arith, some.0))), all_above low (start + s) (t ∷ ss) (omega arith) some.1)
+all_above low start (s ∷ t ∷ ss) le some = (
+  sym (nat_cmp_is low (start + s) Less (omega (arith, some.0))),
+  all_above low (start + s) (t ∷ ss) (omega arith) some.1,
+)
 
-pub cuts_rise : (start : ℕ) (sizes : List ℕ) → AllByRecursion (λ s. 0 < s) sizes → IsStrictlySortedBy nat_cmp (start ∷ inner_cuts start sizes)
+pub cuts_rise : (start : ℕ) (sizes : List ℕ) → AllByRecursion (λ s. 0 < s) sizes →
+    IsStrictlySortedBy nat_cmp (start ∷ inner_cuts start sizes)
 unfolding IsStrictlySortedBy
 cuts_rise start [] some = (tt, tt)
 cuts_rise start (s ∷ []) some = (tt, tt)
-cuts_rise start (s ∷ t ∷ ss) some = (all_above start start (s ∷ t ∷ ss) (omega arith) some, cuts_rise (start + s) (t ∷ ss) some.1)
+cuts_rise start (s ∷ t ∷ ss) some =
+    (all_above start start (s ∷ t ∷ ss) (omega arith) some, cuts_rise (start + s) (t ∷ ss) some.1)
 
 all_within : (m n : ℕ) (ys : List ℕ) → m ≤ n → AllByRecursion (λ y. y < m) ys → AllByRecursion (λ y. y < n) ys
 all_within m n [] le h = tt
 all_within m n (y ∷ ys) le h = (omega (arith, h.0), all_within m n ys le h.1)
 
-pub cuts_within : (start : ℕ) (sizes : List ℕ) → AllByRecursion (λ s. 0 < s) sizes → AllByRecursion (λ y. y < start + sum sizes) (inner_cuts start sizes)
+pub cuts_within : (start : ℕ) (sizes : List ℕ) → AllByRecursion (λ s. 0 < s) sizes →
+    AllByRecursion (λ y. y < start + sum sizes) (inner_cuts start sizes)
 cuts_within start [] some = tt
 cuts_within start (s ∷ []) some = tt
-cuts_within start (s ∷ t ∷ ss) some =
-    (omega (arith, some.1.0, sum-cons s (t ∷ ss), sum-cons t ss), all_within (start + s + sum (t ∷ ss)) (start + sum (s ∷ t ∷ ss)) (inner_cuts (start + s) (t ∷ ss)) (omega (arith, sum-cons s (t ∷ ss))) (cuts_within (start + s) (t ∷ ss) some.1))
+cuts_within start (s ∷ t ∷ ss) some = (
+  omega (arith, some.1.0, sum-cons s (t ∷ ss), sum-cons t ss),
+  all_within (start + s + sum (t ∷ ss)) (start + sum (s ∷ t ∷ ss)) (inner_cuts (start + s) (t ∷ ss))
+      (omega (arith, sum-cons s (t ∷ ss))) (cuts_within (start + s) (t ∷ ss) some.1),
+)
 
-pub cut_at : (start : ℕ) (sizes : List ℕ) (j d : ℕ) → suc j < length sizes → get_or (inner_cuts start sizes) j d ≡ start + sum (take (suc j) sizes)
+pub cut_at : (start : ℕ) (sizes : List ℕ) (j d : ℕ) → suc j < length sizes →
+    get_or (inner_cuts start sizes) j d ≡ start + sum (take (suc j) sizes)
 cut_at start [] j d low = absurd (omega arith)
 cut_at start (s ∷ []) j d low = absurd (omega arith)
 cut_at start (s ∷ t ∷ ss) zero d low = omega (arith, sum-cons s [])
-cut_at start (s ∷ t ∷ ss) (suc j) d low = let rest : get_or (inner_cuts start (s ∷ t ∷ ss)) (suc j) d ≡ start + s + sum (take (suc j) (t ∷ ss)) = cut_at (start + s) (t ∷ ss) j d (omega arith) in
+cut_at start (s ∷ t ∷ ss) (suc j) d low =
+    let rest : get_or (inner_cuts start (s ∷ t ∷ ss)) (suc j) d ≡ start + s + sum (take (suc j) (t ∷ ss)) =
+    cut_at (start + s) (t ∷ ss) j d (omega arith) in
     omega (arith, sum-cons s (take (suc j) (t ∷ ss)))
 
 pub length-inner_cuts : (start : ℕ) (sizes : List ℕ) → length (inner_cuts start sizes) ≡ length sizes - 1
@@ -46,7 +60,8 @@ length-inner_cuts start (s ∷ []) = refl
 length-inner_cuts start (s ∷ t ∷ ss) = omega (arith, length-inner_cuts (start + s) (t ∷ ss))
 
 -- one cut more
-pub cuts_more : (sizes : List ℕ) (j : ℕ) → 1 ≤ j → j < length sizes → take (j - 1) (inner_cuts 0 sizes) ++ sum (take j sizes) ∷ [] ≡ take (j + 1 - 1) (inner_cuts 0 sizes)
+pub cuts_more : (sizes : List ℕ) (j : ℕ) → 1 ≤ j → j < length sizes →
+    take (j - 1) (inner_cuts 0 sizes) ++ sum (take j sizes) ∷ [] ≡ take (j + 1 - 1) (inner_cuts 0 sizes)
 cuts_more sizes zero some low = absurd (omega arith)
 cuts_more sizes (suc i) some low =
     let cuts = inner_cuts 0 sizes in

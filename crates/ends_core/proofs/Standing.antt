@@ -1,5 +1,6 @@
 -- What holds of an end, since it is what some messages made of one at its start.
-use Rattle.std.proofs.Common.{◌≡◌, ℕ, ◌≤◌, ◌<◌, ◌+◌, Bool, true, false, refl, List, [], ◌∷◌, ◌++◌, length, sym, ap, ◌∙◌, subst, slice_index, Option, Some, None, IfSome, IfNone, arith}
+use Rattle.std.proofs.Common.{◌≡◌, ℕ, ◌≤◌, ◌<◌, ◌+◌, Bool, true, false, refl, List, [], ◌∷◌, ◌++◌, length, sym, ap, ◌∙◌}
+use Rattle.std.proofs.Common.{subst, slice_index, Option, Some, None, IfSome, IfNone, arith}
 use Rattle.std.specs.List.{AllByRecursion}
 use Rattle.definitions.proofs.Lemmas.{All-append, fold-append}
 use Rattle.std.specs.Prelude.{fold, if◌then◌else◌}
@@ -8,7 +9,8 @@ use Rattle.definitions.specs.Messages.{Part, Message}
 use Rattle.definitions.specs.Ranks.{ranks_by, rank_by}
 use Rattle.definitions.specs.Replies.{Peer}
 use Rattle.definitions.specs.Wire.{Profile, IsPart}
-use Rattle.definitions.specs.Ends.{End, Stage, Fresh, Waits, Over, Spent, Answer, Replies, Ends, Refuses, after, after_answer, answer, answer_unless, stage_fault, heard, is_live}
+use Rattle.definitions.specs.Ends.{End, Stage, Fresh, Waits, Over, Spent, Answer, Replies, Ends, Refuses, after}
+use Rattle.definitions.specs.Ends.{after_answer, answer, answer_unless, stage_fault, heard, is_live}
 use Rattle.definitions.specs.Placing.{Place, First, Behind, Refused, next, finish, refusal}
 use Rattle.definitions.specs.Refusals.{spent}
 use Rattle.definitions.specs.Taking.{nothing_taken, taken, taken_all, ended, ended_unless, after_ended, by_parts}

@@ -1,5 +1,7 @@
--- What a placed part tells is what is learned from it: the list that an Answer answers is the first that was open there.
-use Rattle.std.proofs.Common.{◌≡◌, ℕ, zero, suc, Bool, true, false, List, [], ◌∷◌, drop, refl, sym, ap, ◌∙◌, subst, append-nil}
+-- What a placed part tells is what is learned from it: the list that an Answer answers is the first that was open
+-- there.
+use Rattle.std.proofs.Common.{◌≡◌, ℕ, zero, suc, Bool, true, false, List, [], ◌∷◌, drop, refl, sym, ap, ◌∙◌, subst}
+use Rattle.std.proofs.Common.{append-nil}
 use Rattle.std.specs.Prelude.{if◌then◌else◌, Some, None, not, ◌==◌, length, IsFalse, ⊤}
 use Rattle.std.specs.List.{AllByRecursion, list_any, items_where_true}
 use Rattle.std.proofs.lemmas.Bool.{false≢true}

@@ -1,4 +1,5 @@
--- What an end's type shows: the staircase of its ranks, the end as the definitions have it, and what it took of a message.
+-- What an end's type shows: the staircase of its ranks, the end as the definitions have it, and what it took of a
+-- message.
 --     Held, HasNone h           an end, and that it has taken no part of a message
 --     stage_at x, stage_of s     a stage as the definitions have it
 --     taken_of s d               what was taken

@@ -14,7 +14,8 @@ use Rattle.definitions.specs.Theorems.{IsShort}
 use Rattle.definitions.specs.Messages.{Part, Message, IsOpening}
 use Rattle.definitions.specs.Placing.{Placed}
 use Rattle.definitions.specs.Talks.{nothing}
-use Rattle.definitions.specs.Ends.{End, Stage, Fresh, Waits, Over, Spent, Answer, Replies, Ends, Refuses, after, is_live}
+use Rattle.definitions.specs.Ends.{End, Stage, Fresh, Waits, Over, Spent, Answer, Replies, Ends, Refuses, after}
+use Rattle.definitions.specs.Ends.{is_live}
 use Rattle.definitions.specs.Taking.{taken, nothing_taken, after_ended}
 use Rattle.definitions.specs.Refusals as codes
 use Rattle.place_core.specs.PlaceFaults.{place_fault_number}

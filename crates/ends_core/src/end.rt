@@ -9,7 +9,8 @@ ghost use Rattle.definitions.specs.Ends.{is_live, is_over};
 ghost use Rattle.definitions.specs.Taking.{taken, ended, by_parts};
 ghost use Rattle.ends_core.specs.Held.{IsAble, stage_of, taken_of};
 ghost use Rattle.ends_core.specs.Drafts.{nothing_drafted};
-ghost use Rattle.ends_core.specs.Turns.{answer_in, told_in, refusal_of, fresh, behind_part, behind_parts, behind_end, behind_message, refused, spend};
+ghost use Rattle.ends_core.specs.Turns.{answer_in, told_in, refusal_of, fresh, behind_part, behind_parts, behind_end};
+ghost use Rattle.ends_core.specs.Turns.{behind_message, refused, spend};
 ghost use Rattle.ends_core.specs.Closing.{IsClosed};
 ghost use Rattle.definitions.specs.Refusals.{spent};
 ghost use Rattle.definitions.specs.Talks.{nothing};
@@ -200,7 +201,8 @@ impl<S: RangeStore, F: Summary> End<S, F> {
         }
     }
 
-    /// Where the session stands behind the end of the message. All growth but that of what was learned before is made here.
+    /// Where the session stands behind the end of the message. All growth but that of what was learned before is made
+    /// here.
     fn close(&self, alloc: Global) -> Result<Stage<F>, EndFault>
         ensures { IsClosed self.now result }
     {

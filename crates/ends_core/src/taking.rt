@@ -20,8 +20,8 @@ use store_core::RangeStore;
 use strategy_core::Strategy;
 use wire_core::Part;
 
-/// Places a part, and adds its reply and what it tells. Where memory runs out all is as before; where the part is refused
-/// the place keeps the refusal.
+/// Places a part, and adds its reply and what it tells. Where memory runs out all is as before; where the part is
+/// refused the place keeps the refusal.
 pub(crate) fn take_part<S: RangeStore, F: Summary>(
     alloc: Global,
     strategy: &Strategy,

@@ -2,7 +2,8 @@
 --     Watch T                    what is watched, whether it failed or ended, and how often it was read
 --     one_more reads             a read more is counted, up to the greatest number
 --     failed_read, ended_read, failed_write     what one call adds
-use Rattle.std.specs.Prelude.{ℕ, Bool, true, false, ◌&&◌, ◌==◌, List, length, nat_lt, ◌+◌, ◌-◌, ◌^◌, min, Result, Ok, Err}
+use Rattle.std.specs.Prelude.{ℕ, Bool, true, false, ◌&&◌, ◌==◌, List, length, nat_lt, ◌+◌, ◌-◌, ◌^◌, min, Result, Ok}
+use Rattle.std.specs.Prelude.{Err}
 
 pub record Watch (T : Type 0) : Type 0 where
   pub inner : T

@@ -7,8 +7,8 @@ use std::io;
 use std::io::{Read, Write};
 use std::marker::Model;
 
-/// A reader or a writer that passes each call on, and tells whether one failed, whether the input ended, and how often it
-/// was read.
+/// A reader or a writer that passes each call on, and tells whether one failed, whether the input ended, and how often
+/// it was read.
 #[derive(Debug, Drop)]
 pub struct Watched<T> {
     inner: T,

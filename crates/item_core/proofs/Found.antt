@@ -1,5 +1,6 @@
 -- What a binary search finds in a set.
-use Rattle.std.proofs.Common.{◌≡◌, ℕ, zero, suc, ◌+◌, ◌<◌, Bool, true, false, ◌||◌, List, [], ◌∷◌, length, get_or, Result, Ok, Err, inl, inr, refl, sym, ap, ◌∙◌, arith}
+use Rattle.std.proofs.Common.{◌≡◌, ℕ, zero, suc, ◌+◌, ◌<◌, Bool, true, false, ◌||◌, List, [], ◌∷◌, length, get_or}
+use Rattle.std.proofs.Common.{Result, Ok, Err, inl, inr, refl, sym, ap, ◌∙◌, arith}
 use Rattle.std.specs.Prelude.{is_ok}
 use Rattle.std.specs.Ordering.{is_lt, is_eq, ordering_index}
 use Rattle.std.specs.declared.cmp.Ordering.TheVariants.{Less, Greater}
@@ -16,7 +17,8 @@ use Rattle.definitions.proofs.Order.{before-asym}
 
 comparisons_rise : (A : List Item) (x : Item) → IsSet A → IsNonDecreasingBy (λ y. ordering_index (item_cmp y x)) A
 comparisons_rise A x set = searchable_from_sorted nat_list_cmp_total (λ y. y) A x (λ k d low high.
-    before-asym (get_or A k d) (get_or A (k + 1) d) (ap is_lt (Less-from_sorted item_cmp A k (k + 1) d set (omega arith) high)))
+    before-asym (get_or A k d) (get_or A (k + 1) d)
+    (ap is_lt (Less-from_sorted item_cmp A k (k + 1) d set (omega arith) high)))
 
 later_too : (a b : Bool) → b ≡ true → (a || b) ≡ true
 later_too true b e = refl
@@ -41,7 +43,8 @@ differs_above x y e =
     let below : item_cmp x y ≡ Less = rw (nat_list_cmp_total.antisymm x y, e) refl in
     sym (is_eq-slice_cmp x y) ∙ ap is_eq below
 
-pub found_is : (A : List Item) (x : Item) (r : Result ℕ ℕ) → IsSet A → IsSearchInRange r (length A) → IsBinarySearchResult (λ y. item_cmp y x) A r → is_ok r ≡ has A x
+pub found_is : (A : List Item) (x : Item) (r : Result ℕ ℕ) → IsSet A → IsSearchInRange r (length A) →
+    IsBinarySearchResult (λ y. item_cmp y x) A r → is_ok r ≡ has A x
 found_is A x (Ok i) set low at = sym (has_there A x i low (item_cmp-eq (get_or A i x) x (at x)))
 found_is A x (Err i) set low parts =
     let parted = parts (comparisons_rise A x set) in

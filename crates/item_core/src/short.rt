@@ -1,4 +1,5 @@
-ghost use Rattle.std.specs.Prelude.{◌≡◌, ℕ, ◌-◌, ◌≤◌, ◌++◌, length, replicate, SomeIff, nat_eq, refl, [], Some, IsSome, IfSome, ◌↔◌};
+ghost use Rattle.std.specs.Prelude.{◌≡◌, ℕ, ◌-◌, ◌≤◌, ◌++◌, length, replicate, SomeIff, nat_eq, refl, [], Some, IsSome};
+ghost use Rattle.std.specs.Prelude.{IfSome, ◌↔◌};
 ghost use Rattle.std.proofs.Common.{rules};
 ghost use Rattle.std.specs.Ordering.{nat_cmp};
 ghost use Rattle.std.specs.Cmp.{partial_equiv_from_equiv};
@@ -38,7 +39,8 @@ impl Model for Short {
     ghost inverse = { λ xs. record { bytes = xs ++ replicate (64 - len xs) 0; length = len xs } };
 
     ghost inverse_ok = { λ a h i. record {
-      bytes = (ap (λ n. take a.length a.bytes ++ replicate (64 - n) 0) (length-take-le a.length a.bytes (omega (arith, h.0, h.1))) ∙ sym h.2) i;
+      bytes = (ap (λ n. take a.length a.bytes ++ replicate (64 - n) 0)
+          (length-take-le a.length a.bytes (omega (arith, h.0, h.1))) ∙ sym h.2) i;
       length = length-take-le a.length a.bytes (omega (arith, h.0, h.1)) i;
     } };
 }

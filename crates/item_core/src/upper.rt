@@ -1,4 +1,5 @@
-ghost use Rattle.std.specs.Prelude.{◌≡◌, ◌<◌, ◌≤◌, ◌↔◌, length, IfOk, IsOk, Err, Some, option_map, IfSome, IsSome, IfNone};
+ghost use Rattle.std.specs.Prelude.{◌≡◌, ◌<◌, ◌≤◌, ◌↔◌, length, IfOk, IsOk, Err, Some, option_map, IfSome, IsSome};
+ghost use Rattle.std.specs.Prelude.{IfNone};
 ghost use Rattle.std.specs.Option.{option_copied};
 ghost use Rattle.definitions.specs.Items.{IsUpper, is_below};
 ghost use Rattle.item_core.specs.Bounds.{upper_value};

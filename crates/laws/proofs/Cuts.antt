@@ -9,11 +9,21 @@
 -- reply (`reply-own`, `reply-other`), and a message whose Sums are under 0 gets a reply without open parts
 -- (`reply-no_sums`).
 -- docs/LAWS.md: A cut is exact; the ranks are those of Messages are few.
-use Rattle.std.proofs.Common.{take, ◌≡◌, ℕ, zero, suc, ◌<◌, ◌≤◌, Bool, true, false, not, ◌&&◌, List, [], ◌∷◌, ◌++◌, length, refl, ap, cond, get_or, drop, arith, Less, ◌+◌, map, Option, Some, sym, ◌∙◌, subst, sum, ◌-◌}
+use Rattle.std.proofs.Common.{take, ◌≡◌, ℕ, zero, suc, ◌<◌, ◌≤◌, Bool, true, false, not, ◌&&◌, List, [], ◌∷◌, ◌++◌}
+use Rattle.std.proofs.Common.{length, refl, ap, cond, get_or, drop, arith, Less, ◌+◌, map, Option, Some, sym, ◌∙◌}
+use Rattle.std.proofs.Common.{subst, sum, ◌-◌}
 use Rattle.std.specs.Prelude.{filter, ⊤, slice_index}
 use Rattle.std.specs.List.{flat_map}
-use Rattle.definitions.proofs.Words.{Rises, RangesRise, is_open, range_of, answer_to, talk_from, AllByRecursion, is_lt, Item, item_cmp, comes_before, Range, is_below, contains, ranges_between, IsSet, items_in, inner_cuts, cutup, Peer, sum_of, reply_to, reply, Table, act, shares, is_split, Summary, Part, Sum, Listing, Answer, Message, has_open, IsRankTable, Ready}
-use Rattle.definitions.proofs.Lemmas.{not-true, length-take-le, cond_both, sorted_head, sorted_tail, Less-from_sorted, and_parts, and_from, append-nil, length-drop, drop-drop, get_or-drop, sum_by-cons, length-filter, count_by-le-length, IsStrictlySortedBy-filter, before-irrefl, before-asym, not_before-trans, below-trans, upto-before, All-map, All-filter, All-at, All-append}
+use Rattle.definitions.proofs.Words.{Rises, RangesRise, is_open, range_of, answer_to, talk_from, AllByRecursion, is_lt}
+use Rattle.definitions.proofs.Words.{Item, item_cmp, comes_before, Range, is_below, contains, ranges_between, IsSet}
+use Rattle.definitions.proofs.Words.{items_in, inner_cuts, cutup, Peer, sum_of, reply_to, reply, Table, act, shares}
+use Rattle.definitions.proofs.Words.{is_split, Summary, Part, Sum, Listing, Answer, Message, has_open, IsRankTable}
+use Rattle.definitions.proofs.Words.{Ready}
+use Rattle.definitions.proofs.Lemmas.{not-true, length-take-le, cond_both, sorted_head, sorted_tail, Less-from_sorted}
+use Rattle.definitions.proofs.Lemmas.{and_parts, and_from, append-nil, length-drop, drop-drop, get_or-drop, sum_by-cons}
+use Rattle.definitions.proofs.Lemmas.{length-filter, count_by-le-length, IsStrictlySortedBy-filter, before-irrefl}
+use Rattle.definitions.proofs.Lemmas.{before-asym, not_before-trans, below-trans, upto-before, All-map, All-filter}
+use Rattle.definitions.proofs.Lemmas.{All-at, All-append}
 use Rattle.rank_laws.proofs.Tables.{sum-shares_by, shares_by-positive}
 use Rattle.laws.proofs.Times.{when}
 
@@ -30,7 +40,8 @@ filter-same p q h [] = refl
 filter-same p q h (x ∷ xs) = let e = h x in let ih = filter-same p q h xs in cc
 
 -- a wider test passes no fewer
-pub length-filter-le : {X : Type 0} (p q : X → Bool) → ((x : X) → p x ≡ true → q x ≡ true) → (xs : List X) → length (filter p xs) ≤ length (filter q xs)
+pub length-filter-le : {X : Type 0} (p q : X → Bool) → ((x : X) → p x ≡ true → q x ≡ true) → (xs : List X) →
+    length (filter p xs) ≤ length (filter q xs)
 length-filter-le p q h [] = omega arith
 length-filter-le p q h (x ∷ xs) = grind (arith, length-filter-le p q h xs)
 
@@ -49,31 +60,38 @@ before x y e = ap is_lt e
 
 -- the first s items of a set come before the one at place s, and the others do not
 pub sides_of_place : (B : List Item) (s : ℕ) → IsSet B → s < length B →
-    (filter (λ z. comes_before z (get_or B s [])) B ≡ take s B) × (filter (λ z. not (comes_before z (get_or B s []))) B ≡ drop s B)
+    (filter (λ z. comes_before z (get_or B s [])) B ≡ take s B)
+    × (filter (λ z. not (comes_before z (get_or B s []))) B ≡ drop s B)
 sides_of_place [] s set h = absurd (omega arith)
 sides_of_place (b ∷ B) zero set h =
-    let later : AllByRecursion (λ z. comes_before z b ≡ false) B = All-map _ _ (λ z e. before-asym b z (before b z e)) B (sorted_head item_cmp b B set) in
+    let later : AllByRecursion (λ z. comes_before z b ≡ false) B =
+    All-map _ _ (λ z e. before-asym b z (before b z e)) B (sorted_head item_cmp b B set) in
     let none = filter-none (λ z. comes_before z b) B later in
     let all = filter-all (λ z. not (comes_before z b)) B (All-map _ _ (λ z k. ap not k) B later) in
     let one = before-irrefl b in
     (cc, cc)
 sides_of_place (b ∷ B) (suc s) set h =
-    let first : comes_before b (get_or B s []) ≡ true = before b (get_or B s []) (Less-from_sorted item_cmp (b ∷ B) 0 (suc s) [] set (omega arith) h) in
+    let first : comes_before b (get_or B s []) ≡ true =
+    before b (get_or B s []) (Less-from_sorted item_cmp (b ∷ B) 0 (suc s) [] set (omega arith) h) in
     let ih = sides_of_place B s (sorted_tail item_cmp b B set) (omega arith) in
     let left = ih.0 in
     let right = ih.1 in
     (cc, cc)
 
 -- what comes before a bound, and what does not
-pub filter-two_sides : (c : Item) (B : List Item) → IsSet B → B ≡ filter (λ z. comes_before z c) B ++ filter (λ z. not (comes_before z c)) B
+pub filter-two_sides : (c : Item) (B : List Item) → IsSet B →
+    B ≡ filter (λ z. comes_before z c) B ++ filter (λ z. not (comes_before z c)) B
 filter-two_sides c [] set = refl
 filter-two_sides c (b ∷ B) set =
     let ih = filter-two_sides c B (sorted_tail item_cmp b B set) in
-    let either : (t : Bool) → comes_before b c ≡ t → b ∷ B ≡ cond t (b ∷ filter (λ z. comes_before z c) B) (filter (λ z. comes_before z c) B) ++ cond (not t) (b ∷ filter (λ z. not (comes_before z c)) B) (filter (λ z. not (comes_before z c)) B) =
+    let either : (t : Bool) → comes_before b c ≡ t →
+    b ∷ B ≡ cond t (b ∷ filter (λ z. comes_before z c) B) (filter (λ z. comes_before z c) B)
+    ++ cond (not t) (b ∷ filter (λ z. not (comes_before z c)) B) (filter (λ z. not (comes_before z c)) B) =
     elim [
       | true ↦ λ e. ap (λ zs. b ∷ zs) ih
       | false ↦ λ e.
-          let later : AllByRecursion (λ z. comes_before z c ≡ false) B = All-map _ _ (λ z k. not_before-trans z b c (before-asym b z (before b z k)) e) B (sorted_head item_cmp b B set) in
+          let later : AllByRecursion (λ z. comes_before z c ≡ false) B = All-map _ _
+          (λ z k. not_before-trans z b c (before-asym b z (before b z k)) e) B (sorted_head item_cmp b B set) in
           let none = filter-none (λ z. comes_before z c) B later in
           let all = filter-all (λ z. not (comes_before z c)) B (All-map _ _ (λ z k. ap not k) B later) in
           cc
@@ -104,25 +122,33 @@ right_test a b c h = grind arith
 -- below and from a bound within the range
 contains-left : (x c : List ℕ) (y : Option (List ℕ)) → contains (span x y) c ≡ true → (z : Item) →
     contains (span x (Some c)) z ≡ (contains (span x y) z && comes_before z c)
-contains-left x c y h z = left_test (comes_before z x) (is_below z y) (comes_before z c) (λ k. below-trans z c y k (and_parts _ _ h).1)
+contains-left x c y h z =
+    left_test (comes_before z x) (is_below z y) (comes_before z c) (λ k. below-trans z c y k (and_parts _ _ h).1)
 
 contains-right : (x c : List ℕ) (y : Option (List ℕ)) → contains (span x y) c ≡ true → (z : Item) →
     contains (span c y) z ≡ (contains (span x y) z && not (comes_before z c))
-contains-right x c y h z = right_test (comes_before z x) (is_below z y) (comes_before z c) (λ k. not_before-trans z c x k (not-true _ (and_parts _ _ h).0))
+contains-right x c y h z = right_test (comes_before z x) (is_below z y) (comes_before z c)
+    (λ k. not_before-trans z c x k (not-true _ (and_parts _ _ h).0))
 
-pub left-IsWithin : (x c : List ℕ) (y : Option (List ℕ)) → contains (span x y) c ≡ true → IsWithin (span x (Some c)) (span x y)
+pub left-IsWithin : (x c : List ℕ) (y : Option (List ℕ)) → contains (span x y) c ≡ true →
+    IsWithin (span x (Some c)) (span x y)
 left-IsWithin x c y h z k = (and_parts _ _ (sym (contains-left x c y h z) ∙ k)).0
 
-pub right-IsWithin : (x c : List ℕ) (y : Option (List ℕ)) → contains (span x y) c ≡ true → IsWithin (span c y) (span x y)
+pub right-IsWithin : (x c : List ℕ) (y : Option (List ℕ)) → contains (span x y) c ≡ true →
+    IsWithin (span c y) (span x y)
 right-IsWithin x c y h z k = (and_parts _ _ (sym (contains-right x c y h z) ∙ k)).0
 
 pub items_in-left : (A : List Item) (x c : List ℕ) (y : Option (List ℕ)) → contains (span x y) c ≡ true →
     items_in A (span x (Some c)) ≡ filter (λ z. comes_before z c) (items_in A (span x y))
-items_in-left A x c y h = filter-same (contains (span x (Some c))) (λ z. contains (span x y) z && comes_before z c) (contains-left x c y h) A ∙ filter-and (contains (span x y)) (λ z. comes_before z c) A
+items_in-left A x c y h =
+    filter-same (contains (span x (Some c))) (λ z. contains (span x y) z && comes_before z c) (contains-left x c y h) A
+    ∙ filter-and (contains (span x y)) (λ z. comes_before z c) A
 
 pub items_in-right : (A : List Item) (x c : List ℕ) (y : Option (List ℕ)) → contains (span x y) c ≡ true →
     items_in A (span c y) ≡ filter (λ z. not (comes_before z c)) (items_in A (span x y))
-items_in-right A x c y h = filter-same (contains (span c y)) (λ z. contains (span x y) z && not (comes_before z c)) (contains-right x c y h) A ∙ filter-and (contains (span x y)) (λ z. not (comes_before z c)) A
+items_in-right A x c y h =
+    filter-same (contains (span c y)) (λ z. contains (span x y) z && not (comes_before z c)) (contains-right x c y h) A
+    ∙ filter-and (contains (span x y)) (λ z. not (comes_before z c)) A
 
 -- ---- many cuts
 
@@ -131,7 +157,8 @@ abbrev pub CutsRise : List ℕ → List (List ℕ) → Option (List ℕ) → Typ
 CutsRise x [] y = ⊤
 CutsRise x (c ∷ cs) y = (comes_before x c ≡ true) × (is_below c y ≡ true) × CutsRise c cs y
 
-pub inside_from_between : (x c : List ℕ) (y : Option (List ℕ)) → comes_before x c ≡ true → is_below c y ≡ true → contains (span x y) c ≡ true
+pub inside_from_between : (x c : List ℕ) (y : Option (List ℕ)) → comes_before x c ≡ true → is_below c y ≡ true →
+    contains (span x y) c ≡ true
 inside_from_between x c y h k = and_from (not (comes_before c x)) (is_below c y) (ap not (before-asym x c h)) k
 
 -- then each part rises
@@ -144,11 +171,15 @@ pub ranges-IsWithin : (x : List ℕ) (cs : List (List ℕ)) (y : Option (List �
     AllByRecursion (λ Y. IsWithin Y (span x y)) (ranges_between x cs y)
 ranges-IsWithin x [] y r = (λ z k. k, tt)
 ranges-IsWithin x (c ∷ cs) y r =
-    let inside = inside_from_between x c y r.0 r.1 in
-    (left-IsWithin x c y inside, All-map (λ Y. IsWithin Y (span c y)) (λ Y. IsWithin Y (span x y)) (λ Y w z k. right-IsWithin x c y inside z (w z k)) (ranges_between c cs y) (ranges-IsWithin c cs y r.2))
+    let inside = inside_from_between x c y r.0 r.1 in (
+      left-IsWithin x c y inside,
+      All-map (λ Y. IsWithin Y (span c y)) (λ Y. IsWithin Y (span x y))
+          (λ Y w z k. right-IsWithin x c y inside z (w z k)) (ranges_between c cs y) (ranges-IsWithin c cs y r.2),
+    )
 
 -- a set is what it has in each of the parts, one after another
-pub flat_map-ranges : (D : List Item) → IsSet D → (x : List ℕ) (cs : List (List ℕ)) (y : Option (List ℕ)) → CutsRise x cs y →
+pub flat_map-ranges : (D : List Item) → IsSet D → (x : List ℕ) (cs : List (List ℕ)) (y : Option (List ℕ)) →
+    CutsRise x cs y →
     flat_map (items_in D) (ranges_between x cs y) ≡ items_in D (span x y)
 flat_map-ranges D set x [] y r = append-nil (items_in D (span x y))
 flat_map-ranges D set x (c ∷ cs) y r =
@@ -156,7 +187,8 @@ flat_map-ranges D set x (c ∷ cs) y r =
     let ih = flat_map-ranges D set c cs y r.2 in
     let left = items_in-left D x c y inside in
     let right = items_in-right D x c y inside in
-    let both = filter-two_sides c (items_in D (span x y)) (IsStrictlySortedBy-filter item_cmp (contains (span x y)) D set) in
+    let both =
+    filter-two_sides c (items_in D (span x y)) (IsStrictlySortedBy-filter item_cmp (contains (span x y)) D set) in
     cc
 
 -- a bound that is the item at place s
@@ -166,26 +198,40 @@ pub record IsPlace (A : List Item) (x c : List ℕ) (y : Option (List ℕ)) (s :
   pub left : length (items_in A (span x (Some c))) ≡ s
   pub right : items_in A (span c y) ≡ drop s (items_in A (span x y))
 
-at_place : (A : List Item) (x c : List ℕ) (y : Option (List ℕ)) (s : ℕ) → IsSet A → 0 < s → s < length (items_in A (span x y)) →
+at_place : (A : List Item) (x c : List ℕ) (y : Option (List ℕ)) (s : ℕ) → IsSet A → 0 < s →
+    s < length (items_in A (span x y)) →
     get_or (items_in A (span x y)) s [] ≡ c → IsPlace A x c y s
 at_place A x c y s set z h e =
     let B : List Item = items_in A (span x y) in
     let sorted : IsSet B = IsStrictlySortedBy-filter item_cmp (contains (span x y)) A set in
-    let in_range : contains (span x y) c ≡ true = subst (λ (d : Item). contains (span x y) d ≡ true) e (All-at (λ z. contains (span x y) z ≡ true) B s [] h (All-filter (contains (span x y)) A)) in
+    let in_range : contains (span x y) c ≡ true = subst (λ (d : Item). contains (span x y) d ≡ true) e
+    (All-at (λ z. contains (span x y) z ≡ true) B s [] h (All-filter (contains (span x y)) A)) in
     let first : Item = get_or B 0 [] in
-    let first_in = and_parts _ _ (All-at (λ z. contains (span x y) z ≡ true) B 0 [] (omega arith) (All-filter (contains (span x y)) A)) in
-    let rises : comes_before first c ≡ true = subst (λ (d : Item). comes_before first d ≡ true) e (ap is_lt (Less-from_sorted item_cmp B 0 s [] sorted z h)) in
-    let before : length (filter (λ z. comes_before z c) B) ≡ s = subst (λ (d : Item). length (filter (λ z. comes_before z d) B) ≡ s) e (ap length (sides_of_place B s sorted h).0 ∙ length-take-le s B (omega arith)) in
-    let after : filter (λ z. not (comes_before z c)) B ≡ drop s B = subst (λ (d : Item). filter (λ z. not (comes_before z d)) B ≡ drop s B) e (sides_of_place B s sorted h).1 in
-    record { after = upto-before x first c (not-true _ first_in.0) rises; before = (and_parts _ _ in_range).1; left = ap length (items_in-left A x c y in_range) ∙ before; right = items_in-right A x c y in_range ∙ after }
+    let first_in = and_parts _ _
+    (All-at (λ z. contains (span x y) z ≡ true) B 0 [] (omega arith) (All-filter (contains (span x y)) A)) in
+    let rises : comes_before first c ≡ true =
+    subst (λ (d : Item). comes_before first d ≡ true) e (ap is_lt (Less-from_sorted item_cmp B 0 s [] sorted z h)) in
+    let before : length (filter (λ z. comes_before z c) B) ≡ s =
+    subst (λ (d : Item). length (filter (λ z. comes_before z d) B) ≡ s) e
+    (ap length (sides_of_place B s sorted h).0 ∙ length-take-le s B (omega arith)) in
+    let after : filter (λ z. not (comes_before z c)) B ≡ drop s B =
+    subst (λ (d : Item). filter (λ z. not (comes_before z d)) B ≡ drop s B) e (sides_of_place B s sorted h).1 in
+    record {
+      after = upto-before x first c (not-true _ first_in.0) rises;
+      before = (and_parts _ _ in_range).1;
+      left = ap length (items_in-left A x c y in_range) ∙ before;
+      right = items_in-right A x c y in_range ∙ after;
+    }
 
 -- X is cut into ranges with so many items of A
-pub record AreCuts (A : List Item) (x : List ℕ) (cs : List (List ℕ)) (y : Option (List ℕ)) (sizes : List ℕ) : Type 0 where
+pub record AreCuts (A : List Item) (x : List ℕ) (cs : List (List ℕ)) (y : Option (List ℕ))
+    (sizes : List ℕ) : Type 0 where
   pub rise : CutsRise x cs y
   pub counts : map (λ Y. length (items_in A Y)) (ranges_between x cs y) ≡ sizes
 
 cuts_from : (A L : List Item) (x : List ℕ) (y : Option (List ℕ)) (start : ℕ) (sizes : List ℕ) → IsSet A →
-    items_in A (span x y) ≡ drop start L → start + sum sizes ≡ length L → 0 < length sizes → AllByRecursion (λ s. 0 < s) sizes →
+    items_in A (span x y) ≡ drop start L → start + sum sizes ≡ length L → 0 < length sizes →
+    AllByRecursion (λ s. 0 < s) sizes →
     AreCuts A x (map (λ place. get_or L place []) (inner_cuts start sizes)) y sizes
 cuts_from A L x y start [] set e total some positive = absurd (omega arith)
 cuts_from A L x y start (s ∷ []) set e total some positive = grind (arith, length-drop start L)
@@ -201,18 +247,22 @@ cuts_from A L x y start (s ∷ t ∷ ss) set e total some positive =
     record { rise = (p.after, p.before, ih.rise); counts = let a = p.left in let b = ih.counts in cc }
 
 -- The parts of a cut have the shares as their sizes, where none is 0 and they add up to what there is.
-pub cutup-AreCuts : (A : List Item) (X : Range) (sizes : List ℕ) → IsSet A → sum sizes ≡ length (items_in A X) → 0 < length sizes →
+pub cutup-AreCuts : (A : List Item) (X : Range) (sizes : List ℕ) → IsSet A → sum sizes ≡ length (items_in A X) →
+    0 < length sizes →
     AllByRecursion (λ s. 0 < s) sizes →
     AreCuts A X.lower (map (λ place. get_or (items_in A X) place []) (inner_cuts 0 sizes)) X.upper sizes
-cutup-AreCuts A X sizes set total some positive = cuts_from A (items_in A X) X.lower X.upper 0 sizes set refl (omega arith) some positive
+cutup-AreCuts A X sizes set total some positive =
+    cuts_from A (items_in A X) X.lower X.upper 0 sizes set refl (omega arith) some positive
 
 -- ---- how many parts
 
-pub length-ranges_between : (x : List ℕ) (cs : List (List ℕ)) (y : Option (List ℕ)) → length (ranges_between x cs y) ≡ suc (length cs)
+pub length-ranges_between : (x : List ℕ) (cs : List (List ℕ)) (y : Option (List ℕ)) →
+    length (ranges_between x cs y) ≡ suc (length cs)
 length-ranges_between x [] y = refl
 length-ranges_between x (c ∷ cs) y = ap suc (length-ranges_between c cs y)
 
-pub length-inner_cuts : (start : ℕ) (sizes : List ℕ) → 0 < length sizes → suc (length (inner_cuts start sizes)) ≡ length sizes
+pub length-inner_cuts : (start : ℕ) (sizes : List ℕ) → 0 < length sizes →
+    suc (length (inner_cuts start sizes)) ≡ length sizes
 length-inner_cuts start [] h = absurd (omega arith)
 length-inner_cuts start (s ∷ []) h = refl
 length-inner_cuts start (s ∷ t ∷ ss) h = ap suc (length-inner_cuts (start + s) (t ∷ ss) (omega arith))
@@ -224,11 +274,14 @@ abbrev pub spread : Item → ℕ → List Range → ℕ
 spread x n [] = 0
 spread x n (X ∷ Xs) = when (contains X x) n + spread x n Xs
 
--- of two neighbours one has x, if both together have it: p, q and r say that x is before the lower bound, the cut and the upper bound
-cut_once : (p q r : Bool) (n : ℕ) → (q ≡ true → r ≡ true) → (q ≡ false → p ≡ false) → when (not p && q) n + when (not q && r) n ≡ when (not p && r) n
+-- of two neighbours one has x, if both together have it: p, q and r say that x is before the lower bound, the cut and
+-- the upper bound
+cut_once : (p q r : Bool) (n : ℕ) → (q ≡ true → r ≡ true) → (q ≡ false → p ≡ false) →
+    when (not p && q) n + when (not q && r) n ≡ when (not p && r) n
 cut_once p q r n h k = grind arith
 
-pub spread-ranges_between : (x : Item) (n : ℕ) (lower : List ℕ) (cuts : List (List ℕ)) (upper : Option (List ℕ)) → CutsRise lower cuts upper →
+pub spread-ranges_between : (x : Item) (n : ℕ) (lower : List ℕ) (cuts : List (List ℕ)) (upper : Option (List ℕ)) →
+    CutsRise lower cuts upper →
     spread x n (ranges_between lower cuts upper) ≡ when (contains (span lower upper) x) n
 spread-ranges_between x n lower [] upper h = omega arith
 spread-ranges_between x n lower (cut ∷ cuts) upper (after, before, rest) =
@@ -241,7 +294,8 @@ spread-ranges_between x n lower (cut ∷ cuts) upper (after, before, rest) =
 pub length-items_in-le_all : (A : List Item) (X : Range) → length (items_in A X) ≤ length A
 length-items_in-le_all A X = omega (arith, length-filter (contains X) A, count_by-le-length (contains X) A)
 
-pub slice_index-le : {T : Table} {f : List ℕ} → IsRankTable T f → (m n : ℕ) → m ≤ n → n ≤ T.cap → slice_index f m ≤ slice_index f n
+pub slice_index-le : {T : Table} {f : List ℕ} → IsRankTable T f → (m n : ℕ) → m ≤ n → n ≤ T.cap →
+    slice_index f m ≤ slice_index f n
 slice_index-le r m n h k = r.rises m n h k
 
 -- ---- ranges
@@ -250,15 +304,20 @@ slice_index-le r m n h k = r.rises m n h k
 abbrev pub IsUnder : List ℕ → List Item → ℕ → Range → Type 0
 IsUnder f A n X = slice_index f (length (items_in A X)) < n
 
-pub within-IsUnder : {P : Peer} {f : List ℕ} → Ready P f → (n : ℕ) (X Y : Range) → IsWithin Y X → IsUnder f P.items n X → IsUnder f P.items n Y
+pub within-IsUnder : {P : Peer} {f : List ℕ} → Ready P f → (n : ℕ) (X Y : Range) → IsWithin Y X →
+    IsUnder f P.items n X → IsUnder f P.items n Y
 within-IsUnder {P} {f} r n X Y w h =
     let le = length-items_in-le P.items Y X w in
     let room = length-items_in-le_all P.items X in
-    omega (arith, slice_index-le r.ranks (length (items_in P.items Y)) (length (items_in P.items X)) le (omega (arith, r.room)))
+    omega (
+      arith,
+      slice_index-le r.ranks (length (items_in P.items Y)) (length (items_in P.items X)) le (omega (arith, r.room)),
+    )
 
 -- the cut of a range by a peer whose table cuts it
 abbrev pub peer_cuts : Peer → Range → List (List ℕ)
-peer_cuts P X = map (λ place. get_or (items_in P.items X) place []) (inner_cuts 0 (shares P.table (length (items_in P.items X))))
+peer_cuts P X =
+    map (λ place. get_or (items_in P.items X) place []) (inner_cuts 0 (shares P.table (length (items_in P.items X))))
 
 abbrev pub peer_cutup : Peer → Range → List Range
 peer_cutup P X = cutup P.items X (shares P.table (length (items_in P.items X)))
@@ -272,45 +331,56 @@ pub peer_cutup-AreCuts : {P : Peer} {f : List ℕ} → Ready P f → (X : Range)
 peer_cutup-AreCuts {P} {f} r X s =
     let n : ℕ = length (items_in P.items X) in
     let descends = r.ranks.descends n (omega (arith, length-items_in-le_all P.items X, r.room)) s in
-    cutup-AreCuts P.items X (shares P.table n) r.set (sum-shares_by (act P.table n) n descends.0) (omega (arith, descends.0)) (shares_by-positive (act P.table n) n)
+    cutup-AreCuts P.items X (shares P.table n) r.set (sum-shares_by (act P.table n) n descends.0)
+    (omega (arith, descends.0)) (shares_by-positive (act P.table n) n)
 
 -- the bounds of a cut rise, whatever the table
 peer_cuts-rise : (P : Peer) (X : Range) → IsSet P.items → CutsRise X.lower (peer_cuts P X) X.upper
-peer_cuts-rise P X set = by (shares P.table count) (sum-shares_by (act P.table count) count) (shares_by-positive (act P.table count) count) where
-  count : ℕ
-  count = length (items_in P.items X)
+peer_cuts-rise P X set = by (shares P.table count) (sum-shares_by (act P.table count) count)
+    (shares_by-positive (act P.table count) count) where
+      count : ℕ
+      count = length (items_in P.items X)
 
-  by : (sizes : List ℕ) → (2 ≤ length sizes → sum sizes ≡ count) → AllByRecursion (λ s. 0 < s) sizes →
-      CutsRise X.lower (map (λ place. get_or (items_in P.items X) place []) (inner_cuts 0 sizes)) X.upper
-  by [] total positive = tt
-  by (s ∷ []) total positive = tt
-  by (s ∷ t ∷ ss) total positive = (cutup-AreCuts P.items X (s ∷ t ∷ ss) set (total (omega arith)) (omega arith) positive).rise
+      by : (sizes : List ℕ) → (2 ≤ length sizes → sum sizes ≡ count) → AllByRecursion (λ s. 0 < s) sizes →
+          CutsRise X.lower (map (λ place. get_or (items_in P.items X) place []) (inner_cuts 0 sizes)) X.upper
+      by [] total positive = tt
+      by (s ∷ []) total positive = tt
+      by (s ∷ t ∷ ss) total positive =
+          (cutup-AreCuts P.items X (s ∷ t ∷ ss) set (total (omega arith)) (omega arith) positive).rise
 
-pub spread-cutup : (x : Item) (n : ℕ) (P : Peer) (X : Range) → IsSet P.items → spread x n (peer_cutup P X) ≡ when (contains X x) n
+pub spread-cutup : (x : Item) (n : ℕ) (P : Peer) (X : Range) → IsSet P.items →
+    spread x n (peer_cutup P X) ≡ when (contains X x) n
 spread-cutup x n P X set = spread-ranges_between x n X.lower (peer_cuts P X) X.upper (peer_cuts-rise P X set)
 
-All-from_map : {X Y : Type 0} (P : Y → Type 0) (g : X → Y) (xs : List X) → AllByRecursion P (map g xs) → AllByRecursion (λ x. P (g x)) xs
+All-from_map : {X Y : Type 0} (P : Y → Type 0) (g : X → Y) (xs : List X) → AllByRecursion P (map g xs) →
+    AllByRecursion (λ x. P (g x)) xs
 All-from_map P g [] h = tt
 All-from_map P g (x ∷ xs) h = (h.0, All-from_map P g xs h.1)
 
 -- the parts have a lower rank in the set that cuts
-pub own-IsUnder : {P : Peer} {f : List ℕ} → Ready P f → (n : ℕ) (X : Range) → does_split P X ≡ true → IsUnder f P.items n X →
+pub own-IsUnder : {P : Peer} {f : List ℕ} → Ready P f → (n : ℕ) (X : Range) → does_split P X ≡ true →
+    IsUnder f P.items n X →
     AllByRecursion (IsUnder f P.items (n - 1)) (peer_cutup P X)
 own-IsUnder {P} {f} r n X s h =
     let m : ℕ = length (items_in P.items X) in
     let lower = (r.ranks.descends m (omega (arith, length-items_in-le_all P.items X, r.room)) s).1 in
     let counts = (peer_cutup-AreCuts r X s).counts in
     let below : ℕ → Type 0 = λ k. slice_index f k < slice_index f m in
-    let each = All-from_map below (λ Y. length (items_in P.items Y)) (peer_cutup P X) (subst (λ (ks : List ℕ). AllByRecursion below ks) (sym counts) lower) in
-    All-map (λ Y. slice_index f (length (items_in P.items Y)) < slice_index f m) (IsUnder f P.items (n - 1)) (λ Y k. omega arith) (peer_cutup P X) each
+    let each = All-from_map below (λ Y. length (items_in P.items Y)) (peer_cutup P X)
+    (subst (λ (ks : List ℕ). AllByRecursion below ks) (sym counts) lower) in
+    All-map (λ Y. slice_index f (length (items_in P.items Y)) < slice_index f m) (IsUnder f P.items (n - 1))
+    (λ Y k. omega arith) (peer_cutup P X) each
 
-pub peer_cutup-IsWithin : {P : Peer} {f : List ℕ} → Ready P f → (X : Range) → does_split P X ≡ true → AllByRecursion (λ Y. IsWithin Y X) (peer_cutup P X)
+pub peer_cutup-IsWithin : {P : Peer} {f : List ℕ} → Ready P f → (X : Range) → does_split P X ≡ true →
+    AllByRecursion (λ Y. IsWithin Y X) (peer_cutup P X)
 peer_cutup-IsWithin {P} r X s = ranges-IsWithin X.lower (peer_cuts P X) X.upper (peer_cutup-AreCuts r X s).rise
 
 -- and no higher rank in another
-pub other-IsUnder : {P Q : Peer} {f g : List ℕ} → Ready P f → Ready Q g → (n : ℕ) (X : Range) → does_split P X ≡ true → IsUnder g Q.items n X →
+pub other-IsUnder : {P Q : Peer} {f g : List ℕ} → Ready P f → Ready Q g → (n : ℕ) (X : Range) → does_split P X ≡ true →
+    IsUnder g Q.items n X →
     AllByRecursion (IsUnder g Q.items n) (peer_cutup P X)
-other-IsUnder {P} {Q} {f} {g} r q n X s h = All-map (λ Y. IsWithin Y X) (IsUnder g Q.items n) (λ Y w. within-IsUnder q n X Y w h) (peer_cutup P X) (peer_cutup-IsWithin r X s)
+other-IsUnder {P} {Q} {f} {g} r q n X s h = All-map (λ Y. IsWithin Y X) (IsUnder g Q.items n)
+    (λ Y w. within-IsUnder q n X Y w h) (peer_cutup P X) (peer_cutup-IsWithin r X s)
 
 -- ---- messages
 
@@ -326,57 +396,74 @@ SumsUnder f A n M = AllByRecursion (IsSumUnder f A n) M
 -- what holds of nothing, of the Sums of a cut and of the list of the range holds of the reply to a Sum
 pub reply_to_sum : {F : Type 0} (S : Summary F) (P : Peer) (X : Range) (g : F) (Holds : Message F → Type 0) →
     (S.same (S.of (items_in P.items X)) g ≡ true → Holds []) →
-    (S.same (S.of (items_in P.items X)) g ≡ false → does_split P X ≡ true → Holds (map (sum_of S P.items) (peer_cutup P X))) →
-    (S.same (S.of (items_in P.items X)) g ≡ false → does_split P X ≡ false → Holds (Listing X (items_in P.items X) ∷ [])) →
+    (S.same (S.of (items_in P.items X)) g ≡ false → does_split P X ≡ true →
+    Holds (map (sum_of S P.items) (peer_cutup P X))) →
+    (S.same (S.of (items_in P.items X)) g ≡ false → does_split P X ≡ false →
+    Holds (Listing X (items_in P.items X) ∷ [])) →
     Holds (reply_to S P (Sum X g))
 reply_to_sum S P X g Holds equal cut list = grind arith
 
-All-into_map : {X Y : Type 0} (P : Y → Type 0) (g : X → Y) (xs : List X) → AllByRecursion (λ x. P (g x)) xs → AllByRecursion P (map g xs)
+All-into_map : {X Y : Type 0} (P : Y → Type 0) (g : X → Y) (xs : List X) → AllByRecursion (λ x. P (g x)) xs →
+    AllByRecursion P (map g xs)
 All-into_map P g [] h = tt
 All-into_map P g (x ∷ xs) h = (h.0, All-into_map P g xs h.1)
 
 -- what holds of the Sums of a cut, of the list and of the Answer holds of each part of a reply
 pub reply-each : {F : Type 0} (S : Summary F) (P : Peer) (H G : Part F → Type 0) →
-    ((X : Range) (g : F) → H (Sum X g) → does_split P X ≡ true → AllByRecursion (λ Y. G (sum_of S P.items Y)) (peer_cutup P X)) →
+    ((X : Range) (g : F) → H (Sum X g) → does_split P X ≡ true →
+    AllByRecursion (λ Y. G (sum_of S P.items Y)) (peer_cutup P X)) →
     ((X : Range) (g : F) → H (Sum X g) → does_split P X ≡ false → G (Listing X (items_in P.items X))) →
     ((X : Range) (items : List Item) → H (Listing X items) → G (answer_to P.items X items)) →
     (M : Message F) → AllByRecursion H M → AllByRecursion G (reply S P M)
 reply-each S P H G cut list answer [] h = tt
 reply-each S P H G cut list answer (Sum X g ∷ ps) h =
     All-append G (reply_to S P (Sum X g)) (reply S P ps)
-    (reply_to_sum S P X g (AllByRecursion G) (λ d. tt) (λ d s. All-into_map G (sum_of S P.items) (peer_cutup P X) (cut X g h.0 s)) (λ d s. (list X g h.0 s, tt)))
+    (reply_to_sum S P X g (AllByRecursion G) (λ d. tt)
+    (λ d s. All-into_map G (sum_of S P.items) (peer_cutup P X) (cut X g h.0 s)) (λ d s. (list X g h.0 s, tt)))
     (reply-each S P H G cut list answer ps h.1)
-reply-each S P H G cut list answer (Listing X items ∷ ps) h = (answer X items h.0, reply-each S P H G cut list answer ps h.1)
+reply-each S P H G cut list answer (Listing X items ∷ ps) h =
+    (answer X items h.0, reply-each S P H G cut list answer ps h.1)
 reply-each S P H G cut list answer (Answer X marks items ∷ ps) h = reply-each S P H G cut list answer ps h.1
 
 -- what holds of a message and, with it, of the reply to it holds of each message of a talk
-pub talk_from-All : {F : Type 0} (S : Summary F) (G : Message F → Type 0) (P Q : Peer) → ((M : Message F) → G M → G (reply S P M)) →
+pub talk_from-All : {F : Type 0} (S : Summary F) (G : Message F → Type 0) (P Q : Peer) →
+    ((M : Message F) → G M → G (reply S P M)) →
     ((M : Message F) → G M → G (reply S Q M)) → (M : Message F) (k : ℕ) → G M → AllByRecursion G (talk_from S P Q M k)
 talk_from-All S G P Q p q M zero h = tt
-talk_from-All S G P Q p q M (suc k) h =
-    (h, cond_both (has_open M) (talk_from S Q P (reply S Q M) k) [] (AllByRecursion G) (λ e. talk_from-All S G Q P q p (reply S Q M) k (q M h)) (λ e. tt))
+talk_from-All S G P Q p q M (suc k) h = (
+  h,
+  cond_both (has_open M) (talk_from S Q P (reply S Q M) k) [] (AllByRecursion G)
+      (λ e. talk_from-All S G Q P q p (reply S Q M) k (q M h)) (λ e. tt),
+)
 
 -- a reply lowers the ranks in the own set
-pub reply-own : {F : Type 0} (S : Summary F) (P : Peer) (f : List ℕ) → Ready P f → (n : ℕ) (M : Message F) → SumsUnder f P.items n M →
+pub reply-own : {F : Type 0} (S : Summary F) (P : Peer) (f : List ℕ) → Ready P f → (n : ℕ) (M : Message F) →
+    SumsUnder f P.items n M →
     SumsUnder f P.items (n - 1) (reply S P M)
 reply-own S P f r n M h =
-    reply-each S P (IsSumUnder f P.items n) (IsSumUnder f P.items (n - 1)) (λ X g u s. own-IsUnder r n X s u) (λ X g u s. tt) (λ X items u. tt) M h
+    reply-each S P (IsSumUnder f P.items n) (IsSumUnder f P.items (n - 1)) (λ X g u s. own-IsUnder r n X s u)
+    (λ X g u s. tt) (λ X items u. tt) M h
 
 -- and raises none in the other's
-pub reply-other : {F : Type 0} (S : Summary F) (P Q : Peer) (f g : List ℕ) → Ready P f → Ready Q g → (n : ℕ) (M : Message F) → SumsUnder g Q.items n M →
+pub reply-other : {F : Type 0} (S : Summary F) (P Q : Peer) (f g : List ℕ) → Ready P f → Ready Q g →
+    (n : ℕ) (M : Message F) → SumsUnder g Q.items n M →
     SumsUnder g Q.items n (reply S P M)
 reply-other S P Q f g r q n M h =
-    reply-each S P (IsSumUnder g Q.items n) (IsSumUnder g Q.items n) (λ X e u s. other-IsUnder r q n X s u) (λ X e u s. tt) (λ X items u. tt) M h
+    reply-each S P (IsSumUnder g Q.items n) (IsSumUnder g Q.items n) (λ X e u s. other-IsUnder r q n X s u)
+    (λ X e u s. tt) (λ X items u. tt) M h
 
 -- ranges rise in a reply where those do that are open
-pub reply-rises : {F : Type 0} (S : Summary F) (P : Peer) (f : List ℕ) → Ready P f → (M : Message F) → AllByRecursion (λ p. is_open p ≡ true → Rises (range_of p)) M →
+pub reply-rises : {F : Type 0} (S : Summary F) (P : Peer) (f : List ℕ) → Ready P f → (M : Message F) →
+    AllByRecursion (λ p. is_open p ≡ true → Rises (range_of p)) M →
     RangesRise (reply S P M)
 reply-rises S P f r M h =
     reply-each S P (λ p. is_open p ≡ true → Rises (range_of p)) (λ p. Rises (range_of p))
-    (λ X g up s. ranges-rise X.lower (peer_cuts P X) X.upper (up refl) (peer_cutup-AreCuts r X s).rise) (λ X g up s. up refl) (λ X items up. up refl) M h
+    (λ X g up s. ranges-rise X.lower (peer_cuts P X) X.upper (up refl) (peer_cutup-AreCuts r X s).rise)
+    (λ X g up s. up refl) (λ X items up. up refl) M h
 
 -- the reply to a message of lists and Answers alone wants no reply
-pub reply-no_sums : {F : Type 0} (S : Summary F) (P : Peer) (f : List ℕ) (A : List Item) (M : Message F) → SumsUnder f A 0 M → has_open (reply S P M) ≡ false
+pub reply-no_sums : {F : Type 0} (S : Summary F) (P : Peer) (f : List ℕ) (A : List Item) (M : Message F) →
+    SumsUnder f A 0 M → has_open (reply S P M) ≡ false
 reply-no_sums S P f A [] h = refl
 reply-no_sums S P f A (Sum X g ∷ ps) h = absurd (omega (arith, h.0))
 reply-no_sums S P f A (Listing X items ∷ ps) h = reply-no_sums S P f A ps h.1

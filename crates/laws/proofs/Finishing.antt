@@ -7,11 +7,16 @@
 -- were delivered (`Reaches`). It never has more delivered messages than messages, so after 513 deliveries it has
 -- ended. Steps on a session that is not there do nothing.
 -- docs/LAWS.md: Deliveries end a session.
-use Rattle.std.proofs.Common.{◌≡◌, ℕ, zero, suc, ◌+◌, ◌<◌, ◌≤◌, ◌⊎◌, inl, inr, Bool, true, false, List, [], ◌∷◌, ◌++◌, length, set, slice_get, Option, Some, None, unwrap_or, refl, sym, ap, subst, ◌∙◌, arith}
+use Rattle.std.proofs.Common.{◌≡◌, ℕ, zero, suc, ◌+◌, ◌<◌, ◌≤◌, ◌⊎◌, inl, inr, Bool, true, false, List, [], ◌∷◌, ◌++◌}
+use Rattle.std.proofs.Common.{length, set, slice_get, Option, Some, None, unwrap_or, refl, sym, ap, subst, ◌∙◌, arith}
 use Rattle.std.specs.Prelude.{◌==◌}
-use Rattle.definitions.proofs.Words.{AllByRecursion, Summary, IsExact, has_open, reply, IsNode, IsRankTable, Ready, rank, SessionsEnd, deliveries, Item, World, Node, Session, Side, Initiator, Responder, Step, node_at, no_node, peer_at, initiator_of, responder_of, messages, has_ended, insert_at, absorb_side, absorb_at, step, run, start}
+use Rattle.definitions.proofs.Words.{AllByRecursion, Summary, IsExact, has_open, reply, IsNode, IsRankTable, Ready}
+use Rattle.definitions.proofs.Words.{rank, SessionsEnd, deliveries, Item, World, Node, Session, Side, Initiator}
+use Rattle.definitions.proofs.Words.{Responder, Step, node_at, no_node, peer_at, initiator_of, responder_of, messages}
+use Rattle.definitions.proofs.Words.{has_ended, insert_at, absorb_side, absorb_at, step, run, start}
 use Rattle.definitions.specs.Worlds.{Did, Insert, Open, Deliver, Absorb, open_at, deliver_at, after_delivery}
-use Rattle.definitions.proofs.Lemmas.{All-append, All-at, All-map, cond_both, cond-false, cond-true, eq-eqb, fold-append, get_or_from_slice_get}
+use Rattle.definitions.proofs.Lemmas.{All-append, All-at, All-map, cond_both, cond-false, cond-true, eq-eqb}
+use Rattle.definitions.proofs.Lemmas.{fold-append, get_or_from_slice_get}
 use Rattle.std.proofs.lemmas.Option.{slice_get_within}
 use Rattle.laws.specs.Sessions.{Kept, Keeps, GoesOnBy, hearer_now}
 use Rattle.laws.proofs.Ends.{messages_are_few}

@@ -10,7 +10,11 @@
 -- docs/LAWS.md: An end stands firm.
 use Rattle.std.proofs.Common.{◌≡◌, ℕ, ◌+◌, ◌≤◌, ◌∙◌, List, [], ◌∷◌, Option, Some, None, refl, sym, ap, subst, arith}
 use Rattle.std.specs.List.{IsDistinct}
-use Rattle.definitions.proofs.Words.{AllByRecursion, Item, Apart, Summary, Message, has_open, open_ranges, opening, opening_fault, place_fault, Profile, AreParts, Peer, reply, Knowledge, nothing, and_then, learn, IsHonest, IsSettled, Ready, rank, RangesRise, EndsStandFirm, StandsFirm, End, Fresh, Over, Spent, Stage, Waits, after, after_answer, answer_unless, gained, heard, initiator, responder}
+use Rattle.definitions.proofs.Words.{AllByRecursion, Item, Apart, Summary, Message, has_open, open_ranges, opening}
+use Rattle.definitions.proofs.Words.{opening_fault, place_fault, Profile, AreParts, Peer, reply, Knowledge, nothing}
+use Rattle.definitions.proofs.Words.{and_then, learn, IsHonest, IsSettled, Ready, rank, RangesRise, EndsStandFirm}
+use Rattle.definitions.proofs.Words.{StandsFirm, End, Fresh, Over, Spent, Stage, Waits, after, after_answer}
+use Rattle.definitions.proofs.Words.{answer_unless, gained, heard, initiator, responder}
 use Rattle.definitions.proofs.Lemmas.{cond_both, All-map}
 use Rattle.laws.proofs.Placing.{Placed-from_accepted, placed_are_apart, replies_are_apart, opening_exact}
 use Rattle.laws.proofs.Knowledge.{items_in-whole, replies_are_honest}
@@ -53,10 +57,12 @@ FirmBy {F} S P known Spent = IsSettled {F = F} known []
 abbrev FirmEnd : {F : Type 0} → Summary F → End F → Type 0
 FirmEnd S e = FirmBy S e.peer e.learned e.stage
 
-firm_stands : {F : Type 0} (S : Summary F) (P : Peer) (f : List ℕ) (most : ℕ) (e : End F) → e.sent ≤ rank f P + most → FirmEnd S e → StandsFirm P f most e
+firm_stands : {F : Type 0} (S : Summary F) (P : Peer) (f : List ℕ) (most : ℕ) (e : End F) → e.sent ≤ rank f P + most →
+    FirmEnd S e → StandsFirm P f most e
 firm_stands {F} S P f most e few h = by e.stage h where
   by : (s : Stage F) → FirmBy S e.peer e.learned s → StandsFirm P f most (record e { stage = s })
-  by Fresh none = record { apart = tt; few = few; settled = subst (λ k. IsSettled {F = F} k []) (sym none) (nothing_settled []) }
+  by Fresh none =
+      record { apart = tt; few = few; settled = subst (λ k. IsSettled {F = F} k []) (sym none) (nothing_settled []) }
   by (Waits own) h = record { apart = h.apart; few = few; settled = h.settled }
   by Over settled = record { apart = tt; few = few; settled = settled }
   by Spent settled = record { apart = tt; few = few; settled = settled }
@@ -64,7 +70,8 @@ firm_stands {F} S P f most e few h = by e.stage h where
 -- ---- one message
 
 -- the end behind an answer to a message that is placed
-answered : {F : Type 0} (S : Summary F) (f : List ℕ) (e : End F) → Ready e.peer f → (M : Message F) → Apart (open_ranges M) → IsSettled (gained e M) (reply S e.peer M) →
+answered : {F : Type 0} (S : Summary F) (f : List ℕ) (e : End F) → Ready e.peer f → (M : Message F) →
+    Apart (open_ranges M) → IsSettled (gained e M) (reply S e.peer M) →
     FirmEnd S (after_answer e M (answer_unless S e.peer M None))
 answered {F} S f e r M apart settled =
     let N = reply S e.peer M in
@@ -87,16 +94,20 @@ opening_apart M h = subst (λ N. Apart (open_ranges N)) (sym ((opening_exact M).
 opening_teaches : {F : Type 0} (A : List Item) (M : Message F) → opening_fault M ≡ None → learn A [] M ≡ nothing
 opening_teaches A M h = ap (learn A []) ((opening_exact M).0 h).1
 
-after_firm : {F : Type 0} (S : Summary F) (Q : Profile F) (f : List ℕ) (e : End F) (M : Message F) → Ready e.peer f → AreParts Q M → FirmEnd S e → FirmEnd S (after S e M)
+after_firm : {F : Type 0} (S : Summary F) (Q : Profile F) (f : List ℕ) (e : End F) (M : Message F) → Ready e.peer f →
+    AreParts Q M → FirmEnd S e → FirmEnd S (after S e M)
 after_firm {F} S Q f e M r right h = by e.stage h where
   by : (s : Stage F) → FirmBy S e.peer e.learned s → FirmEnd S (after S (record e { stage = s }) M)
   by Fresh none = fault (opening_fault M) refl where
-    fault : (o : Option ℕ) → opening_fault M ≡ o → FirmEnd S (after_answer (record e { stage = Fresh }) M (answer_unless S e.peer M o))
+    fault : (o : Option ℕ) → opening_fault M ≡ o →
+        FirmEnd S (after_answer (record e { stage = Fresh }) M (answer_unless S e.peer M o))
     fault (Some code) h = nothing_settled []
     fault None h = answered S f (record e { stage = Fresh }) r M (opening_apart M h)
-        (subst (λ k. IsSettled k (reply S e.peer M)) (λ i. and_then (sym none i) (sym (opening_teaches e.peer.items M h) i)) (nothing_settled (reply S e.peer M)))
+        (subst (λ k. IsSettled k (reply S e.peer M))
+        (λ i. and_then (sym none i) (sym (opening_teaches e.peer.items M h) i)) (nothing_settled (reply S e.peer M)))
   by (Waits own) h = fault (place_fault own M) refl where
-    fault : (o : Option ℕ) → place_fault own M ≡ o → FirmEnd S (after_answer (record e { stage = Waits own }) M (answer_unless S e.peer M o))
+    fault : (o : Option ℕ) → place_fault own M ≡ o →
+        FirmEnd S (after_answer (record e { stage = Waits own }) M (answer_unless S e.peer M o))
     fault (Some code) p = nothing_settled []
     fault None p =
         let rises = parts_have_ranges Q M right in
@@ -108,19 +119,25 @@ after_firm {F} S Q f e M r right h = by e.stage h where
 
 -- ---- many
 
-heard_firm : {F : Type 0} (S : Summary F) (Q : Profile F) (f : List ℕ) (P : Peer) (Ms : List (Message F)) (e : End F) → Ready P f → AllByRecursion (AreParts Q) Ms → e.peer ≡ P →
+heard_firm : {F : Type 0} (S : Summary F) (Q : Profile F) (f : List ℕ) (P : Peer) (Ms : List (Message F)) (e : End F) →
+    Ready P f → AllByRecursion (AreParts Q) Ms → e.peer ≡ P →
     FirmEnd S e → FirmEnd S (heard S e Ms)
 heard_firm S Q f P [] e r right is h = h
 heard_firm S Q f P (M ∷ Ms) e r right is h =
-    heard_firm S Q f P Ms (after S e M) r right.1 (after-peer S e M ∙ is) (after_firm S Q f e M (subst (λ p. Ready p f) (sym is) r) right.0 h)
+    heard_firm S Q f P Ms (after S e M) r right.1 (after-peer S e M ∙ is)
+    (after_firm S Q f e M (subst (λ p. Ready p f) (sym is) r) right.0 h)
 
 pub ends_stand_firm : {F : Type 0} (S : Summary F) → EndsStandFirm S
 ends_stand_firm {F} S Q P f Ms r right =
     let rise = All-map (AreParts Q) RangesRise (parts_have_ranges Q) Ms right in (
-      firm_stands S P f 2 (heard S (initiator S P) Ms) (omega (arith, answers-counted S (initiator S P) Ms, initiator_stops S P f Ms r rise)) (heard_firm S Q f P Ms (initiator S P) r right refl record {
-        honest = (ap S.of (sym (items_in-whole P.items)), tt);
-        apart = (refl, tt, tt);
-        settled = nothing_settled (opening S P.items);
-      }),
-      firm_stands S P f 1 (heard S (responder P) Ms) (omega (arith, answers-counted S (responder P) Ms, responder_stops S P f Ms r rise)) (heard_firm S Q f P Ms (responder P) r right refl refl),
+      firm_stands S P f 2 (heard S (initiator S P) Ms)
+          (omega (arith, answers-counted S (initiator S P) Ms, initiator_stops S P f Ms r rise))
+          (heard_firm S Q f P Ms (initiator S P) r right refl record {
+            honest = (ap S.of (sym (items_in-whole P.items)), tt);
+            apart = (refl, tt, tt);
+            settled = nothing_settled (opening S P.items);
+          }),
+      firm_stands S P f 1 (heard S (responder P) Ms)
+          (omega (arith, answers-counted S (responder P) Ms, responder_stops S P f Ms r rise))
+          (heard_firm S Q f P Ms (responder P) r right refl refl),
     )

@@ -12,12 +12,20 @@
 -- Last: a talk grows by the reply to its last message, and only the hearer of a message learns from it.
 -- docs/LAWS.md: A reply is honest; Knowledge is exact; Nothing wrong is learned; Talks grow by replies; Ranges and
 -- cuts (`whole_has_all`).
-use Rattle.std.proofs.Common.{rules, ◌≡◌, ℕ, ◌+◌, Bool, true, false, not, List, [], ◌∷◌, ◌++◌, map, length, if◌then◌else◌, refl, sym, ap, ◌∙◌, arith, ◌<◌, zero, suc, ◌≤◌, take, get_or, slice_get, Some, subst, append_assoc}
+use Rattle.std.proofs.Common.{rules, ◌≡◌, ℕ, ◌+◌, Bool, true, false, not, List, [], ◌∷◌, ◌++◌, map, length}
+use Rattle.std.proofs.Common.{if◌then◌else◌, refl, sym, ap, ◌∙◌, arith, ◌<◌, zero, suc, ◌≤◌, take, get_or, slice_get}
+use Rattle.std.proofs.Common.{Some, subst, append_assoc}
 use Rattle.std.specs.Prelude.{⊤}
-use Rattle.definitions.proofs.Words.{AllByRecursion, items_where_true, Item, Range, contains, whole, IsSet, items_in, difference, Summary, IsExact, Part, Sum, Listing, Answer, Message, has_open, opening, Peer, sum_of, reply_to, reply, listed_in, learn, IsClearAt, talk_from, knows, of_first, IsClear, talk, sender, Knowledge, nothing, and_then, of_second, IsHonest, RepliesAreHonest, KnowledgeIsExact, ListsSome, KnowledgeIsSound}
+use Rattle.definitions.proofs.Words.{AllByRecursion, items_where_true, Item, Range, contains, whole, IsSet, items_in}
+use Rattle.definitions.proofs.Words.{difference, Summary, IsExact, Part, Sum, Listing, Answer, Message, has_open}
+use Rattle.definitions.proofs.Words.{opening, Peer, sum_of, reply_to, reply, listed_in, learn, IsClearAt, talk_from}
+use Rattle.definitions.proofs.Words.{knows, of_first, IsClear, talk, sender, Knowledge, nothing, and_then, of_second}
+use Rattle.definitions.proofs.Words.{IsHonest, RepliesAreHonest, KnowledgeIsExact, ListsSome, KnowledgeIsSound}
 use Rattle.definitions.proofs.Lemmas.{lt-ltb, ltb-true, append-nil, All-both, All-every}
 use Rattle.laws.specs.Growing.{TalksGrow, is_even, answered, KnowledgeGrows}
-use Rattle.laws.proofs.Times.{when, times, times-append, times-difference_in, times-difference_of, times-difference_same, items_where_true-map, ListsOnce-from_times, difference-IsSet, has-times, times_le_one, IsDistinct-from_times}
+use Rattle.laws.proofs.Times.{when, times, times-append, times-difference_in, times-difference_of}
+use Rattle.laws.proofs.Times.{times-difference_same, items_where_true-map, ListsOnce-from_times, difference-IsSet}
+use Rattle.laws.proofs.Times.{has-times, times_le_one, IsDistinct-from_times}
 use Rattle.laws.proofs.Cuts.{reply-each, spread, spread-cutup, peer_cutup, reply_to_sum}
 
 -- ==== What is learned from honest parts, for one item x, as numbers that add up over the parts of a message
@@ -71,7 +79,8 @@ pub tally-append : {F : Type 0} (g : Part F → ℕ) (M N : Message F) → tally
 tally-append g [] N = omega arith
 tally-append g (p ∷ ps) N = omega (arith, tally-append g ps N)
 
-pub tally-in_open : {F : Type 0} (x : Item) (n : ℕ) (M : Message F) → tally (in_open x n) M ≡ tally (in_sum x n) M + tally (in_list x n) M
+pub tally-in_open : {F : Type 0} (x : Item) (n : ℕ) (M : Message F) →
+    tally (in_open x n) M ≡ tally (in_sum x n) M + tally (in_list x n) M
 tally-in_open x n [] = omega arith
 tally-in_open x n (p ∷ ps) = grind (arith, tally-in_open x n ps)
 
@@ -82,14 +91,17 @@ tally-no_open x n (Listing X items ∷ ps) h = cc
 tally-no_open x n (Answer X marks items ∷ ps) h = omega (arith, tally-no_open x n ps h)
 
 -- what adds up over the reply to each part adds up over the reply
-pub tally-reply : {F : Type 0} (S : Summary F) (P : Peer) (g h : Part F → ℕ) (M : Message F) → AllByRecursion (λ p. tally g (reply_to S P p) ≡ h p) M → tally g (reply S P M) ≡ tally h M
+pub tally-reply : {F : Type 0} (S : Summary F) (P : Peer) (g h : Part F → ℕ) (M : Message F) →
+    AllByRecursion (λ p. tally g (reply_to S P p) ≡ h p) M → tally g (reply S P M) ≡ tally h M
 tally-reply S P g h [] all = refl
-tally-reply S P g h (p ∷ ps) (here, rest) = omega (arith, tally-append g (reply_to S P p) (reply S P ps), here, tally-reply S P g h ps rest)
+tally-reply S P g h (p ∷ ps) (here, rest) =
+    omega (arith, tally-append g (reply_to S P p) (reply S P ps), here, tally-reply S P g h ps rest)
 
 -- ---- lists
 
 -- an own list before the others does not lead the look-up astray
-IsListed-cons : {F : Type 0} (S : Summary F) (A : List Item) (p : Part F) (ps : Message F) → IsHonest S A p → (q : Part F) → IsListed A ps q → IsListed A (p ∷ ps) q
+IsListed-cons : {F : Type 0} (S : Summary F) (A : List Item) (p : Part F) (ps : Message F) → IsHonest S A p →
+    (q : Part F) → IsListed A ps q → IsListed A (p ∷ ps) q
 IsListed-cons S A p ps honest (Sum X f) h = tt
 IsListed-cons S A p ps honest (Answer X marks items) h = tt
 IsListed-cons S A (Sum Y f) ps honest (Listing X items) h = h
@@ -97,41 +109,52 @@ IsListed-cons S A (Answer Y marks listed) ps honest (Listing X items) h = h
 IsListed-cons S A (Listing Y listed) ps honest (Listing X items) h = search rules
 
 -- an honest message lists what it says it lists
-pub IsListed-from_honest : {F : Type 0} (S : Summary F) (A : List Item) (M : Message F) → AllByRecursion (IsHonest S A) M → AllByRecursion (IsListed A M) M
+pub IsListed-from_honest : {F : Type 0} (S : Summary F) (A : List Item) (M : Message F) →
+    AllByRecursion (IsHonest S A) M → AllByRecursion (IsListed A M) M
 IsListed-from_honest S A [] h = tt
-IsListed-from_honest S A (p ∷ ps) (here, rest) = search (rules, IsListed-from_honest S A ps rest, here, All-both, IsListed-cons)
+IsListed-from_honest S A (p ∷ ps) (here, rest) =
+    search (rules, IsListed-from_honest S A ps rest, here, All-both, IsListed-cons)
 
 -- ---- what one message teaches
 
-pub learn-ours : {F : Type 0} (S : Summary F) (x : Item) (A B : List Item) (sent M : Message F) → AllByRecursion (IsHonest S B) M →
+pub learn-ours : {F : Type 0} (S : Summary F) (x : Item) (A B : List Item) (sent M : Message F) →
+    AllByRecursion (IsHonest S B) M →
     times x (learn A sent M).ours ≡ tally (marked x sent) M + tally (in_list x (times x (difference A B))) M
 learn-ours S x A B sent [] h = omega arith
-learn-ours S x A B sent (p ∷ ps) (here, rest) = grind (arith, learn-ours S x A B sent ps rest, here, times-difference_in, times-append)
+learn-ours S x A B sent (p ∷ ps) (here, rest) =
+    grind (arith, learn-ours S x A B sent ps rest, here, times-difference_in, times-append)
 
-pub learn-theirs : {F : Type 0} (S : Summary F) (x : Item) (A B : List Item) (sent M : Message F) → AllByRecursion (IsHonest S B) M →
+pub learn-theirs : {F : Type 0} (S : Summary F) (x : Item) (A B : List Item) (sent M : Message F) →
+    AllByRecursion (IsHonest S B) M →
     times x (learn A sent M).theirs ≡ tally (offered x) M + tally (in_list x (times x (difference B A))) M
 learn-theirs S x A B sent [] h = omega arith
-learn-theirs S x A B sent (p ∷ ps) (here, rest) = grind (arith, learn-theirs S x A B sent ps rest, here, times-difference_of, times-append)
+learn-theirs S x A B sent (p ∷ ps) (here, rest) =
+    grind (arith, learn-theirs S x A B sent ps rest, here, times-difference_of, times-append)
 
 -- ---- what a reply is made of
 
-tally-sums : {F : Type 0} (S : Summary F) (A : List Item) (g : Part F → ℕ) → ((X : Range) → g (sum_of S A X) ≡ 0) → (Xs : List Range) → tally g (map (sum_of S A) Xs) ≡ 0
+tally-sums : {F : Type 0} (S : Summary F) (A : List Item) (g : Part F → ℕ) → ((X : Range) → g (sum_of S A X) ≡ 0) →
+    (Xs : List Range) → tally g (map (sum_of S A) Xs) ≡ 0
 tally-sums S A g none [] = refl
 tally-sums S A g none (X ∷ Xs) = omega (arith, none X, tally-sums S A g none Xs)
 
-pub tally-in_open-sums : {F : Type 0} (S : Summary F) (A : List Item) (x : Item) (n : ℕ) (Xs : List Range) → tally (in_open x n) (map (sum_of S A) Xs) ≡ spread x n Xs
+pub tally-in_open-sums : {F : Type 0} (S : Summary F) (A : List Item) (x : Item) (n : ℕ) (Xs : List Range) →
+    tally (in_open x n) (map (sum_of S A) Xs) ≡ spread x n Xs
 tally-in_open-sums S A x n [] = refl
 tally-in_open-sums S A x n (X ∷ Xs) = omega (arith, tally-in_open-sums S A x n Xs)
 
 pub replies_are_honest : {F : Type 0} (S : Summary F) → RepliesAreHonest S
 replies_are_honest S P M =
-    reply-each S P (λ p. ⊤) (IsHonest S P.items) (λ X g h s. All-every (λ Y. S.of (items_in P.items Y) ≡ S.of (items_in P.items Y)) (λ Y. refl) (peer_cutup P X))
+    reply-each S P (λ p. ⊤) (IsHonest S P.items)
+    (λ X g h s. All-every (λ Y. S.of (items_in P.items Y) ≡ S.of (items_in P.items Y)) (λ Y. refl) (peer_cutup P X))
     (λ X g h s. refl) (λ X items h. tt) M (All-every (λ p. ⊤) (λ p. tt) M)
 
 -- the answer to a list marks what its sender has and the other lacks
-reply_to-marked : {F : Type 0} (S : Summary F) (P Q : Peer) (x : Item) (sent : Message F) (p : Part F) → IsHonest S P.items p → IsListed P.items sent p →
+reply_to-marked : {F : Type 0} (S : Summary F) (P Q : Peer) (x : Item) (sent : Message F) (p : Part F) →
+    IsHonest S P.items p → IsListed P.items sent p →
     tally (marked x sent) (reply_to S Q p) ≡ in_list x (times x (difference P.items Q.items)) p
-reply_to-marked S P Q x sent p honest listed = grind (arith, reply_to_sum, tally-sums, items_where_true-map, times-difference_of)
+reply_to-marked S P Q x sent p honest listed =
+    grind (arith, reply_to_sum, tally-sums, items_where_true-map, times-difference_of)
 
 -- and has the items that its sender has and the other lacks
 reply_to-offered : {F : Type 0} (S : Summary F) (P Q : Peer) (x : Item) (p : Part F) → IsHonest S P.items p →
@@ -146,8 +169,10 @@ pub NoneWhereSame-difference : (x : Item) (A B : List Item) → NoneWhereSame x 
 NoneWhereSame-difference x A B X e = cc (times-difference_in x X A B, times-difference_same x (items_in B X))
 
 -- the open parts of the reply to a Sum cover what the Sum does, but where both agree
-reply_to-in_open : {F : Type 0} (S : Summary F) (P Q : Peer) (x : Item) (n : ℕ) → IsExact S → IsSet Q.items → NoneWhereSame x n P.items Q.items →
-    (p : Part F) → IsHonest S P.items p → IsClearAt S P.items Q.items p → tally (in_open x n) (reply_to S Q p) ≡ in_sum x n p
+reply_to-in_open : {F : Type 0} (S : Summary F) (P Q : Peer) (x : Item) (n : ℕ) → IsExact S → IsSet Q.items →
+    NoneWhereSame x n P.items Q.items →
+    (p : Part F) → IsHonest S P.items p → IsClearAt S P.items Q.items p →
+    tally (in_open x n) (reply_to S Q p) ≡ in_sum x n p
 reply_to-in_open S P Q x n exact set none (Sum X f) honest clear =
     reply_to_sum S Q X f (λ M. tally (in_open x n) M ≡ when (contains X x) n)
     (λ e. sym (none X (clear (sym ((exact (S.of (items_in Q.items X)) f).0 e ∙ honest)))))
@@ -158,20 +183,24 @@ reply_to-in_open S P Q x n exact set none (Answer X marks items) honest clear = 
 
 -- ---- whole replies
 
-pub reply-marked : {F : Type 0} (S : Summary F) (P Q : Peer) (x : Item) (M : Message F) → AllByRecursion (IsHonest S P.items) M →
+pub reply-marked : {F : Type 0} (S : Summary F) (P Q : Peer) (x : Item) (M : Message F) →
+    AllByRecursion (IsHonest S P.items) M →
     tally (marked x M) (reply S Q M) ≡ tally (in_list x (times x (difference P.items Q.items))) M
 reply-marked S P Q x M honest = search (rules, tally-reply, All-both, reply_to-marked, IsListed-from_honest)
 
-pub reply-offered : {F : Type 0} (S : Summary F) (P Q : Peer) (x : Item) (M : Message F) → AllByRecursion (IsHonest S P.items) M →
+pub reply-offered : {F : Type 0} (S : Summary F) (P Q : Peer) (x : Item) (M : Message F) →
+    AllByRecursion (IsHonest S P.items) M →
     tally (offered x) (reply S Q M) ≡ tally (in_list x (times x (difference Q.items P.items))) M
 reply-offered S P Q x M honest = search (rules, tally-reply, All-both, reply_to-offered)
 
-pub reply-in_open : {F : Type 0} (S : Summary F) (P Q : Peer) (x : Item) (n : ℕ) → IsExact S → IsSet Q.items → NoneWhereSame x n P.items Q.items →
+pub reply-in_open : {F : Type 0} (S : Summary F) (P Q : Peer) (x : Item) (n : ℕ) → IsExact S → IsSet Q.items →
+    NoneWhereSame x n P.items Q.items →
     (M : Message F) → AllByRecursion (IsHonest S P.items) M → AllByRecursion (IsClearAt S P.items Q.items) M →
     tally (in_open x n) (reply S Q M) ≡ tally (in_sum x n) M
 reply-in_open S P Q x n exact set none M honest clear = search (rules, tally-reply, All-both, reply_to-in_open)
 
--- ==== What both learn from a message on is the difference of their sets, once for each open range: counted for one item x
+-- ==== What both learn from a message on is the difference of their sets, once for each open range: counted for one
+--      item x
 
 -- the messages that follow M, of which there are at most k
 abbrev following : {F : Type 0} → Summary F → Peer → Peer → Message F → ℕ → List (Message F)
@@ -179,28 +208,46 @@ following S P Q M k = if has_open M then talk_from S Q P (reply S Q M) k else []
 
 -- What the speaker learns after its message M, to which Ms follow, and what the hearer learns from M on.
 record Learns {F : Type 0} (x : Item) (A B : List Item) (M : Message F) (Ms : List (Message F)) : Type 0 where
-  speaker_ours : times x (knows A (of_first (M ∷ Ms)) (of_first Ms)).ours ≡ tally (in_open x (times x (difference A B))) M
-  speaker_theirs : times x (knows A (of_first (M ∷ Ms)) (of_first Ms)).theirs ≡ tally (in_open x (times x (difference B A))) M
-  hearer_ours : (sent : Message F) → times x (knows B (sent ∷ of_first Ms) (of_first (M ∷ Ms))).ours ≡ tally (marked x sent) M + tally (in_open x (times x (difference B A))) M
-  hearer_theirs : (sent : Message F) → times x (knows B (sent ∷ of_first Ms) (of_first (M ∷ Ms))).theirs ≡ tally (offered x) M + tally (in_open x (times x (difference A B))) M
+  speaker_ours : times x (knows A (of_first (M ∷ Ms)) (of_first Ms)).ours
+      ≡ tally (in_open x (times x (difference A B))) M
+  speaker_theirs : times x (knows A (of_first (M ∷ Ms)) (of_first Ms)).theirs
+      ≡ tally (in_open x (times x (difference B A))) M
+  hearer_ours : (sent : Message F) → times x (knows B (sent ∷ of_first Ms) (of_first (M ∷ Ms))).ours
+      ≡ tally (marked x sent) M + tally (in_open x (times x (difference B A))) M
+  hearer_theirs : (sent : Message F) → times x (knows B (sent ∷ of_first Ms) (of_first (M ∷ Ms))).theirs
+      ≡ tally (offered x) M + tally (in_open x (times x (difference A B))) M
 
 -- nothing is open, so nothing follows
-Learns-last : {F : Type 0} (S : Summary F) (x : Item) (A B : List Item) (M : Message F) → AllByRecursion (IsHonest S A) M → has_open M ≡ false → Learns x A B M []
+Learns-last : {F : Type 0} (S : Summary F) (x : Item) (A B : List Item) (M : Message F) →
+    AllByRecursion (IsHonest S A) M → has_open M ≡ false → Learns x A B M []
 Learns-last S x A B M honest closed =
     let a : ℕ = times x (difference A B) in
     let b : ℕ = times x (difference B A) in
     record {
       speaker_ours = sym (tally-no_open x a M closed);
       speaker_theirs = sym (tally-no_open x b M closed);
-      hearer_ours = λ sent. omega (arith, times-append x (learn B sent M).ours [], learn-ours S x B A sent M honest, tally-in_open x b M, tally-no_open x b M closed);
-      hearer_theirs = λ sent. omega (arith, times-append x (learn B sent M).theirs [], learn-theirs S x B A sent M honest, tally-in_open x a M, tally-no_open x a M closed);
+      hearer_ours = λ sent. omega (
+        arith,
+        times-append x (learn B sent M).ours [],
+        learn-ours S x B A sent M honest,
+        tally-in_open x b M,
+        tally-no_open x b M closed,
+      );
+      hearer_theirs = λ sent. omega (
+        arith,
+        times-append x (learn B sent M).theirs [],
+        learn-theirs S x B A sent M honest,
+        tally-in_open x a M,
+        tally-no_open x a M closed,
+      );
     }
 
 NoneWhereSame-flip : (x : Item) (A B : List Item) → NoneWhereSame x (times x (difference B A)) A B
 NoneWhereSame-flip x A B X e = NoneWhereSame-difference x B A X (sym e)
 
 -- the reply N to M, and what is learned from N on
-Learns-more : {F : Type 0} (S : Summary F) (x : Item) (P Q : Peer) (M : Message F) (Ms : List (Message F)) → IsExact S → IsSet Q.items →
+Learns-more : {F : Type 0} (S : Summary F) (x : Item) (P Q : Peer) (M : Message F) (Ms : List (Message F)) → IsExact S →
+    IsSet Q.items →
     AllByRecursion (IsHonest S P.items) M → AllByRecursion (IsClearAt S P.items Q.items) M →
     Learns x Q.items P.items (reply S Q M) Ms → Learns x P.items Q.items M (reply S Q M ∷ Ms)
 Learns-more S x P Q M Ms exact set honest clear later =
@@ -210,27 +257,47 @@ Learns-more S x P Q M Ms exact set honest clear later =
     let open_b = reply-in_open S P Q x b exact set (NoneWhereSame-flip x P.items Q.items) M honest clear in
     record {
       speaker_ours = omega (arith, later.hearer_ours M, reply-marked S P Q x M honest, open_a, tally-in_open x a M);
-      speaker_theirs = omega (arith, later.hearer_theirs M, reply-offered S P Q x M honest, open_b, tally-in_open x b M);
-      hearer_ours = λ sent. omega (arith, times-append x (learn Q.items sent M).ours (knows Q.items (of_first (reply S Q M ∷ Ms)) (of_first Ms)).ours, learn-ours S x Q.items P.items sent M honest, later.speaker_ours, open_b, tally-in_open x b M);
-      hearer_theirs = λ sent. omega (arith, times-append x (learn Q.items sent M).theirs (knows Q.items (of_first (reply S Q M ∷ Ms)) (of_first Ms)).theirs, learn-theirs S x Q.items P.items sent M honest, later.speaker_theirs, open_a, tally-in_open x a M);
+      speaker_theirs =
+          omega (arith, later.hearer_theirs M, reply-offered S P Q x M honest, open_b, tally-in_open x b M);
+      hearer_ours = λ sent. omega (
+        arith,
+        times-append x (learn Q.items sent M).ours (knows Q.items (of_first (reply S Q M ∷ Ms)) (of_first Ms)).ours,
+        learn-ours S x Q.items P.items sent M honest,
+        later.speaker_ours,
+        open_b,
+        tally-in_open x b M,
+      );
+      hearer_theirs = λ sent. omega (
+        arith,
+        times-append x (learn Q.items sent M).theirs (knows Q.items (of_first (reply S Q M ∷ Ms)) (of_first Ms)).theirs,
+        learn-theirs S x Q.items P.items sent M honest,
+        later.speaker_theirs,
+        open_a,
+        tally-in_open x a M,
+      );
     }
 
-IsClear-flip : {F : Type 0} (S : Summary F) (A B : List Item) (Ms : List (Message F)) → IsClear S A B Ms → IsClear S B A Ms
+IsClear-flip : {F : Type 0} (S : Summary F) (A B : List Item) (Ms : List (Message F)) → IsClear S A B Ms →
+    IsClear S B A Ms
 IsClear-flip S A B [] h = tt
 IsClear-flip S A B (M ∷ Ms) (here, rest) = grind (arith, IsClear-flip S A B Ms rest, All-both, here)
 
 -- once the talk has ended
-Learns-talk : {F : Type 0} (S : Summary F) (x : Item) → IsExact S → (k : ℕ) (P Q : Peer) (M : Message F) → IsSet P.items → IsSet Q.items →
-    AllByRecursion (IsHonest S P.items) M → length (following S P Q M k) < k → IsClear S P.items Q.items (M ∷ following S P Q M k) →
+Learns-talk : {F : Type 0} (S : Summary F) (x : Item) → IsExact S → (k : ℕ) (P Q : Peer) (M : Message F) →
+    IsSet P.items → IsSet Q.items →
+    AllByRecursion (IsHonest S P.items) M → length (following S P Q M k) < k →
+    IsClear S P.items Q.items (M ∷ following S P Q M k) →
     Learns x P.items Q.items M (following S P Q M k)
 Learns-talk S x exact zero P Q M own other honest ended clear = absurd (omega arith)
 Learns-talk S x exact (suc k) P Q M own other honest ended clear =
     let N = reply S Q M in
     let either : (b : Bool) → has_open M ≡ b → length (if b then talk_from S Q P N (suc k) else []) < suc k →
-    IsClear S P.items Q.items (M ∷ (if b then talk_from S Q P N (suc k) else [])) → Learns x P.items Q.items M (if b then talk_from S Q P N (suc k) else []) =
+    IsClear S P.items Q.items (M ∷ (if b then talk_from S Q P N (suc k) else [])) → Learns x P.items Q.items M (if b
+    then talk_from S Q P N (suc k) else []) =
     elim [
       | true ↦ λ e ended clear. Learns-more S x P Q M (following S Q P N k) exact other honest clear.0
-          (Learns-talk S x exact k Q P N other own (replies_are_honest S Q M) (omega arith) (IsClear-flip S P.items Q.items (N ∷ following S Q P N k) clear.1))
+          (Learns-talk S x exact k Q P N other own (replies_are_honest S Q M) (omega arith)
+          (IsClear-flip S P.items Q.items (N ∷ following S Q P N k) clear.1))
       | false ↦ λ e ended clear. Learns-last S x P.items Q.items M honest e
     ] in
     either (has_open M) refl ended clear
@@ -241,7 +308,8 @@ contains-whole (b ∷ bs) = refl
 
 pub items_in-whole : (A : List Item) → items_in A whole ≡ A
 items_in-whole [] = refl
-items_in-whole (x ∷ xs) = ap (λ b. if b then x ∷ items_in xs whole else items_in xs whole) (contains-whole x) ∙ ap (λ ys. x ∷ ys) (items_in-whole xs)
+items_in-whole (x ∷ xs) = ap (λ b. if b then x ∷ items_in xs whole else items_in xs whole) (contains-whole x)
+    ∙ ap (λ ys. x ∷ ys) (items_in-whole xs)
 
 -- What the opening teaches is all. Only the sets matter: the tables may be any.
 pub exact_knowledge : {F : Type 0} (S : Summary F) → KnowledgeIsExact S
@@ -253,50 +321,77 @@ exact_knowledge S exact I R (suc k) left right ended clear =
     let all : (x : Item) (n : ℕ) → tally (in_open x n) M ≡ n =
     λ x n. omega (arith, ap (λ b. when b n) (contains-whole x)) in (
       record {
-        ours = ListsOnce-from_times _ _ (difference-IsSet I.items R.items left) (λ x. (learns x).speaker_ours ∙ all x _);
-        theirs = ListsOnce-from_times _ _ (difference-IsSet R.items I.items right) (λ x. (learns x).speaker_theirs ∙ all x _);
+        ours =
+            ListsOnce-from_times _ _ (difference-IsSet I.items R.items left) (λ x. (learns x).speaker_ours ∙ all x _);
+        theirs = ListsOnce-from_times _ _ (difference-IsSet R.items I.items right)
+            (λ x. (learns x).speaker_theirs ∙ all x _);
       },
       record {
-        ours = ListsOnce-from_times _ _ (difference-IsSet R.items I.items right) (λ x. omega (arith, (learns x).hearer_ours [], all x (times x (difference R.items I.items))));
-        theirs = ListsOnce-from_times _ _ (difference-IsSet I.items R.items left) (λ x. omega (arith, (learns x).hearer_theirs [], all x (times x (difference I.items R.items))));
+        ours = ListsOnce-from_times _ _ (difference-IsSet R.items I.items right)
+            (λ x. omega (arith, (learns x).hearer_ours [], all x (times x (difference R.items I.items))));
+        theirs = ListsOnce-from_times _ _ (difference-IsSet I.items R.items left)
+            (λ x. omega (arith, (learns x).hearer_theirs [], all x (times x (difference I.items R.items))));
       },
     )
 
--- ==== What is learned is never wrong, whatever the fingerprints and before the end of the talk: counted for one item x, it is at most the difference
+-- ==== What is learned is never wrong, whatever the fingerprints and before the end of the talk: counted for one item
+--      x, it is at most the difference
 
 ListsSome-from_times : (items A : List Item) → IsSet A → ((x : Item) → times x items ≤ times x A) → ListsSome items A
 ListsSome-from_times items A set few = record {
   once = IsDistinct-from_times items (λ x. omega (arith, few x, times_le_one x A set));
-  among = λ x h. has-times x A ∙ lt-ltb 0 (times x A) (omega (arith, few x, ltb-true 0 (times x items) (sym (has-times x items) ∙ h)));
+  among = λ x h. has-times x A
+      ∙ lt-ltb 0 (times x A) (omega (arith, few x, ltb-true 0 (times x items) (sym (has-times x items) ∙ h)));
 }
 
 -- the open parts of the reply to a part cover no more than a Sum does
-reply_to-in_open_le : {F : Type 0} (S : Summary F) (Q : Peer) (x : Item) (n : ℕ) → IsSet Q.items → (p : Part F) → tally (in_open x n) (reply_to S Q p) ≤ in_sum x n p
-reply_to-in_open_le S Q x n set (Sum X f) = grind (arith, tally-in_open-sums S Q.items x n (peer_cutup Q X), spread-cutup x n Q X set)
+reply_to-in_open_le : {F : Type 0} (S : Summary F) (Q : Peer) (x : Item) (n : ℕ) → IsSet Q.items → (p : Part F) →
+    tally (in_open x n) (reply_to S Q p) ≤ in_sum x n p
+reply_to-in_open_le S Q x n set (Sum X f) =
+    grind (arith, tally-in_open-sums S Q.items x n (peer_cutup Q X), spread-cutup x n Q X set)
 reply_to-in_open_le S Q x n set (Listing X items) = omega arith
 reply_to-in_open_le S Q x n set (Answer X marks items) = omega arith
 
-pub reply-in_open_le : {F : Type 0} (S : Summary F) (Q : Peer) (x : Item) (n : ℕ) → IsSet Q.items → (M : Message F) → tally (in_open x n) (reply S Q M) ≤ tally (in_sum x n) M
+pub reply-in_open_le : {F : Type 0} (S : Summary F) (Q : Peer) (x : Item) (n : ℕ) → IsSet Q.items → (M : Message F) →
+    tally (in_open x n) (reply S Q M) ≤ tally (in_sum x n) M
 reply-in_open_le S Q x n set [] = omega arith
-reply-in_open_le S Q x n set (p ∷ ps) = grind (arith, reply-in_open_le S Q x n set ps, tally-append, reply_to-in_open_le)
+reply-in_open_le S Q x n set (p ∷ ps) =
+    grind (arith, reply-in_open_le S Q x n set ps, tally-append, reply_to-in_open_le)
 
 -- as Learns of Talk, but at most
 record LearnsSome {F : Type 0} (x : Item) (A B : List Item) (M : Message F) (Ms : List (Message F)) : Type 0 where
-  speaker_ours : times x (knows A (of_first (M ∷ Ms)) (of_first Ms)).ours ≤ tally (in_open x (times x (difference A B))) M
-  speaker_theirs : times x (knows A (of_first (M ∷ Ms)) (of_first Ms)).theirs ≤ tally (in_open x (times x (difference B A))) M
-  hearer_ours : (sent : Message F) → times x (knows B (sent ∷ of_first Ms) (of_first (M ∷ Ms))).ours ≤ tally (marked x sent) M + tally (in_open x (times x (difference B A))) M
-  hearer_theirs : (sent : Message F) → times x (knows B (sent ∷ of_first Ms) (of_first (M ∷ Ms))).theirs ≤ tally (offered x) M + tally (in_open x (times x (difference A B))) M
+  speaker_ours : times x (knows A (of_first (M ∷ Ms)) (of_first Ms)).ours
+      ≤ tally (in_open x (times x (difference A B))) M
+  speaker_theirs : times x (knows A (of_first (M ∷ Ms)) (of_first Ms)).theirs
+      ≤ tally (in_open x (times x (difference B A))) M
+  hearer_ours : (sent : Message F) → times x (knows B (sent ∷ of_first Ms) (of_first (M ∷ Ms))).ours
+      ≤ tally (marked x sent) M + tally (in_open x (times x (difference B A))) M
+  hearer_theirs : (sent : Message F) → times x (knows B (sent ∷ of_first Ms) (of_first (M ∷ Ms))).theirs
+      ≤ tally (offered x) M + tally (in_open x (times x (difference A B))) M
 
-LearnsSome-last : {F : Type 0} (S : Summary F) (x : Item) (A B : List Item) (M : Message F) → AllByRecursion (IsHonest S A) M → LearnsSome x A B M []
+LearnsSome-last : {F : Type 0} (S : Summary F) (x : Item) (A B : List Item) (M : Message F) →
+    AllByRecursion (IsHonest S A) M → LearnsSome x A B M []
 LearnsSome-last S x A B M honest = record {
   speaker_ours = omega arith;
   speaker_theirs = omega arith;
-  hearer_ours = λ sent. omega (arith, times-append x (learn B sent M).ours [], learn-ours S x B A sent M honest, tally-in_open x (times x (difference B A)) M);
-  hearer_theirs = λ sent. omega (arith, times-append x (learn B sent M).theirs [], learn-theirs S x B A sent M honest, tally-in_open x (times x (difference A B)) M);
+  hearer_ours = λ sent. omega (
+    arith,
+    times-append x (learn B sent M).ours [],
+    learn-ours S x B A sent M honest,
+    tally-in_open x (times x (difference B A)) M,
+  );
+  hearer_theirs = λ sent. omega (
+    arith,
+    times-append x (learn B sent M).theirs [],
+    learn-theirs S x B A sent M honest,
+    tally-in_open x (times x (difference A B)) M,
+  );
 }
 
-LearnsSome-more : {F : Type 0} (S : Summary F) (x : Item) (P Q : Peer) (M : Message F) (Ms : List (Message F)) → IsSet Q.items →
-    AllByRecursion (IsHonest S P.items) M → LearnsSome x Q.items P.items (reply S Q M) Ms → LearnsSome x P.items Q.items M (reply S Q M ∷ Ms)
+LearnsSome-more : {F : Type 0} (S : Summary F) (x : Item) (P Q : Peer) (M : Message F) (Ms : List (Message F)) →
+    IsSet Q.items →
+    AllByRecursion (IsHonest S P.items) M → LearnsSome x Q.items P.items (reply S Q M) Ms →
+    LearnsSome x P.items Q.items M (reply S Q M ∷ Ms)
 LearnsSome-more S x P Q M Ms set honest later =
     let a : ℕ = times x (difference P.items Q.items) in
     let b : ℕ = times x (difference Q.items P.items) in
@@ -304,21 +399,43 @@ LearnsSome-more S x P Q M Ms set honest later =
     let open_b = reply-in_open_le S Q x b set M in
     record {
       speaker_ours = omega (arith, later.hearer_ours M, reply-marked S P Q x M honest, open_a, tally-in_open x a M);
-      speaker_theirs = omega (arith, later.hearer_theirs M, reply-offered S P Q x M honest, open_b, tally-in_open x b M);
-      hearer_ours = λ sent. omega (arith, times-append x (learn Q.items sent M).ours (knows Q.items (of_first (reply S Q M ∷ Ms)) (of_first Ms)).ours, learn-ours S x Q.items P.items sent M honest, later.speaker_ours, open_b, tally-in_open x b M);
-      hearer_theirs = λ sent. omega (arith, times-append x (learn Q.items sent M).theirs (knows Q.items (of_first (reply S Q M ∷ Ms)) (of_first Ms)).theirs, learn-theirs S x Q.items P.items sent M honest, later.speaker_theirs, open_a, tally-in_open x a M);
+      speaker_theirs =
+          omega (arith, later.hearer_theirs M, reply-offered S P Q x M honest, open_b, tally-in_open x b M);
+      hearer_ours = λ sent. omega (
+        arith,
+        times-append x (learn Q.items sent M).ours (knows Q.items (of_first (reply S Q M ∷ Ms)) (of_first Ms)).ours,
+        learn-ours S x Q.items P.items sent M honest,
+        later.speaker_ours,
+        open_b,
+        tally-in_open x b M,
+      );
+      hearer_theirs = λ sent. omega (
+        arith,
+        times-append x (learn Q.items sent M).theirs (knows Q.items (of_first (reply S Q M ∷ Ms)) (of_first Ms)).theirs,
+        learn-theirs S x Q.items P.items sent M honest,
+        later.speaker_theirs,
+        open_a,
+        tally-in_open x a M,
+      );
     }
 
-LearnsSome-talk : {F : Type 0} (S : Summary F) (x : Item) (k : ℕ) (P Q : Peer) (M : Message F) → IsSet P.items → IsSet Q.items → AllByRecursion (IsHonest S P.items) M →
+LearnsSome-talk : {F : Type 0} (S : Summary F) (x : Item) (k : ℕ) (P Q : Peer) (M : Message F) → IsSet P.items →
+    IsSet Q.items → AllByRecursion (IsHonest S P.items) M →
     LearnsSome x P.items Q.items M (if has_open M then talk_from S Q P (reply S Q M) k else [])
 LearnsSome-talk S x zero P Q M own other honest = grind (arith, LearnsSome-last S x P.items Q.items M honest)
 LearnsSome-talk S x (suc k) P Q M own other honest =
-    let more = LearnsSome-more S x P Q M _ other honest (LearnsSome-talk S x k Q P (reply S Q M) other own (replies_are_honest S Q M)) in
-    elim (has_open M) as (λ b. LearnsSome x P.items Q.items M (if b then talk_from S Q P (reply S Q M) (suc k) else [])) [ true ↦ more | false ↦ LearnsSome-last S x P.items Q.items M honest ]
+    let more = LearnsSome-more S x P Q M _ other honest
+    (LearnsSome-talk S x k Q P (reply S Q M) other own (replies_are_honest S Q M)) in
+    elim (has_open M)
+    as (λ b. LearnsSome x P.items Q.items M (if b then talk_from S Q P (reply S Q M) (suc k) else [])) [
+      | true ↦ more
+      | false ↦ LearnsSome-last S x P.items Q.items M honest
+    ]
 
 pub sound_knowledge : {F : Type 0} (S : Summary F) → KnowledgeIsSound S
 sound_knowledge S I R zero left right =
-    let none : (A : List Item) → ListsSome [] A = λ A. record { once = IsDistinct-from_times [] (λ x. omega arith); among = λ x h. cc } in
+    let none : (A : List Item) → ListsSome [] A =
+    λ A. record { once = IsDistinct-from_times [] (λ x. omega arith); among = λ x h. cc } in
     (record { ours = none _; theirs = none _ }, record { ours = none _; theirs = none _ })
 sound_knowledge S I R (suc k) left right =
     let M = opening S I.items in
@@ -328,12 +445,16 @@ sound_knowledge S I R (suc k) left right =
     let all : (x : Item) (n : ℕ) → tally (in_open x n) M ≡ n =
     λ x n. omega (arith, ap (λ b. when b n) (contains-whole x)) in (
       record {
-        ours = ListsSome-from_times _ _ (difference-IsSet I.items R.items left) (λ x. omega (arith, (learns x).speaker_ours, all x (times x (difference I.items R.items))));
-        theirs = ListsSome-from_times _ _ (difference-IsSet R.items I.items right) (λ x. omega (arith, (learns x).speaker_theirs, all x (times x (difference R.items I.items))));
+        ours = ListsSome-from_times _ _ (difference-IsSet I.items R.items left)
+            (λ x. omega (arith, (learns x).speaker_ours, all x (times x (difference I.items R.items))));
+        theirs = ListsSome-from_times _ _ (difference-IsSet R.items I.items right)
+            (λ x. omega (arith, (learns x).speaker_theirs, all x (times x (difference R.items I.items))));
       },
       record {
-        ours = ListsSome-from_times _ _ (difference-IsSet R.items I.items right) (λ x. omega (arith, (learns x).hearer_ours [], all x (times x (difference R.items I.items))));
-        theirs = ListsSome-from_times _ _ (difference-IsSet I.items R.items left) (λ x. omega (arith, (learns x).hearer_theirs [], all x (times x (difference I.items R.items))));
+        ours = ListsSome-from_times _ _ (difference-IsSet R.items I.items right)
+            (λ x. omega (arith, (learns x).hearer_ours [], all x (times x (difference R.items I.items))));
+        theirs = ListsSome-from_times _ _ (difference-IsSet I.items R.items left)
+            (λ x. omega (arith, (learns x).hearer_theirs [], all x (times x (difference I.items R.items))));
       },
     )
 
@@ -342,7 +463,8 @@ sound_knowledge S I R (suc k) left right =
 -- ---- talks
 
 abbrev Grown : {F : Type 0} → Summary F → Peer → Peer → Message F → ℕ → Message F → Type 0
-Grown S P Q M k N = talk_from S P Q M (suc (suc k)) ≡ talk_from S P Q M (suc k) ++ (if has_open N then reply S (sender P Q (suc k)) N ∷ [] else [])
+Grown S P Q M k N = talk_from S P Q M (suc (suc k))
+    ≡ talk_from S P Q M (suc k) ++ (if has_open N then reply S (sender P Q (suc k)) N ∷ [] else [])
 
 pub some_is : {X : Type 0} (x y : X) → Some x ≡ Some y → x ≡ y
 some_is x y e = cc
@@ -350,7 +472,8 @@ some_is x y e = cc
 first_reply : {F : Type 0} (S : Summary F) (P Q : Peer) (M : Message F) → Grown S P Q M zero M
 first_reply S P Q M = grind arith
 
-talk_from-grows : {F : Type 0} (S : Summary F) (P Q : Peer) (M : Message F) (k : ℕ) (N : Message F) → slice_get (talk_from S P Q M (suc k)) k ≡ Some N → Grown S P Q M k N
+talk_from-grows : {F : Type 0} (S : Summary F) (P Q : Peer) (M : Message F) (k : ℕ) (N : Message F) →
+    slice_get (talk_from S P Q M (suc k)) k ≡ Some N → Grown S P Q M k N
 talk_from-grows S P Q M zero N h = subst (Grown S P Q M zero) (some_is M N h) (first_reply S P Q M)
 talk_from-grows S P Q M (suc k) N h = grind (arith, talk_from-grows S Q P (reply S Q M) k N, slice_get)
 
@@ -368,7 +491,8 @@ pub then_nothing : (k : Knowledge) → and_then k nothing ≡ k
 then_nothing k i = record { ours = append-nil k.ours i; theirs = append-nil k.theirs i }
 
 pub then_then : (j k l : Knowledge) → and_then (and_then j k) l ≡ and_then j (and_then k l)
-then_then j k l i = record { ours = append_assoc j.ours k.ours l.ours i; theirs = append_assoc j.theirs k.theirs l.theirs i }
+then_then j k l i =
+    record { ours = append_assoc j.ours k.ours l.ours i; theirs = append_assoc j.theirs k.theirs l.theirs i }
 
 -- what A knows of messages that it begins, and of messages that the other begins and of which the first answers sent
 abbrev begun : {F : Type 0} → List Item → List (Message F) → Knowledge
@@ -383,35 +507,43 @@ of_first-cons M Ms = grind arith
 pub begun-cons : {F : Type 0} (A : List Item) (M : Message F) (Ms : List (Message F)) → begun A (M ∷ Ms) ≡ heard A M Ms
 begun-cons A M Ms = ap (λ Os. knows A Os (of_first Ms)) (of_first-cons M Ms)
 
-pub heard-cons : {F : Type 0} (A : List Item) (sent M : Message F) (Ms : List (Message F)) → heard A sent (M ∷ Ms) ≡ and_then (learn A sent M) (begun A Ms)
+pub heard-cons : {F : Type 0} (A : List Item) (sent M : Message F) (Ms : List (Message F)) →
+    heard A sent (M ∷ Ms) ≡ and_then (learn A sent M) (begun A Ms)
 heard-cons A sent M Ms = ap (λ Os. knows A (sent ∷ of_first Ms) Os) (of_first-cons M Ms)
 
 abbrev BegunGrows : {F : Type 0} → ℕ → List Item → List (Message F) → Message F → Type 0
-BegunGrows k A Ms M = begun A (take (suc k) Ms) ≡ (if is_even k then begun A (take k Ms) else and_then (begun A (take k Ms)) (learn A (answered Ms k) M))
+BegunGrows k A Ms M = begun A (take (suc k) Ms)
+    ≡ (if is_even k then begun A (take k Ms) else and_then (begun A (take k Ms)) (learn A (answered Ms k) M))
 
 abbrev HeardGrows : {F : Type 0} → ℕ → List Item → Message F → List (Message F) → Message F → Type 0
-HeardGrows k A sent Ms M = heard A sent (take (suc k) Ms) ≡ (if is_even k then and_then (heard A sent (take k Ms)) (learn A (get_or (sent ∷ Ms) k []) M) else heard A sent (take k Ms))
+HeardGrows k A sent Ms M = heard A sent (take (suc k) Ms) ≡ (if is_even k
+    then and_then (heard A sent (take k Ms)) (learn A (get_or (sent ∷ Ms) k []) M) else heard A sent (take k Ms))
 
 pub turned : {X : Type 0} (b : Bool) (x y : X) → (if b then y else x) ≡ (if not b then x else y)
 turned b x y = grind arith
 
-regrouped : (j k l m : Knowledge) (b : Bool) → (b ≡ false → l ≡ m) → and_then j (if b then k else and_then k l) ≡ (if not b then and_then (and_then j k) m else and_then j k)
+regrouped : (j k l m : Knowledge) (b : Bool) → (b ≡ false → l ≡ m) →
+    and_then j (if b then k else and_then k l) ≡ (if not b then and_then (and_then j k) m else and_then j k)
 regrouped j k l m b same = grind (arith, then_then)
 
 -- a message of odd number answers one of these, and not the one before them all
-odd_answers : {F : Type 0} (A : List Item) (N M : Message F) (Ms : List (Message F)) (k : ℕ) → is_even k ≡ false → learn A (answered Ms k) M ≡ learn A (get_or (N ∷ Ms) k []) M
+odd_answers : {F : Type 0} (A : List Item) (N M : Message F) (Ms : List (Message F)) (k : ℕ) → is_even k ≡ false →
+    learn A (answered Ms k) M ≡ learn A (get_or (N ∷ Ms) k []) M
 odd_answers A N M Ms k h = grind arith
 
-grows : {F : Type 0} (k : ℕ) (A : List Item) (Ms : List (Message F)) (M : Message F) → slice_get Ms k ≡ Some M → BegunGrows k A Ms M × ((sent : Message F) → HeardGrows k A sent Ms M)
+grows : {F : Type 0} (k : ℕ) (A : List Item) (Ms : List (Message F)) (M : Message F) → slice_get Ms k ≡ Some M →
+    BegunGrows k A Ms M × ((sent : Message F) → HeardGrows k A sent Ms M)
 grows k A [] M h = absurd cc
 grows zero A (N ∷ Ms) M h = (refl, λ sent. then_nothing (learn A sent N) ∙ ap (learn A sent) (some_is N M h))
 grows (suc k) A (N ∷ Ms) M h =
     let later = grows k A Ms M h in
     let l : Knowledge = learn A (get_or (N ∷ Ms) k []) M in (
-      begun-cons A N (take (suc k) Ms) ∙ later.1 N ∙ turned (is_even k) (heard A N (take k Ms)) (and_then (heard A N (take k Ms)) l)
+      begun-cons A N (take (suc k) Ms) ∙ later.1 N
+          ∙ turned (is_even k) (heard A N (take k Ms)) (and_then (heard A N (take k Ms)) l)
           ∙ ap (λ o. if not (is_even k) then o else and_then o l) (sym (begun-cons A N (take k Ms))),
       λ sent. heard-cons A sent N (take (suc k) Ms) ∙ ap (and_then (learn A sent N)) later.0
-          ∙ regrouped (learn A sent N) (begun A (take k Ms)) (learn A (answered Ms k) M) l (is_even k) (odd_answers A N M Ms k)
+          ∙ regrouped (learn A sent N) (begun A (take k Ms)) (learn A (answered Ms k) M) l (is_even k)
+          (odd_answers A N M Ms k)
           ∙ ap (λ o. if not (is_even k) then and_then o l else o) (sym (heard-cons A sent N (take k Ms))),
     )
 

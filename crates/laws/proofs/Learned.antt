@@ -9,7 +9,11 @@
 -- docs/LAWS.md: What an end learned.
 use Rattle.std.proofs.Common.{◌≡◌, ◌∙◌, true, false, List, [], ◌∷◌, ◌++◌, refl, sym, ap, append_assoc}
 use Rattle.std.specs.Prelude.{◌≢◌, Bool, if◌then◌else◌}
-use Rattle.definitions.proofs.Words.{Summary, Message, has_open, opening, open_parts, Item, Knowledge, nothing, and_then, knows, learn, InitiatorLearns, ResponderLearns, End, Ends, Fresh, Over, Refuses, Replies, Spent, Stage, Waits, after, after_answer, answer, answers, gained, heard, initiator, responder, is_live, own_of, replied, unless_refused, takes}
+use Rattle.definitions.proofs.Words.{Summary, Message, has_open, opening, open_parts, Item, Knowledge, nothing}
+use Rattle.definitions.proofs.Words.{and_then, knows, learn, InitiatorLearns, ResponderLearns, End, Ends, Fresh, Over}
+use Rattle.definitions.proofs.Words.{Refuses, Replies, Spent, Stage, Waits, after, after_answer, answer, answers}
+use Rattle.definitions.proofs.Words.{gained, heard, initiator, responder, is_live, own_of, replied, unless_refused}
+use Rattle.definitions.proofs.Words.{takes}
 use Rattle.definitions.specs.Ends.{Answer}
 use Rattle.definitions.proofs.Lemmas.{append-nil, cond-true}
 use Rattle.laws.proofs.Opens.{learn-open}
@@ -56,7 +60,8 @@ learns_no_more S e owns Ms over =
 
 -- ---- one message
 
-waits_for : {F : Type 0} (wanted : Bool) (N : Message F) → is_live (if wanted then Waits (open_parts N) else Over) ≡ true →
+waits_for : {F : Type 0} (wanted : Bool) (N : Message F) →
+    is_live (if wanted then Waits (open_parts N) else Over) ≡ true →
     own_of (if wanted then Waits (open_parts N) else Over) ≡ open_parts N
 waits_for true N live = refl
 waits_for false N live = absurd cc

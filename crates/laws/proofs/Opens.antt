@@ -8,7 +8,9 @@
 use Rattle.std.proofs.Common.{◌≡◌, List, [], ◌∷◌, refl, sym, ap, subst}
 use Rattle.std.specs.Prelude.{if◌then◌else◌, flat_map, map, fold, None, IsFalse}
 use Rattle.std.specs.List.{AllByRecursion, list_any, items_where_true}
-use Rattle.definitions.proofs.Words.{Item, Range, contains, same_range, Apart, Part, Sum, Listing, Answer, Message, range_of, open_parts, open_ranges, Behind, next, finish, place_fault, Knowledge, learn, knows, and_then, listed_in, IsSettled}
+use Rattle.definitions.proofs.Words.{Item, Range, contains, same_range, Apart, Part, Sum, Listing, Answer, Message}
+use Rattle.definitions.proofs.Words.{range_of, open_parts, open_ranges, Behind, next, finish, place_fault, Knowledge}
+use Rattle.definitions.proofs.Words.{learn, knows, and_then, listed_in, IsSettled}
 use Rattle.definitions.specs.Talks.{ours_by, theirs_by}
 
 pub open_twice : {F : Type 0} (M : Message F) → open_parts (open_parts M) ≡ open_parts M
@@ -40,7 +42,8 @@ ours-open A own (Answer X marks items) = ap (λ (l : List Item). items_where_tru
 pub learn-open : {F : Type 0} (A : List Item) (own M : Message F) → learn A (open_parts own) M ≡ learn A own M
 learn-open {F} A own M = λ i. record { ours = flat_map (λ p. ours-open A own p i) M; theirs = flat_map (theirs_by A) M }
 
-pub knows-open : {F : Type 0} (A : List Item) (own : Message F) (owns Ms : List (Message F)) → knows A (open_parts own ∷ owns) Ms ≡ knows A (own ∷ owns) Ms
+pub knows-open : {F : Type 0} (A : List Item) (own : Message F) (owns Ms : List (Message F)) →
+    knows A (open_parts own ∷ owns) Ms ≡ knows A (own ∷ owns) Ms
 knows-open A own owns [] = refl
 knows-open A own owns (M ∷ Ms) = ap (λ k. and_then k (knows A owns Ms)) (learn-open A own M)
 
@@ -48,8 +51,10 @@ pub settled-open : {F : Type 0} (k : Knowledge) (M : Message F) → IsSettled k 
 settled-open k M h = record {
   ours = h.ours;
   theirs = h.theirs;
-  ours_closed = subst (λ (Rs : List Range). AllByRecursion (λ x. IsFalse (list_any (λ X. contains X x) Rs)) k.ours) (sym (ranges_twice M)) h.ours_closed;
-  theirs_closed = subst (λ (Rs : List Range). AllByRecursion (λ x. IsFalse (list_any (λ X. contains X x) Rs)) k.theirs) (sym (ranges_twice M)) h.theirs_closed;
+  ours_closed = subst (λ (Rs : List Range). AllByRecursion (λ x. IsFalse (list_any (λ X. contains X x) Rs)) k.ours)
+      (sym (ranges_twice M)) h.ours_closed;
+  theirs_closed = subst (λ (Rs : List Range). AllByRecursion (λ x. IsFalse (list_any (λ X. contains X x) Rs)) k.theirs)
+      (sym (ranges_twice M)) h.theirs_closed;
 }
 
 pub All-open : {F : Type 0} (P : Part F → Type 0) (M : Message F) → AllByRecursion P M → AllByRecursion P (open_parts M)

@@ -11,10 +11,24 @@
 -- message opens does not overlap, if what it follows does not. A reply is placed, so the same holds of replies, and by
 -- induction of talks.
 -- docs/LAWS.md: An honest reply is placed; The placing part by part is the relation; Open ranges do not overlap.
-use Rattle.std.proofs.Common.{rules, ◌≡◌, ℕ, Bool, true, false, not, ◌&&◌, List, [], ◌∷◌, ◌++◌, length, refl, sym, ap, inl, inr, arith, if◌then◌else◌, ◌<◌, subst, ◌∙◌, map, ◌≤◌, IsTrue, get_or, ◌⊎◌, Option, Some}
+use Rattle.std.proofs.Common.{rules, ◌≡◌, ℕ, Bool, true, false, not, ◌&&◌, List, [], ◌∷◌, ◌++◌, length, refl, sym, ap}
+use Rattle.std.proofs.Common.{inl, inr, arith, if◌then◌else◌, ◌<◌, subst, ◌∙◌, map, ◌≤◌, IsTrue, get_or, ◌⊎◌, Option}
+use Rattle.std.proofs.Common.{Some}
 use Rattle.std.specs.Prelude.{None, fold, IsFalse, ◌==◌, bytes_eq, ⊤}
-use Rattle.definitions.proofs.Words.{AllByRecursion, list_any, same_text, Item, Range, cut_range, same_range, same_upper, same_item, whole, Rises, Apart, comes_before, is_below, ranges_between, has, items_in, difference, Part, Sum, Listing, Answer, Message, open_parts, IsOpening, RangesRise, range_of, is_open, open_ranges, opening, AreSums, FollowsAll, Placed, Place, Behind, Refused, next, next_sum, next_answer, next_inside, finish, ends_before, placed_to, place_fault, opening_fault, Follows, CutsUp, Lists, Answers, misplaced, stall, gap, missing_answer, mark_count, answer_repeats, OpeningIsExact, PlacingIsExact, RepliesArePlaced, RepliesAreApart, PlacedAreApart, TalksAreApart, Summary, act, shares, is_split, IsRankTable, Peer, inner_cuts, cutup, sum_of, differing, answer_to, reply_to, reply}
-use Rattle.definitions.proofs.Lemmas.{none_passes, list_any-none, All-filter, not-true, not-false, eqb-true, and_parts, eq-eqb, false≢true, and_from, length-map, map-append, filter-append, same_range-eq, same_item-itself, same_range-itself, below-trans, before-irrefl, not_before-trans, before-asym, upto-below, All-map, All-append}
+use Rattle.definitions.proofs.Words.{AllByRecursion, list_any, same_text, Item, Range, cut_range, same_range}
+use Rattle.definitions.proofs.Words.{same_upper, same_item, whole, Rises, Apart, comes_before, is_below, ranges_between}
+use Rattle.definitions.proofs.Words.{has, items_in, difference, Part, Sum, Listing, Answer, Message, open_parts}
+use Rattle.definitions.proofs.Words.{IsOpening, RangesRise, range_of, is_open, open_ranges, opening, AreSums}
+use Rattle.definitions.proofs.Words.{FollowsAll, Placed, Place, Behind, Refused, next, next_sum, next_answer}
+use Rattle.definitions.proofs.Words.{next_inside, finish, ends_before, placed_to, place_fault, opening_fault, Follows}
+use Rattle.definitions.proofs.Words.{CutsUp, Lists, Answers, misplaced, stall, gap, missing_answer, mark_count}
+use Rattle.definitions.proofs.Words.{answer_repeats, OpeningIsExact, PlacingIsExact, RepliesArePlaced, RepliesAreApart}
+use Rattle.definitions.proofs.Words.{PlacedAreApart, TalksAreApart, Summary, act, shares, is_split, IsRankTable, Peer}
+use Rattle.definitions.proofs.Words.{inner_cuts, cutup, sum_of, differing, answer_to, reply_to, reply}
+use Rattle.definitions.proofs.Lemmas.{none_passes, list_any-none, All-filter, not-true, not-false, eqb-true, and_parts}
+use Rattle.definitions.proofs.Lemmas.{eq-eqb, false≢true, and_from, length-map, map-append, filter-append}
+use Rattle.definitions.proofs.Lemmas.{same_range-eq, same_item-itself, same_range-itself, below-trans, before-irrefl}
+use Rattle.definitions.proofs.Lemmas.{not_before-trans, before-asym, upto-below, All-map, All-append}
 use Rattle.laws.proofs.Cuts.{reply-rises, talk_from-All, length-items_in-le_all, span, CutsRise}
 
 -- ==== What the placing accepts part by part is placed
@@ -26,7 +40,8 @@ refused code (p ∷ M) h = refused code M h
 
 -- the rest of a partition of Z, and then what may follow the parts that are left
 abbrev GoesOn : {F : Type 0} → Message F → Range → Message F → Type 0
-GoesOn {F} left Z M = (cuts : List (List ℕ)) × (front : Message F) × (rest : Message F) × (M ≡ front ++ rest) × AreSums (cut_range Z cuts) front × FollowsAll left rest
+GoesOn {F} left Z M = (cuts : List (List ℕ)) × (front : Message F) × (rest : Message F) × (M ≡ front ++ rest)
+    × AreSums (cut_range Z cuts) front × FollowsAll left rest
 
 -- the parts of M are accepted from here on
 abbrev pub Accepts : {F : Type 0} → Message F → Place F → Type 0
@@ -39,7 +54,8 @@ abbrev Inside : {F : Type 0} → Message F → Type 0
 Inside {F} M = (left : Message F) (Z : Range) → Accepts M (Behind left (Some Z)) → GoesOn left Z M
 
 -- by cases on a test
-if-cases : {X : Type 0} (P : X → Type 0) (C : Type 0) (b : Bool) (x y : X) → (b ≡ true → P x → C) → (b ≡ false → P y → C) → P (if b then x else y) → C
+if-cases : {X : Type 0} (P : X → Type 0) (C : Type 0) (b : Bool) (x y : X) → (b ≡ true → P x → C) →
+    (b ≡ false → P y → C) → P (if b then x else y) → C
 if-cases P C b x y first second h = grind arith
 
 outside_none : {F : Type 0} → Outside {F = F} []
@@ -49,13 +65,15 @@ outside_none (Listing X listed ∷ left) h = cc
 outside_none (Answer X marks items ∷ left) h = ([], [], refl, refl, outside_none left h)
 
 -- a partition that has come to u
-comes_to : {F : Type 0} (M : Message F) → Inside M → (left : Message F) (u y : Option (List ℕ)) → ends_before u y ≡ true →
+comes_to : {F : Type 0} (M : Message F) → Inside M → (left : Message F) (u y : Option (List ℕ)) →
+    ends_before u y ≡ true →
     Accepts M (placed_to left u y) → (z : List ℕ) × (u ≡ Some z) × GoesOn left (record { lower = z; upper = y }) M
 comes_to M ins left u y e h = grind arith
 
 -- one Sum more of a partition of Z
 one_more : {F : Type 0} (M : Message F) (left : Message F) (Z Y : Range) (g : F) → Y.lower ≡ Z.lower →
-    (z : List ℕ) × (Y.upper ≡ Some z) × GoesOn left (record { lower = z; upper = Z.upper }) M → GoesOn left Z (Sum Y g ∷ M)
+    (z : List ℕ) × (Y.upper ≡ Some z) × GoesOn left (record { lower = z; upper = Z.upper }) M →
+    GoesOn left Z (Sum Y g ∷ M)
 one_more M left Z Y g lower (z, upper, (cuts, front, rest, is, sums, follows)) =
     let first : Y ≡ record { lower = Z.lower; upper = Some z } = λ i. record { lower = lower i; upper = upper i } in
     (z ∷ cuts, Sum Y g ∷ front, rest, ap (λ ps. Sum Y g ∷ ps) is, (first, sums), follows)
@@ -74,19 +92,33 @@ inside_more M out ins (Sum Y g) left Z h = inside_sum M out ins left Z Y g h
 inside_more M out ins (Listing Y items) left Z h = absurd (refused gap M h)
 inside_more M out ins (Answer Y marks items) left Z h = absurd (refused gap M h)
 
-outside_answer : {F : Type 0} (M : Message F) → Outside M → (left : Message F) (X : Range) (listed : List Item) (Y : Range) (marks : List Bool) (items : List Item) →
-    Accepts M (next_answer left X listed Y marks items) → FollowsAll (Listing X listed ∷ left) (Answer Y marks items ∷ M)
+outside_answer : {F : Type 0} (M : Message F) → Outside M →
+    (left : Message F) (X : Range) (listed : List Item) (Y : Range) (marks : List Bool) (items : List Item) →
+    Accepts M (next_answer left X listed Y marks items) →
+    FollowsAll (Listing X listed ∷ left) (Answer Y marks items ∷ M)
 outside_answer M out left X listed Y marks items =
     if-cases (Accepts M) _ (not (same_range X Y)) _ _ (λ _ h. absurd (refused misplaced M h))
     (λ range. if-cases (Accepts M) _ (not (length marks == length listed)) _ _ (λ _ h. absurd (refused mark_count M h))
     (λ count. if-cases (Accepts M) _ (list_any (has listed) items) _ _ (λ _ h. absurd (refused answer_repeats M h))
     (λ fresh h.
-    let is : X ≡ Y = same_range-eq X Y (not-false _ range) in
-    (Answer Y marks items ∷ [], M, refl, (marks, items, ap (λ Z. Answer Z marks items ∷ []) (sym is), eqb-true _ _ (not-false _ count), none_passes (has listed) items fresh), out left h))))
+    let is : X ≡ Y = same_range-eq X Y (not-false _ range) in (
+      Answer Y marks items ∷ [],
+      M,
+      refl,
+      (
+        marks,
+        items,
+        ap (λ Z. Answer Z marks items ∷ []) (sym is),
+        eqb-true _ _ (not-false _ count),
+        none_passes (has listed) items fresh,
+      ),
+      out left h,
+    ))))
 
 -- the first Sum of a partition of X
 cut_up : {F : Type 0} (M : Message F) (left : Message F) (X Y : Range) (f g : F) → X.lower ≡ Y.lower →
-    (z : List ℕ) × (Y.upper ≡ Some z) × GoesOn left (record { lower = z; upper = X.upper }) M → FollowsAll (Sum X f ∷ left) (Sum Y g ∷ M)
+    (z : List ℕ) × (Y.upper ≡ Some z) × GoesOn left (record { lower = z; upper = X.upper }) M →
+    FollowsAll (Sum X f ∷ left) (Sum Y g ∷ M)
 cut_up M left X Y f g lower (z, upper, (cuts, front, rest, is, sums, follows)) =
     let first : Y ≡ record { lower = X.lower; upper = Some z } = λ i. record { lower = sym lower i; upper = upper i } in
     (Sum Y g ∷ front, rest, ap (λ ps. Sum Y g ∷ ps) is, inr (inr (z ∷ cuts, omega arith, (first, sums))), follows)
@@ -101,18 +133,26 @@ outside_sum M ins left X Y f g lower =
 
 outside_more : {F : Type 0} (M : Message F) → Outside M → Inside M → (p : Part F) → Outside (p ∷ M)
 outside_more M out ins p [] h = absurd (refused misplaced M h)
-outside_more M out ins (Answer Y marks items) (Listing X listed ∷ left) h = outside_answer M out left X listed Y marks items h
+outside_more M out ins (Answer Y marks items) (Listing X listed ∷ left) h =
+    outside_answer M out left X listed Y marks items h
 outside_more M out ins (Sum Y g) (Listing X listed ∷ left) h = absurd (refused missing_answer M h)
 outside_more M out ins (Listing Y items) (Listing X listed ∷ left) h = absurd (refused missing_answer M h)
 outside_more M out ins (Listing Y items) (Sum X f ∷ left) h =
     if-cases (Accepts M) _ (same_range X Y) _ _
-    (λ e h. (Listing Y items ∷ [], M, refl, inr (inl (items, ap (λ Z. Listing Z items ∷ []) (sym (same_range-eq X Y e)))), out left h))
+    (λ e h. (
+      Listing Y items ∷ [],
+      M,
+      refl,
+      inr (inl (items, ap (λ Z. Listing Z items ∷ []) (sym (same_range-eq X Y e)))),
+      out left h,
+    ))
     (λ _ h. ([], Listing Y items ∷ M, refl, inl refl, outside_more M out ins (Listing Y items) left h)) h
 outside_more M out ins (Sum Y g) (Sum X f ∷ left) h =
     if-cases (Accepts M) _ (same_item X.lower Y.lower) _ _
     (λ e h. outside_sum M ins left X Y f g (same_text X.lower Y.lower (sym e)) h)
     (λ _ h. ([], Sum Y g ∷ M, refl, inl refl, outside_more M out ins (Sum Y g) left h)) h
-outside_more M out ins (Answer Y marks items) (Sum X f ∷ left) h = ([], _, refl, inl refl, outside_more M out ins (Answer Y marks items) left h)
+outside_more M out ins (Answer Y marks items) (Sum X f ∷ left) h =
+    ([], _, refl, inl refl, outside_more M out ins (Answer Y marks items) left h)
 outside_more M out ins p (Answer X marks items ∷ left) h = ([], _, refl, refl, outside_more M out ins p left h)
 
 both_sides : {F : Type 0} (M : Message F) → Outside M × Inside M
@@ -134,7 +174,8 @@ opening-accepted (Listing X items ∷ M) h = absurd (refused misplaced M h)
 opening-accepted (Answer X marks items ∷ M) h = absurd (refused misplaced M h)
 opening-accepted {F} (Sum X f ∷ []) h = grind (arith, if-cases, opening-whole, refused)
 opening-accepted (Sum X f ∷ p ∷ M) h =
-    if-cases (Accepts (p ∷ M)) _ (same_range X whole) (Behind [] None) (Refused misplaced) (λ _ more. absurd (refused misplaced M more)) (λ _ no. absurd (refused misplaced (p ∷ M) no)) h
+    if-cases (Accepts (p ∷ M)) _ (same_range X whole) (Behind [] None) (Refused misplaced)
+    (λ _ more. absurd (refused misplaced M more)) (λ _ no. absurd (refused misplaced (p ∷ M) no)) h
 
 accepted-opening : {F : Type 0} (M : Message F) → IsOpening M → opening_fault M ≡ None
 accepted-opening M (f, is) = ap opening_fault is
@@ -149,7 +190,8 @@ false_from b h = grind arith
 
 -- a lower bound is not the one that it is before
 other_lower : (x y : List ℕ) → comes_before x y ≡ true → bytes_eq x y ≡ false
-other_lower x y h = false_from _ (λ e. let same : x ≡ y = same_text x y (sym e) in false≢true (sym (before-irrefl x) ∙ subst (λ z. comes_before x z ≡ true) (sym same) h))
+other_lower x y h = false_from _ (λ e. let same : x ≡ y = same_text x y (sym e) in
+    false≢true (sym (before-irrefl x) ∙ subst (λ z. comes_before x z ≡ true) (sym same) h))
 
 -- the bound at the end of a chain of rising ranges is above its beginning
 pub chain_below : {F : Type 0} (x : List ℕ) (cuts : List (List ℕ)) (y : Option (List ℕ)) (ps : Message F) →
@@ -170,10 +212,12 @@ upper_differs cut (Some y) h = other_lower cut y h
 
 -- a partition of Z goes on to cut, or ends
 next_inside-more : {F : Type 0} (left : Message F) (Z : Range) (cut : List ℕ) (f : F) → is_below cut Z.upper ≡ true →
-    next (Behind left (Some Z)) (Sum (record { lower = Z.lower; upper = Some cut }) f) ≡ Behind left (Some (record { lower = cut; upper = Z.upper }))
+    next (Behind left (Some Z)) (Sum (record { lower = Z.lower; upper = Some cut }) f)
+    ≡ Behind left (Some (record { lower = cut; upper = Z.upper }))
 next_inside-more left Z cut f h = grind (arith, upper_differs, cut, if-true, and_from, same_item-itself)
 
-inside_accepted : {F : Type 0} (left : Message F) (z : List ℕ) (cuts : List (List ℕ)) (y : Option (List ℕ)) (front rest : Message F) →
+inside_accepted : {F : Type 0} (left : Message F) (z : List ℕ) (cuts : List (List ℕ)) (y : Option (List ℕ))
+    (front rest : Message F) →
     AreSums (ranges_between z cuts y) front → RangesRise front → Accepts rest (Behind left None) →
     Accepts (front ++ rest) (Behind left (Some (record { lower = z; upper = y })))
 inside_accepted left z [] y [] rest h r a = absurd h
@@ -183,7 +227,8 @@ inside_accepted left z [] y (p ∷ ps) rest h r a = grind (arith)
 inside_accepted left z (cut ∷ cuts) y [] rest h r a = absurd h
 inside_accepted left z (cut ∷ cuts) y (Sum Y f ∷ ps) rest h r a =
     let goes : is_below cut y ≡ true = chain_below cut cuts y ps h.1 r.1 in
-    subst (λ (Z : Range). Accepts (ps ++ rest) (next (Behind left (Some (record { lower = z; upper = y }))) (Sum Z f))) (sym h.0)
+    subst (λ (Z : Range). Accepts (ps ++ rest) (next (Behind left (Some (record { lower = z; upper = y }))) (Sum Z f)))
+    (sym h.0)
     (subst (Accepts (ps ++ rest)) (sym (next_inside-more left (record { lower = z; upper = y }) cut f goes))
     (inside_accepted left cut cuts y ps rest h.1 r.1 a))
 inside_accepted left z (cut ∷ cuts) y (Listing Y items ∷ ps) rest h r a = absurd h
@@ -191,7 +236,8 @@ inside_accepted left z (cut ∷ cuts) y (Answer Y marks items ∷ ps) rest h r a
 
 -- the first Sum of a partition of X
 next_sum-first : {F : Type 0} (left : Message F) (X : Range) (cut : List ℕ) (f g : F) → is_below cut X.upper ≡ true →
-    next (Behind (Sum X f ∷ left) None) (Sum (record { lower = X.lower; upper = Some cut }) g) ≡ Behind left (Some (record { lower = cut; upper = X.upper }))
+    next (Behind (Sum X f ∷ left) None) (Sum (record { lower = X.lower; upper = Some cut }) g)
+    ≡ Behind left (Some (record { lower = cut; upper = X.upper }))
 next_sum-first left X cut f g h = search (rules, if-true, same_item-itself, cut, false_from, false≢true, before-irrefl)
 
 -- the message does not begin with an open part at this bound
@@ -201,10 +247,12 @@ BeginsElsewhere x (Sum Y f ∷ ps) = bytes_eq x Y.lower ≡ false
 BeginsElsewhere x (Listing Y items ∷ ps) = bytes_eq x Y.lower ≡ false
 BeginsElsewhere x (Answer Y marks items ∷ ps) = ⊤
 
-skipped : {F : Type 0} (left : Message F) (X : Range) (f : F) (M : Message F) → BeginsElsewhere X.lower M → Accepts M (Behind left None) → Accepts M (Behind (Sum X f ∷ left) None)
+skipped : {F : Type 0} (left : Message F) (X : Range) (f : F) (M : Message F) → BeginsElsewhere X.lower M →
+    Accepts M (Behind left None) → Accepts M (Behind (Sum X f ∷ left) None)
 skipped left X f M e a = grind arith
 
-elsewhere : {F : Type 0} (x : List ℕ) (left M : Message F) → AllByRecursion (λ p. bytes_eq x (range_of p).lower ≡ false) left → FollowsAll left M → BeginsElsewhere x M
+elsewhere : {F : Type 0} (x : List ℕ) (left M : Message F) →
+    AllByRecursion (λ p. bytes_eq x (range_of p).lower ≡ false) left → FollowsAll left M → BeginsElsewhere x M
 elsewhere x [] M e h = subst (BeginsElsewhere x) (sym h) tt
 elsewhere x (Sum Y g ∷ left) M e (front, rest, is, inl none, more) =
     subst (BeginsElsewhere x) (sym (is ∙ ap (λ ps. ps ++ rest) none)) (elsewhere x left rest e.1 more)
@@ -213,7 +261,8 @@ elsewhere x (Sum Y g ∷ left) M e (front, rest, is, inr (inl (items, one)), mor
 elsewhere {F = F} x (Sum Y g ∷ left) M e (front, rest, is, inr (inr (cuts, some, sums)), more) =
     subst (BeginsElsewhere x) (sym is) (first_sum cuts front some sums)
   where
-    first_sum : (cuts : List (List ℕ)) (ps : Message F) → 0 < length cuts → AreSums (cut_range Y cuts) ps → BeginsElsewhere x (ps ++ rest)
+    first_sum : (cuts : List (List ℕ)) (ps : Message F) → 0 < length cuts → AreSums (cut_range Y cuts) ps →
+        BeginsElsewhere x (ps ++ rest)
     first_sum [] ps some sums = absurd (omega arith)
     first_sum (cut ∷ cuts) [] some sums = absurd sums
     first_sum (cut ∷ cuts) (Sum Z f ∷ ps) some sums = subst (λ (W : Range). bytes_eq x W.lower ≡ false) (sym sums.0) e.0
@@ -229,7 +278,8 @@ rises_append [] qs h = (tt, h)
 rises_append (p ∷ ps) qs h = let both = rises_append ps qs h.1 in ((h.0, both.0), both.1)
 
 -- no later range begins where X does
-later_elsewhere : {F : Type 0} (X : Range) (left : Message F) → Rises X → AllByRecursion (λ Y. IsFalse (is_below Y.lower X.upper)) (map range_of left) →
+later_elsewhere : {F : Type 0} (X : Range) (left : Message F) → Rises X →
+    AllByRecursion (λ Y. IsFalse (is_below Y.lower X.upper)) (map range_of left) →
     AllByRecursion (λ p. bytes_eq X.lower (range_of p).lower ≡ false) left
 later_elsewhere X [] r h = tt
 later_elsewhere X (p ∷ left) r h = (
@@ -248,8 +298,10 @@ past_answer : {F : Type 0} (left M : Message F) (X : Range) (marks : List Bool) 
 past_answer left [] X marks items a = a
 past_answer left (p ∷ M) X marks items a = a
 
-cut_accepted : {F : Type 0} (left : Message F) (X : Range) (f : F) (cuts : List (List ℕ)) (front rest : Message F) → 0 < length cuts →
-    AreSums (cut_range X cuts) front → RangesRise front → Accepts rest (Behind left None) → Accepts (front ++ rest) (Behind (Sum X f ∷ left) None)
+cut_accepted : {F : Type 0} (left : Message F) (X : Range) (f : F) (cuts : List (List ℕ)) (front rest : Message F) →
+    0 < length cuts →
+    AreSums (cut_range X cuts) front → RangesRise front → Accepts rest (Behind left None) →
+    Accepts (front ++ rest) (Behind (Sum X f ∷ left) None)
 cut_accepted left X f [] front rest some sums r a = absurd (omega arith)
 cut_accepted left X f (cut ∷ cuts) [] rest some sums r a = absurd sums
 cut_accepted left X f (cut ∷ cuts) (Sum Y g ∷ ps) rest some sums r a =
@@ -261,14 +313,16 @@ cut_accepted left X f (cut ∷ cuts) (Listing Y items ∷ ps) rest some sums r a
 cut_accepted left X f (cut ∷ cuts) (Answer Y marks items ∷ ps) rest some sums r a = absurd sums
 
 -- what is placed behind parts whose ranges do not overlap is accepted
-accepted : {F : Type 0} (left M : Message F) → Apart (map range_of left) → RangesRise M → FollowsAll left M → Accepts M (Behind left None)
+accepted : {F : Type 0} (left M : Message F) → Apart (map range_of left) → RangesRise M → FollowsAll left M →
+    Accepts M (Behind left None)
 accepted [] M apart r h = subst (λ ms. Accepts ms (Behind [] None)) (sym h) refl
 accepted (p ∷ left) M apart r (front, rest, is, follows, more) =
     let both = rises_append front rest (subst RangesRise is r) in
     subst (λ ms. Accepts ms (Behind (p ∷ left) None)) (sym is)
     (behind_one p left front rest apart both.0 follows more (accepted left rest apart.2 both.1 more))
   where
-    behind_one : {F : Type 0} (p : Part F) (left front rest : Message F) → Apart (map range_of (p ∷ left)) → RangesRise front → Follows p front → FollowsAll left rest →
+    behind_one : {F : Type 0} (p : Part F) (left front rest : Message F) → Apart (map range_of (p ∷ left)) →
+        RangesRise front → Follows p front → FollowsAll left rest →
         Accepts rest (Behind left None) → Accepts (front ++ rest) (Behind (p ∷ left) None)
     behind_one (Sum X f) left front rest apart r (inl none) more a =
         subst (λ ps. Accepts (ps ++ rest) (Behind (Sum X f ∷ left) None)) (sym none)
@@ -276,12 +330,14 @@ accepted (p ∷ left) M apart r (front, rest, is, follows, more) =
     behind_one (Sum X f) left front rest apart r (inr (inl (items, one))) more a =
         subst (λ ps. Accepts (ps ++ rest) (Behind (Sum X f ∷ left) None)) (sym one)
         (subst (Accepts rest) (sym (if-true _ _ _ (same_range-itself X))) a)
-    behind_one (Sum X f) left front rest apart r (inr (inr (cuts, some, sums))) more a = cut_accepted left X f cuts front rest some sums r a
+    behind_one (Sum X f) left front rest apart r (inr (inr (cuts, some, sums))) more a =
+        cut_accepted left X f cuts front rest some sums r a
     behind_one (Listing X listed) left front rest apart r (marks, items, one, count, fresh) more a =
         subst (λ ps. Accepts (ps ++ rest) (Behind (Listing X listed ∷ left) None)) (sym one)
         (subst (Accepts rest) (sym (next_answer-placed left X listed items marks count fresh)) a)
     behind_one (Answer X marks items) left front rest apart r none more a =
-        subst (λ ps. Accepts (ps ++ rest) (Behind (Answer X marks items ∷ left) None)) (sym none) (past_answer left rest X marks items a)
+        subst (λ ps. Accepts (ps ++ rest) (Behind (Answer X marks items ∷ left) None)) (sym none)
+        (past_answer left rest X marks items a)
 
 -- the placing part by part accepts exactly what is placed
 pub placing_is_exact : (F : Type 0) → PlacingIsExact F
@@ -291,7 +347,8 @@ placing_is_exact F sent M apart r = (Placed-from_accepted sent M, accepted (open
 
 -- what is not listed is answered alone
 not_listed : (xs listed : List Item) → AllByRecursion (λ x. IsFalse (has listed x)) (difference xs listed)
-not_listed xs listed = All-map _ _ (λ x e. not-true _ e) (difference xs listed) (All-filter (λ x. not (has listed x)) xs)
+not_listed xs listed =
+    All-map _ _ (λ x e. not-true _ e) (difference xs listed) (All-filter (λ x. not (has listed x)) xs)
 
 sums-AreSums : {F : Type 0} (S : Summary F) (A : List Item) (Xs : List Range) → AreSums Xs (map (sum_of S A) Xs)
 sums-AreSums S A [] = tt
@@ -306,14 +363,21 @@ some_cut g (s ∷ t ∷ ss) h = omega arith
 -- a range that differs is listed or cut up
 differing-Follows : {F : Type 0} (S : Summary F) (P : Peer) (X : Range) (n : ℕ) (b : Bool) →
     (IsTrue b → 2 ≤ length (shares P.table n)) →
-    Lists X (if b then map (sum_of S P.items) (cutup P.items X (shares P.table n)) else Listing X (items_in P.items X) ∷ [])
-    ⊎ CutsUp X (if b then map (sum_of S P.items) (cutup P.items X (shares P.table n)) else Listing X (items_in P.items X) ∷ [])
+    Lists X
+    (if b then map (sum_of S P.items) (cutup P.items X (shares P.table n)) else Listing X (items_in P.items X) ∷ [])
+    ⊎ CutsUp X
+    (if b then map (sum_of S P.items) (cutup P.items X (shares P.table n)) else Listing X (items_in P.items X) ∷ [])
 differing-Follows S P X n true h =
-    inr (map (λ place. get_or (items_in P.items X) place []) (inner_cuts 0 (shares P.table n)), some_cut _ (shares P.table n) (h refl), sums-AreSums S P.items _)
+    inr (
+      map (λ place. get_or (items_in P.items X) place []) (inner_cuts 0 (shares P.table n)),
+      some_cut _ (shares P.table n) (h refl),
+      sums-AreSums S P.items _,
+    )
 differing-Follows S P X n false h = inl (items_in P.items X, refl)
 
 -- the reply to an open part is what may follow it
-reply_to-Follows : {F : Type 0} (S : Summary F) (P : Peer) (f : List ℕ) → IsRankTable P.table f → length P.items ≤ P.table.cap →
+reply_to-Follows : {F : Type 0} (S : Summary F) (P : Peer) (f : List ℕ) → IsRankTable P.table f →
+    length P.items ≤ P.table.cap →
     (X : Range) (g : F) → Follows (Sum X g) (reply_to S P (Sum X g))
 reply_to-Follows S P f ranks room X g =
     let n = length (items_in P.items X) in
@@ -323,14 +387,33 @@ reply_to-Follows S P f ranks room X g =
       | false ↦ inr (differing-Follows S P X n (is_split (act P.table n)) (λ s. (ranks.descends n in_cap s).0))
     ]
 
-answer_to-Answers : {F : Type 0} (A : List Item) (X : Range) (listed : List Item) → Answers X listed (answer_to {F = F} A X listed ∷ [])
-answer_to-Answers A X listed = (map (λ x. not (has A x)) listed, difference (items_in A X) listed, refl, length-map listed _, not_listed (items_in A X) listed)
+answer_to-Answers : {F : Type 0} (A : List Item) (X : Range) (listed : List Item) →
+    Answers X listed (answer_to {F = F} A X listed ∷ [])
+answer_to-Answers A X listed = (
+  map (λ x. not (has A x)) listed,
+  difference (items_in A X) listed,
+  refl,
+  length-map listed _,
+  not_listed (items_in A X) listed,
+)
 
 -- an honest reply is placed
 pub replies_are_placed : {F : Type 0} (S : Summary F) → RepliesArePlaced S
 replies_are_placed S P f [] ranks room = refl
-replies_are_placed S P f (Sum X g ∷ ps) ranks room = (reply_to S P (Sum X g), reply S P ps, refl, reply_to-Follows S P f ranks room X g, replies_are_placed S P f ps ranks room)
-replies_are_placed S P f (Listing X listed ∷ ps) ranks room = (reply_to S P (Listing X listed), reply S P ps, refl, answer_to-Answers P.items X listed, replies_are_placed S P f ps ranks room)
+replies_are_placed S P f (Sum X g ∷ ps) ranks room = (
+  reply_to S P (Sum X g),
+  reply S P ps,
+  refl,
+  reply_to-Follows S P f ranks room X g,
+  replies_are_placed S P f ps ranks room,
+)
+replies_are_placed S P f (Listing X listed ∷ ps) ranks room = (
+  reply_to S P (Listing X listed),
+  reply S P ps,
+  refl,
+  answer_to-Answers P.items X listed,
+  replies_are_placed S P f ps ranks room,
+)
 replies_are_placed S P f (Answer X marks items ∷ ps) ranks room = replies_are_placed S P f ps ranks room
 
 -- ==== What a reply opens does not overlap, and what a placed message opens does not
@@ -339,7 +422,8 @@ replies_are_placed S P f (Answer X marks items ∷ ps) ranks room = replies_are_
 
 -- Y begins no earlier than X and ends no later
 abbrev IsPiece : Range → Range → Type 0
-IsPiece X Y = (comes_before Y.lower X.lower ≡ false) × ((z : Item) → is_below z Y.upper ≡ true → is_below z X.upper ≡ true)
+IsPiece X Y =
+    (comes_before Y.lower X.lower ≡ false) × ((z : Item) → is_below z Y.upper ≡ true → is_below z X.upper ≡ true)
 
 -- Y begins where u is, or behind it
 abbrev IsBehind : Option (List ℕ) → Range → Type 0
@@ -352,24 +436,30 @@ piece_behind u X Y p behind = false_from _ (λ e. false≢true (sym behind ∙ u
 itself : (X : Range) → IsPiece X X
 itself X = (before-irrefl X.lower, λ z h. h)
 
-Apart-append : (Xs Ys : List Range) → Apart Xs → Apart Ys → AllByRecursion (λ X. AllByRecursion (IsBehind X.upper) Ys) Xs → Apart (Xs ++ Ys)
+Apart-append : (Xs Ys : List Range) → Apart Xs → Apart Ys →
+    AllByRecursion (λ X. AllByRecursion (IsBehind X.upper) Ys) Xs → Apart (Xs ++ Ys)
 Apart-append [] Ys a b h = b
 Apart-append (X ∷ Xs) Ys a b h = (a.0, All-append (IsBehind X.upper) Xs Ys a.1 h.0, Apart-append Xs Ys a.2 b h.1)
 
 -- ---- the ranges of a cut
 
-ranges-behind : (u : Option (List ℕ)) (x : List ℕ) (cs : List (List ℕ)) (y : Option (List ℕ)) → CutsRise x cs y → is_below x u ≡ false → AllByRecursion (IsBehind u) (ranges_between x cs y)
+ranges-behind : (u : Option (List ℕ)) (x : List ℕ) (cs : List (List ℕ)) (y : Option (List ℕ)) → CutsRise x cs y →
+    is_below x u ≡ false → AllByRecursion (IsBehind u) (ranges_between x cs y)
 ranges-behind u x [] y rise h = (h, tt)
 ranges-behind u x (c ∷ cs) y rise h =
     (h, ranges-behind u c cs y rise.2 (false_from _ (λ e. false≢true (sym h ∙ below-trans x c u rise.0 e))))
 
-ranges-Apart : (x : List ℕ) (cs : List (List ℕ)) (y : Option (List ℕ)) → is_below x y ≡ true → CutsRise x cs y → Apart (ranges_between x cs y)
+ranges-Apart : (x : List ℕ) (cs : List (List ℕ)) (y : Option (List ℕ)) → is_below x y ≡ true → CutsRise x cs y →
+    Apart (ranges_between x cs y)
 ranges-Apart x [] y h rise = (h, tt, tt)
-ranges-Apart x (c ∷ cs) y h rise = (rise.0, ranges-behind (Some c) c cs y rise.2 (before-irrefl c), ranges-Apart c cs y rise.1 rise.2)
+ranges-Apart x (c ∷ cs) y h rise =
+    (rise.0, ranges-behind (Some c) c cs y rise.2 (before-irrefl c), ranges-Apart c cs y rise.1 rise.2)
 
-ranges-pieces : (x : List ℕ) (cs : List (List ℕ)) (y : Option (List ℕ)) → CutsRise x cs y → AllByRecursion (IsPiece (span x y)) (ranges_between x cs y)
+ranges-pieces : (x : List ℕ) (cs : List (List ℕ)) (y : Option (List ℕ)) → CutsRise x cs y →
+    AllByRecursion (IsPiece (span x y)) (ranges_between x cs y)
 ranges-pieces x [] y rise = (itself (span x y), tt)
-ranges-pieces x (c ∷ cs) y rise = grind (arith, ranges-pieces c cs y rise.2, before-irrefl, below-trans, All-map, not_before-trans, before-asym)
+ranges-pieces x (c ∷ cs) y rise =
+    grind (arith, ranges-pieces c cs y rise.2, before-irrefl, below-trans, All-map, not_before-trans, before-asym)
 
 -- ---- what belongs to one open range, and then to the others
 
@@ -385,32 +475,39 @@ one_piece : (X : Range) → Rises X → ArePieces X (X ∷ [])
 one_piece X h = record { apart = (h, tt, tt); pieces = (itself X, tt) }
 
 cut_pieces : (X : Range) (cs : List (List ℕ)) → Rises X → CutsRise X.lower cs X.upper → ArePieces X (cut_range X cs)
-cut_pieces X cs h rise = record { apart = ranges-Apart X.lower cs X.upper h rise; pieces = ranges-pieces X.lower cs X.upper rise }
+cut_pieces X cs h rise =
+    record { apart = ranges-Apart X.lower cs X.upper h rise; pieces = ranges-pieces X.lower cs X.upper rise }
 
 -- for each of the ranges its pieces, in order
 abbrev PiecesOf : List Range → List Range → Type 0
 PiecesOf [] Zs = Zs ≡ []
 PiecesOf (X ∷ Xs) Zs = (Ys : List Range) × (rest : List Range) × (Zs ≡ Ys ++ rest) × ArePieces X Ys × PiecesOf Xs rest
 
-pieces-behind : (u : Option (List ℕ)) (Xs Zs : List Range) → PiecesOf Xs Zs → AllByRecursion (IsBehind u) Xs → AllByRecursion (IsBehind u) Zs
+pieces-behind : (u : Option (List ℕ)) (Xs Zs : List Range) → PiecesOf Xs Zs → AllByRecursion (IsBehind u) Xs →
+    AllByRecursion (IsBehind u) Zs
 pieces-behind u [] Zs h b = subst (AllByRecursion (IsBehind u)) (sym h) tt
-pieces-behind u (X ∷ Xs) Zs (Ys, rest, is, p, more) b = grind (arith, pieces-behind u Xs rest more b.1, All-append, All-map, piece_behind)
+pieces-behind u (X ∷ Xs) Zs (Ys, rest, is, p, more) b =
+    grind (arith, pieces-behind u Xs rest more b.1, All-append, All-map, piece_behind)
 
 pieces-Apart : (Xs Zs : List Range) → PiecesOf Xs Zs → Apart Xs → Apart Zs
 pieces-Apart [] Zs h a = subst Apart (sym h) tt
-pieces-Apart (X ∷ Xs) Zs (Ys, rest, is, p, more) a = grind (arith, pieces-Apart Xs rest more a.2, pieces-behind, Apart-append, All-map)
+pieces-Apart (X ∷ Xs) Zs (Ys, rest, is, p, more) a =
+    grind (arith, pieces-Apart Xs rest more a.2, pieces-behind, Apart-append, All-map)
 
 -- ---- open ranges
 
 open_ranges-append : {F : Type 0} (M N : Message F) → open_ranges (M ++ N) ≡ open_ranges M ++ open_ranges N
-open_ranges-append M N = ap (map range_of) (filter-append is_open M N) ∙ map-append range_of (open_parts M) (open_parts N)
+open_ranges-append M N =
+    ap (map range_of) (filter-append is_open M N) ∙ map-append range_of (open_parts M) (open_parts N)
 
 -- ---- placed messages
 
-pub sums-cuts : {F : Type 0} (x : List ℕ) (cs : List (List ℕ)) (y : Option (List ℕ)) (ps : Message F) → AreSums (ranges_between x cs y) ps → RangesRise ps → CutsRise x cs y
+pub sums-cuts : {F : Type 0} (x : List ℕ) (cs : List (List ℕ)) (y : Option (List ℕ)) (ps : Message F) →
+    AreSums (ranges_between x cs y) ps → RangesRise ps → CutsRise x cs y
 sums-cuts x [] y ps h r = tt
 sums-cuts x (c ∷ cs) y [] h r = absurd h
-sums-cuts x (c ∷ cs) y (Sum Y f ∷ ps) h r = (subst Rises h.0 r.0, chain_below c cs y ps h.1 r.1, sums-cuts c cs y ps h.1 r.1)
+sums-cuts x (c ∷ cs) y (Sum Y f ∷ ps) h r =
+    (subst Rises h.0 r.0, chain_below c cs y ps h.1 r.1, sums-cuts c cs y ps h.1 r.1)
 sums-cuts x (c ∷ cs) y (Listing Y items ∷ ps) h r = absurd h
 sums-cuts x (c ∷ cs) y (Answer Y marks items ∷ ps) h r = absurd h
 
@@ -422,29 +519,39 @@ sums-open (X ∷ Xs) (Sum Y f ∷ ps) h = ap (λ Z. Z ∷ open_ranges ps) h.0 �
 sums-open (X ∷ Xs) (Listing Y items ∷ ps) h = absurd h
 sums-open (X ∷ Xs) (Answer Y marks items ∷ ps) h = absurd h
 
-follows-pieces : {F : Type 0} (p : Part F) (front : Message F) → Rises (range_of p) → RangesRise front → Follows p front → ArePieces (range_of p) (open_ranges front)
+follows-pieces : {F : Type 0} (p : Part F) (front : Message F) → Rises (range_of p) → RangesRise front →
+    Follows p front → ArePieces (range_of p) (open_ranges front)
 follows-pieces p front h r none = grind (arith, no_pieces, one_piece, sums-open, cut_pieces, sums-cuts)
 
-all-pieces : {F : Type 0} (left M : Message F) → Apart (map range_of left) → RangesRise M → FollowsAll left M → PiecesOf (map range_of left) (open_ranges M)
+all-pieces : {F : Type 0} (left M : Message F) → Apart (map range_of left) → RangesRise M → FollowsAll left M →
+    PiecesOf (map range_of left) (open_ranges M)
 all-pieces [] M a r h = ap open_ranges h
 all-pieces (p ∷ left) M a r (front, rest, is, follows, more) =
-    let both = rises_append front rest (subst RangesRise is r) in
-    (open_ranges front, open_ranges rest, ap open_ranges is ∙ open_ranges-append front rest, follows-pieces p front a.0 both.0 follows, all-pieces left rest a.2 both.1 more)
+    let both = rises_append front rest (subst RangesRise is r) in (
+      open_ranges front,
+      open_ranges rest,
+      ap open_ranges is ∙ open_ranges-append front rest,
+      follows-pieces p front a.0 both.0 follows,
+      all-pieces left rest a.2 both.1 more,
+    )
 
 pub placed_are_apart : {F : Type 0} → PlacedAreApart F
 placed_are_apart sent M a r h = pieces-Apart (open_ranges sent) (open_ranges M) (all-pieces (open_parts sent) M a r h) a
 
 -- ---- replies, which are placed
 
-pub open-rise : {F : Type 0} (M : Message F) → Apart (open_ranges M) → AllByRecursion (λ p. is_open p ≡ true → Rises (range_of p)) M
+pub open-rise : {F : Type 0} (M : Message F) → Apart (open_ranges M) →
+    AllByRecursion (λ p. is_open p ≡ true → Rises (range_of p)) M
 open-rise [] a = tt
 open-rise (Sum X g ∷ ps) a = (λ e. a.0, open-rise ps a.2)
 open-rise (Listing X items ∷ ps) a = (λ e. a.0, open-rise ps a.2)
 open-rise (Answer X marks items ∷ ps) a = (λ e. absurd (false≢true e), open-rise ps a)
 
 pub replies_are_apart : {F : Type 0} (S : Summary F) → RepliesAreApart S
-replies_are_apart S P f M r a = placed_are_apart M (reply S P M) a (reply-rises S P f r M (open-rise M a)) (replies_are_placed S P f M r.ranks r.room)
+replies_are_apart S P f M r a = placed_are_apart M (reply S P M) a (reply-rises S P f r M (open-rise M a))
+    (replies_are_placed S P f M r.ranks r.room)
 
 pub talks_are_apart : {F : Type 0} (S : Summary F) → TalksAreApart S
 talks_are_apart S I R f g k i r =
-    talk_from-All S (λ N. Apart (open_ranges N)) I R (λ M a. replies_are_apart S I f M i a) (λ M a. replies_are_apart S R g M r a) (opening S I.items) k (refl, tt, tt)
+    talk_from-All S (λ N. Apart (open_ranges N)) I R (λ M a. replies_are_apart S I f M i a)
+    (λ M a. replies_are_apart S R g M r a) (opening S I.items) k (refl, tt, tt)

@@ -9,9 +9,12 @@
 use Rattle.std.proofs.Common.{◌≡◌, true, ap, ℕ, ◌≤◌, false, List, [], ◌∷◌, Some, refl, arith}
 use Rattle.std.specs.Prelude.{◌==◌}
 use Rattle.std.specs.List.Sorted.{IsStrictlySortedBy}
-use Rattle.definitions.proofs.Words.{IsNonDecreasing, IsExact, Lanes, same_lanes, two_lanes, counted_lanes, whole, IsSet, Sum, Message, Table, List_items, Split, list_only, Descends, Accepted, Peer, Ready}
+use Rattle.definitions.proofs.Words.{IsNonDecreasing, IsExact, Lanes, same_lanes, two_lanes, counted_lanes, whole}
+use Rattle.definitions.proofs.Words.{IsSet, Sum, Message, Table, List_items, Split, list_only, Descends, Accepted, Peer}
+use Rattle.definitions.proofs.Words.{Ready}
 use Rattle.definitions.proofs.Lemmas.{eq-eqb, and_from, false≢true}
-use Rattle.laws.specs.Weaker.{InitiatorStopsAnyhow, ResponderStopsAnyhow, ListsAreShortAnyhow, KnowledgeIsExactAnyhow, PartsAreFewAnyhow, count_summary, blind, wary}
+use Rattle.laws.specs.Weaker.{InitiatorStopsAnyhow, ResponderStopsAnyhow, ListsAreShortAnyhow, KnowledgeIsExactAnyhow}
+use Rattle.laws.specs.Weaker.{PartsAreFewAnyhow, count_summary, blind, wary}
 
 -- ==== The tests of fingerprints are exact
 
@@ -19,7 +22,8 @@ same-lanes : (f g : Lanes) → same_lanes f g ≡ true → f ≡ g
 same-lanes f g h = grind arith
 
 lanes-same : (f g : Lanes) → f ≡ g → same_lanes f g ≡ true
-lanes-same f g e = and_from (f.first == g.first) (f.second == g.second) (eq-eqb f.first g.first (ap (λ h. h.first) e)) (eq-eqb f.second g.second (ap (λ h. h.second) e))
+lanes-same f g e = and_from (f.first == g.first) (f.second == g.second) (eq-eqb f.first g.first (ap (λ h. h.first) e))
+    (eq-eqb f.second g.second (ap (λ h. h.second) e))
 
 pub two_lanes_exact : IsExact two_lanes
 two_lanes_exact f g = (same-lanes f g, lanes-same f g)
@@ -33,7 +37,12 @@ counted_lanes_exact f g = grind arith
 
 -- one item is listed, and two are cut in halves
 abbrev halves : Table
-halves = record { cap = 2; limit = 1; rounds = 1; rows = record { upto = 1; act = List_items } ∷ record { upto = 2; act = Split (1 ∷ 1 ∷ []) } ∷ [] }
+halves = record {
+  cap = 2;
+  limit = 1;
+  rounds = 1;
+  rows = record { upto = 1; act = List_items } ∷ record { upto = 2; act = Split (1 ∷ 1 ∷ []) } ∷ [];
+}
 
 abbrev pair : Peer
 pair = record { table = halves; items = (1 ∷ []) ∷ (2 ∷ []) ∷ [] }
@@ -53,14 +62,19 @@ pair-IsSet = ((refl, tt), (tt, tt))
 
 pair-Ready : Ready pair pair_ranks
 pair-Ready = record {
-  ranks = record { size = omega arith; rises = λ m n h k. pair_ranks-IsNonDecreasing m n 0 h (omega arith); descends = pair-Descends };
+  ranks = record {
+    size = omega arith;
+    rises = λ m n h k. pair_ranks-IsNonDecreasing m n 0 h (omega arith);
+    descends = pair-Descends;
+  };
   set = pair-IsSet;
   room = omega arith;
 }
 
 -- a Sum of two items and one of none, of which nothing is said, and one that goes back to the first item
 abbrev again : List ℕ → ℕ → Message ℕ
-again x n = Sum (record { lower = x; upper = Some (5 ∷ []) }) n ∷ Sum (record { lower = 5 ∷ []; upper = Some [] }) 0 ∷ Sum whole 99 ∷ []
+again x n = Sum (record { lower = x; upper = Some (5 ∷ []) }) n ∷ Sum (record { lower = 5 ∷ []; upper = Some [] }) 0
+    ∷ Sum whole 99 ∷ []
 
 pub initiator_needs_ranges : InitiatorStopsAnyhow count_summary → ⊥
 initiator_needs_ranges h =
@@ -84,11 +98,23 @@ two_zeros-IsNonDecreasing : IsNonDecreasing (0 ∷ 0 ∷ [])
 two_zeros-IsNonDecreasing a j d h k = grind arith
 
 no_rows-Accepted : Accepted no_rows
-no_rows-Accepted = record { lists = refl; ranks = (0 ∷ 0 ∷ [], record { size = omega arith; rises = λ m n h k. two_zeros-IsNonDecreasing m n 0 h (omega arith); descends = no_rows-Descends }, omega arith) }
+no_rows-Accepted = record {
+  lists = refl;
+  ranks = (
+    0 ∷ 0 ∷ [],
+    record {
+      size = omega arith;
+      rises = λ m n h k. two_zeros-IsNonDecreasing m n 0 h (omega arith);
+      descends = no_rows-Descends;
+    },
+    omega arith,
+  );
+}
 
 pub lists_need_tables : ListsAreShortAnyhow count_summary → ⊥
 lists_need_tables h =
-    let said = h (record { table = no_rows; items = [] }) (record { table = no_rows; items = (1 ∷ []) ∷ [] }) 2 no_rows-Accepted no_rows-Accepted (omega arith) (omega arith) in
+    let said = h (record { table = no_rows; items = [] }) (record { table = no_rows; items = (1 ∷ []) ∷ [] }) 2
+    no_rows-Accepted no_rows-Accepted (omega arith) (omega arith) in
     omega (arith, said.1.0.0)
 
 -- ---- a test that errs
@@ -105,7 +131,8 @@ pub knowledge_needs_exactness : KnowledgeIsExactAnyhow blind → ⊥
 knowledge_needs_exactness claim =
     let I : Peer = record { table = list_only; items = (1 ∷ []) ∷ [] } in
     let R : Peer = record { table = list_only; items = [] } in
-    let wrong : false ≡ true = (claim I R 3 (one-IsSet (1 ∷ [])) none-IsSet (omega arith) ((λ e. e, tt), (tt, tt))).ours.same (1 ∷ []) in
+    let wrong : false ≡ true =
+    (claim I R 3 (one-IsSet (1 ∷ [])) none-IsSet (omega arith) ((λ e. e, tt), (tt, tt))).ours.same (1 ∷ []) in
     cc
 
 -- equal sets of two items are cut in halves, though nothing differs

@@ -7,9 +7,13 @@
 -- An initiator of rank i may reply i + 1 times after its opening, a responder of rank r as often as r + 1.
 -- The same count holds of all that is called for: it never asks whether the last reply may be sent.
 -- docs/LAWS.md: An end stops; What is called for is little (its number).
-use Rattle.std.proofs.Common.{◌≡◌, ℕ, ◌+◌, ◌-◌, ◌≤◌, ◌∙◌, Bool, true, false, List, [], ◌∷◌, length, Option, Some, None, refl, sym, subst, arith}
+use Rattle.std.proofs.Common.{◌≡◌, ℕ, ◌+◌, ◌-◌, ◌≤◌, ◌∙◌, Bool, true, false, List, [], ◌∷◌, length, Option, Some, None}
+use Rattle.std.proofs.Common.{refl, sym, subst, arith}
 use Rattle.std.specs.Prelude.{⊤, if◌then◌else◌}
-use Rattle.definitions.proofs.Words.{AllByRecursion, Summary, Message, has_open, RangesRise, opening_fault, place_fault, Peer, reply, Ready, rank, InitiatorStops, ResponderStops, End, Fresh, Over, Spent, Stage, Waits, after, after_answer, answer, answer_unless, answers, initiator, replied, responder}
+use Rattle.definitions.proofs.Words.{AllByRecursion, Summary, Message, has_open, RangesRise, opening_fault, place_fault}
+use Rattle.definitions.proofs.Words.{Peer, reply, Ready, rank, InitiatorStops, ResponderStops, End, Fresh, Over, Spent}
+use Rattle.definitions.proofs.Words.{Stage, Waits, after, after_answer, answer, answer_unless, answers, initiator}
+use Rattle.definitions.proofs.Words.{replied, responder}
 use Rattle.definitions.specs.Ends.{Answer, Replies, Refuses, Ends, is_sendable}
 use Rattle.definitions.specs.Engines.{called, called_unless, calls}
 use Rattle.definitions.specs.Refusals.{too_many_parts}
@@ -19,7 +23,8 @@ use Rattle.laws.proofs.Cuts.{SumsUnder, IsSumUnder}
 use Rattle.laws.proofs.Opens.{All-open}
 use Rattle.definitions.specs.Messages.{open_parts}
 use Rattle.laws.proofs.Saying.{answer-cases, after-peer}
-use Rattle.laws.proofs.Ends.{whole-IsUnder, IsOpenUnder, placed-OpenUnder, opening-OpenUnder, has_open-under, reply-under}
+use Rattle.laws.proofs.Ends.{whole-IsUnder, IsOpenUnder, placed-OpenUnder, opening-OpenUnder, has_open-under}
+use Rattle.laws.proofs.Ends.{reply-under}
 
 -- an end at this stage may still reply so often
 abbrev MayReply : {F : Type 0} → Peer → List ℕ → ℕ → Stage F → Type 0
@@ -32,7 +37,8 @@ MayReply P f n Spent = ⊤
 abbrev MayReplyBehind : {F : Type 0} → List ℕ → ℕ → End F → Message F → Answer F → Type 0
 MayReplyBehind f n e M a = (k : ℕ) × (length (replied a) + k ≤ n) × MayReply e.peer f k (after_answer e M a).stage
 
-answered-few : {F : Type 0} (S : Summary F) (f : List ℕ) (n : ℕ) (e : End F) (M : Message F) → Ready e.peer f → AllByRecursion (IsOpenUnder f e.peer.items n) M →
+answered-few : {F : Type 0} (S : Summary F) (f : List ℕ) (n : ℕ) (e : End F) (M : Message F) → Ready e.peer f →
+    AllByRecursion (IsOpenUnder f e.peer.items n) M →
     MayReplyBehind f n e M (answer_unless S e.peer M None)
 answered-few S f n e M r under =
     let N = reply S e.peer M in
@@ -40,39 +46,49 @@ answered-few S f n e M r under =
     (λ o. (
       n - 1,
       omega (arith, has_open-under f e.peer.items n M under o),
-      cond_both (has_open N) (Waits (open_parts N)) Over (MayReply e.peer f (n - 1)) (λ more. All-open (IsSumUnder f e.peer.items (n - 1)) N (reply-under S e.peer f r n M under)) (λ none. tt),
+      cond_both (has_open N) (Waits (open_parts N)) Over (MayReply e.peer f (n - 1))
+          (λ more. All-open (IsSumUnder f e.peer.items (n - 1)) N (reply-under S e.peer f r n M under)) (λ none. tt),
     ))
     (0, omega arith, tt)
     (0, omega arith, tt)
 
-after-few : {F : Type 0} (S : Summary F) (f : List ℕ) (n : ℕ) (e : End F) (M : Message F) → Ready e.peer f → RangesRise M → MayReply e.peer f n e.stage →
+after-few : {F : Type 0} (S : Summary F) (f : List ℕ) (n : ℕ) (e : End F) (M : Message F) → Ready e.peer f →
+    RangesRise M → MayReply e.peer f n e.stage →
     (k : ℕ) × (length (replied (answer S e M)) + k ≤ n) × MayReply e.peer f k (after S e M).stage
 after-few {F} S f n e M r rises h = by e.stage h where
-  by : (s : Stage F) → MayReply e.peer f n s → (k : ℕ) × (length (replied (answer S (record e { stage = s }) M)) + k ≤ n) × MayReply e.peer f k (after S (record e { stage = s }) M).stage
+  by : (s : Stage F) → MayReply e.peer f n s →
+      (k : ℕ) × (length (replied (answer S (record e { stage = s }) M)) + k ≤ n)
+      × MayReply e.peer f k (after S (record e { stage = s }) M).stage
   by Fresh h = fault (opening_fault M) refl where
-    fault : (o : Option ℕ) → opening_fault M ≡ o → MayReplyBehind f n (record e { stage = Fresh }) M (answer_unless S e.peer M o)
+    fault : (o : Option ℕ) → opening_fault M ≡ o →
+        MayReplyBehind f n (record e { stage = Fresh }) M (answer_unless S e.peer M o)
     fault (Some code) p = (0, omega arith, tt)
     fault None p =
-        let (k, few, more) = answered-few S f (rank f e.peer + 1) (record e { stage = Fresh }) M r (opening-OpenUnder r M p) in
+        let (k, few, more) =
+        answered-few S f (rank f e.peer + 1) (record e { stage = Fresh }) M r (opening-OpenUnder r M p) in
         (k, omega (arith, few, h), more)
   by (Waits own) h = fault (place_fault own M) refl where
-    fault : (o : Option ℕ) → place_fault own M ≡ o → MayReplyBehind f n (record e { stage = Waits own }) M (answer_unless S e.peer M o)
+    fault : (o : Option ℕ) → place_fault own M ≡ o →
+        MayReplyBehind f n (record e { stage = Waits own }) M (answer_unless S e.peer M o)
     fault (Some code) p = (0, omega arith, tt)
     fault None p = answered-few S f n (record e { stage = Waits own }) M r (placed-OpenUnder r n own M h rises p)
   by Over h = (0, omega arith, tt)
   by Spent h = (0, omega arith, tt)
 
-answers-few : {F : Type 0} (S : Summary F) (P : Peer) (f : List ℕ) (n : ℕ) (e : End F) (Ms : List (Message F)) → Ready P f → AllByRecursion RangesRise Ms → e.peer ≡ P →
+answers-few : {F : Type 0} (S : Summary F) (P : Peer) (f : List ℕ) (n : ℕ) (e : End F) (Ms : List (Message F)) →
+    Ready P f → AllByRecursion RangesRise Ms → e.peer ≡ P →
     MayReply e.peer f n e.stage → length (answers S e Ms) ≤ n
 answers-few S P f n e [] r rise is h = omega arith
 answers-few S P f n e (M ∷ Ms) r rise is h =
     let (k, few, more) = after-few S f n e M (subst (λ Q. Ready Q f) (sym is) r) rise.0 h in
     let same = after-peer S e M in
-    let later = answers-few S P f k (after S e M) Ms r rise.1 (same ∙ is) (subst (λ Q. MayReply Q f k (after S e M).stage) (sym same) more) in
+    let later = answers-few S P f k (after S e M) Ms r rise.1 (same ∙ is)
+    (subst (λ Q. MayReply Q f k (after S e M).stage) (sym same) more) in
     omega (arith, few, later, length-append (replied (answer S e M)) (answers S (after S e M) Ms))
 
 pub initiator_stops : {F : Type 0} (S : Summary F) → InitiatorStops S
-initiator_stops S P f Ms r rise = omega (arith, answers-few S P f (rank f P + 1) (initiator S P) Ms r rise refl (whole-IsUnder r, tt))
+initiator_stops S P f Ms r rise =
+    omega (arith, answers-few S P f (rank f P + 1) (initiator S P) Ms r rise refl (whole-IsUnder r, tt))
 
 pub responder_stops : {F : Type 0} (S : Summary F) → ResponderStops S
 responder_stops S P f Ms r rise = answers-few S P f (rank f P + 1) (responder P) Ms r rise refl (omega arith)
@@ -80,32 +96,39 @@ responder_stops S P f Ms r rise = answers-few S P f (rank f P + 1) (responder P)
 -- ---- all that is called for: a reply that is too long, too
 
 abbrev MayCallBehind : {F : Type 0} → Summary F → List ℕ → ℕ → End F → Message F → Option ℕ → Type 0
-MayCallBehind S f n e M o = (k : ℕ) × (length (called_unless S e.peer M o) + k ≤ n) × MayReply e.peer f k (after_answer e M (answer_unless S e.peer M o)).stage
+MayCallBehind S f n e M o = (k : ℕ) × (length (called_unless S e.peer M o) + k ≤ n)
+    × MayReply e.peer f k (after_answer e M (answer_unless S e.peer M o)).stage
 
-called-behind : {F : Type 0} (S : Summary F) (f : List ℕ) (n : ℕ) (e : End F) (M : Message F) → Ready e.peer f → AllByRecursion (IsOpenUnder f e.peer.items n) M → MayCallBehind S f n e M None
+called-behind : {F : Type 0} (S : Summary F) (f : List ℕ) (n : ℕ) (e : End F) (M : Message F) → Ready e.peer f →
+    AllByRecursion (IsOpenUnder f e.peer.items n) M → MayCallBehind S f n e M None
 called-behind {F} S f n e M r under = by (has_open M) (is_sendable N) refl where
   N : Message F
   N = reply S e.peer M
 
   by : (b c : Bool) → has_open M ≡ b →
-      (k : ℕ) × (length (if b then N ∷ [] else []) + k ≤ n) × MayReply e.peer f k (after_answer e M (if b then (if c then Replies N else Refuses too_many_parts) else Ends)).stage
+      (k : ℕ) × (length (if b then N ∷ [] else []) + k ≤ n) × MayReply e.peer f k
+      (after_answer e M (if b then (if c then Replies N else Refuses too_many_parts) else Ends)).stage
   by true true o = (
     n - 1,
     omega (arith, has_open-under f e.peer.items n M under o),
-    cond_both (has_open N) (Waits (open_parts N)) Over (MayReply e.peer f (n - 1)) (λ more. All-open (IsSumUnder f e.peer.items (n - 1)) N (reply-under S e.peer f r n M under)) (λ none. tt),
+    cond_both (has_open N) (Waits (open_parts N)) Over (MayReply e.peer f (n - 1))
+        (λ more. All-open (IsSumUnder f e.peer.items (n - 1)) N (reply-under S e.peer f r n M under)) (λ none. tt),
   )
   by true false o = (n - 1, omega (arith, has_open-under f e.peer.items n M under o), tt)
   by false c o = (0, omega arith, tt)
 
-called-few : {F : Type 0} (S : Summary F) (f : List ℕ) (n : ℕ) (e : End F) (M : Message F) → Ready e.peer f → RangesRise M → MayReply e.peer f n e.stage →
+called-few : {F : Type 0} (S : Summary F) (f : List ℕ) (n : ℕ) (e : End F) (M : Message F) → Ready e.peer f →
+    RangesRise M → MayReply e.peer f n e.stage →
     (k : ℕ) × (length (called S e M) + k ≤ n) × MayReply e.peer f k (after S e M).stage
 called-few {F} S f n e M r rises h = by e.stage h where
-  by : (s : Stage F) → MayReply e.peer f n s → (k : ℕ) × (length (called S (record e { stage = s }) M) + k ≤ n) × MayReply e.peer f k (after S (record e { stage = s }) M).stage
+  by : (s : Stage F) → MayReply e.peer f n s → (k : ℕ) × (length (called S (record e { stage = s }) M) + k ≤ n)
+      × MayReply e.peer f k (after S (record e { stage = s }) M).stage
   by Fresh h = fault (opening_fault M) refl where
     fault : (o : Option ℕ) → opening_fault M ≡ o → MayCallBehind S f n (record e { stage = Fresh }) M o
     fault (Some code) p = (0, omega arith, tt)
     fault None p =
-        let (k, few, more) = called-behind S f (rank f e.peer + 1) (record e { stage = Fresh }) M r (opening-OpenUnder r M p) in
+        let (k, few, more) =
+        called-behind S f (rank f e.peer + 1) (record e { stage = Fresh }) M r (opening-OpenUnder r M p) in
         (k, omega (arith, few, h), more)
   by (Waits own) h = fault (place_fault own M) refl where
     fault : (o : Option ℕ) → place_fault own M ≡ o → MayCallBehind S f n (record e { stage = Waits own }) M o
@@ -114,13 +137,15 @@ called-few {F} S f n e M r rises h = by e.stage h where
   by Over h = (0, omega arith, tt)
   by Spent h = (0, omega arith, tt)
 
-calls-few : {F : Type 0} (S : Summary F) (P : Peer) (f : List ℕ) (n : ℕ) (e : End F) (Ms : List (Message F)) → Ready P f → AllByRecursion RangesRise Ms → e.peer ≡ P →
+calls-few : {F : Type 0} (S : Summary F) (P : Peer) (f : List ℕ) (n : ℕ) (e : End F) (Ms : List (Message F)) →
+    Ready P f → AllByRecursion RangesRise Ms → e.peer ≡ P →
     MayReply e.peer f n e.stage → length (calls S e Ms) ≤ n
 calls-few S P f n e [] r rise is h = omega arith
 calls-few S P f n e (M ∷ Ms) r rise is h =
     let (k, few, more) = called-few S f n e M (subst (λ Q. Ready Q f) (sym is) r) rise.0 h in
     let same = after-peer S e M in
-    let later = calls-few S P f k (after S e M) Ms r rise.1 (same ∙ is) (subst (λ Q. MayReply Q f k (after S e M).stage) (sym same) more) in
+    let later = calls-few S P f k (after S e M) Ms r rise.1 (same ∙ is)
+    (subst (λ Q. MayReply Q f k (after S e M).stage) (sym same) more) in
     omega (arith, few, later, length-append (called S e M) (calls S (after S e M) Ms))
 
 pub own_is_few : {F : Type 0} (S : Summary F) → OwnIsFew S

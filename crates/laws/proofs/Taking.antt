@@ -7,19 +7,25 @@
 -- So the answer at the end is the answer to the message (`ended-all`), and the end after it is the same (`after-all`).
 -- If a part was refused, the parts after it count for nothing in both.
 -- docs/LAWS.md: Parts are taken.
-use Rattle.std.proofs.Common.{◌≡◌, ℕ, ◌+◌, ◌<◌, ◌∙◌, Bool, true, false, List, [], ◌∷◌, ◌++◌, length, Option, Some, None, refl, sym, ap, arith, append_assoc}
+use Rattle.std.proofs.Common.{◌≡◌, ℕ, ◌+◌, ◌<◌, ◌∙◌, Bool, true, false, List, [], ◌∷◌, ◌++◌, length, Option, Some, None}
+use Rattle.std.proofs.Common.{refl, sym, ap, arith, append_assoc}
 use Rattle.std.specs.Prelude.{◌||◌, fold, if◌then◌else◌}
-use Rattle.definitions.proofs.Words.{Summary, Part, Message, has_open, is_open, reply, reply_to, Place, Behind, Refused, next, finish, and_then, learn, max_parts, End, Ends, Fresh, Over, Refuses, Replies, Spent, Stage, Waits, after_answer, answer, answer_unless, is_sendable, own_of, reply_or_refuse, stage_behind, stage_fault, too_many_parts}
+use Rattle.definitions.proofs.Words.{Summary, Part, Message, has_open, is_open, reply, reply_to, Place, Behind, Refused}
+use Rattle.definitions.proofs.Words.{next, finish, and_then, learn, max_parts, End, Ends, Fresh, Over, Refuses, Replies}
+use Rattle.definitions.proofs.Words.{Spent, Stage, Waits, after_answer, answer, answer_unless, is_sendable, own_of}
+use Rattle.definitions.proofs.Words.{reply_or_refuse, stage_behind, stage_fault, too_many_parts}
 use Rattle.definitions.specs.Ends.{Answer}
 use Rattle.definitions.specs.Placing.{First, refusal}
 use Rattle.definitions.specs.Talks.{ours_by, theirs_by}
-use Rattle.definitions.specs.Taking.{Taken, place_of, nothing_taken, grown, taken, taken_all, ended, ended_unless, replies_or_refuses, after_ended, refuses_or, by_parts}
+use Rattle.definitions.specs.Taking.{Taken, place_of, nothing_taken, grown, taken, taken_all, ended, ended_unless}
+use Rattle.definitions.specs.Taking.{replies_or_refuses, after_ended, refuses_or, by_parts}
 use Rattle.definitions.proofs.Lemmas.{append-nil, length-append, cond_both, leb-false, lt-leb}
 use Rattle.laws.specs.Taking.{PartsAreTaken}
 
 -- ---- what the parts come to
 
-place-taken : {F : Type 0} (S : Summary F) (e : End F) (t : Taken F) (M : Message F) → (fold (taken S e) t M).place ≡ fold next t.place M
+place-taken : {F : Type 0} (S : Summary F) (e : End F) (t : Taken F) (M : Message F) →
+    (fold (taken S e) t M).place ≡ fold next t.place M
 place-taken S e t [] = refl
 place-taken S e t (p ∷ M) = place-taken S e (taken S e t p) M
 
@@ -31,21 +37,27 @@ or-assoc : (a b c : Bool) → ((a || b) || c) ≡ (a || (b || c))
 or-assoc true b c = refl
 or-assoc false b c = refl
 
-opens-taken : {F : Type 0} (S : Summary F) (e : End F) (t : Taken F) (M : Message F) → (fold (taken S e) t M).opens ≡ (t.opens || has_open M)
+opens-taken : {F : Type 0} (S : Summary F) (e : End F) (t : Taken F) (M : Message F) →
+    (fold (taken S e) t M).opens ≡ (t.opens || has_open M)
 opens-taken S e t [] = sym (or-false t.opens)
 opens-taken S e t (p ∷ M) = opens-taken S e (taken S e t p) M ∙ or-assoc t.opens (is_open p) (has_open M)
 
 flat3 : {X : Type 0} (a b c : List X) → (a ++ (b ++ [])) ++ c ≡ a ++ (b ++ c)
 flat3 {X} a b c = ap (λ (l : List X). (a ++ l) ++ c) (append-nil b) ∙ append_assoc a b c
 
-learned-taken : {F : Type 0} (S : Summary F) (e : End F) (t : Taken F) (M : Message F) → (fold (taken S e) t M).learned ≡ and_then t.learned (learn e.peer.items (own_of e.stage) M)
-learned-taken S e t [] = λ i. record { ours = sym (append-nil t.learned.ours) i; theirs = sym (append-nil t.learned.theirs) i }
+learned-taken : {F : Type 0} (S : Summary F) (e : End F) (t : Taken F) (M : Message F) →
+    (fold (taken S e) t M).learned ≡ and_then t.learned (learn e.peer.items (own_of e.stage) M)
+learned-taken S e t [] =
+    λ i. record { ours = sym (append-nil t.learned.ours) i; theirs = sym (append-nil t.learned.theirs) i }
 learned-taken S e t (p ∷ M) =
     let A = e.peer.items in
     let own = own_of e.stage in
     let rest = learn A own M in
     learned-taken S e (taken S e t p) M
-    ∙ (λ i. record { ours = flat3 t.learned.ours (ours_by A own p) rest.ours i; theirs = flat3 t.learned.theirs (theirs_by A p) rest.theirs i })
+    ∙ (λ i. record {
+      ours = flat3 t.learned.ours (ours_by A own p) rest.ours i;
+      theirs = flat3 t.learned.theirs (theirs_by A p) rest.theirs i;
+    })
 
 -- a message with too many parts stays so
 too_long : {F : Type 0} (M N : Message F) → is_sendable M ≡ false → is_sendable (M ++ N) ≡ false
@@ -60,10 +72,12 @@ grown-twice {F} M N =
     (λ fits. refl)
     (λ long. sym (ap (λ b. if b then Some (M ++ N) else None) (too_long M N long)))
 
-reply-taken : {F : Type 0} (S : Summary F) (e : End F) (t : Taken F) (N M : Message F) → t.reply ≡ grown (Some []) N → (fold (taken S e) t M).reply ≡ grown (Some []) (N ++ reply S e.peer M)
+reply-taken : {F : Type 0} (S : Summary F) (e : End F) (t : Taken F) (N M : Message F) → t.reply ≡ grown (Some []) N →
+    (fold (taken S e) t M).reply ≡ grown (Some []) (N ++ reply S e.peer M)
 reply-taken S e t N [] h = h ∙ ap (grown (Some [])) (sym (append-nil N))
 reply-taken S e t N (p ∷ M) h =
-    reply-taken S e (taken S e t p) (N ++ reply_to S e.peer p) M (ap (λ r. grown r (reply_to S e.peer p)) h ∙ grown-twice N (reply_to S e.peer p))
+    reply-taken S e (taken S e t p) (N ++ reply_to S e.peer p) M
+    (ap (λ r. grown r (reply_to S e.peer p)) h ∙ grown-twice N (reply_to S e.peer p))
     ∙ ap (grown (Some [])) (append_assoc N (reply_to S e.peer p) (reply S e.peer M))
 
 -- ---- a refusal stays
@@ -85,10 +99,12 @@ fault-taken Spent M = ap finish (stays-refused _ M)
 
 -- ---- the answer
 
-pub place-all : {F : Type 0} (S : Summary F) (e : End F) (M : Message F) → (taken_all S e M).place ≡ fold next (place_of e.stage) M
+pub place-all : {F : Type 0} (S : Summary F) (e : End F) (M : Message F) →
+    (taken_all S e M).place ≡ fold next (place_of e.stage) M
 place-all S e M = place-taken S e (nothing_taken e) M
 
-pub learned-all : {F : Type 0} (S : Summary F) (e : End F) (M : Message F) → (taken_all S e M).learned ≡ learn e.peer.items (own_of e.stage) M
+pub learned-all : {F : Type 0} (S : Summary F) (e : End F) (M : Message F) →
+    (taken_all S e M).learned ≡ learn e.peer.items (own_of e.stage) M
 learned-all S e M = learned-taken S e (nothing_taken e) M
 
 replies-by : {F : Type 0} (N : Message F) → replies_or_refuses (grown (Some []) N) ≡ reply_or_refuse N
@@ -98,31 +114,39 @@ replies-by {F} N = by (is_sendable N) where
   by false = refl
 
 pub ended-all : {F : Type 0} (S : Summary F) (e : End F) (M : Message F) → ended (taken_all S e M) ≡ answer S e M
-ended-all {F} S e M = ap (ended_unless t) (ap finish (place-all S e M) ∙ fault-taken e.stage M) ∙ by (stage_fault e.stage M) where
-  t : Taken F
-  t = taken_all S e M
+ended-all {F} S e M =
+    ap (ended_unless t) (ap finish (place-all S e M) ∙ fault-taken e.stage M) ∙ by (stage_fault e.stage M) where
+      t : Taken F
+      t = taken_all S e M
 
-  by : (o : Option ℕ) → ended_unless t o ≡ answer_unless S e.peer M o
-  by (Some code) = refl
-  by None =
-      let opens : t.opens ≡ has_open M = opens-taken S e (nothing_taken e) M in
-      let reply_is : t.reply ≡ grown (Some []) (reply S e.peer M) = reply-taken S e (nothing_taken e) [] M refl in
-      (λ i. if opens i then replies_or_refuses (reply_is i) else Ends) ∙ ap (λ a. if has_open M then a else Ends) (replies-by (reply S e.peer M))
+      by : (o : Option ℕ) → ended_unless t o ≡ answer_unless S e.peer M o
+      by (Some code) = refl
+      by None =
+          let opens : t.opens ≡ has_open M = opens-taken S e (nothing_taken e) M in
+          let reply_is : t.reply ≡ grown (Some []) (reply S e.peer M) = reply-taken S e (nothing_taken e) [] M refl in
+          (λ i. if opens i then replies_or_refuses (reply_is i) else Ends)
+          ∙ ap (λ a. if has_open M then a else Ends) (replies-by (reply S e.peer M))
 
-pub after-all : {F : Type 0} (S : Summary F) (e : End F) (M : Message F) (a : Answer F) → after_ended e (taken_all S e M) a ≡ after_answer e M a
-after-all S e M (Replies N) = ap (λ k. record e { stage = stage_behind N; sent = e.sent + 1; learned = and_then e.learned k }) (learned-all S e M)
+pub after-all : {F : Type 0} (S : Summary F) (e : End F) (M : Message F) (a : Answer F) →
+    after_ended e (taken_all S e M) a ≡ after_answer e M a
+after-all S e M (Replies N) =
+    ap (λ k. record e { stage = stage_behind N; sent = e.sent + 1; learned = and_then e.learned k }) (learned-all S e M)
 after-all S e M Ends = ap (λ k. record e { stage = Over; learned = and_then e.learned k }) (learned-all S e M)
 after-all S e M (Refuses code) = refl
 
-refused-on : {F : Type 0} (S : Summary F) (e : End F) (t : Taken F) (p : Part F) (M : Message F) (code : ℕ) → refusal (next t.place p) ≡ Some code → ended (fold (taken S e) (taken S e t p) M) ≡ Refuses code
+refused-on : {F : Type 0} (S : Summary F) (e : End F) (t : Taken F) (p : Part F) (M : Message F) (code : ℕ) →
+    refusal (next t.place p) ≡ Some code → ended (fold (taken S e) (taken S e t p) M) ≡ Refuses code
 refused-on S e t p M code h =
-    let at = place-taken S e (taken S e t p) M ∙ ap (λ x. fold next x M) (refused-place (next t.place p) code h) ∙ stays-refused code M in
+    let at = place-taken S e (taken S e t p) M ∙ ap (λ x. fold next x M) (refused-place (next t.place p) code h)
+    ∙ stays-refused code M in
     ap (ended_unless (fold (taken S e) (taken S e t p) M)) (ap finish at)
 
-in-parts : {F : Type 0} (S : Summary F) (e : End F) (t : Taken F) (M : Message F) → by_parts S e t M ≡ ended (fold (taken S e) t M)
+in-parts : {F : Type 0} (S : Summary F) (e : End F) (t : Taken F) (M : Message F) →
+    by_parts S e t M ≡ ended (fold (taken S e) t M)
 in-parts S e t [] = refl
 in-parts {F} S e t (p ∷ M) = by (refusal (next t.place p)) refl (in-parts S e (taken S e t p) M) where
-  by : (o : Option ℕ) → refusal (next t.place p) ≡ o → by_parts S e (taken S e t p) M ≡ ended (fold (taken S e) (taken S e t p) M) →
+  by : (o : Option ℕ) → refusal (next t.place p) ≡ o →
+      by_parts S e (taken S e t p) M ≡ ended (fold (taken S e) (taken S e t p) M) →
       refuses_or o (by_parts S e (taken S e t p) M) ≡ ended (fold (taken S e) (taken S e t p) M)
   by (Some code) h later = sym (refused-on S e t p M code h)
   by None h later = later

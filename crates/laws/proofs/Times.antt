@@ -6,12 +6,16 @@
 -- two: they are sets, and have what the lists have.
 -- docs/LAWS.md: no law of its own. Knowledge is exact, Nothing wrong is learned, Nothing is learned twice and Parts
 -- are few count in this way.
-use Rattle.std.proofs.Common.{rules, ◌≡◌, ℕ, ◌+◌, ◌≤◌, Bool, true, false, not, ◌&&◌, ◌||◌, map, zero-add, List, [], ◌∷◌, ◌++◌, cond, ltb, Less, Equal, refl, sym, ap, subst, ◌∙◌, arith, Greater}
+use Rattle.std.proofs.Common.{rules, ◌≡◌, ℕ, ◌+◌, ◌≤◌, Bool, true, false, not, ◌&&◌, ◌||◌, map, zero-add, List, [], ◌∷◌}
+use Rattle.std.proofs.Common.{◌++◌, cond, ltb, Less, Equal, refl, sym, ap, subst, ◌∙◌, arith, Greater}
 use Rattle.std.specs.List.{IsDistinct, filter}
 use Rattle.std.specs.List.Sorted.{IsStrictlySortedBy}
 use Rattle.std.specs.declared.cmp.Ordering.{Ordering}
-use Rattle.definitions.proofs.Words.{AllByRecursion, items_where_true, match_ordering, ordering_reverse, Item, item_cmp, same_item, Range, contains, IsSet, has, items_in, difference, add_item, union, set_of, ListsOnce}
-use Rattle.definitions.proofs.Lemmas.{lt-ltb, ltb-false, nat_list_cmp_total, tied_itself, any-filter_same, IsStrictlySortedBy-filter, same_item-eq, same_item-itself, item_cmp-eq}
+use Rattle.definitions.proofs.Words.{AllByRecursion, items_where_true, match_ordering, ordering_reverse, Item, item_cmp}
+use Rattle.definitions.proofs.Words.{same_item, Range, contains, IsSet, has, items_in, difference, add_item, union}
+use Rattle.definitions.proofs.Words.{set_of, ListsOnce}
+use Rattle.definitions.proofs.Lemmas.{lt-ltb, ltb-false, nat_list_cmp_total, tied_itself, any-filter_same}
+use Rattle.definitions.proofs.Lemmas.{IsStrictlySortedBy-filter, same_item-eq, same_item-itself, item_cmp-eq}
 
 -- ==== How often an item occurs in a list: it adds up over lists joined end to end, and shows which items a list has
 
@@ -30,8 +34,12 @@ times-append x [] ys = omega arith
 times-append x (y ∷ xs) ys = omega (arith, times-append x xs ys)
 
 -- one item more that a filter keeps or loses
-times_keep : (x y : Item) (ys : List Item) (b : Bool) → times x (cond b (y ∷ ys) ys) ≡ when b (when (same_item x y) 1) + times x ys
-times_keep x y ys b = elim b as (λ v. times x (cond v (y ∷ ys) ys) ≡ when v (when (same_item x y) 1) + times x ys) [ true ↦ refl | false ↦ omega arith ]
+times_keep : (x y : Item) (ys : List Item) (b : Bool) →
+    times x (cond b (y ∷ ys) ys) ≡ when b (when (same_item x y) 1) + times x ys
+times_keep x y ys b = elim b as (λ v. times x (cond v (y ∷ ys) ys) ≡ when v (when (same_item x y) 1) + times x ys) [
+  | true ↦ refl
+  | false ↦ omega arith
+]
 
 when_same : (p : Item → Bool) (x y : Item) → when (p y) (when (same_item x y) 1) ≡ when (p x) (when (same_item x y) 1)
 when_same p x y = search rules
@@ -41,7 +49,13 @@ when-add b m n = grind arith
 
 pub times-filter : (p : Item → Bool) (x : Item) (xs : List Item) → times x (filter p xs) ≡ when (p x) (times x xs)
 times-filter p x [] = grind arith
-times-filter p x (y ∷ ys) = omega (arith, times_keep x y (filter p ys) (p y), when_same p x y, when-add (p x) (when (same_item x y) 1) (times x ys), times-filter p x ys)
+times-filter p x (y ∷ ys) = omega (
+  arith,
+  times_keep x y (filter p ys) (p y),
+  when_same p x y,
+  when-add (p x) (when (same_item x y) 1) (times x ys),
+  times-filter p x ys,
+)
 
 -- an item stands somewhere in a list that has it
 pub has-times : (x : Item) (xs : List Item) → has xs x ≡ ltb 0 (times x xs)
@@ -71,7 +85,8 @@ IsDistinct-from_times (x ∷ xs) h =
 -- an item that is below all others is none of them
 pub times_below : (x : Item) (ys : List Item) → AllByRecursion (λ y. item_cmp x y ≡ Less) ys → times x ys ≡ 0
 times_below x [] h = refl
-times_below x (y ∷ ys) (here, rest) = search (rules, times_below x ys rest, here, same_item-eq, tied_itself, nat_list_cmp_total)
+times_below x (y ∷ ys) (here, rest) =
+    search (rules, times_below x ys rest, here, same_item-eq, tied_itself, nat_list_cmp_total)
 
 -- an item stands at most once in a set
 pub times_le_one : (x : Item) (xs : List Item) → IsSet xs → times x xs ≤ 1
@@ -80,12 +95,16 @@ times_le_one x [] h = omega arith
 times_le_one x (y ∷ ys) h =
     let either : (b : Bool) → same_item x y ≡ b → when b 1 + times x ys ≤ 1 =
     elim [
-      | true ↦ λ e. omega (arith, times_below x ys (subst (λ z. AllByRecursion (λ y. item_cmp z y ≡ Less) ys) (sym (same_item-eq x y e)) h.0))
+      | true ↦ λ e. omega (
+        arith,
+        times_below x ys (subst (λ z. AllByRecursion (λ y. item_cmp z y ≡ Less) ys) (sym (same_item-eq x y e)) h.0),
+      )
       | false ↦ λ e. omega (arith, times_le_one x ys h.1)
     ] in
     either (same_item x y) refl
 
-pub ListsOnce-from_times : (items A : List Item) → IsSet A → ((x : Item) → times x items ≡ times x A) → ListsOnce items A
+pub ListsOnce-from_times : (items A : List Item) → IsSet A → ((x : Item) → times x items ≡ times x A) →
+    ListsOnce items A
 ListsOnce-from_times items A set same = record {
   once = IsDistinct-from_times items (λ x. omega (arith, same x, times_le_one x A set));
   same = same_has items A same;
@@ -104,11 +123,13 @@ pub has-filter : (p : Item → Bool) (x : Item) (xs : List Item) → has (filter
 has-filter p x xs = any-filter_same (same_item x) p (p x) (λ y h. ap p (sym (same_item-eq x y h))) xs
 
 -- differences within a range
-pub times-difference_in : (x : Item) (X : Range) (A B : List Item) → times x (difference (items_in A X) (items_in B X)) ≡ when (contains X x) (times x (difference A B))
+pub times-difference_in : (x : Item) (X : Range) (A B : List Item) →
+    times x (difference (items_in A X) (items_in B X)) ≡ when (contains X x) (times x (difference A B))
 times-difference_in x X A B =
     let outer = times-filter (λ y. not (has (items_in B X) y)) x (items_in A X) in
     let whole = times-filter (λ y. not (has B y)) x A in
-    let within : (b c : Bool) → when (not (b && c)) (when b (times x A)) ≡ when b (when (not c) (times x A)) = grind arith in
+    let within : (b c : Bool) → when (not (b && c)) (when b (times x A)) ≡ when b (when (not c) (times x A)) =
+    grind arith in
     outer
     ∙ ap (λ n. when (not (has (items_in B X) x)) n) (times-filter (contains X) x A)
     ∙ ap (λ b. when (not b) (when (contains X x) (times x A))) (has-filter (contains X) x B)
@@ -116,7 +137,8 @@ times-difference_in x X A B =
     ∙ ap (λ n. when (contains X x) n) (sym whole)
 
 -- what a range of A has and B lacks
-pub times-difference_of : (x : Item) (X : Range) (A B : List Item) → times x (difference (items_in A X) B) ≡ when (contains X x) (times x (difference A B))
+pub times-difference_of : (x : Item) (X : Range) (A B : List Item) →
+    times x (difference (items_in A X) B) ≡ when (contains X x) (times x (difference A B))
 times-difference_of x X A B =
     let turned : (b c : Bool) → when b (when c (times x A)) ≡ when c (when b (times x A)) = grind arith in
     times-filter (λ y. not (has B y)) x (items_in A X)
@@ -135,11 +157,13 @@ pub has-add_item : (A : List Item) (x z : Item) → has (add_item A x) z ≡ (sa
 has-add_item [] x z = refl
 has-add_item (y ∷ ys) x z = grind (arith, has-add_item ys x z, item_cmp-eq)
 
-all_add_item : (P : Item → Type 0) (A : List Item) (x : Item) → AllByRecursion P A → P x → AllByRecursion P (add_item A x)
+all_add_item : (P : Item → Type 0) (A : List Item) (x : Item) → AllByRecursion P A → P x →
+    AllByRecursion P (add_item A x)
 all_add_item P [] x h p = (p, tt)
 all_add_item P (y ∷ ys) x h p = grind (arith, all_add_item P ys x h.1 p)
 
-pub all_above : (x y : Item) (ys : List Item) → item_cmp x y ≡ Less → AllByRecursion (λ z. item_cmp y z ≡ Less) ys → AllByRecursion (λ z. item_cmp x z ≡ Less) ys
+pub all_above : (x y : Item) (ys : List Item) → item_cmp x y ≡ Less → AllByRecursion (λ z. item_cmp y z ≡ Less) ys →
+    AllByRecursion (λ z. item_cmp x z ≡ Less) ys
 all_above x y [] less h = tt
 all_above x y (z ∷ zs) less h = (nat_list_cmp_total.trans x y z less h.0, all_above x y zs less h.1)
 
@@ -147,11 +171,15 @@ pub add_item-IsSet : (A : List Item) (x : Item) → IsSet A → IsSet (add_item 
 unfolding IsStrictlySortedBy
 add_item-IsSet [] x set = (tt, tt)
 add_item-IsSet (y ∷ ys) x set =
-    let either : (o : Ordering) → item_cmp x y ≡ o → IsSet (match_ordering o (x ∷ y ∷ ys) (y ∷ ys) (y ∷ add_item ys x)) =
+    let either : (o : Ordering) → item_cmp x y ≡ o →
+    IsSet (match_ordering o (x ∷ y ∷ ys) (y ∷ ys) (y ∷ add_item ys x)) =
     elim [
       | Less ↦ λ e. ((e, all_above x y ys e set.0), set)
       | Equal ↦ λ e. set
-      | Greater ↦ λ e. (all_add_item (λ z. item_cmp y z ≡ Less) ys x set.0 (nat_list_cmp_total.antisymm y x ∙ ap ordering_reverse e), add_item-IsSet ys x set.1)
+      | Greater ↦ λ e. (
+        all_add_item (λ z. item_cmp y z ≡ Less) ys x set.0 (nat_list_cmp_total.antisymm y x ∙ ap ordering_reverse e),
+        add_item-IsSet ys x set.1,
+      )
     ] in
     either (item_cmp x y) refl
 

@@ -8,8 +8,13 @@
 -- not overlap. So by induction on k: what each has learned and sent is what the talk so far says, and message number k
 -- is answered by number k + 1 (`Turn`). The opening is such a meeting.
 -- docs/LAWS.md: Talks grow by replies; Two ends hand each other the talk.
-use Rattle.std.proofs.Common.{◌≡◌, ℕ, zero, suc, ◌+◌, ◌≤◌, Bool, true, false, not, List, [], ◌∷◌, ◌++◌, length, take, slice_get, Some, None, if◌then◌else◌, refl, sym, ap, subst, ◌∙◌, arith}
-use Rattle.definitions.proofs.Words.{AllByRecursion, Apart, Summary, IsExact, Message, has_open, open_ranges, opening, Peer, reply, and_then, knows, learn, of_first, of_second, sender, talk, talk_from, max_parts, Ready, End, Ends, Replies, Waits, Over, Refuses, too_many_parts, after, after_answer, answer, answer_unless, heard, initiator, initiator_at, is_live, own_of, reply_or_refuse, responder, responder_at, stage_behind, stage_fault}
+use Rattle.std.proofs.Common.{◌≡◌, ℕ, zero, suc, ◌+◌, ◌≤◌, Bool, true, false, not, List, [], ◌∷◌, ◌++◌, length, take}
+use Rattle.std.proofs.Common.{slice_get, Some, None, if◌then◌else◌, refl, sym, ap, subst, ◌∙◌, arith}
+use Rattle.definitions.proofs.Words.{AllByRecursion, Apart, Summary, IsExact, Message, has_open, open_ranges, opening}
+use Rattle.definitions.proofs.Words.{Peer, reply, and_then, knows, learn, of_first, of_second, sender, talk, talk_from}
+use Rattle.definitions.proofs.Words.{max_parts, Ready, End, Ends, Replies, Waits, Over, Refuses, too_many_parts, after}
+use Rattle.definitions.proofs.Words.{after_answer, answer, answer_unless, heard, initiator, initiator_at, is_live}
+use Rattle.definitions.proofs.Words.{own_of, reply_or_refuse, responder, responder_at, stage_behind, stage_fault}
 use Rattle.definitions.proofs.Lemmas.{le-leb, take_all, All-map}
 use Rattle.laws.specs.Growing.{is_even}
 use Rattle.laws.specs.Turns.{TalksBegin, TalksGoOn, EndsHear, EndsTalk}
@@ -23,7 +28,8 @@ use Rattle.definitions.specs.Messages.{open_parts}
 
 -- ==== A talk
 
-talk_from-begins : {F : Type 0} (S : Summary F) (P Q : Peer) (M : Message F) (k n : ℕ) → k ≤ n → take k (talk_from S P Q M n) ≡ talk_from S P Q M k
+talk_from-begins : {F : Type 0} (S : Summary F) (P Q : Peer) (M : Message F) (k n : ℕ) → k ≤ n →
+    take k (talk_from S P Q M n) ≡ talk_from S P Q M k
 talk_from-begins S P Q M zero n h = refl
 talk_from-begins S P Q M (suc k) zero h = absurd (omega arith)
 talk_from-begins S P Q M (suc k) (suc n) h = grind (arith, talk_from-begins S Q P (reply S Q M) k n, take_all)
@@ -35,10 +41,13 @@ talks_begin S I R k n h = talk_from-begins S I R (opening S I.items) k n h
 record IsLast {F : Type 0} (S : Summary F) (P Q : Peer) (M : Message F) (k : ℕ) (N : Message F) : Type 0 where
   number : length (talk_from S P Q M k) ≡ k
   last : talk_from S P Q M (suc k) ≡ talk_from S P Q M k ++ N ∷ []
-  next : slice_get (talk_from S P Q M (suc (suc k))) (suc k) ≡ (if has_open N then Some (reply S (sender P Q (suc k)) N) else None)
+  next : slice_get (talk_from S P Q M (suc (suc k))) (suc k)
+      ≡ (if has_open N then Some (reply S (sender P Q (suc k)) N) else None)
 
-talk_from-last : {F : Type 0} (S : Summary F) (P Q : Peer) (M : Message F) (k : ℕ) (N : Message F) → slice_get (talk_from S P Q M (suc k)) k ≡ Some N → IsLast S P Q M k N
-talk_from-last S P Q M zero N h = subst (IsLast S P Q M zero) (some_is M N h) record { number = refl; last = grind arith; next = grind arith }
+talk_from-last : {F : Type 0} (S : Summary F) (P Q : Peer) (M : Message F) (k : ℕ) (N : Message F) →
+    slice_get (talk_from S P Q M (suc k)) k ≡ Some N → IsLast S P Q M k N
+talk_from-last S P Q M zero N h =
+    subst (IsLast S P Q M zero) (some_is M N h) record { number = refl; last = grind arith; next = grind arith }
 talk_from-last S P Q M (suc k) N h = grind (arith, talk_from-last S Q P (reply S Q M) k N, slice_get)
 
 pub talks_go_on : {F : Type 0} (S : Summary F) → TalksGoOn S
@@ -49,14 +58,16 @@ talks_go_on {F} S I R k M h =
     record {
       number = is.number;
       last = ap (talk S I R) one ∙ is.last;
-      next = (λ i. slice_get (talk S I R (two i)) (one i)) ∙ is.next ∙ ap (λ n. if has_open M then Some (reply S (sender I R n) M) else None) (sym one);
+      next = (λ i. slice_get (talk S I R (two i)) (one i)) ∙ is.next
+          ∙ ap (λ n. if has_open M then Some (reply S (sender I R n) M) else None) (sym one);
     }
 
 -- ==== Who hears what
 
 -- one message more is of the side that begins where their number is even
 split : {F : Type 0} (Ms : List (Message F)) (M : Message F) →
-    (of_first (Ms ++ M ∷ []) ≡ (if is_even (length Ms) then of_first Ms ++ M ∷ [] else of_first Ms)) × (of_second (Ms ++ M ∷ []) ≡ (if is_even (length Ms) then of_second Ms else of_second Ms ++ M ∷ []))
+    (of_first (Ms ++ M ∷ []) ≡ (if is_even (length Ms) then of_first Ms ++ M ∷ [] else of_first Ms))
+    × (of_second (Ms ++ M ∷ []) ≡ (if is_even (length Ms) then of_second Ms else of_second Ms ++ M ∷ []))
 split [] M = (refl, refl)
 split (N ∷ Ms) M = grind (arith, split Ms M, of_first-cons)
 
@@ -72,8 +83,10 @@ ends_hear {F} S I R k M h =
     let even : is_even (length Ms) ≡ is_even k = ap is_even is.number in
     let both = split Ms M in
     record {
-      initiator = ap (λ Ns. heard S (initiator S I) (of_second Ns)) is.last ∙ ap (heard S (initiator S I)) (both.1 ∙ turned (is_even (length Ms)) (of_second Ms ++ M ∷ []) (of_second Ms))
-          ∙ heard_more S (initiator S I) (of_second Ms) M (not (is_even (length Ms))) ∙ sym (turned (is_even (length Ms)) (after S (initiator_at S I R k) M) (initiator_at S I R k))
+      initiator = ap (λ Ns. heard S (initiator S I) (of_second Ns)) is.last
+          ∙ ap (heard S (initiator S I)) (both.1 ∙ turned (is_even (length Ms)) (of_second Ms ++ M ∷ []) (of_second Ms))
+          ∙ heard_more S (initiator S I) (of_second Ms) M (not (is_even (length Ms)))
+          ∙ sym (turned (is_even (length Ms)) (after S (initiator_at S I R k) M) (initiator_at S I R k))
           ∙ ap (λ b. if b then initiator_at S I R k else after S (initiator_at S I R k) M) even;
       responder = ap (λ Ns. heard S (responder R) (of_first Ns)) is.last ∙ ap (heard S (responder R)) both.0
           ∙ heard_more S (responder R) (of_first Ms) M (is_even (length Ms))
@@ -84,29 +97,37 @@ ends_hear {F} S I R k M h =
 
 -- what the two have sent and learned behind the messages Ms, and what becomes of message number k, which is among more
 record Turn {F : Type 0} (S : Summary F) (e d : End F) (Ms more : List (Message F)) (k : ℕ) : Type 0 where
-  speaker_learned : (heard S e (of_second Ms)).learned ≡ and_then e.learned (knows e.peer.items (of_first Ms) (of_second Ms))
-  hearer_learned : (heard S d (of_first Ms)).learned ≡ and_then d.learned (knows d.peer.items (own_of d.stage ∷ of_second Ms) (of_first Ms))
+  speaker_learned : (heard S e (of_second Ms)).learned
+      ≡ and_then e.learned (knows e.peer.items (of_first Ms) (of_second Ms))
+  hearer_learned : (heard S d (of_first Ms)).learned
+      ≡ and_then d.learned (knows d.peer.items (own_of d.stage ∷ of_second Ms) (of_first Ms))
   sent : (heard S e (of_second Ms)).sent + (heard S d (of_first Ms)).sent + 1 ≡ e.sent + d.sent + length more
-  spoken : (N : Message F) → slice_get more k ≡ Some N → (if is_even k then heard S e (of_second Ms) else heard S d (of_first Ms)).stage ≡ stage_behind N
+  spoken : (N : Message F) → slice_get more k ≡ Some N →
+      (if is_even k then heard S e (of_second Ms) else heard S d (of_first Ms)).stage ≡ stage_behind N
   answered : (N : Message F) → slice_get more k ≡ Some N →
-      answer S (if is_even k then heard S d (of_first Ms) else heard S e (of_second Ms)) N ≡ (if has_open N then Replies (reply S (sender e.peer d.peer (suc k)) N) else Ends)
+      answer S (if is_even k then heard S d (of_first Ms) else heard S e (of_second Ms)) N
+      ≡ (if has_open N then Replies (reply S (sender e.peer d.peer (suc k)) N) else Ends)
 
 -- nothing was heard, and M comes
-turn_first : {F : Type 0} (S : Summary F) (e d : End F) (M : Message F) (Ms : List (Message F)) → length Ms ≡ 0 → e.stage ≡ stage_behind M →
+turn_first : {F : Type 0} (S : Summary F) (e d : End F) (M : Message F) (Ms : List (Message F)) → length Ms ≡ 0 →
+    e.stage ≡ stage_behind M →
     answer S d M ≡ (if has_open M then Replies (reply S d.peer M) else Ends) → Turn S e d [] (M ∷ Ms) 0
 turn_first S e d M Ms none spoken answered = record {
   speaker_learned = sym (then_nothing e.learned);
   hearer_learned = sym (then_nothing d.learned);
   sent = omega (arith, none);
   spoken = λ N h. subst (λ N. e.stage ≡ stage_behind N) (some_is M N h) spoken;
-  answered = λ N h. subst (λ N. answer S d N ≡ (if has_open N then Replies (reply S d.peer N) else Ends)) (some_is M N h) answered;
+  answered = λ N h.
+      subst (λ N. answer S d N ≡ (if has_open N then Replies (reply S d.peer N) else Ends)) (some_is M N h) answered;
 }
 
 -- M is heard and has no open part
-turn_last : {F : Type 0} (S : Summary F) (e d : End F) (M : Message F) (k : ℕ) → after S d M ≡ after_answer d M Ends → Turn S e d (M ∷ []) (M ∷ []) (suc k)
+turn_last : {F : Type 0} (S : Summary F) (e d : End F) (M : Message F) (k : ℕ) → after S d M ≡ after_answer d M Ends →
+    Turn S e d (M ∷ []) (M ∷ []) (suc k)
 turn_last S e d M k hears = record {
   speaker_learned = sym (then_nothing e.learned);
-  hearer_learned = ap (λ c. c.learned) hears ∙ ap (and_then d.learned) (sym (then_nothing (learn d.peer.items (own_of d.stage) M)));
+  hearer_learned =
+      ap (λ c. c.learned) hears ∙ ap (and_then d.learned) (sym (then_nothing (learn d.peer.items (own_of d.stage) M)));
   sent = omega (arith, ap (λ c. c.sent) hears);
   spoken = λ N h. absurd cc;
   answered = λ N h. absurd cc;
@@ -120,16 +141,22 @@ turn_more {F} S e d M Ms more k hears own later =
     let c : End F = after_answer d M (Replies (reply S d.peer M)) in
     let d' = heard S d (of_first (M ∷ Ms)) in
     let e' = heard S e (of_first Ms) in
-    let first : d' ≡ heard S c (of_second Ms) = ap (heard S d) (of_first-cons M Ms) ∙ ap (λ b. heard S b (of_second Ms)) hears in
+    let first : d' ≡ heard S c (of_second Ms) =
+    ap (heard S d) (of_first-cons M Ms) ∙ ap (λ b. heard S b (of_second Ms)) hears in
     record {
-      speaker_learned = later.hearer_learned ∙ ap (λ N. and_then e.learned (knows e.peer.items (N ∷ of_second Ms) (of_first Ms))) own
-          ∙ ap (and_then e.learned) (knows-open e.peer.items M (of_second Ms) (of_first Ms) ∙ sym (begun-cons e.peer.items M Ms));
+      speaker_learned =
+          later.hearer_learned ∙ ap (λ N. and_then e.learned (knows e.peer.items (N ∷ of_second Ms) (of_first Ms))) own
+          ∙ ap (and_then e.learned)
+          (knows-open e.peer.items M (of_second Ms) (of_first Ms) ∙ sym (begun-cons e.peer.items M Ms));
       hearer_learned = ap (λ b. b.learned) first ∙ later.speaker_learned
-          ∙ then_then d.learned (learn d.peer.items (own_of d.stage) M) (knows d.peer.items (of_first Ms) (of_second Ms))
+          ∙ then_then d.learned (learn d.peer.items (own_of d.stage) M)
+          (knows d.peer.items (of_first Ms) (of_second Ms))
           ∙ ap (and_then d.learned) (sym (heard-cons d.peer.items (own_of d.stage) M Ms));
       sent = omega (arith, later.sent, ap (λ b. b.sent) first);
-      spoken = λ N h. ap (λ b. b.stage) (sym (turned (is_even k) e' d')) ∙ ap (λ b. (if is_even k then b else e').stage) first ∙ later.spoken N h;
-      answered = λ N h. ap (λ b. answer S b N) (sym (turned (is_even k) d' e')) ∙ ap (λ b. answer S (if is_even k then e' else b) N) first ∙ later.answered N h;
+      spoken = λ N h. ap (λ b. b.stage) (sym (turned (is_even k) e' d'))
+          ∙ ap (λ b. (if is_even k then b else e').stage) first ∙ later.spoken N h;
+      answered = λ N h. ap (λ b. answer S b N) (sym (turned (is_even k) d' e'))
+          ∙ ap (λ b. answer S (if is_even k then e' else b) N) first ∙ later.answered N h;
     }
 
 -- ---- honest ends
@@ -145,29 +172,38 @@ record Meets {F : Type 0} (S : Summary F) (f g : List ℕ) (e d : End F) (M : Me
   fits : (k : ℕ) → AllByRecursion (λ N. length N ≤ max_parts) (talk_from S e.peer d.peer M k)
 
 -- what e waits for, where M has an open part
-waits : {F : Type 0} {S : Summary F} {f g : List ℕ} {e d : End F} {M : Message F} → Meets S f g e d M → has_open M ≡ true → e.stage ≡ Waits (open_parts M)
+waits : {F : Type 0} {S : Summary F} {f g : List ℕ} {e d : End F} {M : Message F} → Meets S f g e d M →
+    has_open M ≡ true → e.stage ≡ Waits (open_parts M)
 waits {M = M} m o = m.spoken ∙ ap (λ b. if b then Waits (open_parts M) else Over) o
 
 -- the talk goes on with the reply
-fits_on : {F : Type 0} {S : Summary F} {f g : List ℕ} {e d : End F} {M : Message F} → Meets S f g e d M → has_open M ≡ true → (k : ℕ) →
+fits_on : {F : Type 0} {S : Summary F} {f g : List ℕ} {e d : End F} {M : Message F} → Meets S f g e d M →
+    has_open M ≡ true → (k : ℕ) →
     AllByRecursion (λ N. length N ≤ max_parts) (talk_from S d.peer e.peer (reply S d.peer M) k)
 fits_on {S = S} {e = e} {d = d} {M = M} m o k =
-    subst (λ b. AllByRecursion (λ N. length N ≤ max_parts) (if b then talk_from S d.peer e.peer (reply S d.peer M) k else [])) o (m.fits (suc k)).1
+    subst (λ b. AllByRecursion (λ N. length N ≤ max_parts)
+    (if b then talk_from S d.peer e.peer (reply S d.peer M) k else [])) o (m.fits (suc k)).1
 
 -- the message is not refused
-not_refused : {F : Type 0} {S : Summary F} {f g : List ℕ} {e d : End F} {M : Message F} → Meets S f g e d M → answer S d M ≡ (if has_open M then Replies (reply S d.peer M) else Ends)
+not_refused : {F : Type 0} {S : Summary F} {f g : List ℕ} {e d : End F} {M : Message F} → Meets S f g e d M →
+    answer S d M ≡ (if has_open M then Replies (reply S d.peer M) else Ends)
 not_refused {S = S} {d = d} {M = M} m = ap (answer_unless S d.peer M) m.taken ∙ by (has_open M) refl where
-  by : (b : Bool) → has_open M ≡ b → (if b then reply_or_refuse (reply S d.peer M) else Ends) ≡ (if b then Replies (reply S d.peer M) else Ends)
-  by true o = ap (λ fit. if fit then Replies (reply S d.peer M) else Refuses too_many_parts) (le-leb (length (reply S d.peer M)) max_parts (fits_on m o 1).0)
+  by : (b : Bool) → has_open M ≡ b →
+      (if b then reply_or_refuse (reply S d.peer M) else Ends) ≡ (if b then Replies (reply S d.peer M) else Ends)
+  by true o = ap (λ fit. if fit then Replies (reply S d.peer M) else Refuses too_many_parts)
+      (le-leb (length (reply S d.peer M)) max_parts (fits_on m o 1).0)
   by false o = refl
 
-hears : {F : Type 0} {S : Summary F} {f g : List ℕ} {e d : End F} {M : Message F} → Meets S f g e d M → (b : Bool) → has_open M ≡ b →
+hears : {F : Type 0} {S : Summary F} {f g : List ℕ} {e d : End F} {M : Message F} → Meets S f g e d M → (b : Bool) →
+    has_open M ≡ b →
     after S d M ≡ after_answer d M (if b then Replies (reply S d.peer M) else Ends)
 hears {S = S} {d = d} {M = M} m b o =
-    ap (λ live. if live then after_answer d M (answer S d M) else d) m.live ∙ ap (after_answer d M) (not_refused m ∙ ap (λ b. if b then Replies (reply S d.peer M) else Ends) o)
+    ap (λ live. if live then after_answer d M (answer S d M) else d) m.live
+    ∙ ap (after_answer d M) (not_refused m ∙ ap (λ b. if b then Replies (reply S d.peer M) else Ends) o)
 
 -- and the reply is met in turn
-meets_on : {F : Type 0} {S : Summary F} {f g : List ℕ} {e d : End F} {M : Message F} → Meets S f g e d M → has_open M ≡ true →
+meets_on : {F : Type 0} {S : Summary F} {f g : List ℕ} {e d : End F} {M : Message F} → Meets S f g e d M →
+    has_open M ≡ true →
     Meets S g f (after_answer d M (Replies (reply S d.peer M))) e (reply S d.peer M)
 meets_on {F} {S} {f} {g} {e} {d} {M} m o = record {
   speaker = m.hearer;
@@ -176,7 +212,8 @@ meets_on {F} {S} {f} {g} {e} {d} {M} m o = record {
   live = ap is_live (waits m o);
   taken = ap (λ s. stage_fault s (reply S d.peer M)) (waits m o)
       ∙ place-open M (reply S d.peer M)
-      ∙ (placing_is_exact F M (reply S d.peer M) m.apart (reply-rises S d.peer g m.hearer M (open-rise M m.apart))).1 (replies_are_placed S d.peer g M m.hearer.ranks m.hearer.room);
+      ∙ (placing_is_exact F M (reply S d.peer M) m.apart (reply-rises S d.peer g m.hearer M (open-rise M m.apart))).1
+      (replies_are_placed S d.peer g M m.hearer.ranks m.hearer.room);
   apart = replies_are_apart S d.peer g M m.hearer m.apart;
   fits = fits_on m o;
 }
@@ -184,18 +221,23 @@ meets_on {F} {S} {f} {g} {e} {d} {M} m o = record {
 turns : {F : Type 0} (S : Summary F) (f g : List ℕ) (k : ℕ) (e d : End F) (M : Message F) → Meets S f g e d M →
     Turn S e d (talk_from S e.peer d.peer M k) (talk_from S e.peer d.peer M (suc k)) k
 turns S f g zero e d M m = turn_first S e d M (if has_open M then [] else []) (grind arith) m.spoken (not_refused m)
-turns {F} S f g (suc k) e d M m = by (λ o. turns S g f k (after_answer d M (Replies (reply S d.peer M))) e (reply S d.peer M) (meets_on m o)) (has_open M) refl where
-  rest : Bool → ℕ → List (Message F)
-  rest b k = if b then talk_from S d.peer e.peer (reply S d.peer M) k else []
+turns {F} S f g (suc k) e d M m = by (λ o. turns S g f k (after_answer d M (Replies (reply S d.peer M))) e
+    (reply S d.peer M) (meets_on m o)) (has_open M) refl where
+      rest : Bool → ℕ → List (Message F)
+      rest b k = if b then talk_from S d.peer e.peer (reply S d.peer M) k else []
 
-  by : (has_open M ≡ true → Turn S (after_answer d M (Replies (reply S d.peer M))) e (rest true k) (rest true (suc k)) k) → (b : Bool) → has_open M ≡ b →
-      Turn S e d (M ∷ rest b k) (M ∷ rest b (suc k)) (suc k)
-  by later true o = turn_more S e d M (rest true k) (rest true (suc k)) k (hears m true o) (ap own_of (waits m o)) (later o)
-  by later false o = turn_last S e d M k (hears m false o)
+      by : (has_open M ≡ true →
+          Turn S (after_answer d M (Replies (reply S d.peer M))) e (rest true k) (rest true (suc k)) k) → (b : Bool) →
+          has_open M ≡ b →
+          Turn S e d (M ∷ rest b k) (M ∷ rest b (suc k)) (suc k)
+      by later true o =
+          turn_more S e d M (rest true k) (rest true (suc k)) k (hears m true o) (ap own_of (waits m o)) (later o)
+      by later false o = turn_last S e d M k (hears m false o)
 
 -- ---- two peers
 
-two_meet : {F : Type 0} (S : Summary F) (I R : Peer) (f g : List ℕ) → IsExact S → Ready I f → Ready R g → length I.items ≤ 65536 → length R.items ≤ 65536 →
+two_meet : {F : Type 0} (S : Summary F) (I R : Peer) (f g : List ℕ) → IsExact S → Ready I f → Ready R g →
+    length I.items ≤ 65536 → length R.items ≤ 65536 →
     Meets S f g (initiator S I) (responder R) (opening S I.items)
 two_meet S I R f g exact i r few few' = record {
   speaker = i;
@@ -209,13 +251,16 @@ two_meet S I R f g exact i r few few' = record {
 
 pub ends_talk : {F : Type 0} (S : Summary F) → EndsTalk S
 ends_talk {F} S exact I R f g k i r few few' =
-    let turn = turns S f g k (initiator S I) (responder R) (opening S I.items) (two_meet S I R f g exact i r few few') in
+    let turn =
+    turns S f g k (initiator S I) (responder R) (opening S I.items) (two_meet S I R f g exact i r few few') in
     let one : suc k ≡ k + 1 = omega arith in
-    let there : (M : Message F) → slice_get (talk S I R (k + 1)) k ≡ Some M → slice_get (talk S I R (suc k)) k ≡ Some M = λ M. subst (λ n. slice_get (talk S I R n) k ≡ Some M) (sym one) in
+    let there : (M : Message F) → slice_get (talk S I R (k + 1)) k ≡ Some M →
+    slice_get (talk S I R (suc k)) k ≡ Some M = λ M. subst (λ n. slice_get (talk S I R n) k ≡ Some M) (sym one) in
     record {
       initiator_learned = turn.speaker_learned;
       responder_learned = turn.hearer_learned;
       sent = omega (arith, turn.sent, ap (λ n. length (talk S I R n)) one);
       spoken = λ M h. turn.spoken M (there M h);
-      answered = λ M h. turn.answered M (there M h) ∙ ap (λ n. if has_open M then Replies (reply S (sender I R n) M) else Ends) one;
+      answered = λ M h. turn.answered M (there M h)
+          ∙ ap (λ n. if has_open M then Replies (reply S (sender I R n) M) else Ends) one;
     }

@@ -23,8 +23,10 @@ pub record IsExactCut (P : Peer) (X : Range) (Ys : List Range) : Type 0 where
   pub no_more : (D : List Item) → AllByRecursion (λ Y. length (items_in D Y) ≤ length (items_in D X)) Ys
 
 abbrev pub CutsAreExact : Type 0
-CutsAreExact = (P : Peer) (f : List ℕ) (X : Range) → Ready P f → IsTrue (is_split (act P.table (length (items_in P.items X)))) →
+CutsAreExact =
+    (P : Peer) (f : List ℕ) (X : Range) → Ready P f → IsTrue (is_split (act P.table (length (items_in P.items X)))) →
     IsExactCut P X (cutup P.items X (shares P.table (length (items_in P.items X))))
 
 abbrev pub TalksHaveRanges : {F : Type 0} → Summary F → Type 0
-TalksHaveRanges S = (I R : Peer) (f g : List ℕ) (k : ℕ) → Ready I f → Ready R g → AllByRecursion RangesRise (talk S I R k)
+TalksHaveRanges S =
+    (I R : Peer) (f g : List ℕ) (k : ℕ) → Ready I f → Ready R g → AllByRecursion RangesRise (talk S I R k)

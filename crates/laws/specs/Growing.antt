@@ -1,7 +1,8 @@
 -- How a talk, and what is known of it, grows by one message.
 --     TalksGrow S          each message is the other's reply to the one before
 --     KnowledgeGrows       only its hearer learns from a message
-use Rattle.std.specs.Prelude.{◌≡◌, ℕ, zero, suc, ◌+◌, Bool, true, not, List, [], ◌∷◌, ◌++◌, take, get_or, slice_get, Some, if◌then◌else◌}
+use Rattle.std.specs.Prelude.{◌≡◌, ℕ, zero, suc, ◌+◌, Bool, true, not, List, [], ◌∷◌, ◌++◌, take, get_or, slice_get}
+use Rattle.std.specs.Prelude.{Some, if◌then◌else◌}
 use Rattle.definitions.specs.Items.{Item}
 use Rattle.definitions.specs.Fingerprints.{Summary}
 use Rattle.definitions.specs.Messages.{Message, has_open}
@@ -23,5 +24,7 @@ answered Ms k = get_or ([] ∷ Ms) k []
 
 abbrev pub KnowledgeGrows : (F : Type 0) → Type 0
 KnowledgeGrows F = (A : List Item) (Ms : List (Message F)) (k : ℕ) (M : Message F) → slice_get Ms k ≡ Some M →
-    (initiator_knows A (take (k + 1) Ms) ≡ (if is_even k then initiator_knows A (take k Ms) else and_then (initiator_knows A (take k Ms)) (learn A (answered Ms k) M)))
-    × (responder_knows A (take (k + 1) Ms) ≡ (if is_even k then and_then (responder_knows A (take k Ms)) (learn A (answered Ms k) M) else responder_knows A (take k Ms)))
+    (initiator_knows A (take (k + 1) Ms) ≡ (if is_even k then initiator_knows A (take k Ms)
+    else and_then (initiator_knows A (take k Ms)) (learn A (answered Ms k) M)))
+    × (responder_knows A (take (k + 1) Ms) ≡ (if is_even k
+    then and_then (responder_knows A (take k Ms)) (learn A (answered Ms k) M) else responder_knows A (take k Ms)))

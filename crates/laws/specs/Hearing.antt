@@ -17,13 +17,15 @@ use Rattle.definitions.specs.Wire.{Profile, Event, Came, Ended, Failed}
 use Rattle.definitions.specs.Streams.{messages_of}
 use Rattle.definitions.specs.Refusals.{too_many_parts}
 use Rattle.definitions.specs.Ends.{End, heard, is_live, is_over, is_sendable}
-use Rattle.definitions.specs.Engines.{Speaker, replied, answers, calls, says, own, initiating, responding, session, messages_in}
+use Rattle.definitions.specs.Engines.{Speaker, replied, answers, calls, says, own, initiating, responding, session}
+use Rattle.definitions.specs.Engines.{messages_in}
 use Rattle.definitions.specs.Taking.{nothing_taken, ended}
 use Rattle.definitions.specs.Hearing.{Hearing, Goes_on, Over_at, Peer_refused, Refused_for, hear, hearing_to}
 
 -- all that is called for may be said, but for one reply with too many parts, which is refused
 abbrev pub SaidBut : {F : Type 0} → List (Message F) → List (Message F) → ℕ → Type 0
-SaidBut {F} said called code = (called ≡ said) ⊎ ((code ≡ too_many_parts) × (N : Message F) × IsFalse (is_sendable N) × (called ≡ said ++ N ∷ []))
+SaidBut {F} said called code =
+    (called ≡ said) ⊎ ((code ≡ too_many_parts) × (N : Message F) × IsFalse (is_sendable N) × (called ≡ said ++ N ∷ []))
 
 -- e is the end behind the whole messages, what they call for is said, and o is the code of the first fault frame
 abbrev pub AgreesBy : {F : Type 0} → End F → List (Message F) → List (Message F) → Hearing F → Type 0
@@ -41,14 +43,16 @@ FramesAgree {F} S = (e : End F) (events : List (Event F)) → is_live e.stage �
 
 abbrev pub BytesAgree : {F : Type 0} → Summary F → Profile F → Type 0
 BytesAgree {F} S P = (s : Speaker F) (over : Bool) (bytes : List ℕ) → is_live s.start.stage ≡ true →
-    AgreesBy (session S s (messages_in P bytes)) (says S s (messages_in P bytes)) (own S s (messages_in P bytes)) (hearing_to S P s over bytes)
+    AgreesBy (session S s (messages_in P bytes)) (says S s (messages_in P bytes)) (own S s (messages_in P bytes))
+    (hearing_to S P s over bytes)
 
 abbrev pub OwnIsFew : {F : Type 0} → Summary F → Type 0
 OwnIsFew {F} S = (P : Peer) (f : List ℕ) (Ms : List (Message F)) → Ready P f → AllByRecursion RangesRise Ms →
     (length (own S (initiating S P) Ms) ≤ rank f P + 2) × (length (own S (responding P) Ms) ≤ rank f P + 1)
 
 abbrev pub OwnIsShort : {F : Type 0} → Summary F → Type 0
-OwnIsShort {F} S = (P : Peer) (Ms : List (Message F)) → IsTable P.table → Accepted P.table → length P.items ≤ P.table.cap →
+OwnIsShort {F} S =
+    (P : Peer) (Ms : List (Message F)) → IsTable P.table → Accepted P.table → length P.items ≤ P.table.cap →
     AllByRecursion (AllByRecursion (IsShort P.table.limit)) (own S (initiating S P) Ms)
     × AllByRecursion (AllByRecursion (IsShort P.table.limit)) (own S (responding P) Ms)
 
@@ -60,10 +64,11 @@ has_stopped (Over_at e) = true
 has_stopped (Peer_refused code) = true
 has_stopped (Refused_for code) = true
 
--- said tells what is said to these events and to more of them: a part or a fault frame adds nothing, the end of a message its
--- reply; behind a stop nothing more is said
+-- said tells what is said to these events and to more of them: a part or a fault frame adds nothing, the end of a
+-- message its reply; behind a stop nothing more is said
 abbrev pub SaysOn : {F : Type 0} → (List (Event F) → List (Message F)) → Hearing F → Type 0
-SaysOn {F} said (Goes_on e t) = ((p : Part F) → said (Came p ∷ []) ≡ said []) × (said (Ended ∷ []) ≡ said [] ++ replied (ended t)) × ((code : ℕ) → said (Failed code ∷ []) ≡ said [])
+SaysOn {F} said (Goes_on e t) = ((p : Part F) → said (Came p ∷ []) ≡ said [])
+    × (said (Ended ∷ []) ≡ said [] ++ replied (ended t)) × ((code : ℕ) → said (Failed code ∷ []) ≡ said [])
 SaysOn {F} said (Over_at e) = (more : List (Event F)) → said more ≡ said []
 SaysOn {F} said (Peer_refused code) = (more : List (Event F)) → said more ≡ said []
 SaysOn {F} said (Refused_for code) = (more : List (Event F)) → said more ≡ said []

@@ -1,15 +1,20 @@
--- What has to be kept of a session of a world, so that it can go on and be shown: two ends, the message made last, and the most parts of a message.
+-- What has to be kept of a session of a world, so that it can go on and be shown: two ends, the message made last, and
+-- the most parts of a message.
 --     Kept, Keeps S w s k        what is kept, and that it is the session's
---     SessionsOpen, SessionsGoOn, SessionsStay, SessionsTell      how it begins, what a delivery makes of it, that no other step touches it, and what it tells
+--     SessionsOpen, SessionsGoOn, SessionsStay, SessionsTell      how it begins, what a delivery makes of it, that no
+--                                                                 other step touches it, and what it tells
 --     SessionsKeepNodes          it speaks of the nodes alone
-use Rattle.std.specs.Prelude.{◌≡◌, ℕ, ◌+◌, ◌<◌, ◌≤◌, Bool, true, false, ◌&&◌, length, max, slice_get, Option, Some, None, IfSome, option_map, unwrap_or, if◌then◌else◌, ◌↔◌}
+use Rattle.std.specs.Prelude.{◌≡◌, ℕ, ◌+◌, ◌<◌, ◌≤◌, Bool, true, false, ◌&&◌, length, max, slice_get, Option, Some}
+use Rattle.std.specs.Prelude.{None, IfSome, option_map, unwrap_or, if◌then◌else◌, ◌↔◌}
 use Rattle.std.specs.List.{AllByRecursion}
 use Rattle.definitions.specs.Fingerprints.{Summary, IsExact}
 use Rattle.definitions.specs.Messages.{Message, has_open, opening}
 use Rattle.definitions.specs.Replies.{Peer, reply}
 use Rattle.definitions.specs.Talks.{nothing}
-use Rattle.definitions.specs.Ends.{End, Replies, Ends, initiator, responder, answer, after, initiator_at, responder_at, is_over}
-use Rattle.definitions.specs.Worlds.{World, Session, Step, node_at, peer_at, initiator_of, responder_of, messages, has_ended, initiator_knowledge, responder_knowledge, after_delivery, step}
+use Rattle.definitions.specs.Ends.{End, Replies, Ends, initiator, responder, answer, after, initiator_at, responder_at}
+use Rattle.definitions.specs.Ends.{is_over}
+use Rattle.definitions.specs.Worlds.{World, Session, Step, node_at, peer_at, initiator_of, responder_of, messages}
+use Rattle.definitions.specs.Worlds.{has_ended, initiator_knowledge, responder_knowledge, after_delivery, step}
 use Rattle.definitions.specs.Cost.{most_parts}
 use Rattle.definitions.specs.Theorems.{IsNode}
 use Rattle.laws.specs.Growing.{is_even}
@@ -31,7 +36,8 @@ pub record Keeps {F : Type 0} (S : Summary F) (w : World) (s : Session) (k : Kep
   pub responder_version : IfSome s.responder_version (λ v. v ≤ length (node_at w s.responder).history)
   pub unheard : (s.responder_version ≡ None) ↔ (s.delivered ≡ 0)
   pub initiator : k.initiator ≡ initiator_at S (initiator_of w s) (responder_of w s) s.delivered
-  pub responder : k.responder ≡ option_map (λ v. responder_at S (initiator_of w s) (responder_of w s) s.delivered) s.responder_version
+  pub responder : k.responder
+      ≡ option_map (λ v. responder_at S (initiator_of w s) (responder_of w s) s.delivered) s.responder_version
   -- the message made last is the next to be delivered, until each message was
   pub last : has_ended S w s ≡ false → slice_get (messages S w s) s.delivered ≡ Some k.last
   pub parts : k.parts ≡ most_parts (messages S w s)
@@ -42,7 +48,13 @@ kept_at_opening S I = record { initiator = initiator S I; responder = None; last
 
 abbrev pub SessionsOpen : {F : Type 0} → Summary F → Type 0
 SessionsOpen S = (w : World) (i r : ℕ) → i < length w.nodes → r < length w.nodes →
-    let s : Session = record { initiator = i; responder = r; initiator_version = length (node_at w i).history; responder_version = None; delivered = 0 } in
+    let s : Session = record {
+      initiator = i;
+      responder = r;
+      initiator_version = length (node_at w i).history;
+      responder_version = None;
+      delivered = 0;
+    } in
     Keeps S w s (kept_at_opening S (initiator_of w s))
 
 -- the responder's end at a delivery: at the first it begins, with the newest version
@@ -53,7 +65,8 @@ responder_now w s k = unwrap_or k.responder (responder (peer_at w s.responder (l
 abbrev pub hearer_now : {F : Type 0} → World → Session → Kept F → End F
 hearer_now w s k = if is_even s.delivered then responder_now w s k else k.initiator
 
--- what is kept behind a delivery, whose hearer is then e, which made the message N, and behind which no message has more parts than n
+-- what is kept behind a delivery, whose hearer is then e, which made the message N, and behind which no message has
+-- more parts than n
 abbrev pub kept_behind : {F : Type 0} → Session → Kept F → End F → Message F → ℕ → Kept F
 kept_behind s k e N n =
     if is_even s.delivered then record { initiator = k.initiator; responder = Some e; last = N; parts = n }
@@ -63,13 +76,17 @@ kept_behind s k e N n =
 pub record GoesOnBy {F : Type 0} (S : Summary F) (w : World) (s : Session) (k : Kept F) : Type 0 where
   -- it is a reply where the message has an open part
   pub replied : (N : Message F) → answer S (hearer_now w s k) k.last ≡ Replies N →
-      Keeps S w (after_delivery w s) (kept_behind s k (after S (hearer_now w s k) k.last) N (max k.parts (length N))) × (has_ended S w (after_delivery w s) ≡ false)
+      Keeps S w (after_delivery w s) (kept_behind s k (after S (hearer_now w s k) k.last) N (max k.parts (length N)))
+      × (has_ended S w (after_delivery w s) ≡ false)
   pub ended : answer S (hearer_now w s k) k.last ≡ Ends →
-      Keeps S w (after_delivery w s) (kept_behind s k (after S (hearer_now w s k) k.last) k.last k.parts) × (has_ended S w (after_delivery w s) ≡ true)
-  pub taken : answer S (hearer_now w s k) k.last ≡ (if has_open k.last then Replies (reply S (hearer_now w s k).peer k.last) else Ends)
+      Keeps S w (after_delivery w s) (kept_behind s k (after S (hearer_now w s k) k.last) k.last k.parts)
+      × (has_ended S w (after_delivery w s) ≡ true)
+  pub taken : answer S (hearer_now w s k) k.last
+      ≡ (if has_open k.last then Replies (reply S (hearer_now w s k).peer k.last) else Ends)
 
 abbrev pub SessionsGoOn : {F : Type 0} → Summary F → Type 0
-SessionsGoOn {F} S = IsExact S → (w : World) (s : Session) (k : Kept F) → AllByRecursion IsNode w.nodes → Keeps S w s k → has_ended S w s ≡ false → GoesOnBy S w s k
+SessionsGoOn {F} S = IsExact S → (w : World) (s : Session) (k : Kept F) → AllByRecursion IsNode w.nodes →
+    Keeps S w s k → has_ended S w s ≡ false → GoesOnBy S w s k
 
 -- no step touches what is kept of a session but its own delivery (which changes its numbers), and nodes stay nodes
 pub record StaysBehind {F : Type 0} (S : Summary F) (w : World) (e : Step) : Type 0 where
@@ -100,4 +117,5 @@ pub record Tells {F : Type 0} (S : Summary F) (w : World) (s : Session) (k : Kep
   pub delivered : s.delivered ≤ length (messages S w s)
 
 abbrev pub SessionsTell : {F : Type 0} → Summary F → Type 0
-SessionsTell {F} S = IsExact S → (w : World) (s : Session) (k : Kept F) → AllByRecursion IsNode w.nodes → Keeps S w s k → Tells S w s k
+SessionsTell {F} S =
+    IsExact S → (w : World) (s : Session) (k : Kept F) → AllByRecursion IsNode w.nodes → Keeps S w s k → Tells S w s k

@@ -2,7 +2,8 @@
 --     TalksBegin S         the talk so far is how the longer one begins
 --     TalksGoOn S          the number of a message, and the message behind it
 --     EndsHear S           who hears a message
---     EndsTalk S           what each end has learned, how many messages both have sent, and what the next one is answered
+--     EndsTalk S           what each end has learned, how many messages both have sent, and what the next one is
+--                          answered
 use Rattle.std.specs.Prelude.{◌≡◌, ℕ, ◌+◌, ◌≤◌, List, [], ◌∷◌, ◌++◌, length, take, slice_get, Some, None, if◌then◌else◌}
 use Rattle.definitions.specs.Fingerprints.{Summary, IsExact}
 use Rattle.definitions.specs.Messages.{Message, has_open}
@@ -19,7 +20,8 @@ TalksBegin S = (I R : Peer) (k n : ℕ) → k ≤ n → take k (talk S I R n) �
 pub record GoesOn {F : Type 0} (S : Summary F) (I R : Peer) (k : ℕ) (M : Message F) : Type 0 where
   pub number : length (talk S I R k) ≡ k
   pub last : talk S I R (k + 1) ≡ talk S I R k ++ M ∷ []
-  pub next : slice_get (talk S I R (k + 2)) (k + 1) ≡ (if has_open M then Some (reply S (sender I R (k + 1)) M) else None)
+  pub next : slice_get (talk S I R (k + 2)) (k + 1)
+      ≡ (if has_open M then Some (reply S (sender I R (k + 1)) M) else None)
 
 abbrev pub TalksGoOn : {F : Type 0} → Summary F → Type 0
 TalksGoOn {F} S = (I R : Peer) (k : ℕ) (M : Message F) → slice_get (talk S I R (k + 1)) k ≡ Some M → GoesOn S I R k M
@@ -32,8 +34,10 @@ abbrev pub hearer_at : {F : Type 0} → Summary F → Peer → Peer → ℕ → 
 hearer_at S I R k = if is_even k then responder_at S I R k else initiator_at S I R k
 
 pub record Hears {F : Type 0} (S : Summary F) (I R : Peer) (k : ℕ) (M : Message F) : Type 0 where
-  pub initiator : initiator_at S I R (k + 1) ≡ (if is_even k then initiator_at S I R k else after S (initiator_at S I R k) M)
-  pub responder : responder_at S I R (k + 1) ≡ (if is_even k then after S (responder_at S I R k) M else responder_at S I R k)
+  pub initiator : initiator_at S I R (k + 1)
+      ≡ (if is_even k then initiator_at S I R k else after S (initiator_at S I R k) M)
+  pub responder : responder_at S I R (k + 1)
+      ≡ (if is_even k then after S (responder_at S I R k) M else responder_at S I R k)
 
 abbrev pub EndsHear : {F : Type 0} → Summary F → Type 0
 EndsHear {F} S = (I R : Peer) (k : ℕ) (M : Message F) → slice_get (talk S I R (k + 1)) k ≡ Some M → Hears S I R k M
@@ -52,4 +56,5 @@ pub record TakeTurns {F : Type 0} (S : Summary F) (I R : Peer) (k : ℕ) : Type 
 
 -- of sets that are small enough for each reply to be sent
 abbrev pub EndsTalk : {F : Type 0} → Summary F → Type 0
-EndsTalk S = IsExact S → (I R : Peer) (f g : List ℕ) (k : ℕ) → Ready I f → Ready R g → length I.items ≤ 65536 → length R.items ≤ 65536 → TakeTurns S I R k
+EndsTalk S = IsExact S → (I R : Peer) (f g : List ℕ) (k : ℕ) → Ready I f → Ready R g → length I.items ≤ 65536 →
+    length R.items ≤ 65536 → TakeTurns S I R k

@@ -33,7 +33,8 @@ abbrev pub count_summary : Summary ℕ
 count_summary = record { of = length; same = λ m n. m == n }
 
 abbrev pub KnowledgeIsExactAnyhow : {F : Type 0} → Summary F → Type 0
-KnowledgeIsExactAnyhow S = (I R : Peer) (k : ℕ) → IsSet I.items → IsSet R.items → length (talk S I R k) < k → IsClear S I.items R.items (talk S I R k) →
+KnowledgeIsExactAnyhow S = (I R : Peer) (k : ℕ) → IsSet I.items → IsSet R.items → length (talk S I R k) < k →
+    IsClear S I.items R.items (talk S I R k) →
     KnowsDifference (initiator_knows I.items (talk S I R k)) I.items R.items
 
 -- the fingerprint of a set is the set, and all are taken for equal
@@ -41,7 +42,8 @@ abbrev pub blind : Summary (List Item)
 blind = record { of = λ A. A; same = λ f g. true }
 
 abbrev pub PartsAreFewAnyhow : {F : Type 0} → Summary F → Type 0
-PartsAreFewAnyhow S = (I R : Peer) (k : ℕ) → IsSet I.items → IsSet R.items → AllByRecursion (λ M. length M ≤ part_bound I R) (talk S I R k)
+PartsAreFewAnyhow S = (I R : Peer) (k : ℕ) → IsSet I.items → IsSet R.items →
+    AllByRecursion (λ M. length M ≤ part_bound I R) (talk S I R k)
 
 -- the fingerprint of a set is the set, and none are taken for equal
 abbrev pub wary : Summary (List Item)

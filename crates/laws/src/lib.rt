@@ -8,7 +8,13 @@ ghost use Rattle.definitions.specs.Sets.{items_in};
 ghost use Rattle.definitions.specs.Fingerprints.{Summary, IsExact, two_lanes, counted_lanes};
 ghost use Rattle.definitions.specs.Messages.{Message, RangesRise};
 ghost use Rattle.definitions.specs.Wire.{Profile, IsMessage};
-ghost use Rattle.definitions.specs.Theorems.{RepliesArePlaced, RepliesAreShort, EndsKeepLimits, PlacingIsExact, OpeningIsExact, MessagesAreFew, MessagesFit, TalksAreApart, RepliesAreApart, PlacedAreApart, RepliesAreHonest, LearnsOnce, InitiatorStops, ResponderStops, EndsStandFirm, EndsHearOn, EndsKeepPeers, InitiatorLearns, ResponderLearns, ListsAreShort, KnowledgeIsExact, KnowledgeIsSound, PartsAreFew, Headline, CostClaim, HistoryClaim, AbsorbClaim, SessionsEnd};
+ghost use Rattle.definitions.specs.Theorems.{RepliesArePlaced, RepliesAreShort, EndsKeepLimits, PlacingIsExact};
+ghost use Rattle.definitions.specs.Theorems.{OpeningIsExact, MessagesAreFew, MessagesFit, TalksAreApart};
+ghost use Rattle.definitions.specs.Theorems.{RepliesAreApart, PlacedAreApart, RepliesAreHonest, LearnsOnce};
+ghost use Rattle.definitions.specs.Theorems.{InitiatorStops, ResponderStops, EndsStandFirm, EndsHearOn, EndsKeepPeers};
+ghost use Rattle.definitions.specs.Theorems.{InitiatorLearns, ResponderLearns, ListsAreShort, KnowledgeIsExact};
+ghost use Rattle.definitions.specs.Theorems.{KnowledgeIsSound, PartsAreFew, Headline, CostClaim, HistoryClaim};
+ghost use Rattle.definitions.specs.Theorems.{AbsorbClaim, SessionsEnd};
 ghost use Rattle.laws.specs.Cutting.{CutsAreExact, TalksHaveRanges};
 ghost use Rattle.laws.specs.Growing.{TalksGrow, KnowledgeGrows};
 ghost use Rattle.laws.specs.Turns.{TalksBegin, TalksGoOn, EndsHear, EndsTalk};
@@ -17,7 +23,8 @@ ghost use Rattle.laws.specs.Taking.{PartsAreTaken};
 ghost use Rattle.laws.specs.Hearing.{FramesAgree, BytesAgree, FramesSay, OwnBegins, OwnIsFew, OwnIsShort};
 ghost use Rattle.laws.specs.Sessions.{SessionsOpen, SessionsGoOn, SessionsStay, SessionsKeepNodes, SessionsTell};
 ghost use Rattle.laws.specs.Sizes.{CountsTellSizes};
-ghost use Rattle.laws.specs.Weaker.{InitiatorStopsAnyhow, ResponderStopsAnyhow, ListsAreShortAnyhow, KnowledgeIsExactAnyhow, PartsAreFewAnyhow, count_summary, blind, wary};
+ghost use Rattle.laws.specs.Weaker.{InitiatorStopsAnyhow, ResponderStopsAnyhow, ListsAreShortAnyhow};
+ghost use Rattle.laws.specs.Weaker.{KnowledgeIsExactAnyhow, PartsAreFewAnyhow, count_summary, blind, wary};
 
 // ---- fingerprints
 

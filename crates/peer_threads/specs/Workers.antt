@@ -1,6 +1,6 @@
 -- The seats of workers.
---     Outlives v w       what a seat is after workers have used seats that were split off it: it has seen no less, and its
---                        writer, its entries and its cap are the same
+--     Outlives v w       what a seat is after workers have used seats that were split off it: it has seen no less, and
+--                        its writer, its entries and its cap are the same
 --     MayWork cap v      a worker may begin with the seat, under a strategy for so many items
 use Rattle.std.specs.Prelude.{◌≡◌, ◌≤◌, ℕ, None}
 use Rattle.version_lock.specs.declared.view.View.{View}

@@ -54,7 +54,8 @@ impl<'a, C: Source> Intake<'a, C> {
     }
 }
 
-/// Serves connections until the source has no more. Whether the worker got a writer number; without one it takes no connection.
+/// Serves connections until the source has no more. Whether the worker got a writer number; without one it takes no
+/// connection.
 pub(crate) fn work<T: Wait, S: RangeStore, G: Gate, C: Source>(
     rt: &T,
     alloc: Global,
@@ -119,7 +120,8 @@ fn serve<T: Wait, S: RangeStore, G: Gate, R: Read + Drop, W: Write + Drop>(
     }
 }
 
-// Adds the items to the log, in order. An item for which there is no room is dropped, and where memory runs out it stops.
+// Adds the items to the log, in order. An item for which there is no room is dropped, and where memory runs out it
+// stops.
 fn add_all<T: Wait, S: RangeStore, G>(
     rt: &T,
     alloc: Global,

@@ -25,11 +25,11 @@ pub struct Report {
     pub fault: Option<SourceFault>,
 }
 
-/// Serves the source's connections by 1 to 16 workers, each in a thread where one can be made and with a seat of its own,
-/// until the source has no more.
+/// Serves the source's connections by 1 to 16 workers, each in a thread where one can be made and with a seat of its
+/// own, until the source has no more.
 ///
-/// What a worker's peer was first to know, by an ended session, is inserted into the log in the order learned; an item for
-/// which there is no room is dropped, and where memory runs out the rest of that session's items.
+/// What a worker's peer was first to know, by an ended session, is inserted into the log in the order learned; an item
+/// for which there is no room is dropped, and where memory runs out the rest of that session's items.
 pub fn run_workers<
     T: Threads + Wait + Sync,
     S: RangeStore + Send,

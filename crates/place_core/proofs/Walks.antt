@@ -21,7 +21,8 @@ open_lists (Answer X marks items ∷ M) = open_lists M
 pub met_by_sum : {F : Type 0} (own p : Part F) (X : Range) (fit : Fit) → X ≡ range_of own → items_in own ≡ None →
     ((f : F) (left : Message F) → next_outside (Sum X f ∷ left) p ≡ after_fit fit left p) →
     (left : Message F) → next_outside (open_parts (own ∷ left)) p ≡ after_fit fit (open_parts left) p
-met_by_sum (Sum Y f) p X fit e none h left = subst (λ Z. next_outside (Sum Z f ∷ open_parts left) p ≡ after_fit fit (open_parts left) p) e (h f (open_parts left))
+met_by_sum (Sum Y f) p X fit e none h left = subst
+    (λ Z. next_outside (Sum Z f ∷ open_parts left) p ≡ after_fit fit (open_parts left) p) e (h f (open_parts left))
 met_by_sum (Listing Y items) p X fit e none h left = cc
 met_by_sum (Answer Y marks items) p X fit e none h left = cc
 
@@ -30,5 +31,6 @@ pub walked : {F : Type 0} (sent : Message F) (at : ℕ) (own p : Part F) (fit : 
     ((left : Message F) → next_outside (open_parts (own ∷ left)) p ≡ after_fit fit (open_parts left) p) →
     next_outside (open_parts (drop at sent)) p ≡ after_fit fit (open_parts (drop (at + 1) sent)) p
 walked sent at own p fit found h =
-    let here : drop at sent ≡ own ∷ drop (at + 1) sent = drop_more sent at own (slice_get_within sent at own found) ∙ ap (λ q. q ∷ drop (at + 1) sent) (get_or_from_slice_get sent at own own found) in
+    let here : drop at sent ≡ own ∷ drop (at + 1) sent = drop_more sent at own (slice_get_within sent at own found)
+    ∙ ap (λ q. q ∷ drop (at + 1) sent) (get_or_from_slice_get sent at own own found) in
     ap (λ left. next_outside (open_parts left) p) here ∙ h (drop (at + 1) sent)

@@ -4,7 +4,8 @@
 use Rattle.std.specs.Prelude.{ℕ, Option, Some, None, Result, Ok, Err}
 use Rattle.definitions.specs.Refusals as codes
 use Rattle.place_core.specs.declared.fault.PlaceFault.{PlaceFault}
-use Rattle.place_core.specs.declared.fault.PlaceFault.TheVariants.{Misplaced, Stall, Gap, MissingAnswer, MarkCount, AnswerRepeats}
+use Rattle.place_core.specs.declared.fault.PlaceFault.TheVariants.{Misplaced, Stall, Gap, MissingAnswer, MarkCount}
+use Rattle.place_core.specs.declared.fault.PlaceFault.TheVariants.{AnswerRepeats}
 
 abbrev pub place_fault_number : PlaceFault → ℕ
 place_fault_number Misplaced = codes.misplaced

@@ -1,6 +1,6 @@
 -- What the check of a strategy gives.
---     IsCheckOf T result      the text with the steps of the least ranks, where the table is accepted; or the reason why it is not;
---                             or memory ran out
+--     IsCheckOf T result      the text with the steps of the least ranks, where the table is accepted; or the reason
+--                             why it is not; or memory ran out
 use Rattle.std.specs.Prelude.{ℕ, ◌≡◌, List, String, Some, None, Result, Ok, Err, string_bytes, ⊤}
 use Rattle.std.specs.declared.alloc.Global.{Global}
 use Rattle.definitions.specs.Strategies.{Table}
@@ -8,7 +8,10 @@ use Rattle.definitions.specs.Ranks.{check_fault, found}
 use Rattle.strategy_check.specs.Refused.{fault_of}
 use Rattle.printing_core.specs.Lines.{accepted_text}
 use Rattle.printing_core.specs.declared.fault.Fault.{Fault}
-use Rattle.printing_core.specs.declared.fault.Fault.TheVariants.{CannotRead, BadItemLine, TooManyItems, BadScenario, BadStep, Strategy, Check, Wire, Misplaced, Bind, Connect, Accept, Session, PeerRefused, ReaderFailed, WriterFailed, Memory}
+use Rattle.printing_core.specs.declared.fault.Fault.TheVariants.{CannotRead, BadItemLine, TooManyItems, BadScenario}
+use Rattle.printing_core.specs.declared.fault.Fault.TheVariants.{BadStep, Strategy, Check, Wire, Misplaced, Bind}
+use Rattle.printing_core.specs.declared.fault.Fault.TheVariants.{Connect, Accept, Session, PeerRefused, ReaderFailed}
+use Rattle.printing_core.specs.declared.fault.Fault.TheVariants.{WriterFailed, Memory}
 
 abbrev pub IsReason : Table → Fault → Type 0
 IsReason T (Check f) = check_fault T ≡ Some (fault_of f)
@@ -30,5 +33,6 @@ IsReason T ReaderFailed = ⊥
 IsReason T WriterFailed = ⊥
 
 abbrev pub IsCheckOf : Table → Result (String Global) Fault → Type 0
-IsCheckOf T (Ok text) = (steps : List ℕ) × (check_fault T ≡ None) × (found T ≡ Ok steps) × (string_bytes text ≡ accepted_text steps)
+IsCheckOf T (Ok text) =
+    (steps : List ℕ) × (check_fault T ≡ None) × (found T ≡ Ok steps) × (string_bytes text ≡ accepted_text steps)
 IsCheckOf T (Err f) = IsReason T f

@@ -1,5 +1,6 @@
 -- Why a run is refused, by what refused, and its status.
---     of_answer, of_input, of_decoding, of_listing, of_settings, of_scenario, of_check, of_log, of_listen, of_connect, of_source
+--     of_answer, of_input, of_decoding, of_listing, of_settings, of_scenario, of_check, of_log, of_listen, of_connect,
+--     of_source
 --                                                   the fault of what a lower call answers
 --     IsWordsStatus f status                        the status of a call whose words ask for nothing that is done
 --     status_of f                                   the status of a run that ends so
@@ -30,7 +31,10 @@ use Rattle.tcp_front.specs.declared.fault.ConnectFault.TheVariants as connects
 use Rattle.peer_threads.specs.declared.source.SourceFault.{SourceFault}
 use Rattle.peer_threads.specs.declared.source.SourceFault.TheVariants as sources
 use Rattle.printing_core.specs.declared.fault.Fault.{Fault}
-use Rattle.printing_core.specs.declared.fault.Fault.TheVariants.{CannotRead, BadItemLine, TooManyItems, BadScenario, BadStep, Strategy, Check, Wire, Misplaced, Bind, Connect, Accept, Session, PeerRefused, ReaderFailed, WriterFailed, Memory}
+use Rattle.printing_core.specs.declared.fault.Fault.TheVariants.{CannotRead, BadItemLine, TooManyItems, BadScenario}
+use Rattle.printing_core.specs.declared.fault.Fault.TheVariants.{BadStep, Strategy, Check, Wire, Misplaced, Bind}
+use Rattle.printing_core.specs.declared.fault.Fault.TheVariants.{Connect, Accept, Session, PeerRefused, ReaderFailed}
+use Rattle.printing_core.specs.declared.fault.Fault.TheVariants.{WriterFailed, Memory}
 
 abbrev pub of_answer : AnswerFault → Fault
 of_answer answers.CannotRead = CannotRead

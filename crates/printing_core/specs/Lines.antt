@@ -9,11 +9,15 @@ use Rattle.std.specs.Fmt.{decimal}
 use Rattle.wire_core.specs.Refused.{fault_number}
 use Rattle.strategy_core.specs.Texts.{key_of}
 use Rattle.strategy_core.specs.declared.fault.StrategyFault.{StrategyFault}
-use Rattle.strategy_core.specs.declared.fault.StrategyFault.TheVariants.{NotToml, Missing, BadNumber, RowOrder, RowAction, CapMismatch}
+use Rattle.strategy_core.specs.declared.fault.StrategyFault.TheVariants.{NotToml, Missing, BadNumber, RowOrder}
+use Rattle.strategy_core.specs.declared.fault.StrategyFault.TheVariants.{RowAction, CapMismatch}
 use Rattle.strategy_check.specs.declared.fault.CheckFault.{CheckFault}
 use Rattle.strategy_check.specs.declared.fault.CheckFault.TheVariants.{NoDescent, ListTooLong, TooDeep, BadCertificate}
 use Rattle.printing_core.specs.declared.fault.Fault.{Fault}
-use Rattle.printing_core.specs.declared.fault.Fault.TheVariants.{CannotRead, BadItemLine, TooManyItems, BadScenario, BadStep, Strategy, Check, Wire, Misplaced, Bind, Connect, Accept, Session, PeerRefused, ReaderFailed, WriterFailed, Memory}
+use Rattle.printing_core.specs.declared.fault.Fault.TheVariants.{CannotRead, BadItemLine, TooManyItems, BadScenario}
+use Rattle.printing_core.specs.declared.fault.Fault.TheVariants.{BadStep, Strategy, Check, Wire, Misplaced, Bind}
+use Rattle.printing_core.specs.declared.fault.Fault.TheVariants.{Connect, Accept, Session, PeerRefused, ReaderFailed}
+use Rattle.printing_core.specs.declared.fault.Fault.TheVariants.{WriterFailed, Memory}
 
 abbrev pub strategy_line : StrategyFault → List ℕ
 strategy_line NotToml = codes "refused 30 NotToml"
@@ -67,7 +71,8 @@ fault_line BadScenario = codes "refused 83 BadScenario"
 fault_line (BadStep step) = codes "refused 84 BadStep " ++ decimal step
 fault_line (Strategy f) = strategy_line f
 fault_line (Check f) = check_line f
-fault_line (Wire f) = codes "refused " ++ (decimal (fault_number f) ++ (codes " " ++ session_refusal_name (fault_number f)))
+fault_line (Wire f) =
+    codes "refused " ++ (decimal (fault_number f) ++ (codes " " ++ session_refusal_name (fault_number f)))
 fault_line Misplaced = codes "refused 20 Misplaced"
 fault_line Bind = codes "refused 60 Bind"
 fault_line Connect = codes "refused 61 Connect"

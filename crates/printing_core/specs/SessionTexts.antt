@@ -1,7 +1,8 @@
 -- What `serve` and `sync` print on standard output.
 --     listening_line address     the first line of `serve`
 --     served_text t n            its lines at the end: the totals, and the number of items
---     synced_text v k a          the lines of a session that ended: its version, the messages sent, and what was learned
+--     synced_text v k a          the lines of a session that ended: its version, the messages sent, and what was
+--                                learned
 --     IsSyncOf o result          what `sync` prints of a session, or the fault that it ends with
 use Rattle.std.specs.Prelude.{ℕ, ◌≡◌, List, [], ◌∷◌, ◌++◌, String, codes, flat_map, Result, Ok, Err, string_bytes}
 use Rattle.std.specs.declared.alloc.Global.{Global}
@@ -16,13 +17,16 @@ use Rattle.peer_threads.specs.declared.outcome.Side.TheVariants as sides
 use Rattle.peer_threads.specs.declared.outcome.Outcome.{Outcome}
 use Rattle.peer_threads.specs.declared.outcome.Outcome.TheVariants as outcomes
 use Rattle.printing_core.specs.declared.fault.Fault.{Fault}
-use Rattle.printing_core.specs.declared.fault.Fault.TheVariants.{Session, PeerRefused, ReaderFailed, WriterFailed, Memory}
+use Rattle.printing_core.specs.declared.fault.Fault.TheVariants.{Session, PeerRefused, ReaderFailed, WriterFailed}
+use Rattle.printing_core.specs.declared.fault.Fault.TheVariants.{Memory}
 
 abbrev pub listening_line : List ℕ → List ℕ
 listening_line address = codes "listening " ++ (address ++ codes "\n")
 
 abbrev pub totals_line : Totals → List ℕ
-totals_line t = codes "opened " ++ (decimal t.opened ++ (codes " ended " ++ (decimal t.ended ++ (codes " refused " ++ (decimal t.refused ++ (codes " io " ++ (decimal t.io ++ (codes " memory " ++ (decimal t.memory ++ (codes " messages " ++ (decimal t.messages ++ codes "\n")))))))))))
+totals_line t = codes "opened " ++ (decimal t.opened ++ (codes " ended "
+    ++ (decimal t.ended ++ (codes " refused " ++ (decimal t.refused ++ (codes " io " ++ (decimal t.io
+    ++ (codes " memory " ++ (decimal t.memory ++ (codes " messages " ++ (decimal t.messages ++ codes "\n")))))))))))
 
 abbrev pub served_text : Totals → ℕ → List ℕ
 served_text t n = totals_line t ++ (codes "items " ++ (decimal n ++ codes "\n"))
@@ -36,7 +40,8 @@ counts_text version sent = codes "version " ++ (decimal version ++ (codes "\nsen
 
 -- the items in rising order
 abbrev pub synced_text : ℕ → ℕ → Knowledge → List ℕ
-synced_text version sent k = counts_text version sent ++ (flat_map (named_line (codes "ours")) (set_of k.ours) ++ flat_map (named_line (codes "theirs")) (set_of k.theirs))
+synced_text version sent k = counts_text version sent ++ (flat_map (named_line (codes "ours")) (set_of k.ours)
+    ++ flat_map (named_line (codes "theirs")) (set_of k.theirs))
 
 abbrev pub of_side : Side → Fault
 of_side sides.Read = ReaderFailed

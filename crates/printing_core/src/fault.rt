@@ -1,7 +1,8 @@
 //! Why a run is refused.
 
 ghost use Rattle.std.specs.Prelude.{◌≡◌};
-ghost use Rattle.printing_core.specs.FaultsOf.{of_answer, of_input, of_decoding, of_listing, of_settings, of_scenario, of_check, of_log, of_listen, of_connect, of_source};
+ghost use Rattle.printing_core.specs.FaultsOf.{of_answer, of_input, of_decoding, of_listing, of_settings, of_scenario};
+ghost use Rattle.printing_core.specs.FaultsOf.{of_check, of_log, of_listen, of_connect, of_source};
 ghost use Rattle.printing_core.specs.declared.fault.Fault.TheVariants as faults;
 
 use answer_core::{AnswerFault, ListReplyFault};
@@ -18,8 +19,8 @@ use wire_core::{DecodeError, WireFault};
 
 /// Why a run does not end with status 0, its words being known.
 ///
-/// It prints as the line for standard error: `refused`, the number, the name and the values; `peer refused` and the code;
-/// `io read` or `io write`.
+/// It prints as the line for standard error: `refused`, the number, the name and the values; `peer refused` and the
+/// code; `io read` or `io write`.
 #[derive(Clone, Copy, Debug, PartialEq, Eq)]
 pub enum Fault {
     /// A file or the input was not opened or not read, or is above 16,777,216 bytes.

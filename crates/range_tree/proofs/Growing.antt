@@ -13,9 +13,11 @@ one_least : {P : Type 0} (g : Grown P) → 1 ≤ length (grown_parts g)
 one_least (One p) = omega arith
 one_least (Two p q) = omega arith
 
-pub length_grown : {T P : Type 0} (v : T → P) (xs held : List T) (g : Grown P) (i : ℕ) → i < length (map v xs) → map v held ≡ take i (map v xs) ++ grown_parts g ++ drop (i + 1) (map v xs) → length held ≤ length xs + 1
+pub length_grown : {T P : Type 0} (v : T → P) (xs held : List T) (g : Grown P) (i : ℕ) → i < length (map v xs) →
+    map v held ≡ take i (map v xs) ++ grown_parts g ++ drop (i + 1) (map v xs) → length held ≤ length xs + 1
 length_grown v xs held g i low e =
-    let all : length held ≡ length (take i (map v xs) ++ grown_parts g ++ drop (i + 1) (map v xs)) = sym (length-map held v) ∙ ap length e in
+    let all : length held ≡ length (take i (map v xs) ++ grown_parts g ++ drop (i + 1) (map v xs)) =
+    sym (length-map held v) ∙ ap length e in
     let parts = length-append (take i (map v xs) ++ grown_parts g) (drop (i + 1) (map v xs)) in
     let first = length-append (take i (map v xs)) (grown_parts g) in
     let front = length-take-le i (map v xs) (omega arith) in
@@ -24,9 +26,11 @@ length_grown v xs held g i low e =
     let same = length-map xs v in
     omega arith
 
-pub length_kept : {T P : Type 0} (v : T → P) (xs held : List T) (g : Grown P) (i : ℕ) → i < length (map v xs) → map v held ≡ take i (map v xs) ++ grown_parts g ++ drop (i + 1) (map v xs) → length xs ≤ length held
+pub length_kept : {T P : Type 0} (v : T → P) (xs held : List T) (g : Grown P) (i : ℕ) → i < length (map v xs) →
+    map v held ≡ take i (map v xs) ++ grown_parts g ++ drop (i + 1) (map v xs) → length xs ≤ length held
 length_kept v xs held g i low e =
-    let all : length held ≡ length (take i (map v xs) ++ grown_parts g ++ drop (i + 1) (map v xs)) = sym (length-map held v) ∙ ap length e in
+    let all : length held ≡ length (take i (map v xs) ++ grown_parts g ++ drop (i + 1) (map v xs)) =
+    sym (length-map held v) ∙ ap length e in
     let parts = length-append (take i (map v xs) ++ grown_parts g) (drop (i + 1) (map v xs)) in
     let first = length-append (take i (map v xs)) (grown_parts g) in
     let front = length-take-le i (map v xs) (omega arith) in

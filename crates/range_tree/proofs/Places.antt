@@ -1,7 +1,9 @@
 -- Spans of lists, and lists that are kept in parts.
-use Rattle.std.proofs.Common.{◌≡◌, ℕ, None, zero, suc, ◌+◌, ◌-◌, ◌<◌, ◌≤◌, Bool, not, ◌&&◌, filter, List, [], ◌∷◌, ◌++◌, take, drop, map, length, min, get_or, refl, sym, ap, ◌∙◌, arith}
+use Rattle.std.proofs.Common.{◌≡◌, ℕ, None, zero, suc, ◌+◌, ◌-◌, ◌<◌, ◌≤◌, Bool, not, ◌&&◌, filter, List, [], ◌∷◌, ◌++◌}
+use Rattle.std.proofs.Common.{take, drop, map, length, min, get_or, refl, sym, ap, ◌∙◌, arith}
 use Rattle.std.specs.List.{flat_map, slice_get}
-use Rattle.std.proofs.lemmas.List.{drop_more, take_more, take-append-drop, take-append-le, drop-append-le, append_assoc, append-nil, map-append, length-append, length-take, take_min, drop_min, drop-take}
+use Rattle.std.proofs.lemmas.List.{drop_more, take_more, take-append-drop, take-append-le, drop-append-le, append_assoc}
+use Rattle.std.proofs.lemmas.List.{append-nil, map-append, length-append, length-take, take_min, drop_min, drop-take}
 use Rattle.std.proofs.lemmas.List.Concat.{flat_map-append}
 use Rattle.definitions.proofs.Partitions.{later}
 use Rattle.range_tree.specs.Parts.{span, PassFirst}
@@ -15,7 +17,8 @@ span_none {X} s zero = drop_none s
 span_none {X} s (suc e) = drop_none s
 
 -- what stands between two places of two lists, one behind the other
-pub span_append : {X : Type 0} (s e : ℕ) (xs ys : List X) → span s e (xs ++ ys) ≡ span s e xs ++ span (s - length xs) (e - length xs) ys
+pub span_append : {X : Type 0} (s e : ℕ) (xs ys : List X) →
+    span s e (xs ++ ys) ≡ span s e xs ++ span (s - length xs) (e - length xs) ys
 span_append s e [] ys =
     let same : s - 0 ≡ s = omega arith in
     let too : e - 0 ≡ e = omega arith in
@@ -42,52 +45,69 @@ map_drop f zero xs = refl
 map_drop f (suc n) [] = refl
 map_drop f (suc n) (x ∷ xs) = map_drop f n xs
 
-pub flat_of_map : {X Y A : Type 0} (f : Y → List A) (g : X → Y) (xs : List X) → flat_map f (map g xs) ≡ flat_map (λ x. f (g x)) xs
+pub flat_of_map : {X Y A : Type 0} (f : Y → List A) (g : X → Y) (xs : List X) →
+    flat_map f (map g xs) ≡ flat_map (λ x. f (g x)) xs
 flat_of_map f g [] = refl
 flat_of_map f g (x ∷ xs) = ap (λ ys. f (g x) ++ ys) (flat_of_map f g xs)
 
 -- what the parts hold, cut before and behind one of them
-pub flat_cut : {P A : Type 0} (f : P → List A) (ps : List P) (k : ℕ) (d : P) → k < length ps → flat_map f ps ≡ flat_map f (take k ps) ++ (f (get_or ps k d) ++ flat_map f (drop (k + 1) ps))
-flat_cut f ps k d low = ap (flat_map f) (sym (take-append-drop k ps)) ∙ flat_map-append f (take k ps) (drop k ps) ∙ ap (λ qs. flat_map f (take k ps) ++ flat_map f qs) (drop_more ps k d low)
+pub flat_cut : {P A : Type 0} (f : P → List A) (ps : List P) (k : ℕ) (d : P) → k < length ps →
+    flat_map f ps ≡ flat_map f (take k ps) ++ (f (get_or ps k d) ++ flat_map f (drop (k + 1) ps))
+flat_cut f ps k d low = ap (flat_map f) (sym (take-append-drop k ps)) ∙ flat_map-append f (take k ps) (drop k ps)
+    ∙ ap (λ qs. flat_map f (take k ps) ++ flat_map f qs) (drop_more ps k d low)
 
 -- the rest of the parts, where x is the first one of it
-pub flat_rest : {T P A : Type 0} (f : P → List A) (v : T → P) (xs : List T) (i : ℕ) (x : T) → i < length xs → x ≡ get_or xs i x → flat_map f (map v (drop i xs)) ≡ f (v x) ++ flat_map f (map v (drop (i + 1) xs))
-flat_rest f v xs i x low e = ap (λ ys. flat_map f (map v ys)) (drop_more xs i x low) ∙ ap (λ y. f (v y) ++ flat_map f (map v (drop (i + 1) xs))) (sym e)
+pub flat_rest : {T P A : Type 0} (f : P → List A) (v : T → P) (xs : List T) (i : ℕ) (x : T) → i < length xs →
+    x ≡ get_or xs i x → flat_map f (map v (drop i xs)) ≡ f (v x) ++ flat_map f (map v (drop (i + 1) xs))
+flat_rest f v xs i x low e = ap (λ ys. flat_map f (map v ys)) (drop_more xs i x low)
+    ∙ ap (λ y. f (v y) ++ flat_map f (map v (drop (i + 1) xs))) (sym e)
 
 -- what is held so far, and what the rest has between the places that are left
-pub span_step : {A : Type 0} (s e : ℕ) (xs ys held all : List A) → held ++ span s e (xs ++ ys) ≡ all → held ++ span s e xs ++ span (s - length xs) (e - length xs) ys ≡ all
-span_step s e xs ys held all h = append_assoc held (span s e xs) (span (s - length xs) (e - length xs) ys) ∙ ap (λ zs. held ++ zs) (sym (span_append s e xs ys)) ∙ h
+pub span_step : {A : Type 0} (s e : ℕ) (xs ys held all : List A) → held ++ span s e (xs ++ ys) ≡ all →
+    held ++ span s e xs ++ span (s - length xs) (e - length xs) ys ≡ all
+span_step s e xs ys held all h = append_assoc held (span s e xs) (span (s - length xs) (e - length xs) ys)
+    ∙ ap (λ zs. held ++ zs) (sym (span_append s e xs ys)) ∙ h
 
 -- with both places held within the list
-pub span_clamped : {A : Type 0} (from to : ℕ) (xs : List A) (start end : ℕ) → end ≡ min to (length xs) → start ≡ min from end → take (end - start) (drop start xs) ≡ span from to xs
+pub span_clamped : {A : Type 0} (from to : ℕ) (xs : List A) (start end : ℕ) → end ≡ min to (length xs) →
+    start ≡ min from end → take (end - start) (drop start xs) ≡ span from to xs
 span_clamped from to xs start end e s =
     let low : start ≤ end = omega arith in
     let whole : start + (end - start) ≡ end = omega arith in
     let len : length (take end xs) ≡ end = length-take end xs ∙ omega arith in
     let cut : take end xs ≡ take to xs = ap (λ n. take n xs) e ∙ take_min to xs in
     let place : start ≡ min from (length (take end xs)) = s ∙ ap (min from) (sym len) in
-    sym (drop-take start (end - start) xs) ∙ ap (λ n. drop start (take n xs)) whole ∙ ap (λ n. drop n (take end xs)) place ∙ drop_min from (take end xs) ∙ ap (drop from) cut
+    sym (drop-take start (end - start) xs) ∙ ap (λ n. drop start (take n xs)) whole
+    ∙ ap (λ n. drop n (take end xs)) place ∙ drop_min from (take end xs) ∙ ap (drop from) cut
 
 pub map_take : {X Y : Type 0} (f : X → Y) (n : ℕ) (xs : List X) → map f (take n xs) ≡ take n (map f xs)
 map_take f zero xs = refl
 map_take f (suc n) [] = refl
 map_take f (suc n) (x ∷ xs) = ap (λ ys. f x ∷ ys) (map_take f n xs)
 
-pub length_cut : {P A : Type 0} (f : P → List A) (ps : List P) (k : ℕ) (d : P) → k < length ps → length (flat_map f ps) ≡ length (flat_map f (take k ps)) + (length (f (get_or ps k d)) + length (flat_map f (drop (k + 1) ps)))
+pub length_cut : {P A : Type 0} (f : P → List A) (ps : List P) (k : ℕ) (d : P) → k < length ps → length (flat_map f ps)
+    ≡ length (flat_map f (take k ps)) + (length (f (get_or ps k d)) + length (flat_map f (drop (k + 1) ps)))
 length_cut f ps k d low =
-    ap length (flat_cut f ps k d low) ∙ length-append (flat_map f (take k ps)) (f (get_or ps k d) ++ flat_map f (drop (k + 1) ps))
+    ap length (flat_cut f ps k d low)
+    ∙ length-append (flat_map f (take k ps)) (f (get_or ps k d) ++ flat_map f (drop (k + 1) ps))
     ∙ ap (λ n. length (flat_map f (take k ps)) + n) (length-append (f (get_or ps k d)) (flat_map f (drop (k + 1) ps)))
 
-pub length_take_more : {P A : Type 0} (f : P → List A) (ps : List P) (k : ℕ) (d : P) → k < length ps → length (flat_map f (take (k + 1) ps)) ≡ length (flat_map f (take k ps)) + length (f (get_or ps k d))
+pub length_take_more : {P A : Type 0} (f : P → List A) (ps : List P) (k : ℕ) (d : P) → k < length ps →
+    length (flat_map f (take (k + 1) ps)) ≡ length (flat_map f (take k ps)) + length (f (get_or ps k d))
 length_take_more f ps k d low =
-    ap (λ qs. length (flat_map f qs)) (take_more ps k d low) ∙ ap length (flat_map-append f (take k ps) (get_or ps k d ∷ []))
-    ∙ length-append (flat_map f (take k ps)) (f (get_or ps k d) ++ []) ∙ ap (λ xs. length (flat_map f (take k ps)) + length xs) (append-nil (f (get_or ps k d)))
+    ap (λ qs. length (flat_map f qs)) (take_more ps k d low)
+    ∙ ap length (flat_map-append f (take k ps) (get_or ps k d ∷ []))
+    ∙ length-append (flat_map f (take k ps)) (f (get_or ps k d) ++ [])
+    ∙ ap (λ xs. length (flat_map f (take k ps)) + length xs) (append-nil (f (get_or ps k d)))
 
-pub length_drop_more : {P A : Type 0} (f : P → List A) (ps : List P) (k : ℕ) (d : P) → k < length ps → length (flat_map f (drop k ps)) ≡ length (f (get_or ps k d)) + length (flat_map f (drop (k + 1) ps))
-length_drop_more f ps k d low = ap (λ qs. length (flat_map f qs)) (drop_more ps k d low) ∙ length-append (f (get_or ps k d)) (flat_map f (drop (k + 1) ps))
+pub length_drop_more : {P A : Type 0} (f : P → List A) (ps : List P) (k : ℕ) (d : P) → k < length ps →
+    length (flat_map f (drop k ps)) ≡ length (f (get_or ps k d)) + length (flat_map f (drop (k + 1) ps))
+length_drop_more f ps k d low = ap (λ qs. length (flat_map f qs)) (drop_more ps k d low)
+    ∙ length-append (f (get_or ps k d)) (flat_map f (drop (k + 1) ps))
 
 -- the value of a part that is read
-pub value_read : {T P : Type 0} (v : T → P) (xs : List T) (i : ℕ) (x : T) → x ≡ get_or xs i x → get_or (map v xs) i (v x) ≡ v x
+pub value_read : {T P : Type 0} (v : T → P) (xs : List T) (i : ℕ) (x : T) → x ≡ get_or xs i x →
+    get_or (map v xs) i (v x) ≡ v x
 value_read v xs i x e = map_get v xs i x ∙ ap v (sym e)
 
 pub get_front : {X : Type 0} (xs ys : List X) (n : ℕ) → n < length xs → slice_get (xs ++ ys) n ≡ slice_get xs n
@@ -99,7 +119,9 @@ pub get_back : {X : Type 0} (xs ys : List X) (n : ℕ) → slice_get (xs ++ ys) 
 get_back [] ys n = let e : 0 + n ≡ n = omega arith in rw e refl
 get_back (x ∷ xs) ys n = let e : suc (length xs) + n ≡ suc (length xs + n) = omega arith in rw e (get_back xs ys n)
 
-pub get_part : {P A : Type 0} (f : P → List A) (ps : List P) (k own : ℕ) (d : P) → k < length ps → own < length (f (get_or ps k d)) → slice_get (flat_map f ps) (length (flat_map f (take k ps)) + own) ≡ slice_get (f (get_or ps k d)) own
+pub get_part : {P A : Type 0} (f : P → List A) (ps : List P) (k own : ℕ) (d : P) →
+    k < length ps → own < length (f (get_or ps k d)) →
+    slice_get (flat_map f ps) (length (flat_map f (take k ps)) + own) ≡ slice_get (f (get_or ps k d)) own
 get_part f ps k own d low within =
     ap (λ xs. slice_get xs (length (flat_map f (take k ps)) + own)) (flat_cut f ps k d low)
     ∙ get_back (flat_map f (take k ps)) (f (get_or ps k d) ++ flat_map f (drop (k + 1) ps)) own
@@ -115,44 +137,57 @@ put_front xs ys n x low =
 
 pub put_back : {X : Type 0} (xs ys : List X) (n : ℕ) (x : X) → put (length xs + n) x (xs ++ ys) ≡ xs ++ put n x ys
 put_back [] ys n x = let e : 0 + n ≡ n = omega arith in rw e refl
-put_back (y ∷ xs) ys n x = let e : suc (length xs) + n ≡ suc (length xs + n) = omega arith in rw e (ap (λ zs. y ∷ zs) (put_back xs ys n x))
+put_back (y ∷ xs) ys n x = let e : suc (length xs) + n ≡ suc (length xs + n) = omega arith in
+    rw e (ap (λ zs. y ∷ zs) (put_back xs ys n x))
 
-pub put_part : {P A : Type 0} (f : P → List A) (ps : List P) (k own : ℕ) (d : P) (x : A) (gs : List P) → k < length ps → own ≤ length (f (get_or ps k d)) → flat_map f gs ≡ put own x (f (get_or ps k d)) → flat_map f (take k ps ++ gs ++ drop (k + 1) ps) ≡ put (length (flat_map f (take k ps)) + own) x (flat_map f ps)
+pub put_part : {P A : Type 0} (f : P → List A) (ps : List P) (k own : ℕ) (d : P) (x : A) (gs : List P) →
+    k < length ps → own ≤ length (f (get_or ps k d)) → flat_map f gs ≡ put own x (f (get_or ps k d)) →
+    flat_map f (take k ps ++ gs ++ drop (k + 1) ps) ≡ put (length (flat_map f (take k ps)) + own) x (flat_map f ps)
 put_part f ps k own d x gs low within e =
     let front = flat_map f (take k ps) in
     let back = flat_map f (drop (k + 1) ps) in
-    flat_map-append f (take k ps ++ gs) (drop (k + 1) ps) ∙ ap (λ xs. xs ++ back) (flat_map-append f (take k ps) gs ∙ ap (λ xs. front ++ xs) e)
+    flat_map-append f (take k ps ++ gs) (drop (k + 1) ps)
+    ∙ ap (λ xs. xs ++ back) (flat_map-append f (take k ps) gs ∙ ap (λ xs. front ++ xs) e)
     ∙ append_assoc front (put own x (f (get_or ps k d))) back
     ∙ ap (λ xs. front ++ xs) (sym (put_front (f (get_or ps k d)) back own x within))
     ∙ sym (put_back front (f (get_or ps k d) ++ back) own x)
     ∙ ap (put (length front + own) x) (sym (flat_cut f ps k d low))
 
 -- two halves of the parts hold what all hold
-pub flat_halves : {T P A : Type 0} (f : P → List A) (v : T → P) (n : ℕ) (xs : List T) → flat_map f (map v (take n xs)) ++ (flat_map f (map v (drop n xs)) ++ []) ≡ flat_map f (map v xs)
+pub flat_halves : {T P A : Type 0} (f : P → List A) (v : T → P) (n : ℕ) (xs : List T) →
+    flat_map f (map v (take n xs)) ++ (flat_map f (map v (drop n xs)) ++ []) ≡ flat_map f (map v xs)
 flat_halves f v n xs =
     ap (λ ys. flat_map f (map v (take n xs)) ++ ys) (append-nil (flat_map f (map v (drop n xs))))
     ∙ sym (flat_map-append f (map v (take n xs)) (map v (drop n xs)))
     ∙ ap (flat_map f) (sym (map-append v (take n xs) (drop n xs)) ∙ ap (map v) (take-append-drop n xs))
 
-pub has_parts : {T P A : Type 0} (f : P → List A) (v : T → P) (xs : List T) (front back : List A) (x : A) → flat_map f (map v xs) ≡ front ++ x ∷ back → 0 < length xs
-has_parts f v [] front back x e = let len : 0 ≡ length (front ++ x ∷ back) = ap length e in let sum = length-append front (x ∷ back) in absurd (omega arith)
+pub has_parts : {T P A : Type 0} (f : P → List A) (v : T → P) (xs : List T) (front back : List A) (x : A) →
+    flat_map f (map v xs) ≡ front ++ x ∷ back → 0 < length xs
+has_parts f v [] front back x e = let len : 0 ≡ length (front ++ x ∷ back) = ap length e in
+    let sum = length-append front (x ∷ back) in absurd (omega arith)
 has_parts f v (y ∷ ys) front back x e = omega arith
 
 -- ---- what passes both of two tests
 
 none_later : {X : Type 0} (p : X → Bool) (x : X) (xs : List X) → PassFirst p (x ∷ xs) zero → PassFirst p xs zero
-none_later p x xs parted = ((λ k d low high. absurd (omega arith)), (λ k d low high. parted.1 (suc k) d (omega arith) (omega arith)))
+none_later p x xs parted =
+    ((λ k d low high. absurd (omega arith)), (λ k d low high. parted.1 (suc k) d (omega arith) (omega arith)))
 
-pub between_both : {X : Type 0} (p q : X → Bool) (xs : List X) (i j : ℕ) → PassFirst p xs i → PassFirst q xs j → span i j xs ≡ filter (λ z. not (p z) && q z) xs
+pub between_both : {X : Type 0} (p q : X → Bool) (xs : List X) (i j : ℕ) → PassFirst p xs i → PassFirst q xs j →
+    span i j xs ≡ filter (λ z. not (p z) && q z) xs
 between_both p q [] i j first second = span_none i j
 between_both p q (x ∷ xs) zero zero first second =
-    rw (first.1 zero x (omega arith) (omega arith), second.1 zero x (omega arith) (omega arith)) (between_both p q xs zero zero (none_later p x xs first) (none_later q x xs second))
+    rw (first.1 zero x (omega arith) (omega arith), second.1 zero x (omega arith) (omega arith))
+    (between_both p q xs zero zero (none_later p x xs first) (none_later q x xs second))
 between_both p q (x ∷ xs) (suc i) zero first second =
-    rw (first.0 zero x (omega arith) (omega arith)) (sym (drop_none i) ∙ between_both p q xs i zero (later p x xs i first) (none_later q x xs second))
+    rw (first.0 zero x (omega arith) (omega arith))
+    (sym (drop_none i) ∙ between_both p q xs i zero (later p x xs i first) (none_later q x xs second))
 between_both p q (x ∷ xs) zero (suc j) first second =
-    rw (first.1 zero x (omega arith) (omega arith), second.0 zero x (omega arith) (omega arith)) (ap (λ ys. x ∷ ys) (between_both p q xs zero j (none_later p x xs first) (later q x xs j second)))
+    rw (first.1 zero x (omega arith) (omega arith), second.0 zero x (omega arith) (omega arith))
+    (ap (λ ys. x ∷ ys) (between_both p q xs zero j (none_later p x xs first) (later q x xs j second)))
 between_both p q (x ∷ xs) (suc i) (suc j) first second =
-    rw (first.0 zero x (omega arith) (omega arith)) (between_both p q xs i j (later p x xs i first) (later q x xs j second))
+    rw (first.0 zero x (omega arith) (omega arith))
+    (between_both p q xs i j (later p x xs i first) (later q x xs j second))
 
 pub length_put : {X : Type 0} (n : ℕ) (x : X) (xs : List X) → length (put n x xs) ≡ length xs + 1
 length_put n x xs =

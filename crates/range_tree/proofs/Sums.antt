@@ -14,7 +14,8 @@ pub record IsSummed (f : Lanes) (rest all : List Item) : Type 0 where
 pub none_summed : (f : Lanes) (all : List Item) → f ≡ two_lanes.of [] → IsSummed f all all
 none_summed f all e = record { front = []; is_sum = e; is_front = refl }
 
-pub more_summed : (f g : Lanes) (A rest all : List Item) → IsSummed f (A ++ rest) all → g ≡ two_lanes.of A → IsSummed (join_lanes f g) rest all
+pub more_summed : (f g : Lanes) (A rest all : List Item) → IsSummed f (A ++ rest) all → g ≡ two_lanes.of A →
+    IsSummed (join_lanes f g) rest all
 more_summed f g A rest all h e = record {
   front = h.front ++ A;
   is_sum = rw (h.is_sum, e) (sym (adds_up h.front A));

@@ -1,5 +1,6 @@
 -- Lists of parts each of which is wide enough.
-use Rattle.std.proofs.Common.{◌≡◌, ℕ, zero, suc, ◌+◌, ◌*◌, ◌<◌, ◌≤◌, List, [], ◌∷◌, ◌++◌, take, drop, map, length, get_or, arith}
+use Rattle.std.proofs.Common.{◌≡◌, ℕ, zero, suc, ◌+◌, ◌*◌, ◌<◌, ◌≤◌, List, [], ◌∷◌, ◌++◌, take, drop, map, length}
+use Rattle.std.proofs.Common.{get_or, arith}
 use Rattle.std.specs.List.{flat_map, AllByRecursion}
 use Rattle.std.specs.Arc.{arc_value}
 use Rattle.std.proofs.lemmas.List.{length-append, length-map}
@@ -61,17 +62,20 @@ module _ {P : Type 0} (width : P → ℕ) where
   grown_alone (Two p q) old grew = (grew.0, (grew.1, tt))
 
   -- where one part grew
-  pub grown_full : (ps : List P) (i : ℕ) (d : P) (g : Grown P) → i < length ps → IsFull width ps → GrewWide width (width (get_or ps i d)) g → IsFull width (take i ps ++ grown_parts g ++ drop (i + 1) ps)
+  pub grown_full : (ps : List P) (i : ℕ) (d : P) (g : Grown P) → i < length ps → IsFull width ps →
+      GrewWide width (width (get_or ps i d)) g → IsFull width (take i ps ++ grown_parts g ++ drop (i + 1) ps)
   grown_full [] i d g low full grew = absurd (omega arith)
   grown_full (p ∷ []) zero d g low full grew = grown_alone g (width p) grew
   grown_full (p ∷ []) (suc i) d g low full grew = absurd (omega arith)
   grown_full (p ∷ q ∷ ps) i d g low full grew =
       full_from_wide (take i (p ∷ q ∷ ps) ++ grown_parts g ++ drop (i + 1) (p ∷ q ∷ ps))
       (wide_append (take i (p ∷ q ∷ ps) ++ grown_parts g) (drop (i + 1) (p ∷ q ∷ ps))
-      (wide_append (take i (p ∷ q ∷ ps)) (grown_parts g) (wide_take i (p ∷ q ∷ ps) full) (grown_wide g (width (get_or (p ∷ q ∷ ps) i d)) (wide_get (p ∷ q ∷ ps) i d low full) grew))
+      (wide_append (take i (p ∷ q ∷ ps)) (grown_parts g) (wide_take i (p ∷ q ∷ ps) full)
+      (grown_wide g (width (get_or (p ∷ q ∷ ps) i d)) (wide_get (p ∷ q ∷ ps) i d low full) grew))
       (wide_drop (i + 1) (p ∷ q ∷ ps) full))
 
-  pub front_full : {T : Type 0} (v : T → P) (n : ℕ) (xs : List T) → 1 < length (map v xs) → IsFull width (map v xs) → IsFull width (map v (take n xs))
+  pub front_full : {T : Type 0} (v : T → P) (n : ℕ) (xs : List T) → 1 < length (map v xs) → IsFull width (map v xs) →
+      IsFull width (map v (take n xs))
   front_full v n xs more full = full_from_wide (map v (take n xs)) (mapped v n xs (wide_from_full (map v xs) more full))
     where
       mapped : {T : Type 0} (v : T → P) (n : ℕ) (xs : List T) → IsWide (map v xs) → IsWide (map v (take n xs))
@@ -79,7 +83,8 @@ module _ {P : Type 0} (width : P → ℕ) where
       mapped v (suc n) [] all = tt
       mapped v (suc n) (x ∷ xs) all = (all.0, mapped v n xs all.1)
 
-  pub back_full : {T : Type 0} (v : T → P) (n : ℕ) (xs : List T) → 1 < length (map v xs) → IsFull width (map v xs) → IsFull width (map v (drop n xs))
+  pub back_full : {T : Type 0} (v : T → P) (n : ℕ) (xs : List T) → 1 < length (map v xs) → IsFull width (map v xs) →
+      IsFull width (map v (drop n xs))
   back_full v n xs more full = full_from_wide (map v (drop n xs)) (mapped v n xs (wide_from_full (map v xs) more full))
     where
       mapped : {T : Type 0} (v : T → P) (n : ℕ) (xs : List T) → IsWide (map v xs) → IsWide (map v (drop n xs))
@@ -89,7 +94,8 @@ module _ {P : Type 0} (width : P → ℕ) where
 
 -- ---- how many items wide parts hold at least
 
-wide_leaves : (ls : List Leaf) → AllByRecursion (λ l. 32 ≤ leaf_width l) ls → 32 * length ls ≤ length (flat_map leaf_items ls)
+wide_leaves : (ls : List Leaf) → AllByRecursion (λ l. 32 ≤ leaf_width l) ls →
+    32 * length ls ≤ length (flat_map leaf_items ls)
 wide_leaves [] all = omega arith
 wide_leaves (l ∷ ls) all =
     let one = all.0 in
@@ -105,7 +111,8 @@ wide_branch b wide =
     let most = wide_leaves leaves (wide_from_full leaf_width leaves more b.full) in
     omega arith
 
-wide_branches : (bs : List Branch) → AllByRecursion (λ b. 32 ≤ branch_width b) bs → 1024 * length bs ≤ length (flat_map branch_items bs)
+wide_branches : (bs : List Branch) → AllByRecursion (λ b. 32 ≤ branch_width b) bs →
+    1024 * length bs ≤ length (flat_map branch_items bs)
 wide_branches [] all = omega arith
 wide_branches (b ∷ bs) all =
     let one = wide_branch b all.0 in

@@ -16,7 +16,8 @@ branch_items b = items_of leaf_items b.leaves.items
 -- each leaf has an item, and there is a leaf
 leaves_have_some : (ls : List Leaf) → 0 < length ls → 0 < length (flat_map leaf_items ls)
 leaves_have_some [] some = some
-leaves_have_some (l ∷ ls) some = let one : 0 < length (leaf_items l) = l.some in rw (length-append (leaf_items l) (flat_map leaf_items ls)) (omega arith)
+leaves_have_some (l ∷ ls) some = let one : 0 < length (leaf_items l) = l.some in
+    rw (length-append (leaf_items l) (flat_map leaf_items ls)) (omega arith)
 
 pub branch_has_some : (b : Branch) → 0 < length (branch_items b)
 branch_has_some b = leaves_have_some (map arc_value b.leaves.items) (rw (length-map b.leaves.items arc_value) b.some)

@@ -1,5 +1,6 @@
 -- Lists that are kept in parts, and places in them.
-use Rattle.std.specs.Prelude.{⊤, ◌≡◌, ℕ, Bool, true, false, ◌+◌, ◌<◌, ◌≤◌, List, [], ◌∷◌, take, drop, filter, length, slice_index_or, map}
+use Rattle.std.specs.Prelude.{⊤, ◌≡◌, ℕ, Bool, true, false, ◌+◌, ◌<◌, ◌≤◌, List, [], ◌∷◌, take, drop, filter, length}
+use Rattle.std.specs.Prelude.{slice_index_or, map}
 use Rattle.std.specs.List.{flat_map, AllByRecursion, AllByRecursion-prop}
 use Rattle.std.proofs.Props.{props}
 use mathlib.Core.HLevel.{Unit-prop}

@@ -13,8 +13,8 @@ use std::alloc::{AllocError, Global};
 use std::sync::Arc;
 use store_core::Entry;
 
-/// How many of those that are left go together: 32, or all where they are fewer than 64. So each group has 32 to 63, but
-/// where there are fewer in all.
+/// How many of those that are left go together: 32, or all where they are fewer than 64. So each group has 32 to 63,
+/// but where there are fewer in all.
 fn together(left: usize) -> usize
     ensures few { left < 64 → result ≡ left }
     ensures many { 64 ≤ left → result ≡ 32 }

@@ -1,7 +1,8 @@
 //! Slices of shared parts: places in them, what they hold together, and the slice with one part
 //! grown.
 
-ghost use Rattle.std.specs.Prelude.{◌≡◌, ◌<◌, ◌≤◌, ◌+◌, ◌^◌, ◌∷◌, ◌++◌, length, take, drop, map, Some, slice_get, IfOk, OnOk};
+ghost use Rattle.std.specs.Prelude.{◌≡◌, ◌<◌, ◌≤◌, ◌+◌, ◌^◌, ◌∷◌, ◌++◌, length, take, drop, map, Some, slice_get, IfOk};
+ghost use Rattle.std.specs.Prelude.{OnOk};
 ghost use Rattle.std.specs.Arc.{arc_value};
 ghost use Rattle.definitions.specs.Sets.{IsSet};
 ghost use Rattle.definitions.specs.Fingerprints.{two_lanes};

@@ -23,7 +23,8 @@ pub struct Tree {
     pub(crate) count: usize,
     pub(crate) total: Fingerprint,
     ghost rises: { IsSet (items_of branch_items branches.items) } by { IsStrictlySortedBy-prop item_cmp _ },
-    ghost are_items: { AllByRecursion IsItem (items_of branch_items branches.items) } by { AllByRecursion-prop IsItem (λ x. Prim.hlevel props) _ },
+    ghost are_items: { AllByRecursion IsItem (items_of branch_items branches.items) } by { AllByRecursion-prop IsItem
+        (λ x. Prim.hlevel props) _ },
     ghost full: { IsFull branch_width (map arc_value branches.items) } by { IsFull-prop branch_width _ },
     ghost counted: { count ≡ length (items_of branch_items branches.items) },
     ghost summed: { total ≡ two_lanes.of (items_of branch_items branches.items) },

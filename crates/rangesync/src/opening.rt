@@ -30,8 +30,8 @@ fn accepted(alloc: Global, strategy: Strategy) -> Result<Accepted, Fault> {
 
 /// The strategy in one file and a log of the items in another.
 ///
-/// The strategy is judged first: 80, 30 to 35, then 37, 36 or 38. Then the items are: 80, 81, then 82 where there are more
-/// different items than the strategy's cap.
+/// The strategy is judged first: 80, 30 to 35, then 37, 36 or 38. Then the items are: 80, 81, then 82 where there are
+/// more different items than the strategy's cap.
 pub fn read_opening<R: Files + AllocGlobal>(
     rt: &R,
     table: &str,

@@ -12,7 +12,8 @@ pub enum RankFault {
         /// The number of items.
         count: u32,
     },
-    /// A staircase that was brought is none: this entry is not greater than the one before it; 0 where there is no entry.
+    /// A staircase that was brought is none: this entry is not greater than the one before it; 0 where there is no
+    /// entry.
     BadCertificate {
         /// The entry.
         count: u32,

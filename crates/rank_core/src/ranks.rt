@@ -1,5 +1,6 @@
 ghost use Rattle.std.specs.Prelude.{◌≡◌, ◌-◌, ◌≤◌, ◌<◌, ℕ, List, length, slice_index, IfOk};
-ghost use Rattle.definitions.specs.Ranks.{IsRankTable, IsLeastRankTable, IsStaircase, IsServing, rank_by, ranks_by, steps_fault, first_unfit, is_unfit, found};
+ghost use Rattle.definitions.specs.Ranks.{IsRankTable, IsLeastRankTable, IsStaircase, IsServing, rank_by, ranks_by};
+ghost use Rattle.definitions.specs.Ranks.{steps_fault, first_unfit, is_unfit, found};
 ghost use Rattle.rank_core.specs.Refused.{Finds, Brings, Fits};
 
 use crate::climb::{climb, parts};
@@ -53,8 +54,8 @@ impl Ranks {
 
     /// The ranks of this staircase.
     ///
-    /// Else 39 with the first entry that is not greater than the one before it, or with 0 where there is no entry. Memory
-    /// may run out after that.
+    /// Else 39 with the first entry that is not greater than the one before it, or with 0 where there is no entry.
+    /// Memory may run out after that.
     pub fn from_steps(alloc: Global, steps: &[u32]) -> Result<Ranks, RankError>
         ensures { Brings result steps.now (steps_fault steps.now) }
     {
@@ -91,7 +92,8 @@ impl Ranks {
         rank(&self.steps, n)
     }
 
-    /// Whether n has no rank here, or is cut into fewer than two shares, or into one whose rank is not less than its own.
+    /// Whether n has no rank here, or is cut into fewer than two shares, or into one whose rank is not less than its
+    /// own.
     fn misfits(&self, strategy: &Strategy, n: u32) -> bool
         requires { n ≤ strategy.now.cap }
         ensures { result ≡ is_unfit strategy.now self.now n }
@@ -103,8 +105,8 @@ impl Ranks {
             || cutting.count > 0 && rank(&self.steps, n) <= rank(&self.steps, cutting.greatest)
     }
 
-    /// Whether these are ranks for the strategy; else the least count up to its cap that has no rank here, or that is cut
-    /// into fewer than two shares, or into one whose rank is not less than its own.
+    /// Whether these are ranks for the strategy; else the least count up to its cap that has no rank here, or that is
+    /// cut into fewer than two shares, or into one whose rank is not less than its own.
     pub fn fits(&self, strategy: &Strategy) -> Result<(), u32>
         ensures exact { Fits result (first_unfit strategy.now self.now) }
         ensures serving { IfOk result (λ _. IsServing strategy.now self.now) }

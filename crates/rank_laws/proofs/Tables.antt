@@ -6,10 +6,15 @@
 -- it, none reaches past the cap, and some row reaches the cap.
 -- A count that is split is stuck exactly if it has fewer than two shares. Nothing is not cut: 0 has no two shares.
 -- docs/LAWS.md: Shares are parts; Lists are short (`each_served`, `rows_within`, `rows_cover`).
-use Rattle.std.proofs.Common.{rules, ◌≡◌, ℕ, suc, ◌+◌, ◌-◌, ◌*◌, ◌/◌, ◌<◌, ◌≤◌, Bool, true, false, List, [], ◌∷◌, length, refl, ap, ◌∙◌, arith, sum, cond, inl, inr, zero, ◌++◌, map}
+use Rattle.std.proofs.Common.{rules, ◌≡◌, ℕ, suc, ◌+◌, ◌-◌, ◌*◌, ◌/◌, ◌<◌, ◌≤◌, Bool, true, false, List, [], ◌∷◌}
+use Rattle.std.proofs.Common.{length, refl, ap, ◌∙◌, arith, sum, cond, inl, inr, zero, ◌++◌, map}
 use Rattle.std.specs.Prelude.{nat_lt, nat_le, slice_index, IsTrue}
-use Rattle.definitions.proofs.Words.{AllByRecursion, list_any, Act, List_items, Split, Peel, Row, Table, act_in, act, running_sums, differences, cuts_by, without_zeros, shares_by, shares, width_of, widest, width, is_split, IsAct, IsTable, uptos, is_stuck}
-use Rattle.definitions.proofs.Lemmas.{common_steps, ltb-true, ltb-false, leb-true, leb-false, le-leb, cond-true, cond-false, and_cases, or_left, or_right, sum_by-cons, div-zero, zero-div, mul-div_cancel, All-filter, All-map}
+use Rattle.definitions.proofs.Words.{AllByRecursion, list_any, Act, List_items, Split, Peel, Row, Table, act_in, act}
+use Rattle.definitions.proofs.Words.{running_sums, differences, cuts_by, without_zeros, shares_by, shares, width_of}
+use Rattle.definitions.proofs.Words.{widest, width, is_split, IsAct, IsTable, uptos, is_stuck}
+use Rattle.definitions.proofs.Lemmas.{common_steps, ltb-true, ltb-false, leb-true, leb-false, le-leb, cond-true}
+use Rattle.definitions.proofs.Lemmas.{cond-false, and_cases, or_left, or_right, sum_by-cons, div-zero, zero-div}
+use Rattle.definitions.proofs.Lemmas.{mul-div_cancel, All-filter, All-map}
 use Rattle.rank_laws.specs.Laws.{HasRow, IsCut}
 
 -- ==== The shares of a row: what they add up to, that none but the first is 0, and how many there are
@@ -24,7 +29,8 @@ sum-without_zeros [] = refl
 sum-without_zeros (x ∷ xs) = grind (arith, sum-without_zeros xs, sum-cons, ltb-false)
 
 pub without_zeros-positive : (xs : List ℕ) → AllByRecursion (λ n. 0 < n) (without_zeros xs)
-without_zeros-positive xs = All-map (λ n. nat_lt 0 n ≡ true) (λ n. 0 < n) (λ n e. ltb-true 0 n e) (without_zeros xs) (All-filter (λ n. nat_lt 0 n) xs)
+without_zeros-positive xs = All-map (λ n. nat_lt 0 n ≡ true) (λ n. 0 < n) (λ n e. ltb-true 0 n e) (without_zeros xs)
+    (All-filter (λ n. nat_lt 0 n) xs)
 
 pub length-le-sum : (xs : List ℕ) → AllByRecursion (λ n. 0 < n) xs → length xs ≤ sum xs
 length-le-sum [] p = omega arith
@@ -40,22 +46,27 @@ div-le-div : (a b k : ℕ) → a ≤ b → a / k ≤ b / k
 div-le-div a b k h = grind arith
 
 sum-differences : (weights : List ℕ) (n s : ℕ) (ws : List ℕ) →
-    n * s / sum weights + sum (differences (n * s / sum weights) (cuts_by weights n (running_sums s ws))) ≡ n * (s + sum ws) / sum weights
-sum-differences weights n s [] = let e : s ≡ s + sum [] = omega arith in let end = ap (λ m. n * m / sum weights) e in omega arith
+    n * s / sum weights + sum (differences (n * s / sum weights) (cuts_by weights n (running_sums s ws)))
+    ≡ n * (s + sum ws) / sum weights
+sum-differences weights n s [] = let e : s ≡ s + sum [] = omega arith in let end = ap (λ m. n * m / sum weights) e in
+    omega arith
 sum-differences weights n s (w ∷ ws) = grind (arith, sum-differences weights n (s + w) ws, div-le-div, sum-cons)
 
-pub sum-split : (weights : List ℕ) (n : ℕ) → sum (differences 0 (cuts_by weights n (running_sums 0 weights))) ≡ n * sum weights / sum weights
+pub sum-split : (weights : List ℕ) (n : ℕ) →
+    sum (differences 0 (cuts_by weights n (running_sums 0 weights))) ≡ n * sum weights / sum weights
 sum-split weights n = grind (arith, sum-differences weights n 0 weights, zero-div (sum weights))
 
 split_total : (n W : ℕ) (zs : List ℕ) → sum zs ≡ n * W / W → 2 ≤ length (without_zeros zs) → sum (without_zeros zs) ≡ n
-split_total n W zs e many = grind (arith, div-zero, sum-without_zeros, length-le-sum, without_zeros-positive, mul-div_cancel)
+split_total n W zs e many =
+    grind (arith, div-zero, sum-without_zeros, length-le-sum, without_zeros-positive, mul-div_cancel)
 
 -- ---- the shares of any row
 
 -- two shares or more add up to what is cut
 pub sum-shares_by : (act : Act) (n : ℕ) → 2 ≤ length (shares_by act n) → sum (shares_by act n) ≡ n
 sum-shares_by List_items n h = absurd (omega arith)
-sum-shares_by (Split weights) n h = split_total n (sum weights) (differences 0 (cuts_by weights n (running_sums 0 weights))) (sum-split weights n) h
+sum-shares_by (Split weights) n h =
+    split_total n (sum weights) (differences 0 (cuts_by weights n (running_sums 0 weights))) (sum-split weights n) h
 sum-shares_by (Peel front) n h = grind arith
 
 -- none is 0
@@ -99,14 +110,17 @@ each_within : (xs : List ℕ) (k : ℕ) → sum xs ≤ k → AllByRecursion (λ 
 each_within [] k h = tt
 each_within (x ∷ xs) k h = (omega (arith, sum-cons x xs), each_within xs k (omega (arith, sum-cons x xs)))
 
-each_below : (xs : List ℕ) (n : ℕ) → AllByRecursion (λ s. 0 < s) xs → sum xs ≡ n → 2 ≤ length xs → AllByRecursion (λ s. s < n) xs
+each_below : (xs : List ℕ) (n : ℕ) → AllByRecursion (λ s. 0 < s) xs → sum xs ≡ n → 2 ≤ length xs →
+    AllByRecursion (λ s. s < n) xs
 each_below [] n p e h = absurd (omega arith)
 each_below (x ∷ []) n p e h = absurd (omega arith)
 each_below (x ∷ y ∷ zs) n p e h =
     let b = p.1.0 in
     let c = sum-cons x (y ∷ zs) in
-    let d = sum-cons y zs in
-    (omega arith, All-map (λ s. s ≤ n - 1) (λ s. s < n) (λ s k. omega arith) (y ∷ zs) (each_within (y ∷ zs) (n - 1) (omega arith)))
+    let d = sum-cons y zs in (
+      omega arith,
+      All-map (λ s. s ≤ n - 1) (λ s. s < n) (λ s k. omega arith) (y ∷ zs) (each_within (y ∷ zs) (n - 1) (omega arith)),
+    )
 
 -- two shares or more are each below what is cut
 pub shares-below : (T : Table) (n : ℕ) → 2 ≤ length (shares T n) → AllByRecursion (λ s. s < n) (shares T n)
@@ -118,7 +132,8 @@ shares-none act n e = search (rules)
 -- nothing is not cut
 pub zero_uncut : (T : Table) → 2 ≤ length (shares T 0) → ⊥
 zero_uncut T h =
-    let none : (xs : List ℕ) → 2 ≤ length xs → AllByRecursion (λ s. s < 0) xs → ⊥ = elim [ [] ↦ λ l a. omega arith | x ∷ xs ↦ λ l a. omega (arith, a.0) ] in
+    let none : (xs : List ℕ) → 2 ≤ length xs → AllByRecursion (λ s. s < 0) xs → ⊥ =
+    elim [ [] ↦ λ l a. omega arith | x ∷ xs ↦ λ l a. omega (arith, a.0) ] in
     none (shares T 0) h (shares-below T 0 h)
 
 weights-positive : (ws : List ℕ) → AllByRecursion (λ w. (1 ≤ w) × (w ≤ 1024)) ws → length ws ≤ sum ws
@@ -131,7 +146,10 @@ sum-cut act n h e = search (rules, weights-positive, sum-without_zeros, sum-spli
 
 act_in-IsAct : (rows : List Row) (n : ℕ) → AllByRecursion (λ row. IsAct row.act) rows → IsAct (act_in rows n)
 act_in-IsAct [] n h = tt
-act_in-IsAct (row ∷ rows) n h = elim (nat_le n row.upto) as (λ b. IsAct (cond b row.act (act_in rows n))) [ true ↦ h.0 | false ↦ act_in-IsAct rows n h.1 ]
+act_in-IsAct (row ∷ rows) n h = elim (nat_le n row.upto) as (λ b. IsAct (cond b row.act (act_in rows n))) [
+  | true ↦ h.0
+  | false ↦ act_in-IsAct rows n h.1
+]
 
 pub cut : (T : Table) → IsTable T → (n : ℕ) → IsTrue (is_split (act T n)) → IsCut n (shares T n)
 cut T t n e = grind (arith, shares_by-positive, sum-cut, act_in-IsAct, shares-below)
@@ -144,12 +162,22 @@ served [] i n l h = absurd (omega arith)
 served (row ∷ rows) i n l h =
     let either : (b : Bool) → nat_le n row.upto ≡ b → HasRow (row ∷ rows) n =
     elim [
-      | true ↦ λ e. ([], row, rows, refl, tt, leb-true n row.upto e, cond-true (nat_le n row.upto) row.act (act_in rows n) e)
+      | true ↦
+          λ e. ([], row, rows, refl, tt, leb-true n row.upto e, cond-true (nat_le n row.upto) row.act (act_in rows n) e)
       | false ↦ λ e.
           let past = leb-false n row.upto e in
-          let later : (j : ℕ) → j < length (row ∷ rows) → n ≤ slice_index (map (λ r. r.upto) (row ∷ rows)) j → HasRow rows n = elim [ zero ↦ λ k m. absurd (omega arith) | suc j ↦ λ k m. served rows j n (omega arith) m ] in
-          let found = later i l h in
-          (row ∷ found.0, found.1, found.2, ap (λ rs. row ∷ rs) found.3, (past, found.4), found.5, cond-false (nat_le n row.upto) row.act (act_in rows n) e ∙ found.6)
+          let later : (j : ℕ) → j < length (row ∷ rows) →
+          n ≤ slice_index (map (λ r. r.upto) (row ∷ rows)) j → HasRow rows n =
+          elim [ zero ↦ λ k m. absurd (omega arith) | suc j ↦ λ k m. served rows j n (omega arith) m ] in
+          let found = later i l h in (
+            row ∷ found.0,
+            found.1,
+            found.2,
+            ap (λ rs. row ∷ rs) found.3,
+            (past, found.4),
+            found.5,
+            cond-false (nat_le n row.upto) row.act (act_in rows n) e ∙ found.6,
+          )
     ] in
     either (nat_le n row.upto) refl
 
@@ -157,7 +185,8 @@ length-uptos : (rows : List Row) → length (map (λ row. row.upto) rows) ≡ le
 length-uptos [] = refl
 length-uptos (row ∷ rows) = ap suc (length-uptos rows)
 
-none_reach : (rows : List Row) → length rows ≡ 0 → slice_index (map (λ row. row.upto) rows) (length (map (λ row. row.upto) rows) - 1) ≡ 0
+none_reach : (rows : List Row) → length rows ≡ 0 →
+    slice_index (map (λ row. row.upto) rows) (length (map (λ row. row.upto) rows) - 1) ≡ 0
 none_reach rows e = grind (arith, common_steps)
 
 pub each_served : (T : Table) → IsTable T → (n : ℕ) → n ≤ T.cap → HasRow T.rows n
@@ -176,19 +205,25 @@ rows_within T t k h = uptos-from_end T t (length (uptos T) - 1 - k) k (omega ari
 -- ---- counts that are not cut
 
 pub many : (T : Table) (n : ℕ) → is_stuck T n ≡ false → IsTrue (is_split (act T n)) → 2 ≤ length (shares T n)
-many T n e s = elim (and_cases (is_split (act T n)) (nat_lt (length (shares T n)) 2) e) [ inl uncut ↦ absurd (cc) | inr few ↦ ltb-false (length (shares T n)) 2 few ]
+many T n e s = elim (and_cases (is_split (act T n)) (nat_lt (length (shares T n)) 2) e) [
+  | inl uncut ↦ absurd (cc)
+  | inr few ↦ ltb-false (length (shares T n)) 2 few
+]
 
 pub not_stuck : (T : Table) (n : ℕ) → (IsTrue (is_split (act T n)) → 2 ≤ length (shares T n)) → is_stuck T n ≡ false
 not_stuck T n h = grind arith
 
 -- ---- what was a field of `Accepted`
 
-passes_after : (p : Row → Bool) (before : List Row) (row : Row) (after : List Row) → p row ≡ true → list_any p (before ++ row ∷ after) ≡ true
+passes_after : (p : Row → Bool) (before : List Row) (row : Row) (after : List Row) → p row ≡ true →
+    list_any p (before ++ row ∷ after) ≡ true
 passes_after p [] row after e = or_left (p row) (list_any p after) e
-passes_after p (r ∷ before) row after e = or_right (p r) (list_any p (before ++ row ∷ after)) (passes_after p before row after e)
+passes_after p (r ∷ before) row after e =
+    or_right (p r) (list_any p (before ++ row ∷ after)) (passes_after p before row after e)
 
 pub covers : (T : Table) → IsTable T → list_any (λ row. nat_le T.cap row.upto) T.rows ≡ true
 covers T t =
     let found = each_served T t T.cap (omega arith) in
-    let here = passes_after (λ row. nat_le T.cap row.upto) found.0 found.1 found.2 (le-leb T.cap found.1.upto found.5) in
+    let here =
+    passes_after (λ row. nat_le T.cap row.upto) found.0 found.1 found.2 (le-leb T.cap found.1.upto found.5) in
     ap (list_any (λ row. nat_le T.cap row.upto)) found.3 ∙ here

@@ -2,11 +2,15 @@
 //! docs/LAWS.md, which tells it in words and says why it holds.
 #![tactic(auto)]
 
-ghost use Rattle.std.specs.Prelude.{ℕ, List, [], ◌∷◌, Ok, Err, Some, Option, None, ◌≡◌, ◌↔◌, ◌≤◌, ◌<◌, ◌+◌, ◌-◌, length, slice_index, nat_le, IsTrue};
+ghost use Rattle.std.specs.Prelude.{ℕ, List, [], ◌∷◌, Ok, Err, Some, Option, None, ◌≡◌, ◌↔◌, ◌≤◌, ◌<◌, ◌+◌, ◌-◌};
+ghost use Rattle.std.specs.Prelude.{length, slice_index, nat_le, IsTrue};
 ghost use Rattle.std.specs.List.{list_all, list_any};
 ghost use Rattle.std.specs.List.Sorted.{IsStrictlyIncreasing};
 ghost use Rattle.definitions.specs.Strategies.{Table, act, shares, is_split, IsTable, uptos};
-ghost use Rattle.definitions.specs.Ranks.{IsRankTable, IsLeastRankTable, Accepted, keeps_limit, least_ranks, first_long, first_stuck, first_unfit, check_fault, check_with_fault, deep_fault, rank_by, ranks_by, IsStaircase, staircase, steps_fault, IsServing, found};
+ghost use Rattle.definitions.specs.Ranks.{IsRankTable, IsLeastRankTable, Accepted, keeps_limit, least_ranks};
+ghost use Rattle.definitions.specs.Ranks.{first_long, first_stuck, first_unfit, check_fault, check_with_fault};
+ghost use Rattle.definitions.specs.Ranks.{deep_fault, rank_by, ranks_by, IsStaircase, staircase, steps_fault};
+ghost use Rattle.definitions.specs.Ranks.{IsServing, found};
 ghost use Rattle.rank_laws.specs.Laws.{HasRow, IsCut, IsGradual, IsGreatest};
 ghost use Rattle.definitions.specs.Climbs.{find_steps, deep_by_steps, check_by_steps};
 

@@ -1,5 +1,6 @@
 -- What holds of each table holds after a message was noted, and after a session was closed.
-use Rattle.std.proofs.Common.{◌≡◌, ◌⊎◌, ℕ, ◌+◌, ◌<◌, ◌≤◌, Option, Some, None, cond, is_some, refl, ap, sym, ◌∙◌, inl, inr, arith, true}
+use Rattle.std.proofs.Common.{◌≡◌, ◌⊎◌, ℕ, ◌+◌, ◌<◌, ◌≤◌, Option, Some, None, cond, is_some, refl, ap, sym, ◌∙◌, inl}
+use Rattle.std.proofs.Common.{inr, arith, true}
 use Rattle.std.proofs.lemmas.Bool.{cases_eq}
 use Rattle.std.proofs.lemmas.List.Sums.{sum_by-set}
 use Rattle.slab.specs.Slab.{Slab, get, slab_len, with_value, Updates}
@@ -38,13 +39,16 @@ pub record Was (old : Slab Session) (key : ℕ) (s : Session) : Type 0 where
   pub serial : session.serial ≡ s.serial
 
 module _ (capacity : ℕ) (next : Option ℕ) (T : Totals) where
-  there_before : (old new : Slab Session) (key : ℕ) → Updates old new key None → (k : ℕ) (s : Session) → get new k ≡ Some s → get old k ≡ Some s
+  there_before : (old new : Slab Session) (key : ℕ) → Updates old new key None → (k : ℕ) (s : Session) →
+      get new k ≡ Some s → get old k ≡ Some s
   there_before old new key updates k s at = elim (cases_eq k key) [
     | inl same ↦ let none : get new k ≡ None = ap (get new) same ∙ updates.changed in cc
     | inr differs ↦ sym (updates.others k differs) ∙ at
   ]
 
-  pub IsTable-closed : (old new : Slab Session) (key : ℕ) (kind : CloseKind) → IsTable (table_of capacity next old T) → Updates old new key None → slab_len new + 1 ≡ slab_len old → IsTable (table_of capacity next new (with_closed kind T))
+  pub IsTable-closed : (old new : Slab Session) (key : ℕ) (kind : CloseKind) →
+      IsTable (table_of capacity next old T) → Updates old new key None → slab_len new + 1 ≡ slab_len old →
+      IsTable (table_of capacity next new (with_closed kind T))
   IsTable-closed old new key kind t updates len =
       let opened = with_closed-opened kind T in
       let messages = with_closed-messages kind T in
@@ -60,38 +64,51 @@ module _ (capacity : ℕ) (next : Option ℕ) (T : Totals) where
             let l = t.live k s (there_before old new key updates k s at) in
             record { within = l.within; before_next = l.before_next; from_first = omega (arith, l.from_first) };
         once = λ k other s u at there same.
-            t.once k other s u (there_before old new key updates k s at) (there_before old new key updates other u there) same;
+            t.once k other s u (there_before old new key updates k s at)
+            (there_before old new key updates other u there) same;
       }
 
-  noted_len : (old : Slab Session) (key : ℕ) (s u : Session) → get old key ≡ Some s → slab_len (with_value old key u) ≡ slab_len old
+  noted_len : (old : Slab Session) (key : ℕ) (s u : Session) → get old key ≡ Some s →
+      slab_len (with_value old key u) ≡ slab_len old
   noted_len old key s u found =
       let present : is_some (get old key) ≡ true = ap is_some found in
       let counts : cond (is_some (get old key)) 1 0 + 0 ≡ 1 = rw present in
-      omega (arith, counts, sum_by-set (λ o. cond (is_some o) 1 0) old.slots key (Some u) None (ContainsKey-within old key present))
+      omega (
+        arith,
+        counts,
+        sum_by-set (λ o. cond (is_some o) 1 0) old.slots key (Some u) None (ContainsKey-within old key present),
+      )
 
-  noted_cases : (old : Slab Session) (key : ℕ) (s : Session) → get old key ≡ Some s → (k : ℕ) (u : Session) → get (with_value old key (with_one_more s)) k ≡ Some u → ((k ≡ key) × (with_one_more s ≡ u)) ⊎ (get old k ≡ Some u)
+  noted_cases : (old : Slab Session) (key : ℕ) (s : Session) → get old key ≡ Some s → (k : ℕ) (u : Session) →
+      get (with_value old key (with_one_more s)) k ≡ Some u → ((k ≡ key) × (with_one_more s ≡ u)) ⊎ (get old k ≡ Some u)
   noted_cases old key s found k u at =
       let updates = Updates-with_value old key (with_one_more s) (ap is_some found) in
       elim (cases_eq k key) [
         | inl same ↦
-            let now : get (with_value old key (with_one_more s)) k ≡ Some (with_one_more s) = ap (get (with_value old key (with_one_more s))) same ∙ updates.changed in
+            let now : get (with_value old key (with_one_more s)) k ≡ Some (with_one_more s) =
+            ap (get (with_value old key (with_one_more s))) same ∙ updates.changed in
             inl (same, cc)
         | inr differs ↦ inr (sym (updates.others k differs) ∙ at)
       ]
 
-  noted_was : (old : Slab Session) (key : ℕ) (s : Session) → get old key ≡ Some s → (k : ℕ) (u : Session) → get (with_value old key (with_one_more s)) k ≡ Some u → Was old k u
+  noted_was : (old : Slab Session) (key : ℕ) (s : Session) → get old key ≡ Some s → (k : ℕ) (u : Session) →
+      get (with_value old key (with_one_more s)) k ≡ Some u → Was old k u
   noted_was old key s found k u at = elim (noted_cases old key s found k u at) [
     | inl here ↦ record { session = s; there = ap (get old) here.0 ∙ found; serial = ap (λ v. v.serial) here.1 }
     | inr before ↦ record { session = u; there = before; serial = refl }
   ]
 
-  noted_within : (old : Slab Session) (key : ℕ) (s : Session) → IsTable (table_of capacity next old T) → get old key ≡ Some s → s.sent < s.bound → (k : ℕ) (u : Session) → get (with_value old key (with_one_more s)) k ≡ Some u → u.sent ≤ u.bound
+  noted_within : (old : Slab Session) (key : ℕ) (s : Session) → IsTable (table_of capacity next old T) →
+      get old key ≡ Some s → s.sent < s.bound → (k : ℕ) (u : Session) →
+      get (with_value old key (with_one_more s)) k ≡ Some u → u.sent ≤ u.bound
   noted_within old key s t found below k u at = elim (noted_cases old key s found k u at) [
     | inl here ↦ rw (← here.1) (omega arith)
     | inr before ↦ (t.live k u before).within
   ]
 
-  pub IsTable-noted : (old : Slab Session) (key : ℕ) (s : Session) → IsTable (table_of capacity next old T) → get old key ≡ Some s → s.sent < s.bound → IsTable (table_of capacity next (with_value old key (with_one_more s)) (with_message T))
+  pub IsTable-noted : (old : Slab Session) (key : ℕ) (s : Session) →
+      IsTable (table_of capacity next old T) → get old key ≡ Some s → s.sent < s.bound →
+      IsTable (table_of capacity next (with_value old key (with_one_more s)) (with_message T))
   IsTable-noted old key s t found below =
       let len = noted_len old key s (with_one_more s) found in
       record {

@@ -16,7 +16,8 @@ table_fault_number OverBound = codes.over_bound
 table_fault_number SerialsSpent = codes.serials_spent
 
 abbrev pub opening_fault : Table → Option ℕ
-opening_fault t = if live_count t == t.capacity then Some codes.table_full else if t.next == end_of_serials then Some codes.serials_spent else None
+opening_fault t = if live_count t == t.capacity then Some codes.table_full else if t.next == end_of_serials
+    then Some codes.serials_spent else None
 
 abbrev pub sending_fault : Option Session → Option ℕ
 sending_fault None = Some codes.unknown

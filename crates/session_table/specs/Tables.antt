@@ -5,7 +5,8 @@
 --     live_count t, session_of t i   the number of live sessions; the live session that an id names
 --     Opened, Noted, Closed          a table before and after a session was opened, a message noted, a session closed
 --     IsLater old new                what holds after any number of calls
-use Rattle.std.specs.Prelude.{◌≡◌, ◌≢◌, ℕ, ◌+◌, ◌-◌, ◌<◌, ◌≤◌, ◌^◌, List, [], Option, Some, None, is_some, count_by, slice_index_or, option_map}
+use Rattle.std.specs.Prelude.{◌≡◌, ◌≢◌, ℕ, ◌+◌, ◌-◌, ◌<◌, ◌≤◌, ◌^◌, List, [], Option, Some, None, is_some, count_by}
+use Rattle.std.specs.Prelude.{slice_index_or, option_map}
 use Rattle.session_table.specs.Sessions.{Session, Id, with_serial, with_one_more}
 use Rattle.session_table.specs.Counts.{no_totals, with_opened, with_message, with_closed, closed_count, most_messages}
 use Rattle.session_table.specs.declared.totals.Totals.{Totals}
@@ -64,7 +65,8 @@ pub record IsTable (t : Table) : Type 0 where
   pub messages : t.totals.messages ≤ most_messages
   pub live : (key : ℕ) (s : Session) → session_at t key ≡ Some s → IsLive t s
   -- no two live sessions have one serial
-  pub once : (key other : ℕ) (s u : Session) → session_at t key ≡ Some s → session_at t other ≡ Some u → s.serial ≡ u.serial → key ≡ other
+  pub once : (key other : ℕ) (s u : Session) → session_at t key ≡ Some s → session_at t other ≡ Some u →
+      s.serial ≡ u.serial → key ≡ other
 
 -- the id names this after, and every other id names what it named before; the capacity is the same
 pub record Changes (old new : Table) (i : Id) (session : Option Session) : Type 0 where

@@ -1,5 +1,6 @@
 ghost use Rattle.std.specs.Prelude.{◌≡◌, IfOk, OnOk, OnErr};
-ghost use Rattle.session_table.specs.Tables.{IsTable, IsCapacity, IsSerial, new_table, live_count, Opened, Noted, Closed, IsLater};
+ghost use Rattle.session_table.specs.Tables.{IsTable, IsCapacity, IsSerial, new_table, live_count, Opened, Noted};
+ghost use Rattle.session_table.specs.Tables.{Closed, IsLater};
 ghost use Rattle.session_table.specs.Faults.{opening_fault, note_fault, close_fault, fault_in};
 
 use crate::fault::TableFault;

@@ -1,8 +1,8 @@
 -- Why files are refused.
 --     of_input f                     the fault of an input that was not read
 --     of_strategy e                  the fault of a text that is no strategy
---     IsSetOf items_in text cap result   what an item file gives: the set of its items; or its first bad line, or that the set has
---                                        more items than cap; or memory ran out
+--     IsSetOf items_in text cap result   what an item file gives: the set of its items; or its first bad line, or that
+--                                        the set has more items than cap; or memory ran out
 use Rattle.std.specs.Prelude.{ℕ, ◌≡◌, ◌≤◌, ◌<◌, List, length, Result, Ok, Err, ⊤}
 use Rattle.definitions.specs.Items.{Item}
 use Rattle.definitions.specs.Sets.{set_of}
@@ -12,7 +12,8 @@ use Rattle.strategy_core.specs.declared.fault.StrategyError.{StrategyError}
 use Rattle.strategy_core.specs.declared.fault.StrategyError.TheVariants as strategies
 use Rattle.settings_core.specs.ItemFiles.{file_items}
 use Rattle.settings_core.specs.declared.fault.SettingsFault.{SettingsFault}
-use Rattle.settings_core.specs.declared.fault.SettingsFault.TheVariants.{CannotRead, BadItemLine, TooManyItems, Strategy, Memory}
+use Rattle.settings_core.specs.declared.fault.SettingsFault.TheVariants.{CannotRead, BadItemLine, TooManyItems}
+use Rattle.settings_core.specs.declared.fault.SettingsFault.TheVariants.{Strategy, Memory}
 
 abbrev pub of_input : InputFault → SettingsFault
 of_input inputs.CannotRead = CannotRead

@@ -1,6 +1,7 @@
 -- What the files of settings give.
 --     IsFileText text            bytes that a file of settings may hold
---     IsStrategyOf text result   what a strategy file gives: the strategy of its text, or that text's fault; or memory ran out
+--     IsStrategyOf text result   what a strategy file gives: the strategy of its text, or that text's fault; or memory
+--                                ran out
 --     IsFromFile gives result    the result of some such text; or the file was not read; or memory ran out
 -- What a file holds, no contract can name.
 use Rattle.std.specs.Prelude.{◌≡◌, ◌⊎◌, ◌≤◌, ℕ, List, length, Result, Ok, Err, ⊤}

@@ -2,9 +2,11 @@
 --     lines text         what stands before, between and behind the line feeds
 --     digits_in line     a line without one carriage return at its end, and then without the blanks at both ends
 --     line_items line    no item where nothing is left, else the item that the digits spell; None where they spell none
---     items_from n ls    the items of these lines, of which the first has the number n, or the number of the first bad line
+--     items_from n ls    the items of these lines, of which the first has the number n, or the number of the first bad
+--                        line
 --     file_items text    the items of a file, or the number of its first bad line, from 1
-use Rattle.std.specs.Prelude.{ℕ, ◌+◌, ◌==◌, Bool, ◌&&◌, ◌||◌, List, [], ◌∷◌, ◌++◌, reverse, length, nat_le, if◌then◌else◌, Option, Some, None, option_map, Result, Ok, Err}
+use Rattle.std.specs.Prelude.{ℕ, ◌+◌, ◌==◌, Bool, ◌&&◌, ◌||◌, List, [], ◌∷◌, ◌++◌, reverse, length, nat_le}
+use Rattle.std.specs.Prelude.{if◌then◌else◌, Option, Some, None, option_map, Result, Ok, Err}
 use Rattle.std.specs.List.{slice_split}
 use Rattle.std.specs.Io.BufRead.{strip_last}
 use Rattle.hex.specs.Hex.{decode_of}

@@ -3,13 +3,15 @@
 //! A carriage return at a line's end, then spaces and tabs at both its ends, and blank lines are ignored; an item
 //! given twice counts once.
 
-ghost use Rattle.std.specs.Prelude.{◌≡◌, ◌≢◌, ◌<◌, ◌≤◌, ℕ, List, [], ◌∷◌, ◌++◌, length, IfOk, IfErr, IfSome, OnOk, option_map, Some, None, Ok, Err};
+ghost use Rattle.std.specs.Prelude.{◌≡◌, ◌≢◌, ◌<◌, ◌≤◌, ℕ, List, [], ◌∷◌, ◌++◌, length, IfOk, IfErr, IfSome, OnOk};
+ghost use Rattle.std.specs.Prelude.{option_map, Some, None, Ok, Err};
 ghost use Rattle.definitions.specs.Items.{Item as Bytes};
 ghost use Rattle.hex.specs.Hex.{decode_of};
 ghost use Rattle.definitions.specs.Sets.{IsSet};
 ghost use Rattle.settings_core.specs.Faults.{IsSetOf};
 ghost use Rattle.settings_core.specs.Files.{IsFromFile};
-ghost use Rattle.settings_core.specs.ItemFiles.{is_blank, without_front, without_end, digits_in, decoded, line_items, lines, lines_in, file_items};
+ghost use Rattle.settings_core.specs.ItemFiles.{is_blank, without_front, without_end, digits_in, decoded, line_items};
+ghost use Rattle.settings_core.specs.ItemFiles.{lines, lines_in, file_items};
 
 use crate::fault::SettingsFault;
 use crate::file::read_file;

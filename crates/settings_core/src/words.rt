@@ -315,7 +315,8 @@ fn sessions_in(matches: &ArgMatches<'_>) -> Option<Option<u32>>
 
 /// The wire profile, which `clap` has read as 1 or 2.
 fn profile_in(matches: &ArgMatches<'_>) -> Option<WireProfile>
-    ensures { Finds (λ p. IsNumber (codes "profile") (rows_of (found_of matches.now)) (Some (profile_number p))) result }
+    ensures { Finds
+        (λ p. IsNumber (codes "profile") (rows_of (found_of matches.now)) (Some (profile_number p))) result }
 {
     let number = matches.get_one::<u8>("profile")?;
     match number {

@@ -1,5 +1,6 @@
 -- A session that was finished has ended: the deliveries of a finish are those of the law.
-use Rattle.std.proofs.Common.{◌≡◌, ℕ, zero, suc, ◌+◌, ◌<◌, ◌≤◌, Bool, true, false, List, [], ◌∷◌, ◌++◌, set, slice_get, Option, Some, None, refl, sym, ap, subst, ◌∙◌, take, length, get_or}
+use Rattle.std.proofs.Common.{◌≡◌, ℕ, zero, suc, ◌+◌, ◌<◌, ◌≤◌, Bool, true, false, List, [], ◌∷◌, ◌++◌, set, slice_get}
+use Rattle.std.proofs.Common.{Option, Some, None, refl, sym, ap, subst, ◌∙◌, take, length, get_or}
 use Rattle.std.specs.Prelude.{Result, Ok, Err, OnOk, if◌then◌else◌}
 use Rattle.std.proofs.lemmas.List.{take_more}
 use Rattle.definitions.proofs.Words.{World, Session, two_lanes, has_ended, step, run, deliveries}
@@ -31,7 +32,8 @@ IdleBehind w k p = is_sent p.1 ≡ false → IsIdle p.0 k
 none_idle : (w : World) (k : ℕ) → slice_get w.sessions k ≡ None → IsIdle w k
 none_idle w k e = ap (λ p. p.0) (ap (deliver_at two_lanes w k) e)
 
-over_idle : (w : World) (k : ℕ) (s : Session) → slice_get w.sessions k ≡ Some s → has_ended two_lanes w s ≡ true → IsIdle w k
+over_idle : (w : World) (k : ℕ) (s : Session) → slice_get w.sessions k ≡ Some s → has_ended two_lanes w s ≡ true →
+    IsIdle w k
 over_idle w k s e over =
     ap (λ p. p.0) (ap (deliver_at two_lanes w k) e ∙ cond-true (has_ended two_lanes w s) _ _ over)
 
@@ -81,10 +83,12 @@ pub record HasDone (w v : World) (es : List ScenarioStep) : Type 0 where
   pub world : v ≡ after_steps w es
   pub ended : FinishesEnd w es
 
-pub does_more : (w v u : World) (es : List ScenarioStep) (i : ℕ) (e : ScenarioStep) → i < length es → e ≡ get_or es i e →
+pub does_more : (w v u : World) (es : List ScenarioStep) (i : ℕ) (e : ScenarioStep) → i < length es →
+    e ≡ get_or es i e →
     HasDone w v (take i es) → u ≡ after_step v e → EndsFinished e u → HasDone w u (take (i + 1) es)
 does_more w v u es i e more read done is ended =
-    let next : take (i + 1) es ≡ take i es ++ e ∷ [] = take_more es i e more ∙ ap (λ d. take i es ++ d ∷ []) (sym read) in
+    let next : take (i + 1) es ≡ take i es ++ e ∷ [] =
+    take_more es i e more ∙ ap (λ d. take i es ++ d ∷ []) (sym read) in
     let here : u ≡ after_step (after_steps w (take i es)) e = is ∙ ap (λ x. after_step x e) done.world in
     subst (HasDone w u) (sym next)
     record {

@@ -1,5 +1,6 @@
 -- Plain digits are a numeral without a sign.
-use Rattle.std.proofs.Common.{◌≡◌, ◌<◌, ◌^◌, ℕ, List, [], ◌∷◌, length, Bool, true, false, None, Result, Err, refl, subst, arith}
+use Rattle.std.proofs.Common.{◌≡◌, ◌<◌, ◌^◌, ℕ, List, [], ◌∷◌, length, Bool, true, false, None, Result, Err, refl}
+use Rattle.std.proofs.Common.{subst, arith}
 use Rattle.std.specs.Prelude.{nat_lt}
 use Rattle.std.specs.Char.{is_ascii_digit, digit_value}
 use Rattle.std.specs.List.{list_all}
@@ -12,7 +13,8 @@ digit_small d h = grind arith
 
 all_small : (ds : List ℕ) → list_all is_ascii_digit ds ≡ true → AllDigits 10 ds
 all_small [] h = tt
-all_small (d ∷ ds) h = let both = and_parts (is_ascii_digit d) (list_all is_ascii_digit ds) h in (digit_small d both.0, all_small ds both.1)
+all_small (d ∷ ds) h = let both = and_parts (is_ascii_digit d) (list_all is_ascii_digit ds) h in
+    (digit_small d both.0, all_small ds both.1)
 
 plain_digits : (ds : List ℕ) → is_plain ds ≡ true → list_all is_ascii_digit ds ≡ true
 plain_digits [] h = refl
@@ -26,9 +28,13 @@ plain_unsigned : (ds : List ℕ) → is_plain ds ≡ true → without_leading_pl
 plain_unsigned ds h = grind arith
 
 -- where the parse refuses them, they are too great
-pub number_none : {E : Type 0} (ds : List ℕ) (r : Result ℕ E) (x : E) → is_plain ds ≡ true → ParsesUnsigned 32 10 ds r → r ≡ Err x → None ≡ number_of ds
-number_none ds r x h p e = given (nat_lt (digits_value 10 ds) 4294967296) refl (subst (λ bs. IsNumeral 10 bs × (digits_value 10 bs < 2 ^ 32) → ⊥) (plain_unsigned ds h) (subst (ParsesUnsigned 32 10 ds) e p))
+pub number_none : {E : Type 0} (ds : List ℕ) (r : Result ℕ E) (x : E) → is_plain ds ≡ true → ParsesUnsigned 32 10 ds r →
+    r ≡ Err x → None ≡ number_of ds
+number_none ds r x h p e = given (nat_lt (digits_value 10 ds) 4294967296) refl (subst (λ bs. IsNumeral 10 bs
+    × (digits_value 10 bs < 2 ^ 32) → ⊥) (plain_unsigned ds h) (subst (ParsesUnsigned 32 10 ds) e p))
   where
-    given : (b : Bool) → nat_lt (digits_value 10 ds) 4294967296 ≡ b → (IsNumeral 10 ds × (digits_value 10 ds < 2 ^ 32) → ⊥) → None ≡ number_of ds
-    given true low said = absurd (said ((plain_some ds h, all_small ds (plain_digits ds h)), ltb-true (digits_value 10 ds) 4294967296 low))
+    given : (b : Bool) → nat_lt (digits_value 10 ds) 4294967296 ≡ b →
+        (IsNumeral 10 ds × (digits_value 10 ds < 2 ^ 32) → ⊥) → None ≡ number_of ds
+    given true low said = absurd
+        (said ((plain_some ds h, all_small ds (plain_digits ds h)), ltb-true (digits_value 10 ds) 4294967296 low))
     given false low said = cc (h, low)

@@ -1,5 +1,6 @@
 -- What was read of an array, in front of what is still to be read.
-use Rattle.std.proofs.Common.{◌≡◌, ℕ, suc, ◌+◌, ◌<◌, ◌≤◌, Bool, List, [], ◌∷◌, ◌++◌, length, drop, refl, sym, ap, ◌∙◌, arith}
+use Rattle.std.proofs.Common.{◌≡◌, ℕ, suc, ◌+◌, ◌<◌, ◌≤◌, Bool, List, [], ◌∷◌, ◌++◌, length, drop, refl, sym, ap, ◌∙◌}
+use Rattle.std.proofs.Common.{arith}
 use Rattle.std.specs.Prelude.{Result, Ok, Err, ◌&&◌, slice_index_or}
 use Rattle.std.specs.List.{list_all}
 use Rattle.std.proofs.lemmas.List.{append_assoc, append-nil, drop_more, drop_all}
@@ -14,8 +15,10 @@ use Rattle.sim_core.specs.declared.scenario_fault.ScenarioError.TheVariants as e
 
 -- ---- the values of an array
 
-pub items_next : (xs : List Value) (i : ℕ) (v : Value) → i < length xs → v ≡ slice_index_or xs i v → items_view (drop i xs) ≡ item (view v) (items_view (drop (i + 1) xs))
-items_next xs i v here is = ap items_view (drop_more xs i v here) ∙ ap (λ (u : Value). item (view u) (items_view (drop (i + 1) xs))) (sym is)
+pub items_next : (xs : List Value) (i : ℕ) (v : Value) → i < length xs → v ≡ slice_index_or xs i v →
+    items_view (drop i xs) ≡ item (view v) (items_view (drop (i + 1) xs))
+items_next xs i v here is =
+    ap items_view (drop_more xs i v here) ∙ ap (λ (u : Value). item (view u) (items_view (drop (i + 1) xs))) (sym is)
 
 pub count_items : (xs : List Value) → items_count (items_view xs) ≡ length xs
 count_items [] = refl
@@ -42,26 +45,37 @@ behind_nothing (Err f) = refl
 pub read_start : {A : Type 0} (read : ℕ → Data → Result A ScenarioFault) (vs : List Value) → ReadTo read vs 0 []
 read_start read vs = behind_nothing (each_from read 0 (items_view vs))
 
-behind_one : {A : Type 0} (xs : List A) (x : A) (r : Result (List A) ScenarioFault) → behind (xs ++ x ∷ []) r ≡ behind xs (r >>= λ ys. Ok (x ∷ ys))
+behind_one : {A : Type 0} (xs : List A) (x : A) (r : Result (List A) ScenarioFault) →
+    behind (xs ++ x ∷ []) r ≡ behind xs (r >>= λ ys. Ok (x ∷ ys))
 behind_one xs x (Ok ys) = ap Ok (append_assoc xs (x ∷ []) ys)
 behind_one xs x (Err f) = refl
 
 -- what the next one says of all
-next_says : {A : Type 0} (read : ℕ → Data → Result A ScenarioFault) (vs : List Value) (i : ℕ) (v : Value) (xs : List A) (said : Result A ScenarioFault) → i < length vs → v ≡ slice_index_or vs i v → read i (view v) ≡ said → ReadTo read vs i xs →
-    behind xs (said >>= λ x. each_from read (i + 1) (items_view (drop (i + 1) vs)) >>= λ ys. Ok (x ∷ ys)) ≡ each_from read 0 (items_view vs)
+next_says : {A : Type 0} (read : ℕ → Data → Result A ScenarioFault) (vs : List Value) (i : ℕ) (v : Value) (xs : List A)
+    (said : Result A ScenarioFault) → i < length vs → v ≡ slice_index_or vs i v → read i (view v) ≡ said →
+    ReadTo read vs i xs →
+    behind xs (said >>= λ x. each_from read (i + 1) (items_view (drop (i + 1) vs)) >>= λ ys. Ok (x ∷ ys))
+    ≡ each_from read 0 (items_view vs)
 next_says read vs i v xs said here is e h =
     ap (λ r. behind xs (r >>= λ x. each_from read (i + 1) (items_view (drop (i + 1) vs)) >>= λ ys. Ok (x ∷ ys))) (sym e)
     ∙ sym (ap (λ (ds : Items). behind xs (each_from read i ds)) (items_next vs i v here is)) ∙ h
 
-pub read_on : {A : Type 0} (read : ℕ → Data → Result A ScenarioFault) (vs us : List Value) (i : ℕ) (v : Value) (xs : List A) (x : A) → us ≡ vs → i < length us → v ≡ slice_index_or us i v → read i (view v) ≡ Ok x → ReadTo read vs i xs → ReadTo read vs (i + 1) (xs ++ x ∷ [])
+pub read_on : {A : Type 0} (read : ℕ → Data → Result A ScenarioFault) (vs us : List Value) (i : ℕ) (v : Value)
+    (xs : List A) (x : A) → us ≡ vs → i < length us → v ≡ slice_index_or us i v → read i (view v) ≡ Ok x →
+    ReadTo read vs i xs → ReadTo read vs (i + 1) (xs ++ x ∷ [])
 read_on read vs us i v xs x same here is e h =
     behind_one xs x (each_from read (i + 1) (items_view (drop (i + 1) vs)))
-    ∙ next_says read vs i v xs (Ok x) (omega (arith, ap length same)) (is ∙ ap (λ (ys : List Value). slice_index_or ys i v) same) e h
+    ∙ next_says read vs i v xs (Ok x) (omega (arith, ap length same))
+    (is ∙ ap (λ (ys : List Value). slice_index_or ys i v) same) e h
 
 -- an error, where memory did not run out, is the fault of the next one
-pub read_fails : {A : Type 0} (read : ℕ → Data → Result A ScenarioFault) (vs : List Value) (i : ℕ) (v : Value) (xs : List A) (e : ScenarioError) → i < length vs → v ≡ slice_index_or vs i v → Fails e (read i (view v)) → ReadTo read vs i xs → Fails e (each_from read 0 (items_view vs))
+pub read_fails : {A : Type 0} (read : ℕ → Data → Result A ScenarioFault) (vs : List Value) (i : ℕ) (v : Value)
+    (xs : List A) (e : ScenarioError) → i < length vs → v ≡ slice_index_or vs i v → Fails e (read i (view v)) →
+    ReadTo read vs i xs → Fails e (each_from read 0 (items_view vs))
 read_fails read vs i v xs errors.Memory here is said h = tt
 read_fails read vs i v xs (errors.Fault f) here is said h = sym (next_says read vs i v xs (Err f) here is said h)
 
-pub read_all : {A : Type 0} (read : ℕ → Data → Result A ScenarioFault) (vs : List Value) (i : ℕ) (xs : List A) → length vs ≤ i → ReadTo read vs i xs → each_from read 0 (items_view vs) ≡ Ok xs
-read_all read vs i xs past h = sym h ∙ ap (λ (ds : Items). behind xs (each_from read i ds)) (ap items_view (drop_all i vs past)) ∙ ap Ok (append-nil xs)
+pub read_all : {A : Type 0} (read : ℕ → Data → Result A ScenarioFault) (vs : List Value) (i : ℕ) (xs : List A) →
+    length vs ≤ i → ReadTo read vs i xs → each_from read 0 (items_view vs) ≡ Ok xs
+read_all read vs i xs past h = sym h
+    ∙ ap (λ (ds : Items). behind xs (each_from read i ds)) (ap items_view (drop_all i vs past)) ∙ ap Ok (append-nil xs)

@@ -4,7 +4,8 @@ use Rattle.std.specs.Prelude.{flat_map}
 use Rattle.std.specs.List.{range_with_len}
 use Rattle.std.proofs.lemmas.List.{append_assoc, append-nil}
 
-pub lines_more : (f : ℕ → List ℕ) (a n j : ℕ) → a + n ≡ j → flat_map f (range_with_len a (n + 1)) ≡ flat_map f (range_with_len a n) ++ f j
+pub lines_more : (f : ℕ → List ℕ) (a n j : ℕ) → a + n ≡ j →
+    flat_map f (range_with_len a (n + 1)) ≡ flat_map f (range_with_len a n) ++ f j
 lines_more f a zero j e = append-nil (f a) ∙ ap f (omega (arith, e))
 lines_more f a (suc n) j e =
     let longer : suc n + 1 ≡ suc (n + 1) = omega arith in

@@ -1,7 +1,8 @@
 -- What is printed of the sessions of a run.
 --     report_text k r     the three lines of the session of this number
 --     reports_text w      the lines of all sessions
-use Rattle.std.specs.Prelude.{ℕ, List, [], ◌∷◌, ◌++◌, codes, flat_map, length, Bool, ◌==◌, if◌then◌else◌, Option, Some, None}
+use Rattle.std.specs.Prelude.{ℕ, List, [], ◌∷◌, ◌++◌, codes, flat_map, length, Bool, ◌==◌, if◌then◌else◌, Option, Some}
+use Rattle.std.specs.Prelude.{None}
 use Rattle.std.specs.Fmt.{decimal}
 use Rattle.std.specs.List.{range_with_len}
 use Rattle.hex.specs.Hex.{encode_lower}
@@ -29,13 +30,17 @@ items_text xs = if length xs == 0 then codes " -" else flat_map item_text xs
 
 -- what a side learned, in rising order
 abbrev pub side_line : List ℕ → Knowledge → List ℕ
-side_line name k = name ++ (codes " ours" ++ (items_text (set_of k.ours) ++ (codes " theirs" ++ (items_text (set_of k.theirs) ++ codes "\n"))))
+side_line name k = name ++ (codes " ours"
+    ++ (items_text (set_of k.ours) ++ (codes " theirs" ++ (items_text (set_of k.theirs) ++ codes "\n"))))
 
 abbrev pub session_line : ℕ → Report → List ℕ
-session_line k r = codes "session " ++ (decimal k ++ (codes " messages " ++ (decimal r.messages ++ (codes " bound " ++ (bound_text r.bound ++ (codes " parts " ++ (decimal r.parts ++ (codes " " ++ (ending r.ended ++ codes "\n")))))))))
+session_line k r =
+    codes "session " ++ (decimal k ++ (codes " messages " ++ (decimal r.messages ++ (codes " bound " ++ (bound_text
+    r.bound ++ (codes " parts " ++ (decimal r.parts ++ (codes " " ++ (ending r.ended ++ codes "\n")))))))))
 
 abbrev pub report_text : ℕ → Report → List ℕ
-report_text k r = session_line k r ++ (side_line (codes "initiator") r.initiator_learned ++ side_line (codes "responder") r.responder_learned)
+report_text k r = session_line k r
+    ++ (side_line (codes "initiator") r.initiator_learned ++ side_line (codes "responder") r.responder_learned)
 
 -- the lines of a session, if there is one
 abbrev pub shown : ℕ → Option Report → List ℕ

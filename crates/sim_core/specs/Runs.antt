@@ -2,7 +2,8 @@
 --     after_steps w steps      the world behind the steps of a scenario
 --     FinishesEnd w steps      each session that was finished by them has ended
 --     sim_text s               what is printed of a scenario that was run
-use Rattle.std.specs.Prelude.{◌≡◌, ℕ, zero, suc, Bool, true, false, if◌then◌else◌, List, [], ◌∷◌, map, fold, slice_get, Some, IsTrue, ⊤}
+use Rattle.std.specs.Prelude.{◌≡◌, ℕ, zero, suc, Bool, true, false, if◌then◌else◌, List, [], ◌∷◌, map, fold, slice_get}
+use Rattle.std.specs.Prelude.{Some, IsTrue, ⊤}
 use Rattle.definitions.specs.Fingerprints.{two_lanes}
 use Rattle.definitions.specs.Histories.{opening_history}
 use Rattle.definitions.specs.Worlds as worlds
@@ -24,7 +25,8 @@ is_sent d = false
 -- a session's message made last is delivered until none follows, at most so many times
 abbrev pub delivered : ℕ → World → ℕ → World
 delivered zero w k = w
-delivered (suc n) w k = if is_sent (step two_lanes w (worlds.Deliver k)).1 then delivered n (step two_lanes w (worlds.Deliver k)).0 k else (step two_lanes w (worlds.Deliver k)).0
+delivered (suc n) w k = if is_sent (step two_lanes w (worlds.Deliver k)).1
+    then delivered n (step two_lanes w (worlds.Deliver k)).0 k else (step two_lanes w (worlds.Deliver k)).0
 
 -- no session has more than 3 + 2 * 255 messages
 abbrev pub after_step : World → ScenarioStep → World

@@ -1,8 +1,9 @@
--- What a TOML table says of a scenario, and what a text does. The tests stand in the order in which they are made: the first
--- that fails is the fault.
+-- What a TOML table says of a scenario, and what a text does. The tests stand in the order in which they are made: the
+-- first that fails is the fault.
 --     scenario_in members        the scenario of a table, or the fault
 --     Gives, Reads               what the readers return: the same, unless memory ran out
-use Rattle.std.specs.Prelude.{◌≡◌, ◌⊎◌, ℕ, ◌+◌, codes, Bool, true, false, ◌&&◌, nat_le, List, [], ◌∷◌, length, Option, Some, None, is_some, Result, Ok, Err, ⊤}
+use Rattle.std.specs.Prelude.{◌≡◌, ◌⊎◌, ℕ, ◌+◌, codes, Bool, true, false, ◌&&◌, nat_le, List, [], ◌∷◌, length, Option}
+use Rattle.std.specs.Prelude.{Some, None, is_some, Result, Ok, Err, ⊤}
 use Rattle.toml.specs.Data.{Data, Items, no_items, item, Members, get_member, as_str, as_array, as_table}
 use Rattle.definitions.specs.Items.{Item}
 use Rattle.definitions.specs.Sets.{set_of}
@@ -21,7 +22,8 @@ use Rattle.settings_core.specs.ItemFiles.{decoded}
 use Rattle.sim_core.specs.StepTexts.{step_of}
 use Rattle.sim_core.specs.declared.scenario.ScenarioStep.{ScenarioStep}
 use Rattle.sim_core.specs.declared.scenario_fault.ScenarioFault.{ScenarioFault}
-use Rattle.sim_core.specs.declared.scenario_fault.ScenarioFault.TheVariants.{Strategy, Check, TooManyItems, BadScenario, BadStep}
+use Rattle.sim_core.specs.declared.scenario_fault.ScenarioFault.TheVariants.{Strategy, Check, TooManyItems, BadScenario}
+use Rattle.sim_core.specs.declared.scenario_fault.ScenarioFault.TheVariants.{BadStep}
 use Rattle.sim_core.specs.declared.scenario_fault.ScenarioError.{ScenarioError}
 use Rattle.sim_core.specs.declared.scenario_fault.ScenarioError.TheVariants as errors
 
@@ -107,7 +109,8 @@ item_in d = present BadScenario (as_str d) >>= λ digits. present BadScenario (d
 
 -- `items`: texts that are each an item in hex; the set of these has at most this many
 abbrev pub items_in : ℕ → Members → Result (List Item) ScenarioFault
-items_in cap ms = array_at (codes "items") ms >>= λ ds. each_from (λ _ d. item_in d) 0 ds >>= λ xs. provided (nat_le (length (set_of xs)) cap) TooManyItems (set_of xs)
+items_in cap ms = array_at (codes "items") ms >>= λ ds. each_from (λ _ d. item_in d) 0 ds
+    >>= λ xs. provided (nat_le (length (set_of xs)) cap) TooManyItems (set_of xs)
 
 abbrev pub node_at : Members → Result NodeText ScenarioFault
 node_at ms = do

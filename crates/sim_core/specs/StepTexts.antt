@@ -1,7 +1,8 @@
 -- The steps of a scenario as texts.
 --     number_of digits      a decimal number below 2^32, without a sign and without a leading zero
 --     step_of text          the step that a text spells: a name, a space, and what belongs to it
-use Rattle.std.specs.Prelude.{ℕ, List, [], ◌∷◌, length, codes, Bool, false, ◌&&◌, ◌==◌, nat_lt, Option, Some, None, option_and_then, if◌then◌else◌}
+use Rattle.std.specs.Prelude.{ℕ, List, [], ◌∷◌, length, codes, Bool, false, ◌&&◌, ◌==◌, nat_lt, Option, Some, None}
+use Rattle.std.specs.Prelude.{option_and_then, if◌then◌else◌}
 use Rattle.std.specs.List.{list_all, position_or_len, before_first, after_first}
 use Rattle.std.specs.Char.{is_ascii_digit}
 use Rattle.std.specs.Str.Parse.{digits_value}
@@ -26,7 +27,8 @@ is_plain [] = false
 is_plain (d ∷ ds) = if d == 48 then length ds == 0 else is_ascii_digit d && list_all is_ascii_digit ds
 
 abbrev pub number_of : List ℕ → Option ℕ
-number_of digits = if is_plain digits && nat_lt (digits_value 10 digits) 4294967296 then Some (digits_value 10 digits) else None
+number_of digits =
+    if is_plain digits && nat_lt (digits_value 10 digits) 4294967296 then Some (digits_value 10 digits) else None
 
 -- ---- words
 
@@ -35,10 +37,12 @@ is_space b = b == 32
 
 -- what stands before the first space, and behind it, if there is one
 abbrev pub parted : List ℕ → Option (List ℕ × List ℕ)
-parted text = if nat_lt (position_or_len is_space text) (length text) then Some (before_first is_space text, after_first is_space text) else None
+parted text = if nat_lt (position_or_len is_space text) (length text)
+    then Some (before_first is_space text, after_first is_space text) else None
 
 abbrev pub side_of : List ℕ → Option Side
-side_of word = if same_item word (codes "initiator") then Some Initiator else if same_item word (codes "responder") then Some Responder else None
+side_of word = if same_item word (codes "initiator") then Some Initiator else if same_item word (codes "responder")
+    then Some Responder else None
 
 -- ---- steps
 

@@ -5,7 +5,8 @@ ghost use Rattle.definitions.specs.Sets.{set_of};
 ghost use Rattle.definitions.specs.Fingerprints.{two_lanes};
 ghost use Rattle.definitions.specs.Worlds as worlds;
 ghost use Rattle.world_core.specs.Reports.{knowledge_of, report_of};
-ghost use Rattle.sim_core.specs.Reports.{bound_text, ending, item_text, items_text, side_line, report_text, shown, reports_text};
+ghost use Rattle.sim_core.specs.Reports.{bound_text, ending, item_text, items_text, side_line, report_text, shown};
+ghost use Rattle.sim_core.specs.Reports.{reports_text};
 
 use item_core::Item;
 use std::alloc::{AllocError, Global};

@@ -4,7 +4,9 @@ ghost use Rattle.std.specs.Prelude.{◌≡◌, option_map};
 ghost use Rattle.std.specs.List.{list_all};
 ghost use Rattle.toml.specs.Data.{get_member};
 ghost use Rattle.toml.specs.View.{table_view, view, array_view};
-ghost use Rattle.sim_core.specs.Scenarios.{Gives, GivesField, Reads, each_from, array_at, is_table, is_text, are_nodes, are_steps, nodes_at, steps_at, accepted_in, checked, item_in, items_in, node_at, node_in, step_in, scenario_in};
+ghost use Rattle.sim_core.specs.Scenarios.{Gives, GivesField, Reads, each_from, array_at, is_table, is_text, are_nodes};
+ghost use Rattle.sim_core.specs.Scenarios.{are_steps, nodes_at, steps_at, accepted_in, checked, item_in, items_in};
+ghost use Rattle.sim_core.specs.Scenarios.{node_at, node_in, step_in, scenario_in};
 ghost use Rattle.sim_core.specs.ScenarioOpens.{Opens};
 
 use crate::scenario::{Scenario, ScenarioNode, ScenarioStep};
@@ -237,9 +239,9 @@ fn scenario_in(alloc: Global, table: &Table) -> Result<Scenario, ScenarioError>
 
 /// The scenario of a TOML text.
 ///
-/// Else 30 where the bytes are no TOML; then 83 where `node` is no array of 2 to 16 tables or `steps` no array of at most
-/// 100,000 texts; then node by node the fault of its strategy, 31 to 35, of its check, 37, 36 or 38, or of its items, 83 or
-/// 82; then 84 at the first text that spells no step. Memory may run out before any of these.
+/// Else 30 where the bytes are no TOML; then 83 where `node` is no array of 2 to 16 tables or `steps` no array of at
+/// most 100,000 texts; then node by node the fault of its strategy, 31 to 35, of its check, 37, 36 or 38, or of its
+/// items, 83 or 82; then 84 at the first text that spells no step. Memory may run out before any of these.
 pub fn scenario_of(alloc: Global, text: &[u8]) -> Result<Scenario, ScenarioError>
     ensures { Reads result text.now }
 {

@@ -3,7 +3,8 @@
 ghost use Rattle.std.specs.Prelude.{◌≡◌, [], ◌∷◌, ◌++◌, IfOk, OnOk, map, string_bytes};
 ghost use Rattle.definitions.specs.Fingerprints.{two_lanes};
 ghost use Rattle.definitions.specs.Worlds.{Deliver, step};
-ghost use Rattle.sim_core.specs.Runs.{node_of, is_sent, delivered, after_step, after_steps, HasEnded, EndsFinished, FinishesEnd, start_of, sim_text};
+ghost use Rattle.sim_core.specs.Runs.{node_of, is_sent, delivered, after_step, after_steps, HasEnded, EndsFinished};
+ghost use Rattle.sim_core.specs.Runs.{FinishesEnd, start_of, sim_text};
 
 use crate::reports::reports_text;
 use crate::scenario::{Scenario, ScenarioNode, ScenarioStep};

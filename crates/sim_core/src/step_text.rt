@@ -3,7 +3,8 @@
 ghost use Rattle.std.specs.Prelude.{◌≡◌, option_map};
 ghost use Rattle.std.specs.Char.{is_ascii_digit};
 ghost use Rattle.std.specs.List.{list_all};
-ghost use Rattle.sim_core.specs.StepTexts.{is_plain, number_of, parted, side_of, insert_in, open_in, absorb_in, step_of};
+ghost use Rattle.sim_core.specs.StepTexts.{is_plain, number_of, parted, side_of, insert_in, open_in, absorb_in};
+ghost use Rattle.sim_core.specs.StepTexts.{step_of};
 
 use crate::scenario::ScenarioStep;
 use settings_core::item_of;

@@ -43,7 +43,8 @@ or_later true false c = refl
 or_later false true c = refl
 or_later false false c = refl
 
-has_put : (x y q : Item) (ys : List Item) (o : Ordering) → item_cmp x y ≡ o → has (add_item ys x) q ≡ same_item q x || has ys q →
+has_put : (x y q : Item) (ys : List Item) (o : Ordering) → item_cmp x y ≡ o →
+    has (add_item ys x) q ≡ same_item q x || has ys q →
     has (match_ordering o (x ∷ y ∷ ys) (y ∷ ys) (y ∷ add_item ys x)) q ≡ same_item q x || has (y ∷ ys) q
 has_put x y q ys Less e rest = refl
 has_put x y q ys Equal e rest =
@@ -57,7 +58,8 @@ has_add (y ∷ ys) x q = has_put x y q ys (item_cmp x y) refl (has_add ys x q)
 
 has_union : (A xs : List Item) (q : Item) → has (union A xs) q ≡ has A q || has xs q
 has_union A [] q = sym (or_false (has A q))
-has_union A (x ∷ xs) q = has_union (add_item A x) xs q ∙ ap (λ b. b || has xs q) (has_add A x q) ∙ or_later (same_item q x) (has A q) (has xs q)
+has_union A (x ∷ xs) q = has_union (add_item A x) xs q ∙ ap (λ b. b || has xs q) (has_add A x q)
+    ∙ or_later (same_item q x) (has A q) (has xs q)
 
 set_union : (A xs : List Item) → IsSet A → IsSet (union A xs)
 set_union A [] set = set
@@ -75,14 +77,16 @@ has_by_order (y ∷ ys) q = rw (is_eq-slice_cmp q y, has_by_order ys q) refl
 
 pub same_set : (A B : List Item) → IsSet A → IsSet B → ((q : Item) → has A q ≡ has B q) → A ≡ B
 same_set A B a b same =
-    btree_set_from_contains nat_list_cmp_total (record { keys = A }) (record { keys = B }) a b (λ q. has_by_order A q ∙ same q ∙ sym (has_by_order B q)) exact_bytes
+    btree_set_from_contains nat_list_cmp_total (record { keys = A }) (record { keys = B }) a b
+    (λ q. has_by_order A q ∙ same q ∙ sym (has_by_order B q)) exact_bytes
 
 again : (A : List Item) (x y : Item) (b : Bool) → b ≡ same_item y x → has A x ≡ true → b || has A y ≡ has A y
 again A x y true same there = let equal : y ≡ x = is_equal y x (sym same) in rw equal (sym there)
 again A x y false same there = refl
 
 pub add_again : (A : List Item) (x : Item) → IsSet A → IsTrue (has A x) → add_item A x ≡ A
-add_again A x set there = same_set (add_item A x) A (set_add A x set) set (λ y. has_add A x y ∙ again A x y (same_item y x) refl there)
+add_again A x set there =
+    same_set (add_item A x) A (set_add A x set) set (λ y. has_add A x y ∙ again A x y (same_item y x) refl there)
 
 -- ---- sorting and dropping repeats
 
@@ -95,8 +99,10 @@ has_contained A q = list_any-from_Contains nat_list_eq_equiv q A
 has_kept : (xs ys : List Item) (q : Item) → IsPermutation xs ys → has (dedup same_item ys) q ≡ has xs q
 has_kept xs ys q moved =
     same_from_decides {P = Contains xs q} _ _ (
-      (λ e. Contains-permutation ys xs q (IsPermutation-sym xs ys moved) (Contains-from_dedup same_item ys q (contains (dedup same_item ys) q e))),
-      (λ at. has_contained (dedup same_item ys) q (Contains-dedup nat_list_eq_equiv is_equal ys q (Contains-permutation xs ys q moved at))),
+      (λ e. Contains-permutation ys xs q (IsPermutation-sym xs ys moved)
+          (Contains-from_dedup same_item ys q (contains (dedup same_item ys) q e))),
+      (λ at. has_contained (dedup same_item ys) q
+          (Contains-dedup nat_list_eq_equiv is_equal ys q (Contains-permutation xs ys q moved at))),
     )
     (contains xs q, has_contained xs q)
 

@@ -11,5 +11,6 @@ use crate::entry::Entry;
 pub struct FlatStore {
     pub(crate) entries: Vec<Entry>,
     ghost rises: { IsSet entries.items } by { IsStrictlySortedBy-prop item_cmp _ },
-    ghost are_items: { AllByRecursion IsItem entries.items } by { AllByRecursion-prop IsItem (λ x. Prim.hlevel props) _ },
+    ghost are_items: { AllByRecursion IsItem entries.items } by { AllByRecursion-prop IsItem
+        (λ x. Prim.hlevel props) _ },
 }

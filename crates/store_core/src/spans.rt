@@ -1,6 +1,7 @@
 //! Sorted slices of entries: the part in a range, its fingerprint, and the slice with one more entry.
 
-ghost use Rattle.std.specs.Prelude.{◌≡◌, ◌≤◌, ◌∷◌, ◌++◌, true, false, take, drop, length, filter, not, is_none, IfOk, IfSome};
+ghost use Rattle.std.specs.Prelude.{◌≡◌, ◌≤◌, ◌∷◌, ◌++◌, true, false, take, drop, length, filter, not, is_none, IfOk};
+ghost use Rattle.std.specs.Prelude.{IfSome};
 ghost use Rattle.std.specs.List.{AllByRecursion};
 ghost use Rattle.std.specs.List.Sorted.{IsPartitionPoint};
 ghost use Rattle.definitions.specs.Items.{IsItem, comes_before, is_below};

@@ -36,8 +36,8 @@ fn least_ranks(alloc: Global, strategy: &Strategy) -> Result<Ranks, CheckError>
 
 /// The strategy with its least ranks, where it is to be accepted.
 ///
-/// Else the strategy comes back with the first reason: a list row reaches past the limit (37), a count is cut into fewer than
-/// two shares (36), or a rank exceeds the rounds (38). Memory may run out before the last two.
+/// Else the strategy comes back with the first reason: a list row reaches past the limit (37), a count is cut into
+/// fewer than two shares (36), or a rank exceeds the rounds (38). Memory may run out before the last two.
 pub fn check(alloc: Global, strategy: Strategy) -> Result<Accepted, (Strategy, CheckError)>
     ensures exact { Checks result strategy }
     ensures accepted { IfOk result (λ a. meaning.Accepted strategy) }
@@ -72,8 +72,8 @@ fn serves(strategy: &Strategy, ranks: &Ranks) -> Result<(), CheckFault>
 
 /// The strategy with the ranks that were brought, where it is to be accepted with them.
 ///
-/// Else both come back with the first reason: a list row reaches past the limit (37), the ranks do not serve a count (39), or
-/// one of them exceeds the rounds (38).
+/// Else both come back with the first reason: a list row reaches past the limit (37), the ranks do not serve a count
+/// (39), or one of them exceeds the rounds (38).
 pub fn check_with(
     strategy: Strategy,
     ranks: Ranks,

@@ -1,5 +1,6 @@
 -- The weights and the rows that were read, in front of those still to be read.
-use Rattle.std.proofs.Common.{◌≡◌, ℕ, suc, ◌+◌, ◌*◌, ◌<◌, ◌≤◌, Bool, true, false, Option, Some, None, List, [], ◌∷◌, ◌++◌, length, drop, refl, sym, ap, ◌∙◌, arith, sum, ◌⊎◌, inl, inr}
+use Rattle.std.proofs.Common.{◌≡◌, ℕ, suc, ◌+◌, ◌*◌, ◌<◌, ◌≤◌, Bool, true, false, Option, Some, None, List, [], ◌∷◌}
+use Rattle.std.proofs.Common.{◌++◌, length, drop, refl, sym, ap, ◌∙◌, arith, sum, ◌⊎◌, inl, inr}
 use Rattle.std.specs.Prelude.{Result, Ok, Err, ◌&&◌, nat_lt, nat_le, slice_index_or}
 use Rattle.std.specs.List.{AllByRecursion}
 use Rattle.std.proofs.lemmas.Bool.{le-leb, lt-leb, lt-ltb, and_from, and_left, and_right}
@@ -14,7 +15,8 @@ use Rattle.toml.specs.View.{view, items_view}
 use Rattle.toml.specs.declared.value.Value.{Value}
 use Rattle.toml.specs.Data.{Data, Items, no_items, item}
 use Rattle.definitions.specs.Strategies.{Row}
-use Rattle.strategy_core.specs.Texts.{number_in, weights_in, row_in, rows_in, items_count, array_in, few_in, provided, ◌>>=◌}
+use Rattle.strategy_core.specs.Texts.{number_in, weights_in, row_in, rows_in, items_count, array_in, few_in, provided}
+use Rattle.strategy_core.specs.Texts.{◌>>=◌}
 use Rattle.strategy_core.specs.declared.fault.StrategyFault.{StrategyFault}
 use Rattle.strategy_core.specs.declared.fault.StrategyFault.TheVariants.{RowAction, Missing}
 use Rattle.strategy_core.specs.declared.field.Field.TheVariants as fields
@@ -29,10 +31,12 @@ provided_false b f x e = ap (λ t. provided t f x) e
 
 -- ---- the values of an array
 
-pub items_next : (xs vs : List Value) (i : ℕ) (v : Value) → vs ≡ xs → i < length vs → v ≡ slice_index_or vs i v → items_view (drop i xs) ≡ item (view v) (items_view (drop (i + 1) xs))
+pub items_next : (xs vs : List Value) (i : ℕ) (v : Value) → vs ≡ xs → i < length vs → v ≡ slice_index_or vs i v →
+    items_view (drop i xs) ≡ item (view v) (items_view (drop (i + 1) xs))
 items_next xs vs i v same here is =
     let there : i < length xs = omega (arith, ap length same) in
-    ap items_view (drop_more xs i v there) ∙ ap (λ (u : Value). item (view u) (items_view (drop (i + 1) xs))) (sym (is ∙ ap (λ (ys : List Value). slice_index_or ys i v) same))
+    ap items_view (drop_more xs i v there) ∙ ap (λ (u : Value). item (view u) (items_view (drop (i + 1) xs)))
+    (sym (is ∙ ap (λ (ys : List Value). slice_index_or ys i v) same))
 
 pub items_none : (xs vs : List Value) (i : ℕ) → vs ≡ xs → length vs ≤ i → items_view (drop i xs) ≡ no_items
 items_none xs vs i same past = ap items_view (drop_all i xs (omega (arith, ap length same)))
@@ -53,7 +57,8 @@ pub record AreRead (ws : List ℕ) (count total : ℕ) : Type 0 where
   pub count_is : length ws ≡ count
   pub total_is : total ≡ sum ws
 
-pub read_more : (ws : List ℕ) (count total w : ℕ) → 1 ≤ w → w ≤ 1024 → AreRead ws count total → AreRead (ws ++ w ∷ []) (count + 1) (total + w)
+pub read_more : (ws : List ℕ) (count total w : ℕ) → 1 ≤ w → w ≤ 1024 → AreRead ws count total →
+    AreRead (ws ++ w ∷ []) (count + 1) (total + w)
 read_more ws count total w low high read = record {
   are = All-append (λ v. (1 ≤ v) × (v ≤ 1024)) ws (w ∷ []) read.are ((low, high), tt);
   count_is = omega (arith, length-append ws (w ∷ []), read.count_is);
@@ -70,25 +75,35 @@ WeightsTo xs i ws = before_weights ws (weights_in (items_view (drop i xs))) ≡ 
 pub weights_start : (xs : List Value) → WeightsTo xs 0 []
 weights_start xs = elim (weights_in (items_view xs)) as (λ r. before_weights [] r ≡ r) [ Ok vs ↦ refl | Err f ↦ refl ]
 
-weights_behind : (ws : List ℕ) (w : ℕ) (r : Result (List ℕ) StrategyFault) → before_weights (ws ++ w ∷ []) r ≡ before_weights ws (r >>= λ vs. Ok (w ∷ vs))
+weights_behind : (ws : List ℕ) (w : ℕ) (r : Result (List ℕ) StrategyFault) →
+    before_weights (ws ++ w ∷ []) r ≡ before_weights ws (r >>= λ vs. Ok (w ∷ vs))
 weights_behind ws w (Ok vs) = ap Ok (append_assoc ws (w ∷ []) vs)
 weights_behind ws w (Err f) = refl
 
 -- what the next one says of all
-weight_says : (xs vs : List Value) (i : ℕ) (v : Value) (ws : List ℕ) (said : Result ℕ StrategyFault) → vs ≡ xs → i < length vs → v ≡ slice_index_or vs i v → said ≡ number_in 1 1024 (view v) → WeightsTo xs i ws →
-    before_weights ws (said >>= λ w. weights_in (items_view (drop (i + 1) xs)) >>= λ more. Ok (w ∷ more)) ≡ weights_in (items_view xs)
+weight_says : (xs vs : List Value) (i : ℕ) (v : Value) (ws : List ℕ) (said : Result ℕ StrategyFault) → vs ≡ xs →
+    i < length vs → v ≡ slice_index_or vs i v → said ≡ number_in 1 1024 (view v) → WeightsTo xs i ws →
+    before_weights ws (said >>= λ w. weights_in (items_view (drop (i + 1) xs)) >>= λ more. Ok (w ∷ more))
+    ≡ weights_in (items_view xs)
 weight_says xs vs i v ws said same here is e h =
     ap (λ r. before_weights ws (r >>= λ w. weights_in (items_view (drop (i + 1) xs)) >>= λ more. Ok (w ∷ more))) e
     ∙ sym (ap (λ (ds : Items). before_weights ws (weights_in ds)) (items_next xs vs i v same here is)) ∙ h
 
-pub weights_go_on : (xs vs : List Value) (i : ℕ) (v : Value) (ws : List ℕ) (w : ℕ) → vs ≡ xs → i < length vs → v ≡ slice_index_or vs i v → Ok w ≡ number_in 1 1024 (view v) → WeightsTo xs i ws → WeightsTo xs (i + 1) (ws ++ w ∷ [])
-weights_go_on xs vs i v ws w same here is e h = weights_behind ws w (weights_in (items_view (drop (i + 1) xs))) ∙ weight_says xs vs i v ws (Ok w) same here is e h
+pub weights_go_on : (xs vs : List Value) (i : ℕ) (v : Value) (ws : List ℕ) (w : ℕ) → vs ≡ xs →
+    i < length vs → v ≡ slice_index_or vs i v → Ok w ≡ number_in 1 1024 (view v) → WeightsTo xs i ws →
+    WeightsTo xs (i + 1) (ws ++ w ∷ [])
+weights_go_on xs vs i v ws w same here is e h =
+    weights_behind ws w (weights_in (items_view (drop (i + 1) xs))) ∙ weight_says xs vs i v ws (Ok w) same here is e h
 
-pub weights_fail : (xs vs : List Value) (i : ℕ) (v : Value) (ws : List ℕ) (f : StrategyFault) → vs ≡ xs → i < length vs → v ≡ slice_index_or vs i v → Err f ≡ number_in 1 1024 (view v) → WeightsTo xs i ws → weights_in (items_view xs) ≡ Err f
+pub weights_fail : (xs vs : List Value) (i : ℕ) (v : Value) (ws : List ℕ) (f : StrategyFault) → vs ≡ xs →
+    i < length vs → v ≡ slice_index_or vs i v → Err f ≡ number_in 1 1024 (view v) → WeightsTo xs i ws →
+    weights_in (items_view xs) ≡ Err f
 weights_fail xs vs i v ws f same here is e h = sym (weight_says xs vs i v ws (Err f) same here is e h)
 
-pub weights_end : (xs vs : List Value) (i : ℕ) (ws : List ℕ) → vs ≡ xs → length vs ≤ i → WeightsTo xs i ws → weights_in (items_view xs) ≡ Ok ws
-weights_end xs vs i ws same past h = sym h ∙ ap (λ (ds : Items). before_weights ws (weights_in ds)) (items_none xs vs i same past) ∙ ap Ok (append-nil ws)
+pub weights_end : (xs vs : List Value) (i : ℕ) (ws : List ℕ) → vs ≡ xs → length vs ≤ i → WeightsTo xs i ws →
+    weights_in (items_view xs) ≡ Ok ws
+weights_end xs vs i ws same past h = sym h
+    ∙ ap (λ (ds : Items). before_weights ws (weights_in ds)) (items_none xs vs i same past) ∙ ap Ok (append-nil ws)
 
 -- ---- rows
 
@@ -98,43 +113,60 @@ before_rows rows (Err f) = Err f
 
 -- the rows so far, and those that are still to be read behind one of this upto, are all
 abbrev pub RowsTo : ℕ → List Value → ℕ → Option ℕ → List Row → Type 0
-RowsTo cap xs i before rows = before_rows rows (rows_in cap before (items_view (drop i xs))) ≡ rows_in cap None (items_view xs)
+RowsTo cap xs i before rows =
+    before_rows rows (rows_in cap before (items_view (drop i xs))) ≡ rows_in cap None (items_view xs)
 
 pub rows_start : (cap : ℕ) (xs : List Value) → RowsTo cap xs 0 None []
-rows_start cap xs = elim (rows_in cap None (items_view xs)) as (λ r. before_rows [] r ≡ r) [ Ok vs ↦ refl | Err f ↦ refl ]
+rows_start cap xs =
+    elim (rows_in cap None (items_view xs)) as (λ r. before_rows [] r ≡ r) [ Ok vs ↦ refl | Err f ↦ refl ]
 
-rows_behind : (rows : List Row) (row : Row) (r : Result (List Row) StrategyFault) → before_rows (rows ++ row ∷ []) r ≡ before_rows rows (r >>= λ more. Ok (row ∷ more))
+rows_behind : (rows : List Row) (row : Row) (r : Result (List Row) StrategyFault) →
+    before_rows (rows ++ row ∷ []) r ≡ before_rows rows (r >>= λ more. Ok (row ∷ more))
 rows_behind rows row (Ok more) = ap Ok (append_assoc rows (row ∷ []) more)
 rows_behind rows row (Err f) = refl
 
-row_says : (cap : ℕ) (xs vs : List Value) (i : ℕ) (v : Value) (before : Option ℕ) (rows : List Row) (said : Result Row StrategyFault) → vs ≡ xs → i < length vs → v ≡ slice_index_or vs i v → row_in cap before (view v) ≡ said → RowsTo cap xs i before rows →
-    before_rows rows (said >>= λ row. rows_in cap (Some row.upto) (items_view (drop (i + 1) xs)) >>= λ more. Ok (row ∷ more)) ≡ rows_in cap None (items_view xs)
+row_says : (cap : ℕ) (xs vs : List Value) (i : ℕ) (v : Value) (before : Option ℕ) (rows : List Row)
+    (said : Result Row StrategyFault) → vs ≡ xs → i < length vs → v ≡ slice_index_or vs i v →
+    row_in cap before (view v) ≡ said → RowsTo cap xs i before rows →
+    before_rows rows (said >>= λ row. rows_in cap (Some row.upto) (items_view (drop (i + 1) xs))
+    >>= λ more. Ok (row ∷ more)) ≡ rows_in cap None (items_view xs)
 row_says cap xs vs i v before rows said same here is e h =
-    ap (λ r. before_rows rows (r >>= λ row. rows_in cap (Some row.upto) (items_view (drop (i + 1) xs)) >>= λ more. Ok (row ∷ more))) (sym e)
+    ap (λ r. before_rows rows
+    (r >>= λ row. rows_in cap (Some row.upto) (items_view (drop (i + 1) xs)) >>= λ more. Ok (row ∷ more))) (sym e)
     ∙ sym (ap (λ (ds : Items). before_rows rows (rows_in cap before ds)) (items_next xs vs i v same here is)) ∙ h
 
-pub rows_go_on : (cap : ℕ) (xs vs : List Value) (i : ℕ) (v : Value) (before : Option ℕ) (rows : List Row) (row : Row) → vs ≡ xs → i < length vs → v ≡ slice_index_or vs i v → row_in cap before (view v) ≡ Ok row →
+pub rows_go_on : (cap : ℕ) (xs vs : List Value) (i : ℕ) (v : Value) (before : Option ℕ) (rows : List Row) (row : Row) →
+    vs ≡ xs → i < length vs → v ≡ slice_index_or vs i v → row_in cap before (view v) ≡ Ok row →
     RowsTo cap xs i before rows → RowsTo cap xs (i + 1) (Some row.upto) (rows ++ row ∷ [])
 rows_go_on cap xs vs i v before rows row same here is e h =
-    rows_behind rows row (rows_in cap (Some row.upto) (items_view (drop (i + 1) xs))) ∙ row_says cap xs vs i v before rows (Ok row) same here is e h
+    rows_behind rows row (rows_in cap (Some row.upto) (items_view (drop (i + 1) xs)))
+    ∙ row_says cap xs vs i v before rows (Ok row) same here is e h
 
 -- an error, where memory did not run out, is the fault of the next row
-pub rows_fail : (cap : ℕ) (xs vs : List Value) (i : ℕ) (v : Value) (before : Option ℕ) (rows : List Row) (e : StrategyError) → vs ≡ xs → i < length vs → v ≡ slice_index_or vs i v → Fails e (row_in cap before (view v)) →
+pub rows_fail : (cap : ℕ) (xs vs : List Value) (i : ℕ) (v : Value) (before : Option ℕ) (rows : List Row)
+    (e : StrategyError) → vs ≡ xs → i < length vs → v ≡ slice_index_or vs i v → Fails e (row_in cap before (view v)) →
     RowsTo cap xs i before rows → Fails e (rows_in cap None (items_view xs))
 rows_fail cap xs vs i v before rows errors.Memory same here is said h = tt
-rows_fail cap xs vs i v before rows (errors.Fault f) same here is said h = sym (row_says cap xs vs i v before rows (Err f) same here is said h)
+rows_fail cap xs vs i v before rows (errors.Fault f) same here is said h =
+    sym (row_says cap xs vs i v before rows (Err f) same here is said h)
 
-pub rows_end : (cap : ℕ) (xs vs : List Value) (i : ℕ) (before : Option ℕ) (rows : List Row) → vs ≡ xs → length vs ≤ i → RowsTo cap xs i before rows → rows_in cap None (items_view xs) ≡ Ok rows
-rows_end cap xs vs i before rows same past h = sym h ∙ ap (λ (ds : Items). before_rows rows (rows_in cap before ds)) (items_none xs vs i same past) ∙ ap Ok (append-nil rows)
+pub rows_end : (cap : ℕ) (xs vs : List Value) (i : ℕ) (before : Option ℕ) (rows : List Row) → vs ≡ xs → length vs ≤ i →
+    RowsTo cap xs i before rows → rows_in cap None (items_view xs) ≡ Ok rows
+rows_end cap xs vs i before rows same past h =
+    sym h ∙ ap (λ (ds : Items). before_rows rows (rows_in cap before ds)) (items_none xs vs i same past)
+    ∙ ap Ok (append-nil rows)
 
 -- ---- arrays
 
-pub few_yes : (d : Data) (xs : List Value) → array_in d ≡ Ok (items_view xs) → 2 ≤ length xs → length xs ≤ 64 → few_in d ≡ Ok (items_view xs)
+pub few_yes : (d : Data) (xs : List Value) → array_in d ≡ Ok (items_view xs) → 2 ≤ length xs → length xs ≤ 64 →
+    few_in d ≡ Ok (items_view xs)
 few_yes d xs e low high =
     ap (λ r. r >>= λ ds. provided (nat_le 2 (items_count ds) && nat_le (items_count ds) 64) RowAction ds) e
-    ∙ provided_true _ RowAction (items_view xs) (and_from _ _ (le-leb 2 (items_count (items_view xs)) (omega (arith, count-items xs))) (le-leb (items_count (items_view xs)) 64 (omega (arith, count-items xs))))
+    ∙ provided_true _ RowAction (items_view xs) (and_from _ _ (le-leb 2 (items_count (items_view xs))
+    (omega (arith, count-items xs))) (le-leb (items_count (items_view xs)) 64 (omega (arith, count-items xs))))
 
-pub few_no : (d : Data) (xs : List Value) → array_in d ≡ Ok (items_view xs) → (length xs < 2) ⊎ (64 < length xs) → few_in d ≡ Err RowAction
+pub few_no : (d : Data) (xs : List Value) → array_in d ≡ Ok (items_view xs) → (length xs < 2) ⊎ (64 < length xs) →
+    few_in d ≡ Err RowAction
 few_no d xs e h =
     ap (λ r. r >>= λ ds. provided (nat_le 2 (items_count ds) && nat_le (items_count ds) 64) RowAction ds) e
     ∙ provided_false _ RowAction (items_view xs) (elim h [
@@ -142,7 +174,9 @@ few_no d xs e h =
       | inr many ↦ and_right _ _ (lt-leb (items_count (items_view xs)) 64 (omega (arith, count-items xs)))
     ])
 
-pub entries_some : (d : Data) (xs : List Value) → array_in d ≡ Ok (items_view xs) → 0 < length xs → (array_in d >>= λ ds. provided (nat_lt 0 (items_count ds)) (Missing fields.Row) ds) ≡ Ok (items_view xs)
+pub entries_some : (d : Data) (xs : List Value) → array_in d ≡ Ok (items_view xs) → 0 < length xs →
+    (array_in d >>= λ ds. provided (nat_lt 0 (items_count ds)) (Missing fields.Row) ds) ≡ Ok (items_view xs)
 entries_some d xs e h =
     ap (λ r. r >>= λ ds. provided (nat_lt 0 (items_count ds)) (Missing fields.Row) ds) e
-    ∙ provided_true _ (Missing fields.Row) (items_view xs) (lt-ltb 0 (items_count (items_view xs)) (omega (arith, count-items xs)))
+    ∙ provided_true _ (Missing fields.Row) (items_view xs)
+    (lt-ltb 0 (items_count (items_view xs)) (omega (arith, count-items xs)))

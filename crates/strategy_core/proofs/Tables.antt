@@ -1,5 +1,6 @@
 -- What is read is a table.
-use Rattle.std.proofs.Common.{◌≡◌, ℕ, zero, suc, ◌+◌, ◌-◌, ◌≤◌, Bool, true, false, Option, Some, None, List, [], ◌∷◌, length, map, refl, ap, ◌∙◌, subst, arith}
+use Rattle.std.proofs.Common.{◌≡◌, ℕ, zero, suc, ◌+◌, ◌-◌, ◌≤◌, Bool, true, false, Option, Some, None, List, [], ◌∷◌}
+use Rattle.std.proofs.Common.{length, map, refl, ap, ◌∙◌, subst, arith}
 use Rattle.std.specs.Prelude.{Result, Ok, Err, codes, ◌&&◌, nat_le, ℤ, pos, negsuc, slice_index}
 use Rattle.std.specs.List.{AllByRecursion}
 use Rattle.std.specs.List.Sorted.{IsStrictlyIncreasing}
@@ -8,17 +9,21 @@ use Rattle.toml.specs.Data.{Data, Items, no_items, item, as_integer, as_bool, as
 use Rattle.definitions.specs.Strategies.{Row, Table, Act, List_items, Split, Peel, IsAct, IsTable, uptos}
 use Rattle.strategy_core.proofs.Rows.{length-uptos}
 use Rattle.strategy_core.specs.declared.field.Field.TheVariants as fields
-use Rattle.strategy_core.specs.Texts.{◌>>=◌, present, provided, in_span, number_in, weights_in, items_count, few_in, array_in, split_in, list_in, peel_in, act_under, is_above, upto_in, act_at, row_at, row_in, rows_in, number_at, last_upto}
+use Rattle.strategy_core.specs.Texts.{◌>>=◌, present, provided, in_span, number_in, weights_in, items_count, few_in}
+use Rattle.strategy_core.specs.Texts.{array_in, split_in, list_in, peel_in, act_under, is_above, upto_in, act_at}
+use Rattle.strategy_core.specs.Texts.{row_at, row_in, rows_in, number_at, last_upto}
 use Rattle.strategy_core.specs.declared.fault.StrategyFault.{StrategyFault}
 use Rattle.strategy_core.specs.declared.fault.StrategyFault.TheVariants.{RowAction, RowOrder, BadNumber}
 
 -- ---- what a test that is passed tells
 
-bind_ok : {A B : Type 0} (r : Result A StrategyFault) (f : A → Result B StrategyFault) (y : B) → (r >>= f) ≡ Ok y → (x : A) × (r ≡ Ok x) × (f x ≡ Ok y)
+bind_ok : {A B : Type 0} (r : Result A StrategyFault) (f : A → Result B StrategyFault) (y : B) → (r >>= f) ≡ Ok y →
+    (x : A) × (r ≡ Ok x) × (f x ≡ Ok y)
 bind_ok (Ok x) f y e = (x, refl, e)
 bind_ok (Err fault) f y e = absurd (cc)
 
-provided_ok : {A : Type 0} (b : Bool) (fault : StrategyFault) (x y : A) → provided b fault x ≡ Ok y → (b ≡ true) × (x ≡ y)
+provided_ok : {A : Type 0} (b : Bool) (fault : StrategyFault) (x y : A) → provided b fault x ≡ Ok y →
+    (b ≡ true) × (x ≡ y)
 provided_ok true fault x y e = (refl, cc)
 provided_ok false fault x y e = absurd (cc)
 
@@ -31,8 +36,10 @@ span_ok low high (pos m) n e =
     (omega (arith, leb-true low m both.0, passed.1), omega (arith, leb-true m high both.1, passed.1))
 span_ok low high (negsuc m) n e = absurd (cc)
 
-weights_ok : (ds : Items) (ws : List ℕ) → weights_in ds ≡ Ok ws → (length ws ≡ items_count ds) × AllByRecursion (λ w. (1 ≤ w) × (w ≤ 1024)) ws
-weights_ok no_items ws e = let none : [] ≡ ws = cc in subst (λ (vs : List ℕ). (length vs ≡ 0) × AllByRecursion (λ w. (1 ≤ w) × (w ≤ 1024)) vs) none (refl, tt)
+weights_ok : (ds : Items) (ws : List ℕ) → weights_in ds ≡ Ok ws →
+    (length ws ≡ items_count ds) × AllByRecursion (λ w. (1 ≤ w) × (w ≤ 1024)) ws
+weights_ok no_items ws e = let none : [] ≡ ws = cc in
+    subst (λ (vs : List ℕ). (length vs ≡ 0) × AllByRecursion (λ w. (1 ≤ w) × (w ≤ 1024)) vs) none (refl, tt)
 weights_ok (item d ds) ws e =
     let first = bind_ok (number_in 1 1024 d) (λ w. weights_in ds >>= λ more. Ok (w ∷ more)) ws e in
     let rest = bind_ok (weights_in ds) (λ more. Ok (first.0 ∷ more)) ws first.2 in
@@ -48,13 +55,19 @@ split_ok : (d : Data) (act : Act) → split_in d ≡ Ok act → IsAct act
 split_ok d act e =
     let few = bind_ok (few_in d) (λ ds. weights_in ds >>= λ weights. Ok (Split weights)) act e in
     let weights = bind_ok (weights_in few.0) (λ ws. Ok (Split ws)) act few.2 in
-    let array = bind_ok (array_in d) (λ ds. provided (nat_le 2 (items_count ds) && nat_le (items_count ds) 64) RowAction ds) few.0 few.1 in
-    let passed = provided_ok (nat_le 2 (items_count array.0) && nat_le (items_count array.0) 64) RowAction array.0 few.0 array.2 in
+    let array = bind_ok (array_in d)
+    (λ ds. provided (nat_le 2 (items_count ds) && nat_le (items_count ds) 64) RowAction ds) few.0 few.1 in
+    let passed =
+    provided_ok (nat_le 2 (items_count array.0) && nat_le (items_count array.0) 64) RowAction array.0 few.0 array.2 in
     let both = and_parts (nat_le 2 (items_count array.0)) (nat_le (items_count array.0) 64) passed.0 in
     let are = weights_ok few.0 weights.0 weights.1 in
     let same = ap items_count passed.1 in
     let made : Split weights.0 ≡ act = cc (weights.2) in
-    subst IsAct made (omega (arith, leb-true 2 (items_count array.0) both.0, are.0), omega (arith, leb-true (items_count array.0) 64 both.1, are.0), are.1)
+    subst IsAct made (
+      omega (arith, leb-true 2 (items_count array.0) both.0, are.0),
+      omega (arith, leb-true (items_count array.0) 64 both.1, are.0),
+      are.1,
+    )
 
 list_ok : (d : Data) (act : Act) → list_in d ≡ Ok act → IsAct act
 list_ok d act e =
@@ -93,28 +106,41 @@ rises before (n ∷ m ∷ ns) h zero l = ltb-true n m h.1.0
 rises before (n ∷ m ∷ ns) h (suc k) l =
     let on : k + 1 ≡ suc k = omega arith in
     let up : suc k + 1 ≡ suc (suc k) = omega arith in
-    omega (arith, rises (Some n) (m ∷ ns) h.1 k (omega arith), ap (slice_index (m ∷ ns)) on, ap (slice_index (n ∷ m ∷ ns)) up)
+    omega
+    (arith, rises (Some n) (m ∷ ns) h.1 k (omega arith), ap (slice_index (m ∷ ns)) on, ap (slice_index (n ∷ m ∷ ns)) up)
 
-rows_ok : (cap : ℕ) (before : Option ℕ) (ds : Items) (rows : List Row) → rows_in cap before ds ≡ Ok rows → AllByRecursion (λ row. IsAct row.act) rows × Rises before (map (λ row. row.upto) rows)
+rows_ok : (cap : ℕ) (before : Option ℕ) (ds : Items) (rows : List Row) → rows_in cap before ds ≡ Ok rows →
+    AllByRecursion (λ row. IsAct row.act) rows × Rises before (map (λ row. row.upto) rows)
 rows_ok cap before no_items rows e =
     let none : [] ≡ rows = cc in
-    subst (λ (rs : List Row). AllByRecursion (λ row. IsAct row.act) rs × Rises before (map (λ row. row.upto) rs)) none (tt, tt)
+    subst (λ (rs : List Row). AllByRecursion (λ row. IsAct row.act) rs × Rises before (map (λ row. row.upto) rs)) none
+    (tt, tt)
 rows_ok cap before (item d ds) rows e =
-    let first = bind_ok (row_in cap before d) (λ row. rows_in cap (Some row.upto) ds >>= λ more. Ok (row ∷ more)) rows e in
+    let first =
+    bind_ok (row_in cap before d) (λ row. rows_in cap (Some row.upto) ds >>= λ more. Ok (row ∷ more)) rows e in
     let rest = bind_ok (rows_in cap (Some first.0.upto) ds) (λ more. Ok (first.0 ∷ more)) rows first.2 in
     let all : first.0 ∷ rest.0 ≡ rows = cc (rest.2) in
     let table = bind_ok (present RowAction (as_table d)) (row_at cap before) first.0 first.1 in
-    let upto = bind_ok (upto_in cap before table.0) (λ upto. act_at table.0 >>= λ act. Ok (record { upto = upto; act = act })) first.0 table.2 in
+    let upto = bind_ok (upto_in cap before table.0)
+    (λ upto. act_at table.0 >>= λ act. Ok (record { upto = upto; act = act })) first.0 table.2 in
     let act = bind_ok (act_at table.0) (λ act. Ok (record { upto = upto.0; act = act })) first.0 upto.2 in
     let row : record { upto = upto.0; act = act.0 } ≡ first.0 = cc (act.2) in
-    let number = bind_ok (number_at table.0 fields.Upto 0 cap) (λ n. provided (is_above n before) RowOrder n) upto.0 upto.1 in
+    let number =
+    bind_ok (number_at table.0 fields.Upto 0 cap) (λ n. provided (is_above n before) RowOrder n) upto.0 upto.1 in
     let above = provided_ok (is_above number.0 before) RowOrder number.0 upto.0 number.2 in
     let ih = rows_ok cap (Some first.0.upto) ds rest.0 rest.1 in
-    subst (λ (rs : List Row). AllByRecursion (λ row. IsAct row.act) rs × Rises before (map (λ row. row.upto) rs)) all
-    ((subst (λ (r : Row). IsAct r.act) row (act_ok (get_member (codes "list") table.0) (get_member (codes "split") table.0) (get_member (codes "peel") table.0) act.0 act.1), ih.0), (subst (λ (n : ℕ). is_above n before ≡ true) (above.1 ∙ ap (λ (r : Row). r.upto) row) above.0, ih.1))
+    subst (λ (rs : List Row). AllByRecursion (λ row. IsAct row.act) rs × Rises before (map (λ row. row.upto) rs)) all (
+      (
+        subst (λ (r : Row). IsAct r.act) row (act_ok (get_member (codes "list") table.0)
+            (get_member (codes "split") table.0) (get_member (codes "peel") table.0) act.0 act.1),
+        ih.0,
+      ),
+      (subst (λ (n : ℕ). is_above n before ≡ true) (above.1 ∙ ap (λ (r : Row). r.upto) row) above.0, ih.1),
+    )
 
 -- the values that were read make a table
-pub made : (T : Table) (ds : Items) → (1 ≤ T.cap) × (T.cap ≤ 65536) → T.limit ≤ T.cap → T.rounds ≤ 255 → rows_in T.cap None ds ≡ Ok T.rows → last_upto T.rows ≡ T.cap → IsTable T
+pub made : (T : Table) (ds : Items) → (1 ≤ T.cap) × (T.cap ≤ 65536) → T.limit ≤ T.cap → T.rounds ≤ 255 →
+    rows_in T.cap None ds ≡ Ok T.rows → last_upto T.rows ≡ T.cap → IsTable T
 made T ds cap limit rounds e reach =
     let are = rows_ok T.cap None ds T.rows e in
     let size : length (uptos T) - 1 ≡ length T.rows - 1 = omega (arith, length-uptos T.rows) in

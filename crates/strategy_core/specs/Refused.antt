@@ -11,7 +11,8 @@ use Rattle.definitions.specs.Strategies.{Table}
 use Rattle.definitions.specs.Refusals as codes
 use Rattle.strategy_core.specs.Texts.{IsDocument, IsText, IsTextOf}
 use Rattle.strategy_core.specs.declared.fault.StrategyFault.{StrategyFault}
-use Rattle.strategy_core.specs.declared.fault.StrategyFault.TheVariants.{NotToml, Missing, BadNumber, RowOrder, RowAction, CapMismatch}
+use Rattle.strategy_core.specs.declared.fault.StrategyFault.TheVariants.{NotToml, Missing, BadNumber, RowOrder}
+use Rattle.strategy_core.specs.declared.fault.StrategyFault.TheVariants.{RowAction, CapMismatch}
 use Rattle.strategy_core.specs.declared.fault.StrategyError.{StrategyError}
 use Rattle.strategy_core.specs.declared.fault.StrategyError.TheVariants as errors
 

@@ -1,13 +1,15 @@
--- What a TOML table says of a strategy, and what a text does. The tests stand in the order in which they are made: the first
--- that fails is the fault.
+-- What a TOML table says of a strategy, and what a text does. The tests stand in the order in which they are made: the
+-- first that fails is the fault.
 --     table_in members           the strategy of a table, or the fault
 --     IsTextOf text said         the text is TOML, and its table says this
-use Rattle.std.specs.Prelude.{◌≡◌, ℕ, suc, ◌-◌, ℤ, pos, negsuc, codes, Bool, true, false, ◌&&◌, nat_lt, nat_le, nat_eq, List, [], ◌∷◌, length, map, slice_index, Option, Some, None, Result, Ok, Err, IsUtf8}
+use Rattle.std.specs.Prelude.{◌≡◌, ℕ, suc, ◌-◌, ℤ, pos, negsuc, codes, Bool, true, false, ◌&&◌, nat_lt, nat_le, nat_eq}
+use Rattle.std.specs.Prelude.{List, [], ◌∷◌, length, map, slice_index, Option, Some, None, Result, Ok, Err, IsUtf8}
 use Rattle.toml.specs.Parse.{parse_document}
 use Rattle.toml.specs.Data.{Data, Items, no_items, item, Members, get_member, as_integer, as_bool, as_array, as_table}
 use Rattle.definitions.specs.Strategies.{Table, Row, Act, List_items, Split, Peel}
 use Rattle.strategy_core.specs.declared.fault.StrategyFault.{StrategyFault}
-use Rattle.strategy_core.specs.declared.fault.StrategyFault.TheVariants.{Missing, BadNumber, RowOrder, RowAction, CapMismatch}
+use Rattle.strategy_core.specs.declared.fault.StrategyFault.TheVariants.{Missing, BadNumber, RowOrder, RowAction}
+use Rattle.strategy_core.specs.declared.fault.StrategyFault.TheVariants.{CapMismatch}
 use Rattle.strategy_core.specs.declared.field.Field.{Field}
 use Rattle.strategy_core.specs.declared.field.Field.TheVariants as fields
 
@@ -112,11 +114,13 @@ row_in cap before d = present RowAction (as_table d) >>= row_at cap before
 -- the rows behind one of this upto
 abbrev pub rows_in : ℕ → Option ℕ → Items → Result (List Row) StrategyFault
 rows_in cap before no_items = Ok []
-rows_in cap before (item d ds) = row_in cap before d >>= λ row. rows_in cap (Some row.upto) ds >>= λ rows. Ok (row ∷ rows)
+rows_in cap before (item d ds) =
+    row_in cap before d >>= λ row. rows_in cap (Some row.upto) ds >>= λ rows. Ok (row ∷ rows)
 
 -- an array of at least one
 abbrev pub entries_at : Members → Result Items StrategyFault
-entries_at ms = member_at ms fields.Row >>= λ d. array_in d >>= λ ds. provided (nat_lt 0 (items_count ds)) (Missing fields.Row) ds
+entries_at ms =
+    member_at ms fields.Row >>= λ d. array_in d >>= λ ds. provided (nat_lt 0 (items_count ds)) (Missing fields.Row) ds
 
 abbrev pub last_upto : List Row → ℕ
 last_upto rows = slice_index (map (λ row. row.upto) rows) (length rows - 1)

@@ -3,7 +3,9 @@
 ghost use Rattle.std.specs.Prelude.{◌≡◌, ◌≤◌, IfOk, None, length, option_map};
 ghost use Rattle.toml.specs.View.{table_view, view, array_view};
 ghost use Rattle.toml.specs.Data.{get_member};
-ghost use Rattle.strategy_core.specs.Texts.{IsDocument, IsText, key_of, member_at, number_in, number_at, weights_in, array_in, few_in, split_in, list_in, peel_in, act_at, row_in, upto_in, rows_in, entries_at, last_upto, table_in};
+ghost use Rattle.strategy_core.specs.Texts.{IsDocument, IsText, key_of, member_at, number_in, number_at, weights_in};
+ghost use Rattle.strategy_core.specs.Texts.{array_in, few_in, split_in, list_in, peel_in, act_at, row_in, upto_in};
+ghost use Rattle.strategy_core.specs.Texts.{rows_in, entries_at, last_upto, table_in};
 ghost use Rattle.strategy_core.specs.Refused.{Gives, GivesField, Opens};
 ghost use Rattle.strategy_core.specs.Rules.{act_of};
 

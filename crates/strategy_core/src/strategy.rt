@@ -36,7 +36,8 @@ impl Model for Strategy {
 impl Strategy {
     /// The strategy of a TOML text.
     ///
-    /// Else 30 where the bytes are no TOML, or the fault of its table, 31 to 35; memory may run out before any of these.
+    /// Else 30 where the bytes are no TOML, or the fault of its table, 31 to 35; memory may run out before any of
+    /// these.
     pub fn read(alloc: Global, text: &[u8]) -> Result<Strategy, StrategyError>
         ensures { Reads result text.now }
     {

@@ -16,9 +16,9 @@ use std::time::Clock;
 
 /// A listener that workers share, and how many connections they may still wait for.
 ///
-/// A worker counts its connection before it waits to accept, so none waits for one beyond the number. A connection that is
-/// gone before it is accepted is passed over. Where there is no descriptor or memory for one, it is tried again after a
-/// pause, a bounded number of times. After an accept that failed no connection is left.
+/// A worker counts its connection before it waits to accept, so none waits for one beyond the number. A connection that
+/// is gone before it is accepted is passed over. Where there is no descriptor or memory for one, it is tried again
+/// after a pause, a bounded number of times. After an accept that failed no connection is left.
 #[derive(Drop)]
 pub struct Listener<'a, C> {
     socket: TcpListener,
@@ -51,8 +51,8 @@ fn accept_fault(error: &io::Error) -> SourceFault
 }
 
 /// Listens at an address: an IP address or a host's name, and a port, as `127.0.0.1:7700`; at port 0 the system chooses
-/// one. After this many connections the listener gives no more; with none it has no end. A read or a write of a connection
-/// that takes longer than the limits say fails, and its input ends after the bytes that they say.
+/// one. After this many connections the listener gives no more; with none it has no end. A read or a write of a
+/// connection that takes longer than the limits say fails, and its input ends after the bytes that they say.
 ///
 /// Fails with 60 if the text is no address, or the address is in use or may not be listened at, and with 90.
 pub fn listen<'a, R: Net<Listener = TcpListener, Stream = TcpStream> + Clock>(

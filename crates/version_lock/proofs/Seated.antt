@@ -51,7 +51,8 @@ abbrev Was : List View → ℕ → View → Type 0
 Was views j u = (old : View) × At views j old × (old.spent ≡ u.spent) × (old.writer ≡ u.writer)
 
 -- where the view keeps its writer
-pub apart_set : (views : List View) (id : ℕ) (v w : View) → At views id v → w.spent ≡ v.spent → w.writer ≡ v.writer → Apart views → Apart (set views id w)
+pub apart_set : (views : List View) (id : ℕ) (v w : View) → At views id v → w.spent ≡ v.spent → w.writer ≡ v.writer →
+    Apart views → Apart (set views id w)
 apart_set views id v w at spent writer apart i j a b n ati atj livea liveb wa wb =
     let was = each_set (Was views) views id w (v, at, sym spent, sym writer) (λ j u _ e. (u, e, refl, refl)) in
     let x = was i a ati in
@@ -60,16 +61,20 @@ apart_set views id v w at spent writer apart i j a b n ati atj livea liveb wa wb
 
 -- where the view gets a writer that is above all others
 pub apart_new : (views : List View) (id : ℕ) (w : View) (top : ℕ) → w.writer ≡ Some top →
-    ((j : ℕ) (u : View) (n : ℕ) → j ≢ id → At views j u → u.spent ≡ false → u.writer ≡ Some n → n < top) → Apart views → Apart (set views id w)
+    ((j : ℕ) (u : View) (n : ℕ) → j ≢ id → At views j u → u.spent ≡ false → u.writer ≡ Some n → n < top) → Apart views →
+    Apart (set views id w)
 apart_new views id w top is low apart i j a b n ati atj livea liveb wa wb =
-    let top_is : (u : View) → w ≡ u → u.writer ≡ Some n → top ≡ n = λ u e un. some_is (sym is ∙ (ap (λ (x : View). x.writer) e ∙ un)) in
+    let top_is : (u : View) → w ≡ u → u.writer ≡ Some n → top ≡ n =
+    λ u e un. some_is (sym is ∙ (ap (λ (x : View). x.writer) e ∙ un)) in
     ⊎_elim
     (λ (x : (i ≡ id) × (w ≡ a)). ⊎_elim
     (λ (y : (j ≡ id) × (w ≡ b)). x.0 ∙ sym y.0)
-    (λ (y : (j ≢ id) × At views j b). let below : n < top = low j b n y.0 y.1 liveb wb in let e = top_is a x.1 wa in absurd (omega arith))
+    (λ (y : (j ≢ id) × At views j b). let below : n < top = low j b n y.0 y.1 liveb wb in let e = top_is a x.1 wa in
+    absurd (omega arith))
     (at_set views id j w b atj))
     (λ (x : (i ≢ id) × At views i a). ⊎_elim
-    (λ (y : (j ≡ id) × (w ≡ b)). let below : n < top = low i a n x.0 x.1 livea wa in let e = top_is b y.1 wb in absurd (omega arith))
+    (λ (y : (j ≡ id) × (w ≡ b)). let below : n < top = low i a n x.0 x.1 livea wa in let e = top_is b y.1 wb in
+    absurd (omega arith))
     (λ (y : (j ≢ id) × At views j b). apart i j a b n x.1 y.1 livea liveb wa wb)
     (at_set views id j w b atj))
     (at_set views id i w a ati)
@@ -77,7 +82,8 @@ apart_new views id w top is low apart i j a b n ati atj livea liveb wa wb =
 -- where the view is spent
 pub apart_spent : (views : List View) (id : ℕ) (w : View) → w.spent ≡ true → Apart views → Apart (set views id w)
 apart_spent views id w spent apart i j a b n ati atj livea liveb wa wb =
-    let gone : (u : View) → w ≡ u → u.spent ≡ false → ⊥ = λ u e live. not_both spent (ap (λ (x : View). x.spent) e ∙ live) in
+    let gone : (u : View) → w ≡ u → u.spent ≡ false → ⊥ =
+    λ u e live. not_both spent (ap (λ (x : View). x.spent) e ∙ live) in
     ⊎_elim
     (λ (x : (i ≡ id) × (w ≡ a)). absurd (gone a x.1 livea))
     (λ (x : (i ≢ id) × At views i a). ⊎_elim
@@ -89,7 +95,8 @@ apart_spent views id w spent apart i j a b n ati atj livea liveb wa wb =
 -- where a view comes that is not enrolled
 pub apart_more : (views : List View) (w : View) → w.writer ≡ None → Apart views → Apart (views ++ w ∷ [])
 apart_more views w unnamed apart i j a b n ati atj livea liveb wa wb =
-    let none : (u : View) → w ≡ u → u.writer ≡ Some n → ⊥ = λ u e un. no_writer (sym unnamed ∙ (ap (λ (x : View). x.writer) e ∙ un)) in
+    let none : (u : View) → w ≡ u → u.writer ≡ Some n → ⊥ =
+    λ u e un. no_writer (sym unnamed ∙ (ap (λ (x : View). x.writer) e ∙ un)) in
     ⊎_elim
     (λ (x : At views i a). ⊎_elim
     (λ (y : At views j b). apart i j a b n x y livea liveb wa wb)

@@ -17,11 +17,13 @@ module _ (m m' : Mine) (k : Took m m') where
       let same : m'.0.next_writer ≡ k.log.next_writer = ap (λ (x : Mine). x.0.next_writer) k.now in omega arith
 
   -- the entries of the new writer
-  pub mine_enrolled : (n : ℕ) → (enrolled m'.0).writer ≡ Some n → entries_by n (enrolled m'.0).seen ≡ (enrolled m'.0).mine
+  pub mine_enrolled : (n : ℕ) → (enrolled m'.0).writer ≡ Some n →
+      entries_by n (enrolled m'.0).seen ≡ (enrolled m'.0).mine
   mine_enrolled n is =
       let base : m'.0.base ≡ k.log.history = ap (λ (x : Mine). x.0.base) k.now in
       let next : n ≡ k.log.next_writer = cc in
-      let none : entries_by k.log.next_writer k.log.history ≡ [] = none_yet k.log.next_writer k.log.history k.is_log.writers in
+      let none : entries_by k.log.next_writer k.log.history ≡ [] =
+      none_yet k.log.next_writer k.log.history k.is_log.writers in
       ap (entries_by n) base ∙ (ap (λ (x : ℕ). entries_by x k.log.history) next ∙ none)
 
 -- a seat is split off the other and joined, and then the log is looked at
@@ -30,13 +32,15 @@ pub met : (v u : View) (busy : ℕ) (m : Mine) → Took (waited busy (joined_wit
 met v u busy m k theirs =
     let all = Contains-push v.joined u.seen in
     let other : StartsWith k.log.history u.seen =
-    All-contains (λ (seen : History). StartsWith k.log.history seen) (v.joined ++ u.seen ∷ []) u.seen k.fits.joined all in
+    All-contains (λ (seen : History). StartsWith k.log.history seen)
+    (v.joined ++ u.seen ∷ []) u.seen k.fits.joined all in
     subst (λ (x : Mine). Met v u (gave_back x.0)) (sym k.now) record {
       once = record { took = refl; begins = k.fits.seen; cap = refl; fits = k.room };
       seen = refl;
       same = (refl, refl);
       other = other;
       own = λ n is. (k.fits.mine n is).0;
-      others = λ n is. subst (λ (mine : History). StartsWith (entries_by n k.log.history) mine) (theirs n is) (starts_by n k.log.history u.seen other);
+      others = λ n is. subst (λ (mine : History). StartsWith (entries_by n k.log.history) mine) (theirs n is)
+          (starts_by n k.log.history u.seen other);
       joined = refl;
     }

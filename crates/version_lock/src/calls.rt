@@ -4,7 +4,8 @@ ghost use Rattle.version_log.specs.Logs.{max_next_writer};
 ghost use Rattle.version_lock.specs.Beginnings.{StartsWith, entries_by};
 ghost use Rattle.version_lock.specs.Views.{new_view, split_off, joined_with};
 ghost use Rattle.version_lock.specs.Seats.{seat_state};
-ghost use Rattle.version_lock.specs.Calls.{Looked, LookedAtOnce, GotNumber, DidInsert, DidNotInsert, TriedInsert, Met, IsPinOf, NoPin};
+ghost use Rattle.version_lock.specs.Calls.{Looked, LookedAtOnce, GotNumber, DidInsert, DidNotInsert, TriedInsert, Met};
+ghost use Rattle.version_lock.specs.Calls.{IsPinOf, NoPin};
 
 use crate::fault::{InsertFault, PinFault};
 use crate::lock::{FREE, VersionLock};
@@ -149,7 +150,8 @@ impl<S: RangeStore> VersionLock<S> {
         }
     }
 
-    /// Ends the other seat. What it had seen is known to stand in the history from then on; `meet` it first to see that.
+    /// Ends the other seat. What it had seen is known to stand in the history from then on; `meet` it first to see
+    /// that.
     pub fn join_seat(&self, seat: &mut Seat<S>, other: Seat<S>)
         requires { (seat.old.table_id ≡ self.now) × (other.table_id ≡ self.now) }
         ensures { seat.new ≡ seat_state self.now (joined_with seat.old.view other.view) }

@@ -11,7 +11,8 @@ use std::snapshot::Snapshot;
 use store_core::RangeStore;
 use version_log::Published;
 
-/// What holds between any two steps at a lock: there is one history, in which each view that is not spent has its place.
+/// What holds between any two steps at a lock: there is one history, in which each view that is not spent has its
+/// place.
 pub fn one_history<S: RangeStore>()
     ensures { (opened : _) (table : _) →
         ⟦<OneHistory as TableRule<Option<Published<S>>, View, Snapshot<Published<S>>>>⟧.holds opened table →

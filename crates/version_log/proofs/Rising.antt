@@ -1,5 +1,6 @@
 -- What a log opens with where its items rise: an entry each, in their order.
-use Rattle.std.proofs.Common.{◌≡◌, ℕ, Bool, true, false, List, [], ◌∷◌, ◌++◌, length, map, fold, refl, sym, ap, ◌∙◌, append_assoc}
+use Rattle.std.proofs.Common.{◌≡◌, ℕ, Bool, true, false, List, [], ◌∷◌, ◌++◌, length, map, fold, refl, sym, ap, ◌∙◌}
+use Rattle.std.proofs.Common.{append_assoc}
 use Rattle.std.specs.List.{AllByRecursion, IsDistinct}
 use Rattle.std.specs.Ordering.{eq_by_cmp}
 use Rattle.std.proofs.lemmas.Map.Keys.{IsDistinct-from_sorted}
@@ -17,7 +18,8 @@ entries_of xs = map (λ (x : Item). (0, x)) xs
 
 -- ---- each item of a set stands once
 
-differ : (x : Item) (ys : List Item) → AllByRecursion (λ y. eq_by_cmp item_cmp x y ≡ false) ys → AllByRecursion (λ y. same_item x y ≡ false) ys
+differ : (x : Item) (ys : List Item) → AllByRecursion (λ y. eq_by_cmp item_cmp x y ≡ false) ys →
+    AllByRecursion (λ y. same_item x y ≡ false) ys
 differ x [] others = tt
 differ x (y ∷ ys) others = (sym (is_eq-slice_cmp x y) ∙ others.0, differ x ys others.1)
 
@@ -37,18 +39,23 @@ lacks_push (z ∷ zs) x y lacks other =
     let parts = or_parts (same_item y z) (has zs y) lacks in
     or_from (same_item y z) (has (zs ++ x ∷ []) y) parts.0 (lacks_push zs x y parts.1 other)
 
-still_lacks : (h : History) (x y : Item) → has (items_of h) y ≡ false → same_item x y ≡ false → has (items_of (h ++ (0, x) ∷ [])) y ≡ false
-still_lacks h x y lacks other = ap (λ xs. has xs y) (items_push h 0 x) ∙ lacks_push (items_of h) x y lacks (differs_back x y other)
+still_lacks : (h : History) (x y : Item) → has (items_of h) y ≡ false → same_item x y ≡ false →
+    has (items_of (h ++ (0, x) ∷ [])) y ≡ false
+still_lacks h x y lacks other =
+    ap (λ xs. has xs y) (items_push h 0 x) ∙ lacks_push (items_of h) x y lacks (differs_back x y other)
 
-opened_after : (h : History) (xs : List Item) → AllByRecursion (λ y. has (items_of h) y ≡ false) xs → IsDistinct same_item xs → fold with_item h xs ≡ h ++ entries_of xs
+opened_after : (h : History) (xs : List Item) → AllByRecursion (λ y. has (items_of h) y ≡ false) xs →
+    IsDistinct same_item xs → fold with_item h xs ≡ h ++ entries_of xs
 unfolding IsDistinct
 opened_after h [] new once = sym (append-nil h)
 opened_after h (x ∷ xs) new once =
     let grown : History = h ++ (0, x) ∷ [] in
     let with : with_item h x ≡ grown = rw new.0 refl in
     let later : AllByRecursion (λ y. has (items_of grown) y ≡ false) xs =
-    All-both (λ y. has (items_of h) y ≡ false) (λ y. same_item x y ≡ false) (λ y. has (items_of grown) y ≡ false) (λ y a b. still_lacks h x y a b) xs new.1 once.0 in
-    ap (λ g. fold with_item g xs) with ∙ opened_after grown xs later once.1 ∙ append_assoc h ((0, x) ∷ []) (entries_of xs)
+    All-both (λ y. has (items_of h) y ≡ false) (λ y. same_item x y ≡ false) (λ y. has (items_of grown) y ≡ false)
+    (λ y a b. still_lacks h x y a b) xs new.1 once.0 in
+    ap (λ g. fold with_item g xs) with ∙ opened_after grown xs later once.1
+    ∙ append_assoc h ((0, x) ∷ []) (entries_of xs)
 
 pub opened_with : (A : List Item) → IsSet A → opening_history A ≡ entries_of A
 opened_with A set = opened_after [] A (All-every (λ y. has [] y ≡ false) (λ y. refl) A) (once_in_set A set)

@@ -1,7 +1,8 @@
 ghost use Rattle.std.specs.Prelude.{◌≡◌, ◌+◌, ◌<◌, ◌≤◌, length, slice_get, Some, Err, IfOk, IfErr, IfSome};
 ghost use Rattle.definitions.specs.Sets.{IsSet, set_of};
 ghost use Rattle.definitions.specs.Histories.{content, version, insertion, New};
-ghost use Rattle.version_log.specs.Logs.{IsLog, IsCap, IsNextWriter, max_next_writer, opened, log_after, with_writer_given};
+ghost use Rattle.version_log.specs.Logs.{IsLog, IsCap, IsNextWriter, max_next_writer, opened, log_after};
+ghost use Rattle.version_log.specs.Logs.{with_writer_given};
 ghost use Rattle.version_log.specs.Answers.{insertion_in};
 
 use crate::answer::{Added, LogFault, WritersSpent};
@@ -40,7 +41,8 @@ impl<S: RangeStore> Model for Published<S> {
 impl<S: RangeStore> Published<S> {
     /// The log of these items, each once, where it stands first, by writer 0. The next writer number is 1.
     ///
-    /// Else 40 where there are more items than the cap, each counted once, or 90; memory may run out before 40 is found.
+    /// Else 40 where there are more items than the cap, each counted once, or 90; memory may run out before 40 is
+    /// found.
     pub fn new(alloc: Global, cap: u32, items: &[Item]) -> Result<Published<S>, LogFault>
         requires { IsCap cap }
         ensures log { IfOk result (λ p. p ≡ opened cap items.now 1) }

@@ -1,5 +1,6 @@
 -- Reading a stream frame by frame, as a loop does.
-use Rattle.std.proofs.Common.{rules, ◌≡◌, ℕ, zero, suc, ◌+◌, ◌<◌, ◌≤◌, Result, Ok, Err, IfOk, List, [], ◌∷◌, ◌++◌, length, take, drop, ◌-◌, refl, sym, ap, subst, append_assoc, ◌∙◌, arith}
+use Rattle.std.proofs.Common.{rules, ◌≡◌, ℕ, zero, suc, ◌+◌, ◌<◌, ◌≤◌, Result, Ok, Err, IfOk, List, [], ◌∷◌, ◌++◌}
+use Rattle.std.proofs.Common.{length, take, drop, ◌-◌, refl, sym, ap, subst, append_assoc, ◌∙◌, arith}
 use Rattle.std.proofs.lemmas.List.{append-nil, length-append, length-drop, take_all, take-append-drop}
 use Rattle.definitions.specs.Wire.{Profile, Stream}
 use Rattle.definitions.specs.Wire as wire
@@ -64,7 +65,11 @@ pub frames_rest : {F : Type 0} (P : Profile F) (events : List (wire.Event F)) (p
 frames_rest P events parts rest before first bytes out standing after so_far h fuel le =
     let r = so_far fuel le in
     let s = a_step P events parts rest (event_values out) (steps.Rest standing) after h r.0 r.1 in
-    sym r.2 ∙ s.2 ∙ (λ i. record { events = append-nil (event_values out) i; to = standing_of standing; kept = left_at standing after })
+    sym r.2 ∙ s.2 ∙ (λ i. record {
+      events = append-nil (event_values out) i;
+      to = standing_of standing;
+      kept = left_at standing after;
+    })
 
 pub before_both : {X : Type 0} (a b c : List X) → take (length a) b ≡ a → take (length b) c ≡ b → take (length a) c ≡ a
 before_both [] b c h k = refl
@@ -132,10 +137,14 @@ end_dropped bytes back (front, is) =
     (λ i. drop (count i) (is i)) ∙ drop_front front back
 
 pub end_of_dropped : (bytes back : List ℕ) (taken : ℕ) → IsEndOf (drop taken bytes) back → IsEndOf bytes back
-end_of_dropped bytes back taken (front, is) =
-    (take taken bytes ++ front, sym (take-append-drop taken bytes) ∙ ap (λ (t : List ℕ). take taken bytes ++ t) is ∙ sym (append_assoc (take taken bytes) front back))
+end_of_dropped bytes back taken (front, is) = (
+  take taken bytes ++ front,
+  sym (take-append-drop taken bytes) ∙ ap (λ (t : List ℕ). take taken bytes ++ t) is
+      ∙ sym (append_assoc (take taken bytes) front back),
+)
 
-pub drop_kept : (taken : ℕ) (kept back : List ℕ) → taken ≤ length kept → drop taken (kept ++ back) ≡ drop taken kept ++ back
+pub drop_kept : (taken : ℕ) (kept back : List ℕ) → taken ≤ length kept →
+    drop taken (kept ++ back) ≡ drop taken kept ++ back
 drop_kept zero kept back le = refl
 drop_kept (suc taken) [] back le = absurd (omega arith)
 drop_kept (suc taken) (x ∷ kept) back le = drop_kept taken kept back (omega arith)

@@ -1,5 +1,6 @@
 -- The lengths of bodies.
-use Rattle.std.proofs.Common.{◌≡◌, ◌+◌, ◌<◌, ◌≤◌, ◌++◌, Bool, true, List, [], ◌∷◌, Some, None, refl, length, arith, rules, length-append}
+use Rattle.std.proofs.Common.{◌≡◌, ◌+◌, ◌<◌, ◌≤◌, ◌++◌, Bool, true, List, [], ◌∷◌, Some, None, refl, length, arith}
+use Rattle.std.proofs.Common.{rules, length-append}
 use Rattle.std.specs.Prelude.{sum_by, flat_map, nat_lt}
 use Rattle.std.proofs.lemmas.List.Concat.{length-flat_map}
 use Rattle.std.proofs.lemmas.List.Sums.{sum_by-cons}
@@ -14,7 +15,8 @@ use Rattle.definitions.specs.Wire.{Profile, body, range_text, short_text}
 use Rattle.definitions.specs.Wire.{items_text, marks_text, mark_bytes, count_text, max_body}
 
 pub length-items_text : (items : List Item) → length (items_text items) ≡ 4 + sum_by (λ x. length (short_text x)) items
-length-items_text items = omega (arith, length-append (count_text (length items)) (flat_map short_text items), length-flat_map short_text items)
+length-items_text items = omega
+    (arith, length-append (count_text (length items)) (flat_map short_text items), length-flat_map short_text items)
 
 pub length-marks_text : (marks : List Bool) → length (marks_text marks) ≡ 4 + length (mark_bytes marks)
 length-marks_text marks = omega (arith, length-append (count_text (length marks)) (mark_bytes marks))

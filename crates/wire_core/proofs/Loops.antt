@@ -1,5 +1,6 @@
 -- Reading one after the other, as a loop does.
-use Rattle.std.proofs.Common.{◌≡◌, ℕ, suc, ◌-◌, ◌+◌, ◌≤◌, ◌<◌, List, [], ◌∷◌, ◌++◌, length, Option, Some, Result, Ok, Err, refl, sym, ap, ◌∙◌, append_assoc, arith}
+use Rattle.std.proofs.Common.{◌≡◌, ℕ, suc, ◌-◌, ◌+◌, ◌≤◌, ◌<◌, List, [], ◌∷◌, ◌++◌, length, Option, Some, Result, Ok}
+use Rattle.std.proofs.Common.{Err, refl, sym, ap, ◌∙◌, append_assoc, arith}
 use Rattle.std.specs.Prelude.{slice_get}
 use Rattle.std.proofs.lemmas.List.{append-nil, length-append}
 use Rattle.std.proofs.lemmas.Option.{slice_get-get_or}
@@ -17,35 +18,45 @@ with_items front read = read >>= λ x. Ok (front ++ x.0, x.1)
 abbrev pub last_of : List Item → Option Item
 last_of items = slice_get items (length items - 1)
 
-regroup : (front : List Item) (x : Item) (read : Result (List Item × List ℕ) ℕ) → with_items front (read >>= λ xs. Ok (x ∷ xs.0, xs.1)) ≡ with_items (front ++ x ∷ []) read
+regroup : (front : List Item) (x : Item) (read : Result (List Item × List ℕ) ℕ) →
+    with_items front (read >>= λ xs. Ok (x ∷ xs.0, xs.1)) ≡ with_items (front ++ x ∷ []) read
 regroup front x (Ok xs) = ap (λ (ns : List Item). Ok (ns, xs.1)) (simp append_assoc)
 regroup front x (Err f) = refl
 
-pub items_go_on : (X : Range) (front : List Item) (count i : ℕ) (before : Option Item) (bytes : List ℕ) (x : Item) (after : List ℕ) (total : Result (List Item × List ℕ) ℕ) →
-    i < count → item_at X before bytes ≡ Ok (x, after) → with_items front (items_at X (count - i) before bytes) ≡ total →
+pub items_go_on : (X : Range) (front : List Item) (count i : ℕ) (before : Option Item) (bytes : List ℕ) (x : Item)
+    (after : List ℕ) (total : Result (List Item × List ℕ) ℕ) →
+    i < count → item_at X before bytes ≡ Ok (x, after) →
+    with_items front (items_at X (count - i) before bytes) ≡ total →
     with_items (front ++ x ∷ []) (items_at X (count - (i + 1)) (Some x) after) ≡ total
 items_go_on X front count i before bytes x after total lt h so_far =
     let k : count - i ≡ suc (count - (i + 1)) = omega arith in
-    let one : with_items front (items_at X (count - i) before bytes) ≡ with_items (front ++ x ∷ []) (items_at X (count - (i + 1)) (Some x) after) = rw (k, h) (regroup front x (items_at X (count - (i + 1)) (Some x) after)) in
+    let one : with_items front (items_at X (count - i) before bytes)
+    ≡ with_items (front ++ x ∷ []) (items_at X (count - (i + 1)) (Some x) after) =
+    rw (k, h) (regroup front x (items_at X (count - (i + 1)) (Some x) after)) in
     sym one ∙ so_far
 
-pub items_end : (X : Range) (e : DecodeError) (front : List Item) (count i : ℕ) (before : Option Item) (bytes : List ℕ) (total : Result (List Item × List ℕ) ℕ) →
-    i < count → Fails e (item_at X before bytes) → with_items front (items_at X (count - i) before bytes) ≡ total → Fails e total
+pub items_end : (X : Range) (e : DecodeError) (front : List Item) (count i : ℕ) (before : Option Item) (bytes : List ℕ)
+    (total : Result (List Item × List ℕ) ℕ) →
+    i < count → Fails e (item_at X before bytes) → with_items front (items_at X (count - i) before bytes) ≡ total →
+    Fails e total
 items_end X errors.Memory front count i before bytes total lt h so_far = tt
 items_end X (errors.Fault f) front count i before bytes total lt h so_far =
     let k : count - i ≡ suc (count - (i + 1)) = omega arith in
     let one : with_items front (items_at X (count - i) before bytes) ≡ Err (fault_number f) = rw (k, h) refl in
     sym so_far ∙ one
 
-pub items_are_done : (X : Range) (front : List Item) (count i : ℕ) (before : Option Item) (bytes : List ℕ) (total : Result (List Item × List ℕ) ℕ) →
+pub items_are_done : (X : Range) (front : List Item) (count i : ℕ) (before : Option Item) (bytes : List ℕ)
+    (total : Result (List Item × List ℕ) ℕ) →
     count ≤ i → with_items front (items_at X (count - i) before bytes) ≡ total → total ≡ Ok (front, bytes)
 items_are_done X front count i before bytes total le so_far =
     let k : count - i ≡ 0 = omega arith in
-    let one : with_items front (items_at X (count - i) before bytes) ≡ Ok (front, bytes) = rw k (ap (λ (ns : List Item). Ok (ns, bytes)) (append-nil front)) in
+    let one : with_items front (items_at X (count - i) before bytes) ≡ Ok (front, bytes) =
+    rw k (ap (λ (ns : List Item). Ok (ns, bytes)) (append-nil front)) in
     sym so_far ∙ one
 
 pub last-pushed : (front : List Item) (x : Item) → last_of (front ++ x ∷ []) ≡ Some x
 last-pushed front x =
     let n : length (front ++ x ∷ []) - 1 ≡ length front = omega (arith, length-append front (x ∷ [])) in
     let within : length front < length (front ++ x ∷ []) = omega (arith, length-append front (x ∷ [])) in
-    ap (λ i. slice_get (front ++ x ∷ []) i) n ∙ slice_get-get_or (front ++ x ∷ []) (length front) x within ∙ ap (λ (y : Item). Some y) (get_or-append_seam front x [] x)
+    ap (λ i. slice_get (front ++ x ∷ []) i) n ∙ slice_get-get_or (front ++ x ∷ []) (length front) x within
+    ∙ ap (λ (y : Item). Some y) (get_or-append_seam front x [] x)

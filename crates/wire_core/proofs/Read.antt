@@ -1,5 +1,6 @@
 -- What was read is a part.
-use Rattle.std.proofs.Common.{◌≡◌, ℕ, ◌<◌, ◌≤◌, true, List, [], ◌∷◌, length, Result, Ok, Err, refl, ap, ◌∙◌, arith, rules}
+use Rattle.std.proofs.Common.{◌≡◌, ℕ, ◌<◌, ◌≤◌, true, List, [], ◌∷◌, length, Result, Ok, Err, refl, ap, ◌∙◌, arith}
+use Rattle.std.proofs.Common.{rules}
 use Rattle.std.specs.Prelude.{nat_lt}
 use Rattle.definitions.specs.Items.{IsBytes}
 use Rattle.definitions.specs.Messages.{Part}
@@ -19,7 +20,8 @@ part_read P exact bytes fits short p read =
     record { fields = says.0; short = omega arith }
 
 -- a body is its kind, and what follows it
-kind_first : {F : Type 0} (P : Profile F) (input : Input) (bytes : List ℕ) (kind : ℕ) (rest : List ℕ) → byte_at bytes ≡ Ok (kind, rest) →
+kind_first : {F : Type 0} (P : Profile F) (input : Input) (bytes : List ℕ) (kind : ℕ) (rest : List ℕ) →
+    byte_at bytes ≡ Ok (kind, rest) →
     event_in P input bytes ≡ (fields_at P input kind rest >>= nothing_after)
 kind_first P input [] kind rest read = cc
 kind_first P input (b ∷ bytes) kind rest read =
@@ -28,14 +30,17 @@ kind_first P input (b ∷ bytes) kind rest read =
     let bytes_is : bytes ≡ rest = ap (λ (p : ℕ × List ℕ). p.1) both in
     λ i. fields_at P input (b_is i) (bytes_is i) >>= nothing_after
 
-pub nothing_left : {F : Type 0} (P : Profile F) (input : Input) (bytes : List ℕ) (kind : ℕ) (rest : List ℕ) (e : Event F) (left : List ℕ) → byte_at bytes ≡ Ok (kind, rest) →
+pub nothing_left : {F : Type 0} (P : Profile F) (input : Input) (bytes : List ℕ) (kind : ℕ) (rest : List ℕ)
+    (e : Event F) (left : List ℕ) → byte_at bytes ≡ Ok (kind, rest) →
     fields_at P input kind rest ≡ Ok (e, left) → left ≡ [] → event_in P input bytes ≡ Ok e
 nothing_left {F} P input bytes kind rest e left first read none =
     let all : fields_at P input kind rest ≡ Ok (e, []) = read ∙ ap (λ (l : List ℕ). Ok (e, l)) none in
     kind_first P input bytes kind rest first ∙ ap (λ (r : Result (Event F × List ℕ) ℕ). r >>= nothing_after) all
 
-pub something_left : {F : Type 0} (P : Profile F) (input : Input) (bytes : List ℕ) (kind : ℕ) (rest : List ℕ) (e : Event F) (left : List ℕ) → byte_at bytes ≡ Ok (kind, rest) →
+pub something_left : {F : Type 0} (P : Profile F) (input : Input) (bytes : List ℕ) (kind : ℕ) (rest : List ℕ)
+    (e : Event F) (left : List ℕ) → byte_at bytes ≡ Ok (kind, rest) →
     fields_at P input kind rest ≡ Ok (e, left) → 0 < length left → event_in P input bytes ≡ Err trailing
 something_left {F} P input bytes kind rest e left first read more =
     let above : nat_lt 0 (length left) ≡ true = search (rules, more) in
-    kind_first P input bytes kind rest first ∙ ap (λ (r : Result (Event F × List ℕ) ℕ). r >>= nothing_after) read ∙ rw above refl
+    kind_first P input bytes kind rest first ∙ ap (λ (r : Result (Event F × List ℕ) ℕ). r >>= nothing_after) read
+    ∙ rw above refl

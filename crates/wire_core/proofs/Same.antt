@@ -13,8 +13,10 @@ alike true t to from = sym (to refl)
 alike false true to from = from refl
 alike false false to from = refl
 
-pub same_bytes : MarksComeBack → (a b : List Bool) → length a ≡ length b → bytes_eq (mark_bytes a) (mark_bytes b) ≡ same_marks a b
+pub same_bytes : MarksComeBack → (a b : List Bool) → length a ≡ length b →
+    bytes_eq (mark_bytes a) (mark_bytes b) ≡ same_marks a b
 same_bytes back a b count =
     let marks = marks_Decides a b in
     let bytes = bytes_eq-Decides (mark_bytes a) (mark_bytes b) in
-    alike _ _ (λ h. marks.1 (sym (back a) ∙ (λ i. marks_in (count i) (bytes.0 h i)) ∙ back b)) (λ h. bytes.1 (ap mark_bytes (marks.0 h)))
+    alike _ _ (λ h. marks.1 (sym (back a) ∙ (λ i. marks_in (count i) (bytes.0 h i)) ∙ back b))
+    (λ h. bytes.1 (ap mark_bytes (marks.0 h)))

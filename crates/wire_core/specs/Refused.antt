@@ -5,7 +5,9 @@
 --     IfFault                    something of the fault's number
 use Rattle.std.specs.Prelude.{◌≡◌, ℕ, Result, Ok, Err, ⊤}
 use Rattle.wire_core.specs.declared.fault.WireFault.{WireFault}
-use Rattle.wire_core.specs.declared.fault.WireFault.TheVariants.{BadHello, FrameLength, Truncated, BadKind, BadBound, EmptyRange, ItemLength, ItemOrder, ItemOutside, MarkPadding, Trailing, TooManyParts}
+use Rattle.wire_core.specs.declared.fault.WireFault.TheVariants.{BadHello, FrameLength, Truncated, BadKind, BadBound}
+use Rattle.wire_core.specs.declared.fault.WireFault.TheVariants.{EmptyRange, ItemLength, ItemOrder, ItemOutside}
+use Rattle.wire_core.specs.declared.fault.WireFault.TheVariants.{MarkPadding, Trailing, TooManyParts}
 use Rattle.wire_core.specs.declared.fault.DecodeError.{DecodeError}
 use Rattle.wire_core.specs.declared.fault.DecodeError.TheVariants as errors
 use Rattle.definitions.specs.Refusals as codes

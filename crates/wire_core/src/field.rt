@@ -1,4 +1,5 @@
-//! Reading the fields of a body. Each reader takes a field off the front of the bytes and gives its value, or the fault.
+//! Reading the fields of a body. Each reader takes a field off the front of the bytes and gives its value, or the
+//! fault.
 
 ghost use Rattle.std.specs.Prelude.{◌≡◌, length, None, IfOk};
 ghost use Rattle.std.specs.Option.{option_copied};

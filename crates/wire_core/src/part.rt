@@ -25,7 +25,8 @@ pub enum PartKind {
     Sum,
     /// The sender's items in the range.
     List,
-    /// For each item of a list that is answered, whether the sender lacks it, and the sender's items that the list had not.
+    /// For each item of a list that is answered, whether the sender lacks it, and the sender's items that the list had
+    /// not.
     Answer,
 }
 

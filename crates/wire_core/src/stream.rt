@@ -19,7 +19,8 @@ use crate::standing::{Standing, Step};
 use digest_core::Summary;
 use std::alloc::{AllocError, Global};
 
-/// Takes the next frame off the front, behind so many parts of its message, and gives its event, if a whole one has come.
+/// Takes the next frame off the front, behind so many parts of its message, and gives its event, if a whole one has
+/// come.
 fn take_event<F: Summary>(
     alloc: Global,
     bytes: &mut &[u8],

@@ -1,21 +1,26 @@
 -- What a delivery makes of a world.
-use Rattle.std.proofs.Common.{◌≡◌, refl, sym, ap, ◌∙◌, subst, arith, ℕ, zero, suc, ◌<◌, ◌≤◌, List, [], ◌∷◌, map, set, get_or, Option, Some, None, if◌then◌else◌}
-use Rattle.std.specs.Prelude.{slice_get, slice_set, IfSome, option_map, unwrap_or, length, Bool, true, false, ◌==◌, Result, Ok, Err, IfOk, OnOk, OnErr}
+use Rattle.std.proofs.Common.{◌≡◌, refl, sym, ap, ◌∙◌, subst, arith, ℕ, zero, suc, ◌<◌, ◌≤◌, List, [], ◌∷◌, map, set}
+use Rattle.std.proofs.Common.{get_or, Option, Some, None, if◌then◌else◌}
+use Rattle.std.specs.Prelude.{slice_get, slice_set, IfSome, option_map, unwrap_or, length, Bool, true, false, ◌==◌}
+use Rattle.std.specs.Prelude.{Result, Ok, Err, IfOk, OnOk, OnErr}
 use Rattle.std.proofs.lemmas.List.{map-set, set-get_or}
 use Rattle.std.proofs.lemmas.Option.{slice_get-map, slice_get_read}
 use Rattle.std.proofs.lemmas.Bool.{ne_eqb}
-use Rattle.definitions.proofs.Words.{AllByRecursion, World, Node, node_at, no_node, has_ended, IsExact, Message, has_open, answer, after, Replies, Ends, Refuses, responder, reply}
+use Rattle.definitions.proofs.Words.{AllByRecursion, World, Node, node_at, no_node, has_ended, IsExact, Message}
+use Rattle.definitions.proofs.Words.{has_open, answer, after, Replies, Ends, Refuses, responder, reply}
 use Rattle.definitions.proofs.Lemmas.{cond-true, cond-false, eq-eqb, get_or_from_slice_get}
 use Rattle.definitions.specs.Ends.{Answer}
 use Rattle.definitions.specs.Worlds.{Deliver, deliver_at, after_delivery}
 use Rattle.definitions.specs.Worlds as worlds
 use Rattle.definitions.specs.Fingerprints.{Summary}
 use Rattle.laws.specs.Growing.{is_even}
-use Rattle.laws.specs.Sessions.{Kept, Keeps, GoesOnBy, Tells, SessionsGoOn, SessionsKeepNodes, SessionsTell, hearer_now, kept_behind}
+use Rattle.laws.specs.Sessions.{Kept, Keeps, GoesOnBy, Tells, SessionsGoOn, SessionsKeepNodes, SessionsTell, hearer_now}
+use Rattle.laws.specs.Sessions.{kept_behind}
 use Rattle.ends_core.specs.Held.{Held, HasNone}
 use Rattle.world_core.specs.declared.session.Session.{Session}
 use Rattle.world_core.specs.Nodes.{newest}
-use Rattle.world_core.specs.Live.{session_of, kept_of, made, IsKept, world_of, IsRunning, IsTaken, last_by, parts_by, did_by, responder_from, hearer, heard_by}
+use Rattle.world_core.specs.Live.{session_of, kept_of, made, IsKept, world_of, IsRunning, IsTaken, last_by, parts_by}
+use Rattle.world_core.specs.Live.{did_by, responder_from, hearer, heard_by}
 use Rattle.world_core.proofs.Running.{came_on, IsKept-stays, All-kept}
 
 -- ==== Lists

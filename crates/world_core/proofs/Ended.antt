@@ -1,10 +1,12 @@
 -- What is seen of a session by what is kept of it: its report, and what its sides learned.
 use Rattle.std.proofs.Common.{◌≡◌, refl, sym, ap, ◌∙◌, subst, arith, ℕ, ◌<◌, ◌≤◌, List, Option, Some, None, take}
-use Rattle.std.specs.Prelude.{slice_get, IfSome, IfOk, OnOk, OnErr, Result, Ok, Err, option_map, length, true, false, ◌==◌}
+use Rattle.std.specs.Prelude.{slice_get, IfSome, IfOk, OnOk, OnErr, Result, Ok, Err, option_map, length, true, false}
+use Rattle.std.specs.Prelude.{◌==◌}
 use Rattle.std.proofs.lemmas.List.{set-get_or}
 use Rattle.std.proofs.lemmas.Option.{slice_get-map}
 use Rattle.std.proofs.lemmas.Bool.{ne_eqb}
-use Rattle.definitions.proofs.Words.{World, Node, Item, End, node_at, no_node, has_ended, initiator_of, responder_of, absorb_at, absorb_side, set_of, message_bound, rank_of, responder_at}
+use Rattle.definitions.proofs.Words.{World, Node, Item, End, node_at, no_node, has_ended, initiator_of, responder_of}
+use Rattle.definitions.proofs.Words.{absorb_at, absorb_side, set_of, message_bound, rank_of, responder_at}
 use Rattle.definitions.proofs.Lemmas.{cond-true, cond-false, eq-eqb}
 use Rattle.definitions.specs.Ranks.{rank_by}
 use Rattle.definitions.specs.Talks.{Knowledge}

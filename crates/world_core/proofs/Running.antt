@@ -1,11 +1,15 @@
 -- That what holds of each world holds behind each step.
-use Rattle.std.proofs.Common.{◌≡◌, refl, sym, ap, ◌∙◌, subst, arith, ℕ, ◌<◌, List, [], ◌∷◌, ◌++◌, length, map, set, get_or, Option, Some, None}
+use Rattle.std.proofs.Common.{◌≡◌, refl, sym, ap, ◌∙◌, subst, arith, ℕ, ◌<◌, List, [], ◌∷◌, ◌++◌, length, map, set}
+use Rattle.std.proofs.Common.{get_or, Option, Some, None}
 use Rattle.std.specs.Prelude.{slice_get, slice_index_or, IfSome, ◌==◌, Result, Ok, Err, IfOk, OnOk, OnErr}
 use Rattle.std.proofs.lemmas.List.{set-get_or}
 use Rattle.std.proofs.lemmas.Option.{slice_get-get_or}
 use Rattle.std.proofs.lemmas.Bool.{ne_eqb}
-use Rattle.definitions.proofs.Words.{AllByRecursion, World, Node, History, node_at, no_node, with_history, insert_at, step, start, Item, IsNode, insertion, history_after}
-use Rattle.definitions.proofs.Lemmas.{cond-false, map-append, length-map, cases_eq, cases_lt, get_or-set_same, get_or-set_other, set_past, get_or_from_slice_get, All-map, All-append, fold-append}
+use Rattle.definitions.proofs.Words.{AllByRecursion, World, Node, History, node_at, no_node, with_history, insert_at}
+use Rattle.definitions.proofs.Words.{step, start, Item, IsNode, insertion, history_after}
+use Rattle.definitions.proofs.Lemmas.{cond-false, map-append, length-map, cases_eq, cases_lt, get_or-set_same}
+use Rattle.definitions.proofs.Lemmas.{get_or-set_other, set_past, get_or_from_slice_get, All-map, All-append}
+use Rattle.definitions.proofs.Lemmas.{fold-append}
 use Rattle.definitions.specs.Worlds.{Insert, Open, Deliver, told, open_at}
 use Rattle.definitions.specs.Worlds as worlds
 use Rattle.definitions.specs.Fingerprints.{Summary}

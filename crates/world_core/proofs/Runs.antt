@@ -1,14 +1,19 @@
 -- What holds of each run, and of each step, by the laws.
 use Rattle.std.proofs.Common.{◌≡◌, sym, ap, ◌∙◌, subst, arith, true, ◌+◌, ◌++◌, List, slice_get, take}
 use Rattle.std.specs.Prelude.{Result, Ok, Err, OnOk, unwrap_or}
-use Rattle.definitions.proofs.Words.{AllByRecursion, World, Session, Node, Step, IsExact, run, start, step, Headline, HistoryClaim, AbsorbClaim, CostClaim, CostsLittle, SessionsEnd, deliveries, has_ended, KnowledgeIsSound, KnowsNothingWrong, IsSound, IsSet, Item, set_of, node_at, items_of, messages, initiator_of, responder_of, initiator_knows, responder_knows, talk}
+use Rattle.definitions.proofs.Words.{AllByRecursion, World, Session, Node, Step, IsExact, run, start, step, Headline}
+use Rattle.definitions.proofs.Words.{HistoryClaim, AbsorbClaim, CostClaim, CostsLittle, SessionsEnd, deliveries}
+use Rattle.definitions.proofs.Words.{has_ended, KnowledgeIsSound, KnowsNothingWrong, IsSound, IsSet, Item, set_of}
+use Rattle.definitions.proofs.Words.{node_at, items_of, messages, initiator_of, responder_of, initiator_knows}
+use Rattle.definitions.proofs.Words.{responder_knows, talk}
 use Rattle.definitions.proofs.Lemmas.{All-both, fold-append}
 use Rattle.definitions.specs.Worlds as worlds
 use Rattle.definitions.specs.Fingerprints.{Summary}
 use Rattle.laws.specs.Turns.{TalksBegin}
 use Rattle.world_core.specs.declared.session.Session as live
 use Rattle.world_core.specs.Live.{IsRunning, world_of}
-use Rattle.world_core.specs.Runs.{Came, LearnsNothingWrong, Holds, ComesFrom, HasItemsOfRuns, EndsByDeliveries, AbsorbsAll}
+use Rattle.world_core.specs.Runs.{Came, LearnsNothingWrong, Holds, ComesFrom, HasItemsOfRuns, EndsByDeliveries}
+use Rattle.world_core.specs.Runs.{AbsorbsAll}
 
 module _ {F : Type 0} (S : Summary F) where
   -- what is learned so far is what is learned of the talk so far

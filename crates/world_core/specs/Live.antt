@@ -1,8 +1,10 @@
--- What a world keeps of its sessions beside what the definitions say: their ends, the message made last, and the most parts of a message.
+-- What a world keeps of its sessions beside what the definitions say: their ends, the message made last, and the most
+-- parts of a message.
 --     session_of l, kept_of l, made l
 --     IsKept S w l, IsRunning S nodes lives    what holds of each world
 --     beginning S i r node, heard_by S l node  a session that is opened; one whose message made last is heard
-use Rattle.std.specs.Prelude.{◌≡◌, ℕ, ◌+◌, List, length, max, map, Option, Some, None, IfSome, option_map, unwrap_or, if◌then◌else◌, ⊤}
+use Rattle.std.specs.Prelude.{◌≡◌, ℕ, ◌+◌, List, length, max, map, Option, Some, None, IfSome, option_map, unwrap_or}
+use Rattle.std.specs.Prelude.{if◌then◌else◌, ⊤}
 use Rattle.std.specs.List.{AllByRecursion}
 use Rattle.definitions.specs.Fingerprints.{Summary}
 use Rattle.definitions.specs.Messages.{Message, opening}

@@ -15,9 +15,11 @@ use Rattle.definitions.specs.Fingerprints.{Summary}
 use Rattle.definitions.specs.Histories.{content, items_of}
 use Rattle.definitions.specs.Ranks.{IsRankTable}
 use Rattle.definitions.specs.Talks.{IsClear}
-use Rattle.definitions.specs.Theorems.{rank, CostsLittle, KeepLimits, KnowsDifference, KnowsNothingWrong, IsNode, inserts, node_of, deliveries}
+use Rattle.definitions.specs.Theorems.{rank, CostsLittle, KeepLimits, KnowsDifference, KnowsNothingWrong, IsNode}
+use Rattle.definitions.specs.Theorems.{inserts, node_of, deliveries}
 use Rattle.definitions.specs.Worlds as worlds
-use Rattle.definitions.specs.Worlds.{World, Node, Session, node_at, messages, has_ended, initiator_of, responder_of, initiator_knowledge, responder_knowledge, message_bound, report_of, run, start}
+use Rattle.definitions.specs.Worlds.{World, Node, Session, node_at, messages, has_ended, initiator_of, responder_of}
+use Rattle.definitions.specs.Worlds.{initiator_knowledge, responder_knowledge, message_bound, report_of, run, start}
 
 -- some steps made the world of nodes that may stand in a setup
 pub record Came {F : Type 0} (S : Summary F) (w : World) : Type 0 where

@@ -9,7 +9,8 @@ use Rattle.definitions.specs.Fingerprints.{Summary}
 use Rattle.definitions.specs.Sets.{set_of}
 use Rattle.definitions.specs.Theorems.{node_of}
 use Rattle.definitions.specs.Worlds as worlds
-use Rattle.definitions.specs.Worlds.{World, Session, Node, node_at, has_ended, initiator_knowledge, responder_knowledge, with_history, Absorbing, absorb_all}
+use Rattle.definitions.specs.Worlds.{World, Session, Node, node_at, has_ended, initiator_knowledge, responder_knowledge}
+use Rattle.definitions.specs.Worlds.{with_history, Absorbing, absorb_all}
 use Rattle.world_core.specs.declared.step.Side.{Side}
 use Rattle.world_core.specs.declared.step.Side.TheVariants as sides
 use Rattle.world_core.specs.declared.step.Step.{Step}

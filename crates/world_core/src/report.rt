@@ -45,7 +45,8 @@ pub struct Report<'a> {
     pub responder: usize,
     /// How many messages were made.
     pub messages: usize,
-    /// How many messages there may be, once the responder's version is chosen: 3 + min(2r, 2i + 1) by the ranks of both.
+    /// How many messages there may be, once the responder's version is chosen: 3 + min(2r, 2i + 1) by the ranks of
+    /// both.
     pub bound: Option<usize>,
     /// The greatest number of parts of a message.
     pub parts: usize,

@@ -125,7 +125,8 @@ impl Setup {
 
     /// Adds a node with these items, each once, where it stands first.
     ///
-    /// Refused 40 where there are more items than the table's cap, or 90: the table is given back, and nothing is changed.
+    /// Refused 40 where there are more items than the table's cap, or 90: the table is given back, and nothing is
+    /// changed.
     pub fn add_node(
         &mut self,
         alloc: Global,

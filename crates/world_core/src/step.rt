@@ -18,8 +18,8 @@ pub enum Step {
     Open(usize, usize),
     /// The session's last message is handed over. At the first the responder's version is chosen.
     Deliver(usize),
-    /// What the side of an ended session learned is put into the history of its node, in rising order, until there is no
-    /// room.
+    /// What the side of an ended session learned is put into the history of its node, in rising order, until there is
+    /// no room.
     Absorb(usize, Side),
 }
 

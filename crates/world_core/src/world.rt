@@ -7,8 +7,11 @@ ghost use Rattle.definitions.specs.Worlds as worlds;
 ghost use Rattle.world_core.specs.Live.{IsRunning, world_of};
 ghost use Rattle.definitions.specs.Sets.{set_of};
 ghost use Rattle.world_core.specs.Reports.{report_of};
-ghost use Rattle.world_core.specs.Runs.{HasFewMessages, IsWithinBound, KeepsLimits, LearnsBoth, LearnsNothingWrong, HasFewParts, Holds, Came, ComesFrom, HasItemsOfRuns, EndsByDeliveries, AbsorbsAll};
-ghost use Rattle.world_core.specs.Steps.{did_of, side_of, step_of, added_in, absorbed_at, absorbing, AbsorbsSome, IsCutShort};
+ghost use Rattle.world_core.specs.Runs.{HasFewMessages, IsWithinBound, KeepsLimits, LearnsBoth, LearnsNothingWrong};
+ghost use Rattle.world_core.specs.Runs.{HasFewParts, Holds, Came, ComesFrom, HasItemsOfRuns, EndsByDeliveries};
+ghost use Rattle.world_core.specs.Runs.{AbsorbsAll};
+ghost use Rattle.world_core.specs.Steps.{did_of, side_of, step_of, added_in, absorbed_at, absorbing, AbsorbsSome};
+ghost use Rattle.world_core.specs.Steps.{IsCutShort};
 
 use crate::node::Node;
 use crate::report::Report;
@@ -276,10 +279,11 @@ fn run_steps<F: Summary>(
 
 /// The world behind these steps, from the setup on.
 ///
-/// Each session of it has few messages, by the ranks of both tables and by the bound that its report shows; no list in it
-/// is longer than its sender's limit; nothing wrong is learned, and once it has ended, where no unequal compared ranges
-/// share a fingerprint, both differences. No message has more parts than the widths of both tables allow for each item
-/// that only one of the two versions has, or one. Each item of a history was there at the start, or was inserted.
+/// Each session of it has few messages, by the ranks of both tables and by the bound that its report shows; no list in
+/// it is longer than its sender's limit; nothing wrong is learned, and once it has ended, where no unequal compared
+/// ranges share a fingerprint, both differences. No message has more parts than the widths of both tables allow for
+/// each item that only one of the two versions has, or one. Each item of a history was there at the start, or was
+/// inserted.
 pub fn run<F: Summary>(alloc: Global, setup: &Setup, steps: &[Step]) -> Result<World<F>, AllocError>
     ensures world { IfOk result (λ w. w ≡ worlds.run F.summary (worlds.start setup.now) (map step_of steps.now)) }
     ensures few { IfOk result (λ w. AllByRecursion (HasFewMessages F.summary w) w.sessions) }

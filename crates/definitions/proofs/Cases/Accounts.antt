@@ -1,5 +1,6 @@
 -- What the outcomes of sessions tell, case by case: hostile peers, and memory, readers and writers that fail.
-use Rattle.std.specs.Prelude.{◌≡◌, ℕ, zero, suc, ◌+◌, ◌≤◌, ◌<◌, Bool, true, false, List, [], ◌∷◌, ◌++◌, length, map, take, drop, replicate, nat_lt, if◌then◌else◌, refl, codes}
+use Rattle.std.specs.Prelude.{◌≡◌, ℕ, zero, suc, ◌+◌, ◌≤◌, ◌<◌, Bool, true, false, List, [], ◌∷◌, ◌++◌, length, map}
+use Rattle.std.specs.Prelude.{take, drop, replicate, nat_lt, if◌then◌else◌, refl, codes}
 use Rattle.std.proofs.Common.{sym, subst, arith, inl, inr, ◌∙◌, ap}
 use Rattle.std.specs.List.{range_with_len}
 use Rattle.std.proofs.lemmas.List.{take-append-drop, length-take-le}
@@ -9,10 +10,13 @@ use Rattle.definitions.specs.Talks.{Knowledge}
 use Rattle.definitions.specs.Wire.{two_lane_profile, fault_text}
 use Rattle.definitions.specs.Ends.{is_over}
 use Rattle.definitions.specs.Hearing.{Hearing, Peer_refused, Refused_for}
-use Rattle.definitions.specs.Accounts.{Role, Initiates, Responds, speaker_of, Seen, Call, called_for, said, session_of, heard_in, IsBeginningOf, WroteFault, WroteAll, BrokeOff, IsEnded, IsRefused, IsMemory, IsPeerRefused, IsIo, Failing, Reading, Writing}
+use Rattle.definitions.specs.Accounts.{Role, Initiates, Responds, speaker_of, Seen, Call, called_for, said, session_of}
+use Rattle.definitions.specs.Accounts.{heard_in, IsBeginningOf, WroteFault, WroteAll, BrokeOff, IsEnded, IsRefused}
+use Rattle.definitions.specs.Accounts.{IsMemory, IsPeerRefused, IsIo, Failing, Reading, Writing}
 use Rattle.definitions.specs.Sha256.{sha256, digest_bytes, hash_after, compress, rounds, schedule, first_words}
 use Rattle.definitions.proofs.Cases.Examples.{abc, no_items, has_abc}
-use Rattle.definitions.proofs.Cases.Spellings.{number, zeros, everything, end, opening_of_none, list_of_abc, answer_to_abc}
+use Rattle.definitions.proofs.Cases.Spellings.{number, zeros, everything, end, opening_of_none, list_of_abc}
+use Rattle.definitions.proofs.Cases.Spellings.{answer_to_abc}
 use Rattle.definitions.proofs.Cases.Streams.{hello, initiator_reads, initiator_writes}
 use Rattle.definitions.proofs.Cases.Hearings.{sum_below_b, sum_from_c, no_kind}
 
@@ -61,14 +65,17 @@ abbrev fault : ℕ → List ℕ
 fault code = number 2 ++ 5 ∷ code ∷ []
 
 -- by the first fault in what was read
-refuses : (c : Call Lanes) (k code : ℕ) → calls_for c ≡ k → c.written ≡ said two_lanes two_lane_profile c k ++ fault_text code → heard_in two_lanes two_lane_profile c ≡ Refused_for code → Refuses c k code
+refuses : (c : Call Lanes) (k code : ℕ) → calls_for c ≡ k →
+    c.written ≡ said two_lanes two_lane_profile c k ++ fault_text code →
+    heard_in two_lanes two_lane_profile c ≡ Refused_for code → Refuses c k code
 refuses c k code count written first = record {
   wrote = record { count = omega (arith, count); written = inl written };
   why = inl (record { first = first; behind = inl count });
 }
 
 -- by the table of sessions or the gate
-refuses_own : (c : Call Lanes) (k n code : ℕ) → calls_for c ≡ n → k ≤ n → c.written ≡ said two_lanes two_lane_profile c k ++ fault_text code → 50 ≤ code → code ≤ 54 → Refuses c k code
+refuses_own : (c : Call Lanes) (k n code : ℕ) → calls_for c ≡ n → k ≤ n →
+    c.written ≡ said two_lanes two_lane_profile c k ++ fault_text code → 50 ≤ code → code ≤ 54 → Refuses c k code
 refuses_own c k n code count le written low high = record {
   wrote = record { count = within k (calls_for c) n count le; written = inl written };
   why = inr (low, high);
@@ -85,22 +92,29 @@ frame_of_no_bytes = refuses (dial fine (hello ++ number 0) (dialed ++ fault 2)) 
 pub frame_too_long : Refuses (dial fine (hello ++ 0 ∷ 0x80 ∷ 0 ∷ 1 ∷ []) (dialed ++ fault 2)) 1 2
 frame_too_long = refuses (dial fine (hello ++ 0 ∷ 0x80 ∷ 0 ∷ 1 ∷ []) (dialed ++ fault 2)) 1 2 refl refl refl
 
-pub answer_to_nothing : Refuses (dial fine (hello ++ number 0x0B ++ 3 ∷ everything ++ number 0 ++ number 0) (dialed ++ fault 20)) 1 20
-answer_to_nothing = refuses (dial fine (hello ++ number 0x0B ++ 3 ∷ everything ++ number 0 ++ number 0) (dialed ++ fault 20)) 1 20 refl refl refl
+pub answer_to_nothing :
+    Refuses (dial fine (hello ++ number 0x0B ++ 3 ∷ everything ++ number 0 ++ number 0) (dialed ++ fault 20)) 1 20
+answer_to_nothing =
+    refuses (dial fine (hello ++ number 0x0B ++ 3 ∷ everything ++ number 0 ++ number 0) (dialed ++ fault 20)) 1 20 refl
+    refl refl
 
 pub partition_not_closed : Refuses (dial fine (hello ++ sum_below_b ++ end) (dialed ++ fault 22)) 1 22
 partition_not_closed = refuses (dial fine (hello ++ sum_below_b ++ end) (dialed ++ fault 22)) 1 22 refl refl refl
 
-pub count_beyond_the_body : Refuses (dial fine (hello ++ number 0x0B ++ 2 ∷ everything ++ (0xFF ∷ 0xFF ∷ 0xFF ∷ 0xFF ∷ []) ++ 1 ∷ 0x61 ∷ 1 ∷ 0x62 ∷ []) (dialed ++ fault 2)) 1 2
-count_beyond_the_body = refuses (dial fine (hello ++ number 0x0B ++ 2 ∷ everything ++ (0xFF ∷ 0xFF ∷ 0xFF ∷ 0xFF ∷ []) ++ 1 ∷ 0x61 ∷ 1 ∷ 0x62 ∷ []) (dialed ++ fault 2)) 1 2 refl refl refl
+pub count_beyond_the_body : Refuses (dial fine (hello ++ number 0x0B ++ 2 ∷ everything
+    ++ (0xFF ∷ 0xFF ∷ 0xFF ∷ 0xFF ∷ []) ++ 1 ∷ 0x61 ∷ 1 ∷ 0x62 ∷ []) (dialed ++ fault 2)) 1 2
+count_beyond_the_body = refuses (dial fine (hello ++ number 0x0B ++ 2 ∷ everything ++ (0xFF ∷ 0xFF ∷ 0xFF ∷ 0xFF ∷ [])
+    ++ 1 ∷ 0x61 ∷ 1 ∷ 0x62 ∷ []) (dialed ++ fault 2)) 1 2 refl refl refl
 
 pub fault_frame_came : IsPeerRefused two_lanes two_lane_profile (dial fine (hello ++ fault 99) dialed) 1 99
 fault_frame_came = record { wrote = record { count = refl; written = refl }; told = refl }
 
 -- the refusal of the earliest frame
 
-pub gap_before_a_bad_kind : Refuses (dial fine (hello ++ sum_below_b ++ sum_from_c ++ no_kind) (dialed ++ fault 22)) 1 22
-gap_before_a_bad_kind = refuses (dial fine (hello ++ sum_below_b ++ sum_from_c ++ no_kind) (dialed ++ fault 22)) 1 22 refl refl refl
+pub gap_before_a_bad_kind :
+    Refuses (dial fine (hello ++ sum_below_b ++ sum_from_c ++ no_kind) (dialed ++ fault 22)) 1 22
+gap_before_a_bad_kind =
+    refuses (dial fine (hello ++ sum_below_b ++ sum_from_c ++ no_kind) (dialed ++ fault 22)) 1 22 refl refl refl
 
 pub bad_kind_before_a_gap : Refuses (dial fine (hello ++ sum_below_b ++ no_kind) (dialed ++ fault 4)) 1 4
 bad_kind_before_a_gap = refuses (dial fine (hello ++ sum_below_b ++ no_kind) (dialed ++ fault 4)) 1 4 refl refl refl
@@ -124,7 +138,8 @@ pub prefixes_are_refused : map heard_of_prefix (range_with_len 0 69) ≡ replica
 unfolding sha256 digest_bytes hash_after compress rounds schedule first_words
 prefixes_are_refused = refl
 
-pub prefixes_call_for : map (λ n. calls_for (serve at_end (prefix n) [])) (range_with_len 0 69) ≡ replicate 48 0 ++ replicate 21 1
+pub prefixes_call_for : map (λ n. calls_for (serve at_end (prefix n) [])) (range_with_len 0 69)
+    ≡ replicate 48 0 ++ replicate 21 1
 unfolding sha256 digest_bytes hash_after compress rounds schedule first_words
 prefixes_call_for = refl
 
@@ -137,22 +152,28 @@ prefix_of_68 = refuses (serve at_end (prefix 68) (hello ++ list_of_abc ++ fault 
 
 -- ---- sessions that end
 
-pub initiator_ends : IsEnded two_lanes two_lane_profile (dial fine initiator_reads initiator_writes) 2 (record { ours = []; theirs = abc }) 0
-initiator_ends = record { wrote = record { count = refl; written = refl }; over = refl; learned_is = refl; version_is = refl }
+pub initiator_ends : IsEnded two_lanes two_lane_profile (dial fine initiator_reads initiator_writes) 2
+    (record { ours = []; theirs = abc }) 0
+initiator_ends =
+    record { wrote = record { count = refl; written = refl }; over = refl; learned_is = refl; version_is = refl }
 
-pub responder_ends : IsEnded two_lanes two_lane_profile (serve fine initiator_writes (hello ++ list_of_abc)) 1 (record { ours = abc; theirs = [] }) 1
+pub responder_ends : IsEnded two_lanes two_lane_profile (serve fine initiator_writes (hello ++ list_of_abc)) 1
+    (record { ours = abc; theirs = [] }) 1
 unfolding sha256 digest_bytes hash_after compress rounds schedule first_words
-responder_ends = record { wrote = record { count = refl; written = refl }; over = refl; learned_is = refl; version_is = refl }
+responder_ends =
+    record { wrote = record { count = refl; written = refl }; over = refl; learned_is = refl; version_is = refl }
 
 -- ---- refusals of the table of sessions, and of the gate
 
 pub table_is_full : Refuses (serve fine initiator_writes (hello ++ fault 50)) 0 50
 unfolding sha256 digest_bytes hash_after compress rounds schedule first_words
-table_is_full = refuses_own (serve fine initiator_writes (hello ++ fault 50)) 0 1 50 refl (omega arith) refl (omega arith) (omega arith)
+table_is_full = refuses_own (serve fine initiator_writes (hello ++ fault 50)) 0 1 50 refl (omega arith) refl
+    (omega arith) (omega arith)
 
 pub gate_is_shut : Refuses (serve fine initiator_writes (hello ++ list_of_abc ++ fault 54)) 1 54
 unfolding sha256 digest_bytes hash_after compress rounds schedule first_words
-gate_is_shut = refuses_own (serve fine initiator_writes (hello ++ list_of_abc ++ fault 54)) 1 1 54 refl (omega arith) refl (omega arith) (omega arith)
+gate_is_shut = refuses_own (serve fine initiator_writes (hello ++ list_of_abc ++ fault 54)) 1 1 54 refl
+    (omega arith) refl (omega arith) (omega arith)
 
 -- ---- memory runs out, before the reply and behind it
 
@@ -163,13 +184,19 @@ pub memory_before_the_reply : IsMemory two_lanes two_lane_profile (serve fine (p
 unfolding sha256 digest_bytes hash_after compress rounds schedule first_words
 memory_before_the_reply = record { wrote = record { count = omega arith; written = inl refl } }
 
-pub memory_behind_the_reply : IsMemory two_lanes two_lane_profile (serve fine initiator_writes (hello ++ list_of_abc ++ fault 90)) 1
+pub memory_behind_the_reply :
+    IsMemory two_lanes two_lane_profile (serve fine initiator_writes (hello ++ list_of_abc ++ fault 90)) 1
 unfolding sha256 digest_bytes hash_after compress rounds schedule first_words
-memory_behind_the_reply = record { wrote = record { count = within 1 (calls_for (serve fine initiator_writes [])) 1 refl (omega arith); written = inl refl } }
+memory_behind_the_reply = record {
+  wrote =
+      record { count = within 1 (calls_for (serve fine initiator_writes [])) 1 refl (omega arith); written = inl refl };
+}
 
 -- the writer failed inside the fault frame
-pub memory_and_a_broken_writer : IsMemory two_lanes two_lane_profile (call Responds has_abc fine broken [] (hello ++ 0 ∷ 0 ∷ [])) 0
-memory_and_a_broken_writer = record { wrote = record { count = omega arith; written = inr (refl, (0 ∷ 2 ∷ 5 ∷ 90 ∷ [], refl)) } }
+pub memory_and_a_broken_writer :
+    IsMemory two_lanes two_lane_profile (call Responds has_abc fine broken [] (hello ++ 0 ∷ 0 ∷ [])) 0
+memory_and_a_broken_writer =
+    record { wrote = record { count = omega arith; written = inr (refl, (0 ∷ 2 ∷ 5 ∷ 90 ∷ [], refl)) } }
 
 -- ---- a writer that fails at its nth byte
 
@@ -180,7 +207,8 @@ beginning : (n : ℕ) (all : List ℕ) → IsBeginningOf (take n all) all
 beginning n all = (drop n all, sym (take-append-drop n all))
 
 -- before the first message is whole
-pub writer_fails_in_the_first : (n : ℕ) → n < 48 → IsIo two_lanes two_lane_profile (call Initiates no_items fine broken [] (take n dialed)) 0 Writing
+pub writer_fails_in_the_first : (n : ℕ) → n < 48 →
+    IsIo two_lanes two_lane_profile (call Initiates no_items fine broken [] (take n dialed)) 0 Writing
 writer_fails_in_the_first n low = record {
   wrote = record {
     count = omega arith;
@@ -192,7 +220,8 @@ writer_fails_in_the_first n low = record {
 }
 
 -- inside the second
-pub writer_fails_in_the_second : (n : ℕ) → n < 21 → IsIo two_lanes two_lane_profile (call Initiates no_items fine broken initiator_reads (dialed ++ take n answer_to_abc)) 1 Writing
+pub writer_fails_in_the_second : (n : ℕ) → n < 21 → IsIo two_lanes two_lane_profile
+    (call Initiates no_items fine broken initiator_reads (dialed ++ take n answer_to_abc)) 1 Writing
 writer_fails_in_the_second n low = record {
   wrote = record {
     count = omega arith;
@@ -212,12 +241,22 @@ none_came_whole = refl
 
 pub reader_fails_at_once : IsIo two_lanes two_lane_profile (read_failed 0) 1 Reading
 reader_fails_at_once = record {
-  wrote = record { count = omega arith; front = ([], refl); no_less = λ some. ([], refl); no_more = λ more. absurd (omega arith) };
+  wrote = record {
+    count = omega arith;
+    front = ([], refl);
+    no_less = λ some. ([], refl);
+    no_more = λ more. absurd (omega arith);
+  };
   failed = inl refl;
 }
 
 pub reader_fails_in_the_reply : IsIo two_lanes two_lane_profile (read_failed 23) 1 Reading
 reader_fails_in_the_reply = record {
-  wrote = record { count = omega arith; front = ([], refl); no_less = λ some. ([], refl); no_more = λ more. absurd (omega arith) };
+  wrote = record {
+    count = omega arith;
+    front = ([], refl);
+    no_less = λ some. ([], refl);
+    no_more = λ more. absurd (omega arith);
+  };
   failed = inl refl;
 }

@@ -1,5 +1,6 @@
 -- What is heard frame by frame: the refusal of the earliest frame; and a message taken part by part.
-use Rattle.std.specs.Prelude.{◌≡◌, ℕ, zero, suc, Bool, true, false, flat_map, nat_le, if◌then◌else◌, List, [], ◌∷◌, ◌++◌, length, map, take, replicate, Option, Some, None, refl, codes, fold}
+use Rattle.std.specs.Prelude.{◌≡◌, ℕ, zero, suc, Bool, true, false, flat_map, nat_le, if◌then◌else◌, List, [], ◌∷◌}
+use Rattle.std.specs.Prelude.{◌++◌, length, map, take, replicate, Option, Some, None, refl, codes, fold}
 use Rattle.std.specs.List.{range_with_len, list_all}
 use Rattle.definitions.specs.Items.{Item, Range, is_below, whole}
 use Rattle.definitions.specs.Fingerprints.{Lanes, two_lanes}
@@ -10,10 +11,12 @@ use Rattle.definitions.specs.Streams.{In_message, Faulted, feed}
 use Rattle.definitions.specs.Ends.{End, Waits, Over, Spent, Replies, Ends, Refuses, initiator, responder, answer, after}
 use Rattle.definitions.specs.Engines.{Speaker, initiating, responding, messages_in, fault_frame}
 use Rattle.definitions.specs.Taking.{Taken, nothing_taken, taken_all, ended, after_ended, by_parts}
-use Rattle.definitions.specs.Hearing.{Hearing, Goes_on, Over_at, Peer_refused, Refused_for, first_fault, hearing_in, hearing_to}
+use Rattle.definitions.specs.Hearing.{Hearing, Goes_on, Over_at, Peer_refused, Refused_for, first_fault, hearing_in}
+use Rattle.definitions.specs.Hearing.{hearing_to}
 use Rattle.definitions.specs.Sha256.{sha256, digest_bytes, hash_after, compress, rounds, schedule, first_words}
 use Rattle.definitions.proofs.Cases.Examples.{itself, binary8, peer, abc, no_items, has_abc, letters, below, from}
-use Rattle.definitions.proofs.Cases.Spellings.{number, zeros, everything, end, opening_of_none, list_of_abc, answer_to_abc}
+use Rattle.definitions.proofs.Cases.Spellings.{number, zeros, everything, end, opening_of_none, list_of_abc}
+use Rattle.definitions.proofs.Cases.Spellings.{answer_to_abc}
 use Rattle.definitions.proofs.Cases.Streams.{hello, initiator_reads, initiator_writes}
 use Rattle.definitions.proofs.Cases.Talks.{first, sum, list, cd}
 
@@ -56,7 +59,8 @@ pub fault_frame_stands : fault_frame two_lane_profile (hello ++ sum_from_c ++ nu
 fault_frame_stands = refl
 
 -- within one frame the wire's fault is first: the items of a misplaced list do not rise
-pub wire_before_placing : serves (hello ++ number 0x0B ++ 2 ∷ everything ++ number 2 ++ 1 ∷ 0x62 ∷ 1 ∷ 0x61 ∷ []) ≡ Refused_for 8
+pub wire_before_placing : serves (hello ++ number 0x0B ++ 2 ∷ everything ++ number 2 ++ 1 ∷ 0x62 ∷ 1 ∷ 0x61 ∷ [])
+    ≡ Refused_for 8
 wire_before_placing = refl
 
 -- one part more than a message may have is the wire's fault, though it is misplaced too
@@ -79,29 +83,37 @@ no_message_behind_the_end = refl
 abbrev pub waiting : End (List Item)
 waiting = initiator itself cd
 
-pub all_parts_and_the_end : ended (taken_all itself waiting (sum (below (codes "b")) (codes "a") ∷ sum (from (codes "b")) (codes "b") ∷ [])) ≡
-    Replies (list (below (codes "b")) [] ∷ sum (record { lower = codes "b"; upper = Some (codes "d") }) (codes "c") ∷ sum (from (codes "d")) (codes "d") ∷ [])
+pub all_parts_and_the_end :
+    ended (taken_all itself waiting (sum (below (codes "b")) (codes "a") ∷ sum (from (codes "b")) (codes "b") ∷ [])) ≡
+    Replies (list (below (codes "b")) [] ∷ sum (record { lower = codes "b"; upper = Some (codes "d") }) (codes "c")
+    ∷ sum (from (codes "d")) (codes "d") ∷ [])
 all_parts_and_the_end = refl
 
 -- the reply to one part is there before the next comes, and what is taught does not count yet
-pub one_part_taken : (taken_all itself waiting (sum (below (codes "b")) (codes "a") ∷ [])).reply ≡ Some (list (below (codes "b")) [] ∷ [])
+pub one_part_taken : (taken_all itself waiting (sum (below (codes "b")) (codes "a") ∷ [])).reply
+    ≡ Some (list (below (codes "b")) [] ∷ [])
 one_part_taken = refl
 
-pub refused_at_the_second : by_parts itself waiting (nothing_taken waiting) (sum (below (codes "b")) (codes "a") ∷ sum (from (codes "c")) (codes "b") ∷ sum (from (codes "b")) [] ∷ []) ≡ Refuses 22
+pub refused_at_the_second : by_parts itself waiting (nothing_taken waiting)
+    (sum (below (codes "b")) (codes "a") ∷ sum (from (codes "c")) (codes "b") ∷ sum (from (codes "b")) [] ∷ [])
+    ≡ Refuses 22
 refused_at_the_second = refl
 
-pub refused_at_the_end : by_parts itself waiting (nothing_taken waiting) (sum (below (codes "b")) (codes "a") ∷ []) ≡ Refuses 22
+pub refused_at_the_end : by_parts itself waiting (nothing_taken waiting) (sum (below (codes "b")) (codes "a") ∷ [])
+    ≡ Refuses 22
 refused_at_the_end = refl
 
 -- what was taught counts behind the end of the message
 abbrev listed : Taken (List Item)
 listed = taken_all itself waiting (list whole (codes "ab") ∷ [])
 
-pub taught_at_the_end : (after_ended waiting listed (ended listed)).learned ≡ record { ours = letters (codes "cd"); theirs = letters (codes "ab") }
+pub taught_at_the_end : (after_ended waiting listed (ended listed)).learned
+    ≡ record { ours = letters (codes "cd"); theirs = letters (codes "ab") }
 taught_at_the_end = refl
 
 -- an end that is spent takes no part
-pub spent_takes_none : by_parts itself (record waiting { stage = Spent }) (nothing_taken (record waiting { stage = Spent })) (first (codes "a")) ≡ Refuses 26
+pub spent_takes_none : by_parts itself (record waiting { stage = Spent })
+    (nothing_taken (record waiting { stage = Spent })) (first (codes "a")) ≡ Refuses 26
 spent_takes_none = refl
 
 -- ---- a peer that never agrees: it cuts each range behind its lower bound, and has nothing in any list
@@ -111,7 +123,9 @@ abbrev other : List Item
 other = letters (codes "z")
 
 abbrev cut_again : Range → Message (List Item)
-cut_again X = if is_below (X.lower ++ 0 ∷ []) X.upper then Sum (record { lower = X.lower; upper = Some (X.lower ++ 0 ∷ []) }) other ∷ Sum (record { lower = X.lower ++ 0 ∷ []; upper = X.upper }) other ∷ [] else []
+cut_again X = if is_below (X.lower ++ 0 ∷ []) X.upper
+    then Sum (record { lower = X.lower; upper = Some (X.lower ++ 0 ∷ []) }) other
+    ∷ Sum (record { lower = X.lower ++ 0 ∷ []; upper = X.upper }) other ∷ [] else []
 
 abbrev disagrees : Part (List Item) → Message (List Item)
 disagrees (Sum X f) = cut_again X

@@ -69,8 +69,10 @@ abbrev counting : Summary ℕ
 counting = record { of = length; same = λ m n. m == n }
 
 -- two sets of one item each have one fingerprint, so nothing is learned, and the talk is not clear
-pub nothing_is_learned : initiator_knows (letters (codes "a")) (talk counting (peer binary8 (codes "a")) (peer binary8 (codes "b")) 9) ≡ record { ours = []; theirs = [] }
+pub nothing_is_learned : initiator_knows (letters (codes "a"))
+    (talk counting (peer binary8 (codes "a")) (peer binary8 (codes "b")) 9) ≡ record { ours = []; theirs = [] }
 nothing_is_learned = refl
 
-pub nor_is_the_talk_clear : IsClear counting (letters (codes "a")) (letters (codes "b")) (talk counting (peer binary8 (codes "a")) (peer binary8 (codes "b")) 9) → ⊥
+pub nor_is_the_talk_clear : IsClear counting (letters (codes "a")) (letters (codes "b"))
+    (talk counting (peer binary8 (codes "a")) (peer binary8 (codes "b")) 9) → ⊥
 nor_is_the_talk_clear clear = let wrong : true ≡ false = ap (λ A. has A (codes "a")) (clear.0.0 refl) in absurd cc

@@ -16,7 +16,8 @@ first = sum whole ∷ []
 pub gap_between : place_fault first (sum (below (codes "b")) ∷ sum (from (codes "c")) ∷ []) ≡ Some 22
 gap_between = refl
 
-pub gap_between_at_the_second : next (next (behind first) (sum (below (codes "b")))) (sum (from (codes "c"))) ≡ Refused 22
+pub gap_between_at_the_second : next (next (behind first) (sum (below (codes "b")))) (sum (from (codes "c")))
+    ≡ Refused 22
 gap_between_at_the_second = refl
 
 pub gap_at_the_end : place_fault first (sum (below (codes "b")) ∷ []) ≡ Some 22
@@ -74,7 +75,8 @@ an_answer = refl
 pub an_answer_of_another_range : place_fault listed (Answer (below (codes "c")) (true ∷ true ∷ []) [] ∷ []) ≡ Some 20
 an_answer_of_another_range = refl
 
-pub an_answer_too_many : place_fault listed (Answer whole (true ∷ true ∷ []) [] ∷ Answer whole (true ∷ true ∷ []) [] ∷ []) ≡ Some 20
+pub an_answer_too_many :
+    place_fault listed (Answer whole (true ∷ true ∷ []) [] ∷ Answer whole (true ∷ true ∷ []) [] ∷ []) ≡ Some 20
 an_answer_too_many = refl
 
 -- behind two Sums
@@ -82,7 +84,8 @@ an_answer_too_many = refl
 abbrev pub two_sums : Message (List Item)
 two_sums = sum (below (codes "b")) ∷ sum (from (codes "b")) ∷ []
 
-pub a_list_is_misplaced : place_fault two_sums (Listing (from (codes "b")) [] ∷ Listing (below (codes "b")) [] ∷ []) ≡ Some 20
+pub a_list_is_misplaced : place_fault two_sums (Listing (from (codes "b")) [] ∷ Listing (below (codes "b")) [] ∷ [])
+    ≡ Some 20
 a_list_is_misplaced = refl
 
 pub both_listed : place_fault two_sums (Listing (below (codes "b")) [] ∷ Listing (from (codes "b")) [] ∷ []) ≡ None

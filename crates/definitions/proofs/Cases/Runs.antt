@@ -3,7 +3,8 @@ use Rattle.std.specs.Prelude.{◌≡◌, ℕ, Bool, true, false, List, [], ◌�
 use Rattle.definitions.specs.Strategies.{Table}
 use Rattle.definitions.specs.Talks.{Knowledge}
 use Rattle.definitions.specs.Histories.{History, opening_history, insertion, New, Already, Full, version}
-use Rattle.definitions.specs.Worlds.{World, Node, Step, Report, Insert, Open, Deliver, Absorb, Initiator, Responder, Idle, Added, Opened, Sent, Over, Absorbed, run, start, answers, report}
+use Rattle.definitions.specs.Worlds.{World, Node, Step, Report, Insert, Open, Deliver, Absorb, Initiator, Responder}
+use Rattle.definitions.specs.Worlds.{Idle, Added, Opened, Sent, Over, Absorbed, run, start, answers, report}
 use Rattle.definitions.proofs.Cases.Examples.{itself, letters, binary, binary16}
 
 abbrev pub node : Table → List ℕ → List ℕ → Node
@@ -43,10 +44,12 @@ two_sessions = Open 0 1 ∷ Deliver 0 ∷ Insert 0 (codes "i") ∷ Insert 1 (cod
 abbrev pub after_two_sessions : World
 after_two_sessions = run itself eight_and_seven two_sessions
 
-pub inserts_between_sessions_first : report itself after_two_sessions 0 ≡ reports 7 (Some 9) 2 true (knows_letters (codes "h") []) (knows_letters [] (codes "h"))
+pub inserts_between_sessions_first : report itself after_two_sessions 0
+    ≡ reports 7 (Some 9) 2 true (knows_letters (codes "h") []) (knows_letters [] (codes "h"))
 inserts_between_sessions_first = refl
 
-pub inserts_between_sessions_second : report itself after_two_sessions 1 ≡ reports 7 (Some 9) 3 true (knows_letters (codes "hi") (codes "j")) (knows_letters (codes "j") (codes "hi"))
+pub inserts_between_sessions_second : report itself after_two_sessions 1
+    ≡ reports 7 (Some 9) 3 true (knows_letters (codes "hi") (codes "j")) (knows_letters (codes "j") (codes "hi"))
 inserts_between_sessions_second = refl
 
 -- the first delivery of the seven finds one less to deliver
@@ -60,10 +63,12 @@ inserts_between_sessions_answers = refl
 abbrev pub both_absorb : List Step
 both_absorb = Absorb 1 Initiator ∷ Absorb 1 Responder ∷ Open 0 1 ∷ Deliver 2 ∷ Deliver 2 ∷ Deliver 2 ∷ []
 
-pub both_absorb_answers : answers itself after_two_sessions both_absorb ≡ Absorbed 1 ∷ Absorbed 2 ∷ Opened 2 ∷ Sent ∷ Over ∷ Idle ∷ []
+pub both_absorb_answers : answers itself after_two_sessions both_absorb
+    ≡ Absorbed 1 ∷ Absorbed 2 ∷ Opened 2 ∷ Sent ∷ Over ∷ Idle ∷ []
 both_absorb_answers = refl
 
-pub both_absorb_third : report itself (run itself after_two_sessions both_absorb) 2 ≡ reports 2 (Some 11) 1 true (knows_letters [] []) (knows_letters [] [])
+pub both_absorb_third : report itself (run itself after_two_sessions both_absorb) 2
+    ≡ reports 2 (Some 11) 1 true (knows_letters [] []) (knows_letters [] [])
 both_absorb_third = refl
 
 -- ---- a full node absorbs nothing, and no session is absorbed before its end
@@ -71,18 +76,21 @@ both_absorb_third = refl
 abbrev pub two_and_two : World
 two_and_two = start (node (binary 2 1) (1 ∷ 2 ∷ []) (codes "cd") ∷ node (binary 2 1) (1 ∷ 2 ∷ []) (codes "ab") ∷ [])
 
-pub a_full_node_absorbs_nothing : answers itself two_and_two (Open 0 1 ∷ Absorb 0 Initiator ∷ finish 0 ++ Absorb 0 Initiator ∷ []) ≡
+pub a_full_node_absorbs_nothing :
+    answers itself two_and_two (Open 0 1 ∷ Absorb 0 Initiator ∷ finish 0 ++ Absorb 0 Initiator ∷ []) ≡
     Opened 0 ∷ Idle ∷ Sent ∷ Sent ∷ Sent ∷ Sent ∷ Over ∷ Idle ∷ Idle ∷ Absorbed 0 ∷ []
 a_full_node_absorbs_nothing = refl
 
 -- ---- opened, and nothing delivered
 
-pub only_opened : report itself (run itself eight_and_seven (Open 0 1 ∷ [])) 0 ≡ reports 1 None 1 false (knows_letters [] []) (knows_letters [] [])
+pub only_opened : report itself (run itself eight_and_seven (Open 0 1 ∷ [])) 0
+    ≡ reports 1 None 1 false (knows_letters [] []) (knows_letters [] [])
 only_opened = refl
 
 -- ---- steps that name nothing
 
-pub steps_that_name_nothing : answers itself eight_and_seven (Open 0 0 ∷ Deliver 9 ∷ Insert 7 (codes "a") ∷ []) ≡ Idle ∷ Idle ∷ Idle ∷ []
+pub steps_that_name_nothing : answers itself eight_and_seven (Open 0 0 ∷ Deliver 9 ∷ Insert 7 (codes "a") ∷ [])
+    ≡ Idle ∷ Idle ∷ Idle ∷ []
 steps_that_name_nothing = refl
 
 -- ---- a log of one

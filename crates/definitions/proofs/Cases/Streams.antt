@@ -4,7 +4,8 @@ use Rattle.definitions.specs.Items.{whole}
 use Rattle.definitions.specs.Fingerprints.{two_lanes, Lanes}
 use Rattle.definitions.specs.Messages.{Listing}
 use Rattle.definitions.specs.Wire.{two_lane_profile, Came, Ended, Failed}
-use Rattle.definitions.specs.Streams.{Standing, Before_hello, In_message, Meaning_over, Faulted, Fed, feed, finish_fault}
+use Rattle.definitions.specs.Streams.{Standing, Before_hello, In_message, Meaning_over, Faulted, Fed, feed}
+use Rattle.definitions.specs.Streams.{finish_fault}
 use Rattle.definitions.specs.Ends.{is_over}
 use Rattle.definitions.specs.Engines.{text, messages_in, fault_frame, initiating, responding, says, session}
 use Rattle.definitions.specs.Sha256.{sha256, digest_bytes, hash_after, compress, rounds, schedule, first_words}
@@ -24,7 +25,8 @@ comes_to to kept = record { events = []; to = to; kept = kept }
 pub hello_of_another_profile : fed (0x52 ∷ 0x52 ∷ 0x53 ∷ 0x30 ∷ []) ≡ comes_to (Faulted 1) []
 hello_of_another_profile = refl
 
-pub hello_of_another_profile_not_before : fed (0x53 ∷ 0x52 ∷ 0x53 ∷ []) ≡ comes_to Before_hello (0x53 ∷ 0x52 ∷ 0x53 ∷ [])
+pub hello_of_another_profile_not_before : fed (0x53 ∷ 0x52 ∷ 0x53 ∷ [])
+    ≡ comes_to Before_hello (0x53 ∷ 0x52 ∷ 0x53 ∷ [])
 hello_of_another_profile_not_before = refl
 
 pub hello_of_another_profile_again : feed two_lane_profile (Faulted 1) hello ≡ comes_to (Faulted 1) []
@@ -60,12 +62,14 @@ pub longest_frame : fed (hello ++ 0 ∷ 0x80 ∷ 0 ∷ 0 ∷ []) ≡ comes_to (I
 longest_frame = refl
 
 -- faults of items, behind an event that counts
-pub items_that_fall : fed (hello ++ list_of_abc ++ number 0x0B ++ 2 ∷ everything ++ number 2 ++ 1 ∷ 0x62 ∷ 1 ∷ 0x61 ∷ []) ≡
+pub items_that_fall :
+    fed (hello ++ list_of_abc ++ number 0x0B ++ 2 ∷ everything ++ number 2 ++ 1 ∷ 0x62 ∷ 1 ∷ 0x61 ∷ []) ≡
     record { events = Came (Listing whole abc) ∷ Ended ∷ []; to = Faulted 8; kept = [] }
 items_that_fall = refl
 
 -- a fault frame ends the meaning: what follows it is none
-pub fault_frame_received : fed (hello ++ number 2 ++ 5 ∷ 0x63 ∷ 9 ∷ []) ≡ record { events = Failed 0x63 ∷ []; to = Meaning_over; kept = [] }
+pub fault_frame_received : fed (hello ++ number 2 ++ 5 ∷ 0x63 ∷ 9 ∷ [])
+    ≡ record { events = Failed 0x63 ∷ []; to = Meaning_over; kept = [] }
 fault_frame_received = refl
 
 pub fault_frame_told : fault_frame two_lane_profile (hello ++ list_of_abc ++ number 2 ++ 5 ∷ 0x63 ∷ 9 ∷ []) ≡ Some 0x63
@@ -79,27 +83,36 @@ initiator_reads = hello ++ list_of_abc
 abbrev pub initiator_writes : List ℕ
 initiator_writes = hello ++ opening_of_none ++ answer_to_abc
 
-pub empty_meets_abc_initiator_writes : text two_lane_profile 2 (says two_lanes (initiating two_lanes no_items) (messages_in two_lane_profile initiator_reads)) ≡ initiator_writes
+pub empty_meets_abc_initiator_writes : text two_lane_profile 2
+    (says two_lanes (initiating two_lanes no_items) (messages_in two_lane_profile initiator_reads)) ≡ initiator_writes
 empty_meets_abc_initiator_writes = refl
 
-pub empty_meets_abc_initiator_learns : (session two_lanes (initiating two_lanes no_items) (messages_in two_lane_profile initiator_reads)).learned ≡ record { ours = []; theirs = abc }
+pub empty_meets_abc_initiator_learns :
+    (session two_lanes (initiating two_lanes no_items) (messages_in two_lane_profile initiator_reads)).learned
+    ≡ record { ours = []; theirs = abc }
 empty_meets_abc_initiator_learns = refl
 
-pub empty_meets_abc_initiator_ends : is_over (session two_lanes (initiating two_lanes no_items) (messages_in two_lane_profile initiator_reads)).stage ≡ true
+pub empty_meets_abc_initiator_ends : is_over
+    (session two_lanes (initiating two_lanes no_items) (messages_in two_lane_profile initiator_reads)).stage ≡ true
 empty_meets_abc_initiator_ends = refl
 
 -- what comes behind the end of the session counts no more
-pub nothing_behind_the_end : (session two_lanes (initiating two_lanes no_items) (messages_in two_lane_profile (initiator_reads ++ list_of_abc))).learned ≡ record { ours = []; theirs = abc }
+pub nothing_behind_the_end : (session two_lanes (initiating two_lanes no_items)
+    (messages_in two_lane_profile (initiator_reads ++ list_of_abc))).learned ≡ record { ours = []; theirs = abc }
 nothing_behind_the_end = refl
 
-pub empty_meets_abc_responder_writes : text two_lane_profile 1 (says two_lanes (responding has_abc) (messages_in two_lane_profile initiator_writes)) ≡ hello ++ list_of_abc
+pub empty_meets_abc_responder_writes : text two_lane_profile 1
+    (says two_lanes (responding has_abc) (messages_in two_lane_profile initiator_writes)) ≡ hello ++ list_of_abc
 unfolding sha256 digest_bytes hash_after compress rounds schedule first_words
 empty_meets_abc_responder_writes = refl
 
-pub empty_meets_abc_responder_learns : (session two_lanes (responding has_abc) (messages_in two_lane_profile initiator_writes)).learned ≡ record { ours = abc; theirs = [] }
+pub empty_meets_abc_responder_learns :
+    (session two_lanes (responding has_abc) (messages_in two_lane_profile initiator_writes)).learned
+    ≡ record { ours = abc; theirs = [] }
 unfolding sha256 digest_bytes hash_after compress rounds schedule first_words
 empty_meets_abc_responder_learns = refl
 
-pub empty_meets_abc_responder_ends : is_over (session two_lanes (responding has_abc) (messages_in two_lane_profile initiator_writes)).stage ≡ true
+pub empty_meets_abc_responder_ends :
+    is_over (session two_lanes (responding has_abc) (messages_in two_lane_profile initiator_writes)).stage ≡ true
 unfolding sha256 digest_bytes hash_after compress rounds schedule first_words
 empty_meets_abc_responder_ends = refl

@@ -10,7 +10,8 @@ use Rattle.definitions.specs.Ends.{Over, Spent, Replies, Refuses, answer, after,
 use Rattle.definitions.specs.Cost.{part_bound, most_parts}
 use Rattle.definitions.specs.Theorems.{rank}
 use Rattle.definitions.specs.Worlds.{message_bound}
-use Rattle.definitions.proofs.Cases.Examples.{itself, binary, binary8, binary16, peeling, letters, peer, abc, no_items, has_abc, from_to, below, from}
+use Rattle.definitions.proofs.Cases.Examples.{itself, binary, binary8, binary16, peeling, letters, peer, abc, no_items}
+use Rattle.definitions.proofs.Cases.Examples.{has_abc, from_to, below, from}
 
 -- the whole talk: none of these has more than 20 messages
 abbrev pub talk_of : Peer → Peer → List (Message (List Item))
@@ -41,7 +42,8 @@ bound_of I R = message_bound (rank (least_ranks I.table) I) (rank (least_ranks R
 pub both_empty : talk_of no_items no_items ≡ first [] ∷ [] ∷ []
 both_empty = refl
 
-pub empty_meets_abc : talk_of no_items has_abc ≡ first [] ∷ (Listing whole abc ∷ []) ∷ (Answer whole (true ∷ []) [] ∷ []) ∷ []
+pub empty_meets_abc : talk_of no_items has_abc
+    ≡ first [] ∷ (Listing whole abc ∷ []) ∷ (Answer whole (true ∷ []) [] ∷ []) ∷ []
 empty_meets_abc = refl
 
 pub empty_meets_abc_initiator : initiator_knows [] (talk_of no_items has_abc) ≡ record { ours = []; theirs = abc }
@@ -64,9 +66,12 @@ ab = peer (binary 2 1) (codes "ab")
 pub two_pairs_that_cross : talk_of cd ab ≡
     first (codes "cd")
     ∷ (sum (below (codes "b")) (codes "a") ∷ sum (from (codes "b")) (codes "b") ∷ [])
-    ∷ (list (below (codes "b")) [] ∷ sum (from_to (codes "b") (codes "d")) (codes "c") ∷ sum (from (codes "d")) (codes "d") ∷ [])
-    ∷ (with_letters (below (codes "b")) (codes "a") ∷ list (from_to (codes "b") (codes "d")) (codes "b") ∷ list (from (codes "d")) [] ∷ [])
-    ∷ (Answer (from_to (codes "b") (codes "d")) (true ∷ []) (letters (codes "c")) ∷ with_letters (from (codes "d")) (codes "d") ∷ [])
+    ∷ (list (below (codes "b")) [] ∷ sum (from_to (codes "b") (codes "d")) (codes "c")
+    ∷ sum (from (codes "d")) (codes "d") ∷ [])
+    ∷ (with_letters (below (codes "b")) (codes "a") ∷ list (from_to (codes "b") (codes "d")) (codes "b")
+    ∷ list (from (codes "d")) [] ∷ [])
+    ∷ (Answer (from_to (codes "b") (codes "d")) (true ∷ []) (letters (codes "c"))
+    ∷ with_letters (from (codes "d")) (codes "d") ∷ [])
     ∷ []
 two_pairs_that_cross = refl
 
@@ -81,20 +86,24 @@ two_pairs_that_cross_most = refl
 
 -- the same by two ends
 
-pub the_responder_replies : answer itself (responder_at itself cd ab 0) (first (codes "cd")) ≡ Replies (sum (below (codes "b")) (codes "a") ∷ sum (from (codes "b")) (codes "b") ∷ [])
+pub the_responder_replies : answer itself (responder_at itself cd ab 0) (first (codes "cd"))
+    ≡ Replies (sum (below (codes "b")) (codes "a") ∷ sum (from (codes "b")) (codes "b") ∷ [])
 the_responder_replies = refl
 
-pub the_initiator_ends : initiator_at itself cd ab 5 ≡ record { peer = cd; stage = Over; sent = 3; learned = knows_letters (codes "cd") (codes "ab") }
+pub the_initiator_ends : initiator_at itself cd ab 5
+    ≡ record { peer = cd; stage = Over; sent = 3; learned = knows_letters (codes "cd") (codes "ab") }
 the_initiator_ends = refl
 
-pub the_responder_ends : responder_at itself cd ab 5 ≡ record { peer = ab; stage = Over; sent = 2; learned = knows_letters (codes "ab") (codes "cd") }
+pub the_responder_ends : responder_at itself cd ab 5
+    ≡ record { peer = ab; stage = Over; sent = 2; learned = knows_letters (codes "ab") (codes "cd") }
 the_responder_ends = refl
 
 -- an opening that comes again is refused, and nothing stays learned
 pub an_opening_again : answer itself (responder_at itself cd ab 3) (first (codes "cd")) ≡ Refuses missing_answer
 an_opening_again = refl
 
-pub spent_by_it : after itself (responder_at itself cd ab 3) (first (codes "cd")) ≡ record { peer = ab; stage = Spent; sent = 2; learned = nothing }
+pub spent_by_it : after itself (responder_at itself cd ab 3) (first (codes "cd"))
+    ≡ record { peer = ab; stage = Spent; sent = 2; learned = nothing }
 spent_by_it = refl
 
 -- one missing of eight
@@ -153,7 +162,8 @@ pub inserts_between_sessions : talk_of nine other_eight ≡
     ∷ (sum (below (codes "e")) (codes "abcd") ∷ sum (from (codes "e")) (codes "efgj") ∷ [])
     ∷ (sum (from_to (codes "e") (codes "g")) (codes "ef") ∷ sum (from (codes "g")) (codes "ghi") ∷ [])
     ∷ (sum (from_to (codes "g") (codes "j")) (codes "g") ∷ sum (from (codes "j")) (codes "j") ∷ [])
-    ∷ (sum (from_to (codes "g") (codes "h")) (codes "g") ∷ sum (from_to (codes "h") (codes "j")) (codes "hi") ∷ list (from (codes "j")) [] ∷ [])
+    ∷ (sum (from_to (codes "g") (codes "h")) (codes "g") ∷ sum (from_to (codes "h") (codes "j")) (codes "hi")
+    ∷ list (from (codes "j")) [] ∷ [])
     ∷ (list (from_to (codes "h") (codes "j")) [] ∷ with_letters (from (codes "j")) (codes "j") ∷ [])
     ∷ (with_letters (from_to (codes "h") (codes "j")) (codes "hi") ∷ [])
     ∷ []
@@ -168,10 +178,12 @@ inserts_between_sessions_parts = refl
 pub inserts_between_sessions_most : most_parts (talk_of nine other_eight) ≡ 3
 inserts_between_sessions_most = refl
 
-pub inserts_between_sessions_initiator : initiator_knows nine.items (talk_of nine other_eight) ≡ knows_letters (codes "hi") (codes "j")
+pub inserts_between_sessions_initiator : initiator_knows nine.items (talk_of nine other_eight)
+    ≡ knows_letters (codes "hi") (codes "j")
 inserts_between_sessions_initiator = refl
 
-pub inserts_between_sessions_responder : responder_knows other_eight.items (talk_of nine other_eight) ≡ knows_letters (codes "j") (codes "hi")
+pub inserts_between_sessions_responder : responder_knows other_eight.items (talk_of nine other_eight)
+    ≡ knows_letters (codes "j") (codes "hi")
 inserts_between_sessions_responder = refl
 
 -- rows that peel
@@ -200,8 +212,10 @@ peeling_by_threes_parts = refl
 pub peeling_by_threes_most : most_parts (talk_of peeled_seven peeled_six) ≡ 2
 peeling_by_threes_most = refl
 
-pub peeling_by_threes_initiator : initiator_knows peeled_seven.items (talk_of peeled_seven peeled_six) ≡ knows_letters (codes "g") []
+pub peeling_by_threes_initiator : initiator_knows peeled_seven.items (talk_of peeled_seven peeled_six)
+    ≡ knows_letters (codes "g") []
 peeling_by_threes_initiator = refl
 
-pub peeling_by_threes_responder : responder_knows peeled_six.items (talk_of peeled_seven peeled_six) ≡ knows_letters [] (codes "g")
+pub peeling_by_threes_responder : responder_knows peeled_six.items (talk_of peeled_seven peeled_six)
+    ≡ knows_letters [] (codes "g")
 peeling_by_threes_responder = refl

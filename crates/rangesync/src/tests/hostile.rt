@@ -183,7 +183,8 @@ where
     Ok((listener, text))
 }
 
-/// Takes the connection, reads hello and message 1 of no items, which are 48 bytes, and is silent until the peer closes.
+/// Takes the connection, reads hello and message 1 of no items, which are 48 bytes, and is silent until the peer
+/// closes.
 fn hears<R: Clock + Abort>(rt: &R, listener: &Listener<R>) {
     let next = listener.take().ok().expect(rt, "no fault");
     let (mut reader, _writer) = next.expect(rt, "a connection");

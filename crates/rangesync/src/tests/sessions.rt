@@ -199,7 +199,8 @@ where
     Ok((listener, text))
 }
 
-/// Takes the connection, reads hello and message 1 of no items, which are 48 bytes, writes these bytes, and lets go of it.
+/// Takes the connection, reads hello and message 1 of no items, which are 48 bytes, writes these bytes, and lets go of
+/// it.
 fn reply<R>(rt: &R, listener: &Listener<R>, bytes: &[u8])
 where
     R: Files

@@ -12,18 +12,23 @@ loop-place-init g c =
     record {
       cut = ap (λ (ys : List Range). ys ++ cut_range X (items_at A X c.args.places.now)) none;
       upper = refl;
-      ahead = ahead_first A X c.args.places.now (g.met.S.RangeStore.rises c.args.store.now) c.requires.rise c.requires.within;
+      ahead = ahead_first A X c.args.places.now
+          (g.met.S.RangeStore.rises c.args.store.now) c.requires.rise c.requires.within;
     }
 
 pub split_at-front-requires-clause-lower : goal.split_at-front-requires-clause-lower
 split_at-front-requires-clause-lower g c =
     let inv = c.loop-place.invariant in
-    (step (g.S.RangeStore.content c.args.store.now) c.args.range.now c.loop-place.rest c.args.places.now c.loop-place.place-index c.nth.result (g.met.S.RangeStore.rises c.args.store.now) (search rules) c.nth.ensures inv.upper inv.ahead).lower
+    (step (g.S.RangeStore.content c.args.store.now) c.args.range.now c.loop-place.rest
+    c.args.places.now c.loop-place.place-index c.nth.result (g.met.S.RangeStore.rises c.args.store.now)
+    (search rules) c.nth.ensures inv.upper inv.ahead).lower
 
 pub split_at-front-requires-clause-upper : goal.split_at-front-requires-clause-upper
 split_at-front-requires-clause-upper g c =
     let inv = c.loop-place.invariant in
-    (step (g.S.RangeStore.content c.args.store.now) c.args.range.now c.loop-place.rest c.args.places.now c.loop-place.place-index c.nth.result (g.met.S.RangeStore.rises c.args.store.now) (search rules) c.nth.ensures inv.upper inv.ahead).upper
+    (step (g.S.RangeStore.content c.args.store.now) c.args.range.now c.loop-place.rest
+    c.args.places.now c.loop-place.place-index c.nth.result (g.met.S.RangeStore.rises c.args.store.now)
+    (search rules) c.nth.ensures inv.upper inv.ahead).upper
 
 pub loop-place-preserved : goal.loop-place-preserved
 loop-place-preserved g c =
@@ -35,11 +40,14 @@ loop-place-preserved g c =
     let parts = c.split_at-front.result in
     let back : parts.1 ≡ record { lower = x; upper = rest.upper } = c.split_at-front.ensures.back in
     let pushed : c.push.new.self.items ≡ c.loop-place.parts.items ++ parts.0 ∷ [] = search rules in
-    let one = step A X rest c.args.places.now c.loop-place.place-index x (g.met.S.RangeStore.rises c.args.store.now) (search rules) c.nth.ensures inv.upper inv.ahead in
+    let one = step A X rest c.args.places.now c.loop-place.place-index x (g.met.S.RangeStore.rises c.args.store.now)
+    (search rules) c.nth.ensures inv.upper inv.ahead in
     let later = drop (c.loop-place.place-index + 1) c.args.places.now in
-    let cut = cut_more parts.0 rest x _ (cut_range (record { lower = x; upper = rest.upper }) (items_at A X later)) _ _ _ c.split_at-front.ensures.front one.cut pushed inv.cut in
+    let cut = cut_more parts.0 rest x _ (cut_range (record { lower = x; upper = rest.upper }) (items_at A X later)) _ _
+    _ c.split_at-front.ensures.front one.cut pushed inv.cut in
     record {
-      cut = subst (λ (Y : Range). c.push.new.self.items ++ cut_range Y (items_at A X later) ≡ cut_range X (items_at A X c.args.places.now)) (sym back) cut;
+      cut = subst (λ (Y : Range). c.push.new.self.items ++ cut_range Y (items_at A X later)
+          ≡ cut_range X (items_at A X c.args.places.now)) (sym back) cut;
       upper = ap (λ (Y : Range). Y.upper) back ∙ inv.upper;
       ahead = subst (λ (Y : Range). IsAhead A X Y.lower later) (sym back) one.ahead;
     }

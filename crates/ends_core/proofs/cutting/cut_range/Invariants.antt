@@ -9,7 +9,8 @@ abbrev pub invariant-loop-place : goal.invariant-loop-place
 invariant-loop-place g l =
     let A = g.S.RangeStore.content l.store in
     record {
-      cut : l.parts.items ++ cut_range l.rest (items_at A l.range (drop l.place-index l.places)) ≡ cut_range l.range (items_at A l.range l.places);
+      cut : l.parts.items ++ cut_range l.rest (items_at A l.range (drop l.place-index l.places))
+          ≡ cut_range l.range (items_at A l.range l.places);
       upper : l.rest.upper ≡ l.range.upper;
       ahead : IsAhead A l.range l.rest.lower (drop l.place-index l.places);
     }

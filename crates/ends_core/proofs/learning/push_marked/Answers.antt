@@ -12,4 +12,5 @@ loop-index-preserved c =
     let x = c.index-listed-index.result in
     let low : i < length xs = search rules in
     let here : get_or xs i x ≡ x = search rules in
-    pushed c.args.marks.now xs i x c.unwrap_or.result _ _ _ low here (search rules) c.loop-index.invariant c.in_ok-push_where.ensures
+    pushed c.args.marks.now xs i x c.unwrap_or.result _ _ _ low here
+    (search rules) c.loop-index.invariant c.in_ok-push_where.ensures

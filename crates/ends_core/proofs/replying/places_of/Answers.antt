@@ -14,5 +14,6 @@ loop-before-preserved c =
 pub returns : goal.returns
 returns c =
     let sizes = shares c.args.strategy.now c.args.n in
-    let all : length sizes ≤ c.loop-before.before = omega (arith, c.loop-before-test.false, c.share_count-before-end.ensures) in
+    let all : length sizes ≤ c.loop-before.before =
+    omega (arith, c.loop-before-test.false, c.share_count-before-end.ensures) in
     c.loop-before.invariant ∙ cuts_all sizes c.loop-before.before all

@@ -21,4 +21,5 @@ cut_range-requires-clause-within g c =
     let cut = c.shares_are_parts.ensures T c.count_in.ensures.table n c.requires.split in
     let places : c.deref.result.now ≡ inner_cuts 0 (shares T n) = search rules in
     let total : 0 + sum (shares T n) ≡ n = omega (arith, cut.total) in
-    rw places (subst (λ (m : ℕ). AllByRecursion (λ place. place < m) (inner_cuts 0 (shares T n))) total (cuts_within 0 (shares T n) cut.positive))
+    rw places (subst (λ (m : ℕ). AllByRecursion (λ place. place < m) (inner_cuts 0 (shares T n))) total
+    (cuts_within 0 (shares T n) cut.positive))

@@ -14,13 +14,21 @@ chunks-init g c = record {
 pub returns-then-len-gt-MAX_INPUT-clause-unread : goal.returns-then-len-gt-MAX_INPUT-clause-unread
 returns-then-len-gt-MAX_INPUT-clause-unread g c =
     let more = c.in_ok-read_more.ensures.more in
-    let all = consumes_more (g.R.Read.remaining c.args.reader.now.inner) (g.R.Read.remaining c.chunks.reader.inner) (g.R.Read.remaining c.read_more.new.reader.inner) c.chunks.input.items more.front c.chunks.invariant.read more.read in
-    λ _. inr (c.read_more.new.input.items, rw more.behind all, (let n : c.len.result ≡ length c.read_more.new.input.items = search rules in omega arith))
+    let all = consumes_more (g.R.Read.remaining c.args.reader.now.inner) (g.R.Read.remaining c.chunks.reader.inner)
+    (g.R.Read.remaining c.read_more.new.reader.inner) c.chunks.input.items more.front c.chunks.invariant.read
+    more.read in
+    λ _. inr (
+      c.read_more.new.input.items,
+      rw more.behind all,
+      (let n : c.len.result ≡ length c.read_more.new.input.items = search rules in omega arith),
+    )
 
 pub chunks-preserved : goal.chunks-preserved
 chunks-preserved g c =
     let more = c.in_ok-read_more.ensures.more in
-    let all = consumes_more (g.R.Read.remaining c.args.reader.now.inner) (g.R.Read.remaining c.chunks.reader.inner) (g.R.Read.remaining c.read_more.new.reader.inner) c.chunks.input.items more.front c.chunks.invariant.read more.read in
+    let all = consumes_more (g.R.Read.remaining c.args.reader.now.inner) (g.R.Read.remaining c.chunks.reader.inner)
+    (g.R.Read.remaining c.read_more.new.reader.inner) c.chunks.input.items more.front c.chunks.invariant.read
+    more.read in
     record {
       read = rw more.behind all;
       short = let n : c.len.result ≡ length c.read_more.new.input.items = search rules in omega arith;
@@ -31,10 +39,13 @@ chunks-preserved g c =
 pub returns-clause-input : goal.returns-clause-input
 returns-clause-input g c =
     let more = c.in_ok-read_more.ensures.more in
-    let all = consumes_more (g.R.Read.remaining c.args.reader.now.inner) (g.R.Read.remaining c.chunks.reader.inner) (g.R.Read.remaining c.read_more.new.reader.inner) c.chunks.input.items more.front c.chunks.invariant.read more.read in
+    let all = consumes_more (g.R.Read.remaining c.args.reader.now.inner) (g.R.Read.remaining c.chunks.reader.inner)
+    (g.R.Read.remaining c.read_more.new.reader.inner) c.chunks.input.items more.front c.chunks.invariant.read
+    more.read in
     record {
       read = rw more.behind all;
       whole = more.whole (omega arith);
-      short = let n = ap length more.behind in let short = c.chunks.invariant.short in let count = more.count in omega (arith, length-append c.chunks.input.items more.front);
+      short = let n = ap length more.behind in let short = c.chunks.invariant.short in let count = more.count in
+          omega (arith, length-append c.chunks.input.items more.front);
       fine = c.in_ok-read_more.ensures.fine;
     }

@@ -5,7 +5,8 @@ use Rattle.io_core.proofs.output.write_output.Given as goal
 abbrev pub invariant-sent : goal.invariant-sent
 invariant-sent g l = record {
   within : l.written ≤ length l.bytes;
-  front : Appends (g.W.Write.contents l.initial.writer.inner) (g.W.Write.contents l.writer.inner) (take l.written l.bytes);
+  front : Appends (g.W.Write.contents l.initial.writer.inner) (g.W.Write.contents l.writer.inner)
+      (take l.written l.bytes);
   fine : l.writer.failed ≡ false;
 }
 

@@ -11,4 +11,5 @@ returns-clause-placed g c apart =
     let rise = c.messages_have_ranges.ensures g.F.Summary.profile message c.parts-received.ensures.message in
     let starts = c.start-cursor.ensures sent in
     let fault : fault_in c.finish.result ≡ place_fault sent message = search (rules, starts) in
-    none_is_ok c.finish.result (place_fault sent message) (Placed sent message) fault (c.placing_is_exact.ensures sent message apart rise)
+    none_is_ok c.finish.result (place_fault sent message) (Placed sent message) fault
+    (c.placing_is_exact.ensures sent message apart rise)

@@ -4,4 +4,5 @@ use Rattle.printing_core.specs.SessionTexts.{named_line}
 use Rattle.printing_core.proofs.session_texts.push_lines.Given as goal
 
 abbrev pub invariant-loop-item : goal.invariant-loop-item
-invariant-loop-item l = string_bytes l.text ≡ string_bytes l.fn.text ++ flat_map (named_line l.name) (take l.item-index l.items)
+invariant-loop-item l =
+    string_bytes l.text ≡ string_bytes l.fn.text ++ flat_map (named_line l.name) (take l.item-index l.items)

@@ -5,4 +5,5 @@ use Rattle.range_tree.proofs.parts.count.Given as goal
 
 -- those of the parts so far, and those of the rest
 abbrev pub invariant-loop-part : goal.invariant-loop-part
-invariant-loop-part g l = l.count + length (flat_map g.P.Part.content (map arc_value (drop l.part-index l.parts))) ≡ length (flat_map g.P.Part.content (map arc_value l.parts))
+invariant-loop-part g l = l.count + length (flat_map g.P.Part.content (map arc_value (drop l.part-index l.parts)))
+    ≡ length (flat_map g.P.Part.content (map arc_value l.parts))

@@ -14,6 +14,15 @@ loop-part-preserved g c =
     let part = c.part-item.result in
     let rest : List Item = flat_map content (map arc_value (drop (i + 1) parts)) in
     let cut = flat_rest content arc_value parts i part c.loop-part-test.true c.part-item.is in
-    let before = ap (λ zs. c.loop-part.held.items ++ span c.loop-part.start c.loop-part.end zs) (sym cut) ∙ c.loop-part.invariant in
-    let step = span_step c.loop-part.start c.loop-part.end (content (arc_value part)) rest c.loop-part.held.items _ before in
-    rw (c.in_ok-push_between.ensures, c.deref.ensures, c.saturating_sub-start.ensures, c.saturating_sub-end.ensures, c.len-len.ensures, c.deref-in-loop-part.ensures) step
+    let before =
+    ap (λ zs. c.loop-part.held.items ++ span c.loop-part.start c.loop-part.end zs) (sym cut) ∙ c.loop-part.invariant in
+    let step =
+    span_step c.loop-part.start c.loop-part.end (content (arc_value part)) rest c.loop-part.held.items _ before in
+    rw (
+      c.in_ok-push_between.ensures,
+      c.deref.ensures,
+      c.saturating_sub-start.ensures,
+      c.saturating_sub-end.ensures,
+      c.len-len.ensures,
+      c.deref-in-loop-part.ensures,
+    ) step

@@ -1,4 +1,5 @@
-use Rattle.std.proofs.Common.{◌≡◌, ◌+◌, ◌-◌, ◌^◌, ◌<◌, ◌≤◌, suc, sym, ap, subst, ◌∙◌, length, take, get_or, arith, rules, List, Global}
+use Rattle.std.proofs.Common.{◌≡◌, ◌+◌, ◌-◌, ◌^◌, ◌<◌, ◌≤◌, suc, sym, ap, subst, ◌∙◌, length, take, get_or, arith}
+use Rattle.std.proofs.Common.{rules, List, Global}
 use Rattle.std.specs.List.{flat_map}
 use Rattle.std.specs.Arc.{arc_value}
 use Rattle.std.specs.declared.sync.Arc.{Arc}
@@ -23,7 +24,8 @@ returns-then-begun-eq0-clause-place g c =
     let flat = flat_of_map g.P.Part.content arc_value parts in
     let none : c.search-begun.result.0 ≡ 0 = omega arith in
     let parted = subst (PassFirst (λ a. comes_before (first_item (f a)) x) parts) none c.search-begun.ensures.parted in
-    sym (ap (count_before x) flat ∙ rank_none f (λ a. g.met.P.Part.has_some (arc_value a)) x parts (subst IsSet flat c.requires.set) parted)
+    sym (ap (count_before x) flat
+    ∙ rank_none f (λ a. g.met.P.Part.has_some (arc_value a)) x parts (subst IsSet flat c.requires.set) parted)
 
 pub rank-own-requires : goal.rank-own-requires
 rank-own-requires g c =
@@ -60,9 +62,11 @@ overflow_add-result g c =
     let low : k < length parts = omega arith in
     let cut = length_cut f parts k part low in
     let all = ap length (flat_of_map g.P.Part.content arc_value parts) in
-    let front : c.count.result ≡ length (flat_map f (take k parts)) = c.count.ensures ∙ ap length (flat_of_map g.P.Part.content arc_value (take k parts)) in
+    let front : c.count.result ≡ length (flat_map f (take k parts)) =
+    c.count.ensures ∙ ap length (flat_of_map g.P.Part.content arc_value (take k parts)) in
     let here = ap (λ a. length (f a)) c.index-parts-begun.is in
-    let most : c.rank-own.result.0 ≤ length (f part) = rw (c.rank-own.ensures.place, c.deref.ensures) (count_most c.args.item.now (f part)) in
+    let most : c.rank-own.result.0 ≤ length (f part) =
+    rw (c.rank-own.ensures.place, c.deref.ensures) (count_most c.args.item.now (f part)) in
     let fits = c.requires.fits in
     let sum : c.count.result + c.rank-own.result.0 < 2 ^ 64 = omega arith in
     search rules
@@ -79,9 +83,13 @@ returns-clause-place g c =
     let low : suc k ≤ length parts = omega arith in
     let flat = flat_of_map g.P.Part.content arc_value parts in
     let parted = subst (PassFirst (λ a. comes_before (first_item (f a)) x) parts) next c.search-begun.ensures.parted in
-    let all = ap (count_before x) flat ∙ rank_some f (λ a. g.met.P.Part.has_some (arc_value a)) x parts k part low (subst IsSet flat c.requires.set) parted in
-    let front : c.count.result ≡ length (flat_map f (take k parts)) = c.count.ensures ∙ ap length (flat_of_map g.P.Part.content arc_value (take k parts)) in
-    let own : c.rank-own.result.0 ≡ count_before x (f (get_or parts k part)) = c.rank-own.ensures.place ∙ ap (λ p. count_before x (g.P.Part.content p)) c.deref.ensures ∙ ap (λ a. count_before x (f a)) c.index-parts-begun.is in
+    let all = ap (count_before x) flat ∙ rank_some f (λ a. g.met.P.Part.has_some (arc_value a)) x parts k part low
+    (subst IsSet flat c.requires.set) parted in
+    let front : c.count.result ≡ length (flat_map f (take k parts)) =
+    c.count.ensures ∙ ap length (flat_of_map g.P.Part.content arc_value (take k parts)) in
+    let own : c.rank-own.result.0 ≡ count_before x (f (get_or parts k part)) =
+    c.rank-own.ensures.place ∙ ap (λ p. count_before x (g.P.Part.content p)) c.deref.ensures
+    ∙ ap (λ a. count_before x (f a)) c.index-parts-begun.is in
     omega arith
 
 pub returns-clause-steps : goal.returns-clause-steps

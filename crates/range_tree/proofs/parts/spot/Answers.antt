@@ -11,9 +11,11 @@ loop-index-preserved g c =
     let values = map (arc_value {X = g.row.P.Denot}) c.args.parts.now in
     let i = c.loop-index.index in
     let left = c.loop-index.left in
-    let low : i < length values = rw (length-map c.args.parts.now (arc_value {X = g.row.P.Denot})) c.loop-index-test.true in
+    let low : i < length values =
+    rw (length-map c.args.parts.now (arc_value {X = g.row.P.Denot})) c.loop-index-test.true in
     let here = ap (λ p. length (content p)) (value_read arc_value c.args.parts.now i part c.index-parts-index.is) in
-    let len : c.len-len.result ≡ length (content (arc_value part)) = c.len-len.ensures ∙ ap (λ p. length (content p)) c.deref.ensures in
+    let len : c.len-len.result ≡ length (content (arc_value part)) =
+    c.len-len.ensures ∙ ap (λ p. length (content p)) c.deref.ensures in
     let front = length_take_more content values i (arc_value part) low in
     let back = length_drop_more content values i (arc_value part) low in
     let place = c.loop-index.invariant.place in

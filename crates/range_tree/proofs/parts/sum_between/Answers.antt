@@ -18,7 +18,15 @@ loop-part-preserved g c =
     let own : List Item = content (arc_value part) in
     let rest : List Item = flat_map content (map arc_value (drop (i + 1) parts)) in
     let all : List Item = span c.args.from c.args.to (flat_map content (map arc_value parts)) in
-    let cut = ap (span s e) (flat_rest content arc_value parts i part c.loop-part-test.true c.part-item.is) ∙ span_append s e own rest in
+    let cut = ap (span s e) (flat_rest content arc_value parts i part c.loop-part-test.true c.part-item.is)
+    ∙ span_append s e own rest in
     let before = subst (λ zs. IsSummed c.loop-part.total zs all) cut c.loop-part.invariant in
-    rw (c.join-total.ensures, c.saturating_sub-start.ensures, c.saturating_sub-end.ensures, c.len-len.ensures, c.deref-in-loop-part.ensures)
-    (more_summed c.loop-part.total c.sum_between.result (span s e own) (span (s - length own) (e - length own) rest) all before (c.sum_between.ensures ∙ search rules))
+    rw (
+      c.join-total.ensures,
+      c.saturating_sub-start.ensures,
+      c.saturating_sub-end.ensures,
+      c.len-len.ensures,
+      c.deref-in-loop-part.ensures,
+    )
+    (more_summed c.loop-part.total c.sum_between.result (span s e own)
+    (span (s - length own) (e - length own) rest) all before (c.sum_between.ensures ∙ search rules))

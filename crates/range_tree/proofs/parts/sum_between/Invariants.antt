@@ -6,4 +6,6 @@ use Rattle.range_tree.proofs.Sums.{IsSummed}
 use Rattle.range_tree.proofs.parts.sum_between.Given as goal
 
 abbrev pub invariant-loop-part : goal.invariant-loop-part
-invariant-loop-part g l = IsSummed l.total (span l.start l.end (flat_map g.P.Part.content (map arc_value (drop l.part-index l.parts)))) (span l.from l.to (flat_map g.P.Part.content (map arc_value l.parts)))
+invariant-loop-part g l =
+    IsSummed l.total (span l.start l.end (flat_map g.P.Part.content (map arc_value (drop l.part-index l.parts))))
+    (span l.from l.to (flat_map g.P.Part.content (map arc_value l.parts)))

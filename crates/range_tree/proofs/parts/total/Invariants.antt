@@ -5,4 +5,5 @@ use Rattle.range_tree.proofs.Sums.{IsSummed}
 use Rattle.range_tree.proofs.parts.total.Given as goal
 
 abbrev pub invariant-loop-part : goal.invariant-loop-part
-invariant-loop-part g l = IsSummed l.total (flat_map g.P.Part.content (map arc_value (drop l.part-index l.parts))) (flat_map g.P.Part.content (map arc_value l.parts))
+invariant-loop-part g l = IsSummed l.total (flat_map g.P.Part.content (map arc_value (drop l.part-index l.parts)))
+    (flat_map g.P.Part.content (map arc_value l.parts))

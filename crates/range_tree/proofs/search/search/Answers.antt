@@ -26,7 +26,8 @@ loop-low-preserved g c =
           let test : before x ≡ true = search rules in
           rw (w.low-is, w.high-is) (record {
             steps = let kept = held.steps in omega arith;
-            few = λ small. halved c.loop-low.steps (high - low) (high - (middle + 1)) (held.few small) (omega arith) (omega arith);
+            few = λ small.
+                halved c.loop-low.steps (high - low) (high - (middle + 1)) (held.few small) (omega arith) (omega arith);
             low = omega arith;
             high = held.high;
             before = passes_up_to before c.args.list.now c.requires middle x within c.index-list-middle.is test;
@@ -36,7 +37,8 @@ loop-low-preserved g c =
           let test : before x ≡ false = search rules in
           rw (w.low-is, w.high-is) (record {
             steps = let kept = held.steps in omega arith;
-            few = λ small. halved c.loop-low.steps (high - low) (middle - low) (held.few small) (omega arith) (omega arith);
+            few = λ small.
+                halved c.loop-low.steps (high - low) (middle - low) (held.few small) (omega arith) (omega arith);
             low = omega arith;
             high = omega arith;
             before = held.before;

@@ -10,12 +10,14 @@ rank_is : (c : goal.After-partition_point) → rank_by c.args.steps.now c.args.n
 rank_is c =
     let below : ℕ → Bool = λ step. nat_lt step c.args.n in
     rank_at_point c.args.steps.now c.args.n c.partition_point.result
-    (IsPartitionPoint-from_clause below c.args.steps.now c.partition_point.result c.partition_point.ensures.partitioned (parted_below c.args.steps.now c.args.n c.requires) (λ a r q k. search rules))
+    (IsPartitionPoint-from_clause below c.args.steps.now c.partition_point.result c.partition_point.ensures.partitioned
+    (parted_below c.args.steps.now c.args.n c.requires) (λ a r q k. search rules))
     c.partition_point.ensures.bound
 
 pub overflow_cast-result : goal.overflow_cast-result
 overflow_cast-result c =
-    let small = rank_by-small 0 c.args.steps.now c.args.n (rises_from 0 c.args.steps.now c.requires (λ h. omega arith)) in
+    let small =
+    rank_by-small 0 c.args.steps.now c.args.n (rises_from 0 c.args.steps.now c.requires (λ h. omega arith)) in
     let fits = c.ranges.n.fits in
     omega (arith, rank_is c)
 
@@ -24,5 +26,6 @@ returns-clause-rank c = let is = rank_is c in omega arith
 
 pub returns-clause-small : goal.returns-clause-small
 returns-clause-small c =
-    let small = rank_by-small 0 c.args.steps.now c.args.n (rises_from 0 c.args.steps.now c.requires (λ h. omega arith)) in
+    let small =
+    rank_by-small 0 c.args.steps.now c.args.n (rises_from 0 c.args.steps.now c.requires (λ h. omega arith)) in
     omega (arith, rank_is c)

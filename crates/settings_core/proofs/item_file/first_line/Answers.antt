@@ -1,4 +1,5 @@
-use Rattle.std.proofs.Common.{arith, refl, sym, ◌∙◌, ap, ◌≡◌, ◌==◌, ◌+◌, ℕ, List, [], ◌∷◌, Bool, true, false, length, take, drop, get_or}
+use Rattle.std.proofs.Common.{arith, refl, sym, ◌∙◌, ap, ◌≡◌, ◌==◌, ◌+◌, ℕ, List, [], ◌∷◌, Bool, true, false, length}
+use Rattle.std.proofs.Common.{take, drop, get_or}
 use Rattle.std.specs.List.{position_or_len}
 use Rattle.std.proofs.lemmas.List.{take_rest}
 use Rattle.std.proofs.lemmas.List.Elements.{All-from_get_or}
@@ -14,9 +15,11 @@ is_no false not_true = refl
 
 one_line : (text : List ℕ) → Nowhere (Passes (is_byte 10) text) 0 (length text) → lines text ≡ text ∷ []
 one_line text none = slice_split_none (λ b. b == 10) text
-    (All-from_get_or (λ b. (b == 10) ≡ false) text 0 (λ k inside. is_no (get_or text k 0 == 10) (none k (omega arith) inside)))
+    (All-from_get_or (λ b. (b == 10) ≡ false) text 0
+    (λ k inside. is_no (get_or text k 0 == 10) (none k (omega arith) inside)))
 
-more_lines : (text : List ℕ) (end : ℕ) → NoneBefore (Passes (is_byte 10) text) 0 (length text) end → Passes (is_byte 10) text end
+more_lines : (text : List ℕ) (end : ℕ) → NoneBefore (Passes (is_byte 10) text) 0 (length text) end →
+    Passes (is_byte 10) text end
     → lines text ≡ take end text ∷ lines (drop (end + 1) text)
 more_lines text end first is =
     let place : position_or_len (λ b. b == 10) text ≡ end

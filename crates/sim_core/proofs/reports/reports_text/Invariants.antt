@@ -7,4 +7,5 @@ use Rattle.sim_core.specs.Reports.{shown}
 use Rattle.sim_core.proofs.reports.reports_text.Given as goal
 
 abbrev pub invariant-loop-session : goal.invariant-loop-session
-invariant-loop-session l = string_bytes l.text ≡ flat_map (λ k. shown k (report two_lanes l.world k)) (range_with_len 0 l.session)
+invariant-loop-session l =
+    string_bytes l.text ≡ flat_map (λ k. shown k (report two_lanes l.world k)) (range_with_len 0 l.session)

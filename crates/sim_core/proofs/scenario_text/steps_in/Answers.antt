@@ -10,9 +10,19 @@ pub loop-value-preserved : goal.loop-value-preserved
 loop-value-preserved c =
     let size : c.len.result ≡ length c.loop-value.steps.items = search rules in
     let number = size ∙ c.loop-value.invariant.number in
-    let step : step_in c.loop-value.value-index (view c.value-item.result) ≡ Ok c.in_ok-step.field-0 = ap (λ n. step_in n (view c.value-item.result)) (sym number) ∙ sym c.in_ok-step.ensures in
-    let grown : c.match-branch-2.steps.items ≡ c.loop-value.steps.items ++ c.in_ok-step.field-0 ∷ [] = elim c.match-branch-2.branch [ in-Do+in_ok-push-in-Do w ↦ ap (λ steps. steps.items) w.steps-is ∙ (w.in_ok-push-in-Do.ensures.items ∙ ap (λ s. c.loop-value.steps.items ++ s ∷ []) (sym w.in-Do.is)) | in-Finish+in_ok-push-in-Finish w ↦ ap (λ steps. steps.items) w.steps-is ∙ (w.in_ok-push-in-Finish.ensures.items ∙ ap (λ s. c.loop-value.steps.items ++ s ∷ []) (sym w.in-Finish.is)) ] in
+    let step : step_in c.loop-value.value-index (view c.value-item.result) ≡ Ok c.in_ok-step.field-0 =
+    ap (λ n. step_in n (view c.value-item.result)) (sym number) ∙ sym c.in_ok-step.ensures in
+    let grown : c.match-branch-2.steps.items ≡ c.loop-value.steps.items ++ c.in_ok-step.field-0 ∷ [] =
+    elim c.match-branch-2.branch [
+      | in-Do+in_ok-push-in-Do w ↦ ap (λ steps. steps.items) w.steps-is
+          ∙ (w.in_ok-push-in-Do.ensures.items ∙ ap (λ s. c.loop-value.steps.items ++ s ∷ []) (sym w.in-Do.is))
+      | in-Finish+in_ok-push-in-Finish w ↦ ap (λ steps. steps.items) w.steps-is
+          ∙ (w.in_ok-push-in-Finish.ensures.items ∙ ap (λ s. c.loop-value.steps.items ++ s ∷ []) (sym w.in-Finish.is))
+    ] in
     rw grown record {
-      so_far = read_on step_in c.args.array.now.items c.deref-value-items.result.now c.loop-value.value-index c.value-item.result c.loop-value.steps.items c.in_ok-step.field-0 c.deref-value-items.ensures.value c.loop-value-test.true c.value-item.is step c.loop-value.invariant.so_far;
-      number = omega (arith, length-append c.loop-value.steps.items (c.in_ok-step.field-0 ∷ []), c.loop-value.invariant.number);
+      so_far = read_on step_in c.args.array.now.items c.deref-value-items.result.now c.loop-value.value-index
+          c.value-item.result c.loop-value.steps.items c.in_ok-step.field-0 c.deref-value-items.ensures.value
+          c.loop-value-test.true c.value-item.is step c.loop-value.invariant.so_far;
+      number = omega
+          (arith, length-append c.loop-value.steps.items (c.in_ok-step.field-0 ∷ []), c.loop-value.invariant.number);
     }

@@ -10,4 +10,5 @@ returns c =
     let upper = upper_value c.args.upper.now in
     let before : Item → Bool = λ z. is_below z upper in
     let end = c.partition_point-end in
-    sym (filter_is_front before c.args.entries.now end.result (IsPartitionPoint-from_clause before c.args.entries.now end.result end.ensures.partitioned (parted_by_upper c.args.entries.now upper c.requires) (λ a r q k. search rules)))
+    sym (filter_is_front before c.args.entries.now end.result (IsPartitionPoint-from_clause before c.args.entries.now
+    end.result end.ensures.partitioned (parted_by_upper c.args.entries.now upper c.requires) (λ a r q k. search rules)))

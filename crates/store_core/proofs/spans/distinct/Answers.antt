@@ -5,4 +5,5 @@ use Rattle.store_core.proofs.Made.{sorted_is_set_of}
 use Rattle.store_core.proofs.spans.distinct.Goals as goal
 
 pub returns : goal.returns
-returns c = dedup_is same_item _ _ c.dedup.ensures.filtered ∙ sorted_is_set_of _ _ c.sort_unstable.ensures.permutation c.sort_unstable.ensures.sorted
+returns c = dedup_is same_item _ _ c.dedup.ensures.filtered
+    ∙ sorted_is_set_of _ _ c.sort_unstable.ensures.permutation c.sort_unstable.ensures.sorted

@@ -10,4 +10,5 @@ before_upper-requires c = rw c.from_lower.ensures (IsStrictlySortedBy-filter ite
 pub returns : goal.returns
 returns c =
     rw (c.before_upper.ensures, c.from_lower.ensures, c.lower.ensures.lower, c.upper.ensures.upper)
-    (filter_twice (λ z. not (comes_before z c.args.range.now.lower)) (λ z. is_below z c.args.range.now.upper) c.args.entries.now)
+    (filter_twice (λ z. not (comes_before z c.args.range.now.lower))
+    (λ z. is_below z c.args.range.now.upper) c.args.entries.now)

@@ -9,7 +9,9 @@ returns-then-upto-limit c =
     let long = c.if-upto-limit.true in
     let inside = c.loop-index-test.true in
     let lists : c.row-upto.result.1 ≡ acts.List = search rules in
-    sym (long_found c.args.strategy.now.limit c.args.strategy.now.rows c.loop-index.index c.row-upto.result.0 c.row-upto.result.1 (omega (arith, c.rows-index-end.ensures)) c.row-upto.ensures lists (omega (arith, c.limit.ensures)))
+    sym (long_found c.args.strategy.now.limit c.args.strategy.now.rows c.loop-index.index c.row-upto.result.0
+    c.row-upto.result.1 (omega (arith, c.rows-index-end.ensures)) c.row-upto.ensures lists
+    (omega (arith, c.limit.ensures)))
     ∙ c.loop-index.invariant
 
 pub loop-index-preserved : goal.loop-index-preserved
@@ -18,9 +20,12 @@ loop-index-preserved c =
     sym (elim c.else-eq.branch [
       | else-eq-via-then-eq+else-upto-limit w ↦
           let short = w.if-upto-limit.false in
-          long_short c.args.strategy.now.limit c.args.strategy.now.rows c.loop-index.index c.row-upto.result.0 c.row-upto.result.1 (omega (arith, c.rows-index-end.ensures)) c.row-upto.ensures (omega (arith, w.limit.ensures))
+          long_short c.args.strategy.now.limit c.args.strategy.now.rows c.loop-index.index
+          c.row-upto.result.0 c.row-upto.result.1 (omega (arith, c.rows-index-end.ensures)) c.row-upto.ensures
+          (omega (arith, w.limit.ensures))
       | else-eq-via-else-eq w ↦
           let splits : c.row-upto.result.1 ≡ acts.Split = search rules in
-          long_split c.args.strategy.now.limit c.args.strategy.now.rows c.loop-index.index c.row-upto.result.0 c.row-upto.result.1 (omega (arith, c.rows-index-end.ensures)) c.row-upto.ensures splits
+          long_split c.args.strategy.now.limit c.args.strategy.now.rows c.loop-index.index c.row-upto.result.0
+          c.row-upto.result.1 (omega (arith, c.rows-index-end.ensures)) c.row-upto.ensures splits
     ])
     ∙ c.loop-index.invariant

@@ -16,16 +16,21 @@ loop-item-preserved c =
       | then-branch+in_ok-push w ↦ rw w.if-branch.true (search rules)
       | else-branch w ↦ rw w.if-branch.false (search rules)
     ] in
-    let both = opens c.set_of_a_list.ensures.set c.set_of_a_list.ensures.has c.adding_an_item.ensures.again c.args.items.now c.loop-item.item-index x h c.if-branch.entries.items c.loop-item.seen.keys new
-    c.loop-item-test.true c.item-item.is c.loop-item.invariant.entries c.loop-item.invariant.seen c.in_ok-insert.ensures.added grown in
+    let both = opens c.set_of_a_list.ensures.set c.set_of_a_list.ensures.has c.adding_an_item.ensures.again
+    c.args.items.now c.loop-item.item-index x h c.if-branch.entries.items c.loop-item.seen.keys new
+    c.loop-item-test.true c.item-item.is c.loop-item.invariant.entries c.loop-item.invariant.seen
+    c.in_ok-insert.ensures.added grown in
     record { entries = both.0; seen = c.in_ok-insert.ensures.keys ∙ both.1 }
 
 pub returns-clause-once : goal.returns-clause-once
 returns-clause-once c =
-    let made : c.loop-item.entries.items ≡ opening_history c.args.items.now = c.loop-item.invariant.entries ∙ ap opening_history (take_all _ _ c.loop-item-test.false) in
+    let made : c.loop-item.entries.items ≡ opening_history c.args.items.now =
+    c.loop-item.invariant.entries ∙ ap opening_history (take_all _ _ c.loop-item-test.false) in
     rw made (once_opened c.args.items.now)
 
 pub returns-clause-count : goal.returns-clause-count
 returns-clause-count c =
-    let made : c.loop-item.entries.items ≡ opening_history c.args.items.now = c.loop-item.invariant.entries ∙ ap opening_history (take_all _ _ c.loop-item-test.false) in
-    ap length made ∙ length_opened c.set_of_a_list.ensures.set c.set_of_a_list.ensures.has c.adding_an_item.ensures.again c.args.items.now
+    let made : c.loop-item.entries.items ≡ opening_history c.args.items.now =
+    c.loop-item.invariant.entries ∙ ap opening_history (take_all _ _ c.loop-item-test.false) in
+    ap length made ∙ length_opened c.set_of_a_list.ensures.set c.set_of_a_list.ensures.has
+    c.adding_an_item.ensures.again c.args.items.now

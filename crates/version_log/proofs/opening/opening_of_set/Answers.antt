@@ -6,20 +6,24 @@ use Rattle.version_log.proofs.opening.opening_of_set.Goals as goal
 
 pub returns-clause-entries : goal.returns-clause-entries
 returns-clause-entries c =
-    let made : c.loop-item.entries.items ≡ entries_of c.args.items.now = c.loop-item.invariant ∙ ap entries_of (take_all _ _ c.loop-item-test.false) in
+    let made : c.loop-item.entries.items ≡ entries_of c.args.items.now =
+    c.loop-item.invariant ∙ ap entries_of (take_all _ _ c.loop-item-test.false) in
     made ∙ sym (opened_with c.args.items.now c.requires)
 
 pub returns-clause-content : goal.returns-clause-content
 returns-clause-content c =
-    let made : c.loop-item.entries.items ≡ entries_of c.args.items.now = c.loop-item.invariant ∙ ap entries_of (take_all _ _ c.loop-item-test.false) in
+    let made : c.loop-item.entries.items ≡ entries_of c.args.items.now =
+    c.loop-item.invariant ∙ ap entries_of (take_all _ _ c.loop-item-test.false) in
     ap content made ∙ content_with_all c.args.items.now c.requires
 
 pub returns-clause-once : goal.returns-clause-once
 returns-clause-once c =
-    let made : c.loop-item.entries.items ≡ entries_of c.args.items.now = c.loop-item.invariant ∙ ap entries_of (take_all _ _ c.loop-item-test.false) in
+    let made : c.loop-item.entries.items ≡ entries_of c.args.items.now =
+    c.loop-item.invariant ∙ ap entries_of (take_all _ _ c.loop-item-test.false) in
     rw (made ∙ sym (opened_with c.args.items.now c.requires)) (once_opened c.args.items.now)
 
 pub returns-clause-count : goal.returns-clause-count
 returns-clause-count c =
-    let made : c.loop-item.entries.items ≡ entries_of c.args.items.now = c.loop-item.invariant ∙ ap entries_of (take_all _ _ c.loop-item-test.false) in
+    let made : c.loop-item.entries.items ≡ entries_of c.args.items.now =
+    c.loop-item.invariant ∙ ap entries_of (take_all _ _ c.loop-item-test.false) in
     ap length made ∙ length_with_all c.args.items.now

@@ -25,7 +25,8 @@ frames-preserved g c =
     let count_is : c.len.result ≡ length c.frames.parts.items = search rules in
     let left = c.frames.invariant.left in
     let shorter = c.in_ok-part.ensures.shorter in
-    let count : length (c.frames.parts.items ++ part ∷ []) ≡ length c.frames.parts.items + 1 = omega (arith, length-append c.frames.parts.items (part ∷ [])) in
+    let count : length (c.frames.parts.items ++ part ∷ []) ≡ length c.frames.parts.items + 1 =
+    omega (arith, length-append c.frames.parts.items (part ∷ [])) in
     let next : length c.args.bytes.now + 1 - length (c.frames.parts.items ++ part ∷ []) ≡ fuel - 1 = omega arith in
     let read =
     read_behind g.F.Summary.profile c.len.result (length c.frames.parts.items) c.frames.rest.now

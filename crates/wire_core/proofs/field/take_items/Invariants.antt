@@ -5,4 +5,6 @@ use Rattle.wire_core.proofs.field.take_items.Given as goal
 
 -- the items so far, and those that are still to be read, are all
 abbrev pub invariant-each : goal.invariant-each
-invariant-each l = with_items l.items.items (reading.items_at l.range (l.count - l.counter) (last_of l.items.items) l.bytes.now) ≡ reading.items_at l.range l.count None l.initial.bytes.now
+invariant-each l =
+    with_items l.items.items (reading.items_at l.range (l.count - l.counter) (last_of l.items.items) l.bytes.now)
+    ≡ reading.items_at l.range l.count None l.initial.bytes.now

@@ -6,4 +6,5 @@ use Rattle.wire_core.proofs.marks.packed.Goals as goal
 pub loop-index-preserved : goal.loop-index-preserved
 loop-index-preserved c =
     c.in_ok-push.ensures.items ∙ (λ i. c.loop-index.invariant i ++ c.byte_at.ensures i ∷ [])
-    ∙ sym (map-range_with_len_more (λ j. mark_byte (take 8 (drop (8 * j) c.args.marks.now))) 0 c.loop-index.index c.loop-index.index (omega arith))
+    ∙ sym (map-range_with_len_more
+    (λ j. mark_byte (take 8 (drop (8 * j) c.args.marks.now))) 0 c.loop-index.index c.loop-index.index (omega arith))

@@ -7,7 +7,8 @@ use Rattle.wire_core.proofs.pieces.keep.Goals as goal
 pub returns-clause-kept : goal.returns-clause-kept
 returns-clause-kept g c =
     let goes_on = c.requires.counts in
-    let wants = wants_more c.args.kept.now.items c.deref.result.now c.args.piece.now c.wanted.result c.deref.ensures.value c.wanted.ensures.short c.wanted.ensures.frame (search rules) in
+    let wants = wants_more c.args.kept.now.items c.deref.result.now c.args.piece.now c.wanted.result
+    c.deref.ensures.value c.wanted.ensures.short c.wanted.ensures.frame (search rules) in
     let waits =
     still_waits g.F.Summary.profile (standing_of c.args.standing) c.args.kept.now.items c.args.piece.now goes_on
     c.requires.read wants in

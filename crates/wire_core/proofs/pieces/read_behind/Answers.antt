@@ -11,7 +11,8 @@ pieces-preserved g c =
     let live = drop c.pieces.taken c.pieces.kept.items in
     let front = c.split_at.result.0.now in
     let back = c.split_at.result.1.now in
-    let rest : front ++ back ≡ c.pieces.rest.now = (λ i. c.split_at.ensures.front i ++ c.split_at.ensures.back i) ∙ take-append-drop _ c.pieces.rest.now in
+    let rest : front ++ back ≡ c.pieces.rest.now =
+    (λ i. c.split_at.ensures.front i ++ c.split_at.ensures.back i) ∙ take-append-drop _ c.pieces.rest.now in
     record {
       so_far = sym (c.in_ok-there.ensures.joined back c.are_bytes.ensures)
           ∙ ap
@@ -21,6 +22,8 @@ pieces-preserved g c =
           ∙ c.pieces.invariant.so_far;
       read = c.in_ok-there.ensures.rest;
       within = c.in_ok-there.ensures.within;
-      kept = before_both c.args.kept.now.items c.pieces.kept.items c.read_kept.new.kept.items c.pieces.invariant.kept c.read_kept.ensures.kept;
-      before = before_both c.args.out.now.items c.pieces.out.items c.read_kept.new.out.items c.pieces.invariant.before c.read_kept.ensures.before;
+      kept = before_both c.args.kept.now.items c.pieces.kept.items c.read_kept.new.kept.items c.pieces.invariant.kept
+          c.read_kept.ensures.kept;
+      before = before_both c.args.out.now.items c.pieces.out.items c.read_kept.new.out.items c.pieces.invariant.before
+          c.read_kept.ensures.before;
     }

@@ -21,8 +21,10 @@ frames-preserved g c =
       so_far =
           frames_go_on g.F.Summary.profile (event_values c.frames.out.items) c.frames.parts c.frames.bytes.now _ _ _
           (event_values c.take_one.new.out.items) c.in-More.count c.take_one.new.bytes.now c.frames.invariant.so_far one
-          (subst (λ step. IfMore step (λ _. length c.take_one.new.bytes.now < length c.frames.bytes.now)) c.in-More.is c.in_ok-count.ensures.shorter);
-      before = before_both c.args.out.now.items c.frames.out.items c.take_one.new.out.items c.frames.invariant.before c.take_one.ensures.before;
+          (subst (λ step. IfMore step (λ _. length c.take_one.new.bytes.now < length c.frames.bytes.now)) c.in-More.is
+          c.in_ok-count.ensures.shorter);
+      before = before_both c.args.out.now.items c.frames.out.items c.take_one.new.out.items c.frames.invariant.before
+          c.take_one.ensures.before;
     }
 
 pub returns-in-Rest-clause-fed : goal.returns-in-Rest-clause-fed

@@ -1,7 +1,8 @@
 use Rattle.std.proofs.Common.{map}
 use Rattle.definitions.proofs.Lemmas.{All-map}
 use Rattle.world_core.specs.Steps.{step_of}
-use Rattle.world_core.specs.Runs.{Holds, HasFewMessages, IsWithinBound, KeepsLimits, LearnsBoth, LearnsNothingWrong, HasFewParts}
+use Rattle.world_core.specs.Runs.{Holds, HasFewMessages, IsWithinBound, KeepsLimits, LearnsBoth, LearnsNothingWrong}
+use Rattle.world_core.specs.Runs.{HasFewParts}
 use Rattle.world_core.proofs.world.run.Goals as goal
 
 pub returns-clause-few : goal.returns-clause-few

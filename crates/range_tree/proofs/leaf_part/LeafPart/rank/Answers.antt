@@ -8,7 +8,9 @@ pub search-requires : goal.search-requires
 search-requires c = parted_below c.deref.result.now c.args.item.now (rw c.deref.ensures.value c.requires)
 
 pub returns-clause-place : goal.returns-clause-place
-returns-clause-place c = count_is c.args.item.now c.deref.result.now c.search.result.0 c.search.ensures.within c.search.ensures.parted ∙ ap (count_before c.args.item.now) c.deref.ensures.value
+returns-clause-place c =
+    count_is c.args.item.now c.deref.result.now c.search.result.0 c.search.ensures.within c.search.ensures.parted
+    ∙ ap (count_before c.args.item.now) c.deref.ensures.value
 
 pub returns-clause-steps : goal.returns-clause-steps
 returns-clause-steps c = c.search.ensures.steps (rw c.deref.ensures.value c.args.self.now.small)

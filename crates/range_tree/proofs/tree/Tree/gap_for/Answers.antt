@@ -23,14 +23,17 @@ returns-then-place-self-clause-gap c =
     let x = c.args.item.now in
     let i = c.rank-place.result.0 in
     let past : length A ≤ i = let counted = c.args.self.now.counted in omega arith in
-    put_at A x i c.rank-place.ensures.places (has_at A x i c.args.self.now.rises c.rank-place.ensures.places ∙ ap (λ o. is_item o x) (get_past A i past))
+    put_at A x i c.rank-place.ensures.places
+    (has_at A x i c.args.self.now.rises c.rank-place.ensures.places ∙ ap (λ o. is_item o x) (get_past A i past))
 
 pub returns-then-eq-clause-found : goal.returns-then-eq-clause-found
 returns-then-eq-clause-found c =
     let A = tree_items c.args.self.now in
     let x = c.args.item.now in
     let i = c.rank-place.result.0 in
-    let there = ap (λ bs. slice_get (flat_map branch_items (map (arc_value {X = Branch}) bs)) i) (sym c.deref.ensures.value) ∙ c.item_at.ensures in
+    let there =
+    ap (λ bs. slice_get (flat_map branch_items (map (arc_value {X = Branch}) bs)) i) (sym c.deref.ensures.value)
+    ∙ c.item_at.ensures in
     let same : same_item x c.item_at.result ≡ true = search rules in
     sym (has_at A x i c.args.self.now.rises c.rank-place.ensures.places ∙ ap (λ o. is_item o x) there ∙ same)
 
@@ -39,7 +42,9 @@ returns-clause-found c =
     let A = tree_items c.args.self.now in
     let x = c.args.item.now in
     let i = c.rank-place.result.0 in
-    let there = ap (λ bs. slice_get (flat_map branch_items (map (arc_value {X = Branch}) bs)) i) (sym c.deref.ensures.value) ∙ c.item_at.ensures in
+    let there =
+    ap (λ bs. slice_get (flat_map branch_items (map (arc_value {X = Branch}) bs)) i) (sym c.deref.ensures.value)
+    ∙ c.item_at.ensures in
     let other : same_item x c.item_at.result ≡ false = search rules in
     sym (has_at A x i c.args.self.now.rises c.rank-place.ensures.places ∙ ap (λ o. is_item o x) there ∙ other)
 
@@ -48,6 +53,9 @@ returns-clause-gap c =
     let A = tree_items c.args.self.now in
     let x = c.args.item.now in
     let i = c.rank-place.result.0 in
-    let there = ap (λ bs. slice_get (flat_map branch_items (map (arc_value {X = Branch}) bs)) i) (sym c.deref.ensures.value) ∙ c.item_at.ensures in
+    let there =
+    ap (λ bs. slice_get (flat_map branch_items (map (arc_value {X = Branch}) bs)) i) (sym c.deref.ensures.value)
+    ∙ c.item_at.ensures in
     let other : same_item x c.item_at.result ≡ false = search rules in
-    put_at A x i c.rank-place.ensures.places (has_at A x i c.args.self.now.rises c.rank-place.ensures.places ∙ ap (λ o. is_item o x) there ∙ other)
+    put_at A x i c.rank-place.ensures.places
+    (has_at A x i c.args.self.now.rises c.rank-place.ensures.places ∙ ap (λ o. is_item o x) there ∙ other)

@@ -11,6 +11,7 @@ returns-clause-places c =
     let X = c.args.range.now in
     let from = c.below_lower-from.result.0 in
     let to = c.below_upper-to.result.0 in
-    let low = subst (λ b. PassFirst (λ z. comes_before z b) A from) c.lower.ensures.lower c.below_lower-from.ensures.places in
+    let low =
+    subst (λ b. PassFirst (λ z. comes_before z b) A from) c.lower.ensures.lower c.below_lower-from.ensures.places in
     let high = subst (λ b. PassFirst (λ z. is_below z b) A to) c.upper.ensures.upper c.below_upper-to.ensures.places in
     between_both (λ z. comes_before z X.lower) (λ z. is_below z X.upper) A from to low high

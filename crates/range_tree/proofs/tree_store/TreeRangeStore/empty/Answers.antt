@@ -4,4 +4,5 @@ use Rattle.range_tree.proofs.tree_store.TreeRangeStore.empty.Goals as goal
 
 pub invariant_of-result : goal.invariant_of-result
 unfolding IsStrictlySortedBy
-invariant_of-result c = rw c.new.ensures.items (record { rises = tt; are_items = tt; full = tt; counted = refl; summed = c.zero.ensures })
+invariant_of-result c =
+    rw c.new.ensures.items (record { rises = tt; are_items = tt; full = tt; counted = refl; summed = c.zero.ensures })

@@ -21,18 +21,25 @@ invariant_of-result c =
     let place = c.in-Some.place in
     let all = flat_map branch_items (map (arc_value {X = Branch}) c.in_ok-branches_with.field-0.items) in
     let entry = c.new-entry.ensures.item in
-    let made : all ≡ put place x A = c.in_ok-branches_with.ensures.items ∙ ap (λ bs. put place c.new-entry.result (flat_map branch_items (map (arc_value {X = Branch}) bs))) c.deref.ensures.value ∙ ap (λ e. put place e A) entry in
+    let made : all ≡ put place x A = c.in_ok-branches_with.ensures.items ∙ ap
+    (λ bs. put place c.new-entry.result (flat_map branch_items (map (arc_value {X = Branch}) bs))) c.deref.ensures.value
+    ∙ ap (λ e. put place e A) entry in
     let added : all ≡ add_item A x = made ∙ sym c.in-Some.ensures.gap in
     let raised : c.in-Some-checked_add.count ≡ t.count + 1 = search rules in
     let len = ap length made ∙ length_put place x A in
     let absent : has A x ≡ false = sym c.in-Some.ensures.found in
-    let own : c.fingerprint.result ≡ two_lanes.of (x ∷ []) = c.fingerprint.ensures ∙ ap (λ e. two_lanes.of (e ∷ [])) entry in
+    let own : c.fingerprint.result ≡ two_lanes.of (x ∷ []) =
+    c.fingerprint.ensures ∙ ap (λ e. two_lanes.of (e ∷ [])) entry in
     record {
       rises = subst IsSet (sym added) (set_add A x t.rises);
-      are_items = subst (AllByRecursion IsItem) (sym added) (all_add IsItem A x t.are_items c.new-entry.ensures.is_item);
-      full = c.in_ok-branches_with.ensures.full (subst (λ bs. IsFull branch_width (map (arc_value {X = Branch}) bs)) (sym c.deref.ensures.value) t.full);
+      are_items =
+          subst (AllByRecursion IsItem) (sym added) (all_add IsItem A x t.are_items c.new-entry.ensures.is_item);
+      full = c.in_ok-branches_with.ensures.full
+          (subst (λ bs. IsFull branch_width (map (arc_value {X = Branch}) bs)) (sym c.deref.ensures.value) t.full);
       counted = let counted = t.counted in omega arith;
       summed =
-          c.join-total.ensures ∙ ap (λ f. join_lanes f c.fingerprint.result) t.summed ∙ ap (join_lanes (two_lanes.of A)) own
-          ∙ commutes (two_lanes.of A) (two_lanes.of (x ∷ [])) ∙ sym (c.new_item_adds.ensures A x absent) ∙ ap two_lanes.of (sym added);
+          c.join-total.ensures ∙ ap (λ f. join_lanes f c.fingerprint.result) t.summed
+          ∙ ap (join_lanes (two_lanes.of A)) own
+          ∙ commutes (two_lanes.of A) (two_lanes.of (x ∷ [])) ∙ sym (c.new_item_adds.ensures A x absent)
+          ∙ ap two_lanes.of (sym added);
     }

@@ -5,4 +5,5 @@ use Rattle.definitions.specs.Ranks.{is_unfit, first_unfit}
 use Rattle.rank_core.proofs.ranks.Ranks.fits.Given as goal
 
 abbrev pub invariant-loop-count : goal.invariant-loop-count
-invariant-loop-count l = find (is_unfit l.strategy l.self) (range_with_len l.count (l.strategy.cap + 1 - l.count)) ≡ first_unfit l.strategy l.self
+invariant-loop-count l = find (is_unfit l.strategy l.self) (range_with_len l.count (l.strategy.cap + 1 - l.count))
+    ≡ first_unfit l.strategy l.self

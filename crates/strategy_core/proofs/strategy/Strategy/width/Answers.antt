@@ -14,9 +14,13 @@ loop-row-preserved c =
     let i = c.loop-row.row-index in
     let next = ap widest (drop_more rows i c.row-item.result c.loop-row-test.true) in
     let here = ap (λ (row : Row). width_of row.act) c.row-item.is in
-    record { so_far = let kept = c.loop-row.invariant.so_far in grind (arith, common_steps); some = let kept = c.loop-row.invariant.some in grind (arith, common_steps) }
+    record {
+      so_far = let kept = c.loop-row.invariant.so_far in grind (arith, common_steps);
+      some = let kept = c.loop-row.invariant.some in grind (arith, common_steps);
+    }
 
 pub returns : goal.returns
 returns c =
-    widest_all c.deref-row-items.result.now c.loop-row.row-index c.loop-row.widest c.loop-row-test.false c.loop-row.invariant.so_far c.loop-row.invariant.some
+    widest_all c.deref-row-items.result.now c.loop-row.row-index c.loop-row.widest c.loop-row-test.false
+    c.loop-row.invariant.so_far c.loop-row.invariant.some
     ∙ ap widest c.deref-row-items.ensures.value ∙ ap width c.self.view_is

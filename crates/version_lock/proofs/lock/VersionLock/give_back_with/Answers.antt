@@ -10,5 +10,8 @@ pub store-requires : goal.store-requires
 store-requires g c =
     let good : IsLog c.args.log = search rules in
     let is : c.args.log ≡ with_entry (found (view c.put.new.seat)) (c.args.writer, c.args.item) = cc in
-    let entry : Entry = (c.args.writer, c.args.item) in
-    (search rules, search rules, adds _ _ _ entry (search rules) (search rules) (search rules) (search rules) (subst IsLog is good))
+    let entry : Entry = (c.args.writer, c.args.item) in (
+      search rules,
+      search rules,
+      adds _ _ _ entry (search rules) (search rules) (search rules) (search rules) (subst IsLog is good),
+    )

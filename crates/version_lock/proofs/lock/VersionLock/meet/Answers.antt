@@ -12,8 +12,13 @@ split_seat-seen-requires g c = (search rules, search rules, splits _ _ c.other.i
 
 pub join_seat-requires : goal.join_seat-requires
 join_seat-requires g c =
-    let seat = c.seat.invariant.1 in
-    (search rules, search rules, search rules, search rules, joins _ _ _ _ seat.live seat.idle (search rules) (search rules))
+    let seat = c.seat.invariant.1 in (
+      search rules,
+      search rules,
+      search rules,
+      search rules,
+      joins _ _ _ _ seat.live seat.idle (search rules) (search rules),
+    )
 
 pub returns-clause-met : goal.returns-clause-met
 returns-clause-met g c =
@@ -23,5 +28,6 @@ returns-clause-met g c =
     let is : view c.join_seat.new.seat ≡ joined_with v (split_off u) = search rules in
     let took : Took (waited lock.0 (joined_with v (split_off u)), []) c.lock.new.seat.me =
     subst (λ (x : View). Took (waited lock.0 x, []) c.lock.new.seat.me) is lock.2 in
-    let all : Met v u (gave_back (view c.lock.new.seat)) = met v u lock.0 c.lock.new.seat.me took c.other.invariant.1.mine in
+    let all : Met v u (gave_back (view c.lock.new.seat)) =
+    met v u lock.0 c.lock.new.seat.me took c.other.invariant.1.mine in
     search (rules, all)

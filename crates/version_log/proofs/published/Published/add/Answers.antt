@@ -15,7 +15,8 @@ invariant_of-self-2 g c =
     let room : length h < c.self.inside.cap = search (rules, count) in
     rw at (
       made ∙ sym (content_push h c.args.writer c.args.item),
-      log_push c.self.inside.cap c.self.inside.next_writer h c.args.writer c.args.item invariant.1 (sym (c.set_of_a_list.ensures.has (items_of h) c.args.item) ∙ lacks) room (search rules),
+      log_push c.self.inside.cap c.self.inside.next_writer h c.args.writer c.args.item invariant.1
+          (sym (c.set_of_a_list.ensures.has (items_of h) c.args.item) ∙ lacks) room (search rules),
     )
 
 pub returns-then-len-self-clause-full : goal.returns-then-len-self-clause-full

@@ -13,7 +13,8 @@ invariant_of-result g c =
         once = c.in_ok-entries.ensures.once;
         fits = small;
         cap = c.requires.cap;
-        writers = rw c.in_ok-entries.ensures.entries (writers_opened c.args.next_writer c.args.items.now c.requires.next.0);
+        writers =
+            rw c.in_ok-entries.ensures.entries (writers_opened c.args.next_writer c.args.items.now c.requires.next.0);
         next_writer = c.requires.next;
       },
     )

@@ -9,7 +9,8 @@ use Rattle.world_core.specs.Steps.{did_of, side_of, AbsorbsSome}
 use Rattle.world_core.specs.Reports.{knowledge_of}
 use Rattle.world_core.specs.Shown.{learned_by}
 use Rattle.world_core.proofs.Delivering.{Laws}
-use Rattle.world_core.proofs.Ended.{absorb_idle, absorb_is, absorbs_none, absorbed_world, absorbed_did, absorbed_memory, same_theirs, OnErr-any}
+use Rattle.world_core.proofs.Ended.{absorb_idle, absorb_is, absorbs_none, absorbed_world, absorbed_did, absorbed_memory}
+use Rattle.world_core.proofs.Ended.{same_theirs, OnErr-any}
 use Rattle.world_core.proofs.world.World.absorb.Goals as goal
 
 pub returns-then-session-messages-clause-world : goal.returns-then-session-messages-clause-world

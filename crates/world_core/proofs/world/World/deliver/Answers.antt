@@ -3,7 +3,8 @@ use Rattle.std.specs.Prelude.{slice_get, Some}
 use Rattle.std.proofs.lemmas.Option.{slice_get_read}
 use Rattle.world_core.specs.Live.{made}
 use Rattle.world_core.specs.Steps.{did_of}
-use Rattle.world_core.proofs.Delivering.{Laws, DeliveryLaws, IsAt, at_node, deliver_none, deliver_taken, deliver_runs, deliver_world, deliver_did, deliver_same, deliver_idle, idle_world}
+use Rattle.world_core.proofs.Delivering.{Laws, DeliveryLaws, IsAt, at_node, deliver_none, deliver_taken, deliver_runs}
+use Rattle.world_core.proofs.Delivering.{deliver_world, deliver_did, deliver_same, deliver_idle, idle_world}
 use Rattle.world_core.proofs.world.World.deliver.Goals as goal
 
 idle_laws : (g : _) (c : goal.After-self-then-session-messages-1 g) → Laws g.F.Summary.summary
