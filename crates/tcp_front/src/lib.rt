@@ -3,6 +3,7 @@
 
 mod connecting;
 mod fault;
+mod half;
 mod limits;
 mod listener;
 mod patience;
@@ -12,5 +13,6 @@ mod trying;
 
 pub use connecting::connect;
 pub use fault::{ConnectFault, ListenFault};
+pub use half::Half;
 pub use limits::{Limits, limited};
 pub use listener::{Listener, listen};

@@ -4,10 +4,12 @@ ghost use Rattle.std.specs.Prelude.{◌≡◌, ◌≢◌};
 ghost use Rattle.std.specs.IoError.{error_kind};
 
 use crate::fault::ListenFault;
+use crate::half::{Half, halves};
 use crate::limits::{Limits, limited};
 use crate::patience::bounded;
-use crate::trying::{Attempt, present, tried};
+use crate::trying::{Attempt, present};
 use peer_threads::{Source, SourceFault};
+use std::alloc::Global;
 use std::io;
 use std::io::{ErrorKind, Take};
 use std::net::{Net, SocketAddr, TcpListener, TcpStream};
@@ -25,6 +27,7 @@ pub struct Listener<'a, C> {
     left: AtomicU64,
     // What each connection may cost.
     limits: Limits,
+    alloc: Global,
     clock: &'a C,
 }
 
@@ -55,7 +58,7 @@ fn accept_fault(error: &io::Error) -> SourceFault
 /// connection that takes longer than the limits say fails, and its input ends after the bytes that they say.
 ///
 /// Fails with 60 if the text is no address, or the address is in use or may not be listened at, and with 90.
-pub fn listen<'a, R: Net<Listener = TcpListener, Stream = TcpStream> + Clock>(
+pub fn listen<'a, R: Net<Listener = TcpListener, Stream = TcpStream> + Clock + AllocGlobal>(
     rt: &'a R,
     address: &str,
     connections: Option<u32>,
@@ -66,6 +69,7 @@ pub fn listen<'a, R: Net<Listener = TcpListener, Stream = TcpStream> + Clock>(
             socket,
             left: AtomicU64::new(connections.map_or(u64::MAX, u64::from)),
             limits,
+            alloc: rt.alloc(),
             clock: rt,
         }),
         Err(error) => Err(listen_fault(&error)),
@@ -82,18 +86,6 @@ impl Attempt for Next<'_> {
     fn attempt(&self) -> io::Result<TcpStream> {
         let (stream, _peer) = self.0.accept()?;
         Ok(stream)
-    }
-}
-
-/// Another handle of a socket.
-#[derive(Drop)]
-struct Handle<'a>(&'a TcpStream);
-
-impl Attempt for Handle<'_> {
-    type Made = TcpStream;
-
-    fn attempt(&self) -> io::Result<TcpStream> {
-        self.0.try_clone()
     }
 }
 
@@ -114,35 +106,35 @@ impl<C> Listener<'_, C> {
 }
 
 impl<C: Clock> Listener<'_, C> {
-    /// Waits for a connection: its reader and its writer are two handles of one socket.
-    fn accept(&self) -> io::Result<(Take<TcpStream>, TcpStream)> {
-        let Limits {
-            patience,
-            most_bytes,
-        } = self.limits;
-        let stream = bounded(present(self.clock, &Next(&self.socket))?, patience)?;
+    /// Waits for a connection, of which small messages are sent at once where the system takes that setting.
+    fn accept(&self) -> io::Result<TcpStream> {
+        let stream = present(self.clock, &Next(&self.socket))?;
         let _set = stream.set_nodelay(true);
-        let reader = tried(self.clock, &Handle(&stream))?;
-        Ok((limited(reader, most_bytes), stream))
+        bounded(stream, self.limits.patience)
+    }
+
+    /// Waits for a connection, and gives its two halves.
+    fn next(&self) -> Result<(Take<Half>, Half), SourceFault> {
+        let stream = self.accept().map_err(|error| accept_fault(&error))?;
+        let (reader, writer) = halves(self.alloc, stream).ok_or(SourceFault::Memory)?;
+        Ok((limited(reader, self.limits.most_bytes), writer))
     }
 }
 
 impl<C: Clock> Source for Listener<'_, C> {
-    type In = Take<TcpStream>;
+    type In = Take<Half>;
 
-    type Out = TcpStream;
+    type Out = Half;
 
-    fn take(&self) -> Result<Option<(Take<TcpStream>, TcpStream)>, SourceFault> {
+    fn take(&self) -> Result<Option<(Take<Half>, Half)>, SourceFault> {
         if !self.count() {
             return Ok(None);
         }
-        match self.accept() {
-            Ok(ends) => Ok(Some(ends)),
-            Err(error) => {
-                self.left.store(0, Ordering::SeqCst);
-                Err(accept_fault(&error))
-            }
+        let next = self.next();
+        if next.is_err() {
+            self.left.store(0, Ordering::SeqCst);
         }
+        Ok(Some(next?))
     }
 }
 

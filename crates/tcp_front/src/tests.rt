@@ -1,6 +1,6 @@
 //! Connections over the loopback, at ports that the system chooses.
 
-use crate::{ConnectFault, Limits, ListenFault, Listener, connect, limited, listen};
+use crate::{ConnectFault, Half, Limits, ListenFault, Listener, connect, limited, listen};
 use peer_threads::{Source, SourceFault};
 use std::alloc::Alloc;
 use std::io;
@@ -34,7 +34,7 @@ fn opened<'a, R: Net<Listener = TcpListener, Stream = TcpStream> + AllocGlobal +
 }
 
 /// The two ends of the next connection.
-fn taken<R: Clock + Abort>(rt: &R, listener: &Listener<R>) -> (Take<TcpStream>, TcpStream) {
+fn taken<R: Clock + Abort>(rt: &R, listener: &Listener<R>) -> (Take<Half>, Half) {
     let next = listener.take().ok().expect(rt, "no fault");
     next.expect(rt, "a connection")
 }
@@ -53,7 +53,7 @@ fn bytes_both_ways(rt: HostRuntime) -> io::Result<()> {
     writer.write_all(b"back.")?;
     near.read_exact(&mut bytes)?;
     assert!(rt; bytes == *b"back.");
-    assert!(rt; near.nodelay()? && reader.get_ref().nodelay()? && writer.nodelay()?);
+    assert!(rt; near.nodelay()? && reader.get_ref().stream().nodelay()? && writer.stream().nodelay()?);
     Ok(())
 }
 
@@ -64,8 +64,8 @@ fn all_handles_have_the_patience(rt: HostRuntime) -> io::Result<()> {
     let (reader, writer) = taken(&rt, &listener);
     assert!(rt; near.read_timeout()? == Some(Duration::from_secs(9)));
     assert!(rt; near.write_timeout()? == Some(Duration::from_secs(9)));
-    assert!(rt; reader.get_ref().read_timeout()? == Some(Duration::from_secs(7)));
-    assert!(rt; writer.write_timeout()? == Some(Duration::from_secs(7)));
+    assert!(rt; reader.get_ref().stream().read_timeout()? == Some(Duration::from_secs(7)));
+    assert!(rt; writer.stream().write_timeout()? == Some(Duration::from_secs(7)));
     Ok(())
 }
 

@@ -1,0 +1,48 @@
+//! The two halves of a connection.
+
+use std::alloc::Global;
+use std::io;
+use std::io::{Read, Write};
+use std::net::TcpStream;
+use std::sync::Arc;
+
+/// One half of a connection: what is read of it, or what is written to it.
+///
+/// Both halves share the connection's one descriptor, so a session takes no second one. The connection is closed when
+/// both are dropped.
+#[derive(Drop)]
+pub struct Half(Arc<TcpStream>);
+
+impl Half {
+    /// The connection.
+    #[cfg(test)]
+    pub(crate) fn stream(&self) -> &TcpStream {
+        &self.0
+    }
+}
+
+impl Read for Half {
+    fn read(&mut self, buf: &mut [u8]) -> io::Result<usize> {
+        let mut stream: &TcpStream = &self.0;
+        stream.read(buf)
+    }
+}
+
+impl Write for Half {
+    fn write(&mut self, buf: &[u8]) -> io::Result<usize> {
+        let mut stream: &TcpStream = &self.0;
+        stream.write(buf)
+    }
+
+    fn flush(&mut self) -> io::Result<()> {
+        let mut stream: &TcpStream = &self.0;
+        stream.flush()
+    }
+}
+
+/// The half that is read and the half that is written; without memory there are none, and the connection is closed.
+pub(crate) fn halves(alloc: Global, stream: TcpStream) -> Option<(Half, Half)> {
+    let reader = Arc::new(alloc, stream).ok()?;
+    let writer = Arc::try_clone(&reader).ok()?;
+    Some((Half(reader), Half(writer)))
+}
