@@ -3,12 +3,12 @@
 ghost use Rattle.std.specs.Prelude.{◌≡◌, ◌≤◌};
 ghost use Rattle.std.specs.Arc.{arc_value};
 
-use crate::devices::{PieceReader, PieceWriter, Rule, Witness, shown_outcome};
-use crate::frames::{
+use crate::support::devices::{PieceReader, PieceWriter, Rule, Witness, shown_outcome};
+use crate::support::frames::{
     ABC_TO_EMPTY, EMPTY_TO_ABC, END, HELLO, SUM_OF_NOTHING, SUM_OF_ONES, fault, joined,
 };
-use crate::letters::item;
-use crate::tables::{BINARY_EIGHT, accepted};
+use crate::support::letters::item;
+use crate::support::tables::{BINARY_EIGHT, accepted};
 use digest_core::{Counted, Fingerprint};
 use io_core::Watched;
 use item_core::Item;

@@ -1,9 +1,9 @@
 //! Readers and writers that fail, each call in turn, at an engine that speaks first without items to a peer with abc.
 
-use crate::devices::{Failing, PieceReader, PieceWriter, Rule, Witness};
 use crate::engines::{Case, Engine, Ground, shown_over};
-use crate::frames::{ABC_TO_EMPTY, EMPTY_TO_ABC, END, HELLO, SUM_OF_NOTHING, joined};
-use crate::tables::{BINARY_EIGHT, accepted};
+use crate::support::devices::{Failing, PieceReader, PieceWriter, Rule, Witness};
+use crate::support::frames::{ABC_TO_EMPTY, EMPTY_TO_ABC, END, HELLO, SUM_OF_NOTHING, joined};
+use crate::support::tables::{BINARY_EIGHT, accepted};
 use session_table::SessionTable;
 use std::alloc::Global;
 use std::process::Abort;

@@ -1,8 +1,8 @@
 //! Peers that are not honest: messages that are not placed, and one to which the reply would be too long.
 
-use crate::letters::{answer, item, items, list, message, range};
-use crate::shown::{shown, shown_learned};
-use crate::tables::{BINARY_EIGHT, BINARY_TWO, LISTS_TWO, accepted, initiator, responder};
+use crate::support::letters::{answer, item, items, list, message, range};
+use crate::support::shown::{shown, shown_learned};
+use crate::support::tables::{BINARY_EIGHT, BINARY_TWO, LISTS_TWO, accepted, initiator, responder};
 use digest_core::Fingerprint;
 use ends_core::{EndFault, Initiator, Responder, Turn};
 use item_core::{Item, Range};

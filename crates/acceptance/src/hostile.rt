@@ -1,12 +1,12 @@
 //! Peers that cut, misplace, stall and flood, at an engine.
 
-use crate::devices::{Rule, Witness};
 use crate::engines::{Case, Engine, Ground, comes_to, outcome_of, shown_call};
-use crate::frames::{
+use crate::support::devices::{Rule, Witness};
+use crate::support::frames::{
     ABC_TO_EMPTY, EMPTY_TO_ABC, END, HELLO, LIST_OF_ABC, SUM_OF_NOTHING, fault, joined,
 };
-use crate::letters::{item, range};
-use crate::tables::{BINARY_EIGHT, accepted};
+use crate::support::letters::{item, range};
+use crate::support::tables::{BINARY_EIGHT, accepted};
 use digest_core::Fingerprint;
 use session_table::SessionTable;
 use std::alloc::{AllocError, Global};

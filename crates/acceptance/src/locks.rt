@@ -3,7 +3,7 @@
 ghost use Rattle.std.specs.Prelude.{◌≡◌, ℕ, Some, None, IsSome};
 ghost use Rattle.version_lock.specs.Beginnings.{StartsWith, entries_by};
 
-use crate::letters::item;
+use crate::support::letters::item;
 use range_tree::Tree;
 use std::alloc::Global;
 use std::process::Abort;

@@ -1,6 +1,6 @@
 //! Messages and streams, as bytes.
 
-use crate::letters::item;
+use crate::support::letters::item;
 use digest_core::{Fingerprint, Summary};
 use item_core::{Item, Range, Upper};
 use std::alloc::Global;

@@ -1,9 +1,9 @@
 //! Messages that an end takes part by part.
 
 use crate::floods::{flood, length, sum};
-use crate::letters::{items, list, range};
-use crate::shown::{shown, shown_learned};
-use crate::tables::{BINARY_EIGHT, BINARY_TWO, accepted, responder};
+use crate::support::letters::{items, list, range};
+use crate::support::shown::{shown, shown_learned};
+use crate::support::tables::{BINARY_EIGHT, BINARY_TWO, accepted, responder};
 use ends_core::{EndFault, Responder, Turn};
 use item_core::Range;
 use range_tree::Tree;

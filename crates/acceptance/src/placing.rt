@@ -1,6 +1,6 @@
 //! The placing of messages behind an own message.
 
-use crate::letters::{answer, item, list, message, range};
+use crate::support::letters::{answer, item, list, message, range};
 use digest_core::{Fingerprint, Summary};
 use item_core::Range;
 use place_core::{Cursor, Place, PlaceFault, place_message, place_opening};

@@ -1,11 +1,11 @@
 //! Sessions in wire profile 2, whose Sums count their items, and hellos of no profile.
 
-use crate::devices::Rule;
 use crate::engines::{Case, Engine, comes_to, empty, outcome_of};
-use crate::frames::{
+use crate::support::devices::Rule;
+use crate::support::frames::{
     ABC_IS_LACKED, END, HELLO, LIST_OF_ABC, LIST_OF_NOTHING, SUM_OF_NOTHING, fault,
 };
-use crate::letters::item;
+use crate::support::letters::item;
 use std::process::Abort;
 use std::sync::Wait;
 use std::test::Fail;

@@ -1,8 +1,8 @@
 //! Whole sessions over memory: two ends that hand each other their messages.
 
-use crate::letters::{item, items};
-use crate::shown::{shown, shown_learned};
-use crate::tables::{
+use crate::support::letters::{item, items};
+use crate::support::shown::{shown, shown_learned};
+use crate::support::tables::{
     BINARY_EIGHT, BINARY_TWO, THREE_OFF_THE_FRONT, accepted, initiator, responder,
 };
 use ends_core::{Initiator, Responder, Role, SessionEnd, Turn};

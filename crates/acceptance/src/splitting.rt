@@ -1,8 +1,8 @@
 //! A peer that keeps a session going as long as it can.
 
 use crate::floods::sum;
-use crate::letters::{item, items, message};
-use crate::tables::{BINARY_EIGHT, accepted, initiator};
+use crate::support::letters::{item, items, message};
+use crate::support::tables::{BINARY_EIGHT, accepted, initiator};
 use ends_core::{Initiator, Turn};
 use item_core::{Item, Lower, Range, Upper};
 use range_tree::Tree;

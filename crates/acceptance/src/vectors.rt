@@ -1,9 +1,9 @@
 //! The worked cases of `docs/vectors`, which another implementation can run too.
 
-use crate::devices::{PieceWriter, Rule, Witness};
 use crate::engines::{Case, Engine, Ground, shown_call};
-use crate::letters::item;
-use crate::tables::{accepted, responder};
+use crate::support::devices::{PieceWriter, Rule, Witness};
+use crate::support::letters::item;
+use crate::support::tables::{accepted, responder};
 use answer_core::{AnswerFault, answer};
 use digest_core::{Counted, Fingerprint, Summary};
 use ends_core::Turn;

@@ -2,14 +2,14 @@
 
 ghost use Rattle.std.specs.Prelude.{◌≡◌, ◌≤◌};
 
-use crate::devices::{PieceReader, PieceWriter, Rule, Witness};
 use crate::engines::opened;
-use crate::frames::{
+use crate::support::devices::{PieceReader, PieceWriter, Rule, Witness};
+use crate::support::frames::{
     AA_BEFORE_D, ABC_IS_NEW, ABC_TO_EMPTY, EMPTY_TO_ABC, END, HELLO, LIST_OF_NOTHING, SUM_OF_ABC,
     SUM_OF_ONES, X_AND_Y_FROM_D, joined,
 };
-use crate::letters::{item, items};
-use crate::tables::{BINARY_EIGHT, accepted};
+use crate::support::letters::{item, items};
+use crate::support::tables::{BINARY_EIGHT, accepted};
 use item_core::Item;
 use peer_threads::{Report, Shared, Source, SourceFault, run_workers};
 use range_tree::Tree;

@@ -1,7 +1,7 @@
 //! Runs of inserts and sessions over nodes that speak of their versions.
 
-use crate::letters::{item, items};
-use crate::tables::checked;
+use crate::support::letters::{item, items};
+use crate::support::tables::checked;
 use item_core::Item;
 use std::alloc::Global;
 use std::process::Abort;

@@ -1,6 +1,6 @@
 //! Readers and writers that do little at a time, gates, and outcomes as text, for the tests of sessions in threads.
 
-use crate::shown::shown_learned;
+use crate::support::shown::shown_learned;
 use peer_threads::{Gate, Outcome, Side};
 use std::alloc::{AllocError, Global};
 use std::io;
