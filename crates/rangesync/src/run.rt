@@ -104,7 +104,7 @@ where
     requires { AreInSpan command }
 {
     match command {
-        Command::Answer { hexed, items } => {
+        Command::Answer { hexed, items, .. } => {
             let items = read_items(rt, items, MAX_ITEMS)?;
             let store = FlatStore::from_rising(rt.alloc(), &items)?;
             answer_in(rt.alloc(), hexed, &store, reader, out)
@@ -119,6 +119,7 @@ where
             patience,
             most_bytes,
             items,
+            ..
         } => {
             let serving = Serving {
                 address,
@@ -138,6 +139,7 @@ where
             patience,
             most_bytes,
             items,
+            ..
         } => {
             let asking = Asking {
                 address,
