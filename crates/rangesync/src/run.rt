@@ -106,7 +106,7 @@ where
     requires { AreInSpan command }
 {
     match command {
-        Command::Answer { hexed, items } => {
+        Command::Answer { hexed, items, .. } => {
             let items = read_items(rt, items, MAX_ITEMS)?;
             let store = FlatStore::from_rising(rt.alloc(), &items)?;
             answer_in(rt.alloc(), hexed, &store, reader, out)
@@ -123,6 +123,7 @@ where
             report,
             learned,
             items,
+            ..
         } => {
             let serving = Serving {
                 address,
@@ -144,6 +145,7 @@ where
             most_bytes,
             stats,
             items,
+            ..
         } => {
             let asking = Asking {
                 address,
