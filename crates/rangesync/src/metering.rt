@@ -60,7 +60,10 @@ impl Meter {
             Place::Length { left, length } => {
                 let length = length << 8 | u32::from(byte);
                 if left > 1 {
-                    Place::Length { left: left - 1, length }
+                    Place::Length {
+                        left: left - 1,
+                        length,
+                    }
                 } else {
                     Place::Kind { length }
                 }

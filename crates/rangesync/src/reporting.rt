@@ -1,8 +1,8 @@
 //! A gate that writes to files what each session found and each item that the log took.
 
+use item_core::Item;
 use peer_threads::{Gate, Outcome};
 use printing_core::{Fault, learned_line, report_text, tell_unwritten};
-use item_core::Item;
 use std::alloc::{AllocError, Global};
 use std::fs::{File, OpenOptions};
 use std::io;
@@ -128,7 +128,11 @@ impl<'a, R: Wait, F: Write + Drop, E: Write> Reporter<'a, R, F, E> {
 impl<R: Wait, F: Drop, E: Drop> Reporter<'_, R, F, E> {
     /// Closes the files. How many learned items were dropped.
     pub fn close(self) -> u64 {
-        let Reporter { rt: _, alloc: _, desk } = self;
+        let Reporter {
+            rt: _,
+            alloc: _,
+            desk,
+        } = self;
         desk.into_inner().dropped
     }
 }

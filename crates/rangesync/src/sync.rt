@@ -3,8 +3,8 @@
 ghost use Rattle.std.specs.Prelude.{◌≡◌, ◌≤◌};
 ghost use Rattle.std.specs.Arc.{arc_value};
 
-use crate::opening::Opening;
 use crate::metering::Metered;
+use crate::opening::Opening;
 use digest_core::{Counted, Fingerprint, Summary};
 use io_core::{Watched, write_output};
 use peer_threads::{OpenGate, Outcome, Shared, dial_one};

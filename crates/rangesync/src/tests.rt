@@ -2,6 +2,7 @@
 
 mod checks;
 mod hostile;
+mod reports;
 mod sessions;
 mod sims;
 mod words;
