@@ -93,7 +93,8 @@ where
         gate: &reporter,
     };
     let report = run_workers(rt, alloc, &shared, &mut seat, &listener, serving.workers);
-    tell_dropped(err, reporter.close());
+    let dropped = reporter.close();
+    tell_dropped(err, dropped);
     let totals = sessions.into_inner().totals();
     let items = lock.close_with(rt, seat).count();
     let text = served_text(alloc, totals, items)?;

@@ -140,7 +140,7 @@ fn a_report_and_what_was_learned(rt: HostRuntime) -> io::Result<()> {
     let wanted = Wanted {
         status: 0,
         out: b"listening 127.0.0.1:7705
-opened 3 ended 2 refused 1 io 0 memory 0 messages 3
+opened 3 ended 2 refused 1 io 0 memory 0 messages 4
 items 2
 ",
         err: "",
@@ -153,7 +153,7 @@ items 2
     let report = "session 1 version 1 sent 1
 ours 616263
 theirs 78
-session 2 version 2 sent 1
+session 2 version 2 sent 2
 ours 616263
 ours 78
 session 3 refused 2 FrameLength
