@@ -114,6 +114,15 @@ fn told(rt: &impl Abort, end: &OnceLock<String>, wanted: &str) {
     assert_eq!(rt; text.as_str(), wanted);
 }
 
+/// Compares how many items the log took, and how many were dropped.
+fn kept(rt: &impl Abort, gate: &Witness, taken: u64, lost: u64) {
+    let told = (
+        gate.taken.load(Ordering::SeqCst),
+        gate.lost.load(Ordering::SeqCst),
+    );
+    assert_eq!(rt; told, (taken, lost));
+}
+
 /// Compares a report.
 fn reports(rt: &impl Abort, report: Report, started: u8, fault: Option<SourceFault>) {
     assert_eq!(rt; report, Report { started, fault });
@@ -136,6 +145,7 @@ fn one_writer_number_is_left(rt: HostRuntime) -> Result<(), Fail> {
     let (report, log) = worked(&rt, alloc, &[], 4_294_967_295, &peers, &gate, 3)?;
     reports(&rt, report, 1, None);
     told(&rt, &gate.first, "Ended ours - theirs abc version 0 sent 1");
+    kept(&rt, &gate, 1, 0);
     ends_with(&rt, &log, 1, 4_294_967_295, b"abc");
     let written = joined(alloc, &[HELLO, LIST_OF_NOTHING, END])?;
     assert_eq!(rt; *peers.first.lock(&rt), written);
@@ -165,6 +175,7 @@ fn room_for_one_of_three(rt: HostRuntime) -> Result<(), Fail> {
     let seven = items(&rt, alloc, b"abcdefg")?;
     let (report, log) = worked(&rt, alloc, &seven, 1, &peers, &gate, 1)?;
     reports(&rt, report, 1, None);
+    kept(&rt, &gate, 1, 2);
     ends_with(&rt, &log, 8, 1, b"aa");
     Ok(())
 }

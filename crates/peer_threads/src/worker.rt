@@ -12,12 +12,12 @@ use crate::source::{Source, SourceFault};
 use ends_core::Learned;
 use io_core::Watched;
 use item_core::Item;
-use std::alloc::Global;
+use std::alloc::{AllocError, Global};
 use std::io::{Read, Write};
 use std::sync::{OnceLock, Wait};
 use store_core::RangeStore;
 use version_lock::Seat;
-use version_log::LogFault;
+use version_log::{Added, LogFault};
 
 /// Where all workers get their connections from.
 #[derive(Drop)]
@@ -120,9 +120,32 @@ fn serve<T: Wait, S: RangeStore, G: Gate, R: Read + Drop, W: Write + Drop>(
     }
 }
 
-// Adds the items to the log, in order. An item for which there is no room is dropped, and where memory runs out it
-// stops.
-fn add_all<T: Wait, S: RangeStore, G>(
+// Adds the item to the log, and tells the gate whether the log took it or it was dropped for want of room. Else memory
+// ran out.
+fn add<T: Wait, S: RangeStore, G: Gate>(
+    rt: &T,
+    alloc: Global,
+    shared: &Shared<'_, S, G>,
+    seat: &mut Seat<S>,
+    item: &Item,
+) -> Result<(), AllocError>
+    requires lock { seat.old.table_id ≡ shared.now.lock.now }
+    requires enrolled { IsSome seat.old.view.writer }
+    ensures seat { seat.new.table_id ≡ seat.old.table_id }
+    ensures kept { (seat.new.view.writer ≡ seat.old.view.writer) × (seat.new.view.cap ≡ seat.old.view.cap) }
+{
+    match shared.lock.insert(rt, alloc, seat, *item) {
+        Ok(Added::New(_)) => shared.gate.took(item),
+        Ok(Added::Already) => {}
+        Err(LogFault::Full) => shared.gate.dropped(1),
+        Err(LogFault::Memory) => return Err(AllocError),
+    }
+    Ok(())
+}
+
+// Adds the items to the log, in order. An item for which there is no room is dropped. Where memory runs out it stops,
+// and all that are left are dropped.
+fn add_all<T: Wait, S: RangeStore, G: Gate>(
     rt: &T,
     alloc: Global,
     shared: &Shared<'_, S, G>,
@@ -134,8 +157,9 @@ fn add_all<T: Wait, S: RangeStore, G>(
     ensures seat { seat.new.table_id ≡ seat.old.table_id }
     ensures kept { (seat.new.view.writer ≡ seat.old.view.writer) × (seat.new.view.cap ≡ seat.old.view.cap) }
 {
-    for item in items {
-        if shared.lock.insert(rt, alloc, seat, *item) == Err(LogFault::Memory) {
+    for (index, item) in items.iter().enumerate() {
+        if add(rt, alloc, shared, seat, item).is_err() {
+            shared.gate.dropped(items.len() - index);
             return;
         }
     }

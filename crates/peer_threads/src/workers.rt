@@ -29,7 +29,8 @@ pub struct Report {
 /// own, until the source has no more.
 ///
 /// What a worker's peer was first to know, by an ended session, is inserted into the log in the order learned; an item
-/// for which there is no room is dropped, and where memory runs out the rest of that session's items.
+/// for which there is no room is dropped, and where memory runs out the rest of that session's items. The gate is told
+/// of each item that the log took, and of those dropped.
 pub fn run_workers<
     T: Threads + Wait + Sync,
     S: RangeStore + Send,

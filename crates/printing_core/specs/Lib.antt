@@ -4,4 +4,6 @@ pub mod Endings
 pub mod FaultsOf
 pub mod HexLines
 pub mod Lines
+pub mod ReportTexts
 pub mod SessionTexts
+pub mod StatsTexts

@@ -6,11 +6,17 @@ mod ending;
 mod fault;
 mod hexed;
 mod printed;
+mod reports;
 mod session_texts;
+mod stats;
 
 pub use accepted::checked_text;
 pub use ending::refusal_of;
 pub use fault::Fault;
 pub use hexed::{decode_text, encode_lines};
-pub use printed::{tell, tell_address, tell_no_text, tell_words};
+pub use printed::{
+    tell, tell_address, tell_dropped, tell_no_text, tell_stats, tell_unwritten, tell_words,
+};
+pub use reports::{learned_line, report_text};
 pub use session_texts::{listening_line, outcome_text, served_text};
+pub use stats::{Stats, Tally};

@@ -5,6 +5,7 @@ ghost use Rattle.printing_core.specs.FaultsOf.{status_of, IsWordsStatus};
 ghost use Rattle.printing_core.specs.Lines.{session_refusal_name, strategy_line, check_line, fault_line};
 
 use crate::fault::Fault;
+use crate::stats::Stats;
 use settings_core::WordsFault;
 use std::fmt;
 use std::io::Write;
@@ -157,6 +158,23 @@ pub fn tell_address<E: Write>(err: &mut E, address: Option<SocketAddr>) {
     if let Some(address) = address {
         let _told = writeln!(err, "listening {address}");
     }
+}
+
+/// Prints that a file could not be written, which is named by its option. A line that is not taken changes nothing.
+pub fn tell_unwritten<E: Write>(err: &mut E, option: &str) {
+    let _told = writeln!(err, "{option} not written");
+}
+
+/// Prints how many learned items were dropped, if any were. A line that is not taken changes nothing.
+pub fn tell_dropped<E: Write>(err: &mut E, count: u64) {
+    if count > 0 {
+        let _told = writeln!(err, "dropped {count}");
+    }
+}
+
+/// Prints what a session cost. Lines that are not taken change nothing.
+pub fn tell_stats<E: Write>(err: &mut E, stats: Stats) {
+    let _told = write!(err, "{stats}");
 }
 
 /// Prints that a word is no text, and gives the status.

@@ -66,7 +66,7 @@ fn push_lines(
 }
 
 /// Appends a line for each item, in rising order.
-fn push_rising(
+pub(crate) fn push_rising(
     alloc: Global,
     text: &mut String,
     name: &str,

@@ -1,7 +1,9 @@
 //! The program `rangesync`.
 #![tactic(auto)]
 
+mod metering;
 mod opening;
+mod reporting;
 mod run;
 mod serve;
 mod sync;
@@ -10,6 +12,7 @@ mod tests;
 
 use printing_core::{Fault, tell, tell_no_text};
 use std::env::Env;
+use std::fs::File;
 use std::io::{Read, Write};
 use std::net::{Net, TcpListener, TcpStream};
 use std::process::ExitCode;
@@ -20,7 +23,7 @@ use std::time::Clock;
 use std::{env, io};
 
 /// The status of the run on the environment's words.
-fn status<R, I: Read + Drop, O: Write + Drop, E: Write + Drop>(
+fn status<R, I: Read + Drop, O: Write + Drop, E: Write + Drop + Send>(
     rt: &R,
     reader: I,
     out: O,
@@ -28,7 +31,7 @@ fn status<R, I: Read + Drop, O: Write + Drop, E: Write + Drop>(
 ) -> u8
 where
     R: Env
-        + Files
+        + Files<File = File>
         + Net<Listener = TcpListener, Stream = TcpStream>
         + Threads
         + Wait

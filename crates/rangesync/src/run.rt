@@ -5,6 +5,7 @@ ghost use Rattle.store_core.specs.Flat.{flat_items};
 ghost use Rattle.settings_core.specs.Spans.{AreInSpan};
 
 use crate::opening::read_opening;
+use crate::reporting::Paths;
 use crate::serve::{Serving, serve};
 use crate::sync::{Asking, sync};
 use answer_core::{answer, list_reply};
@@ -14,6 +15,7 @@ use settings_core::{Command, read_items, read_strategy, read_words};
 use sim_core::{scenario_of, sim_text};
 use std::alloc::Global;
 use std::convert::AsStr;
+use std::fs::File;
 use std::io::{Read, Write};
 use std::net::{Net, TcpListener, TcpStream};
 use std::rt::Files;
@@ -86,7 +88,7 @@ fn sim<I: Read + Drop, O: Write + Drop>(alloc: Global, reader: I, out: O) -> Res
 }
 
 /// Does what the words ask for.
-fn obey<R, I: Read + Drop, O: Write + Drop, E: Write>(
+fn obey<R, I: Read + Drop, O: Write + Drop, E: Write + Send>(
     rt: &R,
     command: Command<'_>,
     reader: I,
@@ -94,7 +96,7 @@ fn obey<R, I: Read + Drop, O: Write + Drop, E: Write>(
     err: &mut E,
 ) -> Result<(), Fault>
 where
-    R: Files
+    R: Files<File = File>
         + Net<Listener = TcpListener, Stream = TcpStream>
         + Threads
         + Wait
@@ -104,7 +106,7 @@ where
     requires { AreInSpan command }
 {
     match command {
-        Command::Answer { hexed, items } => {
+        Command::Answer { hexed, items, .. } => {
             let items = read_items(rt, items, MAX_ITEMS)?;
             let store = FlatStore::from_rising(rt.alloc(), &items)?;
             answer_in(rt.alloc(), hexed, &store, reader, out)
@@ -118,7 +120,10 @@ where
             sessions,
             patience,
             most_bytes,
+            report,
+            learned,
             items,
+            ..
         } => {
             let serving = Serving {
                 address,
@@ -128,6 +133,7 @@ where
                     patience,
                     most_bytes,
                 },
+                paths: Paths { report, learned },
             };
             serve(rt, read_opening(rt, table, items)?, serving, out, err)
         }
@@ -137,7 +143,9 @@ where
             profile,
             patience,
             most_bytes,
+            stats,
             items,
+            ..
         } => {
             let asking = Asking {
                 address,
@@ -146,15 +154,16 @@ where
                     patience,
                     most_bytes,
                 },
+                stats,
             };
-            sync(rt, read_opening(rt, table, items)?, asking, out)
+            sync(rt, read_opening(rt, table, items)?, asking, out, err)
         }
     }
 }
 
 /// Runs the program on these words, of which the first is its own name, and gives the status: 0 done, 1 refused, 2 for
 /// words that it does not know, 3 for a file, an input, an output, the network or memory.
-pub fn run<R, W: AsStr, I: Read + Drop, O: Write + Drop, E: Write + Drop>(
+pub fn run<R, W: AsStr, I: Read + Drop, O: Write + Drop, E: Write + Drop + Send>(
     rt: &R,
     words: &[W],
     reader: I,
@@ -162,7 +171,7 @@ pub fn run<R, W: AsStr, I: Read + Drop, O: Write + Drop, E: Write + Drop>(
     err: E,
 ) -> u8
 where
-    R: Files
+    R: Files<File = File>
         + Net<Listener = TcpListener, Stream = TcpStream>
         + Threads
         + Wait

@@ -4,13 +4,16 @@ ghost use Rattle.std.specs.Prelude.{◌≡◌};
 ghost use Rattle.settings_core.specs.Spans.{IsWorkerCount};
 
 use crate::opening::Opening;
+use crate::reporting::{Paths, Reporter, open_files};
 use io_core::{Watched, WriterFailed, write_output};
-use peer_threads::{OpenGate, Shared, run_workers};
-use printing_core::{Fault, listening_line, refusal_of, served_text, tell_address};
+use peer_threads::{Shared, run_workers};
+use printing_core::{Fault, listening_line, refusal_of, served_text, tell_address, tell_dropped};
 use session_table::SessionTable;
 use std::alloc::Global;
+use std::fs::File;
 use std::io::Write;
 use std::net::{Net, SocketAddr, TcpListener, TcpStream};
+use std::rt::Files;
 use std::sync::{Arc, Mutex, Wait};
 use std::thread::Threads;
 use std::time::Clock;
@@ -28,6 +31,8 @@ pub struct Serving<'a> {
     pub sessions: Option<u32>,
     /// What each connection may cost.
     pub limits: Limits,
+    /// The files that are written of the sessions.
+    pub paths: Paths<'a>,
 }
 
 /// Says at once that this address is listened at. Where the system chose the port, the real address goes to standard
@@ -48,10 +53,12 @@ fn announce<O: Write, E: Write>(
     Ok(())
 }
 
-/// Serves sessions until there are no more connections, and prints what was counted.
+/// Serves sessions until there are no more connections, and prints what was counted. What is asked for of each session
+/// goes to its files; standard error is told once of a file that cannot be written, and at the end how many learned
+/// items were dropped, if any were.
 ///
-/// Else 90, 60, or `io write`; and behind what was counted 62, or 90 where no worker started.
-pub fn serve<R, O: Write + Drop, E: Write>(
+/// Else 90, 80, 60, or `io write`; and behind what was counted 62, or 90 where no worker started.
+pub fn serve<R, O: Write + Drop, E: Write + Send>(
     rt: &R,
     opening: Opening,
     serving: Serving<'_>,
@@ -59,7 +66,8 @@ pub fn serve<R, O: Write + Drop, E: Write>(
     err: &mut E,
 ) -> Result<(), Fault>
 where
-    R: Net<Listener = TcpListener, Stream = TcpStream>
+    R: Files<File = File>
+        + Net<Listener = TcpListener, Stream = TcpStream>
         + Threads
         + Wait
         + Clock
@@ -74,15 +82,19 @@ where
     let accepted = Arc::new(alloc, accepted)?;
     let (lock, mut seat) = VersionLock::new(alloc, log)?;
     let sessions = Mutex::new(SessionTable::new(alloc, usize::from(serving.workers))?);
+    let files = open_files(rt, serving.paths)?;
     let listener = listen(rt, serving.address, serving.sessions, serving.limits)?;
     announce(alloc, serving.address, listener.local_addr(), &mut out, err)?;
+    let reporter = Reporter::new(rt, alloc, files, &mut *err);
     let shared = Shared {
         lock: &lock,
         accepted: &accepted,
         sessions: &sessions,
-        gate: &OpenGate,
+        gate: &reporter,
     };
     let report = run_workers(rt, alloc, &shared, &mut seat, &listener, serving.workers);
+    let dropped = reporter.close();
+    tell_dropped(err, dropped);
     let totals = sessions.into_inner().totals();
     let items = lock.close_with(rt, seat).count();
     let text = served_text(alloc, totals, items)?;

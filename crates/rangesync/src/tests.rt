@@ -2,11 +2,13 @@
 
 mod checks;
 mod hostile;
+mod reports;
 mod sessions;
 mod sims;
 mod words;
 
 use crate::run::run;
+use std::fs::File;
 use std::io::Write;
 use std::net::{Net, TcpListener, TcpStream};
 use std::process::Abort;
@@ -57,7 +59,7 @@ struct Wanted<'a> {
 /// Runs the words on the input, and compares what comes of it.
 fn gives<R>(rt: &R, words: &[&str], input: &[u8], wanted: &Wanted<'_>)
 where
-    R: Files
+    R: Files<File = File>
         + Net<Listener = TcpListener, Stream = TcpStream>
         + Threads
         + Wait
@@ -98,7 +100,7 @@ fn answered(out: &str) -> Wanted<'_> {
 /// Answers the hex under an item file of these lines.
 fn answers<R>(rt: &R, lines: &str, input: &str, wanted: &Wanted<'_>) -> io::Result<()>
 where
-    R: Files
+    R: Files<File = File>
         + Net<Listener = TcpListener, Stream = TcpStream>
         + Threads
         + Wait

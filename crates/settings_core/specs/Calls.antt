@@ -2,13 +2,16 @@
 --     AsksFor name rows c    the command of this name, with these values, is c
 --     WordsAskFor words c    the words, of which the first is the program's own name, are well formed and ask for c
 --     profile_number p       how a wire profile is named
+--     is_text form           whether the form of items is text
 --     Finds P found          what was found has this property; or nothing was found, and nothing has it
-use Rattle.std.specs.Prelude.{◌≡◌, ℕ, codes, Bool, true, false, List, [], Option, Some, None, IsSomeAnd, ⊤}
+use Rattle.std.specs.Prelude.{◌≡◌, ℕ, codes, Bool, true, false, List, [], Option, Some, None, IsSomeAnd, ⊤, option_map}
 use Rattle.std.specs.Str.Parse.{IsNumeral, digits_value, without_leading_plus}
 use Rattle.clap.specs.Words.{Row, Text, fault_of, first_of, one_of, subcommand_of}
 use Rattle.settings_core.specs.Program.{program}
 use Rattle.settings_core.specs.Spans.{AreInSpan}
 use Rattle.settings_core.specs.declared.words.Command.{Command}
+use Rattle.settings_core.specs.declared.words.ItemForm.{ItemForm}
+use Rattle.settings_core.specs.declared.words.ItemForm.TheVariants as forms
 use Rattle.settings_core.specs.declared.words.WireProfile.{WireProfile}
 use Rattle.settings_core.specs.declared.words.WireProfile.TheVariants as profiles
 use Rattle.settings_core.specs.declared.words.Command.TheVariants.{Answer, Check, Sim, Serve, Sync}
@@ -37,32 +40,44 @@ abbrev pub IsFlag : Text → List Row → Bool → Type 0
 IsFlag id rows flag = (one_of id rows ≡ Some (codes "true") → flag ≡ true)
     × (one_of id rows ≡ Some (codes "false") → flag ≡ false)
 
+abbrev pub is_text : ItemForm → Bool
+is_text forms.Hex = false
+is_text forms.Text = true
+
 abbrev pub profile_number : WireProfile → ℕ
 profile_number profiles.One = 1
 profile_number profiles.Two = 2
 
+-- the value of an argument, if it has one
+abbrev pub IsAnyText : Text → List Row → Option Text → Type 0
+IsAnyText id rows text = text ≡ first_of id rows
+
 -- the values are those of the command
 abbrev pub HasValues : List Row → Command → Type 0
-HasValues rows (Answer hexed items) = IsFlag (codes "hex") rows hexed × IsText (codes "ITEMS") rows items.now
+HasValues rows (Answer hexed form items) = IsFlag (codes "hex") rows hexed
+    × IsFlag (codes "text") rows (is_text form) × IsText (codes "ITEMS") rows items.now
 HasValues rows (Check file) = IsText (codes "FILE") rows file.now
 HasValues rows Sim = ⊤
-HasValues rows (Serve table address workers sessions patience most_bytes items) =
+HasValues rows (Serve table address workers sessions patience most_bytes report learned form items) =
     IsText (codes "table") rows table.now × IsText (codes "addr") rows address.now
     × IsNumber (codes "workers") rows (Some workers) × IsNumber (codes "sessions") rows sessions
     × IsNumber (codes "patience") rows (Some patience) × IsNumber (codes "most-bytes") rows (Some most_bytes)
-    × IsText (codes "ITEMS") rows items.now
-HasValues rows (Sync table address profile patience most_bytes items) =
+    × IsAnyText (codes "report") rows (option_map (λ text. text.now) report)
+    × IsAnyText (codes "learned") rows (option_map (λ text. text.now) learned)
+    × IsFlag (codes "text") rows (is_text form) × IsText (codes "ITEMS") rows items.now
+HasValues rows (Sync table address profile patience most_bytes stats form items) =
     IsText (codes "table") rows table.now × IsText (codes "addr") rows address.now
     × IsNumber (codes "profile") rows (Some (profile_number profile))
     × IsNumber (codes "patience") rows (Some patience) × IsNumber (codes "most-bytes") rows (Some most_bytes)
+    × IsFlag (codes "stats") rows stats × IsFlag (codes "text") rows (is_text form)
     × IsText (codes "ITEMS") rows items.now
 
 abbrev pub name_of : Command → Text
-name_of (Answer hexed items) = codes "answer"
+name_of (Answer hexed form items) = codes "answer"
 name_of (Check file) = codes "check"
 name_of Sim = codes "sim"
-name_of (Serve table address workers sessions patience most_bytes items) = codes "serve"
-name_of (Sync table address profile patience most_bytes items) = codes "sync"
+name_of (Serve table address workers sessions patience most_bytes report learned form items) = codes "serve"
+name_of (Sync table address profile patience most_bytes stats form items) = codes "sync"
 
 abbrev pub AsksFor : Text → List Row → Command → Type 0
 AsksFor name rows c = (name_of c ≡ name) × HasValues rows c × AreInSpan c

@@ -83,6 +83,22 @@ most_bytes = record (new_rule (codes "most-bytes")) {
 abbrev pub hex : Rule
 hex = record (new_rule (codes "hex")) { long = Some (codes "hex"); action = Some SetTrue }
 
+-- `--text`
+abbrev pub text : Rule
+text = record (new_rule (codes "text")) { long = Some (codes "text"); action = Some SetTrue }
+
+-- `--stats`
+abbrev pub stats : Rule
+stats = record (new_rule (codes "stats")) { long = Some (codes "stats"); action = Some SetTrue }
+
+-- `--report FILE`
+abbrev pub report : Rule
+report = record (new_rule (codes "report")) { long = Some (codes "report"); value_names = 1 }
+
+-- `--learned FILE`
+abbrev pub learned : Rule
+learned = record (new_rule (codes "learned")) { long = Some (codes "learned"); value_names = 1 }
+
 -- `FILE`
 abbrev pub file : Rule
 file = record (new_rule (codes "FILE")) { required = true }
@@ -90,7 +106,7 @@ file = record (new_rule (codes "FILE")) { required = true }
 -- ---- commands
 
 abbrev pub answer : App
-answer = with_rule (with_rule (new_app (codes "answer")) hex) items
+answer = with_rule (with_rule (with_rule (new_app (codes "answer")) hex) text) items
 
 abbrev pub check : App
 check = with_rule (new_app (codes "check")) file
@@ -99,12 +115,13 @@ abbrev pub sim : App
 sim = new_app (codes "sim")
 
 abbrev pub serve : App
-serve = with_rule (with_rule (with_rule (with_rule (with_rule (with_rule (with_rule (new_app (codes "serve")) table)
-    address) workers) sessions) patience) most_bytes) items
+serve = with_rule (with_rule (with_rule (with_rule (with_rule (with_rule (with_rule (with_rule (with_rule
+    (with_rule (new_app (codes "serve")) table) address) workers) sessions) patience) most_bytes) report) learned) text)
+    items
 
 abbrev pub sync : App
-sync = with_rule (with_rule (with_rule (with_rule (with_rule (with_rule (new_app (codes "sync")) table) address)
-    profile) patience) most_bytes) items
+sync = with_rule (with_rule (with_rule (with_rule (with_rule (with_rule (with_rule (with_rule (new_app (codes "sync"))
+    table) address) profile) patience) most_bytes) stats) text) items
 
 -- the program itself, which has a version and asks for a command
 abbrev pub top : App

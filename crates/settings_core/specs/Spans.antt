@@ -19,9 +19,10 @@ abbrev pub IsByteCount : ℕ → Type 0
 IsByteCount n = (1024 ≤ n) × (n ≤ 4294967295)
 
 abbrev pub AreInSpan : Command → Type 0
-AreInSpan (Answer hexed items) = ⊤
+AreInSpan (Answer hexed form items) = ⊤
 AreInSpan (Check file) = ⊤
 AreInSpan Sim = ⊤
-AreInSpan (Serve table address workers sessions patience most_bytes items) = IsWorkerCount workers
+AreInSpan (Serve table address workers sessions patience most_bytes report learned form items) = IsWorkerCount workers
     × IfSome sessions IsSessionCount × IsPatience patience × IsByteCount most_bytes
-AreInSpan (Sync table address profile patience most_bytes items) = IsPatience patience × IsByteCount most_bytes
+AreInSpan (Sync table address profile patience most_bytes stats form items) = IsPatience patience
+    × IsByteCount most_bytes

@@ -10,4 +10,4 @@ mod words;
 pub use fault::SettingsFault;
 pub use item_file::{item_of, item_set, read_items};
 pub use strategy_file::read_strategy;
-pub use words::{Command, WireProfile, WordsFault, read_words};
+pub use words::{Command, ItemForm, WireProfile, WordsFault, read_words};

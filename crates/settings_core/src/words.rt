@@ -2,7 +2,7 @@
 
 ghost use Rattle.std.specs.Prelude.{◌≡◌, ◌≢◌, codes, map, option_map, IfErr, IfOk, IfSome, IsSomeAnd, Some};
 ghost use Rattle.clap.specs.Words.{first_of, found_of, kind_of, rows_of, subcommand_rows_of};
-ghost use Rattle.settings_core.specs.Calls.{AsksFor, Finds, IsNumber, WordsAskFor, profile_number};
+ghost use Rattle.settings_core.specs.Calls.{AsksFor, Finds, IsFlag, IsNumber, WordsAskFor, is_text, profile_number};
 ghost use Rattle.settings_core.specs.Program.{IsWord, IsCommand};
 ghost use Rattle.settings_core.specs.Program as program;
 ghost use Rattle.settings_core.specs.Spans.{IsWorkerCount, IsSessionCount, IsPatience, IsByteCount, AreInSpan};
@@ -32,6 +32,8 @@ pub enum Command<'a> {
     Answer {
         /// Whether the input and the output are hex text.
         hexed: bool,
+        /// How the item file is read.
+        form: ItemForm,
         /// The path of the item file.
         items: &'a str,
     },
@@ -56,6 +58,12 @@ pub enum Command<'a> {
         patience: u32,
         /// How many bytes of a session are read, from 1,024 on.
         most_bytes: u32,
+        /// The path of the file for what each session found, if one is given.
+        report: Option<&'a str>,
+        /// The path of the file for what is learned of peers, if one is given.
+        learned: Option<&'a str>,
+        /// How the item file is read, and how items are written.
+        form: ItemForm,
         /// The path of the item file.
         items: &'a str,
     },
@@ -71,9 +79,22 @@ pub enum Command<'a> {
         patience: u32,
         /// How many bytes of the session are read, from 1,024 on.
         most_bytes: u32,
+        /// Whether counts and seconds are printed.
+        stats: bool,
+        /// How the item file is read, and how items are printed.
+        form: ItemForm,
         /// The path of the item file.
         items: &'a str,
     },
+}
+
+/// How items stand in a file, and how they are printed.
+#[derive(Clone, Copy, Debug, PartialEq, Eq)]
+pub enum ItemForm {
+    /// As hex digits.
+    Hex,
+    /// As they are, or as hex digits behind `0x`.
+    Text,
 }
 
 /// What a Sum carries of the items in its range.
@@ -121,6 +142,16 @@ fn items_word<'a>(alloc: Global) -> Arg<'a>
         .required(true)
 }
 
+/// The word for items that stand as they are.
+fn text_word<'a>(alloc: Global) -> Arg<'a>
+    ensures { IsWord program.text result }
+{
+    Arg::new(alloc, "text")
+        .long("text")
+        .help("Each line of ITEMS is an item as it stands, not hex")
+        .action(ArgAction::SetTrue)
+}
+
 /// The word for the strategy of a session.
 fn table_word<'a>(alloc: Global) -> Arg<'a>
     ensures { IsWord program.table result }
@@ -154,6 +185,7 @@ fn answer_words<'a>(alloc: Global) -> Result<clap::Command<'a>, AllocError>
     clap::Command::new(alloc, "answer")
         .about("Answer one message with the lists of the ranges that differ")
         .arg(hex)?
+        .arg(text_word(alloc))?
         .arg(items_word(alloc))
 }
 
@@ -225,6 +257,26 @@ fn most_bytes_word<'a>(alloc: Global, help: &'a str) -> Arg<'a>
         .default_value("33554432")
 }
 
+/// The word for the file of what sessions found.
+fn report_word<'a>(alloc: Global) -> Arg<'a>
+    ensures { IsWord program.report result }
+{
+    Arg::new(alloc, "report")
+        .long("report")
+        .value_name("FILE")
+        .help("Append what each session found to this file")
+}
+
+/// The word for the file of what is learned of peers.
+fn learned_word<'a>(alloc: Global) -> Arg<'a>
+    ensures { IsWord program.learned result }
+{
+    Arg::new(alloc, "learned")
+        .long("learned")
+        .value_name("FILE")
+        .help("Append each item learned from a peer to this file")
+}
+
 /// The words of `serve`.
 fn serve_words<'a>(alloc: Global) -> Result<clap::Command<'a>, AllocError>
     ensures { IfOk result (IsCommand program.serve) }
@@ -243,6 +295,9 @@ fn serve_words<'a>(alloc: Global) -> Result<clap::Command<'a>, AllocError>
             alloc,
             "Refuse a session that sends more bytes, 1,024 to 4,294,967,295",
         ))?
+        .arg(report_word(alloc))?
+        .arg(learned_word(alloc))?
+        .arg(text_word(alloc))?
         .arg(items_word(alloc))
 }
 
@@ -256,6 +311,16 @@ fn profile_word<'a>(alloc: Global) -> Arg<'a>
         .help("The wire profile that is spoken, 1 or 2")
         .value_parser(value_parser!(u8).range(1..=2))
         .default_value("1")
+}
+
+/// The word for counts and seconds.
+fn stats_word<'a>(alloc: Global) -> Arg<'a>
+    ensures { IsWord program.stats result }
+{
+    Arg::new(alloc, "stats")
+        .long("stats")
+        .help("Print counts and seconds on standard error")
+        .action(ArgAction::SetTrue)
 }
 
 /// The words of `sync`.
@@ -275,6 +340,8 @@ fn sync_words<'a>(alloc: Global) -> Result<clap::Command<'a>, AllocError>
             alloc,
             "Refuse a server that sends more bytes, 1,024 to 4,294,967,295",
         ))?
+        .arg(stats_word(alloc))?
+        .arg(text_word(alloc))?
         .arg(items_word(alloc))
 }
 
@@ -353,12 +420,31 @@ fn text_in<'a>(matches: &ArgMatches<'a>, id: &str) -> Option<&'a str>
     matches.get_str(id)
 }
 
+/// Whether a flag is given.
+fn flag_in(matches: &ArgMatches<'_>, id: &str) -> bool
+    ensures { IsFlag id.now (rows_of (found_of matches.now)) result }
+{
+    matches.get_flag(id)
+}
+
+/// How items stand in files, and how they are printed.
+fn form_in(matches: &ArgMatches<'_>) -> ItemForm
+    ensures { IsFlag (codes "text") (rows_of (found_of matches.now)) (is_text result) }
+{
+    if flag_in(matches, "text") {
+        ItemForm::Text
+    } else {
+        ItemForm::Hex
+    }
+}
+
 /// What the words of `answer` ask for.
 fn answer_in<'a>(matches: &ArgMatches<'a>) -> Option<Command<'a>>
     ensures { Finds (AsksFor (codes "answer") (rows_of (found_of matches.now))) result }
 {
     Some(Command::Answer {
-        hexed: matches.get_flag("hex"),
+        hexed: flag_in(matches, "hex"),
+        form: form_in(matches),
         items: text_in(matches, "ITEMS")?,
     })
 }
@@ -383,6 +469,9 @@ fn serve_in<'a>(matches: &ArgMatches<'a>) -> Option<Command<'a>>
         sessions: sessions_in(matches)?,
         patience: patience_in(matches)?,
         most_bytes: most_bytes_in(matches)?,
+        report: text_in(matches, "report"),
+        learned: text_in(matches, "learned"),
+        form: form_in(matches),
         items: text_in(matches, "ITEMS")?,
     })
 }
@@ -397,6 +486,8 @@ fn sync_in<'a>(matches: &ArgMatches<'a>) -> Option<Command<'a>>
         profile: profile_in(matches)?,
         patience: patience_in(matches)?,
         most_bytes: most_bytes_in(matches)?,
+        stats: flag_in(matches, "stats"),
+        form: form_in(matches),
         items: text_in(matches, "ITEMS")?,
     })
 }

@@ -1,6 +1,7 @@
 //! Readers and writers that do little at a time, gates, and outcomes as text, for the tests of sessions in threads.
 
 use crate::support::shown::shown_learned;
+use item_core::Item;
 use peer_threads::{Gate, Outcome, Side};
 use std::alloc::{AllocError, Global};
 use std::io;
@@ -96,7 +97,8 @@ pub(crate) enum Rule {
     SecondFirst,
 }
 
-/// A gate that keeps how each session ended, as text, and how often it was told of an end.
+/// A gate that keeps how each session ended, as text, how often it was told of an end, and how many items the log took
+/// and were dropped.
 #[derive(Drop)]
 pub(crate) struct Witness {
     pub(crate) alloc: Global,
@@ -104,6 +106,8 @@ pub(crate) struct Witness {
     pub(crate) first: OnceLock<String>,
     pub(crate) second: OnceLock<String>,
     pub(crate) told: AtomicU64,
+    pub(crate) taken: AtomicU64,
+    pub(crate) lost: AtomicU64,
 }
 
 impl Witness {
@@ -114,6 +118,8 @@ impl Witness {
             first: OnceLock::new(),
             second: OnceLock::new(),
             told: AtomicU64::new(0),
+            taken: AtomicU64::new(0),
+            lost: AtomicU64::new(0),
         }
     }
 
@@ -151,6 +157,14 @@ impl Gate for Witness {
             &self.second
         };
         let _there = place.try_set(text);
+    }
+
+    fn took(&self, _item: &Item) {
+        self.taken.fetch_add(1, Ordering::SeqCst);
+    }
+
+    fn dropped(&self, count: usize) {
+        self.lost.fetch_add(count as u64, Ordering::SeqCst);
     }
 }
 

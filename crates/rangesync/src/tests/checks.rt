@@ -1,6 +1,7 @@
 //! Strategies that are accepted or refused, through the program.
 
 use super::{Wanted, answered, gives, refused};
+use std::fs::File;
 use std::net::{Net, TcpListener, TcpStream};
 use std::process::Abort;
 use std::rt::Files;
@@ -24,7 +25,7 @@ split = [1, 1]
 /// Checks a file of this text.
 fn checks<R>(rt: &R, path: &str, text: &str, wanted: &Wanted<'_>) -> io::Result<()>
 where
-    R: Files
+    R: Files<File = File>
         + Net<Listener = TcpListener, Stream = TcpStream>
         + Threads
         + Wait

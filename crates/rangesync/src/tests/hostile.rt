@@ -3,6 +3,7 @@
 use super::{Wanted, gives, refused};
 use peer_threads::Source;
 use std::alloc::AllocError;
+use std::fs::File;
 use std::io::{Read, Write};
 use std::net::{Net, TcpListener, TcpStream};
 use std::process::Abort;
@@ -73,7 +74,7 @@ fn writes<R: Net<Stream = TcpStream> + Abort>(rt: &R, address: &str, bytes: &[u8
 /// Serves one connection at this address, which may be silent for a second, on the item `abc`.
 fn serves_one<R>(rt: &R, table: &str, items: &str, address: &str, wanted: &Wanted<'_>)
 where
-    R: Files
+    R: Files<File = File>
         + Net<Listener = TcpListener, Stream = TcpStream>
         + Threads
         + Wait
@@ -197,7 +198,7 @@ fn hears<R: Clock + Abort>(rt: &R, listener: &Listener<R>) {
 /// Runs `sync` on no items at this address, with a second's patience.
 fn syncs<R>(rt: &R, table: &str, address: &str, wanted: &Wanted<'_>)
 where
-    R: Files
+    R: Files<File = File>
         + Net<Listener = TcpListener, Stream = TcpStream>
         + Threads
         + Wait

@@ -4,6 +4,7 @@ use super::{Wanted, gives, refused};
 use crate::run::run;
 use peer_threads::Source;
 use std::alloc::AllocError;
+use std::fs::File;
 use std::io::{Read, Write};
 use std::net::{Net, TcpListener, TcpStream};
 use std::process::Abort;
@@ -46,7 +47,7 @@ struct Given {
 /// Runs the words on no input.
 fn run_words<R>(rt: &R, words: &[&str]) -> Given
 where
-    R: Files
+    R: Files<File = File>
         + Net<Listener = TcpListener, Stream = TcpStream>
         + Threads
         + Wait
@@ -64,7 +65,7 @@ where
 /// Runs the words again and again while nobody listens.
 fn run_late<R>(rt: &R, words: &[&str]) -> Given
 where
-    R: Files
+    R: Files<File = File>
         + Net<Listener = TcpListener, Stream = TcpStream>
         + Threads
         + Wait
@@ -116,7 +117,7 @@ items 1
 /// Asks for the items of a server in this profile.
 fn ask<R>(rt: &R, profile: &str) -> Given
 where
-    R: Files
+    R: Files<File = File>
         + Net<Listener = TcpListener, Stream = TcpStream>
         + Threads
         + Wait
@@ -141,7 +142,7 @@ where
 /// Asks for the items of a server in profile 2, and then in profile 1.
 fn ask_twice<R>(rt: &R) -> (Given, Given)
 where
-    R: Files
+    R: Files<File = File>
         + Net<Listener = TcpListener, Stream = TcpStream>
         + Threads
         + Wait
@@ -182,7 +183,7 @@ items 1
 /// A listener for one connection at a port that the system chose, and its address.
 fn opened<'a, R>(rt: &'a R) -> Result<(Listener<'a, R>, String), AllocError>
 where
-    R: Files
+    R: Files<File = File>
         + Net<Listener = TcpListener, Stream = TcpStream>
         + Threads
         + Wait
@@ -203,7 +204,7 @@ where
 /// it.
 fn reply<R>(rt: &R, listener: &Listener<R>, bytes: &[u8])
 where
-    R: Files
+    R: Files<File = File>
         + Net<Listener = TcpListener, Stream = TcpStream>
         + Threads
         + Wait
@@ -222,7 +223,7 @@ where
 /// Runs `sync` on no items at this address.
 fn syncs<R>(rt: &R, table: &str, address: &str, wanted: &Wanted<'_>)
 where
-    R: Files
+    R: Files<File = File>
         + Net<Listener = TcpListener, Stream = TcpStream>
         + Threads
         + Wait
@@ -246,7 +247,7 @@ where
 /// Runs `serve` on no items at this address.
 fn serves<R>(rt: &R, table: &str, address: &str, wanted: &Wanted<'_>)
 where
-    R: Files
+    R: Files<File = File>
         + Net<Listener = TcpListener, Stream = TcpStream>
         + Threads
         + Wait
@@ -330,7 +331,7 @@ fn a_peer_with_the_same_items(rt: HostRuntime) -> io::Result<()> {
 /// Runs `serve` and `sync` on these files, at an address that is none.
 fn both<R>(rt: &R, table: &str, items: &str, status: u8, line: &str)
 where
-    R: Files
+    R: Files<File = File>
         + Net<Listener = TcpListener, Stream = TcpStream>
         + Threads
         + Wait
@@ -412,7 +413,7 @@ fn an_address_in_use(rt: HostRuntime) -> io::Result<()> {
 /// An address where nobody listens any more.
 fn left<R>(rt: &R) -> Result<String, AllocError>
 where
-    R: Files
+    R: Files<File = File>
         + Net<Listener = TcpListener, Stream = TcpStream>
         + Threads
         + Wait

@@ -2,6 +2,7 @@
 
 use super::{Wanted, answered, gives, refused};
 use std::alloc::AllocError;
+use std::fs::File;
 use std::net::{Net, TcpListener, TcpStream};
 use std::process::Abort;
 use std::rt::Files;
@@ -76,7 +77,7 @@ items = ["61", "62", "63", "64", "65", "66", "67", "68"]
 /// Runs these steps on these nodes.
 fn runs<R>(rt: &R, steps: &str, nodes: &str, wanted: &Wanted<'_>) -> Result<(), AllocError>
 where
-    R: Files
+    R: Files<File = File>
         + Net<Listener = TcpListener, Stream = TcpStream>
         + Threads
         + Wait

@@ -1,6 +1,7 @@
 //! Helps and usage faults, as `clap` words them.
 
 use super::{answered, gives, refused};
+use std::fs::File;
 use std::net::{Net, TcpListener, TcpStream};
 use std::process::Abort;
 use std::rt::Files;
@@ -196,7 +197,7 @@ Options:
 /// Words of `serve` with this number, and the line of it.
 fn numbers<R>(rt: &R, word: &str, number: &str, line: &str)
 where
-    R: Files
+    R: Files<File = File>
         + Net<Listener = TcpListener, Stream = TcpStream>
         + Threads
         + Wait

@@ -1,7 +1,8 @@
 use Rattle.std.proofs.Common.{rules, codes}
 use Rattle.std.proofs.lemmas.Result.{IfOk-weaker}
 use Rattle.clap.specs.Words.{App, new_app, with_rule}
-use Rattle.settings_core.specs.Program.{IsCommand, table, address, workers, sessions, patience, most_bytes, items}
+use Rattle.settings_core.specs.Program.{IsCommand, table, address, workers, sessions, patience, most_bytes, report}
+use Rattle.settings_core.specs.Program.{learned, text, items}
 use Rattle.settings_core.proofs.Adding.{with_word}
 use Rattle.settings_core.proofs.words.serve_words.Goals as goal
 
@@ -16,6 +17,9 @@ counted = with_rule (with_rule placed workers) sessions
 
 abbrev bounded : App
 bounded = with_rule (with_rule counted patience) most_bytes
+
+abbrev written : App
+written = with_rule (with_rule bounded report) learned
 
 pub returns : goal.returns
 returns c =
@@ -37,5 +41,15 @@ returns c =
     let six = with_word (with_rule counted patience) most_bytes c.in_ok-arg-5.field-0 c.most_bytes_word.result
     c.in_ok-arg-6.field-0 five
     c.most_bytes_word.ensures c.in_ok-arg-6.ensures in
-    IfOk-weaker c.arg-7.result _ _ (λ new. with_word bounded items c.in_ok-arg-6.field-0 c.items_word.result new six
-    c.items_word.ensures) c.arg-7.ensures
+    let seven = with_word bounded report c.in_ok-arg-6.field-0 c.report_word.result
+    c.in_ok-arg-7.field-0 six
+    c.report_word.ensures c.in_ok-arg-7.ensures in
+    let eight = with_word (with_rule bounded report) learned c.in_ok-arg-7.field-0 c.learned_word.result
+    c.in_ok-arg-8.field-0 seven
+    c.learned_word.ensures c.in_ok-arg-8.ensures in
+    let nine = with_word written text c.in_ok-arg-8.field-0 c.text_word.result
+    c.in_ok-arg-9.field-0 eight
+    c.text_word.ensures c.in_ok-arg-9.ensures in
+    IfOk-weaker c.arg-10.result _ _ (λ new. with_word (with_rule written text) items c.in_ok-arg-9.field-0
+    c.items_word.result new nine
+    c.items_word.ensures) c.arg-10.ensures

@@ -1,0 +1,134 @@
+//! Counting what goes over a connection: bytes, and by their frames the messages and parts.
+
+use printing_core::Tally;
+use std::io;
+use std::io::{Read, Write};
+
+/// Where in the bytes of one side a byte stands.
+#[derive(Clone, Copy, Debug, PartialEq, Eq)]
+enum Place {
+    /// In the hello, with so many bytes of it to come.
+    Hello(u8),
+    /// In the length of a frame, with so many bytes of it to come.
+    Length { left: u8, length: u32 },
+    /// In front of the kind of a frame of this length.
+    Kind { length: u32 },
+    /// In a frame, with so many bytes of it to come, one at least.
+    Body { left: u32, kind: u8 },
+}
+
+/// The kind of a message's end.
+const END: u8 = 4;
+
+/// What was counted of one side's bytes.
+#[derive(Clone, Copy, Debug, PartialEq, Eq)]
+struct Meter {
+    place: Place,
+    tally: Tally,
+}
+
+/// The place behind a whole frame, or behind the hello.
+const NEXT: Place = Place::Length { left: 4, length: 0 };
+
+impl Meter {
+    /// Nothing was seen so far.
+    fn new() -> Meter {
+        Meter {
+            place: Place::Hello(4),
+            tally: Tally {
+                messages: 0,
+                parts: 0,
+                bytes: 0,
+            },
+        }
+    }
+
+    /// Counts a whole frame of this kind: 1 to 3 are parts, 4 is the end of a message, 5 a fault.
+    fn frame(&mut self, kind: u8) {
+        match kind {
+            1..=3 => self.tally.parts = self.tally.parts.saturating_add(1),
+            END => self.tally.messages = self.tally.messages.saturating_add(1),
+            _ => {}
+        }
+    }
+
+    /// The place behind this byte, at which a frame may be whole.
+    fn step(&mut self, byte: u8) {
+        self.place = match self.place {
+            Place::Hello(left) if left > 1 => Place::Hello(left - 1),
+            Place::Hello(_) => NEXT,
+            Place::Length { left, length } => {
+                let length = length << 8 | u32::from(byte);
+                if left > 1 {
+                    Place::Length {
+                        left: left - 1,
+                        length,
+                    }
+                } else {
+                    Place::Kind { length }
+                }
+            }
+            Place::Kind { length } => self.behind(length.saturating_sub(1), byte),
+            Place::Body { left, kind } => self.behind(left.saturating_sub(1), kind),
+        };
+    }
+
+    /// The place in a frame of this kind that has so many bytes to come.
+    fn behind(&mut self, left: u32, kind: u8) -> Place {
+        if left > 0 {
+            return Place::Body { left, kind };
+        }
+        self.frame(kind);
+        NEXT
+    }
+
+    /// Counts these bytes.
+    fn see(&mut self, bytes: &[u8]) {
+        self.tally.bytes = self.tally.bytes.saturating_add(bytes.len() as u64);
+        for byte in bytes {
+            self.step(*byte);
+        }
+    }
+}
+
+/// A reader or a writer that passes each call on, and counts what goes through it.
+#[derive(Debug, Drop)]
+pub struct Metered<T> {
+    inner: T,
+    meter: Meter,
+}
+
+impl<T> Metered<T> {
+    /// Nothing went through so far.
+    pub fn new(inner: T) -> Metered<T> {
+        Metered {
+            inner,
+            meter: Meter::new(),
+        }
+    }
+
+    /// What went through.
+    pub fn tally(&self) -> Tally {
+        self.meter.tally
+    }
+}
+
+impl<R: Read> Read for Metered<R> {
+    fn read(&mut self, buf: &mut [u8]) -> io::Result<usize> {
+        let count = self.inner.read(buf)?;
+        self.meter.see(&buf[..count]);
+        Ok(count)
+    }
+}
+
+impl<W: Write> Write for Metered<W> {
+    fn write(&mut self, buf: &[u8]) -> io::Result<usize> {
+        let count = self.inner.write(buf)?;
+        self.meter.see(&buf[..count]);
+        Ok(count)
+    }
+
+    fn flush(&mut self) -> io::Result<()> {
+        self.inner.flush()
+    }
+}
