@@ -4,7 +4,7 @@ ghost use Rattle.std.specs.Prelude.{◌≤◌, length};
 ghost use Rattle.store_core.specs.Flat.{flat_items};
 ghost use Rattle.settings_core.specs.Spans.{AreInSpan};
 
-use crate::opening::read_opening;
+use crate::opening::{Sources, read_opening};
 use crate::serve::{Serving, serve};
 use crate::sync::{Asking, sync};
 use answer_core::{answer, list_reply};
@@ -104,8 +104,8 @@ where
     requires { AreInSpan command }
 {
     match command {
-        Command::Answer { hexed, items, .. } => {
-            let items = read_items(rt, items, MAX_ITEMS)?;
+        Command::Answer { hexed, form, items } => {
+            let items = read_items(rt, form, items, MAX_ITEMS)?;
             let store = FlatStore::from_rising(rt.alloc(), &items)?;
             answer_in(rt.alloc(), hexed, &store, reader, out)
         }
@@ -118,6 +118,7 @@ where
             sessions,
             patience,
             most_bytes,
+            form,
             items,
             ..
         } => {
@@ -130,7 +131,8 @@ where
                     most_bytes,
                 },
             };
-            serve(rt, read_opening(rt, table, items)?, serving, out, err)
+            let sources = Sources { table, form, items };
+            serve(rt, read_opening(rt, sources, reader)?, serving, out, err)
         }
         Command::Sync {
             table,
@@ -138,18 +140,21 @@ where
             profile,
             patience,
             most_bytes,
+            form,
             items,
             ..
         } => {
             let asking = Asking {
                 address,
                 profile,
+                form,
                 limits: Limits {
                     patience,
                     most_bytes,
                 },
             };
-            sync(rt, read_opening(rt, table, items)?, asking, out)
+            let sources = Sources { table, form, items };
+            sync(rt, read_opening(rt, sources, reader)?, asking, out)
         }
     }
 }

@@ -8,7 +8,7 @@ use io_core::{Watched, write_output};
 use peer_threads::{OpenGate, Shared, dial_one};
 use printing_core::{Fault, outcome_text};
 use session_table::SessionTable;
-use settings_core::WireProfile;
+use settings_core::{ItemForm, WireProfile};
 use std::io::Write;
 use std::net::{Net, TcpStream};
 use std::sync::{Arc, Mutex, Wait};
@@ -22,6 +22,8 @@ pub struct Asking<'a> {
     pub address: &'a str,
     /// The wire profile that is spoken.
     pub profile: WireProfile,
+    /// The form of the items that are printed.
+    pub form: ItemForm,
     /// What the connection may cost.
     pub limits: Limits,
 }
@@ -73,7 +75,7 @@ pub fn sync<R: Net<Stream = TcpStream> + Wait + AllocGlobal, O: Write + Drop>(
             )
         }
     };
-    let text = outcome_text(alloc, &outcome)?;
+    let text = outcome_text(alloc, asking.form, &outcome)?;
     write_output(&mut Watched::new(out), text.as_bytes())?;
     Ok(())
 }

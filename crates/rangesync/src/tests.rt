@@ -4,6 +4,7 @@ mod checks;
 mod hostile;
 mod sessions;
 mod sims;
+mod texts;
 mod words;
 
 use crate::run::run;
