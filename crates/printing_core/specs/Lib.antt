@@ -5,3 +5,4 @@ pub mod FaultsOf
 pub mod HexLines
 pub mod Lines
 pub mod SessionTexts
+pub mod Whys

@@ -7,6 +7,8 @@ mod fault;
 mod hexed;
 mod printed;
 mod session_texts;
+mod shown;
+mod why;
 
 pub use accepted::checked_text;
 pub use ending::refusal_of;
@@ -14,3 +16,5 @@ pub use fault::Fault;
 pub use hexed::{decode_text, encode_lines};
 pub use printed::{tell, tell_address, tell_no_text, tell_words};
 pub use session_texts::{listening_line, outcome_text, served_text};
+pub use shown::shown_line;
+pub use why::{InputFlaw, ServerFlaw, Unreached, Unread, Why, tell_why};

@@ -2,11 +2,13 @@
 #![tactic(auto)]
 
 mod opening;
+mod row;
 mod run;
 mod serve;
 mod sync;
 #[cfg(test)]
 mod tests;
+mod why;
 
 use printing_core::{Fault, tell, tell_no_text};
 use std::env::Env;
