@@ -48,7 +48,7 @@ const NOTHING: Given<'static> = Given {
 };
 
 /// What this command was given.
-fn given(command: Command<'_>) -> Given<'_> {
+fn given_to(command: Command<'_>) -> Given<'_> {
     match command {
         Command::Answer { hexed, items, .. } => Given {
             items: Some(items),
@@ -149,22 +149,27 @@ fn why_unread<'a, R: Files + AllocGlobal>(rt: &R, given: Given<'a>) -> Option<Wh
     given.hexed.map(|_| Why::Input(InputFlaw::CannotRead))
 }
 
-/// Whether this line is the first bad one of an item file.
-fn is_bad_line(alloc: Global, text: &[u8], line: usize) -> bool {
-    match item_set(alloc, text, usize::MAX) {
-        Err(SettingsFault::BadItemLine { line: bad }) => bad == line,
+/// Whether a line of an item file is bad.
+fn is_bad(alloc: Global, line: &[u8]) -> bool {
+    match item_set(alloc, line, 1) {
+        Err(SettingsFault::BadItemLine { line: _ }) => true,
         _ => false,
     }
 }
 
-/// The line of this number, from 1, without its end.
-fn line_at(text: &[u8], line: usize) -> &[u8] {
-    for (index, found) in text.split(|byte| *byte == b'\n').enumerate() {
-        if index + 1 == line {
-            return found.strip_suffix(b"\r").unwrap_or(found);
+/// The line of this number, from 1, without its line feed.
+fn line_at(text: &[u8], number: usize) -> &[u8] {
+    for (index, line) in text.split(|byte| *byte == b'\n').enumerate() {
+        if index + 1 == number {
+            return line;
         }
     }
     &text[..0]
+}
+
+/// A line as it is shown, without a carriage return at its end.
+fn shown(alloc: Global, line: &[u8]) -> Option<String> {
+    shown_line(alloc, line.strip_suffix(b"\r").unwrap_or(line)).ok()
 }
 
 /// What line of the item file is bad; or that standard input is no hex.
@@ -177,8 +182,9 @@ fn why_bad_line<'a, R: Files + AllocGlobal>(
     let Again::Text(text) = read_again(rt, file) else {
         return None;
     };
-    if is_bad_line(rt.alloc(), &text, line) {
-        let shown = shown_line(rt.alloc(), line_at(&text, line)).ok()?;
+    let found = line_at(&text, line);
+    if is_bad(rt.alloc(), found) {
+        let shown = shown(rt.alloc(), found)?;
         return Some(Why::BadLine { file, line, shown });
     }
     given.hexed.map(|_| Why::Input(InputFlaw::NotHex))
@@ -319,7 +325,7 @@ pub fn explain<R, E: Write>(rt: &R, command: Command<'_>, fault: Fault, err: &mu
 where
     R: Files + Net<Listener = TcpListener, Stream = TcpStream> + AllocGlobal,
 {
-    if let Some(why) = why_of(rt, given(command), fault) {
+    if let Some(why) = why_of(rt, given_to(command), fault) {
         tell_why(err, &why);
     }
 }

@@ -39,7 +39,8 @@ fn files_and_addresses(rt: HostRuntime) {
 
 #[test]
 fn servers_and_inputs(rt: HostRuntime) {
-    let silent = "the connection or standard output is closed, or the server took nothing for 60 seconds\n";
+    let silent =
+        "the connection or standard output is closed, or the server took nothing for 60 seconds\n";
     let server = Why::Server(ServerFlaw::NotTaking { patience: 60 });
     let full = Why::Server(ServerFlaw::Refusing { code: 50 });
     let input = Why::Input(InputFlaw::TooManyItems);
@@ -80,8 +81,7 @@ fn lines(rt: HostRuntime) -> Result<(), AllocError> {
 #[test]
 fn a_long_file(rt: HostRuntime) -> io::Result<()> {
     let path = "long.items";
-    let long: Vec<u8> = vec![in rt.alloc(); b' '; 16_777_217]?;
-    fs::write(&rt, path, long.as_slice())?;
+    fs::create(&rt, path)?.set_len(16_777_217)?;
     let lines = "refused 80 CannotRead\nlong.items: it has more than 16,777,216 bytes\n";
     gives(&rt, &["rangesync", "answer", path], &[], &refused(3, lines));
     fs::remove_file(&rt, path)
