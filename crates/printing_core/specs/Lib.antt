@@ -7,3 +7,4 @@ pub mod Lines
 pub mod ReportTexts
 pub mod SessionTexts
 pub mod StatsTexts
+pub mod Whys

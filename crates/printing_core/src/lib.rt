@@ -8,7 +8,9 @@ mod hexed;
 mod printed;
 mod reports;
 mod session_texts;
+mod shown;
 mod stats;
+mod why;
 
 pub use accepted::checked_text;
 pub use ending::refusal_of;
@@ -19,4 +21,6 @@ pub use printed::{
 };
 pub use reports::{learned_line, report_text};
 pub use session_texts::{listening_line, outcome_text, served_text};
+pub use shown::shown_line;
 pub use stats::{Stats, Tally};
+pub use why::{InputFlaw, ServerFlaw, Unreached, Unread, Why, tell_why};

@@ -18,7 +18,7 @@ const USAGE_STATUS: u8 = 2;
 
 /// The name of the refusal of a session, by its number: one of the wire, of an end, or of the table or the gate of its
 /// process.
-fn session_refusal_name(code: u8) -> &'static str
+pub fn session_refusal_name(code: u8) -> &'static str
     ensures { result.now ≡ session_refusal_name code }
 {
     match code {

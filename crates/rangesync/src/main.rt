@@ -4,11 +4,13 @@
 mod metering;
 mod opening;
 mod reporting;
+mod row;
 mod run;
 mod serve;
 mod sync;
 #[cfg(test)]
 mod tests;
+mod why;
 
 use printing_core::{Fault, tell, tell_no_text};
 use std::env::Env;

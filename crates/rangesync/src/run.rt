@@ -8,6 +8,7 @@ use crate::opening::{Sources, read_opening};
 use crate::reporting::Paths;
 use crate::serve::{Serving, serve};
 use crate::sync::{Asking, sync};
+use crate::why::explain;
 use answer_core::{answer, list_reply};
 use io_core::{Watched, read_input, write_output};
 use printing_core::{Fault, checked_text, decode_text, encode_lines, tell, tell_words};
@@ -190,6 +191,10 @@ where
     };
     match obey(rt, command, reader, out, &mut err) {
         Ok(()) => 0,
-        Err(fault) => tell(err, fault),
+        Err(fault) => {
+            let status = tell(&mut err, fault);
+            explain(rt, command, fault, &mut err);
+            status
+        }
     }
 }

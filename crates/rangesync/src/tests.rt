@@ -6,6 +6,7 @@ mod reports;
 mod sessions;
 mod sims;
 mod texts;
+mod whys;
 mod words;
 
 use crate::run::run;
@@ -49,7 +50,7 @@ impl Write for Broken {
     }
 }
 
-/// What a run is to give: its status, output and line on standard error.
+/// What a run is to give: its status, its output, and what is on standard error.
 #[derive(Clone, Copy)]
 struct Wanted<'a> {
     status: u8,
@@ -80,7 +81,7 @@ where
     assert_eq!(rt; status, wanted.status);
 }
 
-/// What is refused with this line.
+/// What is refused with these lines.
 fn refused(status: u8, err: &str) -> Wanted<'_> {
     Wanted {
         status,
@@ -141,20 +142,51 @@ fn refusals(rt: HostRuntime) -> io::Result<()> {
     let list = "00000007 02 00 FF 00000000 00000001 04";
     let trailing = "00000023 01 00 FF
         0000000000000000000000000000000000000000000000000000000000000000 00000001 04 00";
-    let bad_line = refused(1, "refused 81 BadItemLine 2\n");
-    let bad_input = refused(1, "refused 81 BadItemLine 1\n");
-    answers(&rt, "", list, &refused(1, "refused 20 Misplaced\n"))?;
-    answers(&rt, "", trailing, &refused(1, "refused 11 Trailing\n"))?;
-    answers(&rt, "", "00000000", &refused(1, "refused 2 FrameLength\n"))?;
-    answers(&rt, "", "00800001", &refused(1, "refused 2 FrameLength\n"))?;
-    answers(&rt, "", "", &refused(1, "refused 3 Truncated\n"))?;
-    answers(&rt, "", "0", &bad_input)?;
-    answers(&rt, "", "0g", &bad_input)?;
+    let no_sum = "refused 20 Misplaced\nstandard input has a part that is no Sum\n";
+    let one_byte_more = "refused 11 Trailing\nstandard input is not the hex of a message\n";
+    let no_frame = "refused 2 FrameLength\nstandard input is not the hex of a message\n";
+    let nothing = "refused 3 Truncated\nstandard input ends before the message does\n";
+    let no_hex = "refused 81 BadItemLine 1\nstandard input is not hex\n";
+    answers(&rt, "", list, &refused(1, no_sum))?;
+    answers(&rt, "", trailing, &refused(1, one_byte_more))?;
+    answers(&rt, "", "00000000", &refused(1, no_frame))?;
+    answers(&rt, "", "00800001", &refused(1, no_frame))?;
+    answers(&rt, "", "", &refused(1, nothing))?;
+    answers(&rt, "", "0", &refused(1, no_hex))?;
+    answers(&rt, "", "0g", &refused(1, no_hex))
+}
+
+/// Answers under an item file whose second line is bad, and is shown so.
+fn shows<R>(rt: &R, line: &str, shown: &str) -> io::Result<()>
+where
+    R: Files
+        + Net<Listener = TcpListener, Stream = TcpStream>
+        + Threads
+        + Wait
+        + Clock
+        + AllocGlobal
+        + Sync
+        + Abort,
+{
+    let lines = format!(in rt.alloc(); "61\n{line}\n62")?;
+    let err = format!(in rt.alloc(); "refused 81 BadItemLine 2\nanswered.items line 2: {shown}\n")?;
+    answers(rt, &lines, "0", &refused(1, &err))
+}
+
+#[test]
+fn bad_lines(rt: HostRuntime) -> io::Result<()> {
     // A bad line is met before the input is read. The last one has 65 bytes.
     let long = "00".repeat(rt.alloc(), 65)?;
-    for line in ["6", "6g", "6 1", "0x61", "61\r\r", long.as_str()] {
-        let lines = format!(in rt.alloc(); "61\n{line}\n62")?;
-        answers(&rt, lines.as_str(), "0", &bad_line)?;
+    for (line, shown) in [
+        ("6", "6"),
+        ("6g", "6g"),
+        ("6 1", "6 1"),
+        ("0x61", "0x61"),
+        ("61\r\r", "61?"),
+        ("6\t\u{7f}é", "6??é"),
+        (long.as_str(), "0000000000000000000000000000000000000000.."),
+    ] {
+        shows(&rt, line, shown)?;
     }
     Ok(())
 }
@@ -167,7 +199,10 @@ fn edges(rt: HostRuntime) -> io::Result<()> {
     // The longest frame is read, and its kind is none.
     let mut longest: Vec<u8> = vec![in rt.alloc(); 0u8; 8_388_612]?;
     longest[1] = 0x80;
-    gives(&rt, &words, &longest, &refused(1, "refused 4 BadKind\n"));
+    let no_bytes = "refused 4 BadKind
+standard input is not the bytes of a message; hex is read with --hex
+";
+    gives(&rt, &words, &longest, &refused(1, no_bytes));
     // Bytes in, bytes out.
     let mut message: Vec<u8> = vec![in rt.alloc(); 0u8; 44]?;
     message[3] = 0x23;
@@ -183,23 +218,34 @@ fn edges(rt: HostRuntime) -> io::Result<()> {
     gives(&rt, &words, &message, &end);
     let mut err: Vec<u8> = Vec::new(rt.alloc());
     assert_eq!(rt; run(&rt, &words, message.as_slice(), Broken, &mut err), 3);
-    assert!(rt; err.as_slice() == b"io write\n".as_slice());
+    assert!(rt; err.as_slice() == b"io write\nstandard output is closed or full\n".as_slice());
     // An input above the limit.
     let above: Vec<u8> = vec![in rt.alloc(); b' '; 16_777_217]?;
     gives(
         &rt,
         &["rangesync", "answer", "--hex", path],
         &above,
-        &refused(3, "refused 80 CannotRead\n"),
+        &refused(
+            3,
+            "refused 80 CannotRead
+standard input cannot be read, or has more than 16,777,216 bytes
+",
+        ),
     );
     fs::remove_file(&rt, path)
 }
 
 #[test]
 fn files(rt: HostRuntime) {
-    let unread = refused(3, "refused 80 CannotRead\n");
-    gives(&rt, &["rangesync", "answer", "missing.items"], &[], &unread);
-    gives(&rt, &["rangesync", "answer", "."], &[], &unread);
+    let absent = "refused 80 CannotRead\nmissing.items: there is no such file\n";
+    let folder = "refused 80 CannotRead\n.: this is a folder\n";
+    gives(
+        &rt,
+        &["rangesync", "answer", "missing.items"],
+        &[],
+        &refused(3, absent),
+    );
+    gives(&rt, &["rangesync", "answer", "."], &[], &refused(3, folder));
 }
 
 #[test]
@@ -212,9 +258,11 @@ fn too_many_items(rt: HostRuntime) -> io::Result<()> {
     lines.push_str("00000000\n")?;
     fs::write(&rt, path, lines.as_str())?;
     let words = ["rangesync", "answer", "--hex", path];
-    gives(&rt, &words, b"0", &refused(1, "refused 81 BadItemLine 1\n"));
+    let no_hex = "refused 81 BadItemLine 1\nstandard input is not hex\n";
+    gives(&rt, &words, b"0", &refused(1, no_hex));
     lines.push_str("00010000\n")?;
     fs::write(&rt, path, lines.as_str())?;
-    gives(&rt, &words, b"0", &refused(1, "refused 82 TooManyItems\n"));
+    let many = "refused 82 TooManyItems\nmany.items: more than 65536 different items\n";
+    gives(&rt, &words, b"0", &refused(1, many));
     fs::remove_file(&rt, path)
 }

@@ -86,15 +86,30 @@ limit = 1
 rounds = 255
 row = [{upto = 1, list = true}, {upto = 65536, peel = 1}]
 ";
-    for (text, line) in [
-        (one_off_the_front, "refused 38 TooDeep 257 256\n"),
-        (share_of_all, "refused 36 NoDescent 2\n"),
-        (one_round_too_few, "refused 38 TooDeep 5 3\n"),
-        (list_above_the_limit, "refused 37 ListTooLong 4\n"),
-        (no_descent_at_two, "refused 36 NoDescent 2\n"),
-        (nothing_split, "refused 36 NoDescent 0\n"),
+    let two_stay = "refused 36 NoDescent 2
+not_accepted.toml: a session over 2 items would not get smaller
+";
+    let none_stay = "refused 36 NoDescent 0
+not_accepted.toml: a session over 0 items would not get smaller
+";
+    let three_cuts = "refused 38 TooDeep 5 3
+not_accepted.toml: a session over 5 items would cut 3 times, above rounds
+";
+    let many_cuts = "refused 38 TooDeep 257 256
+not_accepted.toml: a session over 257 items would cut 256 times, above rounds
+";
+    let long_list = "refused 37 ListTooLong 4
+not_accepted.toml: the row up to 4 lists, and the limit is below that
+";
+    for (text, lines) in [
+        (one_off_the_front, many_cuts),
+        (share_of_all, two_stay),
+        (one_round_too_few, three_cuts),
+        (list_above_the_limit, long_list),
+        (no_descent_at_two, two_stay),
+        (nothing_split, none_stay),
     ] {
-        checks(&rt, path, text, &refused(1, line))?;
+        checks(&rt, path, text, &refused(1, lines))?;
     }
     Ok(())
 }
@@ -117,18 +132,81 @@ limit = 8
 rounds = 3
 row = [{upto = 7, list = true}]
 ";
-    for (text, line) in [
-        ("cap =\n", "refused 30 NotToml\n"),
-        ("", "refused 31 Missing cap\n"),
-        ("cap = 8\n", "refused 31 Missing limit\n"),
-        ("cap = 0\n", "refused 32 BadNumber\n"),
-        (falling, "refused 33 RowOrder\n"),
-        (both, "refused 34 RowAction\n"),
-        (short, "refused 35 CapMismatch\n"),
+    let no_toml = "refused 30 NotToml\nno_strategy.toml: it is no TOML text\n";
+    let no_cap = "refused 31 Missing cap\nno_strategy.toml: a strategy needs cap\n";
+    let no_limit = "refused 31 Missing limit\nno_strategy.toml: a strategy needs limit\n";
+    let no_number = "refused 32 BadNumber
+no_strategy.toml: a number is not a whole number in its range
+";
+    let order = "refused 33 RowOrder
+no_strategy.toml row 2: upto is not above that of the row before
+";
+    let action = "refused 34 RowAction
+no_strategy.toml row 1: a row has one of list = true, split = [2 to 64 weights] and peel
+";
+    let last =
+        "refused 35 CapMismatch\nno_strategy.toml: the upto of the last row is not the cap\n";
+    for (text, lines) in [
+        ("cap =\n", no_toml),
+        ("", no_cap),
+        ("cap = 8\n", no_limit),
+        ("cap = 0\n", no_number),
+        (falling, order),
+        (both, action),
+        (short, last),
     ] {
-        checks(&rt, path, text, &refused(1, line))?;
+        checks(&rt, path, text, &refused(1, lines))?;
     }
-    let words = ["rangesync", "check", "missing.toml"];
-    gives(&rt, &words, &[], &refused(3, "refused 80 CannotRead\n"));
     Ok(())
+}
+
+#[test]
+fn wrong_rows(rt: HostRuntime) -> io::Result<()> {
+    let path = "wrong_row.toml";
+    let no_upto = "cap = 8
+limit = 8
+rounds = 3
+row = [{upto = 4, list = true}, {list = true}]
+";
+    let no_number = "cap = 8
+limit = 8
+rounds = 3
+row = [{upto = 1, list = true}, {upto = 4, split = [1, 1]}, {upto = 9, list = true}]
+";
+    let no_weight = "cap = 8
+limit = 8
+rounds = 3
+row = [{upto = 1, list = true}, {upto = 8, split = [1, 0]}]
+";
+    let no_rows = "cap = 8
+limit = 8
+rounds = 3
+row = 1
+";
+    let missing = "refused 31 Missing upto\nwrong_row.toml row 2: a strategy needs upto\n";
+    let third = "refused 32 BadNumber
+wrong_row.toml row 3: a number is not a whole number in its range
+";
+    let second = "refused 32 BadNumber
+wrong_row.toml row 2: a number is not a whole number in its range
+";
+    let action = "refused 34 RowAction
+wrong_row.toml: a row has one of list = true, split = [2 to 64 weights] and peel
+";
+    for (text, lines) in [
+        (no_upto, missing),
+        (no_number, third),
+        (no_weight, second),
+        (no_rows, action),
+    ] {
+        checks(&rt, path, text, &refused(1, lines))?;
+    }
+    Ok(())
+}
+
+#[test]
+fn no_files(rt: HostRuntime) {
+    let absent = "refused 80 CannotRead\nmissing.toml: there is no such file\n";
+    let words = ["rangesync", "check", "missing.toml"];
+    gives(&rt, &words, &[], &refused(3, absent));
 }

@@ -224,7 +224,8 @@ where
 #[test]
 fn a_silent_server(rt: HostRuntime) -> io::Result<()> {
     let table = "silent_server.toml";
-    let wanted = refused(3, "io read\n");
+    let lines = "io read\nthe server closed the connection, or was silent for 1 seconds\n";
+    let wanted = refused(3, lines);
     fs::write(&rt, table, ONE)?;
     let (listener, address) = opened(&rt)?;
     join(

@@ -74,6 +74,11 @@ row = [{upto = 1, list = true}, {upto = 8, split = [1, 1]}]
 items = ["61", "62", "63", "64", "65", "66", "67", "68"]
 "#;
 
+/// What is said of an input that is no scenario.
+const NO_SCENARIO: &str = "refused 83 BadScenario
+standard input: a scenario needs 2 to 16 nodes with items, and steps
+";
+
 /// Runs these steps on these nodes.
 fn runs<R>(rt: &R, steps: &str, nodes: &str, wanted: &Wanted<'_>) -> Result<(), AllocError>
 where
@@ -186,8 +191,18 @@ fn steps_that_do_nothing(rt: HostRuntime) -> Result<(), AllocError> {
 
 #[test]
 fn texts_that_are_no_steps(rt: HostRuntime) -> Result<(), AllocError> {
-    let second = refused(1, "refused 84 BadStep 1\n");
-    let first = refused(1, "refused 84 BadStep 0\n");
+    let second = refused(
+        1,
+        "refused 84 BadStep 1
+standard input: step 1, counted from 0, has no form of a step
+",
+    );
+    let first = refused(
+        1,
+        "refused 84 BadStep 0
+standard input: step 0, counted from 0, has no form of a step
+",
+    );
     runs(&rt, r#""open 0 1", "deliver 00""#, FULL, &second)?;
     runs(&rt, r#""open 0 1", "deliver 4294967296""#, FULL, &second)?;
     runs(&rt, r#""deliver +0""#, FULL, &first)?;
@@ -198,14 +213,17 @@ fn texts_that_are_no_steps(rt: HostRuntime) -> Result<(), AllocError> {
 
 #[test]
 fn inputs_that_are_no_scenarios(rt: HostRuntime) -> Result<(), AllocError> {
-    let none = refused(1, "refused 83 BadScenario\n");
+    let none = refused(1, NO_SCENARIO);
     let words = ["rangesync", "sim"];
     gives(&rt, &words, b"steps = []\n", &none);
     gives(
         &rt,
         &words,
         b"steps =\n",
-        &refused(1, "refused 30 NotToml\n"),
+        &refused(
+            1,
+            "refused 30 NotToml\nstandard input: it is no TOML text\n",
+        ),
     );
     runs(&rt, "1", FULL, &none)?;
     runs(&rt, "", "node = [1, 2]", &none)?;
@@ -254,24 +272,32 @@ items = ["61", "61"]
         &rt,
         r#""none""#,
         deep,
-        &refused(1, "refused 38 TooDeep 3 2\n"),
+        &refused(
+            1,
+            "refused 38 TooDeep 3 2
+standard input: a session over 3 items would cut 2 times, above rounds
+",
+        ),
     )?;
     runs(
         &rt,
         r#""none""#,
         crowded,
-        &refused(1, "refused 82 TooManyItems\n"),
+        &refused(
+            1,
+            "refused 82 TooManyItems
+standard input: a node has more different items than its cap
+",
+        ),
     )?;
-    runs(
-        &rt,
-        r#""none""#,
-        unread,
-        &refused(1, "refused 83 BadScenario\n"),
-    )?;
+    runs(&rt, r#""none""#, unread, &refused(1, NO_SCENARIO))?;
     runs(
         &rt,
         r#""none""#,
         bare,
-        &refused(1, "refused 31 Missing cap\n"),
+        &refused(
+            1,
+            "refused 31 Missing cap\nstandard input: a strategy needs cap\n",
+        ),
     )
 }

@@ -1,0 +1,331 @@
+//! Why a command was refused: what it was given is looked at once more.
+//!
+//! Standard input is never read here, and of files only those that can be read twice.
+
+use crate::row::refused_row;
+use io_core::{MAX_INPUT, Watched, read_input};
+use printing_core::{Fault, InputFlaw, ServerFlaw, Unreached, Unread, Why, shown_line, tell_why};
+use settings_core::{Command, SettingsFault, item_set};
+use std::alloc::Global;
+use std::io::{ErrorKind, Write};
+use std::net::{Net, TcpListener, TcpStream, ToSocketAddrs};
+use std::rt::Files;
+use std::{fs, io};
+use strategy_core::{Strategy, StrategyFault};
+use wire_core::WireFault;
+
+/// The greatest number of different items of a command without a strategy.
+const MAX_ITEMS: usize = 65_536;
+
+/// The place of a strategy that is in no file.
+const STANDARD_INPUT: &str = "standard input";
+
+/// What a command was given that a refusal can speak of.
+#[derive(Clone, Copy)]
+struct Given<'a> {
+    /// The strategy file.
+    table: Option<&'a str>,
+    /// The item file.
+    items: Option<&'a str>,
+    /// Whether standard input is read as hex; `None` where it is not read.
+    hexed: Option<bool>,
+    /// The address to listen at or to connect to.
+    address: &'a str,
+    /// How many seconds a call on the connection may take.
+    patience: u32,
+    /// How many bytes of a session are read.
+    most_bytes: u32,
+}
+
+/// A command that was given nothing.
+const NOTHING: Given<'static> = Given {
+    table: None,
+    items: None,
+    hexed: None,
+    address: "",
+    patience: 0,
+    most_bytes: 0,
+};
+
+/// What this command was given.
+fn given_to(command: Command<'_>) -> Given<'_> {
+    match command {
+        Command::Answer { hexed, items, .. } => Given {
+            items: Some(items),
+            hexed: Some(hexed),
+            ..NOTHING
+        },
+        Command::Check { file, .. } => Given {
+            table: Some(file),
+            ..NOTHING
+        },
+        Command::Sim => Given {
+            hexed: Some(false),
+            ..NOTHING
+        },
+        Command::Serve {
+            table,
+            address,
+            items,
+            ..
+        } => Given {
+            table: Some(table),
+            items: Some(items),
+            address,
+            ..NOTHING
+        },
+        Command::Sync {
+            table,
+            address,
+            patience,
+            most_bytes,
+            items,
+            ..
+        } => Given {
+            table: Some(table),
+            items: Some(items),
+            hexed: None,
+            address,
+            patience,
+            most_bytes,
+        },
+    }
+}
+
+/// What comes of a file when it is read once more.
+#[derive(Drop)]
+enum Again {
+    /// Its bytes.
+    Text(Vec<u8>),
+    /// It is not read.
+    Unread(Unread),
+    /// It cannot be read twice, or memory ran out.
+    Unknown,
+}
+
+/// Why a file was not opened.
+fn again_of(error: &io::Error) -> Again {
+    match error.kind() {
+        ErrorKind::NotFound => Again::Unread(Unread::Absent),
+        ErrorKind::PermissionDenied => Again::Unread(Unread::Forbidden),
+        ErrorKind::OutOfMemory => Again::Unknown,
+        _ => Again::Unread(Unread::Other),
+    }
+}
+
+/// Opens a file, and reads it.
+fn reopen<R: Files + AllocGlobal>(rt: &R, path: &str) -> Again {
+    match fs::open(rt, path) {
+        Ok(file) => match read_input(rt.alloc(), &mut Watched::new(file)) {
+            Ok(text) => Again::Text(text),
+            Err(io_core::InputFault::CannotRead) => Again::Unread(Unread::Other),
+            Err(io_core::InputFault::Memory) => Again::Unknown,
+        },
+        Err(error) => again_of(&error),
+    }
+}
+
+/// Reads a file once more. A pipe or a device is left alone.
+fn read_again<R: Files + AllocGlobal>(rt: &R, path: &str) -> Again {
+    match fs::metadata(rt, path) {
+        Err(error) => again_of(&error),
+        Ok(metadata) if metadata.is_dir() => Again::Unread(Unread::Folder),
+        Ok(metadata) if !metadata.is_file() => Again::Unknown,
+        Ok(metadata) if metadata.len() > MAX_INPUT as u64 => Again::Unread(Unread::TooLong),
+        Ok(_) => reopen(rt, path),
+    }
+}
+
+/// Why one of the files, or standard input, was not read.
+fn why_unread<'a, R: Files + AllocGlobal>(rt: &R, given: Given<'a>) -> Option<Why<'a>> {
+    for file in [given.table, given.items] {
+        let Some(file) = file else { continue };
+        match read_again(rt, file) {
+            Again::Text(_) => {}
+            Again::Unread(cause) => return Some(Why::Unread { file, cause }),
+            Again::Unknown => return None,
+        }
+    }
+    given.hexed.map(|_| Why::Input(InputFlaw::CannotRead))
+}
+
+/// Whether a line of an item file is bad.
+fn is_bad(alloc: Global, line: &[u8]) -> bool {
+    match item_set(alloc, line, 1) {
+        Err(SettingsFault::BadItemLine { line: _ }) => true,
+        _ => false,
+    }
+}
+
+/// The line of this number, from 1, without its line feed.
+fn line_at(text: &[u8], number: usize) -> &[u8] {
+    for (index, line) in text.split(|byte| *byte == b'\n').enumerate() {
+        if index + 1 == number {
+            return line;
+        }
+    }
+    &text[..0]
+}
+
+/// A line as it is shown, without a carriage return at its end.
+fn shown(alloc: Global, line: &[u8]) -> Option<String> {
+    shown_line(alloc, line.strip_suffix(b"\r").unwrap_or(line)).ok()
+}
+
+/// What line of the item file is bad; or that standard input is no hex.
+fn why_bad_line<'a, R: Files + AllocGlobal>(
+    rt: &R,
+    given: Given<'a>,
+    line: usize,
+) -> Option<Why<'a>> {
+    let file = given.items?;
+    let Again::Text(text) = read_again(rt, file) else {
+        return None;
+    };
+    let found = line_at(&text, line);
+    if is_bad(rt.alloc(), found) {
+        let shown = shown(rt.alloc(), found)?;
+        return Some(Why::BadLine { file, line, shown });
+    }
+    given.hexed.map(|_| Why::Input(InputFlaw::NotHex))
+}
+
+/// How many different items an item file may have.
+fn cap_of<R: Files + AllocGlobal>(rt: &R, table: Option<&str>) -> Option<usize> {
+    let Some(table) = table else {
+        return Some(MAX_ITEMS);
+    };
+    let Again::Text(text) = read_again(rt, table) else {
+        return None;
+    };
+    let strategy = Strategy::read(rt.alloc(), &text).ok()?;
+    Some(strategy.cap() as usize)
+}
+
+/// What has too many items.
+fn why_too_many<'a, R: Files + AllocGlobal>(rt: &R, given: Given<'a>) -> Option<Why<'a>> {
+    match given.items {
+        None => Some(Why::Input(InputFlaw::TooManyItems)),
+        Some(file) => {
+            let cap = cap_of(rt, given.table)?;
+            Some(Why::TooManyItems { file, cap })
+        }
+    }
+}
+
+/// What holds no strategy, and its wrong row where it has one.
+fn why_no_strategy<'a, R: Files + AllocGlobal>(
+    rt: &R,
+    given: Given<'a>,
+    fault: StrategyFault,
+) -> Why<'a> {
+    let Some(place) = given.table else {
+        return Why::NoStrategy {
+            place: STANDARD_INPUT,
+            fault,
+        };
+    };
+    let Again::Text(text) = read_again(rt, place) else {
+        return Why::NoStrategy { place, fault };
+    };
+    match refused_row(rt.alloc(), &text) {
+        Some(row) => Why::BadRow { place, row, fault },
+        None => Why::NoStrategy { place, fault },
+    }
+}
+
+/// Why a listener or a connection was not made; `otherwise` where the address is well.
+fn why_unreached<'a, R: Net>(rt: &R, address: &'a str, otherwise: Unreached) -> Option<Why<'a>> {
+    let cause = match address.to_socket_addrs(rt) {
+        Ok(_) => otherwise,
+        Err(error) => match error.kind() {
+            ErrorKind::OutOfMemory => return None,
+            ErrorKind::InvalidInput => Unreached::NoPort,
+            _ => Unreached::NoHost,
+        },
+    };
+    Some(Why::Address { address, cause })
+}
+
+/// Why the input is no message.
+fn message_flaw(given: Given<'_>, fault: WireFault) -> InputFlaw {
+    match fault {
+        WireFault::Truncated => InputFlaw::Cut,
+        _ if given.hexed == Some(true) => InputFlaw::NotMessage,
+        _ => InputFlaw::NotBytes,
+    }
+}
+
+/// What a server did that a session was refused here with this number.
+fn session_flaw(given: Given<'_>, code: u8) -> Option<ServerFlaw> {
+    match code {
+        1 => Some(ServerFlaw::Stranger),
+        3 => Some(ServerFlaw::Cut {
+            most_bytes: given.most_bytes,
+        }),
+        2..=26 => Some(ServerFlaw::Unruly),
+        _ => None,
+    }
+}
+
+/// Why the output, or the connection to a server, took no more.
+fn why_not_written(given: Given<'_>) -> Why<'static> {
+    if given.patience == 0 {
+        return Why::Output;
+    }
+    Why::Server(ServerFlaw::NotTaking {
+        patience: given.patience,
+    })
+}
+
+/// Why a command was refused, where there is something to say.
+fn why_of<'a, R>(rt: &R, given: Given<'a>, fault: Fault) -> Option<Why<'a>>
+where
+    R: Files + Net<Listener = TcpListener, Stream = TcpStream> + AllocGlobal,
+{
+    match fault {
+        Fault::CannotRead => why_unread(rt, given),
+        Fault::BadItemLine { line } => why_bad_line(rt, given, line),
+        Fault::TooManyItems => why_too_many(rt, given),
+        Fault::Strategy(fault) => Some(why_no_strategy(rt, given, fault)),
+        Fault::Check(fault) => Some(Why::NotAccepted {
+            place: given.table.unwrap_or(STANDARD_INPUT),
+            fault,
+        }),
+        Fault::Bind => why_unreached(rt, given.address, Unreached::NotFree),
+        Fault::Connect => why_unreached(rt, given.address, Unreached::Nobody),
+        Fault::WriterFailed => Some(why_not_written(given)),
+        _ => why_said(given, fault),
+    }
+}
+
+/// Why a command was refused, where that is known from the refusal alone.
+fn why_said<'a>(given: Given<'a>, fault: Fault) -> Option<Why<'a>> {
+    match fault {
+        Fault::Wire(fault) => Some(Why::Input(message_flaw(given, fault))),
+        Fault::Misplaced => Some(Why::Input(InputFlaw::NotSum)),
+        Fault::BadScenario => Some(Why::Input(InputFlaw::NotScenario)),
+        Fault::BadStep { step } => Some(Why::Input(InputFlaw::NotStep { step })),
+        Fault::Accept => Some(Why::Address {
+            address: given.address,
+            cause: Unreached::NoRoom,
+        }),
+        Fault::Session { code } => session_flaw(given, code).map(|flaw| Why::Server(flaw)),
+        Fault::PeerRefused { code } => Some(Why::Server(ServerFlaw::Refusing { code })),
+        Fault::ReaderFailed => Some(Why::Server(ServerFlaw::Silent {
+            patience: given.patience,
+        })),
+        _ => None,
+    }
+}
+
+/// Prints why a command was refused, where there is something to say: what the refusal speaks of and the usual cause.
+/// Where memory runs out, or the line is not taken, nothing else changes.
+pub fn explain<R, E: Write>(rt: &R, command: Command<'_>, fault: Fault, err: &mut E)
+where
+    R: Files + Net<Listener = TcpListener, Stream = TcpStream> + AllocGlobal,
+{
+    if let Some(why) = why_of(rt, given_to(command), fault) {
+        tell_why(err, &why);
+    }
+}
