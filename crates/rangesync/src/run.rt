@@ -4,7 +4,7 @@ ghost use Rattle.std.specs.Prelude.{◌≤◌, length};
 ghost use Rattle.store_core.specs.Flat.{flat_items};
 ghost use Rattle.settings_core.specs.Spans.{AreInSpan};
 
-use crate::opening::read_opening;
+use crate::opening::{Sources, read_opening};
 use crate::reporting::Paths;
 use crate::serve::{Serving, serve};
 use crate::sync::{Asking, sync};
@@ -106,8 +106,8 @@ where
     requires { AreInSpan command }
 {
     match command {
-        Command::Answer { hexed, items, .. } => {
-            let items = read_items(rt, items, MAX_ITEMS)?;
+        Command::Answer { hexed, form, items } => {
+            let items = read_items(rt, form, items, MAX_ITEMS)?;
             let store = FlatStore::from_rising(rt.alloc(), &items)?;
             answer_in(rt.alloc(), hexed, &store, reader, out)
         }
@@ -122,8 +122,8 @@ where
             most_bytes,
             report,
             learned,
+            form,
             items,
-            ..
         } => {
             let serving = Serving {
                 address,
@@ -135,7 +135,8 @@ where
                 },
                 paths: Paths { report, learned },
             };
-            serve(rt, read_opening(rt, table, items)?, serving, out, err)
+            let sources = Sources { table, form, items };
+            serve(rt, read_opening(rt, sources, reader)?, serving, out, err)
         }
         Command::Sync {
             table,
@@ -144,19 +145,21 @@ where
             patience,
             most_bytes,
             stats,
+            form,
             items,
-            ..
         } => {
             let asking = Asking {
                 address,
                 profile,
+                form,
                 limits: Limits {
                     patience,
                     most_bytes,
                 },
                 stats,
             };
-            sync(rt, read_opening(rt, table, items)?, asking, out, err)
+            let sources = Sources { table, form, items };
+            sync(rt, read_opening(rt, sources, reader)?, asking, out, err)
         }
     }
 }

@@ -11,7 +11,7 @@ use peer_threads::{OpenGate, Outcome, Shared, dial_one};
 use printing_core::{Fault, Stats, outcome_text, tell_stats};
 use range_tree::Tree;
 use session_table::SessionTable;
-use settings_core::WireProfile;
+use settings_core::{ItemForm, WireProfile};
 use std::alloc::Global;
 use std::io::Write;
 use std::net::{Net, TcpStream};
@@ -27,6 +27,8 @@ pub struct Asking<'a> {
     pub address: &'a str,
     /// The wire profile that is spoken.
     pub profile: WireProfile,
+    /// The form of the items that are printed.
+    pub form: ItemForm,
     /// What the connection may cost.
     pub limits: Limits,
     /// Whether standard error is told what the session cost.
@@ -102,7 +104,7 @@ pub fn sync<R: Net<Stream = TcpStream> + Wait + Clock + AllocGlobal, O: Write + 
     if asking.stats {
         tell_stats(err, stats);
     }
-    let text = outcome_text(alloc, &outcome)?;
+    let text = outcome_text(alloc, asking.form, &outcome)?;
     write_output(&mut Watched::new(out), text.as_bytes())?;
     Ok(())
 }

@@ -5,6 +5,7 @@ mod hostile;
 mod reports;
 mod sessions;
 mod sims;
+mod texts;
 mod words;
 
 use crate::run::run;

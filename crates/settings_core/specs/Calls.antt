@@ -4,7 +4,8 @@
 --     profile_number p       how a wire profile is named
 --     is_text form           whether the form of items is text
 --     Finds P found          what was found has this property; or nothing was found, and nothing has it
-use Rattle.std.specs.Prelude.{◌≡◌, ℕ, codes, Bool, true, false, List, [], Option, Some, None, IsSomeAnd, ⊤, option_map}
+use Rattle.std.specs.Prelude.{◌≡◌, ℕ, codes, Bool, true, false, List, [], Option, Some, None, IsSomeAnd, ⊤}
+use Rattle.std.specs.Prelude.{option_map}
 use Rattle.std.specs.Str.Parse.{IsNumeral, digits_value, without_leading_plus}
 use Rattle.clap.specs.Words.{Row, Text, fault_of, first_of, one_of, subcommand_of}
 use Rattle.settings_core.specs.Program.{program}

@@ -114,10 +114,13 @@ check = with_rule (new_app (codes "check")) file
 abbrev pub sim : App
 sim = new_app (codes "sim")
 
+-- `serve` with the words that say what it serves
+abbrev pub served : App
+served = with_rule (with_rule (with_rule (with_rule (with_rule (with_rule (new_app (codes "serve")) table) address)
+    workers) sessions) patience) most_bytes
+
 abbrev pub serve : App
-serve = with_rule (with_rule (with_rule (with_rule (with_rule (with_rule (with_rule (with_rule (with_rule
-    (with_rule (new_app (codes "serve")) table) address) workers) sessions) patience) most_bytes) report) learned) text)
-    items
+serve = with_rule (with_rule (with_rule (with_rule served report) learned) text) items
 
 abbrev pub sync : App
 sync = with_rule (with_rule (with_rule (with_rule (with_rule (with_rule (with_rule (with_rule (new_app (codes "sync"))

@@ -15,7 +15,7 @@ pub enum SettingsFault {
     /// The file was not opened or not read, or is above 16,777,216 bytes.
     #[error("the file cannot be read, or is above 16,777,216 bytes")]
     CannotRead,
-    /// A line of an item file, from 1, is not 1 to 64 bytes in hex.
+    /// A line of an item file, from 1, spells no item in the form of the file.
     #[error("line {line} is not 1 to 64 bytes in hex")]
     BadItemLine {
         /// The number of the first such line, from 1.

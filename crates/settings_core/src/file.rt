@@ -20,7 +20,7 @@ fn are_bytes(bytes: &[u8])
 }
 
 /// What is left to read, up to 16,777,216 bytes. Refused 80 where it is not read.
-fn read_text<R: Read + Drop>(alloc: Global, reader: R) -> Result<Vec<u8>, SettingsFault>
+pub fn read_text<R: Read + Drop>(alloc: Global, reader: R) -> Result<Vec<u8>, SettingsFault>
     ensures text { IfOk result (λ v. IsFileText v.items) }
     ensures unread { IfErr result IsUnread }
 {

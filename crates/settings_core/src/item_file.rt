@@ -1,7 +1,8 @@
-//! Item files: one item a line, in hex.
+//! Item files: one item a line, in hex or as text.
 //!
-//! A carriage return at a line's end, then spaces and tabs at both its ends, and blank lines are ignored; an item
-//! given twice counts once.
+//! In hex a carriage return at a line's end, then spaces and tabs at both its ends, and blank lines are ignored. A line
+//! of text without one carriage return at its end is an item as it stands, or spells one in hex behind `0x`; empty
+//! lines are ignored. An item given twice counts once.
 
 ghost use Rattle.std.specs.Prelude.{◌≡◌, ◌≢◌, ◌<◌, ◌≤◌, ℕ, List, [], ◌∷◌, ◌++◌, length, IfOk, IfErr, IfSome, OnOk};
 ghost use Rattle.std.specs.Prelude.{option_map, Some, None, Ok, Err};
@@ -11,13 +12,15 @@ ghost use Rattle.definitions.specs.Sets.{IsSet};
 ghost use Rattle.settings_core.specs.Faults.{IsSetOf};
 ghost use Rattle.settings_core.specs.Files.{IsFromFile};
 ghost use Rattle.settings_core.specs.ItemFiles.{is_blank, without_front, without_end, digits_in, decoded, line_items};
-ghost use Rattle.settings_core.specs.ItemFiles.{lines, lines_in, file_items};
+ghost use Rattle.settings_core.specs.ItemFiles.{lines, lines_in, file_items, text_in, text_item, content_of, spelled};
 
 use crate::fault::SettingsFault;
-use crate::file::read_file;
+use crate::file::{read_file, read_text};
+use crate::words::ItemForm;
 use item_core::Item;
 use memchr::memchr;
 use std::alloc::Global;
+use std::io::Read;
 use std::rt::Files;
 use store_core::{laws, spans};
 
@@ -76,18 +79,60 @@ pub fn item_of(digits: &[u8]) -> Option<Item>
     Item::new(room).ok()
 }
 
-/// Appends the item of a line, if it is not blank.
-fn push_line(items: &mut Vec<Item>, line: &[u8], number: usize) -> Result<(), SettingsFault>
-    ensures item { OnOk result ((xs : List Bytes) × (line_items line.now ≡ Some xs)
+/// The line without one carriage return at its end.
+fn text_in(line: &[u8]) -> &[u8]
+    ensures { result.now ≡ text_in line.now }
+{
+    line.strip_suffix(b"\r").unwrap_or(line)
+}
+
+/// The item of a text, if it has one: behind `0x` the one that the digits spell, else its bytes.
+fn text_item(text: &[u8]) -> Option<Item>
+    ensures { result ≡ text_item text.now }
+{
+    match text.strip_prefix(b"0x") {
+        Some(digits) => item_of(digits),
+        None => Item::new(text).ok(),
+    }
+}
+
+/// What is left of a line: its digits, or its text.
+fn content_of(form: ItemForm, line: &[u8]) -> &[u8]
+    ensures { result.now ≡ content_of form line.now }
+{
+    match form {
+        ItemForm::Hex => digits_in(line),
+        ItemForm::Text => text_in(line),
+    }
+}
+
+/// The item that what is left of a line spells, if it spells one.
+fn spelled(form: ItemForm, content: &[u8]) -> Option<Item>
+    ensures { result ≡ spelled form content.now }
+{
+    match form {
+        ItemForm::Hex => item_of(content),
+        ItemForm::Text => text_item(content),
+    }
+}
+
+/// Appends the item of a line, if anything is left of it.
+fn push_line(
+    form: ItemForm,
+    items: &mut Vec<Item>,
+    line: &[u8],
+    number: usize,
+) -> Result<(), SettingsFault>
+    ensures item { OnOk result ((xs : List Bytes) × (line_items form line.now ≡ Some xs)
         × (items.new.items ≡ items.old.items ++ xs)) }
     ensures bad { IfErr result (λ e. e ≢ SettingsFault.Memory → (e ≡ SettingsFault.BadItemLine number)
-        × (line_items line.now ≡ None)) }
+        × (line_items form line.now ≡ None)) }
 {
-    let digits = digits_in(line);
-    if digits.is_empty() {
+    let content = content_of(form, line);
+    if content.is_empty() {
         return Ok(());
     }
-    let Some(item) = item_of(digits) else {
+    let Some(item) = spelled(form, content) else {
         return Err(SettingsFault::BadItemLine { line: number });
     };
     items.push(item)?;
@@ -106,10 +151,10 @@ fn first_line(text: &[u8]) -> (&[u8], Option<&[u8]>)
 }
 
 /// The items of the lines in order.
-fn items_of(alloc: Global, text: &[u8]) -> Result<Vec<Item>, SettingsFault>
-    ensures items { IfOk result (λ v. file_items text.now ≡ Ok v.items) }
+fn items_of(alloc: Global, form: ItemForm, text: &[u8]) -> Result<Vec<Item>, SettingsFault>
+    ensures items { IfOk result (λ v. file_items form text.now ≡ Ok v.items) }
     ensures refused { IfErr result (λ e. e ≢ SettingsFault.Memory → (line : ℕ)
-        × (e ≡ SettingsFault.BadItemLine line) × (file_items text.now ≡ Err line)) }
+        × (e ≡ SettingsFault.BadItemLine line) × (file_items form text.now ≡ Err line)) }
 {
     let mut items = Vec::new(alloc);
     let mut rest = Some(text);
@@ -117,7 +162,7 @@ fn items_of(alloc: Global, text: &[u8]) -> Result<Vec<Item>, SettingsFault>
     while let Some(left) = rest {
         let (line, after) = first_line(left);
         number += 1;
-        push_line(&mut items, line, number)?;
+        push_line(form, &mut items, line, number)?;
         rest = after;
     }
     Ok(items)
@@ -126,12 +171,17 @@ fn items_of(alloc: Global, text: &[u8]) -> Result<Vec<Item>, SettingsFault>
 /// The set of the items of a file's text, in rising order.
 ///
 /// Refused 81 by its first bad line, and then 82 where it has more than `cap` different items.
-pub fn item_set(alloc: Global, text: &[u8], cap: usize) -> Result<Vec<Item>, SettingsFault>
-    ensures set { IsSetOf (λ v. v.items) text.now cap result }
+pub fn item_set(
+    alloc: Global,
+    form: ItemForm,
+    text: &[u8],
+    cap: usize,
+) -> Result<Vec<Item>, SettingsFault>
+    ensures set { IsSetOf (λ v. v.items) form text.now cap result }
     ensures rises { IfOk result (λ v. IsSet v.items) }
 {
     laws::set_of_a_list();
-    let items = spans::distinct(items_of(alloc, text)?);
+    let items = spans::distinct(items_of(alloc, form, text)?);
     if items.len() > cap {
         return Err(SettingsFault::TooManyItems);
     }
@@ -144,12 +194,27 @@ pub fn item_set(alloc: Global, text: &[u8], cap: usize) -> Result<Vec<Item>, Set
 /// different items.
 pub fn read_items<R: Files + AllocGlobal>(
     rt: &R,
+    form: ItemForm,
     path: &str,
     cap: usize,
 ) -> Result<Vec<Item>, SettingsFault>
-    ensures set { IsFromFile (λ text. IsSetOf (λ v. v.items) text cap) result }
+    ensures set { IsFromFile (λ text. IsSetOf (λ v. v.items) form text cap) result }
     ensures rises { IfOk result (λ v. IsSet v.items) }
     ensures few { IfOk result (λ v. length v.items ≤ cap) }
 {
-    item_set(rt.alloc(), &read_file(rt, path)?, cap)
+    item_set(rt.alloc(), form, &read_file(rt, path)?, cap)
+}
+
+/// The set of the items that are left to read, in rising order. What is read is refused as a file is.
+pub fn read_input_items<R: Read + Drop>(
+    alloc: Global,
+    form: ItemForm,
+    reader: R,
+    cap: usize,
+) -> Result<Vec<Item>, SettingsFault>
+    ensures set { IsFromFile (λ text. IsSetOf (λ v. v.items) form text cap) result }
+    ensures rises { IfOk result (λ v. IsSet v.items) }
+    ensures few { IfOk result (λ v. length v.items ≤ cap) }
+{
+    item_set(alloc, form, &read_text(alloc, reader)?, cap)
 }

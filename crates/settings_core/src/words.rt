@@ -277,9 +277,9 @@ fn learned_word<'a>(alloc: Global) -> Arg<'a>
         .help("Append each item learned from a peer to this file")
 }
 
-/// The words of `serve`.
-fn serve_words<'a>(alloc: Global) -> Result<clap::Command<'a>, AllocError>
-    ensures { IfOk result (IsCommand program.serve) }
+/// The words of `serve` that say what is served.
+fn served_words<'a>(alloc: Global) -> Result<clap::Command<'a>, AllocError>
+    ensures { IfOk result (IsCommand program.served) }
 {
     clap::Command::new(alloc, "serve")
         .about("Answer the sessions of those who connect")
@@ -294,7 +294,14 @@ fn serve_words<'a>(alloc: Global) -> Result<clap::Command<'a>, AllocError>
         .arg(most_bytes_word(
             alloc,
             "Refuse a session that sends more bytes, 1,024 to 4,294,967,295",
-        ))?
+        ))
+}
+
+/// The words of `serve`.
+fn serve_words<'a>(alloc: Global) -> Result<clap::Command<'a>, AllocError>
+    ensures { IfOk result (IsCommand program.serve) }
+{
+    served_words(alloc)?
         .arg(report_word(alloc))?
         .arg(learned_word(alloc))?
         .arg(text_word(alloc))?

@@ -39,6 +39,7 @@ Arguments:
 
 Options:
       --hex   Read and write hex text, one frame a line [default: bytes]
+      --text  Each line of ITEMS is an item as it stands, not hex
   -h, --help  Print help
 ",
     );
@@ -170,6 +171,9 @@ Options:
       --sessions <N>        End after so many connections, 1 to 1,000,000 [default: no end]
       --patience <SECONDS>  End a session whose read or write takes longer, 1 to 86,400 [default: 60]
       --most-bytes <N>      Refuse a session that sends more bytes, 1,024 to 4,294,967,295 [default: 33554432]
+      --report <FILE>       Append what each session found to this file
+      --learned <FILE>      Append each item learned from a peer to this file
+      --text                Each line of ITEMS is an item as it stands, not hex
   -h, --help                Print help
 ",
     );
@@ -187,6 +191,8 @@ Options:
       --profile <P>         The wire profile that is spoken, 1 or 2 [default: 1]
       --patience <SECONDS>  End if the connect, a read or a write takes longer, 1 to 86,400 [default: 60]
       --most-bytes <N>      Refuse a server that sends more bytes, 1,024 to 4,294,967,295 [default: 33554432]
+      --stats               Print counts and seconds on standard error
+      --text                Each line of ITEMS is an item as it stands, not hex
   -h, --help                Print help
 ",
     );

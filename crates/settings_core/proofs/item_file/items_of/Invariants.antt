@@ -10,8 +10,8 @@ room (Some text) = length text + 1
 abbrev pub invariant-loop-rest : goal.invariant-loop-rest
 invariant-loop-rest l = record {
   few : l.number + room (option_map (λ text. text.now) l.rest) ≤ length l.text + 1;
-  all : before l.items.items (items_from (l.number + 1) (lines_in (option_map (λ text. text.now) l.rest)))
-      ≡ file_items l.text;
+  all : before l.items.items (items_from l.form (l.number + 1) (lines_in (option_map (λ text. text.now) l.rest)))
+      ≡ file_items l.form l.text;
 }
 
 abbrev pub decreases-loop-rest : goal.decreases-loop-rest

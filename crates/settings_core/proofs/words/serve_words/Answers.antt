@@ -1,55 +1,24 @@
-use Rattle.std.proofs.Common.{rules, codes}
 use Rattle.std.proofs.lemmas.Result.{IfOk-weaker}
-use Rattle.clap.specs.Words.{App, new_app, with_rule}
-use Rattle.settings_core.specs.Program.{IsCommand, table, address, workers, sessions, patience, most_bytes, report}
-use Rattle.settings_core.specs.Program.{learned, text, items}
+use Rattle.clap.specs.Words.{App, with_rule}
+use Rattle.settings_core.specs.Program.{served, report, learned, text, items}
 use Rattle.settings_core.proofs.Adding.{with_word}
 use Rattle.settings_core.proofs.words.serve_words.Goals as goal
 
-abbrev named : App
-named = new_app (codes "serve")
-
-abbrev placed : App
-placed = with_rule (with_rule named table) address
-
-abbrev counted : App
-counted = with_rule (with_rule placed workers) sessions
-
-abbrev bounded : App
-bounded = with_rule (with_rule counted patience) most_bytes
+abbrev reported : App
+reported = with_rule served report
 
 abbrev written : App
-written = with_rule (with_rule bounded report) learned
+written = with_rule reported learned
 
 pub returns : goal.returns
 returns c =
-    let start : IsCommand named c.about.result = search rules in
-    let one = with_word named table c.about.result c.table_word.result c.in_ok-arg.field-0 start c.table_word.ensures
-    c.in_ok-arg.ensures in
-    let two = with_word (with_rule named table) address c.in_ok-arg.field-0 c.address_word.result
-    c.in_ok-arg-2.field-0 one
-    c.address_word.ensures c.in_ok-arg-2.ensures in
-    let three = with_word placed workers c.in_ok-arg-2.field-0 c.workers_word.result c.in_ok-arg-3.field-0 two
-    c.workers_word.ensures
-    c.in_ok-arg-3.ensures in
-    let four = with_word (with_rule placed workers) sessions c.in_ok-arg-3.field-0 c.sessions_word.result
-    c.in_ok-arg-4.field-0 three
-    c.sessions_word.ensures c.in_ok-arg-4.ensures in
-    let five = with_word counted patience c.in_ok-arg-4.field-0 c.patience_word.result
-    c.in_ok-arg-5.field-0 four
-    c.patience_word.ensures c.in_ok-arg-5.ensures in
-    let six = with_word (with_rule counted patience) most_bytes c.in_ok-arg-5.field-0 c.most_bytes_word.result
-    c.in_ok-arg-6.field-0 five
-    c.most_bytes_word.ensures c.in_ok-arg-6.ensures in
-    let seven = with_word bounded report c.in_ok-arg-6.field-0 c.report_word.result
-    c.in_ok-arg-7.field-0 six
-    c.report_word.ensures c.in_ok-arg-7.ensures in
-    let eight = with_word (with_rule bounded report) learned c.in_ok-arg-7.field-0 c.learned_word.result
-    c.in_ok-arg-8.field-0 seven
-    c.learned_word.ensures c.in_ok-arg-8.ensures in
-    let nine = with_word written text c.in_ok-arg-8.field-0 c.text_word.result
-    c.in_ok-arg-9.field-0 eight
-    c.text_word.ensures c.in_ok-arg-9.ensures in
-    IfOk-weaker c.arg-10.result _ _ (λ new. with_word (with_rule written text) items c.in_ok-arg-9.field-0
-    c.items_word.result new nine
-    c.items_word.ensures) c.arg-10.ensures
+    let one = with_word served report c.in_ok-served_words.field-0 c.report_word.result c.in_ok-arg.field-0
+    c.in_ok-served_words.ensures
+    c.report_word.ensures c.in_ok-arg.ensures in
+    let two = with_word reported learned c.in_ok-arg.field-0 c.learned_word.result c.in_ok-arg-2.field-0 one
+    c.learned_word.ensures c.in_ok-arg-2.ensures in
+    let three = with_word written text c.in_ok-arg-2.field-0 c.text_word.result c.in_ok-arg-3.field-0 two
+    c.text_word.ensures c.in_ok-arg-3.ensures in
+    IfOk-weaker c.arg-4.result _ _ (λ new. with_word (with_rule written text) items c.in_ok-arg-3.field-0
+    c.items_word.result new three
+    c.items_word.ensures) c.arg-4.ensures
