@@ -66,7 +66,7 @@ fn push_lines(
 }
 
 /// Appends a line for each item, in rising order.
-pub(crate) fn push_rising(
+fn push_rising(
     alloc: Global,
     text: &mut String,
     name: &str,
