@@ -3,6 +3,7 @@ pub mod Checks
 pub mod Endings
 pub mod FaultsOf
 pub mod HexLines
+pub mod ItemTexts
 pub mod Lines
 pub mod ReportTexts
 pub mod SessionTexts

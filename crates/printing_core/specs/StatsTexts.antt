@@ -4,11 +4,6 @@ use Rattle.std.specs.Prelude.{ℕ, ◌/◌, ◌%◌, List, ◌∷◌, ◌++◌, 
 use Rattle.std.specs.Fmt.{decimal}
 use Rattle.printing_core.specs.declared.stats.Stats.{Stats}
 
--- both ways of one thing
-abbrev pub both_line : List ℕ → ℕ → ℕ → List ℕ
-both_line name sent received =
-    name ++ (codes " sent " ++ (decimal sent ++ (codes " received " ++ (decimal received ++ codes "\n"))))
-
 -- thousandths of a second, as seconds to three places
 abbrev pub seconds_text : Option ℕ → List ℕ
 seconds_text None = codes "-"
@@ -16,8 +11,7 @@ seconds_text (Some millis) = decimal (millis / 1000) ++ (codes "." ++ (decimal (
     ++ (decimal (millis / 10 % 10) ++ decimal (millis % 10))))
 
 abbrev pub stats_text : Stats → List ℕ
-stats_text s =
-    both_line (codes "messages") s.sent.messages s.received.messages
-    ++ (both_line (codes "parts") s.sent.parts s.received.parts
-    ++ (both_line (codes "bytes") s.sent.bytes s.received.bytes
-    ++ (codes "seconds " ++ (seconds_text s.millis ++ codes "\n"))))
+stats_text s = codes "messages sent " ++ (decimal s.sent.messages ++ (codes " received "
+    ++ (decimal s.received.messages ++ (codes "\nparts sent " ++ (decimal s.sent.parts ++ (codes " received "
+    ++ (decimal s.received.parts ++ (codes "\nbytes sent " ++ (decimal s.sent.bytes ++ (codes " received "
+    ++ (decimal s.received.bytes ++ (codes "\nseconds " ++ (seconds_text s.millis ++ codes "\n")))))))))))))

@@ -5,6 +5,7 @@ mod accepted;
 mod ending;
 mod fault;
 mod hexed;
+mod item_text;
 mod printed;
 mod reports;
 mod session_texts;
@@ -16,6 +17,7 @@ pub use accepted::checked_text;
 pub use ending::refusal_of;
 pub use fault::Fault;
 pub use hexed::{decode_text, encode_lines};
+pub use item_text::{push_item, text_is_read_again};
 pub use printed::{
     tell, tell_address, tell_dropped, tell_no_text, tell_stats, tell_unwritten, tell_words,
 };

@@ -1,14 +1,16 @@
 //! What `serve` writes of its sessions to its files.
 
-ghost use Rattle.std.specs.Prelude.{◌≡◌, ◌++◌, IfOk, OnOk, string_bytes};
+ghost use Rattle.std.specs.Prelude.{◌≡◌, IfOk, string_bytes};
 ghost use Rattle.printing_core.specs.SessionTexts.{of_side};
-ghost use Rattle.printing_core.specs.ReportTexts.{stopped_line, report_text, differences_text, learned_line};
+ghost use Rattle.printing_core.specs.ItemTexts.{item_line};
+ghost use Rattle.printing_core.specs.ReportTexts.{stopped_line, report_text};
 
 use crate::fault::Fault;
-use crate::session_texts::push_rising;
-use ends_core::Learned;
+use crate::item_text::push_item;
+use crate::session_texts::push_learned;
 use item_core::Item;
 use peer_threads::{Outcome, Side};
+use settings_core::ItemForm;
 use std::alloc::{AllocError, Global};
 
 /// What failed of a connection, as a fault.
@@ -21,14 +23,6 @@ fn of_side(side: Side) -> Fault
     }
 }
 
-/// Appends a line for each own item that the peer lacks, and then for each item of the peer that is lacked here.
-fn push_differences(alloc: Global, text: &mut String, learned: &Learned) -> Result<(), AllocError>
-    ensures { OnOk result (string_bytes text.new ≡ string_bytes text.old ++ differences_text learned.now) }
-{
-    push_rising(alloc, text, "ours", learned.ours())?;
-    push_rising(alloc, text, "theirs", learned.theirs())
-}
-
 /// The line of a session that did not end.
 fn stopped_line(alloc: Global, serial: u64, fault: Fault) -> Result<String, AllocError>
     ensures { IfOk result (λ text. string_bytes text ≡ stopped_line serial fault) }
@@ -37,9 +31,14 @@ fn stopped_line(alloc: Global, serial: u64, fault: Fault) -> Result<String, Allo
 }
 
 /// The lines of a session with this serial that is over: its version, the messages sent and both differences, each
-/// rising; or, in one line, why it did not end.
-pub fn report_text(alloc: Global, serial: u64, outcome: &Outcome) -> Result<String, AllocError>
-    ensures { IfOk result (λ text. string_bytes text ≡ report_text serial outcome.now) }
+/// rising, in this form; or, in one line, why it did not end.
+pub fn report_text(
+    alloc: Global,
+    form: ItemForm,
+    serial: u64,
+    outcome: &Outcome,
+) -> Result<String, AllocError>
+    ensures { IfOk result (λ text. string_bytes text ≡ report_text form serial outcome.now) }
 {
     match outcome {
         Outcome::Ended {
@@ -48,7 +47,7 @@ pub fn report_text(alloc: Global, serial: u64, outcome: &Outcome) -> Result<Stri
             version,
         } => {
             let mut text = format!(in alloc; "session {serial} version {version} sent {sent}\n")?;
-            push_differences(alloc, &mut text, learned)?;
+            push_learned(alloc, &mut text, form, learned)?;
             Ok(text)
         }
         Outcome::Refused { code, .. } => {
@@ -62,11 +61,12 @@ pub fn report_text(alloc: Global, serial: u64, outcome: &Outcome) -> Result<Stri
     }
 }
 
-/// The line of an item file for an item.
-pub fn learned_line(alloc: Global, item: &Item) -> Result<String, AllocError>
-    ensures { IfOk result (λ text. string_bytes text ≡ learned_line item.now) }
+/// The line of an item file for an item, in this form.
+pub fn learned_line(alloc: Global, form: ItemForm, item: &Item) -> Result<String, AllocError>
+    ensures { IfOk result (λ text. string_bytes text ≡ item_line form item.now) }
 {
-    let mut text = hex::encode(alloc, item.bytes())?;
+    let mut text = String::new(alloc);
+    push_item(alloc, &mut text, form, item)?;
     text.push_str("\n")?;
     Ok(text)
 }

@@ -2,13 +2,16 @@
 
 ghost use Rattle.std.specs.Prelude.{◌≡◌, ◌++◌, IfOk, OnOk, flat_map, string_bytes};
 ghost use Rattle.definitions.specs.Sets.{set_of};
-ghost use Rattle.printing_core.specs.SessionTexts.{listening_line, served_text, named_line, synced_text, IsSyncOf};
+ghost use Rattle.printing_core.specs.SessionTexts.{listening_line, served_text, named_line, counts_text, learned_text};
+ghost use Rattle.printing_core.specs.SessionTexts.{IsSyncOf};
 
 use crate::fault::Fault;
+use crate::item_text::push_item;
 use ends_core::Learned;
 use item_core::Item;
 use peer_threads::{Outcome, Side};
 use session_table::Totals;
+use settings_core::ItemForm;
 use std::alloc::{AllocError, Global};
 use store_core::spans::distinct;
 
@@ -38,14 +41,26 @@ pub fn served_text(alloc: Global, totals: Totals, items: usize) -> Result<String
     Ok(text)
 }
 
-/// Appends the name, a space and the item in hex, as a line.
-fn push_named(alloc: Global, text: &mut String, name: &str, item: &Item) -> Result<(), AllocError>
-    ensures { OnOk result (string_bytes text.new ≡ string_bytes text.old ++ named_line name.now item.now) }
+/// What stands in front of an item on its line, and the form of the item.
+#[derive(Clone, Copy)]
+struct Naming<'a> {
+    name: &'a str,
+    form: ItemForm,
+}
+
+/// Appends the name, a space and the item, as a line.
+fn push_named(
+    alloc: Global,
+    text: &mut String,
+    naming: Naming<'_>,
+    item: &Item,
+) -> Result<(), AllocError>
+    ensures { OnOk result (string_bytes text.new ≡ string_bytes text.old
+        ++ named_line naming.form naming.name.now item.now) }
 {
-    let digits = hex::encode(alloc, item.bytes())?;
-    text.push_str(name)?;
+    text.push_str(naming.name)?;
     text.push_str(" ")?;
-    text.push_str(&digits)?;
+    push_item(alloc, text, naming.form, item)?;
     text.push_str("\n")
 }
 
@@ -53,58 +68,71 @@ fn push_named(alloc: Global, text: &mut String, name: &str, item: &Item) -> Resu
 fn push_lines(
     alloc: Global,
     text: &mut String,
-    name: &str,
+    naming: Naming<'_>,
     items: &[Item],
 ) -> Result<(), AllocError>
-    ensures { OnOk result (string_bytes text.new ≡ string_bytes text.old ++ flat_map (named_line name.now)
-        items.now) }
+    ensures { OnOk result (string_bytes text.new ≡ string_bytes text.old
+        ++ flat_map (named_line naming.form naming.name.now) items.now) }
 {
     for item in items {
-        push_named(alloc, text, name, item)?;
+        push_named(alloc, text, naming, item)?;
     }
     Ok(())
 }
 
 /// Appends a line for each item, in rising order.
-pub(crate) fn push_rising(
+fn push_rising(
     alloc: Global,
     text: &mut String,
-    name: &str,
+    naming: Naming<'_>,
     items: &[Item],
 ) -> Result<(), AllocError>
-    ensures { OnOk result (string_bytes text.new ≡ string_bytes text.old ++ flat_map (named_line name.now)
-        (set_of items.now)) }
+    ensures { OnOk result (string_bytes text.new ≡ string_bytes text.old
+        ++ flat_map (named_line naming.form naming.name.now) (set_of items.now)) }
 {
     let rising = distinct(Vec::from_slice(alloc, items)?);
-    push_lines(alloc, text, name, &rising)
+    push_lines(alloc, text, naming, &rising)
 }
 
-/// The lines of a session that ended: the version, the messages sent, own items that the peer lacks, and then items of
-/// the peer that are lacked here.
-fn synced_text(
+/// Appends a line for each own item that the peer lacks, and then one for each item of the peer that is lacked here.
+pub(crate) fn push_learned(
     alloc: Global,
-    version: usize,
-    sent: u32,
+    text: &mut String,
+    form: ItemForm,
     learned: &Learned,
-) -> Result<String, AllocError>
-    ensures { IfOk result (λ text. string_bytes text ≡ synced_text version sent learned.now) }
+) -> Result<(), AllocError>
+    ensures { OnOk result (string_bytes text.new ≡ string_bytes text.old ++ learned_text form learned.now) }
 {
-    let mut text = format!(in alloc; "version {version}\nsent {sent}\n")?;
-    push_rising(alloc, &mut text, "ours", learned.ours())?;
-    push_rising(alloc, &mut text, "theirs", learned.theirs())?;
-    Ok(text)
+    let ours = Naming { name: "ours", form };
+    let theirs = Naming {
+        name: "theirs",
+        form,
+    };
+    push_rising(alloc, text, ours, learned.ours())?;
+    push_rising(alloc, text, theirs, learned.theirs())
 }
 
-/// The lines of a session that ended; else why it did not.
-pub fn outcome_text(alloc: Global, outcome: &Outcome) -> Result<String, Fault>
-    ensures { IsSyncOf outcome.now result }
+/// The version, and the messages sent, as two lines.
+fn counts_text(alloc: Global, version: usize, sent: u32) -> Result<String, AllocError>
+    ensures { IfOk result (λ text. string_bytes text ≡ counts_text version sent) }
+{
+    format!(in alloc; "version {version}\nsent {sent}\n")
+}
+
+/// The lines of a session that ended, its items in this form; else why it did not.
+pub fn outcome_text(alloc: Global, form: ItemForm, outcome: &Outcome) -> Result<String, Fault>
+    ensures { IsSyncOf form outcome.now result }
 {
     match outcome {
         Outcome::Ended {
             learned,
             sent,
             version,
-        } => Ok(synced_text(alloc, *version, *sent, learned)?),
+        } => {
+            let mut text = counts_text(alloc, *version, *sent)?;
+            push_learned(alloc, &mut text, form, learned)?;
+            Ok(text)
+        }
         Outcome::Refused { code, .. } => Err(Fault::Session { code: *code }),
         Outcome::PeerRefused { code, .. } => Err(Fault::PeerRefused { code: *code }),
         Outcome::Io { side, .. } => Err(match side {

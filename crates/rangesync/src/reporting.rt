@@ -3,6 +3,7 @@
 use item_core::Item;
 use peer_threads::{Gate, Outcome};
 use printing_core::{Fault, learned_line, report_text, tell_unwritten};
+use settings_core::ItemForm;
 use std::alloc::{AllocError, Global};
 use std::fs::{File, OpenOptions};
 use std::io;
@@ -17,6 +18,8 @@ pub struct Paths<'a> {
     pub report: Option<&'a str>,
     /// The item file for what the log took from peers.
     pub learned: Option<&'a str>,
+    /// The form of the items in both.
+    pub form: ItemForm,
 }
 
 /// These files, open to be written at their ends. One that could not be written is given up.
@@ -24,6 +27,7 @@ pub struct Paths<'a> {
 pub struct Books<F> {
     report: Option<F>,
     learned: Option<F>,
+    form: ItemForm,
 }
 
 /// A file to be written at its end, which is made if it is not there. Else 80 or 90.
@@ -42,7 +46,11 @@ fn opened<R: Files<File = File>>(rt: &R, path: Option<&str>) -> Result<Option<Fi
 pub fn open_files<R: Files<File = File>>(rt: &R, paths: Paths<'_>) -> Result<Books<File>, Fault> {
     let report = opened(rt, paths.report)?;
     let learned = opened(rt, paths.learned)?;
-    Ok(Books { report, learned })
+    Ok(Books {
+        report,
+        learned,
+        form: paths.form,
+    })
 }
 
 /// Writes a text whole. It fails also where there is no text since memory ran out.
@@ -82,7 +90,7 @@ impl<F: Write + Drop, E: Write> Desk<F, E> {
     /// Reports a session that is over.
     fn report(&mut self, alloc: Global, serial: u64, outcome: &Outcome) {
         if self.books.report.is_some() {
-            let text = report_text(alloc, serial, outcome);
+            let text = report_text(alloc, self.books.form, serial, outcome);
             put(&mut self.books.report, &mut self.err, "report", text);
         }
     }
@@ -90,7 +98,7 @@ impl<F: Write + Drop, E: Write> Desk<F, E> {
     /// Writes an item that the log took.
     fn learn(&mut self, alloc: Global, item: &Item) {
         if self.books.learned.is_some() {
-            let text = learned_line(alloc, item);
+            let text = learned_line(alloc, self.books.form, item);
             put(&mut self.books.learned, &mut self.err, "learned", text);
         }
     }

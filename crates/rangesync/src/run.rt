@@ -134,7 +134,11 @@ where
                     patience,
                     most_bytes,
                 },
-                paths: Paths { report, learned },
+                paths: Paths {
+                    report,
+                    learned,
+                    form,
+                },
             };
             let sources = Sources { table, form, items };
             serve(rt, read_opening(rt, sources, reader)?, serving, out, err)

@@ -57,7 +57,14 @@ fn lines_that_are_no_items(rt: HostRuntime) -> io::Result<()> {
     let long = "a".repeat(rt.alloc(), 65)?;
     let digits = "00".repeat(rt.alloc(), 65)?;
     let long_digits = format!(in rt.alloc(); "0x{digits}")?;
-    let lines = [long.as_str(), "0x", "0x6", "0x6g", "0x61 ", long_digits.as_str()];
+    let lines = [
+        long.as_str(),
+        "0x",
+        "0x6",
+        "0x6g",
+        "0x61 ",
+        long_digits.as_str(),
+    ];
     for line in lines {
         let text = format!(in rt.alloc(); "a\n{line}\nb")?;
         answers(&rt, text.as_bytes(), &bad_line)?;
@@ -104,7 +111,11 @@ where
 fn items_printed_as_text(rt: HostRuntime) -> io::Result<()> {
     fs::write(&rt, "texts.toml", BINARY_EIGHT)?;
     // A control character, the mark itself, no UTF-8, and three texts.
-    fs::write(&rt, "texts.items", b"0x0a\n0x3078\n\xff\na b\nabc\n\xc3\xa9\n")?;
+    fs::write(
+        &rt,
+        "texts.items",
+        b"0x0a\n0x3078\n\xff\na b\nabc\n\xc3\xa9\n",
+    )?;
     let serve = [
         "rangesync",
         "serve",
@@ -142,11 +153,29 @@ items 7
 fn an_input_that_is_no_items(rt: HostRuntime) -> io::Result<()> {
     let table = "input.toml";
     fs::write(&rt, table, BINARY_EIGHT)?;
-    let words = ["rangesync", "serve", "--table", table, "--addr", "none", "-"];
-    gives(&rt, &words, b"61\nabc\n", &refused(1, "refused 81 BadItemLine 2\n"));
+    let words = [
+        "rangesync",
+        "serve",
+        "--table",
+        table,
+        "--addr",
+        "none",
+        "-",
+    ];
+    gives(
+        &rt,
+        &words,
+        b"61\nabc\n",
+        &refused(1, "refused 81 BadItemLine 2\n"),
+    );
     gives(&rt, &words, b"61\n", &refused(3, "refused 60 Bind\n"));
     // The item file of `answer` has this name.
     let answer = ["rangesync", "answer", "-"];
-    gives(&rt, &answer, b"61\n", &refused(3, "refused 80 CannotRead\n"));
+    gives(
+        &rt,
+        &answer,
+        b"61\n",
+        &refused(3, "refused 80 CannotRead\n"),
+    );
     fs::remove_file(&rt, table)
 }

@@ -5,4 +5,5 @@ use Rattle.printing_core.proofs.session_texts.push_lines.Given as goal
 
 abbrev pub invariant-loop-item : goal.invariant-loop-item
 invariant-loop-item l =
-    string_bytes l.text ≡ string_bytes l.fn.text ++ flat_map (named_line l.name) (take l.item-index l.items)
+    string_bytes l.text ≡ string_bytes l.fn.text
+    ++ flat_map (named_line l.naming.form l.naming.name.now) (take l.item-index l.items)
