@@ -5,4 +5,5 @@ pub mod FaultsOf
 pub mod HexLines
 pub mod Lines
 pub mod SessionTexts
+pub mod ShownLines
 pub mod Whys
