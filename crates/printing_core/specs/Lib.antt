@@ -7,5 +7,6 @@ pub mod ItemTexts
 pub mod Lines
 pub mod ReportTexts
 pub mod SessionTexts
+pub mod ShownLines
 pub mod StatsTexts
 pub mod Whys

@@ -6,11 +6,7 @@
 --     strategy_text f      what a strategy wants
 --     check_text f         why a strategy is not accepted
 --     why_text w           the whole line
---     shown_line line      a line of a file: its first 40 characters, and `..` where there are more
-use Rattle.std.specs.Prelude.{ℕ, List, [], ◌∷◌, ◌++◌, ◌==◌, ◌||◌, codes, string_bytes, if◌then◌else◌}
-use Rattle.std.specs.Prelude.{chars, encode_utf8_all, length, map, take, nat_lt}
-use Rattle.std.specs.Char.{is_control}
-use Rattle.std.specs.Str.Lossy.{utf8_lossy}
+use Rattle.std.specs.Prelude.{ℕ, List, ◌∷◌, ◌++◌, codes, string_bytes}
 use Rattle.std.specs.Fmt.{decimal}
 use Rattle.strategy_core.specs.Texts.{key_of}
 use Rattle.strategy_core.specs.declared.fault.StrategyFault.{StrategyFault}
@@ -61,7 +57,7 @@ server_text (servers.Silent patience) = codes "the server closed the connection,
     ++ (decimal patience ++ codes " seconds")
 server_text (servers.NotTaking patience) =
     codes "the connection or standard output is closed, or the server took nothing for "
-        ++ (decimal patience ++ codes " seconds")
+    ++ (decimal patience ++ codes " seconds")
 server_text (servers.Cut most_bytes) = codes "the server closed in the middle of a message, or sent more than "
     ++ (decimal most_bytes ++ codes " bytes")
 server_text servers.Stranger = codes "the server does not speak this protocol"
@@ -103,14 +99,3 @@ why_text (whys.Address address cause) = unreached_text address.now cause
 why_text (whys.Input flaw) = input_text flaw
 why_text whys.Output = codes "standard output is closed or full"
 why_text (whys.Server flaw) = server_text flaw
-
--- `?` in place of a control character, and of U+FFFD, which stands for bytes that are no UTF-8
-abbrev pub shown_char : ℕ → ℕ
-shown_char c = if is_control c || c == 65533 then 63 else c
-
-abbrev pub dots_after : List ℕ → List ℕ
-dots_after cs = if nat_lt 40 (length cs) then codes ".." else []
-
-abbrev pub shown_line : List ℕ → List ℕ
-shown_line line =
-    encode_utf8_all (map shown_char (take 40 (chars (utf8_lossy line)))) ++ dots_after (chars (utf8_lossy line))

@@ -17,7 +17,7 @@ use wire_core::WireFault;
 /// The greatest number of different items of a command without a strategy.
 const MAX_ITEMS: usize = 65_536;
 
-/// The place of a strategy that is in no file.
+/// The place of a strategy or of items that are in no file.
 const STANDARD_INPUT: &str = "standard input";
 
 /// What a command was given that a refusal can speak of.
@@ -204,13 +204,12 @@ fn cap_of<R: Files + AllocGlobal>(rt: &R, table: Option<&str>) -> Option<usize> 
 
 /// What has too many items.
 fn why_too_many<'a, R: Files + AllocGlobal>(rt: &R, given: Given<'a>) -> Option<Why<'a>> {
-    match given.items {
-        None => Some(Why::Input(InputFlaw::TooManyItems)),
-        Some(file) => {
-            let cap = cap_of(rt, given.table)?;
-            Some(Why::TooManyItems { file, cap })
-        }
+    if given.items.is_none() && given.table.is_none() {
+        return Some(Why::Input(InputFlaw::TooManyItems));
     }
+    let file = given.items.unwrap_or(STANDARD_INPUT);
+    let cap = cap_of(rt, given.table)?;
+    Some(Why::TooManyItems { file, cap })
 }
 
 /// What holds no strategy, and its wrong row where it has one.
