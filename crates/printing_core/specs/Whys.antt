@@ -1,5 +1,5 @@
 -- The second line of a refusal, without its newline: what it speaks of, and the usual cause.
---     unread_text c        why a file was not read
+--     unread_text c        why a file was not read, or not opened to be written to
 --     unreached_text a c   why the address is not listened at, or not reached
 --     input_text f         what is wrong with standard input
 --     server_text f        what a server did
@@ -32,6 +32,7 @@ unread_text unreads.Forbidden = codes "this user may not read it"
 unread_text unreads.Folder = codes "this is a folder"
 unread_text unreads.TooLong = codes "it has more than 16,777,216 bytes"
 unread_text unreads.Other = codes "it cannot be read"
+unread_text unreads.Unwritable = codes "it cannot be written to"
 
 abbrev pub unreached_text : List ℕ → Unreached → List ℕ
 unreached_text address places.NoPort = address ++ codes " has no port"

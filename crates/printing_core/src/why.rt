@@ -10,7 +10,7 @@ use std::io::Write;
 use strategy_check::CheckFault;
 use strategy_core::StrategyFault;
 
-/// Why a file was not read.
+/// Why a file was not read, or not opened to be written to.
 #[derive(Clone, Copy, Debug, PartialEq, Eq)]
 pub enum Unread {
     /// There is none.
@@ -21,8 +21,10 @@ pub enum Unread {
     Folder,
     /// It has more than 16,777,216 bytes.
     TooLong,
-    /// Anything else.
+    /// It is not read, for any other reason.
     Other,
+    /// It is to be written to, and was not opened.
+    Unwritable,
 }
 
 impl fmt::Display for Unread {
@@ -35,6 +37,7 @@ impl fmt::Display for Unread {
             Unread::Folder => write!(f, "this is a folder"),
             Unread::TooLong => write!(f, "it has more than 16,777,216 bytes"),
             Unread::Other => write!(f, "it cannot be read"),
+            Unread::Unwritable => write!(f, "it cannot be written to"),
         }
     }
 }

@@ -159,7 +159,7 @@ fn refusals(rt: HostRuntime) -> io::Result<()> {
 /// Answers under an item file whose second line is bad, and is shown so.
 fn shows<R>(rt: &R, line: &str, shown: &str) -> io::Result<()>
 where
-    R: Files
+    R: Files<File = File>
         + Net<Listener = TcpListener, Stream = TcpStream>
         + Threads
         + Wait

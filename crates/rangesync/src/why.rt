@@ -5,8 +5,9 @@
 use crate::row::refused_row;
 use io_core::{MAX_INPUT, Watched, read_input};
 use printing_core::{Fault, InputFlaw, ServerFlaw, Unreached, Unread, Why, shown_line, tell_why};
-use settings_core::{Command, SettingsFault, item_set};
+use settings_core::{Command, ItemForm, SettingsFault, item_set};
 use std::alloc::Global;
+use std::fs::{File, OpenOptions};
 use std::io::{ErrorKind, Write};
 use std::net::{Net, TcpListener, TcpStream, ToSocketAddrs};
 use std::rt::Files;
@@ -25,8 +26,12 @@ const STANDARD_INPUT: &str = "standard input";
 struct Given<'a> {
     /// The strategy file.
     table: Option<&'a str>,
-    /// The item file.
+    /// The item file, if the items are in a file.
     items: Option<&'a str>,
+    /// The form of the items.
+    form: ItemForm,
+    /// The files that are written to.
+    written: [Option<&'a str>; 2],
     /// Whether standard input is read as hex; `None` where it is not read.
     hexed: Option<bool>,
     /// The address to listen at or to connect to.
@@ -41,17 +46,30 @@ struct Given<'a> {
 const NOTHING: Given<'static> = Given {
     table: None,
     items: None,
+    form: ItemForm::Hex,
+    written: [None, None],
     hexed: None,
     address: "",
     patience: 0,
     most_bytes: 0,
 };
 
+/// The item file of a side of sessions, if its items are in a file.
+fn file_of(items: &str) -> Option<&str> {
+    (items != "-").then_some(items)
+}
+
+/// Whether standard input is read as hex by a side of sessions; `None` where it is not read.
+fn input_of(items: &str) -> Option<bool> {
+    (items == "-").then_some(false)
+}
+
 /// What this command was given.
 fn given_to(command: Command<'_>) -> Given<'_> {
     match command {
-        Command::Answer { hexed, items, .. } => Given {
+        Command::Answer { hexed, form, items } => Given {
             items: Some(items),
+            form,
             hexed: Some(hexed),
             ..NOTHING
         },
@@ -66,11 +84,17 @@ fn given_to(command: Command<'_>) -> Given<'_> {
         Command::Serve {
             table,
             address,
+            report,
+            learned,
+            form,
             items,
             ..
         } => Given {
             table: Some(table),
-            items: Some(items),
+            items: file_of(items),
+            form,
+            written: [report, learned],
+            hexed: input_of(items),
             address,
             ..NOTHING
         },
@@ -79,15 +103,18 @@ fn given_to(command: Command<'_>) -> Given<'_> {
             address,
             patience,
             most_bytes,
+            form,
             items,
             ..
         } => Given {
             table: Some(table),
-            items: Some(items),
-            hexed: None,
+            items: file_of(items),
+            form,
+            hexed: input_of(items),
             address,
             patience,
             most_bytes,
+            ..NOTHING
         },
     }
 }
@@ -136,7 +163,24 @@ fn read_again<R: Files + AllocGlobal>(rt: &R, path: &str) -> Again {
     }
 }
 
-/// Why one of the files, or standard input, was not read.
+/// Whether a file that is written to is opened.
+fn is_opened<R: Files>(rt: &R, path: &str) -> bool {
+    OpenOptions::new().append(true).open(rt, path).is_ok()
+}
+
+/// Why one of the files that are written to was not opened.
+fn why_unwritten<'a, R: Files>(rt: &R, given: Given<'a>) -> Option<Why<'a>> {
+    for file in given.written {
+        let Some(file) = file else { continue };
+        if !is_opened(rt, file) {
+            let cause = Unread::Unwritable;
+            return Some(Why::Unread { file, cause });
+        }
+    }
+    None
+}
+
+/// Why one of the files, or standard input, was not read; or why a file that is written to was not opened.
 fn why_unread<'a, R: Files + AllocGlobal>(rt: &R, given: Given<'a>) -> Option<Why<'a>> {
     for file in [given.table, given.items] {
         let Some(file) = file else { continue };
@@ -146,12 +190,15 @@ fn why_unread<'a, R: Files + AllocGlobal>(rt: &R, given: Given<'a>) -> Option<Wh
             Again::Unknown => return None,
         }
     }
+    if let Some(why) = why_unwritten(rt, given) {
+        return Some(why);
+    }
     given.hexed.map(|_| Why::Input(InputFlaw::CannotRead))
 }
 
 /// Whether a line of an item file is bad.
-fn is_bad(alloc: Global, line: &[u8]) -> bool {
-    match item_set(alloc, line, 1) {
+fn is_bad(alloc: Global, form: ItemForm, line: &[u8]) -> bool {
+    match item_set(alloc, form, line, 1) {
         Err(SettingsFault::BadItemLine { line: _ }) => true,
         _ => false,
     }
@@ -183,7 +230,7 @@ fn why_bad_line<'a, R: Files + AllocGlobal>(
         return None;
     };
     let found = line_at(&text, line);
-    if is_bad(rt.alloc(), found) {
+    if is_bad(rt.alloc(), given.form, found) {
         let shown = shown(rt.alloc(), found)?;
         return Some(Why::BadLine { file, line, shown });
     }
@@ -280,7 +327,7 @@ fn why_not_written(given: Given<'_>) -> Why<'static> {
 /// Why a command was refused, where there is something to say.
 fn why_of<'a, R>(rt: &R, given: Given<'a>, fault: Fault) -> Option<Why<'a>>
 where
-    R: Files + Net<Listener = TcpListener, Stream = TcpStream> + AllocGlobal,
+    R: Files<File = File> + Net<Listener = TcpListener, Stream = TcpStream> + AllocGlobal,
 {
     match fault {
         Fault::CannotRead => why_unread(rt, given),
@@ -322,7 +369,7 @@ fn why_said<'a>(given: Given<'a>, fault: Fault) -> Option<Why<'a>> {
 /// Where memory runs out, or the line is not taken, nothing else changes.
 pub fn explain<R, E: Write>(rt: &R, command: Command<'_>, fault: Fault, err: &mut E)
 where
-    R: Files + Net<Listener = TcpListener, Stream = TcpStream> + AllocGlobal,
+    R: Files<File = File> + Net<Listener = TcpListener, Stream = TcpStream> + AllocGlobal,
 {
     if let Some(why) = why_of(rt, given_to(command), fault) {
         tell_why(err, &why);

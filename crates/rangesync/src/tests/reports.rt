@@ -231,7 +231,10 @@ items 2
 fn files_that_are_not_opened(rt: HostRuntime) -> io::Result<()> {
     let table = "unopened.toml";
     fs::write(&rt, table, EIGHT)?;
-    let unread = refused(3, "refused 80 CannotRead\n");
+    let unread = refused(
+        3,
+        "refused 80 CannotRead\nno_such_folder/file: it cannot be written to\n",
+    );
     for option in ["--report", "--learned"] {
         let words = [
             "rangesync",

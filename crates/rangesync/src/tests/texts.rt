@@ -2,6 +2,7 @@
 
 use super::sessions::{BINARY_EIGHT, Given, compare, run_late_on, run_words};
 use super::{BOTH_EMPTY, Wanted, answered, gives, refused};
+use std::fs::File;
 use std::net::{Net, TcpListener, TcpStream};
 use std::process::Abort;
 use std::rt::Files;
@@ -13,7 +14,7 @@ use std::{fs, io};
 /// Answers the first message of an empty set under an item file of these lines of text.
 fn answers<R>(rt: &R, lines: &[u8], wanted: &Wanted<'_>) -> io::Result<()>
 where
-    R: Files
+    R: Files<File = File>
         + Net<Listener = TcpListener, Stream = TcpStream>
         + Threads
         + Wait
@@ -53,21 +54,25 @@ fn lines_of_text(rt: HostRuntime) -> io::Result<()> {
 
 #[test]
 fn lines_that_are_no_items(rt: HostRuntime) -> io::Result<()> {
-    let bad_line = refused(1, "refused 81 BadItemLine 2\n");
     let long = "a".repeat(rt.alloc(), 65)?;
+    let long_shown = "aaaaaaaaaaaaaaaaaaaaaaaaaaaaaaaaaaaaaaaa..";
     let digits = "00".repeat(rt.alloc(), 65)?;
     let long_digits = format!(in rt.alloc(); "0x{digits}")?;
+    let digits_shown = "0x00000000000000000000000000000000000000..";
     let lines = [
-        long.as_str(),
-        "0x",
-        "0x6",
-        "0x6g",
-        "0x61 ",
-        long_digits.as_str(),
+        (long.as_str(), long_shown),
+        ("0x", "0x"),
+        ("0x6", "0x6"),
+        ("0x6g", "0x6g"),
+        ("0x61 ", "0x61 "),
+        (long_digits.as_str(), digits_shown),
     ];
-    for line in lines {
+    for (line, shown) in lines {
         let text = format!(in rt.alloc(); "a\n{line}\nb")?;
-        answers(&rt, text.as_bytes(), &bad_line)?;
+        let err = format!(in rt.alloc();
+            "refused 81 BadItemLine 2\nlines.items line 2: {shown}\n"
+        )?;
+        answers(&rt, text.as_bytes(), &refused(1, &err))?;
     }
     Ok(())
 }
@@ -86,7 +91,7 @@ fn the_longest_lines(rt: HostRuntime) -> io::Result<()> {
 /// Asks for the items of a server, with items of the input.
 fn ask<R>(rt: &R, form: &str, input: &[u8]) -> Given
 where
-    R: Files
+    R: Files<File = File>
         + Net<Listener = TcpListener, Stream = TcpStream>
         + Threads
         + Wait
@@ -168,14 +173,19 @@ fn an_input_that_is_no_items(rt: HostRuntime) -> io::Result<()> {
         b"61\nabc\n",
         &refused(1, "refused 81 BadItemLine 2\n"),
     );
-    gives(&rt, &words, b"61\n", &refused(3, "refused 60 Bind\n"));
+    gives(
+        &rt,
+        &words,
+        b"61\n",
+        &refused(3, "refused 60 Bind\nnone has no port\n"),
+    );
     // The item file of `answer` has this name.
     let answer = ["rangesync", "answer", "-"];
     gives(
         &rt,
         &answer,
         b"61\n",
-        &refused(3, "refused 80 CannotRead\n"),
+        &refused(3, "refused 80 CannotRead\n-: there is no such file\n"),
     );
     fs::remove_file(&rt, table)
 }

@@ -29,6 +29,7 @@ fn is_unreached<R: AllocGlobal + Abort>(rt: &R, cause: Unreached, line: &str) {
 fn files_and_addresses(rt: HostRuntime) {
     is_unread(&rt, Unread::Forbidden, "a: this user may not read it\n");
     is_unread(&rt, Unread::Other, "a: it cannot be read\n");
+    is_unread(&rt, Unread::Unwritable, "a: it cannot be written to\n");
     is_unreached(&rt, Unreached::NoHost, "b:1 names no host that is known\n");
     is_unreached(
         &rt,
