@@ -64,7 +64,7 @@ where
 /// Runs the words on no input.
 pub fn run_words<R>(rt: &R, words: &[&str]) -> Given
 where
-    R: Files
+    R: Files<File = File>
         + Net<Listener = TcpListener, Stream = TcpStream>
         + Threads
         + Wait
@@ -78,7 +78,7 @@ where
 /// Runs the words on this input again and again while nobody listens.
 pub fn run_late_on<R>(rt: &R, words: &[&str], input: &[u8]) -> Given
 where
-    R: Files
+    R: Files<File = File>
         + Net<Listener = TcpListener, Stream = TcpStream>
         + Threads
         + Wait

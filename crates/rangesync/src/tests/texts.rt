@@ -2,6 +2,7 @@
 
 use super::sessions::{BINARY_EIGHT, Given, compare, run_late_on, run_words};
 use super::{BOTH_EMPTY, Wanted, answered, gives, refused};
+use std::fs::File;
 use std::net::{Net, TcpListener, TcpStream};
 use std::process::Abort;
 use std::rt::Files;
@@ -13,7 +14,7 @@ use std::{fs, io};
 /// Answers the first message of an empty set under an item file of these lines of text.
 fn answers<R>(rt: &R, lines: &[u8], wanted: &Wanted<'_>) -> io::Result<()>
 where
-    R: Files
+    R: Files<File = File>
         + Net<Listener = TcpListener, Stream = TcpStream>
         + Threads
         + Wait
@@ -86,7 +87,7 @@ fn the_longest_lines(rt: HostRuntime) -> io::Result<()> {
 /// Asks for the items of a server, with items of the input.
 fn ask<R>(rt: &R, form: &str, input: &[u8]) -> Given
 where
-    R: Files
+    R: Files<File = File>
         + Net<Listener = TcpListener, Stream = TcpStream>
         + Threads
         + Wait
