@@ -23,7 +23,7 @@ use std::sync::{Arc, Mutex, Wait};
 use std::test::Fail;
 use strategy_check::Accepted;
 use version_lock::{Seat, VersionLock};
-use version_log::Published;
+use version_log::Log;
 
 type Lock = VersionLock<Tree>;
 
@@ -41,7 +41,7 @@ pub(crate) fn opened(
     ensures { (result.1.table_id ≡ result.0) × (result.1.view.cap ≤ (arc_value accepted.now).table.cap) }
 {
     assert!(rt; accepted.cap() == 8 && 1 <= next_writer && next_writer <= 1 << 32);
-    let log = Published::starting_at(alloc, 8, items, next_writer);
+    let log = Log::starting_at(alloc, 8, items, next_writer);
     let lock = VersionLock::new(alloc, log.ok().expect(rt, "a log"));
     lock.ok().expect(rt, "a lock")
 }

@@ -11,16 +11,16 @@ use std::sync::Wait;
 use std::thread::{Threads, join};
 use store_core::RangeStore;
 use version_lock::{InsertFault, Seat, VersionLock};
-use version_log::{Added, LogFault, Published, WritersSpent};
+use version_log::{Added, Log, LogFault, WritersSpent};
 
 type Lock = VersionLock<Tree>;
 
 type TreeSeat = Seat<Tree>;
 
 // An empty log of this cap, 1 to 65,536, with this next writer number, 1 to 4,294,967,296.
-fn empty(rt: &impl Abort, alloc: Global, cap: u32, next_writer: u64) -> Published<Tree> {
+fn empty(rt: &impl Abort, alloc: Global, cap: u32, next_writer: u64) -> Log<Tree> {
     assert!(rt; 1 <= cap && cap <= 65_536 && 1 <= next_writer && next_writer <= 1 << 32);
-    let log = Published::starting_at(alloc, cap, &[], next_writer);
+    let log = Log::starting_at(alloc, cap, &[], next_writer);
     log.ok().expect(rt, "a log")
 }
 
@@ -171,7 +171,7 @@ fn insert_two<R: Wait + Abort>(
 }
 
 // The entries of this writer are the worker's items, in order.
-fn stand_in_order(rt: &impl Abort, log: &Published<Tree>, writer: u32, who: u8, added: u8) {
+fn stand_in_order(rt: &impl Abort, log: &Log<Tree>, writer: u32, who: u8, added: u8) {
     let mut next = 0u8;
     for index in 0..log.version() {
         let entry = log.entry(index);
@@ -195,7 +195,7 @@ fn join_in<R: Wait>(rt: &R, lock: &Lock, first: &mut TreeSeat, mut other: TreeSe
 }
 
 // The writer of the third entry, if the first two are of two writers.
-fn third_writer(rt: &impl Abort, log: &Published<Tree>) -> Option<u32> {
+fn third_writer(rt: &impl Abort, log: &Log<Tree>) -> Option<u32> {
     assert!(rt; log.version() > 2);
     if log.entry(0).writer() == log.entry(1).writer() {
         return None;

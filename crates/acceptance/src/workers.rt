@@ -20,7 +20,7 @@ use std::sync::atomic::{AtomicU64, Ordering};
 use std::sync::{Mutex, OnceLock, Wait};
 use std::test::Fail;
 use std::thread::Threads;
-use version_log::Published;
+use version_log::Log;
 
 /// Connections whose peers all say the same, 0 to 2 of them; behind them there is none, or a fault.
 #[derive(Drop)]
@@ -93,7 +93,7 @@ fn worked<T: Threads + Wait + Abort + Sync>(
     peers: &Peers<'_>,
     gate: &Witness,
     workers: u8,
-) -> Result<(Report, Published<Tree>), Fail> {
+) -> Result<(Report, Log<Tree>), Fail> {
     assert!(rt; 1 <= workers && workers <= 16);
     let accepted = accepted(rt, alloc, BINARY_EIGHT);
     let (lock, mut seat) = opened(rt, alloc, &accepted, items, next_writer);
@@ -129,7 +129,7 @@ fn reports(rt: &impl Abort, report: Report, started: u8, fault: Option<SourceFau
 }
 
 /// Compares how many entries the log has, one at least, and the last of them.
-fn ends_with(rt: &impl Abort, log: &Published<Tree>, count: usize, writer: u32, bytes: &[u8]) {
+fn ends_with(rt: &impl Abort, log: &Log<Tree>, count: usize, writer: u32, bytes: &[u8]) {
     assert!(rt; 0 < count && log.version() == count);
     let last = log.entry(count - 1);
     assert!(rt; last.writer() == writer && *last.item() == item(rt, bytes));

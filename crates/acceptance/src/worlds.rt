@@ -75,7 +75,7 @@ fn report<'b>(rt: &impl Abort, world: &'b World, session: usize) -> Report<'b> {
 /// A session that has ended: its messages, their bound, and the most parts of one.
 fn ended(rt: &impl Abort, world: &World, session: usize) -> (usize, Option<usize>, usize) {
     let report = report(rt, world, session);
-    assert!(rt; report.ended && report.initiator == 0 && report.responder == 1);
+    assert!(rt; report.ended && report.initiator_node == 0 && report.responder_node == 1);
     (report.messages, report.bound, report.parts)
 }
 

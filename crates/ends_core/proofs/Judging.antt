@@ -17,7 +17,7 @@ use Rattle.definitions.specs.Ends.{own_of, stage_fault, is_sendable}
 use Rattle.place_core.specs.declared.fault.PlaceFault.{PlaceFault}
 use Rattle.place_core.specs.declared.fault.PlaceFault.TheVariants as places
 use Rattle.place_core.specs.PlaceFaults.{place_fault_number}
-use Rattle.ends_core.specs.Held.{Held}
+use Rattle.ends_core.specs.EndStates.{EndState}
 use Rattle.ends_core.specs.Turns.{AgreesWith, IsJudged, Comes, answer_in}
 use Rattle.ends_core.specs.declared.turn.Turn.{Turn}
 use Rattle.ends_core.specs.declared.turn.Turn.TheVariants as turns
@@ -145,7 +145,7 @@ agrees S P M (Some code) C (Err faults.TooManyParts) comes late same =
 agrees S P M (Some code) C (Err faults.Spent) comes late same = λ may. let none = comes.1 may in absurd (cc)
 agrees S P M (Some code) C (Err faults.Memory) comes late same = tt
 
-pub judged : {F : Type 0} (S : Summary F) (h : Held F) (M : Message F) (r : Result (Turn F) EndFault) →
+pub judged : {F : Type 0} (S : Summary F) (h : EndState F) (M : Message F) (r : Result (Turn F) EndFault) →
     PlacingIsExact F → OpeningIsExact F →
     Apart (open_ranges (own_of h.end.stage)) → RangesRise M →
     IfSome (answer_in r) (λ a. a ≡ answer S h.end M) → IsJudged h M r

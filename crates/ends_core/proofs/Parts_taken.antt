@@ -14,7 +14,7 @@ use Rattle.definitions.specs.Talks.{nothing}
 use Rattle.laws.specs.Taking.{PartsAreTaken}
 use Rattle.definitions.specs.Taking.{Taken, taken, taken_all, ended, ended_unless, after_ended, by_parts, refuses_or}
 use Rattle.ends_core.specs.Drafts.{Drafted}
-use Rattle.ends_core.specs.Held.{Held, HasNone, IsAble, stage_of, taken_of}
+use Rattle.ends_core.specs.EndStates.{EndState, HasNone, IsAble, stage_of, taken_of}
 use Rattle.ends_core.specs.Turns.{told_in, refusal_of, behind, behind_part, behind_parts, behind_end, behind_message}
 use Rattle.ends_core.specs.Turns.{fresh, spend}
 use Rattle.ends_core.specs.declared.turn.EndFault.{EndFault}
@@ -25,16 +25,16 @@ use Rattle.ends_core.proofs.Refusing.{open-live}
 
 module _ {F : Type 0} (S : Summary F) where
   -- where a loop over the parts stands: those so far were taken, and the rest will tell the answer
-  pub record IsAmong (old now : Held F) (parts : Message F) (i : ℕ) : Type 0 where
+  pub record IsAmong (old now : EndState F) (parts : Message F) (i : ℕ) : Type 0 where
     pub same : now ≡ record old { taken = now.taken }
     pub taken_is : now.taken ≡ fold (taken S old.end) old.taken (take i parts)
     pub answer_is : by_parts S old.end old.taken parts ≡ by_parts S old.end now.taken (drop i parts)
 
-  pub among-first : (old : Held F) (parts : Message F) → IsAmong old old parts 0
+  pub among-first : (old : EndState F) (parts : Message F) → IsAmong old old parts 0
   among-first old parts = record { same = refl; taken_is = refl; answer_is = refl }
 
   -- a part more
-  pub among-next : (old now new : Held F) (parts : Message F) (i : ℕ) (p : Part F) → i < length parts →
+  pub among-next : (old now new : EndState F) (parts : Message F) (i : ℕ) (p : Part F) → i < length parts →
       get_or parts i p ≡ p → IsAmong old now parts i →
       None ≡ refusal (next now.taken.place p) → new ≡ behind_part S now p None → IsAmong old new parts (i + 1)
   among-next old now new parts i p low here at fine is =
@@ -61,18 +61,19 @@ module _ {F : Type 0} (S : Summary F) where
       }
 
   -- all parts
-  pub among-last : (old now : Held F) (parts : Message F) (i : ℕ) → length parts ≤ i → IsAmong old now parts i →
+  pub among-last : (old now : EndState F) (parts : Message F) (i : ℕ) → length parts ≤ i → IsAmong old now parts i →
       now ≡ record old { taken = fold (taken S old.end) old.taken parts }
   among-last old now parts i all at =
       at.same ∙ ap (λ t. record old { taken = t })
       (at.taken_is ∙ ap (fold (taken S old.end) old.taken) (take_all i parts all))
 
-  pub among-answer : (old now : Held F) (parts : Message F) (i : ℕ) → length parts ≤ i → IsAmong old now parts i →
+  pub among-answer : (old now : EndState F) (parts : Message F) (i : ℕ) → length parts ≤ i → IsAmong old now parts i →
       by_parts S old.end old.taken parts ≡ ended now.taken
   among-answer old now parts i all at = at.answer_is ∙ ap (by_parts S old.end now.taken) (drop_all i parts all)
 
   -- a part that is refused
-  pub among-refused : (old now new : Held F) (parts : Message F) (i : ℕ) (p : Part F) (code : ℕ) → i < length parts →
+  pub among-refused : (old now new : EndState F) (parts : Message F) (i : ℕ) (p : Part F) (code : ℕ) →
+      i < length parts →
       get_or parts i p ≡ p → IsAmong old now parts i →
       Some code ≡ refusal (next now.taken.place p) → by_parts S old.end old.taken parts ≡ Refuses code
   among-refused old now new parts i p code low here at told =
@@ -83,16 +84,16 @@ module _ {F : Type 0} (S : Summary F) where
 
 -- ---- a message that is taken by its parts
 
-pub still-able : {F : Type 0} (old now : Held F) → now ≡ record old { taken = now.taken } → IsAble old → IsAble now
+pub still-able : {F : Type 0} (old now : EndState F) → now ≡ record old { taken = now.taken } → IsAble old → IsAble now
 still-able old now same able =
     subst IsAble (sym same) (record { checked = able.checked; room = able.room; apart = able.apart })
 
 -- a refusal leaves the end as it would have been with no part taken
-pub spent-among : {F : Type 0} (old now new : Held F) → is_live old.end.stage ≡ true →
+pub spent-among : {F : Type 0} (old now new : EndState F) → is_live old.end.stage ≡ true →
     now ≡ record old { taken = now.taken } → new ≡ spend now → new ≡ spend old
 spent-among {F} old now new live same is =
     let t = now.taken in
-    let gone : Held F = fresh old.steps (record old.end { stage = Spent; learned = nothing }) in
+    let gone : EndState F = fresh old.steps (record old.end { stage = Spent; learned = nothing }) in
     is ∙ ap spend same ∙ ap (λ b. if b then gone else record old { taken = t }) live
     ∙ sym (ap (λ b. if b then gone else old) live)
 
@@ -103,12 +104,12 @@ dead-place (stages.Open x) d none = open-live x none
 dead-place stages.Over d none = refl
 dead-place stages.Spent d none = refl
 
-pub dead-spends : {F : Type 0} (h : Held F) → is_live h.end.stage ≡ false → h ≡ spend h
+pub dead-spends : {F : Type 0} (h : EndState F) → is_live h.end.stage ≡ false → h ≡ spend h
 dead-spends {F} h dead =
-    let gone : Held F = fresh h.steps (record h.end { stage = Spent; learned = nothing }) in
+    let gone : EndState F = fresh h.steps (record h.end { stage = Spent; learned = nothing }) in
     sym (ap (λ b. if b then gone else h) dead)
 
-pub whole-memory : {F : Type 0} (h new : Held F) (o : Option (Answer F)) → IfNone o (new ≡ fresh h.steps h.end) →
+pub whole-memory : {F : Type 0} (h new : EndState F) (o : Option (Answer F)) → IfNone o (new ≡ fresh h.steps h.end) →
     HasNone h →
     IfNone o (new ≡ h)
 whole-memory h new None is none = is ∙ sym (λ i. record h { taken = none i })
@@ -116,7 +117,8 @@ whole-memory h new (Some a) is none = tt
 
 module _ {F : Type 0} (S : Summary F) where
   -- behind a part that is refused
-  pub among-stops : (old now new : Held F) (parts : Message F) (i : ℕ) (p : Part F) (f : EndFault) → i < length parts →
+  pub among-stops : (old now new : EndState F) (parts : Message F) (i : ℕ) (p : Part F) (f : EndFault) →
+      i < length parts →
       get_or parts i p ≡ p → IsAmong S old now parts i → is_live old.end.stage ≡ true →
       IfSome (told_in (Err f)) (λ o. o ≡ refusal (next now.taken.place p)) →
       IfSome (told_in (Err f)) (λ o. new ≡ behind_part S now p o) →
@@ -130,20 +132,20 @@ module _ {F : Type 0} (S : Summary F) where
   among-stops old now new parts i p faults.Memory low here at live told is = tt
 
   -- behind the parts of a message and its end
-  pub message-end : (h : Held F) (M : Message F) (a : Answer F) → is_live h.end.stage ≡ true →
+  pub message-end : (h : EndState F) (M : Message F) (a : Answer F) → is_live h.end.stage ≡ true →
       behind_message S h M a ≡ behind_end (behind_parts S h M) a
   message-end h M (Replies N) live = refl
   message-end h M Ends live = refl
   message-end h M (Refuses code) live =
-      let gone : Held F = fresh h.steps (record h.end { stage = Spent; learned = nothing }) in
+      let gone : EndState F = fresh h.steps (record h.end { stage = Spent; learned = nothing }) in
       ap (λ b. if b then gone else h) live ∙ sym (ap (λ b. if b then gone else behind_parts S h M) live)
 
-  pub message-behind : (h new : Held F) (M : Message F) (o : Option (Answer F)) → is_live h.end.stage ≡ true →
+  pub message-behind : (h new : EndState F) (M : Message F) (o : Option (Answer F)) → is_live h.end.stage ≡ true →
       IfSome o (λ a. new ≡ behind_end (behind_parts S h M) a) → IfSome o (λ a. new ≡ behind_message S h M a)
   message-behind h new M None live is = tt
   message-behind h new M (Some a) live is = is ∙ sym (message-end h M a live)
 
-  pub dead-answers : (h : Held F) (M : Message F) → h.taken.place ≡ Refused spent →
+  pub dead-answers : (h : EndState F) (M : Message F) → h.taken.place ≡ Refused spent →
       Refuses spent ≡ by_parts S h.end h.taken M
   dead-answers h [] at = sym (ap (λ x. ended_unless h.taken (finish x)) at)
   dead-answers h (p ∷ M) at =
@@ -153,7 +155,7 @@ module _ {F : Type 0} (S : Summary F) where
   -- ---- a message of which nothing was taken before
 
   -- what all parts leave, and the end of the message
-  received : (h : Held F) (M : Message F) (a : Answer F) → PartsAreTaken S → is_live h.end.stage ≡ true →
+  received : (h : EndState F) (M : Message F) (a : Answer F) → PartsAreTaken S → is_live h.end.stage ≡ true →
       HasNone h → a ≡ answer S h.end M → behind_message S h M a ≡ behind S h M
   received h M a law live none told =
       let e = h.end in
@@ -168,11 +170,11 @@ module _ {F : Type 0} (S : Summary F) where
         by (Replies N) is = ap (fresh h.steps) is
         by Ends is = ap (fresh h.steps) is
         by (Refuses code) is =
-            let gone : Held F = fresh h.steps (record h.end { stage = Spent; learned = nothing }) in
+            let gone : EndState F = fresh h.steps (record h.end { stage = Spent; learned = nothing }) in
             ap (λ b. if b then gone else h) live ∙ ap (fresh h.steps) is
 
   -- an end that takes none
-  dead-received : (h : Held F) (M : Message F) → is_live h.end.stage ≡ false → HasNone h →
+  dead-received : (h : EndState F) (M : Message F) → is_live h.end.stage ≡ false → HasNone h →
       (answer S h.end M ≡ Refuses spent) × (h ≡ behind S h M)
   dead-received h M dead none = (
     by h.end.stage dead,
@@ -185,12 +187,12 @@ module _ {F : Type 0} (S : Summary F) where
     by Over none = refl
     by Spent none = refl
 
-  pub whole-answer : (h : Held F) (M : Message F) (o : Option (Answer F)) → PartsAreTaken S →
+  pub whole-answer : (h : EndState F) (M : Message F) (o : Option (Answer F)) → PartsAreTaken S →
       IfSome o (λ a. a ≡ by_parts S h.end h.taken M) → HasNone h → IfSome o (λ a. a ≡ answer S h.end M)
   whole-answer h M None law is none = tt
   whole-answer h M (Some a) law is none = is ∙ ap (λ t. by_parts S h.end t M) none ∙ (law h.end M).at_the_first
 
-  pub whole-behind : (h new : Held F) (M : Message F) (o : Option (Answer F)) → PartsAreTaken S →
+  pub whole-behind : (h new : EndState F) (M : Message F) (o : Option (Answer F)) → PartsAreTaken S →
       IfSome o (λ a. a ≡ by_parts S h.end h.taken M) → IfSome o (λ a. new ≡ behind_message S h M a) → HasNone h →
       IfSome o (λ a. new ≡ behind S h M)
   whole-behind h new M None law is at none = tt

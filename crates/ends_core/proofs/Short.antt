@@ -11,7 +11,7 @@ use Rattle.definitions.proofs.Lemmas.{fold-append}
 use Rattle.definitions.specs.Taking.{nothing_taken, taken, taken_all, ended, by_parts}
 use Rattle.definitions.specs.Theorems.{RepliesAreShort, IsShort}
 use Rattle.laws.specs.Taking.{PartsAreTaken}
-use Rattle.ends_core.specs.Held.{Held}
+use Rattle.ends_core.specs.EndStates.{EndState}
 use Rattle.ends_core.specs.Standing.{Stands}
 use Rattle.ends_core.specs.Turns.{KeepsLimit, answer_in}
 use Rattle.ends_core.specs.declared.turn.Turn.{Turn}
@@ -23,7 +23,7 @@ replied : {F : Type 0} (S : Summary F) (e : End F) (M N : Message F) → Replies
 replied S e M N same = grind arith
 
 module _ {F : Type 0} (S : Summary F) (Q : Profile F) where
-  answered-short : (start : Peer → End F) (h : Held F) (M : Message F) (r : Result (Turn F) EndFault) →
+  answered-short : (start : Peer → End F) (h : EndState F) (M : Message F) (r : Result (Turn F) EndFault) →
       RepliesAreShort S → Stands S Q start h →
       IfSome (answer_in r) (λ a. a ≡ answer S h.end M) → KeepsLimit h r
   answered-short start h M (Ok (turns.Reply N)) short s same =
@@ -33,7 +33,7 @@ module _ {F : Type 0} (S : Summary F) (Q : Profile F) where
   answered-short start h M (Err f) short s same = tt
 
   -- of the end of a message: what was taken are the parts of some message
-  pub ended-short : (start : Peer → End F) (h : Held F) (r : Result (Turn F) EndFault) → RepliesAreShort S →
+  pub ended-short : (start : Peer → End F) (h : EndState F) (r : Result (Turn F) EndFault) → RepliesAreShort S →
       PartsAreTaken S → Stands S Q start h →
       IfSome (answer_in r) (λ a. a ≡ ended h.taken) → KeepsLimit h r
   ended-short start h r short law s same = answered-short start h s.took.0 r short s (told (answer_in r) same) where
@@ -42,7 +42,7 @@ module _ {F : Type 0} (S : Summary F) (Q : Profile F) where
     told (Some a) same = same ∙ ap ended s.took.2 ∙ (law h.end s.took.0).at_the_end
 
   -- of a message, behind the parts that were taken before
-  pub message-short : (start : Peer → End F) (h : Held F) (M : Message F) (r : Result (Turn F) EndFault) →
+  pub message-short : (start : Peer → End F) (h : EndState F) (M : Message F) (r : Result (Turn F) EndFault) →
       RepliesAreShort S → PartsAreTaken S → Stands S Q start h →
       IfSome (answer_in r) (λ a. a ≡ by_parts S h.end h.taken M) → KeepsLimit h r
   message-short start h M r short law s same =

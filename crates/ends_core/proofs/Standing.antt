@@ -20,13 +20,13 @@ use Rattle.definitions.specs.Sets.{IsSet}
 use Rattle.definitions.specs.Theorems.{AreParts, Ready, StandsFirm, EndsStandFirm, EndsHearOn, EndsKeepPeers}
 use Rattle.definitions.specs.Worlds.{Side, Initiator, Responder}
 use Rattle.strategy_check.specs.Checked.{IsChecked}
-use Rattle.ends_core.specs.Held.{Held, IsAble}
+use Rattle.ends_core.specs.EndStates.{EndState, IsAble}
 use Rattle.ends_core.specs.Roles.{start_of, most_of}
 use Rattle.ends_core.specs.Standing.{Stands, Came}
 use Rattle.ends_core.specs.Turns.{behind, behind_end, behind_part, behind_parts, behind_message, fresh, spend}
 use Rattle.ends_core.proofs.Parts_taken.{message-end, dead-spends}
 
-abbrev pub ranks_of : {F : Type 0} → Held F → List ℕ
+abbrev pub ranks_of : {F : Type 0} → EndState F → List ℕ
 ranks_of h = ranks_by h.steps h.end.peer.table.cap
 
 abbrev pub ReadsRanks : Type 0
@@ -47,7 +47,7 @@ module _ {F : Type 0} (S : Summary F) (Q : Profile F) where
   keeps_firm Initiator law P f Ms r a = (law Q P f Ms r a).0
   keeps_firm Responder law P f Ms r a = (law Q P f Ms r a).1
 
-  pub firm : (start : Peer → End F) (most : ℕ) (h : Held F) → IsFirm start most → Stands S Q start h →
+  pub firm : (start : Peer → End F) (most : ℕ) (h : EndState F) → IsFirm start most → Stands S Q start h →
       StandsFirm h.end.peer (ranks_of h) most h.end
   firm start most h law s =
       subst (StandsFirm h.end.peer (ranks_of h) most) (sym s.came.2)
@@ -57,15 +57,15 @@ module _ {F : Type 0} (S : Summary F) (Q : Profile F) where
         room = s.room;
       }) s.came.1)
 
-  pub few : (start : Peer → End F) (most : ℕ) (h : Held F) → IsFirm start most → ReadsRanks → Stands S Q start h →
+  pub few : (start : Peer → End F) (most : ℕ) (h : EndState F) → IsFirm start most → ReadsRanks → Stands S Q start h →
       h.end.sent ≤ rank_by h.steps (length h.end.peer.items) + most
   few start most h law read s =
       omega (arith, (firm start most h law s).few, read h.steps h.end.peer.table.cap (length h.end.peer.items) s.room)
 
-  pub able : (start : Peer → End F) (most : ℕ) (h : Held F) → IsFirm start most → Stands S Q start h → IsAble h
+  pub able : (start : Peer → End F) (most : ℕ) (h : EndState F) → IsFirm start most → Stands S Q start h → IsAble h
   able start most h law s = record { checked = s.checked; room = s.room; apart = (firm start most h law s).apart }
 
-  pub countable : (start : Peer → End F) (most : ℕ) (h : Held F) → most ≤ 2 → IsFirm start most → ReadsRanks →
+  pub countable : (start : Peer → End F) (most : ℕ) (h : EndState F) → most ≤ 2 → IsFirm start most → ReadsRanks →
       Stands S Q start h → h.end.sent < 4294967295
   countable start most h small law read s =
       let n = length h.end.peer.items in
@@ -85,7 +85,7 @@ module _ {F : Type 0} (S : Summary F) (Q : Profile F) where
   -- ---- a message that ended
 
   -- the end behind the end of a message is the end behind the message
-  behind-end : (h : Held F) (M : Message F) → PartsAreTaken S → h.taken ≡ taken_all S h.end M →
+  behind-end : (h : EndState F) (M : Message F) → PartsAreTaken S → h.taken ≡ taken_all S h.end M →
       is_live h.end.stage ≡ true → behind_end h (ended h.taken) ≡ behind S h M
   behind-end h M law took live =
       let e = h.end in
@@ -121,7 +121,7 @@ module _ {F : Type 0} (S : Summary F) (Q : Profile F) where
   )
 
   -- behind a message nothing is taken
-  stands-behind : (start : Peer → End F) (h : Held F) (M : Message F) → EndsHearOn S → EndsKeepPeers S →
+  stands-behind : (start : Peer → End F) (h : EndState F) (M : Message F) → EndsHearOn S → EndsKeepPeers S →
       AreParts Q M → Stands S Q start h → Stands S Q start (behind S h M)
   stands-behind start h M on keep m s =
       let same = keep h.end (M ∷ []) in
@@ -134,7 +134,7 @@ module _ {F : Type 0} (S : Summary F) (Q : Profile F) where
       }
 
   -- nor once the parts are given up
-  pub stands-dropped : (start : Peer → End F) (h new : Held F) → new ≡ fresh h.steps h.end → Stands S Q start h →
+  pub stands-dropped : (start : Peer → End F) (h new : EndState F) → new ≡ fresh h.steps h.end → Stands S Q start h →
       Stands S Q start new
   stands-dropped start h new is s =
       subst (Stands S Q start) (sym is) (record {
@@ -152,7 +152,7 @@ module _ {F : Type 0} (S : Summary F) (Q : Profile F) where
   Lawful = EndsHearOn S × EndsKeepPeers S × PartsAreTaken S
 
   -- behind the end of a message
-  ended-stands : (start : Peer → End F) (h : Held F) → Lawful → Stands S Q start h →
+  ended-stands : (start : Peer → End F) (h : EndState F) → Lawful → Stands S Q start h →
       Stands S Q start (behind_end h (ended h.taken))
   ended-stands start h law s = by (is_live h.end.stage) refl where
     by : (b : Bool) → is_live h.end.stage ≡ b → Stands S Q start (behind_end h (ended h.taken))
@@ -167,7 +167,7 @@ module _ {F : Type 0} (S : Summary F) (Q : Profile F) where
         (subst (Stands S Q start) (sym (ap (λ b. if b then fresh h.steps
         (record h.end { stage = Spent; learned = nothing }) else h) none)) s)
 
-  pub stands-ended : (start : Peer → End F) (old new : Held F) (o : Option (Answer F)) → Lawful →
+  pub stands-ended : (start : Peer → End F) (old new : EndState F) (o : Option (Answer F)) → Lawful →
       IfSome o (λ a. a ≡ ended old.taken) → IfSome o (λ a. new ≡ behind_end old a) → IfNone o (new ≡ old) →
       Stands S Q start old → Stands S Q start new
   stands-ended start old new None law some behind_it none s = subst (Stands S Q start) (sym none) s
@@ -181,23 +181,24 @@ module _ {F : Type 0} (S : Summary F) (Q : Profile F) where
   refused-finish (Refused n) code e = e
 
   -- a part that is refused leaves the end as a message of these parts does
-  part-spends : (h : Held F) (M : Message F) (p : Part F) (code : ℕ) → PartsAreTaken S → h.taken ≡ taken_all S h.end M →
+  part-spends : (h : EndState F) (M : Message F) (p : Part F) (code : ℕ) → PartsAreTaken S →
+      h.taken ≡ taken_all S h.end M →
       is_live h.end.stage ≡ true →
       refusal (next h.taken.place p) ≡ Some code → spend h ≡ behind S h (M ++ p ∷ [])
   part-spends h M p code law took live refuses =
       let e = h.end in
       let N : Message F = M ++ p ∷ [] in
-      let g : Held F = record h { taken = taken S e h.taken p } in
+      let g : EndState F = record h { taken = taken S e h.taken p } in
       let took_more : g.taken ≡ taken_all S e N = ap (λ t. taken S e t p) took
       ∙ sym (fold-append (taken S e) (nothing_taken e) M (p ∷ [])) in
       let stops : ended g.taken ≡ Refuses code = ap (ended_unless g.taken)
       (refused-finish (next h.taken.place p) code refuses) in
       let at : behind_end g (Refuses code) ≡ behind S h N = ap (behind_end g) (sym stops)
       ∙ behind-end g N law took_more live in
-      let spent_by : Held F = fresh h.steps (record e { stage = Spent; learned = nothing }) in
+      let spent_by : EndState F = fresh h.steps (record e { stage = Spent; learned = nothing }) in
       ap (λ b. if b then spent_by else h) live ∙ sym (ap (λ b. if b then spent_by else g) live) ∙ at
 
-  part-stands : (start : Peer → End F) (h : Held F) (p : Part F) (o : Option ℕ) → Lawful → IsPart Q p →
+  part-stands : (start : Peer → End F) (h : EndState F) (p : Part F) (o : Option ℕ) → Lawful → IsPart Q p →
       o ≡ refusal (next h.taken.place p) → Stands S Q start h → Stands S Q start (behind_part S h p o)
   part-stands start h p None law part told s = record {
     checked = s.checked;
@@ -220,7 +221,7 @@ module _ {F : Type 0} (S : Summary F) (Q : Profile F) where
         subst (Stands S Q start) (sym (ap (λ b. if b then fresh h.steps
         (record h.end { stage = Spent; learned = nothing }) else h) none)) s
 
-  pub stands-taken : (start : Peer → End F) (old new : Held F) (p : Part F) (o : Option (Option ℕ)) → Lawful →
+  pub stands-taken : (start : Peer → End F) (old new : EndState F) (p : Part F) (o : Option (Option ℕ)) → Lawful →
       IsPart Q p →
       IfSome o (λ r. r ≡ refusal (next old.taken.place p)) → IfSome o (λ r. new ≡ behind_part S old p r) →
       IfNone o (new ≡ old) → Stands S Q start old → Stands S Q start new
@@ -229,7 +230,7 @@ module _ {F : Type 0} (S : Summary F) (Q : Profile F) where
       subst (Stands S Q start) (sym behind_it) (part-stands start old p r law part told s)
 
   -- at the start
-  pub stands-first : (start : Peer → End F) (h : Held F) (steps : List ℕ) (P : Peer) → h ≡ fresh steps (start P) →
+  pub stands-first : (start : Peer → End F) (h : EndState F) (steps : List ℕ) (P : Peer) → h ≡ fresh steps (start P) →
       (start P).peer ≡ P →
       IsChecked (record { table = P.table; steps = steps }) → length P.items ≤ P.table.cap → IsSet P.items →
       Stands S Q start h
@@ -242,7 +243,7 @@ module _ {F : Type 0} (S : Summary F) (Q : Profile F) where
   })
 
   -- behind a message, behind the parts that were taken before
-  parts-stand : (start : Peer → End F) (h : Held F) (M : Message F) → AreParts Q M → Stands S Q start h →
+  parts-stand : (start : Peer → End F) (h : EndState F) (M : Message F) → AreParts Q M → Stands S Q start h →
       Stands S Q start (behind_parts S h M)
   parts-stand start h M m s = record {
     checked = s.checked;
@@ -257,13 +258,13 @@ module _ {F : Type 0} (S : Summary F) (Q : Profile F) where
     );
   }
 
-  pub stands-received : (start : Peer → End F) (old new : Held F) (M : Message F) (o : Option (Answer F)) → Lawful →
+  pub stands-received : (start : Peer → End F) (old new : EndState F) (M : Message F) (o : Option (Answer F)) → Lawful →
       AreParts Q M → IfSome o (λ a. a ≡ by_parts S old.end old.taken M) →
       IfSome o (λ a. new ≡ behind_message S old M a) → IfNone o (new ≡ fresh old.steps old.end) → Stands S Q start old →
       Stands S Q start new
   stands-received start old new M None law m some at none s = stands-dropped start old new none s
   stands-received start old new M (Some a) law m some at none s = by (is_live old.end.stage) refl where
-    g : Held F
+    g : EndState F
     g = behind_parts S old M
 
     through : Stands S Q start g

@@ -22,7 +22,7 @@ use Rattle.place_core.specs.declared.cursor.Cursor.{Cursor}
 use Rattle.place_core.specs.declared.cursor.Cursor.TheVariants as cursors
 use Rattle.ends_core.specs.Learning.{told}
 use Rattle.ends_core.specs.Drafts.{Drafted, drafted, taken_at}
-use Rattle.ends_core.specs.Held.{stage_at}
+use Rattle.ends_core.specs.EndStates.{stage_at}
 
 -- ---- each List of a message whose open ranges do not overlap is found by its range
 

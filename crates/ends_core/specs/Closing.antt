@@ -4,7 +4,7 @@
 use Rattle.std.specs.Prelude.{◌≡◌, Result, Ok, Err, IfSome, if◌then◌else◌}
 use Rattle.definitions.specs.Ends.{Stage, Over, Spent, Answer, Replies, Ends, Refuses, stage_behind}
 use Rattle.definitions.specs.Taking.{ended, replies_or_refuses}
-use Rattle.ends_core.specs.Held.{Held, stage_of, taken_of, none_at}
+use Rattle.ends_core.specs.EndStates.{EndState, stage_of, taken_of, none_at}
 use Rattle.ends_core.specs.Drafts.{Drafted, nothing_drafted}
 use Rattle.ends_core.specs.Turns.{refusal_of}
 use Rattle.ends_core.specs.declared.stage.Stage as own
@@ -35,5 +35,5 @@ abbrev pub IsDue : {F : Type 0} → Answer F → Result (own.Stage F) EndFault �
 IsDue a (Ok s) = IsBehind s a
 IsDue a (Err f) = IfSome (refusal_of f) (λ r. r ≡ a)
 
-abbrev pub IsClosed : {F : Type 0} → Held F → Result (own.Stage F) EndFault → Type 0
+abbrev pub IsClosed : {F : Type 0} → EndState F → Result (own.Stage F) EndFault → Type 0
 IsClosed h r = IsDue (ended h.taken) r

@@ -12,7 +12,7 @@ pub use Rattle.definitions.specs.Taking
 pub use Rattle.place_core.specs.Placements
 pub use Rattle.strategy_check.specs.Checked
 pub use Rattle.place_core.specs.PlaceFaults
-pub mod Held
+pub mod EndStates
 pub mod Turns
 pub mod Closing
 pub mod Roles

@@ -19,7 +19,7 @@ use Rattle.definitions.specs.Ends.{is_live}
 use Rattle.definitions.specs.Taking.{taken, nothing_taken, after_ended}
 use Rattle.definitions.specs.Refusals as codes
 use Rattle.place_core.specs.PlaceFaults.{place_fault_number}
-use Rattle.ends_core.specs.Held.{Held}
+use Rattle.ends_core.specs.EndStates.{EndState}
 use Rattle.ends_core.specs.declared.turn.Turn.{Turn}
 use Rattle.ends_core.specs.declared.turn.Turn.TheVariants as turns
 use Rattle.ends_core.specs.declared.turn.EndFault.{EndFault}
@@ -60,10 +60,10 @@ answer_in (Ok turn) = Some (answer_of turn)
 answer_in (Err f) = refusal_of f
 
 -- the end behind a message, or a refusal, holds no part
-abbrev pub fresh : {F : Type 0} → List ℕ → End F → Held F
+abbrev pub fresh : {F : Type 0} → List ℕ → End F → EndState F
 fresh steps e = record { steps = steps; end = e; taken = nothing_taken e }
 
-abbrev pub behind : {F : Type 0} → Summary F → Held F → Message F → Held F
+abbrev pub behind : {F : Type 0} → Summary F → EndState F → Message F → EndState F
 behind S h M = fresh h.steps (after S h.end M)
 
 -- the message may come at this stage, by the relation
@@ -82,33 +82,33 @@ AgreesWith C (Err faults.TooManyParts) = C
 AgreesWith C (Err faults.Spent) = C → ⊥
 AgreesWith C (Err faults.Memory) = ⊤
 
-abbrev pub IsJudged : {F : Type 0} → Held F → Message F → Result (Turn F) EndFault → Type 0
+abbrev pub IsJudged : {F : Type 0} → EndState F → Message F → Result (Turn F) EndFault → Type 0
 IsJudged h M result = AgreesWith (Comes h.end.stage M) result
 
 -- the end behind a refusal: a spent end, and one whose session is over, stays as it is
-abbrev pub spend : {F : Type 0} → Held F → Held F
+abbrev pub spend : {F : Type 0} → EndState F → EndState F
 spend h = if is_live h.end.stage then fresh h.steps (record h.end { stage = Spent; learned = nothing }) else h
 
-abbrev pub behind_part : {F : Type 0} → Summary F → Held F → Part F → Option ℕ → Held F
+abbrev pub behind_part : {F : Type 0} → Summary F → EndState F → Part F → Option ℕ → EndState F
 behind_part S h p None = record h { taken = taken S h.end h.taken p }
 behind_part S h p (Some code) = spend h
 
 -- behind parts that are taken
-abbrev pub behind_parts : {F : Type 0} → Summary F → Held F → Message F → Held F
+abbrev pub behind_parts : {F : Type 0} → Summary F → EndState F → Message F → EndState F
 behind_parts S h M = record h { taken = fold (taken S h.end) h.taken M }
 
-abbrev pub behind_end : {F : Type 0} → Held F → Answer F → Held F
+abbrev pub behind_end : {F : Type 0} → EndState F → Answer F → EndState F
 behind_end h (Replies N) = fresh h.steps (after_ended h.end h.taken (Replies N))
 behind_end h Ends = fresh h.steps (after_ended h.end h.taken Ends)
 behind_end h (Refuses code) = spend h
 
 -- the end behind the parts of a message and its end: what it had taken before counts too
-abbrev pub behind_message : {F : Type 0} → Summary F → Held F → Message F → Answer F → Held F
+abbrev pub behind_message : {F : Type 0} → Summary F → EndState F → Message F → Answer F → EndState F
 behind_message S h M (Replies N) = behind_end (behind_parts S h M) (Replies N)
 behind_message S h M Ends = behind_end (behind_parts S h M) Ends
 behind_message S h M (Refuses code) = spend h
 
-abbrev pub refused : {F : Type 0} → Held F → EndFault → Held F
+abbrev pub refused : {F : Type 0} → EndState F → EndFault → EndState F
 refused h faults.Memory = h
 refused h (faults.Placing f) = spend h
 refused h faults.TooManyParts = spend h
@@ -120,7 +120,7 @@ messages_in (turns.Reply N) = 1
 messages_in turns.Over = 0
 
 -- no List of a reply is longer than the limit
-abbrev pub KeepsLimit : {F : Type 0} → Held F → Result (Turn F) EndFault → Type 0
+abbrev pub KeepsLimit : {F : Type 0} → EndState F → Result (Turn F) EndFault → Type 0
 KeepsLimit h (Ok (turns.Reply N)) = AllByRecursion (IsShort h.end.peer.table.limit) N
 KeepsLimit h (Ok turns.Over) = ⊤
 KeepsLimit h (Err f) = ⊤

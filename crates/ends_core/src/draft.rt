@@ -7,7 +7,7 @@ ghost use Rattle.definitions.specs.Talks.{and_then};
 ghost use Rattle.definitions.specs.Taking.{grown};
 ghost use Rattle.definitions.specs.Wire.{max_parts};
 ghost use Rattle.ends_core.specs.Drafts.{drafted, nothing_drafted, reply_kept};
-ghost use Rattle.ends_core.specs.Held.{stage_of, taken_of, none_at};
+ghost use Rattle.ends_core.specs.EndStates.{stage_of, taken_of, none_at};
 ghost use Rattle.ends_core.specs.Turns.{answer_of};
 ghost use Rattle.ends_core.specs.Closing.{IsDue, IsTaking, drafted_answer};
 

@@ -7,7 +7,7 @@ ghost use Rattle.definitions.specs.Placing as placing;
 ghost use Rattle.definitions.specs.Ends as ends;
 ghost use Rattle.definitions.specs.Ends.{is_live, is_over};
 ghost use Rattle.definitions.specs.Taking.{taken, ended, by_parts};
-ghost use Rattle.ends_core.specs.Held.{IsAble, stage_of, taken_of};
+ghost use Rattle.ends_core.specs.EndStates.{IsAble, stage_of, taken_of};
 ghost use Rattle.ends_core.specs.Drafts.{nothing_drafted};
 ghost use Rattle.ends_core.specs.Turns.{answer_in, told_in, refusal_of, fresh, behind_part, behind_parts, behind_end};
 ghost use Rattle.ends_core.specs.Turns.{behind_message, refused, spend};
@@ -44,9 +44,9 @@ pub(crate) struct End<S: RangeStore, F: Summary> {
 impl<S: RangeStore, F: Summary> Model for End<S, F> {
     ghost use Rattle.std.specs.Arc.{arc_value};
     ghost use Rattle.definitions.specs.Ends as ends;
-    ghost use Rattle.ends_core.specs.Held.{Held, stage_of, taken_of};
+    ghost use Rattle.ends_core.specs.EndStates.{EndState, stage_of, taken_of};
 
-    ghost Value = { Held F };
+    ghost Value = { EndState F };
 
     ghost view = { λ a. record {
       steps = (arc_value a.accepted).steps;

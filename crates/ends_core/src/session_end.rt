@@ -10,7 +10,7 @@ ghost use Rattle.definitions.specs.Ends as ends;
 ghost use Rattle.definitions.specs.Ends.{is_over};
 ghost use Rattle.definitions.specs.Placing as placing;
 ghost use Rattle.definitions.specs.Taking.{ended, by_parts};
-ghost use Rattle.ends_core.specs.Held.{HasNone};
+ghost use Rattle.ends_core.specs.EndStates.{HasNone};
 ghost use Rattle.ends_core.specs.Roles.{most_of};
 ghost use Rattle.ends_core.specs.Turns.{IsJudged, KeepsLimit, answer_in, told_in, fresh};
 ghost use Rattle.ends_core.specs.Turns.{behind, behind_part, behind_end, behind_message};
@@ -38,11 +38,11 @@ pub struct SessionEnd<R: Role, S: RangeStore, F: Summary = Fingerprint> {
 }
 
 impl<R: Role, S: RangeStore, F: Summary> Model for SessionEnd<R, S, F> {
-    ghost use Rattle.ends_core.specs.Held.{Held};
+    ghost use Rattle.ends_core.specs.EndStates.{EndState};
     ghost use Rattle.ends_core.specs.Roles.{start_of};
     ghost use Rattle.ends_core.specs.Standing.{Stands};
 
-    ghost Value = { Held F };
+    ghost Value = { EndState F };
 
     ghost view = { λ a. a.end };
 
@@ -56,7 +56,7 @@ pub type Initiator<S, F = Fingerprint> = SessionEnd<Initiating, S, F>;
 pub type Responder<S, F = Fingerprint> = SessionEnd<Responding, S, F>;
 
 /// The message of one Sum over everything.
-fn opening<F: Summary>(alloc: Global, sum: F) -> Result<Message<F>, AllocError>
+fn first_message<F: Summary>(alloc: Global, sum: F) -> Result<Message<F>, AllocError>
     ensures { IfOk result (λ m. m ≡ Sum whole sum ∷ []) }
 {
     let mut parts = Vec::with_capacity(alloc, 1)?;
@@ -75,7 +75,7 @@ fn begin<F: Summary>(alloc: Global, sum: F) -> Result<(Place<F>, Message<F>), Al
       now = placing.behind (Sum whole sum ∷ []);
     }) × (r.1 ≡ Sum whole sum ∷ [])) }
 {
-    let first = opening(alloc, sum)?;
+    let first = first_message(alloc, sum)?;
     let place = Place::after(alloc, first.parts())?;
     Ok((place, first))
 }

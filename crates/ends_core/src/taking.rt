@@ -8,7 +8,7 @@ ghost use Rattle.definitions.specs.Placing as placing;
 ghost use Rattle.definitions.specs.Talks.{nothing};
 ghost use Rattle.definitions.specs.Taking.{taken};
 ghost use Rattle.ends_core.specs.Drafts.{taken_at};
-ghost use Rattle.ends_core.specs.Held.{stage_at};
+ghost use Rattle.ends_core.specs.EndStates.{stage_at};
 ghost use Rattle.ends_core.specs.Turns.{told_in};
 
 use crate::draft::Draft;

@@ -278,7 +278,8 @@ most_parts-append (M ∷ Ms) Ns = omega (arith, most_parts-append Ms Ns)
 pub cost_claim : {F : Type 0} (S : Summary F) → CostClaim S
 cost_claim S exact w = All-every (CostsLittle S w) (λ s.
     let few = few_parts S exact (initiator_of w s) (responder_of w s) (s.delivered + 1)
-    (peer_at-IsSet w s.initiator s.initiator_version) (peer_at-IsSet w s.responder (unwrap_or s.responder_version 0)) in
+    (peer_at-IsSet w s.initiator_node s.initiator_version)
+    (peer_at-IsSet w s.responder_node (unwrap_or s.responder_version 0)) in
     record {
       few_parts = few;
       reported = most_parts_le (messages S w s) (part_bound (initiator_of w s) (responder_of w s)) few;

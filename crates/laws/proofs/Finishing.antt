@@ -81,8 +81,8 @@ with_good S w ss nodes kept = record {
 
 abbrev opened : ℕ → ℕ → Node → Session
 opened i r a = record {
-  initiator = i;
-  responder = r;
+  initiator_node = i;
+  responder_node = r;
   initiator_version = length a.history;
   responder_version =
       None;
@@ -165,8 +165,8 @@ small_rank w n v nodes there =
 few : {F : Type 0} (S : Summary F) (w : World) (s : Session) → IsGood S w → HasKept S w s →
     length (messages S w s) ≤ 513
 few S w s good kept =
-    let i = small_rank w s.initiator s.initiator_version good.nodes kept.1.initiator_there in
-    let r = small_rank w s.responder (unwrap_or s.responder_version 0) good.nodes kept.1.responder_there in
+    let i = small_rank w s.initiator_node s.initiator_version good.nodes kept.1.initiator_there in
+    let r = small_rank w s.responder_node (unwrap_or s.responder_version 0) good.nodes kept.1.responder_there in
     omega (arith, messages_are_few S (initiator_of w s) (responder_of w s) i.0 r.0 (s.delivered + 1) i.1 r.1, r.2)
 
 -- ==== Deliveries one after another

@@ -47,7 +47,8 @@ session_knowledge {F} S w s exact ended clear =
     let Ms : List (Message F) = messages S w s in
     let all : length Ms ≡ s.delivered = eqb-true (length Ms) s.delivered ended in
     let both = exact_knowledge S exact (initiator_of w s) (responder_of w s) (s.delivered + 1)
-    (peer_at-IsSet w s.initiator s.initiator_version) (peer_at-IsSet w s.responder (unwrap_or s.responder_version 0))
+    (peer_at-IsSet w s.initiator_node s.initiator_version)
+    (peer_at-IsSet w s.responder_node (unwrap_or s.responder_version 0))
     (omega arith) clear in
     let whole : take s.delivered Ms ≡ Ms = take_all s.delivered Ms (omega arith) in (
       subst (λ Ns. KnowsDifference (initiator_knows (initiator_of w s).items Ns) (initiator_of w s).items
@@ -121,8 +122,8 @@ length-absorb_all top h xs room = length-absorb_fold top (record { history = h; 
 
 -- the session's nodes are among so many
 pub record IsAmong (count : ℕ) (s : Session) : Type 0 where
-  pub initiator : s.initiator < count
-  pub responder : s.responder < count
+  pub initiator : s.initiator_node < count
+  pub responder : s.responder_node < count
 
 pub record IsSteady (count : ℕ) (w : World) : Type 0 where
   pub nodes : AllByRecursion IsNode w.nodes
@@ -170,9 +171,9 @@ absorb_into-IsSteady count w n xs s h =
 absorb_side-IsSteady : {F : Type 0} (S : Summary F) (count : ℕ) (w : World) (t : Session) (side : Side) →
     IsSteady count w → IsAmong count t → IsSteady count (absorb_side S w t side).0
 absorb_side-IsSteady S count w t Initiator s a =
-    absorb_into-IsSteady count w t.initiator (set_of (initiator_knowledge S w t).theirs) s a.initiator
+    absorb_into-IsSteady count w t.initiator_node (set_of (initiator_knowledge S w t).theirs) s a.initiator
 absorb_side-IsSteady S count w t Responder s a =
-    absorb_into-IsSteady count w t.responder (set_of (responder_knowledge S w t).theirs) s a.responder
+    absorb_into-IsSteady count w t.responder_node (set_of (responder_knowledge S w t).theirs) s a.responder
 
 absorb-IsSteady : {F : Type 0} (S : Summary F) (count : ℕ) (w : World) (k : ℕ) (side : Side) (o : Option Session) →
     slice_get w.sessions k ≡ o → IsSteady count w →
@@ -221,18 +222,18 @@ rank-kept count w n v s h = sym (ranks_by-at (node_at w n).steps (node_at w n).t
     (peer_at-room count w n v s h))
 
 kept_bound : {F : Type 0} (S : Summary F) (count : ℕ) (w : World) (t : Session) → IsSteady count w → IsAmong count t →
-    length (messages S w t) ≤ message_bound (rank_of (node_at w t.initiator).steps (initiator_of w t))
-    (rank_of (node_at w t.responder).steps (responder_of w t))
+    length (messages S w t) ≤ message_bound (rank_of (node_at w t.initiator_node).steps (initiator_of w t))
+    (rank_of (node_at w t.responder_node).steps (responder_of w t))
 kept_bound S count w t s a =
-    let i = node_at-IsNode count w t.initiator s a.initiator in
-    let r = node_at-IsNode count w t.responder s a.responder in
+    let i = node_at-IsNode count w t.initiator_node s a.initiator in
+    let r = node_at-IsNode count w t.responder_node s a.responder in
     omega (
       arith,
-      rank-kept count w t.initiator t.initiator_version s a.initiator,
-      rank-kept count w t.responder (unwrap_or t.responder_version 0) s a.responder,
+      rank-kept count w t.initiator_node t.initiator_version s a.initiator,
+      rank-kept count w t.responder_node (unwrap_or t.responder_version 0) s a.responder,
       messages_are_few S (initiator_of w t) (responder_of w t) _ _ (t.delivered + 1)
-          (peer_at-Ready count w t.initiator t.initiator_version _ s a.initiator i.serves.ranks)
-          (peer_at-Ready count w t.responder _ _ s a.responder r.serves.ranks),
+          (peer_at-Ready count w t.initiator_node t.initiator_version _ s a.initiator i.serves.ranks)
+          (peer_at-Ready count w t.responder_node _ _ s a.responder r.serves.ranks),
     )
 
 -- a bound is shown once the responder has a version
@@ -242,17 +243,17 @@ shown m b c version h e = grind arith
 pub session-IsSound : {F : Type 0} (S : Summary F) (count : ℕ) (w : World) (t : Session) → IsSteady count w →
     IsAmong count t → IsSound S w t
 session-IsSound S count w t s a =
-    let i = node_at-IsNode count w t.initiator s a.initiator in
-    let r = node_at-IsNode count w t.responder s a.responder in
+    let i = node_at-IsNode count w t.initiator_node s a.initiator in
+    let r = node_at-IsNode count w t.responder_node s a.responder in
     record {
       few_messages = λ f g p q. messages_are_few S (initiator_of w t) (responder_of w t) f g
-          (t.delivered + 1) (peer_at-Ready count w t.initiator t.initiator_version f s a.initiator p)
-          (peer_at-Ready count w t.responder _ g s a.responder q);
+          (t.delivered + 1) (peer_at-Ready count w t.initiator_node t.initiator_version f s a.initiator p)
+          (peer_at-Ready count w t.responder_node _ g s a.responder q);
       reported = λ b e. shown _ _ b t.responder_version (kept_bound S count w t s a) e;
       short_lists = lists_are_short S (initiator_of w t) (responder_of w t)
           (t.delivered + 1) i.table r.table i.accepted r.accepted
-          (peer_at-room count w t.initiator t.initiator_version s a.initiator)
-          (peer_at-room count w t.responder _ s a.responder);
+          (peer_at-room count w t.initiator_node t.initiator_version s a.initiator)
+          (peer_at-room count w t.responder_node _ s a.responder);
       exact_knowledge = λ exact ended clear. session_knowledge S w t exact ended clear;
     }
 
@@ -414,7 +415,8 @@ session_sound {F} S w s ended =
     let Ms : List (Message F) = messages S w s in
     let all : length Ms ≡ s.delivered = eqb-true (length Ms) s.delivered ended in
     let both = sound_knowledge S (initiator_of w s) (responder_of w s) (s.delivered + 1)
-    (peer_at-IsSet w s.initiator s.initiator_version) (peer_at-IsSet w s.responder (unwrap_or s.responder_version 0)) in
+    (peer_at-IsSet w s.initiator_node s.initiator_version)
+    (peer_at-IsSet w s.responder_node (unwrap_or s.responder_version 0)) in
     let whole : take s.delivered Ms ≡ Ms = take_all s.delivered Ms (omega arith) in (
       subst (λ Ns. KnowsNothingWrong (initiator_knows (initiator_of w s).items Ns) (initiator_of w s).items
           (responder_of w s).items) (sym whole) both.0,
@@ -432,20 +434,21 @@ HasItem-absorb_into x w n m ys e = grind (arith, HasItem-with_history, HasItem-a
 HasItem-absorb_side : {F : Type 0} (S : Summary F) (x : Item) (w : World) (s : Session) (side : Side) (m : ℕ) →
     IsTrue (has_ended S w s) → HasItem x (node_at (absorb_side S w s side).0 m).history → SomeHas x w
 HasItem-absorb_side S x w s Initiator m ended e =
-    elim (HasItem-absorb_into x w s.initiator m (set_of (initiator_knowledge S w s).theirs) e) [
+    elim (HasItem-absorb_into x w s.initiator_node m (set_of (initiator_knowledge S w s).theirs) e) [
       | inl y ↦ (
-        s.responder,
-        HasItem-version x (node_at w s.responder).history (unwrap_or s.responder_version 0)
+        s.responder_node,
+        HasItem-version x (node_at w s.responder_node).history (unwrap_or s.responder_version 0)
             (has-theirs x (initiator_knowledge S w s) (initiator_of w s).items (responder_of w s).items
             (session_sound S w s ended).0 y),
       )
       | inr old ↦ old
     ]
 HasItem-absorb_side S x w s Responder m ended e =
-    elim (HasItem-absorb_into x w s.responder m (set_of (responder_knowledge S w s).theirs) e) [
+    elim (HasItem-absorb_into x w s.responder_node m (set_of (responder_knowledge S w s).theirs) e) [
       | inl y ↦ (
-        s.initiator,
-        HasItem-version x (node_at w s.initiator).history s.initiator_version (has-theirs x (responder_knowledge S w s)
+        s.initiator_node,
+        HasItem-version x (node_at w s.initiator_node).history s.initiator_version
+            (has-theirs x (responder_knowledge S w s)
             (responder_of w s).items (initiator_of w s).items (session_sound S w s ended).1 y),
       )
       | inr old ↦ old

@@ -87,7 +87,13 @@ is_some : {X : Type 0} (o : Option X) (x y : X) → o ≡ Some x → unwrap_or o
 is_some o x y e = ap (λ o. unwrap_or o y) e
 
 holds_by : {F : Type 0} (S : Summary F) (w : World) (i r v : ℕ) (o : Option ℕ) (d : ℕ) (k : Kept F) →
-    HoldsNow S w record { initiator = i; responder = r; initiator_version = v; responder_version = o; delivered = d } k
+    HoldsNow S w record {
+      initiator_node = i;
+      responder_node = r;
+      initiator_version = v;
+      responder_version = o;
+      delivered = d;
+    } k
 holds_by S w i r v (Some u) d k h going =
     let same = is_some k.responder _ (responder (peer_at w r (length (node_at w r).history))) h.responder in
     record {
@@ -107,7 +113,7 @@ holds_by S w i r v None zero k h going = record {
 holds_by S w i r v None (suc d) k h going = absurd (omega (arith, h.unheard.0 refl))
 
 holds_now : {F : Type 0} (S : Summary F) (w : World) (s : Session) (k : Kept F) → HoldsNow S w s k
-holds_now S w s k = holds_by S w s.initiator s.responder s.initiator_version s.responder_version s.delivered k
+holds_now S w s k = holds_by S w s.initiator_node s.responder_node s.initiator_version s.responder_version s.delivered k
 
 -- ---- who hears, and what
 
@@ -200,7 +206,7 @@ keeps_next S w s k l N n h is last most = record {
   initiator_there = h.initiator_there;
   responder_there = h.responder_there;
   initiator_version = h.initiator_version;
-  responder_version = chosen s.responder_version (length (node_at w s.responder).history) h.responder_version;
+  responder_version = chosen s.responder_version (length (node_at w s.responder_node).history) h.responder_version;
   unheard = (λ e. absurd cc, λ e. absurd (omega arith));
   initiator = is.initiator;
   responder = is.responder;
@@ -281,8 +287,8 @@ sessions_go_on {F} S exact w s k nodes h going =
     let R : Peer = responder_of w (after_delivery w s) in
     let d : ℕ = s.delivered in
     let held = holds_now S w s k h going in
-    let turn = peers_talk S w s.initiator s.initiator_version s.responder (unwrap_or s.responder_version
-    (length (node_at w s.responder).history)) d exact nodes h.initiator_there h.responder_there in
+    let turn = peers_talk S w s.initiator_node s.initiator_version s.responder_node (unwrap_or s.responder_version
+    (length (node_at w s.responder_node).history)) d exact nodes h.initiator_there h.responder_there in
     let taken = held_answer held turn in
     let next = comes S I R d k.last held.last in
     let said = turn.answered k.last held.last in

@@ -118,14 +118,16 @@ upto_more (Some v) top more l h = omega arith
 keeps_grow : {F : Type 0} (S : Summary F) (w v : World) (s : Session) (k : Kept F) → Grows w v → Keeps S w s k →
     Keeps S v s k
 keeps_grow S w v s k g h =
-    let p : initiator_of w s ≡ initiator_of v s = sym (g.same s.initiator s.initiator_version h.initiator_version) in
+    let p : initiator_of w s ≡ initiator_of v s =
+    sym (g.same s.initiator_node s.initiator_version h.initiator_version) in
     let q : responder_of w s ≡ responder_of v s =
-    sym (g.same s.responder (unwrap_or s.responder_version 0) (upto_top s.responder_version _ h.responder_version)) in
+    sym
+    (g.same s.responder_node (unwrap_or s.responder_version 0) (upto_top s.responder_version _ h.responder_version)) in
     record {
       initiator_there = omega (arith, g.count, h.initiator_there);
       responder_there = omega (arith, g.count, h.responder_there);
-      initiator_version = omega (arith, g.longer s.initiator, h.initiator_version);
-      responder_version = upto_more s.responder_version _ _ (g.longer s.responder) h.responder_version;
+      initiator_version = omega (arith, g.longer s.initiator_node, h.initiator_version);
+      responder_version = upto_more s.responder_version _ _ (g.longer s.responder_node) h.responder_version;
       unheard = h.unheard;
       initiator = h.initiator ∙ (λ i. initiator_at S (p i) (q i) s.delivered);
       responder = h.responder ∙ (λ i. option_map (λ u. responder_at S (p i) (q i) s.delivered) s.responder_version);
@@ -196,8 +198,8 @@ absorb_into_stays w n xs = with_stays w n (absorb_all (node_at w n).table.cap (n
 
 absorb_side_stays : {F : Type 0} (S : Summary F) (w : World) (s : Session) (side : Side) →
     Stays w (absorb_side S w s side).0
-absorb_side_stays S w s Initiator = absorb_into_stays w s.initiator (set_of (initiator_knowledge S w s).theirs)
-absorb_side_stays S w s Responder = absorb_into_stays w s.responder (set_of (responder_knowledge S w s).theirs)
+absorb_side_stays S w s Initiator = absorb_into_stays w s.initiator_node (set_of (initiator_knowledge S w s).theirs)
+absorb_side_stays S w s Responder = absorb_into_stays w s.responder_node (set_of (responder_knowledge S w s).theirs)
 
 absorb_stays : {F : Type 0} (S : Summary F) (w : World) (side : Side) (o : Option Session) →
     Stays w (absorb_at S w side o).0

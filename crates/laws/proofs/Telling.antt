@@ -145,7 +145,7 @@ record Responds {F : Type 0} (S : Summary F) (w : World) (s : Session) (k : Kept
 
 responds_by : {F : Type 0} (S : Summary F) (w : World) (i r v : ℕ) (o : Option ℕ) (d : ℕ) (k : Kept F) →
     let s : Session =
-    record { initiator = i; responder = r; initiator_version = v; responder_version = o; delivered = d } in
+    record { initiator_node = i; responder_node = r; initiator_version = v; responder_version = o; delivered = d } in
     Keeps S w s k → Responds S w s k
 responds_by S w i r v (Some u) d k h = record {
   peer = subst (λ o. IfSome o (λ e. e.peer ≡ peer_at w r u)) (sym h.responder)
@@ -163,14 +163,15 @@ responds_by S w i r v None zero k h = record {
 responds_by S w i r v None (suc d) k h = absurd (omega (arith, h.unheard.0 refl))
 
 responds : {F : Type 0} (S : Summary F) (w : World) (s : Session) (k : Kept F) → Keeps S w s k → Responds S w s k
-responds S w s k h = responds_by S w s.initiator s.responder s.initiator_version s.responder_version s.delivered k h
+responds S w s k h =
+    responds_by S w s.initiator_node s.responder_node s.initiator_version s.responder_version s.delivered k h
 
 pub sessions_tell : {F : Type 0} (S : Summary F) → SessionsTell S
 sessions_tell {F} S exact w s k nodes h =
     let I : Peer = initiator_of w s in
     let R : Peer = responder_of w s in
     let d : ℕ = s.delivered in
-    let turn : (n : ℕ) → TakeTurns S I R n = λ n. peers_talk S w s.initiator s.initiator_version s.responder
+    let turn : (n : ℕ) → TakeTurns S I R n = λ n. peers_talk S w s.initiator_node s.initiator_version s.responder_node
     (unwrap_or s.responder_version 0) n exact nodes h.initiator_there h.responder_there in
     let within = is_within S I R d k.last turn h.last in
     let responder = responds S w s k h in

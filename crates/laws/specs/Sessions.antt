@@ -30,10 +30,10 @@ pub record Kept (F : Type 0) : Type 0 where
 
 -- what is kept is what the world says of the session
 pub record Keeps {F : Type 0} (S : Summary F) (w : World) (s : Session) (k : Kept F) : Type 0 where
-  pub initiator_there : s.initiator < length w.nodes
-  pub responder_there : s.responder < length w.nodes
-  pub initiator_version : s.initiator_version ≤ length (node_at w s.initiator).history
-  pub responder_version : IfSome s.responder_version (λ v. v ≤ length (node_at w s.responder).history)
+  pub initiator_there : s.initiator_node < length w.nodes
+  pub responder_there : s.responder_node < length w.nodes
+  pub initiator_version : s.initiator_version ≤ length (node_at w s.initiator_node).history
+  pub responder_version : IfSome s.responder_version (λ v. v ≤ length (node_at w s.responder_node).history)
   pub unheard : (s.responder_version ≡ None) ↔ (s.delivered ≡ 0)
   pub initiator : k.initiator ≡ initiator_at S (initiator_of w s) (responder_of w s) s.delivered
   pub responder : k.responder
@@ -49,8 +49,8 @@ kept_at_opening S I = record { initiator = initiator S I; responder = None; last
 abbrev pub SessionsOpen : {F : Type 0} → Summary F → Type 0
 SessionsOpen S = (w : World) (i r : ℕ) → i < length w.nodes → r < length w.nodes →
     let s : Session = record {
-      initiator = i;
-      responder = r;
+      initiator_node = i;
+      responder_node = r;
       initiator_version = length (node_at w i).history;
       responder_version = None;
       delivered = 0;
@@ -59,7 +59,8 @@ SessionsOpen S = (w : World) (i r : ℕ) → i < length w.nodes → r < length w
 
 -- the responder's end at a delivery: at the first it begins, with the newest version
 abbrev pub responder_now : {F : Type 0} → World → Session → Kept F → End F
-responder_now w s k = unwrap_or k.responder (responder (peer_at w s.responder (length (node_at w s.responder).history)))
+responder_now w s k =
+    unwrap_or k.responder (responder (peer_at w s.responder_node (length (node_at w s.responder_node).history)))
 
 -- who hears the message made last
 abbrev pub hearer_now : {F : Type 0} → World → Session → Kept F → End F

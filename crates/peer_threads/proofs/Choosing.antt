@@ -28,7 +28,8 @@ use Rattle.peer_threads.specs.Inboxes.{StopsAt}
 use Rattle.peer_threads.specs.Outboxes.{OutboxState, outbox_state}
 use Rattle.peer_threads.specs.Outcomes.{Origin, Reader, Behind, traffic, traffic_of, traffic_behind, SaidAll}
 use Rattle.peer_threads.specs.Outcomes.{Bears}
-use Rattle.peer_threads.specs.Outcomes.{BearsUnopened, IsModest, Speaks, SpeaksUnopened, Unopened, CameFirst, sent_in}
+use Rattle.peer_threads.specs.Outcomes.{BearsUnopened, KeepsBounds, Speaks, SpeaksUnopened, Unopened, CameFirst}
+use Rattle.peer_threads.specs.Outcomes.{sent_in}
 use Rattle.peer_threads.specs.Stops.{outcome_of}
 use Rattle.peer_threads.specs.Underway.{WhyStopped, IsNone, Leaves, first_held}
 use Rattle.peer_threads.proofs.Endings.{anyhow, bears, bears-unopened}
@@ -77,7 +78,7 @@ module _ {F : Type 0} (S : Summary F) (W : Profile F) where
       read = takes-all front x.bytes unread mid left first x.read;
       bears = bears-of s version (Behind front mid) (Reader unread) left held holds r w x.bytes o x.bears;
       sent = x.sent;
-      modest = x.modest;
+      bounded = x.bounded;
     },
     begins-alike counted_profile front x.bytes mid left four x.read,
   )
@@ -221,10 +222,10 @@ pub short-speaks : Laws two_lanes two_lane_profile → (fits : Type 0) (p : Peer
     (x : OutboxState) (bytes : List ℕ) (unread left held holds : Option (List ℕ)) (r w : Seen) (broken : Bool)
     (stop : Stop) (o : Outcome) → x ≡ outbox_state false 0 → NoHello r bytes stop → Consumes unread left bytes →
     Leaves two_lane_profile x held holds broken w.failed stop → o ≡ outcome_of x.sent stop →
-    (IsBytes bytes → fits → IsModest two_lanes two_lane_profile (responding p) bytes bound limit) →
+    (IsBytes bytes → fits → KeepsBounds two_lanes two_lane_profile (responding p) bytes bound limit) →
     ChosenSpeaks fits p version bound limit (traffic unread left held holds) r w o
 short-speaks laws fits p version bound limit x bytes unread left held holds r w broken stop o new none read leaves is
-    modest =
+    bounded =
     let why = anyhow two_lanes two_lane_profile (responding p) x (traffic unread left held held) r broken bytes stop
     (why-short two_lanes two_lane_profile laws p x bytes unread left held r broken stop new none) in
     let sent : (s : Stop) → sent_in (outcome_of x.sent s) ≤ bound = few in
@@ -235,7 +236,7 @@ short-speaks laws fits p version bound limit x bytes unread left held holds r w 
         bears = bears two_lanes two_lane_profile (responding p) version x (traffic unread left held held) holds r w
             broken bytes stop why leaves;
         sent = sent stop;
-        modest = modest none.fits;
+        bounded = bounded none.fits;
       },
       short-chooses bytes none.less,
     )) where

@@ -18,15 +18,15 @@ use Rattle.definitions.specs.Ends.{initiator}
 use Rattle.definitions.specs.Engines.{Speaker, initiating}
 use Rattle.definitions.specs.Wire.{Profile}
 use Rattle.strategy_check.specs.Checked.{Checked}
-use Rattle.ends_core.specs.Held.{Held}
+use Rattle.ends_core.specs.EndStates.{EndState}
 use Rattle.ends_core.specs.Turns.{fresh}
 use Rattle.version_lock.specs.declared.view.View.{View}
 use Rattle.version_lock.specs.Calls.{PinState, IsPinOf, Looked}
 use Rattle.peer_threads.specs.declared.outcome.Outcome.{Outcome}
-use Rattle.peer_threads.specs.declared.outcome.Side.TheVariants as sides
+use Rattle.peer_threads.specs.declared.outcome.Direction.TheVariants as directions
 use Rattle.peer_threads.specs.declared.stop.Stop.{Stop}
 use Rattle.peer_threads.specs.declared.stop.Stop.TheVariants as stops
-use Rattle.peer_threads.specs.Outcomes.{Traffic, traffic, IsModest, Speaks, peer_of, peer_at}
+use Rattle.peer_threads.specs.Outcomes.{Traffic, traffic, KeepsBounds, Speaks, peer_of, peer_at}
 use Rattle.peer_threads.specs.Inboxes.{InboxState, HasRead}
 use Rattle.peer_threads.specs.Outboxes.{OutboxState, outbox_state, hello_due, HasWritten, Adds, BreaksIn}
 use Rattle.peer_threads.specs.Stops.{outcome_of}
@@ -52,7 +52,7 @@ module _ {F : Type 0} (S : Summary F) (W : Profile F) where
   }
 
   -- the first message too
-  pub begun-first : (p : Peer) (h : Held F) (steps : List ℕ) (b : InboxState) (o q r : OutboxState)
+  pub begun-first : (p : Peer) (h : EndState F) (steps : List ℕ) (b : InboxState) (o q r : OutboxState)
       (unread held holds more : Option (List ℕ)) (first : Message F) →
       h ≡ fresh steps (initiator S p) → first ≡ opening S p.items → HasRead W b [] [] →
       o ≡ outbox_state false 0 → Appends held holds (hello_due W o) → q ≡ outbox_state true o.sent →
@@ -84,7 +84,7 @@ module _ {F : Type 0} (S : Summary F) (W : Profile F) where
   pub stops-broken : (T : ℕ → Type 0) (s : Speaker F) (o p : OutboxState) (unread held holds : Option (List ℕ))
       (r : Seen) (broken : Bool) →
       o ≡ outbox_state false 0 → p ≡ o → IsTrue broken → BreaksIn held holds (hello_due W o) →
-      Stopped S W T s p (traffic unread unread held holds) r broken (stops.Io sides.Write)
+      Stopped S W T s p (traffic unread unread held holds) r broken (stops.Io directions.Write)
   stops-broken T s o p unread held holds r broken new same failed front = record {
     bytes = [];
     are_bytes = tt;
@@ -163,7 +163,7 @@ module _ {F : Type 0} (S : Summary F) (W : Profile F) where
   -- what the side that speaks first keeps to
   abbrev pub FirstIsModest : Checked → Type 0
   FirstIsModest a = (h : History) (bytes : List ℕ) → IsBytes bytes → length (content h) ≤ a.table.cap →
-      IsModest S W (initiating S (peer_of a (content h))) bytes
+      KeepsBounds S W (initiating S (peer_of a (content h))) bytes
       (rank_by a.steps (length (content h)) + 2) a.table.limit
 
   pub dials : (a b : Checked) (w : View) (pin : PinState) (t : Traffic) (r x : Seen) (o : Outcome) → IsPinOf pin w →
@@ -172,6 +172,6 @@ module _ {F : Type 0} (S : Summary F) (W : Profile F) where
       FirstIsModest a →
       Speaks S W ⊤ (initiating S (peer_at a w)) (length w.base)
       (rank_by a.steps (length (peer_at a w).items) + 2) a.table.limit t r x o
-  dials a b w pin t r x o is same fits spoke modest =
+  dials a b w pin t r x o is same fits spoke bounded =
       of-pin S W ⊤ (λ p. initiating S p) 2 a b w pin t r x o is same spoke
-      (λ bytes are known. modest w.base bytes are fits)
+      (λ bytes are known. bounded w.base bytes are fits)

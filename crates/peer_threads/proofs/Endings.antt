@@ -23,11 +23,11 @@ use Rattle.version_lock.specs.declared.view.View.{View}
 use Rattle.version_lock.specs.Calls.{PinState, IsPinOf}
 use Rattle.peer_threads.specs.declared.outcome.Outcome.{Outcome}
 use Rattle.peer_threads.specs.declared.outcome.Outcome.TheVariants as outcomes
-use Rattle.peer_threads.specs.declared.outcome.Side.{Side}
-use Rattle.peer_threads.specs.declared.outcome.Side.TheVariants as sides
+use Rattle.peer_threads.specs.declared.outcome.Direction.{Direction}
+use Rattle.peer_threads.specs.declared.outcome.Direction.TheVariants as directions
 use Rattle.peer_threads.specs.declared.stop.Stop.{Stop}
 use Rattle.peer_threads.specs.declared.stop.Stop.TheVariants as stops
-use Rattle.peer_threads.specs.Outcomes.{Traffic, traffic_of, SaidAll, Bears, IsModest, Speaks, SpeaksUnopened}
+use Rattle.peer_threads.specs.Outcomes.{Traffic, traffic_of, SaidAll, Bears, KeepsBounds, Speaks, SpeaksUnopened}
 use Rattle.peer_threads.specs.Outcomes.{BearsUnopened, call_of, called_by, failing, sent_in, peer_of, peer_at}
 use Rattle.peer_threads.specs.Outboxes.{OutboxState, refusal_text, Begins, WroteSo}
 use Rattle.peer_threads.specs.Stops.{outcome_of}
@@ -176,10 +176,10 @@ module _ {F : Type 0} (S : Summary F) (W : Profile F) where
     Appends-kept t.held t.holds holds breaks.all breaks.written leaves.0,
     record { wrote = breaks.broke version r w; failed = by side failed },
   ) where
-    by : (side : Side) → HasBroken r broken bytes side →
+    by : (side : Direction) → HasBroken r broken bytes side →
         HasFailed (call_of s version bytes breaks.all r w) (failing side)
-    by sides.Read failed = failed
-    by sides.Write failed = subst (λ b. IsTrue b) (sym leaves.1) failed
+    by directions.Read failed = failed
+    by directions.Write failed = subst (λ b. IsTrue b) (sym leaves.1) failed
 
   -- a session that stopped
   pub stopped-speaks : (s : Speaker F) (version bound : ℕ) (o : OutboxState) (t : Traffic) (holds : Option (List ℕ))
@@ -274,10 +274,10 @@ module _ {F : Type 0} (S : Summary F) (W : Profile F) where
 
   pub speaks : (A : Type 0) (s : Speaker F) (version bound limit : ℕ) (t : Traffic) (r w : Seen) (o : Outcome) →
       Spoke S W s version bound t r w o →
-      ((bytes : List ℕ) → IsBytes bytes → A → IsModest S W s bytes bound limit) →
+      ((bytes : List ℕ) → IsBytes bytes → A → KeepsBounds S W s bytes bound limit) →
       Speaks S W A s version bound limit t r w o
-  speaks A s version bound limit t r w o x modest =
-      record { bytes = x.bytes; read = x.read; bears = x.bears; sent = x.few; modest = modest x.bytes x.are_bytes }
+  speaks A s version bound limit t r w o x bounded =
+      record { bytes = x.bytes; read = x.read; bears = x.bears; sent = x.few; bounded = bounded x.bytes x.are_bytes }
 
   -- a session of either side over a pin of the history that was found
   pub of-pin : (A : Type 0) (s : Peer → Speaker F) (k : ℕ) (a b : Checked) (w : View) (pin : PinState) (t : Traffic)
@@ -285,10 +285,10 @@ module _ {F : Type 0} (S : Summary F) (W : Profile F) where
       IsPinOf pin w → b ≡ a →
       Spoke S W (s (peer_of b pin.items)) pin.version (rank_by b.steps (length pin.items) + k) t r x o →
       ((bytes : List ℕ) → IsBytes bytes → A →
-      IsModest S W (s (peer_at a w)) bytes (rank_by a.steps (length (content w.base)) + k) a.table.limit) →
+      KeepsBounds S W (s (peer_at a w)) bytes (rank_by a.steps (length (content w.base)) + k) a.table.limit) →
       Speaks S W A (s (peer_at a w)) (length w.base) (rank_by a.steps (length (content w.base)) + k) a.table.limit t r x
       o
-  of-pin A s k a b w pin t r x o is same spoke modest =
+  of-pin A s k a b w pin t r x o is same spoke bounded =
       let of_set = subst (λ (l : List Item). Spoke S W (s (peer_of b l)) pin.version
       (rank_by b.steps (length l) + k) t r x o) is.items_are spoke in
       let of_version = subst (λ (v : ℕ). Spoke S W (s (peer_of b (content w.base))) v
@@ -296,4 +296,4 @@ module _ {F : Type 0} (S : Summary F) (W : Profile F) where
       let of_table = subst (λ (d : Checked). Spoke S W (s (peer_of d (content w.base))) (length w.base)
       (rank_by d.steps (length (content w.base)) + k) t r x o) same of_version in
       speaks A (s (peer_at a w)) (length w.base)
-      (rank_by a.steps (length (content w.base)) + k) a.table.limit t r x o of_table modest
+      (rank_by a.steps (length (content w.base)) + k) a.table.limit t r x o of_table bounded

@@ -30,10 +30,10 @@ use Rattle.definitions.specs.Hearing.{hearing_to}
 use Rattle.definitions.specs.Accounts.{Seen, IsOfTheTable}
 use Rattle.laws.specs.Hearing.{has_stopped, SaysOn, FramesSay, OwnBegins, SaidBut, AgreesBy, BytesAgree}
 use Rattle.wire_core.specs.Feeds.{fault_at}
-use Rattle.ends_core.specs.Held.{Held}
+use Rattle.ends_core.specs.EndStates.{EndState}
 use Rattle.peer_threads.specs.declared.stop.Stop.{Stop}
 use Rattle.peer_threads.specs.declared.stop.Stop.TheVariants as stops
-use Rattle.peer_threads.specs.declared.outcome.Side.TheVariants as sides
+use Rattle.peer_threads.specs.declared.outcome.Direction.TheVariants as directions
 use Rattle.peer_threads.specs.Outcomes.{Traffic, Takes, traffic_of, SaidAll, said_to, called_by}
 use Rattle.peer_threads.specs.Inboxes.{InboxState, HasRead, IsFaulty, StopsAt, ReadOn}
 use Rattle.peer_threads.specs.Outboxes.{OutboxState, HasWritten, Adds}
@@ -80,7 +80,7 @@ module _ {F : Type 0} (S : Summary F) (W : Profile F) where
   said-at s es = ap (λ l. answers S s.start (messages_of [] l)) (append-nil es)
 
   -- one event more
-  pub says-next : FramesSay S → (s : Speaker F) (h : Held F) (es : List (Event F)) (e : Event F) →
+  pub says-next : FramesSay S → (s : Speaker F) (h : EndState F) (es : List (Event F)) (e : Event F) →
       is_live s.start.stage ≡ true → hears S s es ≡ Goes_on h.end h.taken →
       so_far s (es ++ e ∷ []) ≡ so_far s es ++ said_by h e
   says-next law s h es e live at = by e where
@@ -245,7 +245,7 @@ module _ {F : Type 0} (S : Summary F) (W : Profile F) where
       × HasRead W c (before ++ bytes) es
 
   -- the event e came behind es, which the end h has heard; all that was said to these was written
-  pub record At (s : Speaker F) (h : Held F) (o : OutboxState) (t : Traffic) (e : Event F) : Type 0 where
+  pub record At (s : Speaker F) (h : EndState F) (o : OutboxState) (t : Traffic) (e : Event F) : Type 0 where
     pub bytes : List ℕ
     pub are_bytes : IsBytes bytes
     pub read : Takes t.unread t.left bytes
@@ -255,7 +255,7 @@ module _ {F : Type 0} (S : Summary F) (W : Profile F) where
     pub written : HasWritten W o t.held t.holds (so_far s es)
     pub heard : hears S s es ≡ Goes_on h.end h.taken
 
-  abbrev pub at-event : (s : Speaker F) (h : Held F) (b c : InboxState) (o : OutboxState) (t : Traffic)
+  abbrev pub at-event : (s : Speaker F) (h : EndState F) (b c : InboxState) (o : OutboxState) (t : Traffic)
       (left : Option (List ℕ)) (e : Event F) →
       (u : Underway S W s h b o t) → More t.left left c u.bytes (u.events ++ e ∷ []) → is_over h.end.stage ≡ false →
       At s h o (traffic_of t.unread left t.held t.holds) e
@@ -274,7 +274,7 @@ module _ {F : Type 0} (S : Summary F) (W : Profile F) where
 
   -- it is heard, and the session goes on
   pub goes-on : Laws →
-      (s : Speaker F) (h g : Held F) (c : InboxState) (o p : OutboxState) (t : Traffic) (holds : Option (List ℕ))
+      (s : Speaker F) (h g : EndState F) (c : InboxState) (o p : OutboxState) (t : Traffic) (holds : Option (List ℕ))
       (e : Event F) →
       is_live s.start.stage ≡ true →
       (x : At s h o t e) → HasRead W c x.bytes (x.es ++ e ∷ []) → heard_as g ≡ hear_now S h.end h.taken e →
@@ -291,7 +291,7 @@ module _ {F : Type 0} (S : Summary F) (W : Profile F) where
   }
 
   -- so it does behind so many events, and then one more was handed out
-  pub goes-on-behind : Laws → (s : Speaker F) (h g : Held F) (c : InboxState) (o p : OutboxState) (t : Traffic)
+  pub goes-on-behind : Laws → (s : Speaker F) (h g : EndState F) (c : InboxState) (o p : OutboxState) (t : Traffic)
       (holds : Option (List ℕ)) (e : Event F) → is_live s.start.stage ≡ true →
       (x : At s h o t e) → HasRead W c x.bytes (x.es ++ e ∷ []) → heard_as g ≡ hear_now S h.end h.taken e →
       Adds W o p t.holds holds (said_by h e) → (n : ℕ) → n ≤ length x.es →
@@ -302,7 +302,7 @@ module _ {F : Type 0} (S : Summary F) (W : Profile F) where
       (goes-on laws s h g c o p t holds e live x came now added, more)
 
   -- an event that is refused says nothing
-  refused-says : (h : Held F) (e : Event F) (code : ℕ) → hear_now S h.end h.taken e ≡ Refused_for code →
+  refused-says : (h : EndState F) (e : Event F) (code : ℕ) → hear_now S h.end h.taken e ≡ Refused_for code →
       said_by h e ≡ []
   refused-says h (Came p) code is = refl
   refused-says h (Failed n) code is = refl
@@ -319,7 +319,7 @@ module _ {F : Type 0} (S : Summary F) (W : Profile F) where
     by (answered.Refuses n) is = refl
 
   -- what was said before begins what is called for
-  begun : Laws → (s : Speaker F) (h : Held F) (o : OutboxState) (t : Traffic) (e : Event F) (x : At s h o t e) →
+  begun : Laws → (s : Speaker F) (h : EndState F) (o : OutboxState) (t : Traffic) (e : Event F) (x : At s h o t e) →
       (more : List (Message F)) × (called_by S W s x.bytes ≡ so_far s x.es ++ more)
   begun laws s h o t e x =
       let r = laws.begin s x.es (e ∷ x.rest) in
@@ -327,7 +327,7 @@ module _ {F : Type 0} (S : Summary F) (W : Profile F) where
 
   -- no message more was written
   first-kept : Laws →
-      (s : Speaker F) (h : Held F) (o p : OutboxState) (t : Traffic) (holds : Option (List ℕ)) (e : Event F)
+      (s : Speaker F) (h : EndState F) (o p : OutboxState) (t : Traffic) (holds : Option (List ℕ)) (e : Event F)
       (x : At s h o t e) →
       Adds W o p t.holds holds [] →
       WroteFirst S W s p (traffic_of t.unread t.left t.held holds) x.bytes
@@ -336,12 +336,12 @@ module _ {F : Type 0} (S : Summary F) (W : Profile F) where
       wrote-first s p (traffic_of t.unread t.left t.held holds) x.bytes (so_far s x.es) b.0 b.1
       (adds-nothing o p t.held t.holds holds (so_far s x.es) x.written added)
 
-  heard-next : (s : Speaker F) (h : Held F) (o : OutboxState) (t : Traffic) (e : Event F) (x : At s h o t e) →
+  heard-next : (s : Speaker F) (h : EndState F) (o : OutboxState) (t : Traffic) (e : Event F) (x : At s h o t e) →
       hears S s (x.es ++ e ∷ []) ≡ hear_now S h.end h.taken e
   heard-next s h o t e x = fold-append (hear S) (begins s) x.es (e ∷ []) ∙ ap (λ y. hear S y e) x.heard
 
   -- behind a stop at the event nothing more is said
-  nothing-more : Laws → (s : Speaker F) (h : Held F) (o : OutboxState) (t : Traffic) (e : Event F) →
+  nothing-more : Laws → (s : Speaker F) (h : EndState F) (o : OutboxState) (t : Traffic) (e : Event F) →
       is_live s.start.stage ≡ true → (x : At s h o t e) →
       has_stopped (hear_now S h.end h.taken e) ≡ true → said_by h e ≡ [] → said_to S W s x.bytes ≡ so_far s x.es
   nothing-more laws s h o t e live x stopped none =
@@ -352,7 +352,7 @@ module _ {F : Type 0} (S : Summary F) (W : Profile F) where
 
   -- the event itself stops the session
   pub stops-refusing : (T : ℕ → Type 0) → Laws →
-      (s : Speaker F) (h : Held F) (o p : OutboxState) (t : Traffic) (holds : Option (List ℕ)) (r : Seen)
+      (s : Speaker F) (h : EndState F) (o p : OutboxState) (t : Traffic) (holds : Option (List ℕ)) (r : Seen)
       (broken : Bool) (e : Event F) (stop : Stop) →
       is_live s.start.stage ≡ true → At s h o t e → Refuses S h e stop → Adds W o p t.holds holds [] →
       Stopped S W T s p (traffic_of t.unread t.left t.held holds) r broken stop
@@ -389,7 +389,7 @@ module _ {F : Type 0} (S : Summary F) (W : Profile F) where
 
   -- its reply is not said
   stops-unsaid : Laws →
-      (s : Speaker F) (h : Held F) (o p : OutboxState) (t : Traffic) (holds : Option (List ℕ)) (r : Seen)
+      (s : Speaker F) (h : EndState F) (o p : OutboxState) (t : Traffic) (holds : Option (List ℕ)) (r : Seen)
       (broken : Bool) (e : Event F) (stop : Stop) →
       is_live s.start.stage ≡ true → At s h o t e → Unsaid W o p t.holds holds broken (said_by h e) stop →
       Stopped S W IsOfTheTable s p (traffic_of t.unread t.left t.held holds) r broken stop
@@ -425,7 +425,7 @@ module _ {F : Type 0} (S : Summary F) (W : Profile F) where
             )
 
   pub stops-event : Laws →
-      (s : Speaker F) (h : Held F) (o p : OutboxState) (t : Traffic) (holds : Option (List ℕ)) (r : Seen)
+      (s : Speaker F) (h : EndState F) (o p : OutboxState) (t : Traffic) (holds : Option (List ℕ)) (r : Seen)
       (broken : Bool) (e : Event F) (stop : Stop) →
       is_live s.start.stage ≡ true → At s h o t e → StopsBy S W h e o p t.holds holds broken stop →
       Stopped S W IsOfTheTable s p (traffic_of t.unread t.left t.held holds) r broken stop
@@ -461,7 +461,7 @@ module _ {F : Type 0} (S : Summary F) (W : Profile F) where
 
   -- all events handed out were heard, and no more comes; what was written is a beginning of what all events call for
   pub why-unheard : (T : ℕ → Type 0) → Laws →
-      (s : Speaker F) (h : Held F) (o : OutboxState) (t : Traffic) (r : Seen) (broken : Bool) (stop : Stop)
+      (s : Speaker F) (h : EndState F) (o : OutboxState) (t : Traffic) (r : Seen) (broken : Bool) (stop : Stop)
       (bytes : List ℕ) (es : List (Event F)) →
       is_live s.start.stage ≡ true → o.sent ≡ length (so_far s es) →
       ((rest : List (Event F)) → events_in bytes ≡ es ++ rest → WroteUpTo S W s o t bytes) →
@@ -480,7 +480,7 @@ module _ {F : Type 0} (S : Summary F) (W : Profile F) where
   )
 
   pub stops-unheard-by : (T : ℕ → Type 0) → Laws →
-      (s : Speaker F) (h : Held F) (o : OutboxState) (t : Traffic) (r : Seen) (broken : Bool) (stop : Stop)
+      (s : Speaker F) (h : EndState F) (o : OutboxState) (t : Traffic) (r : Seen) (broken : Bool) (stop : Stop)
       (bytes : List ℕ) (es : List (Event F)) →
       is_live s.start.stage ≡ true →
       IsBytes bytes → Takes t.unread t.left bytes → o.sent ≡ length (so_far s es) →
@@ -494,7 +494,7 @@ module _ {F : Type 0} (S : Summary F) (W : Profile F) where
   }
 
   pub stops-unheard : (T : ℕ → Type 0) → Laws →
-      (s : Speaker F) (h : Held F) (o : OutboxState) (t : Traffic) (r : Seen) (broken : Bool) (stop : Stop)
+      (s : Speaker F) (h : EndState F) (o : OutboxState) (t : Traffic) (r : Seen) (broken : Bool) (stop : Stop)
       (bytes : List ℕ) (es : List (Event F)) →
       is_live s.start.stage ≡ true →
       IsBytes bytes → Takes t.unread t.left bytes → HasWritten W o t.held t.holds (so_far s es) →
@@ -508,7 +508,7 @@ module _ {F : Type 0} (S : Summary F) (W : Profile F) where
             (ap (λ l. own S s (messages_of [] l)) all ∙ first.1) written)
 
   pub stops-underway : Laws →
-      (s : Speaker F) (h : Held F) (b : InboxState) (o : OutboxState) (t : Traffic) (left : Option (List ℕ))
+      (s : Speaker F) (h : EndState F) (b : InboxState) (o : OutboxState) (t : Traffic) (left : Option (List ℕ))
       (r : Seen) (broken : Bool) (stop : Stop) →
       is_live s.start.stage ≡ true →
       (u : Underway S W s h b o t) → is_over h.end.stage ≡ false →
@@ -523,9 +523,9 @@ module _ {F : Type 0} (S : Summary F) (W : Profile F) where
       (u.heard ∙ heard-goes S W h goes) more.3
 
   -- as many events were handed out as a session reads at the most, and each took a byte
-  pub stops-late : Laws → (s : Speaker F) (h : Held F) (b : InboxState) (o : OutboxState) (t : Traffic) (r : Seen)
+  pub stops-late : Laws → (s : Speaker F) (h : EndState F) (b : InboxState) (o : OutboxState) (t : Traffic) (r : Seen)
       (broken : Bool) → (u : Underway S W s h b o t) → 2 ^ 32 ≤ length u.events →
-      Stopped S W IsOfTheTable s o t r broken (stops.Io sides.Read)
+      Stopped S W IsOfTheTable s o t r broken (stops.Io directions.Read)
   stops-late laws s h b o t r broken u many =
       record { bytes = u.bytes; are_bytes = u.are_bytes; read = u.read; why = (broke, inr enough) } where
         enough : 2 ^ 32 ≤ length u.bytes
@@ -542,7 +542,7 @@ module _ {F : Type 0} (S : Summary F) (W : Profile F) where
 
   -- ---- the session is over
 
-  pub finished : Laws → (s : Speaker F) (h : Held F) (b : InboxState) (o : OutboxState) (t : Traffic) →
+  pub finished : Laws → (s : Speaker F) (h : EndState F) (b : InboxState) (o : OutboxState) (t : Traffic) →
       is_live s.start.stage ≡ true → Underway S W s h b o t → is_over h.end.stage ≡ true → Finished S W s h.end o t
   finished laws s h b o t live u over =
       let Ms = messages_in W u.bytes in

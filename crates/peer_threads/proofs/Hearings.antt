@@ -15,7 +15,7 @@ use Rattle.definitions.specs.Engines.{replied}
 use Rattle.definitions.specs.Taking.{Taken, taken, ended}
 use Rattle.definitions.specs.Accounts.{IsOfTheTable}
 use Rattle.definitions.specs.Hearing.{Goes_on, Over_at, goes_unless, ended_by, hear_now}
-use Rattle.ends_core.specs.Held.{Held}
+use Rattle.ends_core.specs.EndStates.{EndState}
 use Rattle.ends_core.specs.Turns.{told_in, refusal_of, answer_of, behind_part, behind_end, messages_in}
 use Rattle.ends_core.specs.declared.turn.Turn.{Turn}
 use Rattle.ends_core.specs.declared.turn.Turn.TheVariants as turns
@@ -37,13 +37,14 @@ not-opened code (inr is) = (omega (arith, is), omega (arith, is))
 module _ {F : Type 0} (S : Summary F) (W : Profile F) where
   -- ---- where the end stands then
 
-  pub heard-goes : (h : Held F) → is_over h.end.stage ≡ false → heard_as h ≡ Goes_on h.end h.taken
+  pub heard-goes : (h : EndState F) → is_over h.end.stage ≡ false → heard_as h ≡ Goes_on h.end h.taken
   heard-goes h goes = ap (λ b. if b then Over_at h.end else Goes_on h.end h.taken) goes
 
-  pub heard-over : (h : Held F) → is_over h.end.stage ≡ true → heard_as h ≡ Over_at h.end
+  pub heard-over : (h : EndState F) → is_over h.end.stage ≡ true → heard_as h ≡ Over_at h.end
   heard-over h over = ap (λ b. if b then Over_at h.end else Goes_on h.end h.taken) over
 
-  pub taken-heard : (h g : Held F) (p : Part F) → None ≡ refusal (next h.taken.place p) → g ≡ behind_part S h p None →
+  pub taken-heard : (h g : EndState F) (p : Part F) → None ≡ refusal (next h.taken.place p) →
+      g ≡ behind_part S h p None →
       is_over h.end.stage ≡ false →
       heard_as g ≡ hear_now S h.end h.taken (Came p)
   taken-heard h g p fine is goes =
@@ -51,7 +52,7 @@ module _ {F : Type 0} (S : Summary F) (W : Profile F) where
       ap heard_as is ∙ ap (λ b. if b then Over_at h.end else Goes_on h.end t) goes
       ∙ ap (λ o. goes_unless o (Goes_on h.end t)) fine
 
-  pub ended-heard : (h g : Held F) (turn : Turn F) → answer_of turn ≡ ended h.taken →
+  pub ended-heard : (h g : EndState F) (turn : Turn F) → answer_of turn ≡ ended h.taken →
       g ≡ behind_end h (answer_of turn) →
       heard_as g ≡ hear_now S h.end h.taken Ended
   ended-heard h g (turns.Reply N) told is = ap heard_as is ∙ ap (ended_by h.end h.taken) told
@@ -59,19 +60,19 @@ module _ {F : Type 0} (S : Summary F) (W : Profile F) where
 
   -- ---- how much it may send, and has sent
 
-  pub most-kept : (most : ℕ) (h g : Held F) (turn : Turn F) → g ≡ behind_end h (answer_of turn) →
+  pub most-kept : (most : ℕ) (h g : EndState F) (turn : Turn F) → g ≡ behind_end h (answer_of turn) →
       most_sent most g ≡ most_sent most h
   most-kept most h g (turns.Reply N) is = ap (most_sent most) is
   most-kept most h g turns.Over is = ap (most_sent most) is
 
-  pub sent-behind : (h g : Held F) (turn : Turn F) → g ≡ behind_end h (answer_of turn) →
+  pub sent-behind : (h g : EndState F) (turn : Turn F) → g ≡ behind_end h (answer_of turn) →
       g.end.sent ≡ h.end.sent + messages_in turn
   sent-behind h g (turns.Reply N) is = ap (λ x. x.end.sent) is
   sent-behind h g turns.Over is = omega (arith, ap (λ x. x.end.sent) is)
 
   -- ---- why it stops
 
-  pub take-stops : (h : Held F) (p : Part F) (f : EndFault) →
+  pub take-stops : (h : EndState F) (p : Part F) (f : EndFault) →
       IfSome (told_in (Err f)) (λ o. o ≡ refusal (next h.taken.place p)) → Refuses S h (Came p) (of_end f)
   take-stops h p (faults.Placing f) told =
       ap (λ o. goes_unless o (Goes_on h.end (taken S h.end h.taken p))) (sym told)
@@ -80,7 +81,7 @@ module _ {F : Type 0} (S : Summary F) (W : Profile F) where
   take-stops h p faults.Spent told = ap (λ o. goes_unless o (Goes_on h.end (taken S h.end h.taken p))) (sym told)
   take-stops h p faults.Memory told = tt
 
-  pub end-stops : (h : Held F) (f : EndFault) → IfSome (refusal_of f) (λ a. a ≡ ended h.taken) →
+  pub end-stops : (h : EndState F) (f : EndFault) → IfSome (refusal_of f) (λ a. a ≡ ended h.taken) →
       Refuses S h Ended (of_end f)
   end-stops h (faults.Placing f) told = ap (ended_by h.end h.taken) (sym told)
   end-stops h faults.TooManyParts told = ap (ended_by h.end h.taken) (sym told)
@@ -103,11 +104,12 @@ module _ {F : Type 0} (S : Summary F) (W : Profile F) where
   pub adds-none : (o : OutboxState) (a : Option (List ℕ)) → Adds W o o a a []
   adds-none o a = record { greeted = refl; count = omega arith; written = Appends-nil a }
 
-  pub refuses-stops : (h : Held F) (e : Event F) (o : OutboxState) (a : Option (List ℕ)) (broken : Bool) (stop : Stop) →
+  pub refuses-stops : (h : EndState F) (e : Event F) (o : OutboxState) (a : Option (List ℕ)) (broken : Bool)
+      (stop : Stop) →
       Refuses S h e stop → StopsBy S W h e o o a a broken stop
   refuses-stops h e o a broken stop r = inl (r, adds-none o a)
 
-  pub unsaid-stops : (h : Held F) (x : Answer F) (o p : OutboxState) (a b : Option (List ℕ)) (broken : Bool)
+  pub unsaid-stops : (h : EndState F) (x : Answer F) (o p : OutboxState) (a b : Option (List ℕ)) (broken : Bool)
       (stop : Stop) →
       x ≡ ended h.taken → Unsaid W o p a b broken (replied x) stop → StopsBy S W h Ended o p a b broken stop
   unsaid-stops h x o p a b broken stop is r = inr (subst (λ y. Unsaid W o p a b broken (replied y) stop) is r)

@@ -8,7 +8,7 @@ use Rattle.definitions.specs.Accounts.{Seen}
 use Rattle.definitions.specs.Items.{IsBytes}
 use Rattle.definitions.specs.Refusals.{truncated}
 use Rattle.codec_laws.proofs.Fields.{front_fits}
-use Rattle.peer_threads.specs.declared.outcome.Side.TheVariants as sides
+use Rattle.peer_threads.specs.declared.outcome.Direction.TheVariants as directions
 use Rattle.peer_threads.specs.declared.stop.Stop.{Stop}
 use Rattle.peer_threads.specs.declared.stop.Stop.TheVariants as stops
 use Rattle.peer_threads.specs.Hellos.{NoMore, NoHello}
@@ -25,7 +25,7 @@ fewer s room came stop four less are why = record {
 -- the reader failed
 pub no-hello-failed : (unread mid left : Option (List ℕ)) (s : Seen) (room : List ℕ) (came : ℕ) → length room ≡ 4 →
     came < 4 → IsBytes room → Consumes unread mid (take came room) → Keeps mid left → IsTrue s.failed →
-    (bytes : List ℕ) × NoHello s bytes (stops.Io sides.Read) × Consumes unread left bytes
+    (bytes : List ℕ) × NoHello s bytes (stops.Io directions.Read) × Consumes unread left bytes
 no-hello-failed unread mid left s room came four less are read kept failed =
     (take came room, fewer s room came _ four less are (refl, failed), Consumes-kept unread mid left _ read kept)
 

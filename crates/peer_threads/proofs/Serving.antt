@@ -28,16 +28,17 @@ use Rattle.definitions.specs.Ends.{responder, is_over}
 use Rattle.definitions.specs.Engines.{responding, says}
 use Rattle.definitions.specs.Taking.{taken}
 use Rattle.definitions.specs.Hearing.{Goes_on, Refused_for, goes_unless, hear_now, hears}
-use Rattle.ends_core.specs.Held.{Held}
+use Rattle.ends_core.specs.EndStates.{EndState}
 use Rattle.ends_core.specs.Turns.{fresh}
 use Rattle.strategy_check.specs.Checked.{Checked}
 use Rattle.version_lock.specs.declared.view.View.{View}
 use Rattle.version_lock.specs.Calls.{PinState, IsPinOf}
-use Rattle.peer_threads.specs.declared.outcome.Side.TheVariants as sides
+use Rattle.peer_threads.specs.declared.outcome.Direction.TheVariants as directions
 use Rattle.peer_threads.specs.declared.stop.Stop.{Stop}
 use Rattle.peer_threads.specs.declared.stop.Stop.TheVariants as stops
 use Rattle.peer_threads.specs.declared.outcome.Outcome.{Outcome}
-use Rattle.peer_threads.specs.Outcomes.{Traffic, Origin, Takes, traffic_of, traffic_behind, IsModest, Speaks, Unopened}
+use Rattle.peer_threads.specs.Outcomes.{Traffic, Origin, Takes, traffic_of, traffic_behind, KeepsBounds, Speaks}
+use Rattle.peer_threads.specs.Outcomes.{Unopened}
 use Rattle.peer_threads.specs.Outcomes.{CameFirst, peer_of}
 use Rattle.peer_threads.specs.Outcomes.{peer_at, sent_in}
 use Rattle.peer_threads.specs.Inboxes.{InboxState, HasRead, StopsAt, ReadOn}
@@ -248,7 +249,7 @@ module _ {F : Type 0} (S : Summary F) (W : Profile F) where
       stops-behind IsOfTheTable P b o t r broken es (stops.Refused code) x (λ wrote. (wrote, inr table))
 
   -- the part waits for the end that was made
-  abbrev pub at-part : (P : Peer) (steps : List ℕ) (h : Held F) (b : InboxState) (o : OutboxState) (t : Traffic)
+  abbrev pub at-part : (P : Peer) (steps : List ℕ) (h : EndState F) (b : InboxState) (o : OutboxState) (t : Traffic)
       (p : Part F) →
       h ≡ fresh steps (responder P) →
       Exchanged W b o t (Came p ∷ Ended ∷ []) → At S W (responding P) h o t (Came p)
@@ -266,7 +267,7 @@ module _ {F : Type 0} (S : Summary F) (W : Profile F) where
       }
 
   -- it was heard, and the end of the message waits
-  abbrev pub at-end : (P : Peer) (steps : List ℕ) (h g : Held F) (b : InboxState) (o : OutboxState) (t : Traffic)
+  abbrev pub at-end : (P : Peer) (steps : List ℕ) (h g : EndState F) (b : InboxState) (o : OutboxState) (t : Traffic)
       (p : Part F) →
       h ≡ fresh steps (responder P) →
       heard_as g ≡ hear_now S h.end h.taken (Came p) → g.end ≡ h.end → Exchanged W b o t (Came p ∷ Ended ∷ []) →
@@ -286,7 +287,7 @@ module _ {F : Type 0} (S : Summary F) (W : Profile F) where
       }
 
   pub answers-first : Laws S W →
-      (P : Peer) (steps : List ℕ) (h g k : Held F) (b : InboxState) (o q : OutboxState) (t : Traffic)
+      (P : Peer) (steps : List ℕ) (h g k : EndState F) (b : InboxState) (o q : OutboxState) (t : Traffic)
       (holds : Option (List ℕ)) (p : Part F) →
       h ≡ fresh steps (responder P) →
       heard_as g ≡ hear_now S h.end h.taken (Came p) → g.end ≡ h.end →
@@ -303,7 +304,8 @@ module _ {F : Type 0} (S : Summary F) (W : Profile F) where
   pub stops-broken-behind : (T : ℕ → Type 0) (P : Peer) (o p : OutboxState) (front : List ℕ)
       (unread held holds : Option (List ℕ)) (r : Seen) (broken : Bool) →
       o ≡ outbox_state false 0 → p ≡ o → IsTrue broken → BreaksIn held holds (hello_due W o) → IsBytes front →
-      Stopped S W T (responding P) p (traffic_behind front unread unread held holds) r broken (stops.Io sides.Write)
+      Stopped S W T (responding P) p (traffic_behind front unread unread held holds) r broken
+      (stops.Io directions.Write)
   stops-broken-behind T P o p front unread held holds r broken new same failed begins fits = record {
     bytes = front;
     are_bytes = fits;
@@ -347,7 +349,8 @@ module _ {F : Type 0} (S : Summary F) (W : Profile F) where
   -- what the side that is spoken to first keeps to
   abbrev pub SecondIsModest : Checked → Type 0
   SecondIsModest a = (h : History) (bytes : List ℕ) → IsBytes bytes → length (content h) ≤ a.table.cap →
-      IsModest S W (responding (peer_of a (content h))) bytes (rank_by a.steps (length (content h)) + 1) a.table.limit
+      KeepsBounds S W (responding (peer_of a (content h))) bytes
+      (rank_by a.steps (length (content h)) + 1) a.table.limit
 
   pub serves : (a b : Checked) (w : View) (pin : PinState) (t : Traffic) (r x : Seen) (o : Outcome) → IsPinOf pin w →
       b ≡ a →
@@ -355,9 +358,9 @@ module _ {F : Type 0} (S : Summary F) (W : Profile F) where
       SecondIsModest a →
       Speaks S W (length (content w.base) ≤ a.table.cap) (responding (peer_at a w)) (length w.base)
       (rank_by a.steps (length (peer_at a w).items) + 1) a.table.limit t r x o
-  serves a b w pin t r x o is same spoke modest =
+  serves a b w pin t r x o is same spoke bounded =
       of-pin S W (length (content w.base) ≤ a.table.cap) (λ p. responding p) 1 a b w pin t r x o is same spoke
-      (modest w.base)
+      (bounded w.base)
 
   -- a first message was handed out, and more was read or not
   pub came-first : FeedsJoin W →

@@ -9,7 +9,7 @@ use Rattle.definitions.specs.Accounts.{Seen}
 use Rattle.definitions.specs.Items.{IsBytes}
 use Rattle.definitions.specs.Refusals.{truncated}
 use Rattle.peer_threads.specs.declared.hello.Hello.{Hello}
-use Rattle.peer_threads.specs.declared.outcome.Side.TheVariants as sides
+use Rattle.peer_threads.specs.declared.outcome.Direction.TheVariants as directions
 use Rattle.peer_threads.specs.declared.stop.Stop.{Stop}
 use Rattle.peer_threads.specs.declared.stop.Stop.TheVariants as stops
 
@@ -22,7 +22,7 @@ pub record IsHello (h : Hello) : Type 0 where
 abbrev pub NoMore : Seen → Stop → Type 0
 NoMore s (stops.Refused code) = (code ≡ truncated) × IsTrue s.ended
 NoMore s (stops.PeerRefused code) = ⊥
-NoMore s (stops.Io side) = (side ≡ sides.Read) × IsTrue s.failed
+NoMore s (stops.Io side) = (side ≡ directions.Read) × IsTrue s.failed
 NoMore s stops.Memory = ⊥
 
 pub record NoHello (s : Seen) (bytes : List ℕ) (stop : Stop) : Type 0 where

@@ -9,7 +9,7 @@
 --     Reads unread left b Q            what is read now, behind what was read before
 --     ReadOn unread left               some bytes were read, or none
 --     Counts before after b c          the reader was read no more often than the inbox counts, which stops at 2^32
---     Held, Fetched                    what the bytes that wait give, and what one read gives
+--     EndState, Fetched                    what the bytes that wait give, and what one read gives
 use Rattle.std.specs.Prelude.{◌≡◌, ℕ, ◌+◌, ◌≤◌, ◌^◌, ◌⊎◌, List, [], ◌∷◌, ◌++◌, length, Bool, Option, Some, None}
 use Rattle.std.specs.Prelude.{Result, Ok, Err, IsTrue}
 use Rattle.std.specs.Io.KnownBytes.{Consumes}
@@ -21,8 +21,8 @@ use Rattle.definitions.specs.Streams.{Before_hello, Faulted, Fed, feed}
 use Rattle.wire_core.specs.Events.{event_value}
 use Rattle.wire_core.specs.Feeds.{StreamState, Holds, fault_at}
 use Rattle.wire_core.specs.declared.event.Event as declared
-use Rattle.peer_threads.specs.declared.outcome.Side.{Side}
-use Rattle.peer_threads.specs.declared.outcome.Side.TheVariants as sides
+use Rattle.peer_threads.specs.declared.outcome.Direction.{Direction}
+use Rattle.peer_threads.specs.declared.outcome.Direction.TheVariants as directions
 use Rattle.peer_threads.specs.declared.stop.Stop.{Stop}
 use Rattle.peer_threads.specs.declared.stop.Stop.TheVariants as stops
 
@@ -67,8 +67,8 @@ module _ {F : Type 0} (W : Profile F) where
         ⊎ ((code ≡ truncated) × IsTrue over × (fault_at (stream bytes).to ≡ None))
 
   -- the reader gave an error, or was read as often as it may be
-  abbrev pub IsUnread : Seen → List ℕ → List (Event F) → Side → Type 0
-  IsUnread s bytes es side = (side ≡ sides.Read) × (IsTrue s.failed ⊎ (2 ^ 32 ≤ length bytes)) × Begins bytes es
+  abbrev pub IsUnread : Seen → List ℕ → List (Event F) → Direction → Type 0
+  IsUnread s bytes es side = (side ≡ directions.Read) × (IsTrue s.failed ⊎ (2 ^ 32 ≤ length bytes)) × Begins bytes es
 
   -- an inbox alone never finds that the peer refused: that is an event
   abbrev pub StopsAt : Seen → List ℕ → List (Event F) → Stop → Type 0

@@ -15,7 +15,7 @@ pub use Rattle.version_lock.specs.Beginnings
 pub use Rattle.wire_core.specs.Feeds
 pub use Rattle.wire_core.specs.Events
 pub use Rattle.io_core.specs.Watch
-pub use Rattle.ends_core.specs.Held
+pub use Rattle.ends_core.specs.EndStates
 pub use Rattle.ends_core.specs.Turns
 pub mod Faults
 pub mod Outcomes

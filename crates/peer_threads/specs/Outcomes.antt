@@ -14,8 +14,8 @@
 --     call_of s version bytes written r w      a session as it is seen from outside
 --     failing side                             what failed, as the accounts have it
 --     Bears s version t r w bytes o      what the outcome o says
---     IsModest s bytes bound limit       few own messages, short lists, and knowledge as told, whatever was read
---     Speaks fits s version bound limit t r w o  all of it, of the bytes that were read, modest where it fits
+--     KeepsBounds s bytes bound limit       few own messages, short lists, and knowledge as told, whatever was read
+--     Speaks fits s version bound limit t r w o  all of it, of the bytes that were read, bounded where it fits
 --     Unopened t r w o         what an outcome says where no history was looked at
 --     CameFirst unread left    what was read begins with a message that may stand first
 use Rattle.std.specs.Prelude.{◌≡◌, ℕ, ◌≤◌, Bool, List, [], ◌∷◌, ◌++◌, Option, Some, None, length, IsTrue, ⊤}
@@ -40,8 +40,8 @@ use Rattle.session_table.specs.declared.totals.CloseKind.TheVariants as kinds
 use Rattle.version_lock.specs.declared.view.View.{View}
 use Rattle.peer_threads.specs.declared.outcome.Outcome.{Outcome}
 use Rattle.peer_threads.specs.declared.outcome.Outcome.TheVariants.{Ended, Refused, PeerRefused, Io, Memory}
-use Rattle.peer_threads.specs.declared.outcome.Side.{Side}
-use Rattle.peer_threads.specs.declared.outcome.Side.TheVariants as sides
+use Rattle.peer_threads.specs.declared.outcome.Direction.{Direction}
+use Rattle.peer_threads.specs.declared.outcome.Direction.TheVariants as directions
 
 -- a reader that has these bytes left; or bytes that were read before, and then such a reader
 pub data Origin : Type 0 where
@@ -96,9 +96,9 @@ call_of s version bytes written r w =
     record { speaker = s; version = version; read = bytes; written = written; reader = r; writer = w }
 
 -- what failed, as the accounts name it
-abbrev pub failing : Side → Failing
-failing sides.Read = Reading
-failing sides.Write = Writing
+abbrev pub failing : Direction → Failing
+failing directions.Read = Reading
+failing directions.Write = Writing
 
 -- the own messages that the messages taken answer, one each: the first that a responder takes answers none
 abbrev pub answered : {F : Type 0} → Stage F → List (Message F) → List (Message F)
@@ -154,21 +154,21 @@ module _ {F : Type 0} (S : Summary F) (W : Profile F) where
 
   -- whatever the bytes are, there are few own messages, no list in them is longer than the limit, and once the session
   -- is over the side has learned just what the messages that it took say; this holds of what is called for, too
-  pub record IsModest (s : Speaker F) (bytes : List ℕ) (bound limit : ℕ) : Type 0 where
+  pub record KeepsBounds (s : Speaker F) (bytes : List ℕ) (bound limit : ℕ) : Type 0 where
     pub few : length (said_to s bytes) ≤ bound
     pub few_called : length (called_by s bytes) ≤ bound
     pub short : AllByRecursion (AllByRecursion (IsShort limit)) (said_to s bytes)
     pub short_called : AllByRecursion (AllByRecursion (IsShort limit)) (called_by s bytes)
     pub learned : IsTrue (is_over (session_at s bytes).stage) → (session_at s bytes).learned ≡ known_at s bytes
 
-  -- the bytes that were read, and what the outcome says of them; the side is modest where its set is known to fit
+  -- the bytes that were read, and what the outcome says of them; the side is bounded where its set is known to fit
   pub record Speaks (fits : Type 0) (s : Speaker F) (version bound limit : ℕ) (t : Traffic) (r w : Seen)
       (o : Outcome) : Type 0 where
     pub bytes : List ℕ
     pub read : Takes t.unread t.left bytes
     pub bears : Bears s version t r w bytes o
     pub sent : sent_in o ≤ bound
-    pub modest : fits → IsModest s bytes bound limit
+    pub bounded : fits → KeepsBounds s bytes bound limit
 
   -- ---- before a history is looked at
 

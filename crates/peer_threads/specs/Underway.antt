@@ -31,32 +31,32 @@ use Rattle.definitions.specs.Engines.{Speaker, says, fault_frame, replied, text}
 use Rattle.definitions.specs.Taking.{ended}
 use Rattle.definitions.specs.Hearing.{Hearing, Goes_on, Over_at, Peer_refused, Refused_for, hear_now, hears, hearing_to}
 use Rattle.definitions.specs.Accounts.{Seen, BrokeOff, IsOfTheTable}
-use Rattle.ends_core.specs.Held.{Held}
+use Rattle.ends_core.specs.EndStates.{EndState}
 use Rattle.ends_core.specs.Turns.{fresh, behind_parts}
 use Rattle.peer_threads.specs.declared.outcome.Outcome.{Outcome}
-use Rattle.peer_threads.specs.declared.outcome.Side.{Side}
-use Rattle.peer_threads.specs.declared.outcome.Side.TheVariants as sides
+use Rattle.peer_threads.specs.declared.outcome.Direction.{Direction}
+use Rattle.peer_threads.specs.declared.outcome.Direction.TheVariants as directions
 use Rattle.peer_threads.specs.declared.stop.Stop.{Stop}
 use Rattle.peer_threads.specs.declared.stop.Stop.TheVariants as stops
 use Rattle.peer_threads.specs.Outcomes.{Traffic, Takes, SaidAll, Bears, sent_in, call_of, called_by, session_at}
 use Rattle.peer_threads.specs.Inboxes.{InboxState, HasRead, StopsAt}
 use Rattle.peer_threads.specs.Outboxes.{OutboxState, HasWritten, Adds, BreaksIn, WroteSo, refusal_text}
 
-abbrev pub most_sent : {F : Type 0} → ℕ → Held F → ℕ
+abbrev pub most_sent : {F : Type 0} → ℕ → EndState F → ℕ
 most_sent most h = rank_by h.steps (length h.end.peer.items) + most
 
-abbrev pub heard_as : {F : Type 0} → Held F → Hearing F
+abbrev pub heard_as : {F : Type 0} → EndState F → Hearing F
 heard_as h = if is_over h.end.stage then Over_at h.end else Goes_on h.end h.taken
 
 -- ---- one event
 
-abbrev pub said_by : {F : Type 0} → Held F → Event F → List (Message F)
+abbrev pub said_by : {F : Type 0} → EndState F → Event F → List (Message F)
 said_by h (Came p) = []
 said_by h Ended = replied (ended h.taken)
 said_by h (Failed code) = []
 
 -- this side refuses the event, or it tells that the peer refused, or memory runs out
-abbrev pub Refuses : {F : Type 0} → Summary F → Held F → Event F → Stop → Type 0
+abbrev pub Refuses : {F : Type 0} → Summary F → EndState F → Event F → Stop → Type 0
 Refuses S h e (stops.Refused code) = hear_now S h.end h.taken e ≡ Refused_for code
 Refuses S h e (stops.PeerRefused code) = e ≡ Failed code
 Refuses S h e stops.Memory = ⊤
@@ -80,12 +80,13 @@ module _ {F : Type 0} (W : Profile F) where
   Unsaid o p held holds broken Ms (stops.Refused code) = IsOfTheTable code × SomeOf o p held holds Ms
   Unsaid o p held holds broken Ms (stops.PeerRefused code) = ⊥
   Unsaid o p held holds broken Ms stops.Memory = Adds W o p held holds []
-  Unsaid o p held holds broken Ms (stops.Io side) = (side ≡ sides.Write) × IsTrue broken × BreaksSaying o p held holds
+  Unsaid o p held holds broken Ms (stops.Io side) =
+      (side ≡ directions.Write) × IsTrue broken × BreaksSaying o p held holds
       Ms
 
 -- ---- before a session is opened
 
-abbrev pub first_held : {F : Type 0} → Summary F → Peer → Message F → Held F
+abbrev pub first_held : {F : Type 0} → Summary F → Peer → Message F → EndState F
 first_held S P M = behind_parts S (fresh [] (responder P)) M
 
 -- a part that may stand first
@@ -117,9 +118,9 @@ pub record IsLong {F : Type 0} (called : List (Message F)) (k code : ℕ) : Type
   pub long : IsFalse (is_sendable reply)
 
 -- the side of the connection that is named has failed
-abbrev pub HasBroken : Seen → Bool → List ℕ → Side → Type 0
-HasBroken r broken bytes sides.Read = IsTrue r.failed ⊎ (2 ^ 32 ≤ length bytes)
-HasBroken r broken bytes sides.Write = IsTrue broken
+abbrev pub HasBroken : Seen → Bool → List ℕ → Direction → Type 0
+HasBroken r broken bytes directions.Read = IsTrue r.failed ⊎ (2 ^ 32 ≤ length bytes)
+HasBroken r broken bytes directions.Write = IsTrue broken
 
 -- no table of sessions was asked
 abbrev pub IsNone : ℕ → Type 0
@@ -134,7 +135,7 @@ module _ {F : Type 0} (W : Profile F) where
   Leaves o held holds broken failed (stops.Io side) = Keeps held holds × (failed ≡ broken)
 
 module _ {F : Type 0} (S : Summary F) (W : Profile F) where
-  pub record Underway (s : Speaker F) (h : Held F) (b : InboxState) (o : OutboxState) (t : Traffic) : Type 0 where
+  pub record Underway (s : Speaker F) (h : EndState F) (b : InboxState) (o : OutboxState) (t : Traffic) : Type 0 where
     pub events : List (Event F)
     pub bytes : List ℕ
     pub are_bytes : IsBytes bytes
@@ -146,7 +147,8 @@ module _ {F : Type 0} (S : Summary F) (W : Profile F) where
   -- ---- one event
 
   -- so it stops, and writes no message; or its reply is not said
-  abbrev pub StopsBy : Held F → Event F → OutboxState → OutboxState → Option (List ℕ) → Option (List ℕ) → Bool → Stop →
+  abbrev pub StopsBy : EndState F → Event F → OutboxState → OutboxState → Option (List ℕ) → Option (List ℕ) → Bool →
+      Stop →
       Type 0
   StopsBy h e o p held holds broken stop =
       (Refuses S h e stop × Adds W o p held holds []) ⊎ Unsaid W o p held holds broken (said_by h e) stop

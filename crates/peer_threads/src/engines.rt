@@ -26,11 +26,11 @@ ghost use Rattle.peer_threads.specs.Underway.{Exchanged, FirstCame, EndCame, IsF
 ghost use Rattle.peer_threads.specs.Underway.{IsNone, Refuses, Stopped, Talked, Spoke};
 
 use crate::booking::{Booking, Host};
+use crate::bounds::sides_keep_bounds;
 use crate::ending::{concluded, stopped};
 use crate::gate::Gate;
 use crate::hello::{Hello, read_hello};
 use crate::inbox::Inbox;
-use crate::modesty::sides_are_modest;
 use crate::outbox::Outbox;
 use crate::outcome::Outcome;
 use crate::pinned_ends::{new_initiator, new_responder};
@@ -51,7 +51,7 @@ use wire_core::{Event, Message, Part};
 /// What has come of a session before it is opened: the one part of the peer's first message, and what was read behind
 /// its end.
 #[derive(Drop)]
-struct Opening<F: Summary> {
+struct Begun<F: Summary> {
     inbox: Inbox<F>,
     first: Part<F>,
 }
@@ -118,13 +118,13 @@ fn first_end<R: Read, F: Summary>(
 
 /// Answers the peer's hello with the own one, and waits for the first message, which is one Sum. Refused 1 where the
 /// hello is not that of the profile.
-fn meet<R: Read, W: Write, F: Summary>(
+fn first_message<R: Read, W: Write, F: Summary>(
     alloc: Global,
     hello: Hello,
     outbox: &mut Outbox<F>,
     reader: &mut Watched<R>,
     writer: &mut Watched<W>,
-) -> Result<Opening<F>, Stop>
+) -> Result<Begun<F>, Stop>
     requires hello { IsHello hello }
     requires fine { writer.old.failed ≡ false }
     requires new { outbox.old ≡ outbox_state false 0 }
@@ -148,14 +148,14 @@ fn meet<R: Read, W: Write, F: Summary>(
     outbox.greet(writer)?;
     let first = first_part(alloc, &mut inbox, reader)?;
     first_end(alloc, &mut inbox, reader)?;
-    Ok(Opening { inbox, first })
+    Ok(Begun { inbox, first })
 }
 
 /// Answers the first message, and each one behind it.
 fn answer<T: Wait, G: Gate, P: Role, S: RangeStore, R: Read, W: Write, F: Summary>(
     booking: &Booking<'_, T, G>,
     party: &mut SessionEnd<P, S, F>,
-    opening: Opening<F>,
+    begun: Begun<F>,
     outbox: &mut Outbox<F>,
     reader: &mut Watched<R>,
     writer: &mut Watched<W>,
@@ -165,24 +165,24 @@ fn answer<T: Wait, G: Gate, P: Role, S: RangeStore, R: Read, W: Write, F: Summar
     requires goes { is_over party.old.end.stage ≡ false }
     ensures talked { (p : Peer) (steps : List ℕ) (unread : Origin) (held : Option (List ℕ)) →
         party.old ≡ fresh steps (ends.responder p) →
-        Exchanged F.profile opening.inbox outbox.old (traffic_of unread (R.remaining reader.old.inner) held
-        (W.contents writer.old.inner)) (Came opening.first ∷ Ended ∷ []) →
+        Exchanged F.profile begun.inbox outbox.old (traffic_of unread (R.remaining reader.old.inner) held
+        (W.contents writer.old.inner)) (Came begun.first ∷ Ended ∷ []) →
         Talked F.summary F.profile (responding p) party.new.end outbox.new
         (traffic_of unread (R.remaining reader.new.inner) held (W.contents writer.new.inner))
         (seen reader.new.failed reader.new.ended) writer.new.failed result }
     ensures on { (p : Peer) (steps : List ℕ) (unread : Origin) (held : Option (List ℕ)) →
         party.old ≡ fresh steps (ends.responder p) →
-        Exchanged F.profile opening.inbox outbox.old (traffic_of unread (R.remaining reader.old.inner) held
-        (W.contents writer.old.inner)) (Came opening.first ∷ Ended ∷ []) →
+        Exchanged F.profile begun.inbox outbox.old (traffic_of unread (R.remaining reader.old.inner) held
+        (W.contents writer.old.inner)) (Came begun.first ∷ Ended ∷ []) →
         ReadOn (R.remaining reader.old.inner) (R.remaining reader.new.inner) }
     ensures few { outbox.new.sent ≤ most_sent (most_of P.side) party.old }
-    ensures reads { opening.inbox.reads ≤ 2 ^ 32 →
-        reader.new.reads + opening.inbox.reads ≤ reader.old.reads + 2 ^ 32 }
+    ensures reads { begun.inbox.reads ≤ 2 ^ 32 →
+        reader.new.reads + begun.inbox.reads ≤ reader.old.reads + 2 ^ 32 }
 {
     laws::frames_say::<F>();
     laws::own_begins::<F>();
     laws::bytes_agree::<F>();
-    let Opening { mut inbox, first } = opening;
+    let Begun { mut inbox, first } = begun;
     let _few = party.sent();
     take(booking, party, &first)?;
     end(booking, party, outbox, writer)?;
@@ -193,7 +193,7 @@ fn answer<T: Wait, G: Gate, P: Role, S: RangeStore, R: Read, W: Write, F: Summar
 fn respond<T: Wait, S: RangeStore, G: Gate, R: Read, W: Write, F: Summary>(
     host: &Host<'_, T, G>,
     pin: Pin<S>,
-    opening: Opening<F>,
+    begun: Begun<F>,
     mut outbox: Outbox<F>,
     reader: &mut Watched<R>,
     writer: &mut Watched<W>,
@@ -202,19 +202,19 @@ fn respond<T: Wait, S: RangeStore, G: Gate, R: Read, W: Write, F: Summary>(
     requires fine { writer.old.failed ≡ false }
     requires none { outbox.sent ≡ 0 }
     ensures bytes { (unread : Origin) (held : Option (List ℕ)) →
-        Exchanged F.profile opening.inbox outbox (traffic_of unread (R.remaining reader.old.inner) held
-        (W.contents writer.old.inner)) (Came opening.first ∷ Ended ∷ []) →
+        Exchanged F.profile begun.inbox outbox (traffic_of unread (R.remaining reader.old.inner) held
+        (W.contents writer.old.inner)) (Came begun.first ∷ Ended ∷ []) →
         Spoke F.summary F.profile (responding (peer_of (arc_value host.now.accepted.now) pin.items)) pin.version
         (rank_by (arc_value host.now.accepted.now).steps (length pin.items) + 1)
         (traffic_of unread (R.remaining reader.new.inner) held (W.contents writer.new.inner))
         (seen reader.new.failed reader.new.ended) (seen writer.new.failed writer.new.ended) result }
     ensures on { (unread : Origin) (held : Option (List ℕ)) →
-        Exchanged F.profile opening.inbox outbox (traffic_of unread (R.remaining reader.old.inner) held
-        (W.contents writer.old.inner)) (Came opening.first ∷ Ended ∷ []) →
+        Exchanged F.profile begun.inbox outbox (traffic_of unread (R.remaining reader.old.inner) held
+        (W.contents writer.old.inner)) (Came begun.first ∷ Ended ∷ []) →
         ReadOn (R.remaining reader.old.inner) (R.remaining reader.new.inner) }
     ensures version { HasVersion result pin.version }
-    ensures reads { opening.inbox.reads ≤ 2 ^ 32 →
-        reader.new.reads + opening.inbox.reads ≤ reader.old.reads + 2 ^ 32 }
+    ensures reads { begun.inbox.reads ≤ 2 ^ 32 →
+        reader.new.reads + begun.inbox.reads ≤ reader.old.reads + 2 ^ 32 }
 {
     let version = pin.version();
     let mut party = match new_responder(host, pin) {
@@ -225,7 +225,7 @@ fn respond<T: Wait, S: RangeStore, G: Gate, R: Read, W: Write, F: Summary>(
         Ok(booking) => booking,
         Err(fault) => return stopped(outbox, writer, Stop::from(fault)),
     };
-    let talked = answer(&booking, &mut party, opening, &mut outbox, reader, writer);
+    let talked = answer(&booking, &mut party, begun, &mut outbox, reader, writer);
     let outcome = concluded(party, version, outbox, writer, talked);
     booking.close(&outcome);
     outcome
@@ -328,15 +328,15 @@ fn serve_behind<T: Wait, S: RangeStore, G: Gate, R: Read, W: Write, F: Summary>(
     ensures reads { reader.new.reads + hello.reads ≤ reader.old.reads + 2 ^ 32 }
 {
     codec_laws::feeds_join::<F>();
-    sides_are_modest::<F>(shared.accepted);
+    sides_keep_bounds::<F>(shared.accepted);
     let host = Host::of(rt, alloc, shared);
     let mut outbox = Outbox::<F>::new();
-    let opening = match meet(alloc, hello, &mut outbox, reader, writer) {
-        Ok(opening) => opening,
+    let begun = match first_message(alloc, hello, &mut outbox, reader, writer) {
+        Ok(begun) => begun,
         Err(stop) => return stopped(outbox, writer, stop),
     };
     match shared.lock.pin(rt, alloc, seat) {
-        Ok(pin) => respond(&host, pin, opening, outbox, reader, writer),
+        Ok(pin) => respond(&host, pin, begun, outbox, reader, writer),
         Err(AllocError) => stopped(outbox, writer, Stop::Memory),
     }
 }
@@ -382,7 +382,7 @@ pub fn serve_one<T: Wait, S: RangeStore, G: Gate, R: Read, W: Write>(
     laws::frames_say::<Fingerprint>();
     laws::own_begins::<Fingerprint>();
     laws::bytes_agree::<Fingerprint>();
-    sides_are_modest::<Fingerprint>(shared.accepted);
+    sides_keep_bounds::<Fingerprint>(shared.accepted);
     let hello = match read_hello(reader) {
         Ok(hello) => hello,
         Err(stop) => return stopped(Outbox::<Fingerprint>::new(), writer, stop),
@@ -420,7 +420,7 @@ pub fn dial_one<T: Wait, S: RangeStore, G: Gate, R: Read, W: Write, F: Summary>(
     ensures version { HasVersion result (length seat.new.view.base) }
     ensures reads { reader.new.reads ≤ reader.old.reads + 2 ^ 32 }
 {
-    sides_are_modest::<F>(shared.accepted);
+    sides_keep_bounds::<F>(shared.accepted);
     let host = Host::of(rt, alloc, shared);
     match shared.lock.pin(rt, alloc, seat) {
         Ok(pin) => initiate::<T, S, G, R, W, F>(&host, pin, reader, writer),

@@ -4,7 +4,7 @@ ghost use Rattle.std.specs.Prelude.{◌≡◌, ◌≤◌, ◌+◌, IfOk};
 ghost use Rattle.peer_threads.specs.Outcomes.{seen};
 ghost use Rattle.peer_threads.specs.Hellos.{HelloRead};
 
-use crate::outcome::Side;
+use crate::outcome::Direction;
 use crate::piece::are_bytes;
 use crate::stop::Stop;
 use io_core::Watched;
@@ -37,7 +37,7 @@ pub(crate) fn read_hello<R: Read>(reader: &mut Watched<R>) -> Result<Hello, Stop
         are_bytes(&hello.bytes);
         hello.reads += 1;
         let Ok(count) = reader.read(&mut hello.bytes[came..]) else {
-            return Err(Stop::Io(Side::Read));
+            return Err(Stop::Io(Direction::Read));
         };
         if count == 0 {
             return Err(Stop::Refused(WireFault::Truncated.number()));

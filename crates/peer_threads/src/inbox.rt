@@ -8,7 +8,7 @@ ghost use Rattle.peer_threads.specs.Outcomes.{seen};
 ghost use Rattle.peer_threads.specs.Inboxes.{HasRead, StopsAt, Next, SoFar, Reads, Counts, Held, Fetched};
 
 use crate::hello::Hello;
-use crate::outcome::Side;
+use crate::outcome::Direction;
 use crate::piece::Piece;
 use crate::stop::Stop;
 use digest_core::Summary;
@@ -94,7 +94,8 @@ impl<F: Summary> Inbox<F> {
 
     /// The next event of the bytes that wait. Where there is none, all of them are fed.
     fn next_held(&mut self, alloc: Global) -> Result<Option<Event<F>>, Stop>
-        ensures held { SoFar F.profile self.old (λ bytes es. (s : Seen) → Held F.profile s self.new bytes es result) }
+        ensures held { SoFar F.profile self.old
+            (λ bytes es. (s : Seen) → EndState F.profile s self.new bytes es result) }
         ensures none { IfOk result (λ made. IfNone made ((self.new.waiting ≡ [])
             × (fault_at self.new.feed.standing ≡ None))) }
         ensures reads { (self.new.reads ≡ self.old.reads) × (self.new.reads ≤ 2 ^ 32) }
@@ -114,11 +115,11 @@ impl<F: Summary> Inbox<F> {
         ensures reads { Counts reader.old.reads reader.new.reads self.old self.new }
     {
         if self.reads >= MAX_READS {
-            return Err(Stop::Io(Side::Read));
+            return Err(Stop::Io(Direction::Read));
         }
         self.reads += 1;
         let Ok(count) = self.piece.fill(reader) else {
-            return Err(Stop::Io(Side::Read));
+            return Err(Stop::Io(Direction::Read));
         };
         if count == 0 {
             return Err(Stop::Refused(WireFault::Truncated.number()));

@@ -2,12 +2,12 @@
 #![tactic(auto)]
 
 mod booking;
+mod bounds;
 mod ending;
 mod engines;
 mod gate;
 mod hello;
 mod inbox;
-mod modesty;
 mod outbox;
 mod outcome;
 mod piece;
@@ -21,7 +21,7 @@ mod workers;
 
 pub use engines::{dial_one, serve_one};
 pub use gate::{Gate, OpenGate};
-pub use outcome::{Outcome, Side};
+pub use outcome::{Direction, Outcome};
 pub use shared::Shared;
 pub use source::{Source, SourceFault};
 pub use workers::{Report, run_workers};

@@ -17,7 +17,7 @@ use crate::booking::Booking;
 use crate::gate::Gate;
 use crate::inbox::Inbox;
 use crate::outbox::Outbox;
-use crate::outcome::Side;
+use crate::outcome::Direction;
 use crate::stop::Stop;
 use digest_core::Summary;
 use ends_core::{Role, SessionEnd, Turn};
@@ -178,5 +178,5 @@ pub(crate) fn talk<T: Wait, G: Gate, P: Role, S: RangeStore, R: Read, W: Write, 
         let event = inbox.next(booking.alloc(), reader)?;
         hear(booking, party, outbox, writer, &event)?;
     }
-    Err(Stop::Io(Side::Read))
+    Err(Stop::Io(Direction::Read))
 }

@@ -14,6 +14,6 @@ rest_between None u = None
 rest_between (Some y) u = if is_below y u then Some (record { lower = y; upper = u }) else None
 
 abbrev pub after_fit : {F : Type 0} → Fit → Message F → Part F → Place F
-after_fit fits.Skipped left p = next_outside left p
+after_fit fits.NotHere left p = next_outside left p
 after_fit (fits.Placed inside) left p = Behind left inside
 after_fit (fits.Refused f) left p = Refused (place_fault_number f)

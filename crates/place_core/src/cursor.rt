@@ -10,7 +10,7 @@ ghost use Rattle.place_core.specs.Placements.{due};
 ghost use Rattle.place_core.specs.Placements.{first_list as list_first};
 
 use crate::fault::PlaceFault;
-use crate::fit::{Fit, meet, rest_behind};
+use crate::fit::{Fit, fit_of, rest_behind};
 use digest_core::Summary;
 use item_core::{Item, Range};
 use wire_core::{Part, PartKind};
@@ -138,8 +138,8 @@ fn next_outside<F: Summary>(sent: &[Part<F>], start: usize, part: &Part<F>) -> C
     let mut at = start;
     'skipped: while let Some(own) = sent.get(at) {
         at += 1;
-        match meet(own, part) {
-            Fit::Skipped => {}
+        match fit_of(own, part) {
+            Fit::NotHere => {}
             Fit::Placed(inside) => return Cursor::Behind(at, inside),
             Fit::Refused(fault) => return Cursor::Refused(fault),
         }

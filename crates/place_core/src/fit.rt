@@ -17,7 +17,7 @@ use wire_core::{Part, PartKind};
 #[derive(Clone, Copy, Debug, PartialEq, Eq)]
 pub enum Fit {
     /// It belongs to a later one.
-    Skipped,
+    NotHere,
     /// It belongs to this one, and this of its range is still to come.
     Placed(Option<Range>),
     /// It may not stand there.
@@ -85,17 +85,17 @@ fn sum_fit<F: Summary>(range: &Range, part: &Part<F>) -> Fit
     match part.kind() {
         PartKind::List if part.range() == range => Fit::Placed(None),
         PartKind::Sum if part.range().lower() == range.lower() => cut_fit::<F>(range, part.range()),
-        _ => Fit::Skipped,
+        _ => Fit::NotHere,
     }
 }
 
 /// A part where this part of the own message is the next one; an Answer is open to nothing.
-pub fn meet<F: Summary>(own: &Part<F>, part: &Part<F>) -> Fit
+pub fn fit_of<F: Summary>(own: &Part<F>, part: &Part<F>) -> Fit
     ensures { (left : Message F) →
         next_outside (open_parts (own.now ∷ left)) part.now ≡ after_fit result (open_parts left) part.now }
 {
     if own.kind() == PartKind::Answer {
-        return Fit::Skipped;
+        return Fit::NotHere;
     }
     match own.items() {
         Some(listed) => list_fit(own.range(), listed, part),

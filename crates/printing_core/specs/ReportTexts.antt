@@ -6,7 +6,7 @@ use Rattle.std.specs.Fmt.{decimal}
 use Rattle.peer_threads.specs.declared.outcome.Outcome.{Outcome}
 use Rattle.peer_threads.specs.declared.outcome.Outcome.TheVariants.{Ended, Refused, PeerRefused, Io, Memory}
 use Rattle.settings_core.specs.declared.words.ItemForm.{ItemForm}
-use Rattle.printing_core.specs.SessionTexts.{learned_text, of_side}
+use Rattle.printing_core.specs.SessionTexts.{learned_text, of_direction}
 use Rattle.printing_core.specs.Lines.{fault_line}
 use Rattle.printing_core.specs.declared.fault.Fault.{Fault}
 use Rattle.printing_core.specs.declared.fault.Fault.TheVariants as faults
@@ -24,5 +24,5 @@ report_text form serial (Ended learned sent version) =
     head_line serial version sent ++ learned_text form learned
 report_text form serial (Refused code sent) = stopped_line serial (faults.Session code)
 report_text form serial (PeerRefused code sent) = stopped_line serial (faults.PeerRefused code)
-report_text form serial (Io side sent) = stopped_line serial (of_side side)
+report_text form serial (Io side sent) = stopped_line serial (of_direction side)
 report_text form serial (Memory sent) = stopped_line serial faults.Memory

@@ -11,8 +11,8 @@ use Rattle.definitions.specs.Items.{Item}
 use Rattle.definitions.specs.Sets.{set_of}
 use Rattle.definitions.specs.Talks.{Knowledge}
 use Rattle.session_table.specs.declared.totals.Totals.{Totals}
-use Rattle.peer_threads.specs.declared.outcome.Side.{Side}
-use Rattle.peer_threads.specs.declared.outcome.Side.TheVariants as sides
+use Rattle.peer_threads.specs.declared.outcome.Direction.{Direction}
+use Rattle.peer_threads.specs.declared.outcome.Direction.TheVariants as directions
 use Rattle.peer_threads.specs.declared.outcome.Outcome.{Outcome}
 use Rattle.peer_threads.specs.declared.outcome.Outcome.TheVariants as outcomes
 use Rattle.settings_core.specs.declared.words.ItemForm.{ItemForm}
@@ -47,9 +47,9 @@ learned_text form k = flat_map (named_line form (codes "ours")) (set_of k.ours)
 abbrev pub synced_text : ItemForm → ℕ → ℕ → Knowledge → List ℕ
 synced_text form version sent k = counts_text version sent ++ learned_text form k
 
-abbrev pub of_side : Side → Fault
-of_side sides.Read = ReaderFailed
-of_side sides.Write = WriterFailed
+abbrev pub of_direction : Direction → Fault
+of_direction directions.Read = ReaderFailed
+of_direction directions.Write = WriterFailed
 
 abbrev pub IsSyncOf : ItemForm → Outcome → Result (String Global) Fault → Type 0
 IsSyncOf form (outcomes.Ended learned sent version) (Ok text) =
@@ -57,5 +57,5 @@ IsSyncOf form (outcomes.Ended learned sent version) (Ok text) =
 IsSyncOf form (outcomes.Ended learned sent version) (Err f) = f ≡ Memory
 IsSyncOf form (outcomes.Refused code sent) result = result ≡ Err (Session code)
 IsSyncOf form (outcomes.PeerRefused code sent) result = result ≡ Err (PeerRefused code)
-IsSyncOf form (outcomes.Io side sent) result = result ≡ Err (of_side side)
+IsSyncOf form (outcomes.Io side sent) result = result ≡ Err (of_direction side)
 IsSyncOf form (outcomes.Memory sent) result = result ≡ Err Memory

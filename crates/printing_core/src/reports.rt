@@ -1,7 +1,7 @@
 //! What `serve` writes of its sessions to its files.
 
 ghost use Rattle.std.specs.Prelude.{◌≡◌, IfOk, string_bytes};
-ghost use Rattle.printing_core.specs.SessionTexts.{of_side};
+ghost use Rattle.printing_core.specs.SessionTexts.{of_direction};
 ghost use Rattle.printing_core.specs.ItemTexts.{item_line};
 ghost use Rattle.printing_core.specs.ReportTexts.{stopped_line, report_text};
 
@@ -9,17 +9,17 @@ use crate::fault::Fault;
 use crate::item_text::push_item;
 use crate::session_texts::push_learned;
 use item_core::Item;
-use peer_threads::{Outcome, Side};
+use peer_threads::{Direction, Outcome};
 use settings_core::ItemForm;
 use std::alloc::{AllocError, Global};
 
 /// What failed of a connection, as a fault.
-fn of_side(side: Side) -> Fault
-    ensures { result ≡ of_side side }
+fn of_direction(side: Direction) -> Fault
+    ensures { result ≡ of_direction side }
 {
     match side {
-        Side::Read => Fault::ReaderFailed,
-        Side::Write => Fault::WriterFailed,
+        Direction::Read => Fault::ReaderFailed,
+        Direction::Write => Fault::WriterFailed,
     }
 }
 
@@ -56,7 +56,7 @@ pub fn report_text(
         Outcome::PeerRefused { code, .. } => {
             stopped_line(alloc, serial, Fault::PeerRefused { code: *code })
         }
-        Outcome::Io { side, .. } => stopped_line(alloc, serial, of_side(*side)),
+        Outcome::Io { side, .. } => stopped_line(alloc, serial, of_direction(*side)),
         Outcome::Memory { .. } => stopped_line(alloc, serial, Fault::Memory),
     }
 }

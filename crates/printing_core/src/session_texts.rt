@@ -9,7 +9,7 @@ use crate::fault::Fault;
 use crate::item_text::push_item;
 use ends_core::Learned;
 use item_core::Item;
-use peer_threads::{Outcome, Side};
+use peer_threads::{Direction, Outcome};
 use session_table::Totals;
 use settings_core::ItemForm;
 use std::alloc::{AllocError, Global};
@@ -136,8 +136,8 @@ pub fn outcome_text(alloc: Global, form: ItemForm, outcome: &Outcome) -> Result<
         Outcome::Refused { code, .. } => Err(Fault::Session { code: *code }),
         Outcome::PeerRefused { code, .. } => Err(Fault::PeerRefused { code: *code }),
         Outcome::Io { side, .. } => Err(match side {
-            Side::Read => Fault::ReaderFailed,
-            Side::Write => Fault::WriterFailed,
+            Direction::Read => Fault::ReaderFailed,
+            Direction::Write => Fault::WriterFailed,
         }),
         Outcome::Memory { .. } => Err(Fault::Memory),
     }

@@ -15,7 +15,7 @@ use store_core::Entry;
 
 /// How many of those that are left go together: 32, or all where they are fewer than 64. So each group has 32 to 63,
 /// but where there are fewer in all.
-fn together(left: usize) -> usize
+fn group_size(left: usize) -> usize
     ensures few { left < 64 → result ≡ left }
     ensures many { 64 ≤ left → result ≡ 32 }
 {
@@ -39,7 +39,7 @@ fn leaves_of(alloc: Global, entries: &[Entry]) -> Result<Vec<Arc<Leaf>>, AllocEr
     let mut held = Vec::new(alloc);
     let mut rest = entries;
     'groups: while !rest.is_empty() {
-        let (front, back) = rest.split_at(together(rest.len()));
+        let (front, back) = rest.split_at(group_size(rest.len()));
         held.push(leaf_of(alloc, front)?)?;
         rest = back;
     }
@@ -68,7 +68,7 @@ fn branches_over(alloc: Global, leaves: &[Arc<Leaf>]) -> Result<Vec<Arc<Branch>>
     let mut held = Vec::new(alloc);
     let mut rest = leaves;
     'groups: while !rest.is_empty() {
-        let (front, back) = rest.split_at(together(rest.len()));
+        let (front, back) = rest.split_at(group_size(rest.len()));
         held.push(branch_of(alloc, front)?)?;
         rest = back;
     }

@@ -10,14 +10,14 @@ ghost use Rattle.range_tree.specs.Parts.{items_of, span, first_item, count_befor
 ghost use Rattle.range_tree.specs.Grown.{grown_parts};
 
 use crate::part::{Grown, Part};
-use crate::search::{Led, search};
+use crate::search::{HasFirstItem, search};
 use digest_core::{Fingerprint, Summary, laws};
 use item_core::Item;
 use std::alloc::{AllocError, Global};
 use std::sync::Arc;
 use store_core::Entry;
 
-impl<P: Part> Led for Arc<P> {
+impl<P: Part> HasFirstItem for Arc<P> {
     ghost lead = { λ p. first_item (P.content (arc_value p)) };
 
     fn lead(&self) -> &Item {

@@ -9,7 +9,7 @@ use item_core::Item;
 use store_core::Entry;
 
 /// What begins with an item.
-pub trait Led {
+pub trait HasFirstItem {
     /// The item.
     ghost lead: { Self → items.Item };
 
@@ -17,7 +17,7 @@ pub trait Led {
         ensures { result.now ≡ lead self.now };
 }
 
-impl Led for Entry {
+impl HasFirstItem for Entry {
     ghost lead = { λ x. x };
 
     fn lead(&self) -> &Item {
@@ -26,7 +26,7 @@ impl Led for Entry {
 }
 
 /// How many elements begin before the item, and how many comparisons with it were made.
-pub fn search<T: Led>(list: &[T], item: &Item) -> (usize, usize)
+pub fn search<T: HasFirstItem>(list: &[T], item: &Item) -> (usize, usize)
     requires { IsPartitionedBy (λ t. comes_before (T.lead t) item.now) list.now }
     ensures parted { IsPartitionPoint (λ t. comes_before (T.lead t) item.now ≡ true)
         (λ t. comes_before (T.lead t) item.now ≡ false) list.now result.0 }

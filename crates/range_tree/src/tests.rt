@@ -4,7 +4,7 @@ use item_core::{Item, Lower, Range, Upper};
 use std::alloc::Global;
 use std::process::Abort;
 use std::test::Fail;
-use store_core::{RangeStore, With};
+use store_core::{Insertion, RangeStore};
 
 fn item(rt: &impl Abort, number: u16) -> Item {
     Item::new(&number.to_be_bytes()).ok().expect(rt, "an item")
@@ -17,8 +17,8 @@ fn from_to(rt: &impl Abort, lower: &[u8], upper: Upper) -> Range {
 
 fn added(rt: &impl Abort, alloc: Global, tree: &Tree, number: u16) -> Tree {
     match tree.with(alloc, item(rt, number)).expect(rt, "memory") {
-        With::New(tree) => tree,
-        With::Already => panic!(rt; "there already"),
+        Insertion::New(tree) => tree,
+        Insertion::Already => panic!(rt; "there already"),
     }
 }
 
@@ -94,7 +94,7 @@ fn items_given_twice(rt: HostRuntime) {
     let tree = Tree::from_items(alloc, items).expect(&rt, "memory");
     assert!(rt; tree.len() == 2 && !tree.is_empty());
     assert!(rt; tree.has(&item(&rt, 1)) && !tree.has(&item(&rt, 3)));
-    assert!(rt; matches!(tree.with(alloc, item(&rt, 2)), Ok(With::Already)));
+    assert!(rt; matches!(tree.with(alloc, item(&rt, 2)), Ok(Insertion::Already)));
     let held = tree.items(alloc, &Range::whole()).expect(&rt, "memory");
     assert!(rt; held.len() == 2 && held[0] == item(&rt, 1) && held[1] == item(&rt, 2));
 }

@@ -14,7 +14,7 @@ use digest_core::{Fingerprint, Summary, laws};
 use item_core::{Item, Range};
 use std::alloc::{AllocError, Global};
 use std::sync::Arc;
-use store_core::{Entry, RangeStore, With, spans};
+use store_core::{Entry, Insertion, RangeStore, spans};
 
 /// The one branch of one leaf of one entry.
 fn branches_of_one(alloc: Global, entry: Entry) -> Result<Vec<Arc<Branch>>, AllocError>
@@ -108,9 +108,9 @@ impl RangeStore for Tree {
         self.gap_for(item).is_none()
     }
 
-    fn with(&self, alloc: Global, item: Item) -> Result<With<Tree>, AllocError> {
+    fn with(&self, alloc: Global, item: Item) -> Result<Insertion<Tree>, AllocError> {
         let Some(place) = self.gap_for(&item) else {
-            return Ok(With::Already);
+            return Ok(Insertion::Already);
         };
         let Some(count) = self.count.checked_add(1) else {
             return Err(AllocError);
@@ -118,7 +118,7 @@ impl RangeStore for Tree {
         laws::new_item_adds();
         let entry = Entry::new(item);
         let total = self.total.join(entry.fingerprint());
-        Ok(With::New(Tree {
+        Ok(Insertion::New(Tree {
             branches: branches_with(alloc, &self.branches, place, entry)?,
             count,
             total,

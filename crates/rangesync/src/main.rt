@@ -1,8 +1,8 @@
 //! The program `rangesync`.
 #![tactic(auto)]
 
+mod loading;
 mod metering;
-mod opening;
 mod reporting;
 mod row;
 mod run;

@@ -4,7 +4,7 @@ ghost use Rattle.std.specs.Prelude.{◌≤◌, length};
 ghost use Rattle.store_core.specs.Flat.{flat_items};
 ghost use Rattle.settings_core.specs.Spans.{AreInSpan};
 
-use crate::opening::{Sources, read_opening};
+use crate::loading::{Sources, load};
 use crate::reporting::Paths;
 use crate::serve::{Serving, serve};
 use crate::sync::{Asking, sync};
@@ -141,7 +141,7 @@ where
                 },
             };
             let sources = Sources { table, form, items };
-            serve(rt, read_opening(rt, sources, reader)?, serving, out, err)
+            serve(rt, load(rt, sources, reader)?, serving, out, err)
         }
         Command::Sync {
             table,
@@ -164,7 +164,7 @@ where
                 stats,
             };
             let sources = Sources { table, form, items };
-            sync(rt, read_opening(rt, sources, reader)?, asking, out, err)
+            sync(rt, load(rt, sources, reader)?, asking, out, err)
         }
     }
 }

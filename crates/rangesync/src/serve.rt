@@ -3,7 +3,7 @@
 ghost use Rattle.std.specs.Prelude.{◌≡◌};
 ghost use Rattle.settings_core.specs.Spans.{IsWorkerCount};
 
-use crate::opening::Opening;
+use crate::loading::Loaded;
 use crate::reporting::{Paths, Reporter, open_files};
 use io_core::{Watched, WriterFailed, write_output};
 use peer_threads::{Shared, run_workers};
@@ -60,7 +60,7 @@ fn announce<O: Write, E: Write>(
 /// Else 90, 80, 60, or `io write`; and behind what was counted 62, or 90 where no worker started.
 pub fn serve<R, O: Write + Drop, E: Write + Send>(
     rt: &R,
-    opening: Opening,
+    loaded: Loaded,
     serving: Serving<'_>,
     out: O,
     err: &mut E,
@@ -73,12 +73,12 @@ where
         + Clock
         + AllocGlobal
         + Sync,
-    requires cap { opening.log.cap ≡ opening.accepted.table.cap }
+    requires cap { loaded.log.cap ≡ loaded.accepted.table.cap }
     requires workers { IsWorkerCount serving.workers }
 {
     let alloc = rt.alloc();
     let mut out = out;
-    let Opening { accepted, log } = opening;
+    let Loaded { accepted, log } = loaded;
     let accepted = Arc::new(alloc, accepted)?;
     let (lock, mut seat) = VersionLock::new(alloc, log)?;
     let sessions = Mutex::new(SessionTable::new(alloc, usize::from(serving.workers))?);

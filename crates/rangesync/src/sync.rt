@@ -3,8 +3,8 @@
 ghost use Rattle.std.specs.Prelude.{◌≡◌, ◌≤◌};
 ghost use Rattle.std.specs.Arc.{arc_value};
 
+use crate::loading::Loaded;
 use crate::metering::Metered;
-use crate::opening::Opening;
 use digest_core::{Counted, Fingerprint, Summary};
 use io_core::{Watched, write_output};
 use peer_threads::{OpenGate, Outcome, Shared, dial_one};
@@ -72,15 +72,15 @@ fn dial<R: Wait + Clock, F: Summary>(
 /// Else 90, 61, the number of the refusal of this side or of the peer, or `io read` or `io write`.
 pub fn sync<R: Net<Stream = TcpStream> + Wait + Clock + AllocGlobal, O: Write + Drop, E: Write>(
     rt: &R,
-    opening: Opening,
+    loaded: Loaded,
     asking: Asking<'_>,
     out: O,
     err: &mut E,
 ) -> Result<(), Fault>
-    requires cap { opening.log.cap ≡ opening.accepted.table.cap }
+    requires cap { loaded.log.cap ≡ loaded.accepted.table.cap }
 {
     let alloc = rt.alloc();
-    let Opening { accepted, log } = opening;
+    let Loaded { accepted, log } = loaded;
     let accepted = Arc::new(alloc, accepted)?;
     let (lock, mut seat) = VersionLock::new(alloc, log)?;
     let sessions = Mutex::new(SessionTable::new(alloc, 1)?);

@@ -4,7 +4,7 @@ ghost use Rattle.store_core.specs.Flat.{flat_items};
 
 use crate::entry::Entry;
 use crate::flat_store::FlatStore;
-use crate::range_store::{RangeStore, With};
+use crate::range_store::{Insertion, RangeStore};
 use crate::spans;
 use digest_core::Fingerprint;
 use item_core::{Item, Range};
@@ -67,10 +67,10 @@ impl RangeStore for FlatStore {
         spans::gap_for(&self.entries, item).is_none()
     }
 
-    fn with(&self, alloc: Global, item: Item) -> Result<With<FlatStore>, AllocError> {
+    fn with(&self, alloc: Global, item: Item) -> Result<Insertion<FlatStore>, AllocError> {
         match spans::gap_for(&self.entries, &item) {
-            None => Ok(With::Already),
-            Some(place) => Ok(With::New(FlatStore {
+            None => Ok(Insertion::Already),
+            Some(place) => Ok(Insertion::New(FlatStore {
                 entries: spans::with_entry(alloc, &self.entries, place, Entry::new(item))?,
             })),
         }

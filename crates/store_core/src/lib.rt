@@ -12,4 +12,4 @@ mod tests;
 
 pub use entry::Entry;
 pub use flat_store::FlatStore;
-pub use range_store::{RangeStore, With};
+pub use range_store::{Insertion, RangeStore};

@@ -13,7 +13,7 @@ use std::alloc::{AllocError, Global};
 
 /// What `RangeStore::with` gives.
 #[derive(Drop)]
-pub enum With<S> {
+pub enum Insertion<S> {
     /// The store with the item.
     New(S),
     /// The store has the item already.
@@ -80,7 +80,7 @@ pub trait RangeStore: Drop + Sized {
         ensures { result ≡ has (content self.now) item.now };
 
     /// The store with the item, unless it is there already.
-    fn with(&self, alloc: Global, item: Item) -> Result<With<Self>, AllocError>
+    fn with(&self, alloc: Global, item: Item) -> Result<Insertion<Self>, AllocError>
         ensures store { IfOk result (λ w. IfNew w (λ s. content s ≡ add_item (content self.now) item)) }
         ensures new { IfOk result (λ w. is_new w ≡ not (has (content self.now) item)) };
 

@@ -3,7 +3,7 @@ ghost use Rattle.std.specs.List.{AllByRecursion};
 ghost use Rattle.definitions.specs.Items.{IsItem};
 ghost use Rattle.definitions.specs.Sets.{IsSet, items_in};
 
-use crate::{FlatStore, RangeStore, With};
+use crate::{FlatStore, Insertion, RangeStore};
 use digest_core::{Fingerprint, Summary};
 use item_core::{Item, Lower, Range, Upper};
 use std::alloc::Global;
@@ -33,8 +33,8 @@ fn from_to(rt: &impl Abort, lower: &[u8], upper: Upper) -> Range {
 
 fn added<S: RangeStore>(rt: &impl Abort, alloc: Global, store: &S, bytes: &[u8]) -> S {
     match store.with(alloc, item(rt, bytes)).expect(rt, "memory") {
-        With::New(store) => store,
-        With::Already => panic!(rt; "there already"),
+        Insertion::New(store) => store,
+        Insertion::Already => panic!(rt; "there already"),
     }
 }
 
@@ -44,7 +44,7 @@ fn a_to_c<S: RangeStore>(rt: &impl Abort, alloc: Global) {
     let ca = added(rt, alloc, &added(rt, alloc, &none, b"c"), b"a");
     let all = added(rt, alloc, &ca, b"b");
     assert!(rt; none.is_empty() && ca.len() == 2 && all.len() == 3);
-    assert!(rt; matches!(all.with(alloc, item(rt, b"b")), Ok(With::Already)));
+    assert!(rt; matches!(all.with(alloc, item(rt, b"b")), Ok(Insertion::Already)));
     assert!(rt; all.has(&item(rt, b"b")) && !ca.has(&item(rt, b"b")) && !all.has(&item(rt, b"ab")));
 
     let from_ab = from_to(rt, b"ab", Upper::End);

@@ -53,7 +53,9 @@ fn bytes_both_ways(rt: HostRuntime) -> io::Result<()> {
     writer.write_all(b"back.")?;
     near.read_exact(&mut bytes)?;
     assert!(rt; bytes == *b"back.");
-    assert!(rt; near.nodelay()? && reader.get_ref().stream().nodelay()? && writer.stream().nodelay()?);
+    assert!(rt;
+        near.nodelay()? && reader.get_ref().stream().nodelay()? && writer.stream().nodelay()?
+    );
     Ok(())
 }
 

@@ -8,7 +8,7 @@ use Rattle.definitions.specs.Items.{Item, item_cmp}
 use Rattle.definitions.specs.Sets.{add_item, union}
 use Rattle.definitions.specs.Histories.{content, items_of}
 use Rattle.definitions.proofs.Lemmas.{length-map}
-use Rattle.version_log.specs.Logs.{Log, IsLog}
+use Rattle.version_log.specs.Logs.{LogState, IsLog}
 
 put_few : (x y : Item) (ys : List Item) (o : Ordering) → length (add_item ys x) ≤ length ys + 1 →
     length (match_ordering o (x ∷ y ∷ ys) (y ∷ ys) (y ∷ add_item ys x)) ≤ length (y ∷ ys) + 1
@@ -24,7 +24,7 @@ union_few : (A xs : List Item) → length (union A xs) ≤ length A + length xs
 union_few A [] = omega arith
 union_few A (x ∷ xs) = omega (arith, union_few (add_item A x) xs, add_few A x)
 
-pub content_fits : (l : Log) (cap : ℕ) → IsLog l → cap ≡ l.cap → length (content l.history) ≤ cap
+pub content_fits : (l : LogState) (cap : ℕ) → IsLog l → cap ≡ l.cap → length (content l.history) ≤ cap
 content_fits l cap good same =
     let fits = good.fits in
     omega (arith, union_few [] (items_of l.history), length-map l.history (λ (e : ℕ × Item). e.1))

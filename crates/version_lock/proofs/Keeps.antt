@@ -12,7 +12,7 @@ use lib.ListN.{get_elem?}
 use Rattle.atomic_table.specs.Table.{takes, keeps, gives, stepped, rest, Allows, Splits, Joins}
 use Rattle.atomic_table.proofs.Lists.{set_else, set_again, at_longer, at_snoc}
 use Rattle.definitions.specs.Histories.{History}
-use Rattle.version_log.specs.Logs.{Log, IsLog, with_writer_given}
+use Rattle.version_log.specs.Logs.{LogState, IsLog, with_writer_given}
 use Rattle.version_lock.specs.declared.view.View.{View}
 use Rattle.version_lock.specs.Beginnings.{Entry, StartsWith, entries_by}
 use Rattle.version_lock.specs.Lawful.{Table, Free, Held, Fits, Apart, Lawful}
@@ -25,7 +25,7 @@ use Rattle.version_lock.proofs.Seated.{apart_set, apart_new, apart_spent, apart_
 
 -- the slots that a seat holds
 abbrev Slots : Type 0
-Slots = List (ℕ × Option Log)
+Slots = List (ℕ × Option LogState)
 
 pub slot_first : {A : Type 0} (c : List (ℕ × A)) (x : ℕ × A) → c ≡ x ∷ [] → c ≡ x ∷ rest c
 slot_first c x e = rw e refl
@@ -79,7 +79,7 @@ takes_log s r id v at free = let w : View = holding r.log v in record {
 }
 
 -- where this view is not holding, the holder is another seat, and has the log after the view has changed
-still_held : (s : Table) (l : Log) (id : ℕ) (v w : View) (word : List ℕ) → At s.views id v → v.holding ≡ false →
+still_held : (s : Table) (l : LogState) (id : ℕ) (v w : View) (word : List ℕ) → At s.views id v → v.holding ≡ false →
     w.holding ≡ false → word ≡ 1 ∷ [] →
     Held s l → Held record { words = word; homes = s.homes; views = set s.views id w } l
 still_held s l id v w word at idle idle' one held =
@@ -122,7 +122,7 @@ tries slots id m empty idle live s r _ at _ = let v : View = m.0 in ⊎_elim
     ap (λ (c : Slots). (w, (0, Some r.log) ∷ c)) empty in (
       w,
       takes 0 (Some r.log),
-      ap (λ (hs : List (maybe.Option (Option Log))). get_elem? hs 0) free.home,
+      ap (λ (hs : List (maybe.Option (Option LogState))). get_elem? hs 0) free.home,
       subst (λ (c : Slots). Lawful (stepped s 0 1 id c w (takes 0 (Some r.log)))) (sym empty)
           (takes_log s r id v at free),
       (
@@ -162,7 +162,7 @@ found_log s r id v at holds live =
     λ i. record { cap = c i; history = b i; next_writer = n i }
 
 -- the seat that has the log gives one back, after which nobody has it
-frees : (s : Table) (r : Lawful s) (id : ℕ) (v w : View) (l : Log) → At s.views id v → v.holding ≡ true →
+frees : (s : Table) (r : Lawful s) (id : ℕ) (v w : View) (l : LogState) → At s.views id v → v.holding ≡ true →
     w.holding ≡ false → IsLog l →
     (w.spent ≡ false → Fits l w) → ((j : ℕ) (u : View) → j ≢ id → At s.views j u → u.spent ≡ false → Fits l u) →
     Apart (set s.views id w) →
@@ -192,7 +192,7 @@ module _ (s : Table) (r : Lawful s) (id : ℕ) (v : View) (at : At s.views id v)
   found_is_log = subst IsLog (sym log_is) r.is_log
 
   fits_found : (j : ℕ) (u : View) → At s.views j u → u.spent ≡ false → Fits (found v) u
-  fits_found j u atj livej = subst (λ (l : Log). Fits l u) (sym log_is) (r.each j u atj livej)
+  fits_found j u atj livej = subst (λ (l : LogState). Fits l u) (sym log_is) (r.each j u atj livej)
 
   -- as it was
   back : Lawful (stepped s 0 0 id ((0, Some (found v)) ∷ []) (gave_back v) gives)
@@ -270,7 +270,7 @@ gives_back slots id m slot holds live s r _ at _ = let w : View = gave_back m.0 
   ap (λ (c : Slots). (w, rest c)) slot,
 )
 
-abbrev history_in : Option Log → History
+abbrev history_in : Option LogState → History
 history_in None = []
 history_in (Some l) = l.history
 

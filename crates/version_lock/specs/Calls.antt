@@ -10,7 +10,7 @@ use Rattle.atomic_table.specs.declared.shared.Seat.{Seat}
 use Rattle.definitions.specs.Items.{Item}
 use Rattle.definitions.specs.Histories.{content, insertion}
 use Rattle.definitions.specs.Histories as histories
-use Rattle.version_log.specs.Logs.{Log}
+use Rattle.version_log.specs.Logs.{LogState}
 use Rattle.version_log.specs.declared.answer.Added.{Added}
 use Rattle.version_log.specs.declared.answer.Added.TheVariants.{New, Already}
 use Rattle.version_log.specs.declared.answer.LogFault.{LogFault}
@@ -26,7 +26,7 @@ use Rattle.version_lock.specs.Views.{waited, gave_back, added}
 -- ---- the seat at its table
 
 abbrev pub TableSeat : Type 0
-TableSeat = Seat (Option Log) View
+TableSeat = Seat (Option LogState) View
 
 abbrev pub view : TableSeat → View
 view s = s.me.0
@@ -43,7 +43,7 @@ pub record IsReady (lock : TableId) (s : TableSeat) : Type 0 where
   pub mine : (n : ℕ) → (view s).writer ≡ Some n → entries_by n (view s).seen ≡ (view s).mine
 
 -- a seat of this lock that has taken the slot, in which this stands now
-pub record Holds (lock : TableId) (slot_has : Option Log) (s : TableSeat) : Type 0 where
+pub record Holds (lock : TableId) (slot_has : Option LogState) (s : TableSeat) : Type 0 where
   pub own : s.table_id ≡ lock
   pub slot : s.me.1 ≡ (0, slot_has) ∷ []
   pub holds : (view s).holding ≡ true

@@ -6,22 +6,22 @@ use Rattle.std.specs.Prelude.{◌≡◌, ℕ, ◌<◌, true, false, ◌⊎◌, [
 use mathlib.Core.Option.{some}
 use lib.ListN.{get_elem?}
 use Rattle.atomic_table.specs.Table.{State}
-use Rattle.version_log.specs.Logs.{Log, IsLog}
+use Rattle.version_log.specs.Logs.{LogState, IsLog}
 use Rattle.version_lock.specs.declared.view.View.{View}
 use Rattle.version_lock.specs.Beginnings.{StartsWith, entries_by}
 
 -- the words, the slots at home and the views
 abbrev pub Table : Type 0
-Table = State (Option Log) View
+Table = State (Option LogState) View
 
 -- the word is FREE, the log is at home, and no view is holding
-pub record Free (s : Table) (l : Log) : Type 0 where
+pub record Free (s : Table) (l : LogState) : Type 0 where
   pub word : s.words ≡ 0 ∷ []
   pub home : s.homes ≡ some (Some l) ∷ []
   pub nobody : (id : ℕ) (v : View) → get_elem? s.views id ≡ some v → v.holding ≡ false
 
 -- the word is HELD, and exactly one view is holding, which found this log
-pub record Held (s : Table) (l : Log) : Type 0 where
+pub record Held (s : Table) (l : LogState) : Type 0 where
   pub word : s.words ≡ 1 ∷ []
   pub away : length s.homes ≡ 1
   pub holder : ℕ
@@ -32,7 +32,7 @@ pub record Held (s : Table) (l : Log) : Type 0 where
   pub alone : (id : ℕ) (v : View) → get_elem? s.views id ≡ some v → v.holding ≡ true → id ≡ holder
 
 -- what a view that is not spent is to the log
-pub record Fits (l : Log) (v : View) : Type 0 where
+pub record Fits (l : LogState) (v : View) : Type 0 where
   pub cap : v.cap ≡ l.cap
   pub seen : StartsWith l.history v.seen
   pub joined : All (λ seen. StartsWith l.history seen) v.joined
@@ -47,7 +47,7 @@ Apart views =
 
 -- there is one log, and each view that is not spent fits it
 pub record Lawful (s : Table) : Type 0 where
-  pub log : Log
+  pub log : LogState
   pub is_log : IsLog log
   pub place : Free s log ⊎ Held s log
   pub each : (id : ℕ) (v : View) → get_elem? s.views id ≡ some v → v.spent ≡ false → Fits log v

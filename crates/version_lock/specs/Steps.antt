@@ -2,7 +2,7 @@
 use Rattle.std.specs.Prelude.{◌≡◌, ◌≢◌, ℕ, ◌+◌, ◌≤◌, [], ◌∷◌, length, Option, Some}
 use Rattle.atomic_table.specs.Table.{Me}
 use Rattle.definitions.specs.Histories.{content}
-use Rattle.version_log.specs.Logs.{Log, IsLog}
+use Rattle.version_log.specs.Logs.{LogState, IsLog}
 use Rattle.version_lock.specs.declared.view.View.{View}
 use Rattle.version_lock.specs.Beginnings.{Entry}
 use Rattle.version_lock.specs.Lawful.{Fits}
@@ -10,11 +10,11 @@ use Rattle.version_lock.specs.Views.{found, with_entry, waited, holding, gave_ba
 
 -- a seat's view, and the slots that it holds
 abbrev pub Mine : Type 0
-Mine = Me (Option Log) View
+Mine = Me (Option LogState) View
 
 -- the word was FREE: the seat has the log, which its view fits
 pub record Took (m m' : Mine) : Type 0 where
-  pub log : Log
+  pub log : LogState
   pub is_log : IsLog log
   pub fits : Fits log m.0
   -- its set has no more items than the cap

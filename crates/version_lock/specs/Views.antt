@@ -4,7 +4,7 @@
 --     split_off, joined_with, spent                      a seat that is split, and two that are joined
 use Rattle.std.specs.Prelude.{ℕ, ◌+◌, true, false, [], ◌∷◌, ◌++◌, Some, None}
 use Rattle.definitions.specs.Histories.{History}
-use Rattle.version_log.specs.Logs.{Log, log}
+use Rattle.version_log.specs.Logs.{LogState, log}
 use Rattle.version_lock.specs.declared.view.View.{View}
 use Rattle.version_lock.specs.Beginnings.{Entry}
 
@@ -25,10 +25,10 @@ new_view h cap = record {
 }
 
 -- the log that a holding view found
-abbrev pub found : View → Log
+abbrev pub found : View → LogState
 found v = log v.cap v.base v.next_writer
 
-abbrev pub with_entry : Log → Entry → Log
+abbrev pub with_entry : LogState → Entry → LogState
 with_entry l e = record l { history = l.history ++ e ∷ [] }
 
 -- the seat has found the word HELD so many times
@@ -36,7 +36,7 @@ abbrev pub waited : ℕ → View → View
 waited busy v = record v { busy = busy }
 
 -- the seat took the log out of its slot
-abbrev pub holding : Log → View → View
+abbrev pub holding : LogState → View → View
 holding l v = record v { holding = true; base = l.history; next_writer = l.next_writer; took = v.took + 1 }
 
 -- it gave the log back as it was

@@ -9,13 +9,13 @@ use crate::view::View;
 use atomic_table::TableRule;
 use std::snapshot::Snapshot;
 use store_core::RangeStore;
-use version_log::Published;
+use version_log::Log;
 
 /// What holds between any two steps at a lock: there is one history, in which each view that is not spent has its
 /// place.
 pub fn one_history<S: RangeStore>()
     ensures { (opened : _) (table : _) →
-        ⟦<OneHistory as TableRule<Option<Published<S>>, View, Snapshot<Published<S>>>>⟧.holds opened table →
+        ⟦<OneHistory as TableRule<Option<Log<S>>, View, Snapshot<Log<S>>>>⟧.holds opened table →
         Lawful table }
 {}
 

@@ -1,13 +1,13 @@
-//! A lock round one published log. Each thread calls it with a seat, whose view says what it has seen.
+//! A lock round one log. Each thread calls it with a seat, whose view says what it has seen.
 #![tactic(auto)]
 
-mod calls;
 mod fault;
 pub mod laws;
 mod lock;
 mod pin;
 mod seat;
 mod steps;
+mod turns;
 mod view;
 
 pub use fault::{InsertFault, PinFault};

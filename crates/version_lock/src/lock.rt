@@ -1,12 +1,17 @@
-ghost use Rattle.std.specs.Prelude.{◌≡◌, ℕ, ◌≤◌, [], ◌∷◌, ◌<◌, Some, None, IfOk, IfErr, MatchBool, MatchResult};
-ghost use Rattle.version_log.specs.Logs.{Log, IsLog, max_next_writer, with_writer_given};
-ghost use Rattle.version_lock.specs.Views.{found, with_entry, waited, gave_back, added, enrolled};
-ghost use Rattle.version_lock.specs.Steps.{Took, Missed};
-ghost use Rattle.version_lock.specs.Calls.{view, IsSame, IsReady, Holds, Inserted, NotInserted, IsPinOf};
+//! A lock round a log that threads share, and its calls.
 
+ghost use Rattle.std.specs.Prelude.{◌≡◌, ℕ, Some, None, IsSome, IfOk, IfErr, MatchResult};
+ghost use Rattle.version_log.specs.Logs.{max_next_writer};
+ghost use Rattle.version_lock.specs.Beginnings.{StartsWith, entries_by};
+ghost use Rattle.version_lock.specs.Views.{new_view, split_off, joined_with};
+ghost use Rattle.version_lock.specs.Seats.{seat_state};
+ghost use Rattle.version_lock.specs.Calls.{Looked, LookedAtOnce, GotNumber, DidInsert, DidNotInsert, TriedInsert, Met};
+ghost use Rattle.version_lock.specs.Calls.{IsPinOf, NoPin};
+
+use crate::fault::{InsertFault, PinFault};
 use crate::pin::Pin;
-use crate::seat::TableSeat;
-use crate::steps::{Add, Enroll, GiveBack, OneHistory, Try};
+use crate::seat::Seat;
+use crate::steps::{JoinTo, OneHistory, SplitOff};
 use crate::view::View;
 use atomic_table::Table;
 use item_core::Item;
@@ -14,9 +19,8 @@ use std::alloc::{AllocError, Global};
 use std::marker::Model;
 use std::snapshot::Snapshot;
 use std::sync::Wait;
-use std::thread::yield_now;
 use store_core::RangeStore;
-use version_log::{Added, LogFault, Published, WritersSpent};
+use version_log::{Added, Log, LogFault, WritersSpent};
 
 // The word of a lock whose log is in its slot.
 pub(crate) const FREE: u64 = 0;
@@ -27,7 +31,7 @@ pub(crate) const HELD: u64 = 1;
 /// A log that threads share. One word says whether it is free, and one slot has it. Contracts see which lock it is.
 #[derive(Drop)]
 pub struct VersionLock<S: RangeStore> {
-    pub(crate) table: Table<Option<Published<S>>, View, Snapshot<Published<S>>, OneHistory, Global>,
+    pub(crate) table: Table<Option<Log<S>>, View, Snapshot<Log<S>>, OneHistory, Global>,
 }
 
 impl<S: RangeStore> Model for VersionLock<S> {
@@ -42,160 +46,171 @@ impl<S: RangeStore> Model for VersionLock<S> {
 }
 
 impl<S: RangeStore> VersionLock<S> {
-    // One try to take the log.
-    pub(crate) fn try_lock(&self, seat: &mut TableSeat<S>) -> bool
-        requires { IsReady self.now seat.old }
-        ensures same { IsSame seat.old seat.new }
-        ensures tried { MatchBool result (Took seat.old.me seat.new.me) (Missed seat.old.me seat.new.me) }
+    /// The lock, and its first seat, which has seen the whole history and is not enrolled. Else 90; the log is dropped.
+    pub fn new(alloc: Global, log: Log<S>) -> Result<(VersionLock<S>, Seat<S>), AllocError>
+        ensures { IfOk result (λ r. r.1 ≡ seat_state r.0 (new_view log.history log.cap)) }
     {
-        self.table.shared.swap::<Try>(seat, 0, HELD) == FREE
-    }
-
-    // Tries until the seat has the log.
-    pub(crate) fn lock<R: Wait>(&self, rt: &R, seat: &mut TableSeat<S>)
-        requires { IsReady self.now seat.old }
-        ensures same { IsSame seat.old seat.new }
-        ensures took { (busy : ℕ) × ((view seat.old).busy ≤ busy)
-            × Took (waited busy (view seat.old), []) seat.new.me }
-    {
-        for _ in rt.forever() {
-            if self.try_lock(seat) {
-                return;
+        let opened = Snapshot::of(&log);
+        let mut slots = Vec::new(alloc);
+        slots.push(Some(log))?;
+        match Table::new(alloc, &[FREE], slots, &opened) {
+            Ok((table, place)) => {
+                let seat = Seat {
+                    place,
+                    writer: None,
+                };
+                Ok((VersionLock { table }, seat))
             }
-            // the thread that has the log may want this processor
-            yield_now();
-        }
-        unreachable!()
-    }
-
-    // The log leaves its slot.
-    pub(crate) fn take(&self, seat: &mut TableSeat<S>) -> Published<S>
-        requires { (log : Log) × Holds self.now (Some log) seat.old }
-        ensures seat { IsSame seat.old seat.new × Holds self.now None seat.new × (view seat.new ≡ view seat.old) }
-        ensures log { seat.old.me.1 ≡ (0, Some result) ∷ [] }
-    {
-        match self.table.shared.exchange(seat, 0, None) {
-            Some(log) => log,
-            None => unreachable!(),
+            Err(_) => Err(AllocError),
         }
     }
 
-    // The log comes into its slot.
-    pub(crate) fn put(&self, seat: &mut TableSeat<S>, log: Published<S>)
-        requires { Holds self.now None seat.old }
-        ensures { IsSame seat.old seat.new × Holds self.now (Some log) seat.new × (view seat.new ≡ view seat.old) }
-    {
-        match self.table.shared.exchange(seat, 0, Some(log)) {
-            None => {}
-            Some(_) => unreachable!(),
-        }
-    }
-
-    // Gives the log back as it was found.
-    pub(crate) fn give_back(&self, seat: &mut TableSeat<S>, log: Published<S>)
-        requires { Holds self.now None seat.old × (log ≡ found (view seat.old)) }
-        ensures { IsSame seat.old seat.new × (seat.new.me ≡ (gave_back (view seat.old), [])) }
-    {
-        self.put(seat, log);
-        self.table.shared.store::<GiveBack>(seat, 0, FREE);
-    }
-
-    // A copy of the store of the log that the seat has taken, which it gives back.
-    pub(crate) fn pinned(
+    /// The newest version. It tries again until it has the log.
+    pub fn pin<R: Wait>(
         &self,
+        rt: &R,
         alloc: Global,
-        seat: &mut TableSeat<S>,
+        seat: &mut Seat<S>,
     ) -> Result<Pin<S>, AllocError>
-        requires holds { Holds self.now (Some (found (view seat.old))) seat.old }
-        requires log { IsLog (found (view seat.old)) }
-        ensures seat { IsSame seat.old seat.new × (seat.new.me ≡ (gave_back (view seat.old), [])) }
-        ensures pin { IfOk result (λ p. IsPinOf p (view seat.new)) }
+        requires { seat.old.table_id ≡ self.now }
+        ensures seat { seat.new.table_id ≡ seat.old.table_id }
+        ensures view { Looked seat.old.view seat.new.view }
+        ensures pin { IfOk result (λ p. IsPinOf p seat.new.view) }
     {
-        let log = self.take(seat);
-        let version = log.version();
-        let store = log.store().copy(alloc);
-        self.give_back(seat, log);
-        Ok(Pin {
-            version,
-            store: store?,
-        })
-    }
-    // Gives the log back with one entry more.
-    pub(crate) fn give_back_with(
-        &self,
-        seat: &mut TableSeat<S>,
-        log: Published<S>,
-        writer: u32,
-        item: Item,
-    )
-        requires holds { Holds self.now None seat.old × ((view seat.old).writer ≡ Some writer) }
-        requires log { log ≡ with_entry (found (view seat.old)) (writer, item) }
-        ensures { IsSame seat.old seat.new × (seat.new.me ≡ (added (writer, item) (view seat.old), [])) }
-    {
-        self.put(seat, log);
-        self.table.shared.store::<Add>(seat, 0, FREE);
+        self.lock(rt, &mut seat.place);
+        self.pin_at(alloc, &mut seat.place)
     }
 
-    // Gives the log back with one writer number given out.
-    pub(crate) fn give_back_numbered(&self, seat: &mut TableSeat<S>, log: Published<S>)
-        requires { Holds self.now None seat.old × (log ≡ with_writer_given (found (view seat.old))) }
-        ensures { IsSame seat.old seat.new × (seat.new.me ≡ (enrolled (view seat.old), [])) }
+    /// The newest version, by one try, which never waits. Else 41 or 90.
+    pub fn try_pin(&self, alloc: Global, seat: &mut Seat<S>) -> Result<Pin<S>, PinFault>
+        requires { seat.old.table_id ≡ self.now }
+        ensures seat { seat.new.table_id ≡ seat.old.table_id }
+        ensures view { MatchResult result (λ _. LookedAtOnce seat.old.view seat.new.view)
+            (λ e. NoPin e seat.old.view seat.new.view) }
+        ensures pin { IfOk result (λ p. IsPinOf p seat.new.view) }
     {
-        self.put(seat, log);
-        self.table.shared.store::<Enroll>(seat, 0, FREE);
+        if !self.try_lock(&mut seat.place) {
+            return Err(PinFault::Busy);
+        }
+        self.pin_at(alloc, &mut seat.place)
+            .map_err(|_| PinFault::Memory)
     }
 
-    // The log that the seat has taken gets the item, if it lacks it, and is given back.
-    pub(crate) fn inserted(
+    /// Gives the seat the next writer number of the log, which rises by one. It tries again until it has the log.
+    ///
+    /// Else 42, where no number is left.
+    pub fn enroll<R: Wait>(&self, rt: &R, seat: &mut Seat<S>) -> Result<u32, WritersSpent>
+        requires { (seat.old.table_id ≡ self.now) × (seat.old.view.writer ≡ None) }
+        ensures seat { seat.new.table_id ≡ seat.old.table_id }
+        ensures given { IfOk result (λ n. GotNumber seat.old.view seat.new.view × (n ≡ seat.new.view.next_writer)) }
+        ensures spent { IfErr result (λ _. Looked seat.old.view seat.new.view
+            × (seat.new.view.next_writer ≡ max_next_writer)) }
+    {
+        self.lock(rt, &mut seat.place);
+        let writer = self.enroll_at(&mut seat.place)?;
+        seat.writer = Some(writer);
+        Ok(writer)
+    }
+
+    /// Adds an item to the log, if the log lacks it. It tries again until it has the log.
+    ///
+    /// Else 40 where the item is new and there are as many items as the cap, or 90, where it is new.
+    pub fn insert<R: Wait>(
         &self,
+        rt: &R,
         alloc: Global,
-        seat: &mut TableSeat<S>,
-        writer: u32,
+        seat: &mut Seat<S>,
         item: Item,
     ) -> Result<Added, LogFault>
-        requires holds { Holds self.now (Some (found (view seat.old))) seat.old
-            × ((view seat.old).writer ≡ Some writer) }
-        requires below { writer < (view seat.old).next_writer }
-        ensures seat { IsSame seat.old seat.new × (seat.new.me.1 ≡ []) }
-        ensures added { MatchResult result (λ a. Inserted writer item (view seat.old) a (view seat.new))
-            (λ e. NotInserted item (view seat.old) e (view seat.new)) }
+        requires { (seat.old.table_id ≡ self.now) × IsSome seat.old.view.writer }
+        ensures seat { seat.new.table_id ≡ seat.old.table_id }
+        ensures kept { (seat.new.view.writer ≡ seat.old.view.writer) × (seat.new.view.cap ≡ seat.old.view.cap) }
+        ensures did { IfOk result (λ a. DidInsert item seat.old.view a seat.new.view) }
+        ensures did_not { IfErr result (λ e. DidNotInsert item seat.old.view e seat.new.view) }
     {
-        let mut log = self.take(seat);
-        match log.add(alloc, writer, item) {
-            Ok(Added::New(version)) => {
-                self.give_back_with(seat, log, writer, item);
-                Ok(Added::New(version))
-            }
-            Ok(Added::Already) => {
-                self.give_back(seat, log);
-                Ok(Added::Already)
-            }
-            Err(fault) => {
-                self.give_back(seat, log);
-                Err(fault)
-            }
+        let Some(writer) = seat.writer else {
+            unreachable!()
+        };
+        self.lock(rt, &mut seat.place);
+        self.insert_at(alloc, &mut seat.place, writer, item)
+    }
+
+    /// Adds an item to the log, if the log lacks it, by one try, which never waits. Else 41, or as `insert`.
+    pub fn try_insert(
+        &self,
+        alloc: Global,
+        seat: &mut Seat<S>,
+        item: Item,
+    ) -> Result<Added, InsertFault>
+        requires { (seat.old.table_id ≡ self.now) × IsSome seat.old.view.writer }
+        ensures seat { seat.new.table_id ≡ seat.old.table_id }
+        ensures kept { (seat.new.view.writer ≡ seat.old.view.writer) × (seat.new.view.cap ≡ seat.old.view.cap) }
+        ensures did { IfOk result (λ a. DidInsert item seat.old.view a seat.new.view
+            × (seat.new.view.busy ≡ seat.old.view.busy)) }
+        ensures did_not { IfErr result (λ e. TriedInsert item seat.old.view e seat.new.view) }
+    {
+        let Some(writer) = seat.writer else {
+            unreachable!()
+        };
+        if !self.try_lock(&mut seat.place) {
+            return Err(InsertFault::Busy);
+        }
+        match self.insert_at(alloc, &mut seat.place, writer, item) {
+            Ok(added) => Ok(added),
+            Err(LogFault::Full) => Err(InsertFault::Full),
+            Err(LogFault::Memory) => Err(InsertFault::Memory),
         }
     }
 
-    // The log that the seat has taken gives it a writer number, if there is one left, and is given back.
-    pub(crate) fn numbered(&self, seat: &mut TableSeat<S>) -> Result<u32, WritersSpent>
-        requires { Holds self.now (Some (found (view seat.old))) seat.old }
-        ensures seat { IsSame seat.old seat.new × (seat.new.me.1 ≡ []) }
-        ensures given { IfOk result (λ n. (n ≡ (view seat.old).next_writer)
-            × (view seat.new ≡ enrolled (view seat.old))) }
-        ensures spent { IfErr result (λ _. ((view seat.old).next_writer ≡ max_next_writer)
-            × (view seat.new ≡ gave_back (view seat.old))) }
+    /// A new seat, which is not enrolled and has seen what this one has seen.
+    pub fn split_seat(&self, seat: &mut Seat<S>) -> Seat<S>
+        requires { seat.old.table_id ≡ self.now }
+        ensures kept { seat.new ≡ seat.old }
+        ensures given { result ≡ seat_state self.now (split_off seat.old.view) }
     {
-        let mut log = self.take(seat);
-        match log.give_writer() {
-            Ok(writer) => {
-                self.give_back_numbered(seat, log);
-                Ok(writer)
-            }
-            Err(spent) => {
-                self.give_back(seat, log);
-                Err(spent)
-            }
+        let place = self.table.shared.split_seat::<SplitOff>(&mut seat.place);
+        Seat {
+            place,
+            writer: None,
         }
+    }
+
+    /// Ends the other seat. What it had seen is known to stand in the history from then on; `meet` it first to see
+    /// that.
+    pub fn join_seat(&self, seat: &mut Seat<S>, other: Seat<S>)
+        requires { (seat.old.table_id ≡ self.now) × (other.table_id ≡ self.now) }
+        ensures { seat.new ≡ seat_state self.now (joined_with seat.old.view other.view) }
+    {
+        let Seat { place, writer: _ } = other;
+        self.table
+            .shared
+            .join_seat::<JoinTo>(&mut seat.place, place);
+    }
+
+    /// After this call the first seat has seen all that both had seen. It tries again until it has the log.
+    ///
+    /// A call that returns has taken no memory.
+    pub fn meet<R: Wait>(&self, rt: &R, seat: &mut Seat<S>, other: &mut Seat<S>)
+        requires { (seat.old.table_id ≡ self.now) × (other.old.table_id ≡ self.now) }
+        ensures seat { seat.new.table_id ≡ seat.old.table_id }
+        ensures other { other.new ≡ other.old }
+        ensures met { Met seat.old.view other.old.view seat.new.view }
+    {
+        let seen = self.table.shared.split_seat::<SplitOff>(&mut other.place);
+        self.table.shared.join_seat::<JoinTo>(&mut seat.place, seen);
+        self.lock(rt, &mut seat.place);
+        let log = self.take(&mut seat.place);
+        self.give_back(&mut seat.place, log);
+    }
+
+    /// Takes the log out for good. Its history begins with what the seat had seen, and has of its writer what it added.
+    pub fn close_with<R: Wait>(self, rt: &R, mut seat: Seat<S>) -> Log<S>
+        requires { seat.table_id ≡ self }
+        ensures seen { StartsWith result.history seat.view.seen }
+        ensures mine { (n : ℕ) → seat.view.writer ≡ Some n → entries_by n result.history ≡ seat.view.mine }
+        ensures cap { result.cap ≡ seat.view.cap }
+    {
+        self.lock(rt, &mut seat.place);
+        self.take(&mut seat.place)
     }
 }

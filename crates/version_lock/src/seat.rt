@@ -1,10 +1,10 @@
 use crate::view::View;
 use std::marker::Model;
 use store_core::RangeStore;
-use version_log::Published;
+use version_log::Log;
 
 // A seat at the table under the lock. It has no bytes.
-pub(crate) type TableSeat<S> = atomic_table::Seat<Option<Published<S>>, View>;
+pub(crate) type TableSeat<S> = atomic_table::Seat<Option<Log<S>>, View>;
 
 /// What a thread calls the lock with. Contracts see which lock it is of, and its view.
 #[derive(Drop)]

@@ -3,12 +3,12 @@ use crate::view::View;
 use atomic_table::{Join, Play, Split, TableRule};
 use std::snapshot::Snapshot;
 use store_core::RangeStore;
-use version_log::Published;
+use version_log::Log;
 
 /// The rule of the lock.
 pub struct OneHistory;
 
-impl<S: RangeStore> TableRule<Option<Published<S>>, View, Snapshot<Published<S>>> for OneHistory {
+impl<S: RangeStore> TableRule<Option<Log<S>>, View, Snapshot<Log<S>>> for OneHistory {
     ghost use Rattle.version_lock.specs.Lawful.{Lawful};
     ghost use Rattle.version_lock.specs.Views.{new_view};
 
@@ -20,7 +20,7 @@ impl<S: RangeStore> TableRule<Option<Published<S>>, View, Snapshot<Published<S>>
 /// The word is exchanged against HELD.
 pub struct Try;
 
-impl<S: RangeStore> Play<Option<Published<S>>, View> for Try {
+impl<S: RangeStore> Play<Option<Log<S>>, View> for Try {
     ghost use Rattle.version_lock.specs.Steps.{Tried};
 
     ghost then = { λ _. Tried };
@@ -29,7 +29,7 @@ impl<S: RangeStore> Play<Option<Published<S>>, View> for Try {
 /// The log is given back as it was.
 pub struct GiveBack;
 
-impl<S: RangeStore> Play<Option<Published<S>>, View> for GiveBack {
+impl<S: RangeStore> Play<Option<Log<S>>, View> for GiveBack {
     ghost use Rattle.version_lock.specs.Steps.{GaveBack};
 
     ghost then = { λ _ m _. GaveBack m };
@@ -38,7 +38,7 @@ impl<S: RangeStore> Play<Option<Published<S>>, View> for GiveBack {
 /// The log is given back with one entry more.
 pub struct Add;
 
-impl<S: RangeStore> Play<Option<Published<S>>, View> for Add {
+impl<S: RangeStore> Play<Option<Log<S>>, View> for Add {
     ghost use Rattle.version_lock.specs.Steps.{Added};
 
     ghost then = { λ _ m _. Added m };
@@ -47,7 +47,7 @@ impl<S: RangeStore> Play<Option<Published<S>>, View> for Add {
 /// The log is given back with one writer number given out.
 pub struct Enroll;
 
-impl<S: RangeStore> Play<Option<Published<S>>, View> for Enroll {
+impl<S: RangeStore> Play<Option<Log<S>>, View> for Enroll {
     ghost use Rattle.version_lock.specs.Steps.{Enrolled};
 
     ghost then = { λ _ m _. Enrolled m };

@@ -1,5 +1,5 @@
 -- A published history as plain data.
---     Log, IsLog l                     a cap, a history and the next writer number; what holds of each log
+--     LogState, IsLog l                     a cap, a history and the next writer number; what holds of each log
 --     opened cap items next_writer     a log as it is opened
 --     log_after l writer x answer      the log after an insert with this answer
 --     with_writer_given l              the log after its next writer number was given out
@@ -8,7 +8,7 @@ use Rattle.std.specs.List.{AllByRecursion}
 use Rattle.definitions.specs.Items.{Item}
 use Rattle.definitions.specs.Histories.{History, IsHistory, opening_history, Insertion, history_after}
 
-pub record Log : Type 0 where
+pub record LogState : Type 0 where
   -- the greatest number of items
   pub cap : ℕ
   -- who brought which item, in order
@@ -31,24 +31,24 @@ abbrev pub IsNextWriter : ℕ → Type 0
 IsNextWriter next = (1 ≤ next) × (next ≤ max_next_writer)
 
 -- what holds of each log
-pub record IsLog (l : Log) : Type 0 where
+pub record IsLog (l : LogState) : Type 0 where
   pub once : IsHistory l.history
   pub fits : length l.history ≤ l.cap
   pub cap : IsCap l.cap
   pub writers : AllByRecursion (λ e. e.0 < l.next_writer) l.history
   pub next_writer : IsNextWriter l.next_writer
 
-abbrev pub log : ℕ → History → ℕ → Log
+abbrev pub log : ℕ → History → ℕ → LogState
 log cap h next_writer = record { cap = cap; history = h; next_writer = next_writer }
 
 -- the log as it is opened with these items
-abbrev pub opened : ℕ → List Item → ℕ → Log
+abbrev pub opened : ℕ → List Item → ℕ → LogState
 opened cap items next_writer = log cap (opening_history items) next_writer
 
 -- the log after an insert with this answer; without one, where memory ran out, nothing changes
-abbrev pub log_after : Log → ℕ → Item → Option Insertion → Log
+abbrev pub log_after : LogState → ℕ → Item → Option Insertion → LogState
 log_after l writer x (Some answer) = record l { history = history_after l.history writer x answer }
 log_after l writer x None = l
 
-abbrev pub with_writer_given : Log → Log
+abbrev pub with_writer_given : LogState → LogState
 with_writer_given l = record l { next_writer = l.next_writer + 1 }

@@ -1,13 +1,13 @@
-//! Published versions: a history of items and their writers, beside a store of its items.
+//! Log versions: a history of items and their writers, beside a store of its items.
 #![tactic(auto)]
 
 mod answer;
 mod entry;
-mod opening;
-mod published;
+mod first_entries;
+mod log;
 #[cfg(test)]
 mod tests;
 
 pub use answer::{Added, LogFault, WritersSpent};
 pub use entry::Entry;
-pub use published::Published;
+pub use log::Log;

@@ -1,7 +1,7 @@
 ghost use Rattle.std.specs.Prelude.{◌≡◌, ◌<◌, true, false, OnOk, OnErr, IfOk};
 ghost use Rattle.definitions.specs.Histories.{insertion, history_after, New, Already};
 
-use crate::{Added, LogFault, Published};
+use crate::{Added, Log, LogFault};
 use item_core::Item;
 use std::alloc::Global;
 use std::process::Abort;
@@ -10,7 +10,7 @@ use store_core::{FlatStore, RangeStore, laws, spans};
 
 // What a caller learns of an insert, in the words of the definitions.
 
-fn insert(alloc: Global, log: &mut Published<FlatStore>, item: Item) -> Result<bool, LogFault>
+fn insert(alloc: Global, log: &mut Log<FlatStore>, item: Item) -> Result<bool, LogFault>
     requires { 0 < log.old.next_writer }
     ensures history { OnOk result (log.new.history ≡ history_after log.old.history 0 item
         (insertion log.old.cap log.old.history item)) }
@@ -27,19 +27,14 @@ fn item(rt: &impl Abort, bytes: &[u8]) -> Item {
 fn add<S: RangeStore>(
     rt: &impl Abort,
     alloc: Global,
-    log: &mut Published<S>,
+    log: &mut Log<S>,
     bytes: &[u8],
 ) -> Result<Added, LogFault> {
     assert!(rt; log.next_writer() > 0);
     log.add(alloc, 0, item(rt, bytes))
 }
 
-fn version_at<S: RangeStore>(
-    rt: &impl Abort,
-    alloc: Global,
-    log: &Published<S>,
-    number: usize,
-) -> S {
+fn version_at<S: RangeStore>(rt: &impl Abort, alloc: Global, log: &Log<S>, number: usize) -> S {
     assert!(rt; number <= log.version());
     log.version_at(alloc, number).expect(rt, "memory")
 }
@@ -48,7 +43,7 @@ fn version_at<S: RangeStore>(
 fn two_items<S: RangeStore>(rt: &impl Abort, alloc: Global) {
     let a = item(rt, b"a");
     let b = item(rt, b"b");
-    let mut log: Published<S> = Published::new(alloc, 2, &[a, a]).ok().expect(rt, "a log");
+    let mut log: Log<S> = Log::new(alloc, 2, &[a, a]).ok().expect(rt, "a log");
     assert!(rt; log.version() == 1 && log.cap() == 2 && log.next_writer() == 1);
     assert_eq!(rt; add(rt, alloc, &mut log, b"b"), Ok(Added::New(2)));
     assert_eq!(rt; add(rt, alloc, &mut log, b"a"), Ok(Added::Already));
@@ -68,11 +63,11 @@ fn flat_store(rt: HostRuntime) {
 }
 
 // The log of the set of these items, by the cap 2.
-fn of_set(rt: &impl Abort, alloc: Global, items: Vec<Item>) -> Published<FlatStore> {
+fn of_set(rt: &impl Abort, alloc: Global, items: Vec<Item>) -> Log<FlatStore> {
     laws::set_of_a_list();
     let rising = spans::distinct(items);
     assert!(rt; rising.len() <= 2);
-    Published::of_set(alloc, 2, &rising).expect(rt, "memory")
+    Log::of_set(alloc, 2, &rising).expect(rt, "memory")
 }
 
 #[test]
@@ -91,9 +86,9 @@ fn items_that_rise(rt: HostRuntime) -> Result<(), Fail> {
 fn more_items_than_the_cap(rt: HostRuntime) {
     let a = item(&rt, b"a");
     let b = item(&rt, b"b");
-    let two: Result<Published<FlatStore>, LogFault> = Published::new(rt.alloc(), 1, &[a, b]);
+    let two: Result<Log<FlatStore>, LogFault> = Log::new(rt.alloc(), 1, &[a, b]);
     assert!(rt; matches!(two, Err(LogFault::Full)));
-    let one: Result<Published<FlatStore>, LogFault> = Published::new(rt.alloc(), 1, &[a, a]);
+    let one: Result<Log<FlatStore>, LogFault> = Log::new(rt.alloc(), 1, &[a, a]);
     assert!(rt; one.is_ok());
 }
 
@@ -101,7 +96,7 @@ fn more_items_than_the_cap(rt: HostRuntime) {
 fn entries_in_order(rt: HostRuntime) {
     let b = item(&rt, b"b");
     let a = item(&rt, b"a");
-    let opened: Result<Published<FlatStore>, LogFault> = Published::starting_at(
+    let opened: Result<Log<FlatStore>, LogFault> = Log::starting_at(
         rt.alloc(),
         3,
         &[b, a, b],

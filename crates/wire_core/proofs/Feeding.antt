@@ -13,8 +13,8 @@ use Rattle.wire_core.specs.Events.{event_values}
 use Rattle.wire_core.specs.Standings.{standing_of, left_at, behind, goes_on, fed_as}
 use Rattle.wire_core.specs.declared.event.Event as declared
 use Rattle.wire_core.specs.declared.standing.Standing.{Standing}
-use Rattle.wire_core.specs.declared.standing.Step.{Step}
-use Rattle.wire_core.specs.declared.standing.Step.TheVariants as steps
+use Rattle.wire_core.specs.declared.standing.Progress.{Progress}
+use Rattle.wire_core.specs.declared.standing.Progress.TheVariants as steps
 
 -- the events so far, in front of those that are still to be read, are all
 abbrev pub IsReached : {F : Type 0} → Profile F → List (wire.Event F) → ℕ → List ℕ → List (wire.Event F) → ℕ →
@@ -24,13 +24,13 @@ IsReached P events parts rest before first bytes = (fuel : ℕ) → length bytes
     × (behind events (feed_frames P left parts rest) ≡ behind before (feed_frames P fuel first bytes))
 
 -- one frame, whatever comes behind it
-abbrev pub IsStep : {F : Type 0} → Profile F → List (wire.Event F) → ℕ → List ℕ → List (wire.Event F) → Step →
+abbrev pub IsStep : {F : Type 0} → Profile F → List (wire.Event F) → ℕ → List ℕ → List (wire.Event F) → Progress →
     List ℕ → Type 0
 IsStep {F} P events parts rest more_events step after = (more : ℕ → List ℕ → Fed F) →
     behind events (fed_by (event_at P Stream parts rest) parts rest more) ≡ behind more_events (goes_on step after more)
 
 a_step : {F : Type 0} (P : Profile F) (events : List (wire.Event F)) (parts : ℕ) (rest : List ℕ)
-    (more_events : List (wire.Event F)) (step : Step) (after : List ℕ) →
+    (more_events : List (wire.Event F)) (step : Progress) (after : List ℕ) →
     IsStep P events parts rest more_events step after →
     (fuel : ℕ) → length rest ≤ fuel →
     (left : ℕ) × (length rest ≤ left + 1)

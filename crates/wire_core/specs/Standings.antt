@@ -15,8 +15,8 @@ use Rattle.wire_core.specs.Events.{event_values}
 use Rattle.wire_core.specs.declared.event.Event as declared
 use Rattle.wire_core.specs.declared.standing.Standing.{Standing}
 use Rattle.wire_core.specs.declared.standing.Standing.TheVariants as standings
-use Rattle.wire_core.specs.declared.standing.Step.{Step}
-use Rattle.wire_core.specs.declared.standing.Step.TheVariants as steps
+use Rattle.wire_core.specs.declared.standing.Progress.{Progress}
+use Rattle.wire_core.specs.declared.standing.Progress.TheVariants as steps
 
 abbrev pub standing_of : Standing → streams.Standing
 standing_of standings.BeforeHello = streams.Before_hello
@@ -39,11 +39,11 @@ left_at (standings.Faulted f) bytes = []
 abbrev pub behind : {F : Type 0} → List (Event F) → Fed F → Fed F
 behind before fed = record { events = before ++ fed.events; to = fed.to; kept = fed.kept }
 
-abbrev pub goes_on : {F : Type 0} → Step → List ℕ → (ℕ → List ℕ → Fed F) → Fed F
+abbrev pub goes_on : {F : Type 0} → Progress → List ℕ → (ℕ → List ℕ → Fed F) → Fed F
 goes_on (steps.More parts) bytes more = more parts bytes
 goes_on (steps.Rest standing) bytes more = stays (standing_of standing) (left_at standing bytes)
 
-abbrev pub IfMore : Step → (ℕ → Type 0) → Type 0
+abbrev pub IfMore : Progress → (ℕ → Type 0) → Type 0
 IfMore (steps.More parts) Q = Q parts
 IfMore (steps.Rest standing) Q = ⊤
 

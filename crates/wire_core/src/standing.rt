@@ -20,7 +20,7 @@ pub enum Standing {
 
 /// Where reading goes on.
 #[derive(Clone, Copy, Debug, PartialEq, Eq)]
-pub enum Step {
+pub enum Progress {
     /// At the next frame, behind so many parts of the message.
     More(usize),
     /// Nowhere, until more bytes come.

@@ -15,7 +15,7 @@ use crate::event::Event;
 use crate::fault::{DecodeError, WireFault};
 use crate::message::MAX_PARTS;
 use crate::reading::event_in;
-use crate::standing::{Standing, Step};
+use crate::standing::{Progress, Standing};
 use digest_core::Summary;
 use std::alloc::{AllocError, Global};
 
@@ -43,16 +43,16 @@ fn take_event<F: Summary>(
 }
 
 /// Where reading goes on behind an event that came behind so many parts of its message.
-fn step_behind<F: Summary>(event: &Event<F>, parts: usize) -> Step
+fn step_behind<F: Summary>(event: &Event<F>, parts: usize) -> Progress
     requires { Counts parts (event_value event.now) }
     ensures { (rest : List ℕ) (more : ℕ → List ℕ → Fed F) →
         go_on (event_value event.now) parts (λ n. more n rest)
         ≡ with_event (event_value event.now) (goes_on result rest more) }
 {
     match event {
-        Event::Part(_) => Step::More(parts + 1),
-        Event::End => Step::More(0),
-        Event::Fault(_) => Step::Rest(Standing::MeaningOver),
+        Event::Part(_) => Progress::More(parts + 1),
+        Event::End => Progress::More(0),
+        Event::Fault(_) => Progress::Rest(Standing::MeaningOver),
     }
 }
 
@@ -62,7 +62,7 @@ fn take_one<F: Summary>(
     bytes: &mut &[u8],
     parts: usize,
     out: &mut Vec<Event<F>>,
-) -> Result<Step, AllocError>
+) -> Result<Progress, AllocError>
     ensures step { IfOk result (λ step. (more : ℕ → List ℕ → Fed F) →
         behind (event_values out.old.items) (fed_by (reading.event_at F.profile Stream parts bytes.old.now)
         parts bytes.old.now more) ≡ behind (event_values out.new.items) (goes_on step bytes.new.now more)) }
@@ -75,8 +75,8 @@ fn take_one<F: Summary>(
             out.push(event)?;
             Ok(step)
         }
-        Ok(None) => Ok(Step::Rest(Standing::InMessage(parts))),
-        Err(DecodeError::Fault(fault)) => Ok(Step::Rest(Standing::Faulted(fault))),
+        Ok(None) => Ok(Progress::Rest(Standing::InMessage(parts))),
+        Err(DecodeError::Fault(fault)) => Ok(Progress::Rest(Standing::Faulted(fault))),
         Err(DecodeError::Memory) => Err(AllocError),
     }
 }
@@ -96,39 +96,39 @@ fn take_frames<F: Summary>(
     let mut parts = parts;
     'frames: loop {
         match take_one(alloc, bytes, parts, out)? {
-            Step::More(count) => parts = count,
-            Step::Rest(standing) => return Ok(standing),
+            Progress::More(count) => parts = count,
+            Progress::Rest(standing) => return Ok(standing),
         }
     }
 }
 
 /// Takes the hello off the front, if its four bytes have come.
-fn take_hello<F: Summary>(bytes: &mut &[u8]) -> Step
+fn take_hello<F: Summary>(bytes: &mut &[u8]) -> Progress
     ensures step { feed_start F.profile bytes.old.now
         ≡ goes_on result bytes.new.now (feed_frames F.profile (length bytes.old.now)) }
     ensures shorter { length bytes.new.now ≤ length bytes.old.now }
 {
     if bytes.len() < 4 {
-        return Step::Rest(Standing::BeforeHello);
+        return Progress::Rest(Standing::BeforeHello);
     }
     let (hello, rest) = bytes.split_at(4);
     if hello != F::hello().as_slice() {
-        return Step::Rest(Standing::Faulted(WireFault::BadHello));
+        return Progress::Rest(Standing::Faulted(WireFault::BadHello));
     }
     *bytes = rest;
-    Step::More(0)
+    Progress::More(0)
 }
 
 /// Takes the hello off the front, where it is due.
-fn take_start<F: Summary>(bytes: &mut &[u8], standing: Standing) -> Step
+fn take_start<F: Summary>(bytes: &mut &[u8], standing: Standing) -> Progress
     ensures step { feed F.profile (standing_of standing) bytes.old.now
         ≡ goes_on result bytes.new.now (feed_frames F.profile (length bytes.old.now)) }
     ensures shorter { length bytes.new.now ≤ length bytes.old.now }
 {
     match standing {
         Standing::BeforeHello => take_hello::<F>(bytes),
-        Standing::InMessage(parts) => Step::More(parts),
-        Standing::MeaningOver | Standing::Faulted(_) => Step::Rest(standing),
+        Standing::InMessage(parts) => Progress::More(parts),
+        Standing::MeaningOver | Standing::Faulted(_) => Progress::Rest(standing),
     }
 }
 
@@ -144,8 +144,8 @@ pub fn read_on<F: Summary>(
     ensures before { take (length out.old.items) out.new.items ≡ out.old.items }
 {
     let there = match take_start::<F>(bytes, standing) {
-        Step::More(parts) => take_frames(alloc, bytes, parts, out)?,
-        Step::Rest(standing) => standing,
+        Progress::More(parts) => take_frames(alloc, bytes, parts, out)?,
+        Progress::Rest(standing) => standing,
     };
     *bytes = there.left(bytes);
     Ok(there)

@@ -16,7 +16,7 @@ use Rattle.definitions.specs.Fingerprints.{Summary}
 use Rattle.laws.specs.Growing.{is_even}
 use Rattle.laws.specs.Sessions.{Kept, Keeps, GoesOnBy, Tells, SessionsGoOn, SessionsKeepNodes, SessionsTell, hearer_now}
 use Rattle.laws.specs.Sessions.{kept_behind}
-use Rattle.ends_core.specs.Held.{Held, HasNone}
+use Rattle.ends_core.specs.EndStates.{EndState, HasNone}
 use Rattle.world_core.specs.declared.session.Session.{Session}
 use Rattle.world_core.specs.Nodes.{newest}
 use Rattle.world_core.specs.Live.{session_of, kept_of, made, IsKept, world_of, IsRunning, IsTaken, last_by, parts_by}
@@ -54,17 +54,17 @@ module _ {F : Type 0} (S : Summary F) where
 
   -- ==== The session behind a delivery
 
-  from_same : (node : Node) (o : Option (Held F)) →
+  from_same : (node : Node) (o : Option (EndState F)) →
       (responder_from node o).end ≡ unwrap_or (option_map (λ h. h.end) o) (responder (newest node))
   from_same node None = refl
   from_same node (Some h) = refl
 
-  from_steps : (node : Node) (o : Option (Held F)) → IfSome o (λ h. h.steps ≡ node.steps) →
+  from_steps : (node : Node) (o : Option (EndState F)) → IfSome o (λ h. h.steps ≡ node.steps) →
       (responder_from node o).steps ≡ node.steps
   from_steps node None h = refl
   from_steps node (Some x) h = h
 
-  from_none : (node : Node) (o : Option (Held F)) → IfSome o HasNone → HasNone (responder_from node o)
+  from_none : (node : Node) (o : Option (EndState F)) → IfSome o HasNone → HasNone (responder_from node o)
   from_none node None h = refl
   from_none node (Some x) h = h
 
@@ -81,21 +81,21 @@ module _ {F : Type 0} (S : Summary F) where
     pub first_none : HasNone l.first → HasNone (heard_by S l node).first
     pub second_none : IfSome l.second HasNone → IfSome (heard_by S l node).second HasNone
     pub hearer_none : HasNone l.first → IfSome l.second HasNone → HasNone (hearer l node)
-    pub responder : (heard_by S l node).responder ≡ l.responder
-    pub initiator : (heard_by S l node).initiator ≡ l.initiator
+    pub responder : (heard_by S l node).responder_node ≡ l.responder_node
+    pub initiator : (heard_by S l node).initiator_node ≡ l.initiator_node
 
-  heard : (w : World) (l : Session F) (b : Bool) → is_even l.delivered ≡ b → IsHeard w l (node_at w l.responder)
+  heard : (w : World) (l : Session F) (b : Bool) → is_even l.delivered ≡ b → IsHeard w l (node_at w l.responder_node)
   heard w l true e =
-      let from = from_same (node_at w l.responder) l.second in
+      let from = from_same (node_at w l.responder_node) l.second in
       record {
         hears = rw e from;
         session = rw e refl;
         kept = rw (e, from) refl;
         first = rw e refl;
-        second = λ h. rw e (from_steps (node_at w l.responder) l.second h);
+        second = λ h. rw e (from_steps (node_at w l.responder_node) l.second h);
         first_none = λ h. rw e h;
         second_none = λ h. rw e refl;
-        hearer_none = λ f h. rw e (from_none (node_at w l.responder) l.second h);
+        hearer_none = λ f h. rw e (from_none (node_at w l.responder_node) l.second h);
         responder = rw e refl;
         initiator = rw e refl;
       }
@@ -151,7 +151,7 @@ module _ {F : Type 0} (S : Summary F) where
   pub record IsAt (nodes : List Node) (lives : List (Session F)) (k : ℕ) (l : Session F) (node : Node) : Type 0 where
     pub runs : IsRunning S nodes lives
     pub here : slice_get lives k ≡ Some l
-    pub it : node_at (world_of nodes lives) l.responder ≡ node
+    pub it : node_at (world_of nodes lives) l.responder_node ≡ node
 
   pub kept_at : (nodes : List Node) (lives : List (Session F)) (k : ℕ) (l : Session F) → IsRunning S nodes lives →
       slice_get lives k ≡ Some l → IsKept S (world_of nodes lives) l
@@ -322,9 +322,9 @@ module _ {F : Type 0} (S : Summary F) where
 
   -- the node of the responder, as it is read
   pub at_node : (nodes : List Node) (lives : List (Session F)) (k : ℕ) (l : Session F) (node : Node) →
-      IsRunning S nodes lives → slice_get lives k ≡ Some l → node ≡ get_or nodes l.responder node →
-      node_at (world_of nodes lives) l.responder ≡ node
+      IsRunning S nodes lives → slice_get lives k ≡ Some l → node ≡ get_or nodes l.responder_node node →
+      node_at (world_of nodes lives) l.responder_node ≡ node
   at_node nodes lives k l node runs here e =
-      let there : l.responder < length nodes = (kept_at nodes lives k l runs here).keeps.responder_there in
-      get_or_from_slice_get nodes l.responder node no_node
-      (slice_get_read nodes (length nodes) l.responder node refl there e)
+      let there : l.responder_node < length nodes = (kept_at nodes lives k l runs here).keeps.responder_there in
+      get_or_from_slice_get nodes l.responder_node node no_node
+      (slice_get_read nodes (length nodes) l.responder_node node refl there e)

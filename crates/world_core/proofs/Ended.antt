@@ -14,7 +14,7 @@ use Rattle.definitions.specs.Theorems.{node_of}
 use Rattle.definitions.specs.Worlds as worlds
 use Rattle.definitions.specs.Fingerprints.{Summary}
 use Rattle.laws.specs.Sessions.{Tells}
-use Rattle.ends_core.specs.Held.{Held}
+use Rattle.ends_core.specs.EndStates.{EndState}
 use Rattle.world_core.specs.declared.session.Session.{Session}
 use Rattle.world_core.specs.Live.{session_of, kept_of, made, IsKept, world_of, IsRunning}
 use Rattle.world_core.specs.Steps.{absorbing, absorbed_at, theirs_of, AbsorbsSome}
@@ -139,27 +139,27 @@ module _ {F : Type 0} (S : Summary F) where
 
   -- ==== The report
 
-  bounds_same : (w : World) (s : worlds.Session) (i : ℕ) (second : Option (Held F)) (version : Option ℕ)
+  bounds_same : (w : World) (s : worlds.Session) (i : ℕ) (second : Option (EndState F)) (version : Option ℕ)
       (f : ℕ → End F) →
       option_map (λ h. h.end) second ≡ option_map f version →
-      IfSome second (λ h. h.steps ≡ (node_at w s.responder).steps) →
+      IfSome second (λ h. h.steps ≡ (node_at w s.responder_node).steps) →
       IfSome (option_map (λ h. h.end) second) (λ e. e.peer ≡ responder_of w s) →
       option_map (λ h. message_bound i (rank_held h)) second
-      ≡ option_map (λ v. message_bound i (rank_of (node_at w s.responder).steps (responder_of w s))) version
+      ≡ option_map (λ v. message_bound i (rank_of (node_at w s.responder_node).steps (responder_of w s))) version
   bounds_same w s i None None f e a b = refl
   bounds_same w s i None (Some v) f e a b = absurd cc
   bounds_same w s i (Some h) None f e a b = absurd cc
   bounds_same w s i (Some h) (Some v) f e a b =
       ap (λ r. Some (message_bound i r)) (ap (λ steps. rank_by steps (length h.end.peer.items)) a
-      ∙ ap (λ p. rank_by (node_at w s.responder).steps (length p.items)) b)
+      ∙ ap (λ p. rank_by (node_at w s.responder_node).steps (length p.items)) b)
 
-  same_report : (a b : worlds.Report) → a.initiator ≡ b.initiator → a.responder ≡ b.responder →
+  same_report : (a b : worlds.Report) → a.initiator_node ≡ b.initiator_node → a.responder_node ≡ b.responder_node →
       a.messages ≡ b.messages → a.bound ≡ b.bound → a.parts ≡ b.parts → a.ended ≡ b.ended →
       a.initiator_learned ≡ b.initiator_learned → a.responder_learned ≡ b.responder_learned → a ≡ b
   same_report a b e f g h p i j k =
       λ t. record {
-        initiator = e t;
-        responder = f t;
+        initiator_node = e t;
+        responder_node = f t;
         messages = g t;
         bound = h t;
         parts = p t;
@@ -172,14 +172,14 @@ module _ {F : Type 0} (S : Summary F) where
       shown l ≡ worlds.report_of S w (session_of l)
   shown_is w l k t =
       let s : worlds.Session = session_of l in
-      let first : rank_held l.first ≡ rank_of (node_at w l.initiator).steps (initiator_of w s) =
+      let first : rank_held l.first ≡ rank_of (node_at w l.initiator_node).steps (initiator_of w s) =
       ap (λ steps. rank_by steps (length l.first.end.peer.items)) k.first
-      ∙ ap (λ p. rank_by (node_at w l.initiator).steps (length p.items)) t.initiator in
+      ∙ ap (λ p. rank_by (node_at w l.initiator_node).steps (length p.items)) t.initiator in
       let bound : bound_by l ≡ (worlds.report_of S w s).bound =
       bounds_same w s (rank_held l.first) l.second l.responder_version
       (λ v. responder_at S (initiator_of w s) (responder_of w s) s.delivered) k.keeps.responder k.second t.responder
       ∙ ap (λ i. option_map (λ v. message_bound i
-      (rank_of (node_at w l.responder).steps (responder_of w s))) l.responder_version) first in
+      (rank_of (node_at w l.responder_node).steps (responder_of w s))) l.responder_version) first in
       same_report (shown l) (worlds.report_of S w s) refl refl t.count bound k.keeps.parts
       (ap (λ n. n == l.delivered) t.count) t.initiator_learned t.responder_learned
 

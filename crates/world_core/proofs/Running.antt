@@ -14,7 +14,7 @@ use Rattle.definitions.specs.Worlds.{Insert, Open, Deliver, told, open_at}
 use Rattle.definitions.specs.Worlds as worlds
 use Rattle.definitions.specs.Fingerprints.{Summary}
 use Rattle.laws.specs.Sessions.{Keeps, SessionsStay, SessionsOpen, SessionsKeepNodes}
-use Rattle.ends_core.specs.Held.{Held}
+use Rattle.ends_core.specs.EndStates.{EndState}
 use Rattle.world_core.specs.declared.session.Session.{Session}
 use Rattle.world_core.specs.Live.{session_of, kept_of, IsKept, world_of, IsRunning, beginning}
 use Rattle.world_core.specs.Runs.{Came}
@@ -45,7 +45,8 @@ module _ {F : Type 0} (S : Summary F) where
 
   -- ==== What is kept stays
 
-  steps_stay : (o : Option (Held F)) (a b : List ℕ) → b ≡ a → IfSome o (λ h. h.steps ≡ a) → IfSome o (λ h. h.steps ≡ b)
+  steps_stay : (o : Option (EndState F)) (a b : List ℕ) → b ≡ a → IfSome o (λ h. h.steps ≡ a) →
+      IfSome o (λ h. h.steps ≡ b)
   steps_stay None a b e h = tt
   steps_stay (Some x) a b e h = h ∙ sym e
 
@@ -54,9 +55,10 @@ module _ {F : Type 0} (S : Summary F) where
       ((n : ℕ) → (node_at v n).steps ≡ (node_at w n).steps) → IsKept S w l → IsKept S v l
   IsKept-stays w v l stays same h = record {
     keeps = stays (session_of l) h.keeps;
-    first = h.first ∙ sym (same l.initiator);
+    first = h.first ∙ sym (same l.initiator_node);
     second =
-        steps_stay l.second (node_at w l.responder).steps (node_at v l.responder).steps (same l.responder) h.second;
+        steps_stay l.second (node_at w l.responder_node).steps (node_at v l.responder_node).steps
+        (same l.responder_node) h.second;
     first_none = h.first_none;
     second_none = h.second_none;
   }
@@ -151,8 +153,8 @@ module _ {F : Type 0} (S : Summary F) where
       open_at w i r (Some a) (Some b) ≡ (
         record w {
           sessions = w.sessions ++ record {
-            initiator = i;
-            responder = r;
+            initiator_node = i;
+            responder_node = r;
             initiator_version = length a.history;
             responder_version = None;
             delivered = 0;

@@ -21,8 +21,8 @@ module _ {F : Type 0} (S : Summary F) where
       (w : World) (s : Session) → LearnsNothingWrong S w s
   nothing_wrong law begin sets w s =
       let both = law (initiator_of w s) (responder_of w s) s.delivered
-      (sets (items_of (take s.initiator_version (node_at w s.initiator).history)))
-      (sets (items_of (take (unwrap_or s.responder_version 0) (node_at w s.responder).history))) in
+      (sets (items_of (take s.initiator_version (node_at w s.initiator_node).history)))
+      (sets (items_of (take (unwrap_or s.responder_version 0) (node_at w s.responder_node).history))) in
       let part : take s.delivered (messages S w s)
       ≡ talk S (initiator_of w s) (responder_of w s) s.delivered = begin (initiator_of w s)
       (responder_of w s) s.delivered (s.delivered + 1) (omega arith) in (

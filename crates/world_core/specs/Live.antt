@@ -14,7 +14,7 @@ use Rattle.definitions.specs.Worlds as worlds
 use Rattle.definitions.specs.Worlds.{World, Node, node_at}
 use Rattle.laws.specs.Growing.{is_even}
 use Rattle.laws.specs.Sessions.{Kept, Keeps}
-use Rattle.ends_core.specs.Held.{Held, HasNone}
+use Rattle.ends_core.specs.EndStates.{EndState, HasNone}
 use Rattle.ends_core.specs.Turns.{behind, fresh}
 use Rattle.world_core.specs.Nodes.{newest}
 use Rattle.world_core.specs.Runs.{Came}
@@ -22,8 +22,8 @@ use Rattle.world_core.specs.declared.session.Session.{Session}
 
 abbrev pub session_of : {F : Type 0} → Session F → worlds.Session
 session_of l = record {
-  initiator = l.initiator;
-  responder = l.responder;
+  initiator_node = l.initiator_node;
+  responder_node = l.responder_node;
   initiator_version = l.initiator_version;
   responder_version = l.responder_version;
   delivered = l.delivered;
@@ -42,8 +42,8 @@ made l = (kept_of l).initiator.sent + unwrap_or (option_map (λ e. e.sent) (kept
 -- the ends and the last message are the session's, and the ends have the staircases of their nodes and hold no part
 pub record IsKept {F : Type 0} (S : Summary F) (w : World) (l : Session F) : Type 0 where
   pub keeps : Keeps S w (session_of l) (kept_of l)
-  pub first : l.first.steps ≡ (node_at w l.initiator).steps
-  pub second : IfSome l.second (λ h. h.steps ≡ (node_at w l.responder).steps)
+  pub first : l.first.steps ≡ (node_at w l.initiator_node).steps
+  pub second : IfSome l.second (λ h. h.steps ≡ (node_at w l.responder_node).steps)
   pub first_none : HasNone l.first
   pub second_none : IfSome l.second HasNone
 
@@ -60,8 +60,8 @@ pub record IsRunning {F : Type 0} (S : Summary F) (nodes : List Node) (lives : L
 -- a session that is opened at a node
 abbrev pub beginning : {F : Type 0} → Summary F → ℕ → ℕ → Node → Session F
 beginning S i r node = record {
-  initiator = i;
-  responder = r;
+  initiator_node = i;
+  responder_node = r;
   initiator_version = length node.history;
   responder_version = None;
   delivered = 0;
@@ -72,12 +72,12 @@ beginning S i r node = record {
 }
 
 -- the responder; where there is none it begins at its node
-abbrev pub responder_from : {F : Type 0} → Node → Option (Held F) → Held F
+abbrev pub responder_from : {F : Type 0} → Node → Option (EndState F) → EndState F
 responder_from node (Some h) = h
 responder_from node None = fresh node.steps (responder (newest node))
 
 -- who hears the message made last
-abbrev pub hearer : {F : Type 0} → Session F → Node → Held F
+abbrev pub hearer : {F : Type 0} → Session F → Node → EndState F
 hearer l node = if is_even l.delivered then responder_from node l.second else l.first
 
 -- no message is refused

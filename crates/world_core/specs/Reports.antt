@@ -9,8 +9,8 @@ knowledge_of k = record { ours = k.ours.now; theirs = k.theirs.now }
 
 abbrev pub report_of : Report → worlds.Report
 report_of r = record {
-  initiator = r.initiator;
-  responder = r.responder;
+  initiator_node = r.initiator_node;
+  responder_node = r.responder_node;
   messages = r.messages;
   bound = r.bound;
   parts = r.parts;

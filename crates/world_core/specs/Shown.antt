@@ -5,11 +5,11 @@ use Rattle.definitions.specs.Ranks.{rank_by}
 use Rattle.definitions.specs.Talks.{Knowledge, nothing}
 use Rattle.definitions.specs.Worlds as worlds
 use Rattle.definitions.specs.Worlds.{message_bound}
-use Rattle.ends_core.specs.Held.{Held}
+use Rattle.ends_core.specs.EndStates.{EndState}
 use Rattle.world_core.specs.Live.{kept_of, made}
 use Rattle.world_core.specs.declared.session.Session.{Session}
 
-abbrev pub learned_in : {F : Type 0} → Option (Held F) → Knowledge
+abbrev pub learned_in : {F : Type 0} → Option (EndState F) → Knowledge
 learned_in second = unwrap_or (option_map (λ e. e.learned) (option_map (λ h. h.end) second)) nothing
 
 abbrev pub learned_by : {F : Type 0} → Session F → worlds.Side → Knowledge
@@ -17,7 +17,7 @@ learned_by l worlds.Initiator = (kept_of l).initiator.learned
 learned_by l worlds.Responder = learned_in l.second
 
 -- the rank of the number of an end's items
-abbrev pub rank_held : {F : Type 0} → Held F → ℕ
+abbrev pub rank_held : {F : Type 0} → EndState F → ℕ
 rank_held h = rank_by h.steps (length h.end.peer.items)
 
 abbrev pub bound_by : {F : Type 0} → Session F → Option ℕ
@@ -25,8 +25,8 @@ bound_by l = option_map (λ h. message_bound (rank_held l.first) (rank_held h)) 
 
 abbrev pub shown : {F : Type 0} → Session F → worlds.Report
 shown l = record {
-  initiator = l.initiator;
-  responder = l.responder;
+  initiator_node = l.initiator_node;
+  responder_node = l.responder_node;
   messages = made l;
   bound = bound_by l;
   parts = l.parts;

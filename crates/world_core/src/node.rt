@@ -21,14 +21,14 @@ use std::marker::Model;
 use std::sync::Arc;
 use store_core::RangeStore;
 use strategy_check::Accepted;
-use version_log::{Added, LogFault, Published};
+use version_log::{Added, Log, LogFault};
 use wire_core::Message;
 
 /// A node of a run: a table of the setup, and a log of its own.
 #[derive(Drop)]
 pub(crate) struct Node {
     accepted: Arc<Accepted>,
-    log: Published<Tree>,
+    log: Log<Tree>,
 }
 
 impl Model for Node {
@@ -46,7 +46,7 @@ impl Model for Node {
 
 impl Node {
     /// The node of this table and this log.
-    pub(crate) fn new(accepted: Arc<Accepted>, log: Published<Tree>) -> Node
+    pub(crate) fn new(accepted: Arc<Accepted>, log: Log<Tree>) -> Node
         requires { log.cap ≡ (arc_value accepted).table.cap }
         ensures { result ≡ node_by (arc_value accepted) log.history }
     {

@@ -40,9 +40,9 @@ impl<'a> Lists<'a> {
 #[derive(Clone, Copy, Debug)]
 pub struct Report<'a> {
     /// The node that speaks first.
-    pub initiator: usize,
+    pub initiator_node: usize,
     /// The node that is spoken to first.
-    pub responder: usize,
+    pub responder_node: usize,
     /// How many messages were made.
     pub messages: usize,
     /// How many messages there may be, once the responder's version is chosen: 3 + min(2r, 2i + 1) by the ranks of

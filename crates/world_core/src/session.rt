@@ -3,7 +3,7 @@
 ghost use Rattle.std.specs.Prelude.{◌≡◌, ◌<◌, ◌^◌, length, IfOk, IfSome, OnOk, OnErr};
 ghost use Rattle.definitions.specs.Ends.{answer};
 ghost use Rattle.laws.specs.Growing as growing;
-ghost use Rattle.ends_core.specs.Held.{HasNone};
+ghost use Rattle.ends_core.specs.EndStates.{HasNone};
 ghost use Rattle.ends_core.specs.Turns.{answer_in, answer_of, behind};
 ghost use Rattle.world_core.specs.Live.{session_of, made, beginning, responder_from, hearer, IsTaken, did_by, advanced};
 ghost use Rattle.world_core.specs.Live.{heard_by, heard_by_responder, heard_by_initiator};
@@ -24,8 +24,8 @@ use wire_core::Message;
 /// A session of a run: its numbers, its ends, the message made last, and the greatest number of parts of a message.
 #[derive(Drop)]
 pub(crate) struct Session<F: Summary> {
-    pub(crate) initiator: usize,
-    pub(crate) responder: usize,
+    pub(crate) initiator_node: usize,
+    pub(crate) responder_node: usize,
     pub(crate) initiator_version: usize,
     pub(crate) responder_version: Option<usize>,
     pub(crate) delivered: usize,
@@ -101,15 +101,15 @@ impl<F: Summary> Session<F> {
     pub(crate) fn open(
         alloc: Global,
         node: &Node,
-        initiator: usize,
-        responder: usize,
+        initiator_node: usize,
+        responder_node: usize,
     ) -> Result<Session<F>, AllocError>
-        ensures { IfOk result (λ l. l ≡ beginning F.summary initiator responder node.now) }
+        ensures { IfOk result (λ l. l ≡ beginning F.summary initiator_node responder_node node.now) }
     {
         let (first, last) = node.initiator(alloc)?;
         Ok(Session {
-            initiator,
-            responder,
+            initiator_node,
+            responder_node,
             initiator_version: node.version(),
             responder_version: None,
             delivered: 0,
@@ -137,8 +137,8 @@ impl<F: Summary> Session<F> {
         ensures { result ≡ node_of (session_of self.now) (side_of side) }
     {
         match side {
-            Side::Initiator => self.initiator,
-            Side::Responder => self.responder,
+            Side::Initiator => self.initiator_node,
+            Side::Responder => self.responder_node,
         }
     }
 
@@ -167,8 +167,8 @@ impl<F: Summary> Session<F> {
         ensures { report_of result ≡ shown self.now }
     {
         Report {
-            initiator: self.initiator,
-            responder: self.responder,
+            initiator_node: self.initiator_node,
+            responder_node: self.responder_node,
             messages: self.messages(),
             bound: self.bound(),
             parts: self.parts,

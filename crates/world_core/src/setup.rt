@@ -17,7 +17,7 @@ use std::alloc::{AllocError, Global};
 use std::marker::Model;
 use std::sync::Arc;
 use strategy_check::Accepted;
-use version_log::{LogFault, Published};
+use version_log::{Log, LogFault};
 
 /// Why there is no new node.
 #[derive(Clone, Copy, Debug, PartialEq, Eq)]
@@ -55,7 +55,7 @@ impl From<LogFault> for SetupFault {
 #[derive(Drop)]
 pub(crate) struct Prepared {
     accepted: Arc<Accepted>,
-    log: Published<Tree>,
+    log: Log<Tree>,
 }
 
 impl Model for Prepared {
@@ -82,13 +82,13 @@ impl Prepared {
 }
 
 /// The log of these items, by a table's cap.
-fn log_of(alloc: Global, accepted: &Accepted, items: &[Item]) -> Result<Published<Tree>, SetupFault>
+fn log_of(alloc: Global, accepted: &Accepted, items: &[Item]) -> Result<Log<Tree>, SetupFault>
     ensures log { IfOk result (λ p. p ≡ opened accepted.now.table.cap items.now 1) }
     ensures node { IfOk result (λ p. IsNode (node_by accepted.now p.history)) }
     ensures fits { IfOk result (λ _. length (set_of items.now) ≤ accepted.now.table.cap) }
     ensures full { IfErr result (λ e. e ≡ SetupFault.Full → accepted.now.table.cap < length (set_of items.now)) }
 {
-    let log: Published<Tree> = Published::new(alloc, accepted.cap(), items)?;
+    let log: Log<Tree> = Log::new(alloc, accepted.cap(), items)?;
     let _ = log.count();
     let _ = log.cap();
     Ok(log)

@@ -147,7 +147,7 @@ impl<F: Summary> World<F> {
         if session.delivered >= session.messages() {
             return Ok(Did::Idle);
         }
-        session.deliver(alloc, &self.nodes[session.responder])
+        session.deliver(alloc, &self.nodes[session.responder_node])
     }
 
     /// Puts items into the history of a node, one after another, until there is no room.

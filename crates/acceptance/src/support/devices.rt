@@ -2,7 +2,7 @@
 
 use crate::support::shown::shown_learned;
 use item_core::Item;
-use peer_threads::{Gate, Outcome, Side};
+use peer_threads::{Direction, Gate, Outcome};
 use std::alloc::{AllocError, Global};
 use std::io;
 use std::io::{ErrorKind, Read, Write};
@@ -181,11 +181,11 @@ fn shown_end(alloc: Global, outcome: &Outcome) -> Result<String, AllocError> {
         Outcome::Refused { code, .. } => format!(in alloc; "Refused {code}"),
         Outcome::PeerRefused { code, .. } => format!(in alloc; "PeerRefused {code}"),
         Outcome::Io {
-            side: Side::Read,
+            side: Direction::Read,
             ..
         } => format!(in alloc; "Io Read"),
         Outcome::Io {
-            side: Side::Write,
+            side: Direction::Write,
             ..
         } => format!(in alloc; "Io Write"),
         Outcome::Memory { .. } => format!(in alloc; "Memory"),

@@ -15,7 +15,7 @@ returns-in-Ok-clause-bytes g c =
     c.of-host.ensures
     (found-fits c.args.seat.now.view c.pin.new.seat.view (arc_value c.args.shared.now.accepted.now).table.cap
     c.pin.ensures.view
-    c.requires.fits) c.initiate.ensures.bytes c.sides_are_modest.ensures.initiator
+    c.requires.fits) c.initiate.ensures.bytes c.sides_keep_bounds.ensures.initiator
 
 pub returns-in-Err-clause-bytes : goal.returns-in-Err-clause-bytes
 returns-in-Err-clause-bytes g c =
@@ -35,4 +35,4 @@ returns-in-Err-clause-bytes g c =
     (stops-silent g.F.Summary.summary g.F.Summary.profile IsOfTheTable s c.new.result unread held r
     c.args.writer.now.failed c.new.ensures)
     c.stopped.ensures.leaves c.stopped.ensures.outcome)
-    (λ bytes are known. c.sides_are_modest.ensures.initiator found.base bytes are fits)
+    (λ bytes are known. c.sides_keep_bounds.ensures.initiator found.base bytes are fits)

@@ -11,16 +11,18 @@ use Rattle.peer_threads.proofs.engines.serve_behind.Goals as goal
 pub returns-in-Err-clause-view : goal.returns-in-Err-clause-view
 returns-in-Err-clause-view g c =
     let t = traffic_behind c.args.hello.bytes (g.R.Read.remaining c.args.reader.now.inner)
-    (g.R.Read.remaining c.meet.new.reader.inner)
-    (g.W.Write.contents c.args.writer.now.inner) (g.W.Write.contents c.meet.new.writer.inner) in
-    let r = seen c.meet.new.reader.failed c.meet.new.reader.ended in
+    (g.R.Read.remaining c.first_message.new.reader.inner)
+    (g.W.Write.contents c.args.writer.now.inner) (g.W.Write.contents c.first_message.new.writer.inner) in
+    let r = seen c.first_message.new.reader.failed c.first_message.new.reader.ended in
     let w = seen c.stopped.new.writer.failed c.stopped.new.writer.ended in
     inr (
       refl,
-      unopened g.F.Summary.summary g.F.Summary.profile c.meet.new.outbox t
-          (g.W.Write.contents c.stopped.new.writer.inner) r w c.meet.new.writer.failed c.in-Err.stop c.stopped.result
-          c.meet.ensures.none
-          (untold c.meet.result c.in-Err.stop _ c.in-Err.is c.meet.ensures.stopped) c.stopped.ensures.leaves
+      unopened g.F.Summary.summary g.F.Summary.profile c.first_message.new.outbox t
+          (g.W.Write.contents c.stopped.new.writer.inner) r w c.first_message.new.writer.failed c.in-Err.stop
+          c.stopped.result
+          c.first_message.ensures.none
+          (untold c.first_message.result c.in-Err.stop _ c.in-Err.is c.first_message.ensures.stopped)
+          c.stopped.ensures.leaves
           c.stopped.ensures.outcome,
     )
 
@@ -29,18 +31,18 @@ returns-in-Err-clause-bytes g c =
     let v = c.args.seat.now.view in
     let p = peer_at (arc_value c.args.shared.now.accepted.now) v in
     let t = traffic_behind c.args.hello.bytes (g.R.Read.remaining c.args.reader.now.inner)
-    (g.R.Read.remaining c.meet.new.reader.inner)
-    (g.W.Write.contents c.args.writer.now.inner) (g.W.Write.contents c.meet.new.writer.inner) in
-    let r = seen c.meet.new.reader.failed c.meet.new.reader.ended in
+    (g.R.Read.remaining c.first_message.new.reader.inner)
+    (g.W.Write.contents c.args.writer.now.inner) (g.W.Write.contents c.first_message.new.writer.inner) in
+    let r = seen c.first_message.new.reader.failed c.first_message.new.reader.ended in
     let w = seen c.stopped.new.writer.failed c.stopped.new.writer.ended in
-    let why = stopped-anyhow g.F.Summary.summary g.F.Summary.profile (responding p) c.meet.new.outbox t r
-    c.meet.new.writer.failed c.in-Err.stop
-    (untold c.meet.result c.in-Err.stop _ c.in-Err.is c.meet.ensures.stopped p) in
+    let why = stopped-anyhow g.F.Summary.summary g.F.Summary.profile (responding p) c.first_message.new.outbox t r
+    c.first_message.new.writer.failed c.in-Err.stop
+    (untold c.first_message.result c.in-Err.stop _ c.in-Err.is c.first_message.ensures.stopped p) in
     speaks g.F.Summary.summary g.F.Summary.profile _ (responding p) _ _ _ _ r w c.stopped.result
-    (speaks-stopped g.F.Summary.summary g.F.Summary.profile p _ _ c.meet.new.outbox t
-    (g.W.Write.contents c.stopped.new.writer.inner) r w c.meet.new.writer.failed c.in-Err.stop c.stopped.result
-    c.meet.ensures.none why c.stopped.ensures.leaves c.stopped.ensures.outcome)
-    (c.sides_are_modest.ensures.responder v.base)
+    (speaks-stopped g.F.Summary.summary g.F.Summary.profile p _ _ c.first_message.new.outbox t
+    (g.W.Write.contents c.stopped.new.writer.inner) r w c.first_message.new.writer.failed c.in-Err.stop c.stopped.result
+    c.first_message.ensures.none why c.stopped.ensures.leaves c.stopped.ensures.outcome)
+    (c.sides_keep_bounds.ensures.responder v.base)
 
 pub returns-in-Ok-pin-clause-bytes : goal.returns-in-Ok-pin-clause-bytes
 returns-in-Ok-pin-clause-bytes g c =
@@ -50,25 +52,26 @@ returns-in-Ok-pin-clause-bytes g c =
     _ _ _ c.respond.result
     c.in-Ok-pin.ensures.pin c.of-host.ensures
     (c.respond.ensures.bytes (Behind c.args.hello.bytes (g.R.Read.remaining c.args.reader.now.inner))
-    (g.W.Write.contents c.args.writer.now.inner) met.1) c.sides_are_modest.ensures.responder
+    (g.W.Write.contents c.args.writer.now.inner) met.1) c.sides_keep_bounds.ensures.responder
 
 pub returns-in-Err-pin-clause-bytes : goal.returns-in-Err-pin-clause-bytes
 returns-in-Err-pin-clause-bytes g c =
     let found = c.pin.new.seat.view in
     let p = peer_at (arc_value c.args.shared.now.accepted.now) found in
     let t = traffic_behind c.args.hello.bytes (g.R.Read.remaining c.args.reader.now.inner)
-    (g.R.Read.remaining c.meet.new.reader.inner)
-    (g.W.Write.contents c.args.writer.now.inner) (g.W.Write.contents c.meet.new.writer.inner) in
-    let r = seen c.meet.new.reader.failed c.meet.new.reader.ended in
+    (g.R.Read.remaining c.first_message.new.reader.inner)
+    (g.W.Write.contents c.args.writer.now.inner) (g.W.Write.contents c.first_message.new.writer.inner) in
+    let r = seen c.first_message.new.reader.failed c.first_message.new.reader.ended in
     let w = seen c.stopped-in-Err-pin.new.writer.failed c.stopped-in-Err-pin.new.writer.ended in
     speaks g.F.Summary.summary g.F.Summary.profile _ (responding p) _ _ _ _ r w c.stopped-in-Err-pin.result
-    (speaks-stopped g.F.Summary.summary g.F.Summary.profile p _ _ c.meet.new.outbox t
-    (g.W.Write.contents c.stopped-in-Err-pin.new.writer.inner) r w c.meet.new.writer.failed stops.Memory
-    c.stopped-in-Err-pin.result c.meet.ensures.none
-    (stops-poor g.F.Summary.summary g.F.Summary.profile p _ c.meet.new.outbox t r c.meet.new.writer.failed _
+    (speaks-stopped g.F.Summary.summary g.F.Summary.profile p _ _ c.first_message.new.outbox t
+    (g.W.Write.contents c.stopped-in-Err-pin.new.writer.inner) r w c.first_message.new.writer.failed stops.Memory
+    c.stopped-in-Err-pin.result c.first_message.ensures.none
+    (stops-poor g.F.Summary.summary g.F.Summary.profile p _ c.first_message.new.outbox t r
+    c.first_message.new.writer.failed _
     c.in-Ok.ensures.met.1)
     c.stopped-in-Err-pin.ensures.leaves c.stopped-in-Err-pin.ensures.outcome)
-    (c.sides_are_modest.ensures.responder found.base)
+    (c.sides_keep_bounds.ensures.responder found.base)
 
 pub returns-in-Ok-pin-clause-opened : goal.returns-in-Ok-pin-clause-opened
 returns-in-Ok-pin-clause-opened g c =

@@ -44,7 +44,7 @@ returns-in-Err-clause-bytes g c =
     (g.R.Read.remaining c.read_hello.new.reader.inner) (g.W.Write.contents c.args.writer.now.inner)
     (g.W.Write.contents c.stopped.new.writer.inner) r w c.args.writer.now.failed c.in-Err.stop c.stopped.result
     c.new.ensures x.1 x.2 c.stopped.ensures.leaves c.stopped.ensures.outcome
-    (c.sides_are_modest.ensures.responder v.base x.0)
+    (c.sides_keep_bounds.ensures.responder v.base x.0)
 
 pub returns-then-eq-clause-view : goal.returns-then-eq-clause-view
 returns-then-eq-clause-view g c =

@@ -12,8 +12,8 @@ skipped-preserved g c =
     let at = c.skipped.at in
     let found : slice_get sent at ≡ Some c.in-Some.own.now =
     slice_get_read sent _ at c.in-Some.own.now refl c.in-Some.ensures.lookup.3.0 c.in-Some.ensures.lookup.1 in
-    c.skipped.invariant ∙ walked sent at c.in-Some.own.now c.args.part.now c.meet.result found c.meet.ensures
-    ∙ ap (λ fit. after_fit fit (open_parts (drop (at + 1) sent)) c.args.part.now) c.in-Skipped.is
+    c.skipped.invariant ∙ walked sent at c.in-Some.own.now c.args.part.now c.fit_of.result found c.fit_of.ensures
+    ∙ ap (λ fit. after_fit fit (open_parts (drop (at + 1) sent)) c.args.part.now) c.in-NotHere.is
 
 pub returns-in-Placed : goal.returns-in-Placed
 returns-in-Placed g c =
@@ -21,7 +21,7 @@ returns-in-Placed g c =
     let at = c.skipped.at in
     let found : slice_get sent at ≡ Some c.in-Some.own.now =
     slice_get_read sent _ at c.in-Some.own.now refl c.in-Some.ensures.lookup.3.0 c.in-Some.ensures.lookup.1 in
-    sym (c.skipped.invariant ∙ walked sent at c.in-Some.own.now c.args.part.now c.meet.result found c.meet.ensures
+    sym (c.skipped.invariant ∙ walked sent at c.in-Some.own.now c.args.part.now c.fit_of.result found c.fit_of.ensures
     ∙ ap (λ fit. after_fit fit (open_parts (drop (at + 1) sent)) c.args.part.now) c.in-Placed.is)
 
 pub returns-in-Refused : goal.returns-in-Refused
@@ -30,5 +30,5 @@ returns-in-Refused g c =
     let at = c.skipped.at in
     let found : slice_get sent at ≡ Some c.in-Some.own.now =
     slice_get_read sent _ at c.in-Some.own.now refl c.in-Some.ensures.lookup.3.0 c.in-Some.ensures.lookup.1 in
-    sym (c.skipped.invariant ∙ walked sent at c.in-Some.own.now c.args.part.now c.meet.result found c.meet.ensures
+    sym (c.skipped.invariant ∙ walked sent at c.in-Some.own.now c.args.part.now c.fit_of.result found c.fit_of.ensures
     ∙ ap (λ fit. after_fit fit (open_parts (drop (at + 1) sent)) c.args.part.now) c.in-Refused.is)

@@ -11,13 +11,14 @@ use Rattle.range_tree.proofs.loading.branches_over.Goals as goal
 
 pub branch_of-requires-clause-full : goal.branch_of-requires-clause-full
 branch_of-requires-clause-full c =
-    let sides = full_sides leaf_width (arc_value {X = Leaf}) c.together.result c.groups.rest.now c.split_at.result.0.now
+    let sides =
+    full_sides leaf_width (arc_value {X = Leaf}) c.group_size.result c.groups.rest.now c.split_at.result.0.now
     c.split_at.result.1.now c.split_at.ensures.front c.split_at.ensures.back c.groups.invariant.full in
     sides.0
 
 pub groups-preserved : goal.groups-preserved
 groups-preserved c =
-    let n = c.together.result in
+    let n = c.group_size.result in
     let rest = c.groups.rest.now in
     let front = c.split_at.result.0.now in
     let back = c.split_at.result.1.now in
@@ -27,7 +28,7 @@ groups-preserved c =
     let sides = full_sides leaf_width
     (arc_value {X = Leaf}) n rest front back c.split_at.ensures.front c.split_at.ensures.back c.groups.invariant.full in
     let grouped = grouped_more branch_width (map (arc_value {X = Branch}) held) (arc_value branch) (length rest) n
-    (length back) c.groups.invariant.grouped some c.together.ensures.few c.together.ensures.many
+    (length back) c.groups.invariant.grouped some c.group_size.ensures.few c.group_size.ensures.many
     (c.in_ok-branch_of.ensures.width ∙ c.split_at.ensures.front_len) c.split_at.ensures.back_len in
     record {
       items =

@@ -17,7 +17,7 @@ loop-low-preserved g c =
     let middle = low + (high - low) / 2 in
     let x = c.index-list-middle.result in
     let held = c.loop-low.invariant in
-    let before : (t : _) → Bool = λ t. comes_before (g.T.Led.lead t) c.args.item.now in
+    let before : (t : _) → Bool = λ t. comes_before (g.T.HasFirstItem.lead t) c.args.item.now in
     let open_yet : low < high = omega arith in
     let below : middle < high = omega arith in
     let within : middle < length c.args.list.now = let top = held.high in omega arith in

@@ -13,7 +13,7 @@ invariant-loop-low g l = record {
   few : length l.list ≤ 64 → (l.high - l.low ≤ left_after l.steps) × (l.steps ≤ 7);
   low : l.low ≤ l.high;
   high : l.high ≤ length l.list;
-  before : (k : ℕ) (d : _) → k < l.low → comes_before (g.T.Led.lead (get_or l.list k d)) l.item ≡ true;
+  before : (k : ℕ) (d : _) → k < l.low → comes_before (g.T.HasFirstItem.lead (get_or l.list k d)) l.item ≡ true;
   behind : (k : ℕ) (d : _) → l.high ≤ k → k < length l.list →
-      comes_before (g.T.Led.lead (get_or l.list k d)) l.item ≡ false;
+      comes_before (g.T.HasFirstItem.lead (get_or l.list k d)) l.item ≡ false;
 }

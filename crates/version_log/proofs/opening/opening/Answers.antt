@@ -3,8 +3,8 @@ use Rattle.std.specs.Prelude.{if◌then◌else◌}
 use Rattle.definitions.specs.Items.{Item}
 use Rattle.definitions.specs.Histories.{History, opening_history}
 use Rattle.version_log.proofs.Once.{opens, once_opened, length_opened}
-use Rattle.version_log.proofs.opening.opening.Goals as goal
-use Rattle.version_log.proofs.opening.opening.Goals.{then-branch+in_ok-push, else-branch}
+use Rattle.version_log.proofs.first_entries.first_entries.Goals as goal
+use Rattle.version_log.proofs.first_entries.first_entries.Goals.{then-branch+in_ok-push, else-branch}
 
 pub loop-item-preserved : goal.loop-item-preserved
 loop-item-preserved c =

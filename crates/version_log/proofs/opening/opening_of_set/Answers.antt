@@ -2,7 +2,7 @@ use Rattle.std.proofs.Common.{◌≡◌, ◌∙◌, ap, sym, length, take_all}
 use Rattle.definitions.specs.Histories.{IsHistory, content}
 use Rattle.version_log.proofs.Once.{once_opened}
 use Rattle.version_log.proofs.Rising.{entries_of, opened_with, content_with_all, length_with_all}
-use Rattle.version_log.proofs.opening.opening_of_set.Goals as goal
+use Rattle.version_log.proofs.first_entries.first_entries_of_set.Goals as goal
 
 pub returns-clause-entries : goal.returns-clause-entries
 returns-clause-entries c =

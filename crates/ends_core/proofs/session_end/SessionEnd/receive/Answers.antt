@@ -1,6 +1,6 @@
 use Rattle.std.proofs.Common.{◌≡◌, IfSome, IfNone, subst, rules}
 use Rattle.definitions.specs.Ends.{answer}
-use Rattle.ends_core.specs.Held.{HasNone}
+use Rattle.ends_core.specs.EndStates.{HasNone}
 use Rattle.ends_core.specs.Turns.{IsJudged, answer_in, behind}
 use Rattle.ends_core.proofs.Short.{message-short}
 use Rattle.ends_core.proofs.Judging.{judged}

@@ -1,7 +1,7 @@
 use Rattle.std.proofs.Common.{rules, ◌≡◌, ◌+◌, ◌<◌, ◌≤◌, ◌^◌, inr, [], length, refl, ap, arith, IsTrue}
 use Rattle.peer_threads.specs.Outcomes.{seen}
 use Rattle.peer_threads.specs.Inboxes.{InboxState, IsUnread}
-use Rattle.peer_threads.specs.declared.outcome.Side.TheVariants as sides
+use Rattle.peer_threads.specs.declared.outcome.Direction.TheVariants as directions
 use Rattle.peer_threads.proofs.InboxSteps.{reads_nothing, came, ended_read}
 use Rattle.peer_threads.proofs.inbox.Inbox.read_more.Goals as goal
 
@@ -12,7 +12,7 @@ returns-then-self-ge-MAX_READS-clause-read g c =
     let same = ap (λ (b : InboxState). b.reads) c.self.view_is in
     reads_nothing g.F.Summary.profile g.met.F.Summary.real unread c.args.self.now (λ bytes es. IsUnread
     g.F.Summary.profile (seen c.args.reader.now.failed c.args.reader.now.ended)
-    bytes es sides.Read)
+    bytes es directions.Read)
     (λ bytes es fits has. let counted = has.counted in
     let all : 2 ^ 32 ≤ length bytes = omega arith in
     (refl, inr all, (has.more, has.events)))

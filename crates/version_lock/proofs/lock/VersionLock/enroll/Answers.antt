@@ -7,7 +7,7 @@ use Rattle.version_lock.proofs.Turns.{mine_enrolled}
 use Rattle.version_lock.proofs.lock.VersionLock.enroll.Goals as goal
 
 pub invariant_of-seat-2 : goal.invariant_of-seat-2
-invariant_of-seat-2 g c = let is : view c.numbered.new.seat ≡ enrolled (view c.lock.new.seat) = search rules in (
+invariant_of-seat-2 g c = let is : view c.enroll_at.new.seat ≡ enrolled (view c.lock.new.seat) = search rules in (
   search rules,
   record {
     own = search rules;

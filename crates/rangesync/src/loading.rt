@@ -14,15 +14,15 @@ use std::io::Read;
 use std::rt::Files;
 use strategy_check::{Accepted, check};
 use strategy_core::Strategy;
-use version_log::Published;
+use version_log::Log;
 
 /// A strategy that was accepted, and a log of at most as many items as its cap.
 #[derive(Drop)]
-pub struct Opening {
+pub struct Loaded {
     /// The strategy.
     pub accepted: Accepted,
     /// The log, whose cap is the strategy's.
-    pub log: Published<Tree>,
+    pub log: Log<Tree>,
 }
 
 /// The strategy, with its least ranks, where it is accepted: else 37, 36 or 38.
@@ -66,16 +66,16 @@ fn item_set<R: Files + AllocGlobal, I: Read + Drop>(
 ///
 /// The strategy is judged first: 80, 30 to 35, then 37, 36 or 38. Then the items are: 80, 81, then 82 where there are
 /// more different items than the strategy's cap.
-pub fn read_opening<R: Files + AllocGlobal, I: Read + Drop>(
+pub fn load<R: Files + AllocGlobal, I: Read + Drop>(
     rt: &R,
     sources: Sources<'_>,
     reader: I,
-) -> Result<Opening, Fault>
+) -> Result<Loaded, Fault>
     ensures { IfOk result (λ o. o.log.cap ≡ o.accepted.table.cap) }
 {
     let alloc = rt.alloc();
     let accepted = accepted(alloc, read_strategy(rt, sources.table)?)?;
     let items = item_set(rt, sources, reader, accepted.cap() as usize)?;
-    let log = Published::of_set(alloc, accepted.cap(), &items)?;
-    Ok(Opening { accepted, log })
+    let log = Log::of_set(alloc, accepted.cap(), &items)?;
+    Ok(Loaded { accepted, log })
 }

@@ -2,7 +2,7 @@ use Rattle.std.proofs.Common.{rules, ◌≡◌, ◌<◌, sym, ◌∙◌, ◌∷�
 use Rattle.definitions.specs.Sets.{has, add_item}
 use Rattle.definitions.specs.Histories.{content, items_of}
 use Rattle.version_log.proofs.Once.{content_push, log_push, length-content}
-use Rattle.version_log.proofs.published.Published.add.Goals as goal
+use Rattle.version_log.proofs.log.Log.add.Goals as goal
 
 pub invariant_of-self-2 : goal.invariant_of-self-2
 invariant_of-self-2 g c =

@@ -2,13 +2,13 @@ use Rattle.std.proofs.Common.{rules, [], ◌∷◌, Err, ap, ◌∙◌}
 use Rattle.std.proofs.lemmas.Result.{err_from_is_err_and}
 use Rattle.definitions.specs.Wire.{Came, Ended}
 use Rattle.peer_threads.specs.declared.stop.Stop.TheVariants as stops
-use Rattle.peer_threads.specs.declared.outcome.Side.TheVariants as sides
+use Rattle.peer_threads.specs.declared.outcome.Direction.TheVariants as directions
 use Rattle.peer_threads.specs.Outcomes.{seen}
 use Rattle.peer_threads.specs.Underway.{IsNone}
 use Rattle.peer_threads.proofs.Exchanges.{Laws}
 use Rattle.peer_threads.proofs.Serving.{greeted, reads-on, stops-ungreeted, stops-broken-behind, stops-partless}
 use Rattle.peer_threads.proofs.Serving.{stops-endless, told}
-use Rattle.peer_threads.proofs.engines.meet.Goals as goal
+use Rattle.peer_threads.proofs.engines.first_message.Goals as goal
 
 pub returns-in_err-inbox-clause-stopped : goal.returns-in_err-inbox-clause-stopped
 returns-in_err-inbox-clause-stopped g c =
@@ -27,7 +27,7 @@ returns-in_err-inbox-clause-stopped g c =
 
 pub returns-in_err-greet-clause-stopped : goal.returns-in_err-greet-clause-stopped
 returns-in_err-greet-clause-stopped g c =
-    told c.from_residual-in_err-greet.result (stops.Io sides.Write) _ (search rules) (λ P.
+    told c.from_residual-in_err-greet.result (stops.Io directions.Write) _ (search rules) (λ P.
     let stopped = stops-broken-behind g.F.Summary.summary g.F.Summary.profile IsNone P c.args.outbox.now
     c.greet.new.self c.args.hello.bytes
     (g.R.Read.remaining c.args.reader.now.inner) (g.W.Write.contents c.args.writer.now.inner)

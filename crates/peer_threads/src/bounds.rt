@@ -6,7 +6,7 @@ ghost use Rattle.definitions.specs.Items.{IsBytes};
 ghost use Rattle.definitions.specs.Histories.{History, content};
 ghost use Rattle.definitions.specs.Ranks.{rank_by};
 ghost use Rattle.definitions.specs.Engines.{initiating, responding};
-ghost use Rattle.peer_threads.specs.Outcomes.{IsModest, peer_of};
+ghost use Rattle.peer_threads.specs.Outcomes.{KeepsBounds, peer_of};
 
 use digest_core::Summary;
 use std::sync::Arc;
@@ -14,14 +14,14 @@ use strategy_check::Accepted;
 
 /// A side that goes by an accepted strategy sends few messages and short lists, and learns just what the messages that
 /// it takes say, whatever the bytes are that it reads.
-pub(crate) fn sides_are_modest<F: Summary>(accepted: &Arc<Accepted>)
+pub(crate) fn sides_keep_bounds<F: Summary>(accepted: &Arc<Accepted>)
     ensures initiator { (h : History) (bytes : List ℕ) → IsBytes bytes →
         length (content h) ≤ (arc_value accepted.now).table.cap →
-        IsModest F.summary F.profile (initiating F.summary (peer_of (arc_value accepted.now) (content h))) bytes
+        KeepsBounds F.summary F.profile (initiating F.summary (peer_of (arc_value accepted.now) (content h))) bytes
         (rank_by (arc_value accepted.now).steps (length (content h)) + 2) (arc_value accepted.now).table.limit }
     ensures responder { (h : History) (bytes : List ℕ) → IsBytes bytes →
         length (content h) ≤ (arc_value accepted.now).table.cap →
-        IsModest F.summary F.profile (responding (peer_of (arc_value accepted.now) (content h))) bytes
+        KeepsBounds F.summary F.profile (responding (peer_of (arc_value accepted.now) (content h))) bytes
         (rank_by (arc_value accepted.now).steps (length (content h)) + 1) (arc_value accepted.now).table.limit }
 {
     codec_laws::heard_are_messages::<F>();

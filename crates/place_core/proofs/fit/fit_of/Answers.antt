@@ -1,6 +1,6 @@
 use Rattle.std.proofs.Common.{rules}
 use Rattle.place_core.proofs.Walks.{met_by_sum}
-use Rattle.place_core.proofs.fit.meet.Goals as goal
+use Rattle.place_core.proofs.fit.fit_of.Goals as goal
 
 pub returns-in-None : goal.returns-in-None
 returns-in-None g c =

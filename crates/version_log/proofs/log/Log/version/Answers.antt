@@ -1,6 +1,6 @@
 use Rattle.std.proofs.Common.{rules}
 use Rattle.version_log.proofs.Once.{length-content}
-use Rattle.version_log.proofs.published.Published.version.Goals as goal
+use Rattle.version_log.proofs.log.Log.version.Goals as goal
 
 pub returns-clause-count : goal.returns-clause-count
 returns-clause-count g c = let same = length-content c.self.inside.entries.items c.self.invariant.1.once in

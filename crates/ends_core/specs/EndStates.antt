@@ -1,6 +1,6 @@
 -- What an end's type shows: the staircase of its ranks, the end as the definitions have it, and what it took of a
 -- message.
---     Held, HasNone h           an end, and that it has taken no part of a message
+--     EndState, HasNone h           an end, and that it has taken no part of a message
 --     stage_at x, stage_of s     a stage as the definitions have it
 --     taken_of s d               what was taken
 --     IsAble h                   what an end keeps
@@ -16,12 +16,12 @@ use Rattle.ends_core.specs.Drafts.{Drafted, taken_at}
 use Rattle.ends_core.specs.declared.stage.Stage as own
 use Rattle.ends_core.specs.declared.stage.Stage.TheVariants as stages
 
-pub record Held (F : Type 0) : Type 0 where
+pub record EndState (F : Type 0) : Type 0 where
   pub steps : List ℕ
   pub end : End F
   pub taken : Taken F
 
-abbrev pub HasNone : {F : Type 0} → Held F → Type 0
+abbrev pub HasNone : {F : Type 0} → EndState F → Type 0
 HasNone h = h.taken ≡ nothing_taken h.end
 
 abbrev pub stage_at : {F : Type 0} → Placement F → Stage F
@@ -42,7 +42,7 @@ taken_of stages.Over d = none_at Over
 taken_of stages.Spent d = none_at Spent
 
 -- a checked table, a set that has room, and an own message whose open ranges do not overlap
-pub record IsAble {F : Type 0} (h : Held F) : Type 0 where
+pub record IsAble {F : Type 0} (h : EndState F) : Type 0 where
   pub checked : IsChecked (record { table = h.end.peer.table; steps = h.steps })
   pub room : length h.end.peer.items ≤ h.end.peer.table.cap
   pub apart : Apart (open_ranges (own_of h.end.stage))

@@ -7,30 +7,30 @@ ghost use Rattle.version_log.specs.Answers.{insertion_in};
 
 use crate::answer::{Added, LogFault, WritersSpent};
 use crate::entry::{Entry, items_of};
-use crate::opening::{opening, opening_of_set};
+use crate::first_entries::{first_entries, first_entries_of_set};
 use item_core::Item;
 use std::alloc::{AllocError, Global};
 use std::marker::Model;
-use store_core::{RangeStore, With, laws};
+use store_core::{Insertion, RangeStore, laws};
 
 /// Who brought which item, in order, and a store of the items. Each item stands once.
 ///
 /// A version is the number of the first entries that it has. Contracts see a log as its cap, its history and the next
 /// writer number.
 #[derive(Drop)]
-pub struct Published<S: RangeStore> {
+pub struct Log<S: RangeStore> {
     cap: u32,
     entries: Vec<Entry>,
     store: S,
     next_writer: u64,
 }
 
-impl<S: RangeStore> Model for Published<S> {
+impl<S: RangeStore> Model for Log<S> {
     ghost use Rattle.std.specs.Prelude.{◌≡◌};
     ghost use Rattle.definitions.specs.Histories.{content};
-    ghost use Rattle.version_log.specs.Logs.{Log, IsLog, log};
+    ghost use Rattle.version_log.specs.Logs.{LogState, IsLog, log};
 
-    ghost Value = { Log };
+    ghost Value = { LogState };
 
     ghost view = { λ p. log p.cap p.entries.items p.next_writer };
 
@@ -38,18 +38,18 @@ impl<S: RangeStore> Model for Published<S> {
         × IsLog (log p.cap p.entries.items p.next_writer) };
 }
 
-impl<S: RangeStore> Published<S> {
+impl<S: RangeStore> Log<S> {
     /// The log of these items, each once, where it stands first, by writer 0. The next writer number is 1.
     ///
     /// Else 40 where there are more items than the cap, each counted once, or 90; memory may run out before 40 is
     /// found.
-    pub fn new(alloc: Global, cap: u32, items: &[Item]) -> Result<Published<S>, LogFault>
+    pub fn new(alloc: Global, cap: u32, items: &[Item]) -> Result<Log<S>, LogFault>
         requires { IsCap cap }
         ensures log { IfOk result (λ p. p ≡ opened cap items.now 1) }
         ensures fits { IfOk result (λ _. length (set_of items.now) ≤ cap) }
         ensures full { IfErr result (λ e. e ≡ LogFault.Full → cap < length (set_of items.now)) }
     {
-        Published::starting_at(alloc, cap, items, 1)
+        Log::starting_at(alloc, cap, items, 1)
     }
 
     /// The same log with another next writer number, 1 to 4,294,967,296.
@@ -58,19 +58,19 @@ impl<S: RangeStore> Published<S> {
         cap: u32,
         items: &[Item],
         next_writer: u64,
-    ) -> Result<Published<S>, LogFault>
+    ) -> Result<Log<S>, LogFault>
         requires cap { IsCap cap }
         requires next { IsNextWriter next_writer }
         ensures log { IfOk result (λ p. p ≡ opened cap items.now next_writer) }
         ensures fits { IfOk result (λ _. length (set_of items.now) ≤ cap) }
         ensures full { IfErr result (λ e. e ≡ LogFault.Full → cap < length (set_of items.now)) }
     {
-        let entries = opening(alloc, items)?;
+        let entries = first_entries(alloc, items)?;
         if entries.len() > cap as usize {
             return Err(LogFault::Full);
         }
         let store = S::from_items(alloc, items_of(alloc, &entries)?)?;
-        Ok(Published {
+        Ok(Log {
             cap,
             entries,
             store,
@@ -81,15 +81,15 @@ impl<S: RangeStore> Published<S> {
     /// The log of the items of a set, at most as many as the cap, by writer 0. The next writer number is 1.
     ///
     /// Nothing is sorted, and each item is hashed once.
-    pub fn of_set(alloc: Global, cap: u32, items: &[Item]) -> Result<Published<S>, AllocError>
+    pub fn of_set(alloc: Global, cap: u32, items: &[Item]) -> Result<Log<S>, AllocError>
         requires cap { IsCap cap }
         requires set { IsSet items.now }
         requires fits { length items.now ≤ cap }
         ensures { IfOk result (λ p. p ≡ opened cap items.now 1) }
     {
-        Ok(Published {
+        Ok(Log {
             cap,
-            entries: opening_of_set(alloc, items)?,
+            entries: first_entries_of_set(alloc, items)?,
             store: S::from_rising(alloc, items)?,
             next_writer: 1,
         })
@@ -114,7 +114,7 @@ impl<S: RangeStore> Published<S> {
         if self.store.len() >= self.cap as usize {
             return Err(LogFault::Full);
         }
-        let With::New(store) = self.store.with(alloc, item)? else {
+        let Insertion::New(store) = self.store.with(alloc, item)? else {
             return Ok(Added::Already);
         };
         self.entries.reserve(1)?;
@@ -149,10 +149,10 @@ impl<S: RangeStore> Published<S> {
     }
 
     /// The same log again.
-    pub fn copy(&self, alloc: Global) -> Result<Published<S>, AllocError>
+    pub fn copy(&self, alloc: Global) -> Result<Log<S>, AllocError>
         ensures { IfOk result (λ p. p ≡ self.now) }
     {
-        Ok(Published {
+        Ok(Log {
             cap: self.cap,
             entries: Vec::from_slice(alloc, &self.entries)?,
             store: self.store.copy(alloc)?,

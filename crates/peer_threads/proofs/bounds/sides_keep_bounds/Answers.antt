@@ -2,11 +2,11 @@ use Rattle.std.proofs.Common.{subst}
 use Rattle.std.specs.Arc.{arc_value}
 use Rattle.definitions.specs.Histories.{content, items_of}
 use Rattle.strategy_check.specs.Checked.{IsChecked}
-use Rattle.peer_threads.proofs.Modest.{first_modest, second_modest}
-use Rattle.peer_threads.proofs.modesty.sides_are_modest.Goals as goal
+use Rattle.peer_threads.proofs.Bounds.{first_keeps, second_keeps}
+use Rattle.peer_threads.proofs.bounds.sides_keep_bounds.Goals as goal
 
 pub returns-clause-initiator : goal.returns-clause-initiator
-returns-clause-initiator g c = λ h bytes are room. first_modest g.F.Summary.summary g.F.Summary.profile
+returns-clause-initiator g c = λ h bytes are room. first_keeps g.F.Summary.summary g.F.Summary.profile
     (arc_value c.args.accepted.now)
     (content h) bytes (subst IsChecked c.deref.ensures c.cap-cap.ensures.checked) c.ranks_are_read.ensures
     (c.heard_are_messages.ensures g.F.Summary.profile g.met.F.Summary.real)
@@ -16,7 +16,7 @@ returns-clause-initiator g c = λ h bytes are room. first_modest g.F.Summary.sum
     (c.own_is_short.ensures g.F.Summary.summary) (c.set_of_a_list.ensures.set (items_of h)) are room
 
 pub returns-clause-responder : goal.returns-clause-responder
-returns-clause-responder g c = λ h bytes are room. second_modest g.F.Summary.summary g.F.Summary.profile
+returns-clause-responder g c = λ h bytes are room. second_keeps g.F.Summary.summary g.F.Summary.profile
     (arc_value c.args.accepted.now)
     (content h) bytes (subst IsChecked c.deref.ensures c.cap-cap.ensures.checked) c.ranks_are_read.ensures
     (c.heard_are_messages.ensures g.F.Summary.profile g.met.F.Summary.real)

@@ -2,7 +2,7 @@ use Rattle.std.proofs.Common.{rules, ap, ◌∙◌, length, ◌≤◌}
 use Rattle.definitions.specs.Histories.{items_of}
 use Rattle.definitions.specs.Sets.{set_of}
 use Rattle.version_log.proofs.Once.{writers_opened}
-use Rattle.version_log.proofs.published.Published.starting_at.Goals as goal
+use Rattle.version_log.proofs.log.Log.starting_at.Goals as goal
 
 pub invariant_of-result : goal.invariant_of-result
 invariant_of-result g c =

@@ -1,11 +1,11 @@
 use Rattle.std.proofs.Common.{rules, arith, ◌∙◌, sym, length, ◌≤◌}
 use Rattle.version_log.proofs.Once.{writers_opened}
-use Rattle.version_log.proofs.published.Published.of_set.Goals as goal
+use Rattle.version_log.proofs.log.Log.of_set.Goals as goal
 
 pub invariant_of-result : goal.invariant_of-result
 invariant_of-result g c =
-    let entries = c.in_ok-opening_of_set.field-0 in
-    let opening = c.in_ok-opening_of_set.ensures in
+    let entries = c.in_ok-first_entries_of_set.field-0 in
+    let opening = c.in_ok-first_entries_of_set.ensures in
     let count = opening.count in
     let room = c.requires.fits in
     let small : length entries.items ≤ c.args.cap = rw count room in (

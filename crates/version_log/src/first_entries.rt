@@ -11,7 +11,7 @@ use std::collections::BTreeSet;
 use store_core::laws;
 
 /// The entries of the items, each item once, where it stands first, by writer 0.
-pub(crate) fn opening(alloc: Global, items: &[Item]) -> Result<Vec<Entry>, AllocError>
+pub(crate) fn first_entries(alloc: Global, items: &[Item]) -> Result<Vec<Entry>, AllocError>
     ensures entries { IfOk result (λ entries. entries.items ≡ opening_history items.now) }
     ensures once { IfOk result (λ entries. IsHistory entries.items) }
     ensures count { IfOk result (λ entries. length entries.items ≡ length (set_of items.now)) }
@@ -29,7 +29,7 @@ pub(crate) fn opening(alloc: Global, items: &[Item]) -> Result<Vec<Entry>, Alloc
 }
 
 /// The entries of the items of a set, in their order, by writer 0.
-pub(crate) fn opening_of_set(alloc: Global, items: &[Item]) -> Result<Vec<Entry>, AllocError>
+pub(crate) fn first_entries_of_set(alloc: Global, items: &[Item]) -> Result<Vec<Entry>, AllocError>
     requires { IsSet items.now }
     ensures entries { IfOk result (λ entries. entries.items ≡ opening_history items.now) }
     ensures content { IfOk result (λ entries. content entries.items ≡ items.now) }

@@ -1,6 +1,6 @@
 use Rattle.std.proofs.Common.{rules}
 use Rattle.version_log.proofs.Once.{length-content}
-use Rattle.version_log.proofs.published.Published.count.Goals as goal
+use Rattle.version_log.proofs.log.Log.count.Goals as goal
 
 pub returns-clause-version : goal.returns-clause-version
 returns-clause-version g c = let same = length-content c.self.inside.entries.items c.self.invariant.1.once in

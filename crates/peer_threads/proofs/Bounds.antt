@@ -15,7 +15,7 @@ use Rattle.definitions.specs.Theorems.{ResponderLearns}
 use Rattle.laws.specs.Hearing.{OwnIsFew, OwnIsShort}
 use Rattle.codec_laws.specs.Parts.{HeardAreMessages}
 use Rattle.strategy_check.specs.Checked.{Checked, IsChecked}
-use Rattle.peer_threads.specs.Outcomes.{IsModest, peer_of}
+use Rattle.peer_threads.specs.Outcomes.{KeepsBounds, peer_of}
 
 module _ {F : Type 0} (S : Summary F) (W : Profile F) where
   abbrev pub HaveRanges : Type 0
@@ -45,12 +45,12 @@ module _ {F : Type 0} (S : Summary F) (W : Profile F) where
       Ready (peer_of a A) (ranks_by a.steps a.table.cap)
   ready a A checked set room = record { ranks = checked.serving.ranks; set = set; room = room }
 
-  pub first_modest : (a : Checked) (A : List Item) (bytes : List ℕ) → IsChecked a → ReadsRanks →
+  pub first_keeps : (a : Checked) (A : List Item) (bytes : List ℕ) → IsChecked a → ReadsRanks →
       HeardAreMessages W → HaveRanges → InitiatorStops S → EndsKeepLimits S →
       InitiatorLearns S → OwnIsFew S → OwnIsShort S →
       IsSet A → IsBytes bytes → length A ≤ a.table.cap →
-      IsModest S W (initiating S (peer_of a A)) bytes (rank_by a.steps (length A) + 2) a.table.limit
-  first_modest a A bytes checked read heard ranges stops limits learns own_few own_short set are room = record {
+      KeepsBounds S W (initiating S (peer_of a A)) bytes (rank_by a.steps (length A) + 2) a.table.limit
+  first_keeps a A bytes checked read heard ranges stops limits learns own_few own_short set are room = record {
     few = omega (
       arith,
       stops (peer_of a A) (ranks_by a.steps a.table.cap) (messages_in W bytes)
@@ -69,12 +69,12 @@ module _ {F : Type 0} (S : Summary F) (W : Profile F) where
     learned = λ over. learns (peer_of a A) (messages_in W bytes) (not_spent _ over);
   }
 
-  pub second_modest : (a : Checked) (A : List Item) (bytes : List ℕ) → IsChecked a → ReadsRanks →
+  pub second_keeps : (a : Checked) (A : List Item) (bytes : List ℕ) → IsChecked a → ReadsRanks →
       HeardAreMessages W → HaveRanges → ResponderStops S → EndsKeepLimits S →
       ResponderLearns S → OwnIsFew S → OwnIsShort S →
       IsSet A → IsBytes bytes → length A ≤ a.table.cap →
-      IsModest S W (responding (peer_of a A)) bytes (rank_by a.steps (length A) + 1) a.table.limit
-  second_modest a A bytes checked read heard ranges stops limits learns own_few own_short set are room = record {
+      KeepsBounds S W (responding (peer_of a A)) bytes (rank_by a.steps (length A) + 1) a.table.limit
+  second_keeps a A bytes checked read heard ranges stops limits learns own_few own_short set are room = record {
     few = omega (
       arith,
       stops (peer_of a A) (ranks_by a.steps a.table.cap) (messages_in W bytes)
