@@ -5,9 +5,9 @@
 -- stream is gives no event and keeps it, since to feed the bytes in one piece is to feed them and then nothing more
 -- (Streams).
 -- docs/LAWS.md: A stream may come in pieces (`feeds_rest`).
-use Rattle.std.proofs.Common.{◌≡◌, ℕ, ◌+◌, ◌<◌, ◌≤◌, List, [], ◌∷◌, ◌++◌, length, refl, sym, ap, subst, ◌∙◌, arith, inl}
+use Rattle.std.proofs.Common.{◌≡◌, ℕ, ◌+◌, ◌<◌, List, [], ◌∷◌, ◌++◌, length, refl, sym, ap, subst, ◌∙◌, arith, inl}
 use Rattle.std.proofs.Common.{inr, append_assoc}
-use Rattle.definitions.proofs.Words.{IsBytes, Profile, part_text, end_text, Event, Came, Ended, Failed, Stream}
+use Rattle.definitions.proofs.Words.{IsBytes, Profile, part_text, end_text, Event, Came, Ended, Failed}
 use Rattle.definitions.proofs.Words.{IsProfile, count_text, Standing, Before_hello, In_message, Meaning_over, Faulted}
 use Rattle.definitions.proofs.Words.{MeansFrames, Fed, feed, Means}
 use Rattle.definitions.specs.Wire.{max_body}

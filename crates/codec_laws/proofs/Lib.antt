@@ -5,3 +5,4 @@ pub mod Messages
 pub mod Streams
 pub mod Made
 pub mod Kept
+pub mod Paid

@@ -12,7 +12,6 @@ use Rattle.std.proofs.Common.{◌≡◌, ℕ, List, ◌++◌, length, take, drop
 use Rattle.std.proofs.Common.{◌∷◌, Option, Some, None, ap, ◌*◌, length-append}
 use Rattle.std.specs.Prelude.{flat_map, if◌then◌else◌, filter, map, IsTrue}
 use Rattle.definitions.specs.Sets.{has, difference}
-use Rattle.definitions.specs.Messages.{Listing}
 use Rattle.definitions.proofs.Words.{w32, w128, to_be_bytes, from_be_bytes, AllByRecursion, option_or, IsBytes, Item}
 use Rattle.definitions.proofs.Words.{IsItem, Range, IsRange, contains, item_cmp, lanes_text, lanes_read}
 use Rattle.definitions.proofs.Words.{two_lane_profile, counted_profile, IsProfile, Profile, body, short_text}

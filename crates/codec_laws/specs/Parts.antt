@@ -4,13 +4,15 @@
 --     MarksComeBack, PaddingIsLast               marks and their bytes
 --     FeedsJoin P, FeedsRest P                   readings of streams in steps, and what is kept between them
 --     HeardAreMessages P, SessionsAreHeard P     what a stream spells
-use Rattle.std.specs.Prelude.{◌≡◌, ◌↔◌, ℕ, ◌+◌, ◌/◌, ◌%◌, ◌^◌, ◌<◌, ◌≤◌, ◌==◌, ◌||◌, Bool, List, ◌++◌, length, None}
+--     LearnedIsPaid P                            items that are learned, and the bytes that they came in
+use Rattle.std.specs.Prelude.{◌≡◌, ◌↔◌, ℕ, ◌+◌, ◌*◌, ◌/◌, ◌%◌, ◌^◌, ◌<◌, ◌≤◌, ◌==◌, ◌||◌, Bool, List, ◌++◌, length, None}
 use Rattle.std.specs.Prelude.{bytes_eq, slice_index}
 use Rattle.std.specs.List.{AllByRecursion}
 use Rattle.definitions.specs.Items.{IsBytes, Item, IsItem, Range, IsRange}
 use Rattle.definitions.specs.Sets.{IsSet, items_in}
 use Rattle.definitions.specs.Messages.{Part, Sum, Listing, Answer, Message}
 use Rattle.definitions.specs.Replies.{answer_to}
+use Rattle.definitions.specs.Talks.{Knowledge, knows}
 use Rattle.definitions.specs.Wire.{Profile, AreItemsOf, IsFingerprint, IsPart, IsMessage, session_text, mark_bytes}
 use Rattle.definitions.specs.Wire.{mark_bytes_for, max_body}
 use Rattle.definitions.specs.Faults.{items_fault, part_fault}
@@ -75,3 +77,8 @@ HeardAreMessages P = (bytes : List ℕ) → IsBytes bytes → AllByRecursion (Is
 abbrev pub SessionsAreHeard : {F : Type 0} → Profile F → Type 0
 SessionsAreHeard {F} P =
     (Ms : List (Message F)) → AllByRecursion (IsMessage P) Ms → messages_in P (session_text P Ms) ≡ Ms
+
+-- each item that is learned from messages took two bytes of them or more
+abbrev pub LearnedIsPaid : {F : Type 0} → Profile F → Type 0
+LearnedIsPaid {F} P = (A : List Item) (owns Ms : List (Message F)) → AllByRecursion (IsMessage P) Ms →
+    2 * length (Knowledge.theirs (knows A owns Ms)) ≤ length (session_text P Ms)

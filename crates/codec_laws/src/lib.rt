@@ -12,6 +12,7 @@ ghost use Rattle.codec_laws.specs.Codec.{FieldIsExact, BodyIsExact, NextIsExact,
 ghost use Rattle.codec_laws.specs.Codec.{FeedIsExact};
 ghost use Rattle.codec_laws.specs.Parts.{ItemsFaultIsExact, PartFaultIsExact, MarksComeBack, PaddingIsLast, FeedsJoin};
 ghost use Rattle.codec_laws.specs.Parts.{FeedsRest, HeardAreMessages, SessionsAreHeard, SetsFit, AnswersFit};
+ghost use Rattle.codec_laws.specs.Parts.{LearnedIsPaid};
 
 /// Numbers are bytes exactly if each that is read from them is below 256.
 /// docs/LAWS.md: *Marks*.
@@ -157,4 +158,11 @@ pub fn heard_are_messages<F>()
 #[tactic(auto, using(crate::proofs::Streams::sessions_heard))]
 pub fn sessions_are_heard<F>()
     ensures { (P : Profile F) → IsProfile P → SessionsAreHeard P }
+{}
+
+/// What is learned of the other side has at most half as many items as its messages have bytes.
+/// docs/LAWS.md: *What is learned takes bytes*.
+#[tactic(auto, using(crate::proofs::Paid::learned_paid))]
+pub fn learned_is_paid<F>()
+    ensures { (P : Profile F) → LearnedIsPaid P }
 {}
