@@ -95,7 +95,7 @@ impl<S: RangeStore, F: Summary> SessionEnd<Initiating, S, F> {
         ensures memory { IfErr result (λ s. s ≡ store) }
     {
         laws::whole_has_all();
-        let _ = accepted.cap();
+        let _ = accepted.cap(); // proof only: the strategy was checked
         match begin(alloc, sum_in(&store, &Range::whole())) {
             Ok((place, first)) => Ok((
                 SessionEnd {
@@ -116,7 +116,7 @@ impl<S: RangeStore, F: Summary> SessionEnd<Responding, S, F> {
         ensures { result ≡ fresh (arc_value accepted).steps (ends.responder
             (record { table = (arc_value accepted).table; items = S.content store })) }
     {
-        let _ = accepted.cap();
+        let _ = accepted.cap(); // proof only: the strategy was checked
         SessionEnd {
             end: End::responding(alloc, accepted, store),
             role: PhantomData,
@@ -139,7 +139,7 @@ impl<R: Role, S: RangeStore, F: Summary> SessionEnd<R, S, F> {
         laws::ends_hear_on::<F>();
         laws::ends_keep_peers::<F>();
         laws::parts_are_taken::<F>();
-        let _range = part.range(); // which tells that it has a spelling
+        let _ = part.range(); // proof only: the part has a spelling
         self.end.take(alloc, part)
     }
 
@@ -201,7 +201,7 @@ impl<R: Role, S: RangeStore, F: Summary> SessionEnd<R, S, F> {
         laws::parts_are_taken::<F>();
         laws::replies_are_short::<F>();
         rank_laws::ranks_are_read();
-        let _parts = message.parts(); // which tells that they have a spelling
+        let _ = message.parts(); // proof only: its parts have spellings
         self.end.receive(alloc, message)
     }
 

@@ -5,7 +5,7 @@ pub mod Hellos
 pub mod Hearings
 pub mod Breaks
 pub mod Exchanges
-pub mod Bounds
+pub mod KeptBounds
 pub mod Endings
 pub mod Serving
 pub mod Dialing

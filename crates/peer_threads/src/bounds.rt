@@ -35,5 +35,5 @@ pub(crate) fn sides_keep_bounds<F: Summary>(accepted: &Arc<Accepted>)
     laws::own_is_short::<F>();
     rank_laws::ranks_are_read();
     store_core::laws::set_of_a_list();
-    let _cap = accepted.cap();
+    let _ = accepted.cap(); // proof only: the strategy was checked
 }

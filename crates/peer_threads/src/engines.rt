@@ -183,7 +183,7 @@ fn answer<T: Wait, G: Gate, P: Role, S: RangeStore, R: Read, W: Write, F: Summar
     laws::own_begins::<F>();
     laws::bytes_agree::<F>();
     let Begun { mut inbox, first } = begun;
-    let _few = party.sent();
+    let _ = party.sent(); // proof only: no more messages than the bound
     take(booking, party, &first)?;
     end(booking, party, outbox, writer)?;
     talk(booking, party, &mut inbox, outbox, reader, writer)
@@ -254,7 +254,7 @@ fn speak<T: Wait, G: Gate, P: Role, S: RangeStore, R: Read, W: Write, F: Summary
 {
     let mut inbox = Inbox::new(booking.alloc())?;
     outbox.greet(writer)?;
-    let _few = party.sent();
+    let _ = party.sent(); // proof only: no more messages than the bound
     say(booking, outbox, writer, first)?;
     talk(booking, party, &mut inbox, outbox, reader, writer)
 }

@@ -107,9 +107,9 @@ pub(crate) fn end<T: Wait, G: Gate, P: Role, S: RangeStore, W: Write, F: Summary
         (W.contents writer.old.inner) (W.contents writer.new.inner) writer.new.failed stop) }
     ensures few { outbox.new.sent ≤ most_sent (most_of P.side) party.old }
 {
-    let _few = party.sent();
+    let _ = party.sent(); // proof only: no more messages than the bound
     let turn = party.end(booking.alloc())?;
-    let _few = party.sent();
+    let _ = party.sent(); // proof only: no more messages than the bound
     reply(booking, outbox, writer, turn)
 }
 
@@ -135,7 +135,7 @@ fn hear<T: Wait, G: Gate, P: Role, S: RangeStore, W: Write, F: Summary>(
         outbox.new (W.contents writer.old.inner) (W.contents writer.new.inner) writer.new.failed stop) }
     ensures few { outbox.new.sent ≤ most_sent (most_of P.side) party.old }
 {
-    let _few = party.sent();
+    let _ = party.sent(); // proof only: no more messages than the bound
     match event {
         Event::Part(part) => take(booking, party, part),
         Event::End => end(booking, party, outbox, writer),
@@ -170,7 +170,7 @@ pub(crate) fn talk<T: Wait, G: Gate, P: Role, S: RangeStore, R: Read, W: Write, 
     laws::frames_say::<F>();
     laws::own_begins::<F>();
     laws::bytes_agree::<F>();
-    let _few = party.sent();
+    let _ = party.sent(); // proof only: no more messages than the bound
     for _turn in 0..u64::MAX {
         if party.is_over() {
             return Ok(());

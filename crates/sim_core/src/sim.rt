@@ -76,7 +76,7 @@ fn finish(alloc: Global, world: &mut World, session: usize) -> Result<(), AllocE
     ensures world { OnOk result (world.new ≡ delivered MAX_MESSAGES world.old session) }
     ensures ended { OnOk result (HasEnded session world.new) }
 {
-    let _count = world.sessions(); // which tells that so many deliveries end it
+    let _ = world.sessions(); // proof only: so many deliveries end the session
     deliver_often(alloc, world, session, MAX_MESSAGES)
 }
 

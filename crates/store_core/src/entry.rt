@@ -37,7 +37,7 @@ impl Entry {
         ensures item { result ≡ item }
         ensures is_item { IsItem item }
     {
-        let _bytes = item.bytes();
+        let _ = item.bytes(); // proof only: it is an item
         Entry {
             item,
             fingerprint: Fingerprint::of_item(&item),
@@ -49,7 +49,7 @@ impl Entry {
         ensures item { result.now ≡ self.now }
         ensures is_item { IsItem self.now }
     {
-        let _bytes = self.item.bytes();
+        let _ = self.item.bytes(); // proof only: it is an item
         &self.item
     }
 

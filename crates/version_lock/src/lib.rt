@@ -7,7 +7,7 @@ mod lock;
 mod pin;
 mod seat;
 mod steps;
-mod turns;
+mod taking;
 mod view;
 
 pub use fault::{InsertFault, PinFault};

@@ -89,7 +89,7 @@ fn have_spellings<F: Summary>(parts: &[Part<F>])
     ensures { AllByRecursion (IsPart F.profile) parts.now }
 {
     for part in parts {
-        let _ = part.range();
+        let _ = part.range(); // proof only: the part has a spelling
     }
 }
 

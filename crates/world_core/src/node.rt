@@ -70,7 +70,7 @@ impl Node {
         ensures did { IfOk result (λ did. did_of did ≡ told (insertion self.old.table.cap self.old.history item)) }
         ensures refused { OnErr result (self.new ≡ self.old) }
     {
-        let _ = self.log.cap();
+        let _ = self.log.cap(); // proof only: the log is within its cap
         match self.log.add(alloc, 0, item) {
             Ok(Added::New(version)) => Ok(Did::Added(version)),
             Ok(Added::Already) => Ok(Did::Already),
@@ -88,8 +88,8 @@ impl Node {
             (λ r. r.0 ≡ fresh self.now.steps (ends.initiator F.summary (newest self.now))) }
         ensures message { IfOk result (λ r. r.1 ≡ opening F.summary (newest self.now).items) }
     {
-        let _ = self.log.cap();
-        let _ = self.log.count();
+        let _ = self.log.cap(); // proof only: the log is within its cap
+        let _ = self.log.count(); // proof only: the log has so many items as its store
         let store = self.log.store().copy(alloc)?;
         match Initiator::start(alloc, Arc::try_clone(&self.accepted)?, store) {
             Ok(started) => Ok(started),
@@ -104,8 +104,8 @@ impl Node {
     ) -> Result<Responder<Tree, F>, AllocError>
         ensures { IfOk result (λ r. r ≡ fresh self.now.steps (ends.responder (newest self.now))) }
     {
-        let _ = self.log.cap();
-        let _ = self.log.count();
+        let _ = self.log.cap(); // proof only: the log is within its cap
+        let _ = self.log.count(); // proof only: the log has so many items as its store
         let store = self.log.store().copy(alloc)?;
         Ok(Responder::new(alloc, Arc::try_clone(&self.accepted)?, store))
     }

@@ -89,8 +89,8 @@ fn log_of(alloc: Global, accepted: &Accepted, items: &[Item]) -> Result<Log<Tree
     ensures full { IfErr result (λ e. e ≡ SetupFault.Full → accepted.now.table.cap < length (set_of items.now)) }
 {
     let log: Log<Tree> = Log::new(alloc, accepted.cap(), items)?;
-    let _ = log.count();
-    let _ = log.cap();
+    let _ = log.count(); // proof only: the log has so many items as its store
+    let _ = log.cap(); // proof only: the log is within its cap
     Ok(log)
 }
 

@@ -237,7 +237,7 @@ impl<F: Summary> World<F> {
             Holds F.summary self.now s }
         ensures items { HasItemsOfRuns F.summary self.now }
     {
-        let _count = self.sessions(); // which tells what holds of each
+        let _ = self.sessions(); // proof only: what holds of each session
         laws::sessions_tell::<F>();
         let session = self.sessions.get(session)?;
         Some(session.report())
@@ -295,6 +295,6 @@ pub fn run<F: Summary>(alloc: Global, setup: &Setup, steps: &[Step]) -> Result<W
     ensures items { IfOk result (λ w. ComesFrom setup.now (map step_of steps.now) w) }
 {
     let world = run_steps(alloc, setup, steps)?;
-    let _count = world.sessions(); // which tells what holds of each
+    let _ = world.sessions(); // proof only: what holds of each session
     Ok(world)
 }

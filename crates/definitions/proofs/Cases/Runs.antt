@@ -16,8 +16,8 @@ knows_letters ours theirs = record { ours = letters ours; theirs = letters their
 -- a report of a session that node 0 opened with node 1
 abbrev pub reports : ℕ → Option ℕ → ℕ → Bool → Knowledge → Knowledge → Option Report
 reports messages bound parts ended initiator responder = Some (record {
-  initiator = 0;
-  responder = 1;
+  initiator_node = 0;
+  responder_node = 1;
   messages = messages;
   bound = bound;
   parts = parts;

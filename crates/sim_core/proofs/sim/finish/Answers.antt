@@ -7,4 +7,4 @@ pub returns-clause-ended : goal.returns-clause-ended
 returns-clause-ended c =
     let enough : 513 ≤ MAX_MESSAGES = omega arith in
     finish_ends c.deliver_often.result c.args.world.now c.deliver_often.new.world c.args.session MAX_MESSAGES
-    c.sessions-count.ensures.ends enough c.deliver_often.ensures
+    c.sessions.ensures.ends enough c.deliver_often.ensures

@@ -63,12 +63,12 @@ invariant_of-self g c =
       c.ends_keep_peers.ensures g.F.Summary.summary,
       c.parts_are_taken.ensures g.F.Summary.summary,
     )
-    c.parts-parts.ensures.message.parts c.receive.ensures.answer c.receive.ensures.behind c.receive.ensures.memory
+    c.parts.ensures.message.parts c.receive.ensures.answer c.receive.ensures.behind c.receive.ensures.memory
     c.self.invariant
 
 pub returns-clause-judged : goal.returns-clause-judged
 returns-clause-judged g c =
-    let rise = c.messages_have_ranges.ensures g.F.Summary.profile c.args.message.now c.parts-parts.ensures.message in
+    let rise = c.messages_have_ranges.ensures g.F.Summary.profile c.args.message.now c.parts.ensures.message in
     let has =
     able g.F.Summary.summary g.F.Summary.profile (start_of g.R.Role.side g.F.Summary.summary) (most_of g.R.Role.side)
     c.self.inside.end

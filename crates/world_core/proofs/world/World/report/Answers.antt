@@ -23,4 +23,4 @@ returns-clause-report g c =
 pub returns-clause-holds : goal.returns-clause-holds
 returns-clause-holds g c = λ s e.
     All-found (Holds g.F.Summary.summary c.args.self.now) c.args.self.now.sessions c.args.session s e
-    c.sessions-count.ensures.hold
+    c.sessions.ensures.hold

@@ -1,6 +1,6 @@
 use Rattle.std.proofs.Common.{◌≡◌, take}
 use Rattle.definitions.specs.Histories.{content, opening_history}
-use Rattle.version_log.proofs.first_entries.opening.Given as goal
+use Rattle.version_log.proofs.first_entries.first_entries.Given as goal
 
 abbrev pub invariant-loop-item : goal.invariant-loop-item
 invariant-loop-item l = record {
