@@ -18,7 +18,7 @@ impl Tree {
         ensures within { result.0 ≤ length (tree_items self.now) }
         ensures steps { length self.now.branches.items ≤ 64 → result.1 ≤ 21 }
     {
-        let _ = self.count; // proof only: the tree is whole
+        let _count = self.count; // proof only: the tree is whole
         parts::rank(&self.branches, item)
     }
 
