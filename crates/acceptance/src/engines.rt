@@ -10,9 +10,8 @@ use crate::support::frames::{
 use crate::support::letters::item;
 use crate::support::tables::{BINARY_EIGHT, accepted};
 use digest_core::{Counted, Fingerprint};
-use io_core::Watched;
 use item_core::Item;
-use peer_threads::{Outcome, Shared, dial_one, serve_one};
+use peer_threads::{Connection, Outcome, Shared, dial_one, serve_one};
 use range_tree::Tree;
 use session_table::{SessionTable, Totals};
 use std::alloc::Global;
@@ -91,26 +90,15 @@ fn called<T: Wait, R: Read + Drop, W: Write + Drop>(
     requires { (seat.old.table_id ≡ shared.now.lock.now)
         × (seat.old.view.cap ≤ (arc_value shared.now.accepted.now).table.cap) }
 {
-    let mut reader = Watched::new(input);
-    let mut writer = Watched::new(output);
+    let mut connection = Connection::new(input, output);
     match engine {
-        Engine::Dial => dial_one::<_, _, _, _, _, Fingerprint>(
-            rt,
-            alloc,
-            shared,
-            seat,
-            &mut reader,
-            &mut writer,
-        ),
-        Engine::DialCounted => dial_one::<_, _, _, _, _, Counted>(
-            rt,
-            alloc,
-            shared,
-            seat,
-            &mut reader,
-            &mut writer,
-        ),
-        Engine::Serve => serve_one(rt, alloc, shared, seat, &mut reader, &mut writer),
+        Engine::Dial => {
+            dial_one::<_, _, _, _, _, Fingerprint>(rt, alloc, shared, seat, &mut connection)
+        }
+        Engine::DialCounted => {
+            dial_one::<_, _, _, _, _, Counted>(rt, alloc, shared, seat, &mut connection)
+        }
+        Engine::Serve => serve_one(rt, alloc, shared, seat, &mut connection),
     }
 }
 

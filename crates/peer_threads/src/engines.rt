@@ -27,6 +27,7 @@ ghost use Rattle.peer_threads.specs.Underway.{IsNone, Refuses, Stopped, Talked, 
 
 use crate::booking::{Booking, Host};
 use crate::bounds::sides_keep_bounds;
+use crate::connection::Connection;
 use crate::ending::{concluded, stopped};
 use crate::gate::Gate;
 use crate::hello::{Hello, read_hello};
@@ -122,32 +123,35 @@ fn first_message<R: Read, W: Write, F: Summary>(
     alloc: Global,
     hello: Hello,
     outbox: &mut Outbox<F>,
-    reader: &mut Watched<R>,
-    writer: &mut Watched<W>,
+    connection: &mut Connection<R, W>,
 ) -> Result<Begun<F>, Stop>
     requires hello { IsHello hello }
-    requires fine { writer.old.failed ≡ false }
+    requires fine { connection.old.writer.failed ≡ false }
     requires new { outbox.old ≡ outbox_state false 0 }
     ensures met { IfOk result (λ o. IsFirstPart o.first × Exchanged F.profile o.inbox outbox.new
-        (traffic_behind hello.bytes (R.remaining reader.old.inner) (R.remaining reader.new.inner)
-        (W.contents writer.old.inner) (W.contents writer.new.inner)) (Came o.first ∷ Ended ∷ [])) }
-    ensures fine { IfOk result (λ _. writer.new.failed ≡ false) }
+        (traffic_behind hello.bytes (R.remaining connection.old.reader.inner) (R.remaining connection.new.reader.inner)
+        (W.contents connection.old.writer.inner) (W.contents connection.new.writer.inner))
+        (Came o.first ∷ Ended ∷ [])) }
+    ensures fine { IfOk result (λ _. connection.new.writer.failed ≡ false) }
     ensures stopped { IfErr result (λ stop. (P : Peer) → Stopped F.summary F.profile IsNone (responding P) outbox.new
-        (traffic_behind hello.bytes (R.remaining reader.old.inner) (R.remaining reader.new.inner)
-        (W.contents writer.old.inner) (W.contents writer.new.inner)) (seen reader.new.failed reader.new.ended)
-        writer.new.failed stop) }
+        (traffic_behind hello.bytes (R.remaining connection.old.reader.inner) (R.remaining connection.new.reader.inner)
+        (W.contents connection.old.writer.inner) (W.contents connection.new.writer.inner))
+        (seen connection.new.reader.failed connection.new.reader.ended)
+        connection.new.writer.failed stop) }
     ensures none { outbox.new.sent ≡ 0 }
-    ensures reads { IfOk result (λ o. (reader.new.reads + hello.reads ≤ reader.old.reads + o.inbox.reads)
+    ensures reads { IfOk result
+        (λ o. (connection.new.reader.reads + hello.reads ≤ connection.old.reader.reads + o.inbox.reads)
         × (o.inbox.reads ≤ 2 ^ 32)) }
-    ensures stopped_reads { IfErr result (λ _. reader.new.reads + hello.reads ≤ reader.old.reads + 2 ^ 32) }
+    ensures stopped_reads { IfErr result
+        (λ _. connection.new.reader.reads + hello.reads ≤ connection.old.reader.reads + 2 ^ 32) }
 {
     laws::frames_say::<F>();
     laws::own_begins::<F>();
     laws::bytes_agree::<F>();
     let mut inbox = Inbox::<F>::behind(alloc, hello)?;
-    outbox.greet(writer)?;
-    let first = first_part(alloc, &mut inbox, reader)?;
-    first_end(alloc, &mut inbox, reader)?;
+    outbox.greet(&mut connection.writer)?;
+    let first = first_part(alloc, &mut inbox, &mut connection.reader)?;
+    first_end(alloc, &mut inbox, &mut connection.reader)?;
     Ok(Begun { inbox, first })
 }
 
@@ -157,27 +161,26 @@ fn answer<T: Wait, G: Gate, P: Role, S: RangeStore, R: Read, W: Write, F: Summar
     party: &mut SessionEnd<P, S, F>,
     begun: Begun<F>,
     outbox: &mut Outbox<F>,
-    reader: &mut Watched<R>,
-    writer: &mut Watched<W>,
+    connection: &mut Connection<R, W>,
 ) -> Result<(), Stop>
-    requires fine { writer.old.failed ≡ false }
+    requires fine { connection.old.writer.failed ≡ false }
     requires count { outbox.old.sent ≡ party.old.end.sent }
     requires goes { is_over party.old.end.stage ≡ false }
     ensures talked { (p : Peer) (steps : List ℕ) (unread : Origin) (held : Option (List ℕ)) →
         party.old ≡ fresh steps (ends.responder p) →
-        Exchanged F.profile begun.inbox outbox.old (traffic_of unread (R.remaining reader.old.inner) held
-        (W.contents writer.old.inner)) (Came begun.first ∷ Ended ∷ []) →
+        Exchanged F.profile begun.inbox outbox.old (traffic_of unread (R.remaining connection.old.reader.inner) held
+        (W.contents connection.old.writer.inner)) (Came begun.first ∷ Ended ∷ []) →
         Talked F.summary F.profile (responding p) party.new.end outbox.new
-        (traffic_of unread (R.remaining reader.new.inner) held (W.contents writer.new.inner))
-        (seen reader.new.failed reader.new.ended) writer.new.failed result }
+        (traffic_of unread (R.remaining connection.new.reader.inner) held (W.contents connection.new.writer.inner))
+        (seen connection.new.reader.failed connection.new.reader.ended) connection.new.writer.failed result }
     ensures on { (p : Peer) (steps : List ℕ) (unread : Origin) (held : Option (List ℕ)) →
         party.old ≡ fresh steps (ends.responder p) →
-        Exchanged F.profile begun.inbox outbox.old (traffic_of unread (R.remaining reader.old.inner) held
-        (W.contents writer.old.inner)) (Came begun.first ∷ Ended ∷ []) →
-        ReadOn (R.remaining reader.old.inner) (R.remaining reader.new.inner) }
+        Exchanged F.profile begun.inbox outbox.old (traffic_of unread (R.remaining connection.old.reader.inner) held
+        (W.contents connection.old.writer.inner)) (Came begun.first ∷ Ended ∷ []) →
+        ReadOn (R.remaining connection.old.reader.inner) (R.remaining connection.new.reader.inner) }
     ensures few { outbox.new.sent ≤ most_sent (most_of P.side) party.old }
     ensures reads { begun.inbox.reads ≤ 2 ^ 32 →
-        reader.new.reads + begun.inbox.reads ≤ reader.old.reads + 2 ^ 32 }
+        connection.new.reader.reads + begun.inbox.reads ≤ connection.old.reader.reads + 2 ^ 32 }
 {
     laws::frames_say::<F>();
     laws::own_begins::<F>();
@@ -185,8 +188,8 @@ fn answer<T: Wait, G: Gate, P: Role, S: RangeStore, R: Read, W: Write, F: Summar
     let Begun { mut inbox, first } = begun;
     let _ = party.sent(); // proof only: no more messages than the bound
     take(booking, party, &first)?;
-    end(booking, party, outbox, writer)?;
-    talk(booking, party, &mut inbox, outbox, reader, writer)
+    end(booking, party, outbox, &mut connection.writer)?;
+    talk(booking, party, &mut inbox, outbox, connection)
 }
 
 /// The side that is spoken to first, with the version that it speaks of.
@@ -195,38 +198,38 @@ fn respond<T: Wait, S: RangeStore, G: Gate, R: Read, W: Write, F: Summary>(
     pin: Pin<S>,
     begun: Begun<F>,
     mut outbox: Outbox<F>,
-    reader: &mut Watched<R>,
-    writer: &mut Watched<W>,
+    connection: &mut Connection<R, W>,
 ) -> Outcome
     requires fits { length pin.items ≤ (arc_value host.now.accepted.now).table.cap }
-    requires fine { writer.old.failed ≡ false }
+    requires fine { connection.old.writer.failed ≡ false }
     requires none { outbox.sent ≡ 0 }
     ensures bytes { (unread : Origin) (held : Option (List ℕ)) →
-        Exchanged F.profile begun.inbox outbox (traffic_of unread (R.remaining reader.old.inner) held
-        (W.contents writer.old.inner)) (Came begun.first ∷ Ended ∷ []) →
+        Exchanged F.profile begun.inbox outbox (traffic_of unread (R.remaining connection.old.reader.inner) held
+        (W.contents connection.old.writer.inner)) (Came begun.first ∷ Ended ∷ []) →
         Spoke F.summary F.profile (responding (peer_of (arc_value host.now.accepted.now) pin.items)) pin.version
         (rank_by (arc_value host.now.accepted.now).steps (length pin.items) + 1)
-        (traffic_of unread (R.remaining reader.new.inner) held (W.contents writer.new.inner))
-        (seen reader.new.failed reader.new.ended) (seen writer.new.failed writer.new.ended) result }
+        (traffic_of unread (R.remaining connection.new.reader.inner) held (W.contents connection.new.writer.inner))
+        (seen connection.new.reader.failed connection.new.reader.ended)
+        (seen connection.new.writer.failed connection.new.writer.ended) result }
     ensures on { (unread : Origin) (held : Option (List ℕ)) →
-        Exchanged F.profile begun.inbox outbox (traffic_of unread (R.remaining reader.old.inner) held
-        (W.contents writer.old.inner)) (Came begun.first ∷ Ended ∷ []) →
-        ReadOn (R.remaining reader.old.inner) (R.remaining reader.new.inner) }
+        Exchanged F.profile begun.inbox outbox (traffic_of unread (R.remaining connection.old.reader.inner) held
+        (W.contents connection.old.writer.inner)) (Came begun.first ∷ Ended ∷ []) →
+        ReadOn (R.remaining connection.old.reader.inner) (R.remaining connection.new.reader.inner) }
     ensures version { HasVersion result pin.version }
     ensures reads { begun.inbox.reads ≤ 2 ^ 32 →
-        reader.new.reads + begun.inbox.reads ≤ reader.old.reads + 2 ^ 32 }
+        connection.new.reader.reads + begun.inbox.reads ≤ connection.old.reader.reads + 2 ^ 32 }
 {
     let version = pin.version();
     let mut party = match new_responder(host, pin) {
         Ok(party) => party,
-        Err(AllocError) => return stopped(outbox, writer, Stop::Memory),
+        Err(AllocError) => return stopped(outbox, &mut connection.writer, Stop::Memory),
     };
     let booking = match Booking::open(host, party.bound()) {
         Ok(booking) => booking,
-        Err(fault) => return stopped(outbox, writer, Stop::from(fault)),
+        Err(fault) => return stopped(outbox, &mut connection.writer, Stop::from(fault)),
     };
-    let talked = answer(&booking, &mut party, begun, &mut outbox, reader, writer);
-    let outcome = concluded(party, version, outbox, writer, talked);
+    let talked = answer(&booking, &mut party, begun, &mut outbox, connection);
+    let outcome = concluded(party, version, outbox, &mut connection.writer, talked);
     booking.close(&outcome);
     outcome
 }
@@ -237,58 +240,58 @@ fn speak<T: Wait, G: Gate, P: Role, S: RangeStore, R: Read, W: Write, F: Summary
     party: &mut SessionEnd<P, S, F>,
     first: &Message<F>,
     outbox: &mut Outbox<F>,
-    reader: &mut Watched<R>,
-    writer: &mut Watched<W>,
+    connection: &mut Connection<R, W>,
 ) -> Result<(), Stop>
-    requires fine { writer.old.failed ≡ false }
+    requires fine { connection.old.writer.failed ≡ false }
     requires new { outbox.old ≡ outbox_state false 0 }
     requires one { party.old.end.sent ≡ 1 }
     ensures talked { (p : Peer) (steps : List ℕ) → party.old ≡ fresh steps (ends.initiator F.summary p) →
         first.now ≡ opening F.summary p.items →
         Talked F.summary F.profile (initiating F.summary p) party.new.end outbox.new
-        (traffic (R.remaining reader.old.inner) (R.remaining reader.new.inner) (W.contents writer.old.inner)
-        (W.contents writer.new.inner))
-        (seen reader.new.failed reader.new.ended) writer.new.failed result }
+        (traffic (R.remaining connection.old.reader.inner) (R.remaining connection.new.reader.inner)
+        (W.contents connection.old.writer.inner)
+        (W.contents connection.new.writer.inner))
+        (seen connection.new.reader.failed connection.new.reader.ended) connection.new.writer.failed result }
     ensures few { outbox.new.sent ≤ most_sent (most_of P.side) party.old }
-    ensures reads { reader.new.reads ≤ reader.old.reads + 2 ^ 32 }
+    ensures reads { connection.new.reader.reads ≤ connection.old.reader.reads + 2 ^ 32 }
 {
     let mut inbox = Inbox::new(booking.alloc())?;
-    outbox.greet(writer)?;
+    outbox.greet(&mut connection.writer)?;
     let _ = party.sent(); // proof only: no more messages than the bound
-    say(booking, outbox, writer, first)?;
-    talk(booking, party, &mut inbox, outbox, reader, writer)
+    say(booking, outbox, &mut connection.writer, first)?;
+    talk(booking, party, &mut inbox, outbox, connection)
 }
 
 /// The side that speaks first, with the version that it speaks of.
 fn initiate<T: Wait, S: RangeStore, G: Gate, R: Read, W: Write, F: Summary>(
     host: &Host<'_, T, G>,
     pin: Pin<S>,
-    reader: &mut Watched<R>,
-    writer: &mut Watched<W>,
+    connection: &mut Connection<R, W>,
 ) -> Outcome
     requires fits { length pin.items ≤ (arc_value host.now.accepted.now).table.cap }
-    requires fine { writer.old.failed ≡ false }
+    requires fine { connection.old.writer.failed ≡ false }
     ensures bytes { Spoke F.summary F.profile
         (initiating F.summary (peer_of (arc_value host.now.accepted.now) pin.items)) pin.version
         (rank_by (arc_value host.now.accepted.now).steps (length pin.items) + 2)
-        (traffic (R.remaining reader.old.inner) (R.remaining reader.new.inner) (W.contents writer.old.inner)
-        (W.contents writer.new.inner)) (seen reader.new.failed reader.new.ended)
-        (seen writer.new.failed writer.new.ended) result }
+        (traffic (R.remaining connection.old.reader.inner) (R.remaining connection.new.reader.inner)
+        (W.contents connection.old.writer.inner)
+        (W.contents connection.new.writer.inner)) (seen connection.new.reader.failed connection.new.reader.ended)
+        (seen connection.new.writer.failed connection.new.writer.ended) result }
     ensures version { HasVersion result pin.version }
-    ensures reads { reader.new.reads ≤ reader.old.reads + 2 ^ 32 }
+    ensures reads { connection.new.reader.reads ≤ connection.old.reader.reads + 2 ^ 32 }
 {
     let version = pin.version();
     let mut outbox = Outbox::<F>::new();
     let (mut party, first) = match new_initiator(host, pin) {
         Ok(started) => started,
-        Err(AllocError) => return stopped(outbox, writer, Stop::Memory),
+        Err(AllocError) => return stopped(outbox, &mut connection.writer, Stop::Memory),
     };
     let booking = match Booking::open(host, party.bound()) {
         Ok(booking) => booking,
-        Err(fault) => return stopped(outbox, writer, Stop::from(fault)),
+        Err(fault) => return stopped(outbox, &mut connection.writer, Stop::from(fault)),
     };
-    let talked = speak(&booking, &mut party, &first, &mut outbox, reader, writer);
-    let outcome = concluded(party, version, outbox, writer, talked);
+    let talked = speak(&booking, &mut party, &first, &mut outbox, connection);
+    let outcome = concluded(party, version, outbox, &mut connection.writer, talked);
     booking.close(&outcome);
     outcome
 }
@@ -300,44 +303,48 @@ fn serve_behind<T: Wait, S: RangeStore, G: Gate, R: Read, W: Write, F: Summary>(
     shared: &Shared<'_, S, G>,
     seat: &mut Seat<S>,
     hello: Hello,
-    reader: &mut Watched<R>,
-    writer: &mut Watched<W>,
+    connection: &mut Connection<R, W>,
 ) -> Outcome
     requires lock { seat.old.table_id ≡ shared.now.lock.now }
     requires fits { seat.old.view.cap ≤ (arc_value shared.now.accepted.now).table.cap }
     requires hello { IsHello hello }
-    requires fine { writer.old.failed ≡ false }
+    requires fine { connection.old.writer.failed ≡ false }
     ensures seat { seat.new.table_id ≡ seat.old.table_id }
     ensures view { (Looked seat.old.view seat.new.view
         × (length (content seat.new.view.base) ≤ (arc_value shared.now.accepted.now).table.cap))
         ⊎ ((seat.new.view ≡ seat.old.view)
-        × Unopened F.summary F.profile (traffic_behind hello.bytes (R.remaining reader.old.inner)
-        (R.remaining reader.new.inner) (W.contents writer.old.inner) (W.contents writer.new.inner))
-        (seen reader.new.failed reader.new.ended) (seen writer.new.failed writer.new.ended) result) }
+        × Unopened F.summary F.profile (traffic_behind hello.bytes (R.remaining connection.old.reader.inner)
+        (R.remaining connection.new.reader.inner) (W.contents connection.old.writer.inner)
+        (W.contents connection.new.writer.inner))
+        (seen connection.new.reader.failed connection.new.reader.ended)
+        (seen connection.new.writer.failed connection.new.writer.ended) result) }
     ensures opened { (seat.new.view ≡ seat.old.view) ⊎ CameFirst F.profile
-        (Behind hello.bytes (R.remaining reader.old.inner)) (R.remaining reader.new.inner) }
+        (Behind hello.bytes (R.remaining connection.old.reader.inner)) (R.remaining connection.new.reader.inner) }
     ensures bytes { Speaks F.summary F.profile
         (length (content seat.new.view.base) ≤ (arc_value shared.now.accepted.now).table.cap)
         (responding (peer_at (arc_value shared.now.accepted.now) seat.new.view)) (length seat.new.view.base)
         (rank_by (arc_value shared.now.accepted.now).steps
         (length (peer_at (arc_value shared.now.accepted.now) seat.new.view).items) + 1)
-        (arc_value shared.now.accepted.now).table.limit (traffic_behind hello.bytes (R.remaining reader.old.inner)
-        (R.remaining reader.new.inner) (W.contents writer.old.inner) (W.contents writer.new.inner))
-        (seen reader.new.failed reader.new.ended) (seen writer.new.failed writer.new.ended) result }
+        (arc_value shared.now.accepted.now).table.limit (traffic_behind hello.bytes
+        (R.remaining connection.old.reader.inner)
+        (R.remaining connection.new.reader.inner) (W.contents connection.old.writer.inner)
+        (W.contents connection.new.writer.inner))
+        (seen connection.new.reader.failed connection.new.reader.ended)
+        (seen connection.new.writer.failed connection.new.writer.ended) result }
     ensures version { HasVersion result (length seat.new.view.base) }
-    ensures reads { reader.new.reads + hello.reads ≤ reader.old.reads + 2 ^ 32 }
+    ensures reads { connection.new.reader.reads + hello.reads ≤ connection.old.reader.reads + 2 ^ 32 }
 {
     codec_laws::feeds_join::<F>();
     sides_keep_bounds::<F>(shared.accepted);
     let host = Host::of(rt, alloc, shared);
     let mut outbox = Outbox::<F>::new();
-    let begun = match first_message(alloc, hello, &mut outbox, reader, writer) {
+    let begun = match first_message(alloc, hello, &mut outbox, connection) {
         Ok(begun) => begun,
-        Err(stop) => return stopped(outbox, writer, stop),
+        Err(stop) => return stopped(outbox, &mut connection.writer, stop),
     };
     match shared.lock.pin(rt, alloc, seat) {
-        Ok(pin) => respond(&host, pin, begun, outbox, reader, writer),
-        Err(AllocError) => stopped(outbox, writer, Stop::Memory),
+        Ok(pin) => respond(&host, pin, begun, outbox, connection),
+        Err(AllocError) => stopped(outbox, &mut connection.writer, Stop::Memory),
     }
 }
 
@@ -349,48 +356,50 @@ pub fn serve_one<T: Wait, S: RangeStore, G: Gate, R: Read, W: Write>(
     alloc: Global,
     shared: &Shared<'_, S, G>,
     seat: &mut Seat<S>,
-    reader: &mut Watched<R>,
-    writer: &mut Watched<W>,
+    connection: &mut Connection<R, W>,
 ) -> Outcome
     requires lock { seat.old.table_id ≡ shared.now.lock.now }
     requires fits { seat.old.view.cap ≤ (arc_value shared.now.accepted.now).table.cap }
-    requires fresh { (reader.old.failed ≡ false) × (reader.old.ended ≡ false) × (writer.old.failed ≡ false) }
+    requires fresh { (connection.old.reader.failed ≡ false) × (connection.old.reader.ended ≡ false)
+        × (connection.old.writer.failed ≡ false) }
     ensures seat { seat.new.table_id ≡ seat.old.table_id }
     // The seat is as one `pin` leaves it, and its set fits; or as before, and then no message was said, and what the
     // outcome says holds of any peer.
     ensures view { (Looked seat.old.view seat.new.view
         × (length (content seat.new.view.base) ≤ (arc_value shared.now.accepted.now).table.cap))
         ⊎ ((seat.new.view ≡ seat.old.view)
-        × ChosenUnopened (traffic (R.remaining reader.old.inner) (R.remaining reader.new.inner)
-        (W.contents writer.old.inner) (W.contents writer.new.inner)) (seen reader.new.failed reader.new.ended)
-        (seen writer.new.failed writer.new.ended) result) }
+        × ChosenUnopened (traffic (R.remaining connection.old.reader.inner) (R.remaining connection.new.reader.inner)
+        (W.contents connection.old.writer.inner) (W.contents connection.new.writer.inner))
+        (seen connection.new.reader.failed connection.new.reader.ended)
+        (seen connection.new.writer.failed connection.new.writer.ended) result) }
     // Where the seat was used, what this call read begins with a first message.
     ensures opened { (seat.new.view ≡ seat.old.view)
-        ⊎ ChosenFirst (Reader (R.remaining reader.old.inner)) (R.remaining reader.new.inner) }
+        ⊎ ChosenFirst (Reader (R.remaining connection.old.reader.inner)) (R.remaining connection.new.reader.inner) }
     // What the outcome says, in the profile that the bytes read choose.
     ensures bytes { ChosenSpeaks (length (content seat.new.view.base) ≤ (arc_value shared.now.accepted.now).table.cap)
         (peer_at (arc_value shared.now.accepted.now) seat.new.view) (length seat.new.view.base)
         (rank_by (arc_value shared.now.accepted.now).steps
         (length (peer_at (arc_value shared.now.accepted.now) seat.new.view).items) + 1)
         (arc_value shared.now.accepted.now).table.limit
-        (traffic (R.remaining reader.old.inner) (R.remaining reader.new.inner) (W.contents writer.old.inner)
-        (W.contents writer.new.inner)) (seen reader.new.failed reader.new.ended)
-        (seen writer.new.failed writer.new.ended) result }
+        (traffic (R.remaining connection.old.reader.inner) (R.remaining connection.new.reader.inner)
+        (W.contents connection.old.writer.inner)
+        (W.contents connection.new.writer.inner)) (seen connection.new.reader.failed connection.new.reader.ended)
+        (seen connection.new.writer.failed connection.new.writer.ended) result }
     ensures version { HasVersion result (length seat.new.view.base) }
-    ensures reads { reader.new.reads ≤ reader.old.reads + 2 ^ 32 }
+    ensures reads { connection.new.reader.reads ≤ connection.old.reader.reads + 2 ^ 32 }
 {
     laws::frames_say::<Fingerprint>();
     laws::own_begins::<Fingerprint>();
     laws::bytes_agree::<Fingerprint>();
     sides_keep_bounds::<Fingerprint>(shared.accepted);
-    let hello = match read_hello(reader) {
+    let hello = match read_hello(&mut connection.reader) {
         Ok(hello) => hello,
-        Err(stop) => return stopped(Outbox::<Fingerprint>::new(), writer, stop),
+        Err(stop) => return stopped(Outbox::<Fingerprint>::new(), &mut connection.writer, stop),
     };
     if hello.bytes == Counted::hello() {
-        serve_behind::<T, S, G, R, W, Counted>(rt, alloc, shared, seat, hello, reader, writer)
+        serve_behind::<T, S, G, R, W, Counted>(rt, alloc, shared, seat, hello, connection)
     } else {
-        serve_behind::<T, S, G, R, W, Fingerprint>(rt, alloc, shared, seat, hello, reader, writer)
+        serve_behind::<T, S, G, R, W, Fingerprint>(rt, alloc, shared, seat, hello, connection)
     }
 }
 
@@ -400,12 +409,12 @@ pub fn dial_one<T: Wait, S: RangeStore, G: Gate, R: Read, W: Write, F: Summary>(
     alloc: Global,
     shared: &Shared<'_, S, G>,
     seat: &mut Seat<S>,
-    reader: &mut Watched<R>,
-    writer: &mut Watched<W>,
+    connection: &mut Connection<R, W>,
 ) -> Outcome
     requires lock { seat.old.table_id ≡ shared.now.lock.now }
     requires fits { seat.old.view.cap ≤ (arc_value shared.now.accepted.now).table.cap }
-    requires fresh { (reader.old.failed ≡ false) × (reader.old.ended ≡ false) × (writer.old.failed ≡ false) }
+    requires fresh { (connection.old.reader.failed ≡ false) × (connection.old.reader.ended ≡ false)
+        × (connection.old.writer.failed ≡ false) }
     ensures seat { seat.new.table_id ≡ seat.old.table_id }
     ensures view { Looked seat.old.view seat.new.view }
     ensures bytes { Speaks F.summary F.profile ⊤
@@ -414,16 +423,17 @@ pub fn dial_one<T: Wait, S: RangeStore, G: Gate, R: Read, W: Write, F: Summary>(
         (rank_by (arc_value shared.now.accepted.now).steps
         (length (peer_at (arc_value shared.now.accepted.now) seat.new.view).items) + 2)
         (arc_value shared.now.accepted.now).table.limit
-        (traffic (R.remaining reader.old.inner) (R.remaining reader.new.inner) (W.contents writer.old.inner)
-        (W.contents writer.new.inner)) (seen reader.new.failed reader.new.ended)
-        (seen writer.new.failed writer.new.ended) result }
+        (traffic (R.remaining connection.old.reader.inner) (R.remaining connection.new.reader.inner)
+        (W.contents connection.old.writer.inner)
+        (W.contents connection.new.writer.inner)) (seen connection.new.reader.failed connection.new.reader.ended)
+        (seen connection.new.writer.failed connection.new.writer.ended) result }
     ensures version { HasVersion result (length seat.new.view.base) }
-    ensures reads { reader.new.reads ≤ reader.old.reads + 2 ^ 32 }
+    ensures reads { connection.new.reader.reads ≤ connection.old.reader.reads + 2 ^ 32 }
 {
     sides_keep_bounds::<F>(shared.accepted);
     let host = Host::of(rt, alloc, shared);
     match shared.lock.pin(rt, alloc, seat) {
-        Ok(pin) => initiate::<T, S, G, R, W, F>(&host, pin, reader, writer),
-        Err(AllocError) => stopped(Outbox::<F>::new(), writer, Stop::Memory),
+        Ok(pin) => initiate::<T, S, G, R, W, F>(&host, pin, connection),
+        Err(AllocError) => stopped(Outbox::<F>::new(), &mut connection.writer, Stop::Memory),
     }
 }

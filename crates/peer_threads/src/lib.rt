@@ -3,6 +3,7 @@
 
 mod booking;
 mod bounds;
+mod connection;
 mod ending;
 mod engines;
 mod gate;
@@ -19,6 +20,7 @@ mod talk;
 mod worker;
 mod workers;
 
+pub use connection::Connection;
 pub use engines::{dial_one, serve_one};
 pub use gate::{Gate, OpenGate};
 pub use outcome::{Direction, Outcome};

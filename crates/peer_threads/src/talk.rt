@@ -14,6 +14,7 @@ ghost use Rattle.peer_threads.specs.Outboxes.{Adds};
 ghost use Rattle.peer_threads.specs.Underway.{Underway, Talked, Unsaid, Refuses, StopsBy, heard_as, most_sent, said_by};
 
 use crate::booking::Booking;
+use crate::connection::Connection;
 use crate::gate::Gate;
 use crate::inbox::Inbox;
 use crate::outbox::Outbox;
@@ -149,23 +150,23 @@ pub(crate) fn talk<T: Wait, G: Gate, P: Role, S: RangeStore, R: Read, W: Write, 
     party: &mut SessionEnd<P, S, F>,
     inbox: &mut Inbox<F>,
     outbox: &mut Outbox<F>,
-    reader: &mut Watched<R>,
-    writer: &mut Watched<W>,
+    connection: &mut Connection<R, W>,
 ) -> Result<(), Stop>
-    requires fine { writer.old.failed ≡ false }
+    requires fine { connection.old.writer.failed ≡ false }
     requires count { outbox.old.sent ≡ party.old.end.sent }
     ensures talked { (s : Speaker F) (unread : Origin) (held : Option (List ℕ)) → is_live s.start.stage ≡ true →
         Underway F.summary F.profile s party.old inbox.old outbox.old
-        (traffic_of unread (R.remaining reader.old.inner) held (W.contents writer.old.inner)) →
+        (traffic_of unread (R.remaining connection.old.reader.inner) held (W.contents connection.old.writer.inner)) →
         Talked F.summary F.profile s party.new.end outbox.new
-        (traffic_of unread (R.remaining reader.new.inner) held (W.contents writer.new.inner))
-        (seen reader.new.failed reader.new.ended) writer.new.failed result }
+        (traffic_of unread (R.remaining connection.new.reader.inner) held (W.contents connection.new.writer.inner))
+        (seen connection.new.reader.failed connection.new.reader.ended) connection.new.writer.failed result }
     ensures on { (s : Speaker F) (unread : Origin) (held : Option (List ℕ)) → is_live s.start.stage ≡ true →
         Underway F.summary F.profile s party.old inbox.old outbox.old
-        (traffic_of unread (R.remaining reader.old.inner) held (W.contents writer.old.inner)) →
-        ReadOn (R.remaining reader.old.inner) (R.remaining reader.new.inner) }
+        (traffic_of unread (R.remaining connection.old.reader.inner) held (W.contents connection.old.writer.inner)) →
+        ReadOn (R.remaining connection.old.reader.inner) (R.remaining connection.new.reader.inner) }
     ensures few { outbox.new.sent ≤ most_sent (most_of P.side) party.old }
-    ensures reads { inbox.old.reads ≤ 2 ^ 32 → Counts reader.old.reads reader.new.reads inbox.old inbox.new }
+    ensures reads { inbox.old.reads ≤ 2 ^ 32 →
+        Counts connection.old.reader.reads connection.new.reader.reads inbox.old inbox.new }
 {
     laws::frames_say::<F>();
     laws::own_begins::<F>();
@@ -175,8 +176,8 @@ pub(crate) fn talk<T: Wait, G: Gate, P: Role, S: RangeStore, R: Read, W: Write, 
         if party.is_over() {
             return Ok(());
         }
-        let event = inbox.next(booking.alloc(), reader)?;
-        hear(booking, party, outbox, writer, &event)?;
+        let event = inbox.next(booking.alloc(), &mut connection.reader)?;
+        hear(booking, party, outbox, &mut connection.writer, &event)?;
     }
     Err(Stop::Io(Direction::Read))
 }

@@ -4,13 +4,13 @@ ghost use Rattle.std.specs.Prelude.{◌≡◌, ◌≤◌, IsSome};
 ghost use Rattle.std.specs.Arc.{arc_value};
 ghost use Rattle.peer_threads.specs.Workers.{MayWork};
 
+use crate::connection::Connection;
 use crate::engines::serve_one;
 use crate::gate::Gate;
 use crate::outcome::Outcome;
 use crate::shared::Shared;
 use crate::source::{Source, SourceFault};
 use ends_core::Learned;
-use io_core::Watched;
 use item_core::Item;
 use std::alloc::{AllocError, Global};
 use std::io::{Read, Write};
@@ -112,9 +112,8 @@ fn serve<T: Wait, S: RangeStore, G: Gate, R: Read + Drop, W: Write + Drop>(
     ensures seat { seat.new.table_id ≡ seat.old.table_id }
     ensures kept { (seat.new.view.writer ≡ seat.old.view.writer) × (seat.new.view.cap ≡ seat.old.view.cap) }
 {
-    let mut reader = Watched::new(reader);
-    let mut writer = Watched::new(writer);
-    match serve_one(rt, alloc, shared, seat, &mut reader, &mut writer) {
+    let mut connection = Connection::new(reader, writer);
+    match serve_one(rt, alloc, shared, seat, &mut connection) {
         Outcome::Ended { learned, .. } => Some(learned),
         _ => None,
     }

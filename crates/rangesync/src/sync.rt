@@ -7,7 +7,7 @@ use crate::loading::Loaded;
 use crate::metering::Metered;
 use digest_core::{Counted, Fingerprint, Summary};
 use io_core::{Watched, write_output};
-use peer_threads::{OpenGate, Outcome, Shared, dial_one};
+use peer_threads::{Connection, OpenGate, Outcome, Shared, dial_one};
 use printing_core::{Fault, Stats, outcome_text, tell_stats};
 use range_tree::Tree;
 use session_table::SessionTable;
@@ -55,9 +55,10 @@ fn dial<R: Wait + Clock, F: Summary>(
     ensures { seat.new.table_id ≡ seat.old.table_id }
 {
     let start = Instant::now(rt).ok();
-    let mut reader = Watched::new(Metered::new(limited(stream, most_bytes)));
-    let mut writer = Watched::new(Metered::new(stream));
-    let outcome = dial_one::<_, _, _, _, _, F>(rt, alloc, shared, seat, &mut reader, &mut writer);
+    let reader = Metered::new(limited(stream, most_bytes));
+    let mut connection = Connection::new(reader, Metered::new(stream));
+    let outcome = dial_one::<_, _, _, _, _, F>(rt, alloc, shared, seat, &mut connection);
+    let Connection { reader, writer } = connection;
     let stats = Stats {
         sent: writer.into_inner().tally(),
         received: reader.into_inner().tally(),

@@ -15,7 +15,8 @@ returns-in_err-take-clause-talked g c = λ p steps unread held new x.
       agree = c.bytes_agree.ensures g.F.Summary.summary g.F.Summary.profile;
     } in
     let stopped = stops-refusing g.F.Summary.summary g.F.Summary.profile IsOfTheTable laws
-    (responding p) _ _ _ _ _ (seen c.args.reader.now.failed c.args.reader.now.ended) c.args.writer.now.failed _
+    (responding p) _ _ _ _ _
+    (seen c.args.connection.now.reader.failed c.args.connection.now.reader.ended) c.args.connection.now.writer.failed _
     c.in_err-take.field-0.0 refl
     (at-part g.F.Summary.summary g.F.Summary.profile p steps c.args.party.now _ _ _ _ new x)
     c.in_err-take.ensures.stopped
@@ -30,7 +31,7 @@ returns-in_err-end-clause-talked g c = λ p steps unread held new x.
       agree = c.bytes_agree.ensures g.F.Summary.summary g.F.Summary.profile;
     } in
     let stopped = stops-event g.F.Summary.summary g.F.Summary.profile laws (responding p) _ _ _ _ _
-    (seen c.args.reader.now.failed c.args.reader.now.ended)
+    (seen c.args.connection.now.reader.failed c.args.connection.now.reader.ended)
     c.end.new.writer.failed _ c.in_err-end.field-0.0 refl
     (at-end g.F.Summary.summary g.F.Summary.profile p steps c.args.party.now
     c.take.new.party _ _ _ _ new c.in_ok-take.ensures.heard c.in_ok-take.ensures.end x)

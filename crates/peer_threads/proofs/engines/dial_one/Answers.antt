@@ -21,18 +21,18 @@ pub returns-in-Err-clause-bytes : goal.returns-in-Err-clause-bytes
 returns-in-Err-clause-bytes g c =
     let found = c.pin.new.seat.view in
     let s = initiating g.F.Summary.summary (peer_at (arc_value c.args.shared.now.accepted.now) found) in
-    let unread = g.R.Read.remaining c.args.reader.now.inner in
-    let held = g.W.Write.contents c.args.writer.now.inner in
-    let r = seen c.args.reader.now.failed c.args.reader.now.ended in
+    let unread = g.R.Read.remaining c.args.connection.now.reader.inner in
+    let held = g.W.Write.contents c.args.connection.now.writer.inner in
+    let r = seen c.args.connection.now.reader.failed c.args.connection.now.reader.ended in
     let w = seen c.stopped.new.writer.failed c.stopped.new.writer.ended in
     let fits =
     found-fits c.args.seat.now.view found (arc_value c.args.shared.now.accepted.now).table.cap c.pin.ensures.view
     c.requires.fits in
     speaks g.F.Summary.summary g.F.Summary.profile _ s _ _ _ _ r w c.stopped.result
     (speaks-unsaid g.F.Summary.summary g.F.Summary.profile s _ _ c.new.result unread held
-    (g.W.Write.contents c.stopped.new.writer.inner) r w c.args.writer.now.failed Memory c.stopped.result
+    (g.W.Write.contents c.stopped.new.writer.inner) r w c.args.connection.now.writer.failed Memory c.stopped.result
     c.new.ensures
     (stops-silent g.F.Summary.summary g.F.Summary.profile IsOfTheTable s c.new.result unread held r
-    c.args.writer.now.failed c.new.ensures)
+    c.args.connection.now.writer.failed c.new.ensures)
     c.stopped.ensures.leaves c.stopped.ensures.outcome)
     (λ bytes are known. c.sides_keep_bounds.ensures.initiator found.base bytes are fits)

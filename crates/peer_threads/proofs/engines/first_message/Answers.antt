@@ -18,10 +18,11 @@ returns-in_err-inbox-clause-stopped g c =
       begin = c.own_begins.ensures g.F.Summary.summary;
       agree = c.bytes_agree.ensures g.F.Summary.summary g.F.Summary.profile;
     } in
-    let r = seen c.args.reader.now.failed c.args.reader.now.ended in
+    let r = seen c.args.connection.now.reader.failed c.args.connection.now.reader.ended in
     let stopped = stops-ungreeted g.F.Summary.summary g.F.Summary.profile laws P _ c.args.hello.bytes
-    (g.R.Read.remaining c.args.reader.now.inner)
-    (g.W.Write.contents c.args.writer.now.inner) r c.args.writer.now.failed c.in_err-inbox.field-0.0 c.requires.new
+    (g.R.Read.remaining c.args.connection.now.reader.inner)
+    (g.W.Write.contents c.args.connection.now.writer.inner) r c.args.connection.now.writer.failed
+    c.in_err-inbox.field-0.0 c.requires.new
     c.requires.hello.fits (c.in_err-inbox.ensures.stopped r) in
     search (rules, stopped))
 
@@ -30,8 +31,9 @@ returns-in_err-greet-clause-stopped g c =
     told c.from_residual-in_err-greet.result (stops.Io directions.Write) _ (search rules) (λ P.
     let stopped = stops-broken-behind g.F.Summary.summary g.F.Summary.profile IsNone P c.args.outbox.now
     c.greet.new.self c.args.hello.bytes
-    (g.R.Read.remaining c.args.reader.now.inner) (g.W.Write.contents c.args.writer.now.inner)
-    (g.W.Write.contents c.greet.new.writer.inner) (seen c.args.reader.now.failed c.args.reader.now.ended)
+    (g.R.Read.remaining c.args.connection.now.reader.inner) (g.W.Write.contents c.args.connection.now.writer.inner)
+    (g.W.Write.contents c.greet.new.writer.inner)
+    (seen c.args.connection.now.reader.failed c.args.connection.now.reader.ended)
     c.greet.new.writer.failed c.requires.new c.in_err-greet.ensures.same
     c.in_err-greet.ensures.failed c.in_err-greet.ensures.front c.requires.hello.fits in
     search (rules, stopped))

@@ -15,29 +15,31 @@ use Rattle.peer_threads.proofs.engines.initiate.Goals as goal
 pub returns-in-Err-clause-bytes : goal.returns-in-Err-clause-bytes
 returns-in-Err-clause-bytes g c =
     let s = initiating g.F.Summary.summary (peer_of (arc_value c.args.host.now.accepted.now) c.args.pin.items) in
-    let unread = g.R.Read.remaining c.args.reader.now.inner in
-    let held = g.W.Write.contents c.args.writer.now.inner in
-    let r = seen c.args.reader.now.failed c.args.reader.now.ended in
+    let unread = g.R.Read.remaining c.args.connection.now.reader.inner in
+    let held = g.W.Write.contents c.args.connection.now.writer.inner in
+    let r = seen c.args.connection.now.reader.failed c.args.connection.now.reader.ended in
     let o = c.new-outbox.result in
     speaks-unsaid g.F.Summary.summary g.F.Summary.profile s c.args.pin.version _ o unread held
     (g.W.Write.contents c.stopped.new.writer.inner) r
-    (seen c.stopped.new.writer.failed c.stopped.new.writer.ended) c.args.writer.now.failed stops.Memory c.stopped.result
+    (seen c.stopped.new.writer.failed c.stopped.new.writer.ended) c.args.connection.now.writer.failed stops.Memory
+    c.stopped.result
     c.new-outbox.ensures
-    (stops-silent g.F.Summary.summary g.F.Summary.profile IsOfTheTable s o unread held r c.args.writer.now.failed
+    (stops-silent g.F.Summary.summary g.F.Summary.profile IsOfTheTable s o unread held r
+    c.args.connection.now.writer.failed
     c.new-outbox.ensures) c.stopped.ensures.leaves
     c.stopped.ensures.outcome
 
 pub returns-in-Err-open-clause-bytes : goal.returns-in-Err-open-clause-bytes
 returns-in-Err-open-clause-bytes g c =
     let s = initiating g.F.Summary.summary (peer_of (arc_value c.args.host.now.accepted.now) c.args.pin.items) in
-    let unread = g.R.Read.remaining c.args.reader.now.inner in
-    let held = g.W.Write.contents c.args.writer.now.inner in
+    let unread = g.R.Read.remaining c.args.connection.now.reader.inner in
+    let held = g.W.Write.contents c.args.connection.now.writer.inner in
     let holds = g.W.Write.contents c.stopped-in-Err-open.new.writer.inner in
-    let r = seen c.args.reader.now.failed c.args.reader.now.ended in
+    let r = seen c.args.connection.now.reader.failed c.args.connection.now.reader.ended in
     let w = seen c.stopped-in-Err-open.new.writer.failed c.stopped-in-Err-open.new.writer.ended in
     let o = c.new-outbox.result in
     let code = table_fault_number c.in-Err-open.fault in
-    let broken = c.args.writer.now.failed in
+    let broken = c.args.connection.now.writer.failed in
     speaks-unsaid g.F.Summary.summary g.F.Summary.profile s c.args.pin.version _ o unread held holds r w broken
     (stops.Refused code)
     c.stopped-in-Err-open.result
@@ -56,11 +58,11 @@ returns-clause-bytes g c =
     let opens = c.in-Ok.ensures.message in
     let s = initiating g.F.Summary.summary (peer_of a items) in
     let bound = rank_by a.steps (length items) + 2 in
-    let unread = g.R.Read.remaining c.args.reader.now.inner in
-    let left = g.R.Read.remaining c.speak-talked.new.reader.inner in
-    let held = g.W.Write.contents c.args.writer.now.inner in
+    let unread = g.R.Read.remaining c.args.connection.now.reader.inner in
+    let left = g.R.Read.remaining c.speak-talked.new.connection.reader.inner in
+    let held = g.W.Write.contents c.args.connection.now.writer.inner in
     let holds = g.W.Write.contents c.concluded-outcome.new.writer.inner in
-    let r = seen c.speak-talked.new.reader.failed c.speak-talked.new.reader.ended in
+    let r = seen c.speak-talked.new.connection.reader.failed c.speak-talked.new.connection.reader.ended in
     let w = seen c.concluded-outcome.new.writer.failed c.concluded-outcome.new.writer.ended in
     subst (λ v. Spoke g.F.Summary.summary g.F.Summary.profile s v bound
     (traffic unread left held holds) r w c.concluded-outcome.result) c.version-version.ensures

@@ -15,14 +15,16 @@ use Rattle.peer_threads.proofs.engines.respond.Goals as goal
 pub returns-in-Err-clause-bytes : goal.returns-in-Err-clause-bytes
 returns-in-Err-clause-bytes g c = λ unread held x.
     let p = peer_of (arc_value c.args.host.now.accepted.now) c.args.pin.items in
-    let t = traffic_of unread (g.R.Read.remaining c.args.reader.now.inner) held
-    (g.W.Write.contents c.args.writer.now.inner) in
-    let r = seen c.args.reader.now.failed c.args.reader.now.ended in
+    let t = traffic_of unread (g.R.Read.remaining c.args.connection.now.reader.inner) held
+    (g.W.Write.contents c.args.connection.now.writer.inner) in
+    let r = seen c.args.connection.now.reader.failed c.args.connection.now.reader.ended in
     let w = seen c.stopped.new.writer.failed c.stopped.new.writer.ended in
     let o = c.args.outbox in
     speaks-stopped g.F.Summary.summary g.F.Summary.profile p c.args.pin.version _ o t
-    (g.W.Write.contents c.stopped.new.writer.inner) r w c.args.writer.now.failed stops.Memory c.stopped.result
-    c.requires.none (stops-poor g.F.Summary.summary g.F.Summary.profile p _ o t r c.args.writer.now.failed _ x)
+    (g.W.Write.contents c.stopped.new.writer.inner) r w c.args.connection.now.writer.failed stops.Memory
+    c.stopped.result
+    c.requires.none
+    (stops-poor g.F.Summary.summary g.F.Summary.profile p _ o t r c.args.connection.now.writer.failed _ x)
     c.stopped.ensures.leaves c.stopped.ensures.outcome
 
 pub returns-in-Err-clause-on : goal.returns-in-Err-clause-on
@@ -31,14 +33,14 @@ returns-in-Err-clause-on g c = λ unread held x. on-nothing _
 pub returns-in-Err-open-clause-bytes : goal.returns-in-Err-open-clause-bytes
 returns-in-Err-open-clause-bytes g c = λ unread held x.
     let p = peer_of (arc_value c.args.host.now.accepted.now) c.args.pin.items in
-    let t = traffic_of unread (g.R.Read.remaining c.args.reader.now.inner) held
-    (g.W.Write.contents c.args.writer.now.inner) in
+    let t = traffic_of unread (g.R.Read.remaining c.args.connection.now.reader.inner) held
+    (g.W.Write.contents c.args.connection.now.writer.inner) in
     let holds = g.W.Write.contents c.stopped-in-Err-open.new.writer.inner in
-    let r = seen c.args.reader.now.failed c.args.reader.now.ended in
+    let r = seen c.args.connection.now.reader.failed c.args.connection.now.reader.ended in
     let w = seen c.stopped-in-Err-open.new.writer.failed c.stopped-in-Err-open.new.writer.ended in
     let o = c.args.outbox in
     let code = table_fault_number c.in-Err-open.fault in
-    let broken = c.args.writer.now.failed in
+    let broken = c.args.connection.now.writer.failed in
     speaks-stopped g.F.Summary.summary g.F.Summary.profile p c.args.pin.version _ o t holds r w broken
     (stops.Refused code) c.stopped-in-Err-open.result c.requires.none
     (stops-unlisted g.F.Summary.summary g.F.Summary.profile p _ o t r broken _ code x
@@ -53,9 +55,9 @@ returns-clause-bytes g c = λ unread held x.
     let p = peer_of a c.args.pin.items in
     let is = c.in-Ok.ensures in
     let bound = rank_by a.steps (length c.args.pin.items) + 1 in
-    let left = g.R.Read.remaining c.answer-talked.new.reader.inner in
+    let left = g.R.Read.remaining c.answer-talked.new.connection.reader.inner in
     let holds = g.W.Write.contents c.concluded-outcome.new.writer.inner in
-    let r = seen c.answer-talked.new.reader.failed c.answer-talked.new.reader.ended in
+    let r = seen c.answer-talked.new.connection.reader.failed c.answer-talked.new.connection.reader.ended in
     let w = seen c.concluded-outcome.new.writer.failed c.concluded-outcome.new.writer.ended in
     subst (λ v. Spoke g.F.Summary.summary g.F.Summary.profile (responding p) v bound
     (traffic_of unread left held holds) r w c.concluded-outcome.result) c.version-version.ensures

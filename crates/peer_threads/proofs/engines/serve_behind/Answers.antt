@@ -10,15 +10,16 @@ use Rattle.peer_threads.proofs.engines.serve_behind.Goals as goal
 
 pub returns-in-Err-clause-view : goal.returns-in-Err-clause-view
 returns-in-Err-clause-view g c =
-    let t = traffic_behind c.args.hello.bytes (g.R.Read.remaining c.args.reader.now.inner)
-    (g.R.Read.remaining c.first_message.new.reader.inner)
-    (g.W.Write.contents c.args.writer.now.inner) (g.W.Write.contents c.first_message.new.writer.inner) in
-    let r = seen c.first_message.new.reader.failed c.first_message.new.reader.ended in
+    let t = traffic_behind c.args.hello.bytes (g.R.Read.remaining c.args.connection.now.reader.inner)
+    (g.R.Read.remaining c.first_message.new.connection.reader.inner)
+    (g.W.Write.contents c.args.connection.now.writer.inner)
+    (g.W.Write.contents c.first_message.new.connection.writer.inner) in
+    let r = seen c.first_message.new.connection.reader.failed c.first_message.new.connection.reader.ended in
     let w = seen c.stopped.new.writer.failed c.stopped.new.writer.ended in
     inr (
       refl,
       unopened g.F.Summary.summary g.F.Summary.profile c.first_message.new.outbox t
-          (g.W.Write.contents c.stopped.new.writer.inner) r w c.first_message.new.writer.failed c.in-Err.stop
+          (g.W.Write.contents c.stopped.new.writer.inner) r w c.first_message.new.connection.writer.failed c.in-Err.stop
           c.stopped.result
           c.first_message.ensures.none
           (untold c.first_message.result c.in-Err.stop _ c.in-Err.is c.first_message.ensures.stopped)
@@ -30,17 +31,19 @@ pub returns-in-Err-clause-bytes : goal.returns-in-Err-clause-bytes
 returns-in-Err-clause-bytes g c =
     let v = c.args.seat.now.view in
     let p = peer_at (arc_value c.args.shared.now.accepted.now) v in
-    let t = traffic_behind c.args.hello.bytes (g.R.Read.remaining c.args.reader.now.inner)
-    (g.R.Read.remaining c.first_message.new.reader.inner)
-    (g.W.Write.contents c.args.writer.now.inner) (g.W.Write.contents c.first_message.new.writer.inner) in
-    let r = seen c.first_message.new.reader.failed c.first_message.new.reader.ended in
+    let t = traffic_behind c.args.hello.bytes (g.R.Read.remaining c.args.connection.now.reader.inner)
+    (g.R.Read.remaining c.first_message.new.connection.reader.inner)
+    (g.W.Write.contents c.args.connection.now.writer.inner)
+    (g.W.Write.contents c.first_message.new.connection.writer.inner) in
+    let r = seen c.first_message.new.connection.reader.failed c.first_message.new.connection.reader.ended in
     let w = seen c.stopped.new.writer.failed c.stopped.new.writer.ended in
     let why = stopped-anyhow g.F.Summary.summary g.F.Summary.profile (responding p) c.first_message.new.outbox t r
-    c.first_message.new.writer.failed c.in-Err.stop
+    c.first_message.new.connection.writer.failed c.in-Err.stop
     (untold c.first_message.result c.in-Err.stop _ c.in-Err.is c.first_message.ensures.stopped p) in
     speaks g.F.Summary.summary g.F.Summary.profile _ (responding p) _ _ _ _ r w c.stopped.result
     (speaks-stopped g.F.Summary.summary g.F.Summary.profile p _ _ c.first_message.new.outbox t
-    (g.W.Write.contents c.stopped.new.writer.inner) r w c.first_message.new.writer.failed c.in-Err.stop c.stopped.result
+    (g.W.Write.contents c.stopped.new.writer.inner) r w c.first_message.new.connection.writer.failed c.in-Err.stop
+    c.stopped.result
     c.first_message.ensures.none why c.stopped.ensures.leaves c.stopped.ensures.outcome)
     (c.sides_keep_bounds.ensures.responder v.base)
 
@@ -51,24 +54,26 @@ returns-in-Ok-pin-clause-bytes g c =
     c.in-Ok-pin.pin
     _ _ _ c.respond.result
     c.in-Ok-pin.ensures.pin c.of-host.ensures
-    (c.respond.ensures.bytes (Behind c.args.hello.bytes (g.R.Read.remaining c.args.reader.now.inner))
-    (g.W.Write.contents c.args.writer.now.inner) met.1) c.sides_keep_bounds.ensures.responder
+    (c.respond.ensures.bytes (Behind c.args.hello.bytes (g.R.Read.remaining c.args.connection.now.reader.inner))
+    (g.W.Write.contents c.args.connection.now.writer.inner) met.1) c.sides_keep_bounds.ensures.responder
 
 pub returns-in-Err-pin-clause-bytes : goal.returns-in-Err-pin-clause-bytes
 returns-in-Err-pin-clause-bytes g c =
     let found = c.pin.new.seat.view in
     let p = peer_at (arc_value c.args.shared.now.accepted.now) found in
-    let t = traffic_behind c.args.hello.bytes (g.R.Read.remaining c.args.reader.now.inner)
-    (g.R.Read.remaining c.first_message.new.reader.inner)
-    (g.W.Write.contents c.args.writer.now.inner) (g.W.Write.contents c.first_message.new.writer.inner) in
-    let r = seen c.first_message.new.reader.failed c.first_message.new.reader.ended in
+    let t = traffic_behind c.args.hello.bytes (g.R.Read.remaining c.args.connection.now.reader.inner)
+    (g.R.Read.remaining c.first_message.new.connection.reader.inner)
+    (g.W.Write.contents c.args.connection.now.writer.inner)
+    (g.W.Write.contents c.first_message.new.connection.writer.inner) in
+    let r = seen c.first_message.new.connection.reader.failed c.first_message.new.connection.reader.ended in
     let w = seen c.stopped-in-Err-pin.new.writer.failed c.stopped-in-Err-pin.new.writer.ended in
     speaks g.F.Summary.summary g.F.Summary.profile _ (responding p) _ _ _ _ r w c.stopped-in-Err-pin.result
     (speaks-stopped g.F.Summary.summary g.F.Summary.profile p _ _ c.first_message.new.outbox t
-    (g.W.Write.contents c.stopped-in-Err-pin.new.writer.inner) r w c.first_message.new.writer.failed stops.Memory
+    (g.W.Write.contents c.stopped-in-Err-pin.new.writer.inner) r w c.first_message.new.connection.writer.failed
+    stops.Memory
     c.stopped-in-Err-pin.result c.first_message.ensures.none
     (stops-poor g.F.Summary.summary g.F.Summary.profile p _ c.first_message.new.outbox t r
-    c.first_message.new.writer.failed _
+    c.first_message.new.connection.writer.failed _
     c.in-Ok.ensures.met.1)
     c.stopped-in-Err-pin.ensures.leaves c.stopped-in-Err-pin.ensures.outcome)
     (c.sides_keep_bounds.ensures.responder found.base)
@@ -78,7 +83,7 @@ returns-in-Ok-pin-clause-opened g c =
     let met = c.in-Ok.ensures.met in
     let join = c.feeds_join.ensures g.F.Summary.profile g.met.F.Summary.real in
     inr (came-first g.F.Summary.summary g.F.Summary.profile join _ _ _ _ _ _ _ _ met.0 met.1
-    (c.respond.ensures.on _ (g.W.Write.contents c.args.writer.now.inner) met.1))
+    (c.respond.ensures.on _ (g.W.Write.contents c.args.connection.now.writer.inner) met.1))
 
 pub returns-in-Err-pin-clause-opened : goal.returns-in-Err-pin-clause-opened
 returns-in-Err-pin-clause-opened g c =

@@ -22,9 +22,10 @@ returns-in-Err-clause-view g c =
     let x = c.in-Err.ensures.read in
     inr (
       refl,
-      short-unopened laws c.new.result x.0 (g.R.Read.remaining c.args.reader.now.inner)
-          (g.R.Read.remaining c.read_hello.new.reader.inner) (g.W.Write.contents c.args.writer.now.inner)
-          (g.W.Write.contents c.stopped.new.writer.inner) r w c.args.writer.now.failed c.in-Err.stop c.stopped.result
+      short-unopened laws c.new.result x.0 (g.R.Read.remaining c.args.connection.now.reader.inner)
+          (g.R.Read.remaining c.read_hello.new.reader.inner) (g.W.Write.contents c.args.connection.now.writer.inner)
+          (g.W.Write.contents c.stopped.new.writer.inner) r w c.args.connection.now.writer.failed c.in-Err.stop
+          c.stopped.result
           c.new.ensures x.1 x.2 c.stopped.ensures.leaves c.stopped.ensures.outcome,
     )
 
@@ -40,9 +41,10 @@ returns-in-Err-clause-bytes g c =
     let v = c.args.seat.now.view in
     let x = c.in-Err.ensures.read in
     short-speaks laws _ (peer_at (arc_value c.args.shared.now.accepted.now) v) _ _ _ c.new.result x.0
-    (g.R.Read.remaining c.args.reader.now.inner)
-    (g.R.Read.remaining c.read_hello.new.reader.inner) (g.W.Write.contents c.args.writer.now.inner)
-    (g.W.Write.contents c.stopped.new.writer.inner) r w c.args.writer.now.failed c.in-Err.stop c.stopped.result
+    (g.R.Read.remaining c.args.connection.now.reader.inner)
+    (g.R.Read.remaining c.read_hello.new.reader.inner) (g.W.Write.contents c.args.connection.now.writer.inner)
+    (g.W.Write.contents c.stopped.new.writer.inner) r w c.args.connection.now.writer.failed c.in-Err.stop
+    c.stopped.result
     c.new.ensures x.1 x.2 c.stopped.ensures.leaves c.stopped.ensures.outcome
     (c.sides_keep_bounds.ensures.responder v.base x.0)
 
@@ -55,7 +57,7 @@ returns-then-eq-clause-view g c =
       | inl x ↦ inl x
       | inr x ↦ inr (
         x.0,
-        counted-unopened h.bytes (g.R.Read.remaining c.args.reader.now.inner) mid _ _ _ _ _ _
+        counted-unopened h.bytes (g.R.Read.remaining c.args.connection.now.reader.inner) mid _ _ _ _ _ _
             c.in-Ok.ensures.read.0.four c.in-Ok.ensures.read.1 (chooses-counted h.bytes same) x.1,
       )
     ]
@@ -67,7 +69,7 @@ returns-then-eq-clause-opened g c =
     let mid = g.R.Read.remaining c.read_hello.new.reader.inner in
     elim c.serve_behind.ensures.opened [
       | inl x ↦ inl x
-      | inr x ↦ inr (counted-first h.bytes (g.R.Read.remaining c.args.reader.now.inner) mid _
+      | inr x ↦ inr (counted-first h.bytes (g.R.Read.remaining c.args.connection.now.reader.inner) mid _
           c.in-Ok.ensures.read.0.four c.in-Ok.ensures.read.1 (chooses-counted h.bytes same) x)
     ]
 
@@ -77,7 +79,7 @@ returns-then-eq-clause-bytes g c =
     let same : h.bytes ≡ counted_profile.hello = search rules in
     let mid = g.R.Read.remaining c.read_hello.new.reader.inner in
     counted-speaks _ (peer_at (arc_value c.args.shared.now.accepted.now) c.serve_behind.new.seat.view) _ _ _ h.bytes
-    (g.R.Read.remaining c.args.reader.now.inner) mid _ _ _ _ _ _
+    (g.R.Read.remaining c.args.connection.now.reader.inner) mid _ _ _ _ _ _
     c.in-Ok.ensures.read.0.four c.in-Ok.ensures.read.1 (chooses-counted h.bytes same) c.serve_behind.ensures.bytes
 
 pub returns-else-eq-clause-view : goal.returns-else-eq-clause-view
@@ -89,7 +91,7 @@ returns-else-eq-clause-view g c =
       | inl x ↦ inl x
       | inr x ↦ inr (
         x.0,
-        two-lanes-unopened h.bytes (g.R.Read.remaining c.args.reader.now.inner) mid _ _ _ _ _ _
+        two-lanes-unopened h.bytes (g.R.Read.remaining c.args.connection.now.reader.inner) mid _ _ _ _ _ _
             c.in-Ok.ensures.read.0.four c.in-Ok.ensures.read.1
             (chooses-two-lanes h.bytes c.in-Ok.ensures.read.0.four other) x.1,
       )
@@ -102,7 +104,7 @@ returns-else-eq-clause-opened g c =
     let mid = g.R.Read.remaining c.read_hello.new.reader.inner in
     elim c.serve_behind-else-eq.ensures.opened [
       | inl x ↦ inl x
-      | inr x ↦ inr (two-lanes-first h.bytes (g.R.Read.remaining c.args.reader.now.inner) mid _
+      | inr x ↦ inr (two-lanes-first h.bytes (g.R.Read.remaining c.args.connection.now.reader.inner) mid _
           c.in-Ok.ensures.read.0.four c.in-Ok.ensures.read.1
           (chooses-two-lanes h.bytes c.in-Ok.ensures.read.0.four other) x)
     ]
@@ -114,6 +116,6 @@ returns-else-eq-clause-bytes g c =
     let mid = g.R.Read.remaining c.read_hello.new.reader.inner in
     two-lanes-speak _ (peer_at (arc_value c.args.shared.now.accepted.now) c.serve_behind-else-eq.new.seat.view) _ _ _
     h.bytes
-    (g.R.Read.remaining c.args.reader.now.inner) mid _ _ _ _ _ _
+    (g.R.Read.remaining c.args.connection.now.reader.inner) mid _ _ _ _ _ _
     c.in-Ok.ensures.read.0.four c.in-Ok.ensures.read.1
     (chooses-two-lanes h.bytes c.in-Ok.ensures.read.0.four other) c.serve_behind-else-eq.ensures.bytes

@@ -27,7 +27,7 @@ returns-in_err-event-clause-talked g c = λ s unread held live start.
     let goes : is_over c.loop-turn.party.end.stage ≡ false = search rules in
     let stops = stops-underway g.F.Summary.summary g.F.Summary.profile laws s _ _ _ _ _
     (seen c.next.new.reader.failed c.next.new.reader.ended)
-    c.loop-turn.writer.failed c.in_err-event.field-0.0 live u goes
+    c.loop-turn.connection.writer.failed c.in_err-event.field-0.0 live u goes
     (c.in_err-event.ensures.read u.bytes u.events u.are_bytes u.came) in
     search (rules, stops)
 
@@ -86,8 +86,8 @@ returns-clause-talked g c = λ s unread held live start.
     let u = (c.loop-turn.invariant.goes s unread held live start).0 in
     let late = (c.loop-turn.invariant.goes s unread held live start).1 in
     let many : 2 ^ 32 ≤ length u.events = omega arith in
-    stops-late g.F.Summary.summary g.F.Summary.profile laws s _ _ _ _ (seen c.loop-turn.reader.failed
-    c.loop-turn.reader.ended) c.loop-turn.writer.failed u many
+    stops-late g.F.Summary.summary g.F.Summary.profile laws s _ _ _ _ (seen c.loop-turn.connection.reader.failed
+    c.loop-turn.connection.reader.ended) c.loop-turn.connection.writer.failed u many
 
 pub returns-then-is_over-clause-on : goal.returns-then-is_over-clause-on
 returns-then-is_over-clause-on g c = λ s unread held live start.

@@ -9,18 +9,20 @@ use Rattle.peer_threads.proofs.talk.talk.Given as goal
 
 abbrev pub invariant-loop-turn : goal.invariant-loop-turn
 invariant-loop-turn g l = record {
-  fine : l.writer.failed ≡ false;
+  fine : l.connection.writer.failed ≡ false;
   count : l.outbox.sent ≡ l.party.end.sent;
   most : most_sent (most_of g.P.Role.side) l.party ≡ most_sent (most_of g.P.Role.side) l.initial.party;
   few : l.outbox.sent ≤ most_sent (most_of g.P.Role.side) l.initial.party;
-  reads : l.initial.inbox.reads ≤ 2 ^ 32 → Counts l.initial.reader.reads l.reader.reads l.initial.inbox l.inbox;
+  reads : l.initial.inbox.reads ≤ 2 ^ 32 →
+      Counts l.initial.connection.reader.reads l.connection.reader.reads l.initial.inbox l.inbox;
   goes : (s : Speaker g.row.F.Denot) (unread : Origin) (held : Option (List ℕ)) → is_live s.start.stage ≡ true →
       Underway g.F.Summary.summary g.F.Summary.profile s l.initial.party l.initial.inbox
       l.initial.outbox
-      (traffic_of unread (g.R.Read.remaining l.initial.reader.inner) held
-      (g.W.Write.contents l.initial.writer.inner)) →
+      (traffic_of unread (g.R.Read.remaining l.initial.connection.reader.inner) held
+      (g.W.Write.contents l.initial.connection.writer.inner)) →
       (u : Underway g.F.Summary.summary g.F.Summary.profile s l.party l.inbox l.outbox
-      (traffic_of unread (g.R.Read.remaining l.reader.inner) held (g.W.Write.contents l.writer.inner)))
+      (traffic_of unread (g.R.Read.remaining l.connection.reader.inner) held
+      (g.W.Write.contents l.connection.writer.inner)))
       × (l._turn ≤ length u.events)
-      × ReadOn (g.R.Read.remaining l.initial.reader.inner) (g.R.Read.remaining l.reader.inner);
+      × ReadOn (g.R.Read.remaining l.initial.connection.reader.inner) (g.R.Read.remaining l.connection.reader.inner);
 }
