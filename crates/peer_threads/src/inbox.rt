@@ -95,7 +95,7 @@ impl<F: Summary> Inbox<F> {
     /// The next event of the bytes that wait. Where there is none, all of them are fed.
     fn next_held(&mut self, alloc: Global) -> Result<Option<Event<F>>, Stop>
         ensures held { SoFar F.profile self.old
-            (λ bytes es. (s : Seen) → EndState F.profile s self.new bytes es result) }
+            (λ bytes es. (s : Seen) → Held F.profile s self.new bytes es result) }
         ensures none { IfOk result (λ made. IfNone made ((self.new.waiting ≡ [])
             × (fault_at self.new.feed.standing ≡ None))) }
         ensures reads { (self.new.reads ≡ self.old.reads) × (self.new.reads ≤ 2 ^ 32) }
