@@ -1,1 +1,2 @@
 mod ReadAgain
+mod Plain

@@ -40,13 +40,15 @@ parts_of true false true is = absurd (cc is)
 parts_of true true c is = absurd (cc is)
 parts_of false b c is = absurd (cc is)
 
+neither : (a b : Bool) → (a || b) ≡ false → (a ≡ false) × (b ≡ false)
+neither false b none = (refl, none)
+neither true b none = absurd (cc none)
+
 none_pass : (p : ℕ → Bool) (cs : List ℕ) → list_any p cs ≡ false → NonePass p cs
 none_pass p [] none = tt
-none_pass p (c ∷ cs) none = by (p c) refl none
-  where
-    by : (b : Bool) → p c ≡ b → (b || list_any p cs) ≡ false → (p c ≡ false) × NonePass p cs
-    by true is fails = absurd (cc fails)
-    by false is fails = (is, none_pass p cs fails)
+none_pass p (c ∷ cs) none =
+    let both = neither (p c) (list_any p cs) none in
+    (both.0, none_pass p cs both.1)
 
 no_control : (x : List ℕ) → is_utf8 x ≡ true → list_any is_control (chars x) ≡ false → NoCharPasses is_control x
 no_control x text none = (chars x, encodes-chars x (IsUtf8-from_is_utf8 x text), none_pass is_control (chars x) none)
@@ -131,7 +133,10 @@ whole_line text line = by (ends_with_byte 13 text) refl
   where
     by : (b : Bool) → ends_with_byte 13 text ≡ b → (if b then take (length text - 1) text else text) ≡ text
     by false is = refl
-    by true is = absurd (line.no_return (length text - 1) (omega (arith, search (rules, is))) (search (rules, is)))
+    by true is =
+        let last : get_or text (length text - 1) 0 ≡ 13 = search (rules, is) in
+        let some : length text - 1 < length text = search (rules, is, arith) in
+        absurd (line.no_return (length text - 1) some last)
 
 line_spells : (text : List ℕ) (x : Item) → Spells text x → line_items forms.Text text ≡ Some (x ∷ [])
 line_spells text x spells = ap (content_items forms.Text) (whole_line text spells.line) ∙ by text spells.some spells.is

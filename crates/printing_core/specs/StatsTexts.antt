@@ -10,8 +10,13 @@ seconds_text None = codes "-"
 seconds_text (Some millis) = decimal (millis / 1000) ++ (codes "." ++ (decimal (millis / 100 % 10)
     ++ (decimal (millis / 10 % 10) ++ decimal (millis % 10))))
 
+-- a name, and what went both ways
+abbrev pub both_line : List ℕ → ℕ → ℕ → List ℕ
+both_line name sent received = name ++ (codes " sent " ++ (decimal sent ++ (codes " received "
+    ++ (decimal received ++ codes "\n"))))
+
 abbrev pub stats_text : Stats → List ℕ
-stats_text s = codes "messages sent " ++ (decimal s.sent.messages ++ (codes " received "
-    ++ (decimal s.received.messages ++ (codes "\nparts sent " ++ (decimal s.sent.parts ++ (codes " received "
-    ++ (decimal s.received.parts ++ (codes "\nbytes sent " ++ (decimal s.sent.bytes ++ (codes " received "
-    ++ (decimal s.received.bytes ++ (codes "\nseconds " ++ (seconds_text s.millis ++ codes "\n")))))))))))))
+stats_text s = both_line (codes "messages") s.sent.messages s.received.messages
+    ++ (both_line (codes "parts") s.sent.parts s.received.parts
+    ++ (both_line (codes "bytes") s.sent.bytes s.received.bytes
+    ++ (codes "seconds " ++ (seconds_text s.millis ++ codes "\n"))))

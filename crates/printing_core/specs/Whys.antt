@@ -94,7 +94,8 @@ why_text (whys.BadLine file line shown) = said_of (place_in file.now (codes "lin
 why_text (whys.TooManyItems file cap) =
     said_of file.now (codes "more than " ++ (decimal cap ++ codes " different items"))
 why_text (whys.NoStrategy place fault) = said_of place.now (strategy_text fault)
-why_text (whys.BadRow place row fault) = said_of (place_in place.now (codes "row") row) (strategy_text fault)
+why_text (whys.BadRow place row fault) = place.now ++ (codes " row " ++ (decimal row
+    ++ (codes ": " ++ strategy_text fault)))
 why_text (whys.NotAccepted place fault) = said_of place.now (check_text fault)
 why_text (whys.Address address cause) = unreached_text address.now cause
 why_text (whys.Input flaw) = input_text flaw

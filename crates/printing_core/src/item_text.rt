@@ -4,6 +4,7 @@ ghost use Rattle.std.specs.Prelude.{◌≡◌, ◌++◌, chars, option_map, IfOk
 ghost use Rattle.std.specs.Char.{is_control};
 ghost use Rattle.std.specs.List.{list_any};
 ghost use Rattle.hex.specs.Hex.{encode_lower};
+ghost use Rattle.settings_core.specs.ItemFiles.{is_marked};
 ghost use Rattle.printing_core.specs.ItemTexts.{plain_text, marked_text, item_text, ReadsWhatIsPrinted};
 
 use item_core::Item;
@@ -23,13 +24,22 @@ fn has_control(text: &str) -> bool
     text.chars().any(|character| character.is_control())
 }
 
+/// Whether `0x` is in front.
+fn is_marked(bytes: &[u8]) -> bool
+    ensures { result ≡ is_marked bytes.now }
+{
+    bytes.starts_with(b"0x")
+}
+
 /// The bytes as a text that stands for itself, if they are one: UTF-8 without control characters, and not `0x` in
 /// front.
 fn plain_text(bytes: &[u8]) -> Option<&str>
     ensures { option_map (λ text. text.now) result ≡ plain_text bytes.now }
 {
-    let text = str::from_utf8(bytes).ok()?;
-    if has_control(text) || bytes.strip_prefix(b"0x").is_some() {
+    let Ok(text) = str::from_utf8(bytes) else {
+        return None;
+    };
+    if has_control(text) || is_marked(bytes) {
         return None;
     }
     Some(text)

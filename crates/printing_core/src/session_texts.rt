@@ -56,7 +56,7 @@ fn push_named(
     item: &Item,
 ) -> Result<(), AllocError>
     ensures { OnOk result (string_bytes text.new ≡ string_bytes text.old
-        ++ named_line naming.form naming.name.now item.now) }
+        ++ named_line naming.entry.form naming.entry.name.now item.now) }
 {
     text.push_str(naming.name)?;
     text.push_str(" ")?;
@@ -72,7 +72,7 @@ fn push_lines(
     items: &[Item],
 ) -> Result<(), AllocError>
     ensures { OnOk result (string_bytes text.new ≡ string_bytes text.old
-        ++ flat_map (named_line naming.form naming.name.now) items.now) }
+        ++ flat_map (named_line naming.entry.form naming.entry.name.now) items.now) }
 {
     for item in items {
         push_named(alloc, text, naming, item)?;
@@ -88,7 +88,7 @@ fn push_rising(
     items: &[Item],
 ) -> Result<(), AllocError>
     ensures { OnOk result (string_bytes text.new ≡ string_bytes text.old
-        ++ flat_map (named_line naming.form naming.name.now) (set_of items.now)) }
+        ++ flat_map (named_line naming.entry.form naming.entry.name.now) (set_of items.now)) }
 {
     let rising = distinct(Vec::from_slice(alloc, items)?);
     push_lines(alloc, text, naming, &rising)

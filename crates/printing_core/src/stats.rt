@@ -1,7 +1,7 @@
 //! What is printed of the cost of a session.
 
 ghost use Rattle.std.specs.Prelude.{Some};
-ghost use Rattle.printing_core.specs.StatsTexts.{stats_text, seconds_text};
+ghost use Rattle.printing_core.specs.StatsTexts.{stats_text, both_line, seconds_text};
 
 use std::fmt;
 
@@ -46,17 +46,52 @@ impl fmt::Display for Seconds {
     }
 }
 
+/// What went both ways, by its name, as a line.
+#[derive(Clone, Copy)]
+struct Both {
+    name: &'static str,
+    sent: u64,
+    received: u64,
+}
+
+impl fmt::Display for Both {
+    ghost output = { λ b. Some (both_line b.name.now b.sent b.received) };
+
+    fn fmt<W: fmt::Write>(&self, f: &mut fmt::Formatter<W>) -> fmt::Result {
+        write!(
+            f,
+            "{} sent {} received {}\n",
+            self.name, self.sent, self.received
+        )
+    }
+}
+
 impl fmt::Display for Stats {
     ghost output = { λ s. Some (stats_text s) };
 
     fn fmt<W: fmt::Write>(&self, f: &mut fmt::Formatter<W>) -> fmt::Result {
-        let sent = self.sent;
+        let Tally {
+            messages,
+            parts,
+            bytes,
+        } = self.sent;
         let received = self.received;
+        let messages = Both {
+            name: "messages",
+            sent: messages,
+            received: received.messages,
+        };
+        let parts = Both {
+            name: "parts",
+            sent: parts,
+            received: received.parts,
+        };
+        let bytes = Both {
+            name: "bytes",
+            sent: bytes,
+            received: received.bytes,
+        };
         let seconds = Seconds(self.millis);
-        write!(
-            f,
-            "messages sent {} received {}\nparts sent {} received {}\nbytes sent {} received {}\nseconds {seconds}\n",
-            sent.messages, received.messages, sent.parts, received.parts, sent.bytes, received.bytes
-        )
+        write!(f, "{messages}{parts}{bytes}seconds {seconds}\n")
     }
 }
