@@ -9,7 +9,7 @@
 --     Reads unread left b Q            what is read now, behind what was read before
 --     ReadOn unread left               some bytes were read, or none
 --     Counts before after b c          the reader was read no more often than the inbox counts, which stops at 2^32
---     EndState, Fetched                    what the bytes that wait give, and what one read gives
+--     Held, Fetched                    what the bytes that wait give, and what one read gives
 use Rattle.std.specs.Prelude.{◌≡◌, ℕ, ◌+◌, ◌≤◌, ◌^◌, ◌⊎◌, List, [], ◌∷◌, ◌++◌, length, Bool, Option, Some, None}
 use Rattle.std.specs.Prelude.{Result, Ok, Err, IsTrue}
 use Rattle.std.specs.Io.KnownBytes.{Consumes}

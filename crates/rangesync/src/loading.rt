@@ -51,7 +51,7 @@ fn item_set<R: Files + AllocGlobal, I: Read + Drop>(
     reader: I,
     cap: usize,
 ) -> Result<Vec<Item>, SettingsFault>
-    ensures set { IsFromFile (λ text. IsSetOf (λ v. v.items) sources.form text cap) result }
+    ensures set { IsFromFile (λ text. IsSetOf (λ v. v.items) sources.entry.form text cap) result }
     ensures rises { IfOk result (λ v. IsSet v.items) }
     ensures few { IfOk result (λ v. length v.items ≤ cap) }
 {
