@@ -182,16 +182,20 @@ fn why_unwritten<'a, R: Files>(rt: &R, given: Given<'a>) -> Option<Why<'a>> {
 
 /// Why one of the files, or standard input, was not read; or why a file that is written to was not opened.
 fn why_unread<'a, R: Files + AllocGlobal>(rt: &R, given: Given<'a>) -> Option<Why<'a>> {
+    let mut unknown = false;
     for file in [given.table, given.items] {
         let Some(file) = file else { continue };
         match read_again(rt, file) {
             Again::Text(_) => {}
             Again::Unread(cause) => return Some(Why::Unread { file, cause }),
-            Again::Unknown => return None,
+            Again::Unknown => unknown = true,
         }
     }
     if let Some(why) = why_unwritten(rt, given) {
         return Some(why);
+    }
+    if unknown {
+        return None;
     }
     given.hexed.map(|_| Why::Input(InputFlaw::CannotRead))
 }
