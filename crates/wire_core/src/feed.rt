@@ -1,4 +1,4 @@
-ghost use Rattle.std.specs.Prelude.{◌≡◌, true, [], ◌++◌, ◌+◌, ◌<◌, length, take};
+ghost use Rattle.std.specs.Prelude.{◌≡◌, true, false, None, [], ◌++◌, ◌+◌, ◌<◌, length, take, IfOk, OnErr};
 ghost use Rattle.definitions.specs.Wire.{max_body};
 ghost use Rattle.definitions.specs.Streams.{Before_hello, In_message, feed, Means, finish_fault};
 ghost use Rattle.wire_core.specs.Events.{event_values};
@@ -13,7 +13,7 @@ use crate::pieces::{are_few, keep, next_length, read_behind};
 use crate::standing::Standing;
 use crate::stream::are_bytes;
 use digest_core::{Fingerprint, Summary};
-use std::alloc::Global;
+use std::alloc::{AllocError, Global};
 use std::marker::{Model, PhantomData};
 
 /// A stream that comes in pieces: a hello, and then frames. Keeps the bytes of an unfinished hello or frame, and no
@@ -159,6 +159,36 @@ impl<F: Summary> Feed<F> {
         let mut events = Vec::new(alloc);
         self.read(alloc, &piece[..taken], &mut events)?;
         Ok((taken, events.pop()))
+    }
+
+    /// Keeps a piece that ends neither the hello nor a frame, and returns whether it did.
+    ///
+    /// Where it did not, and where memory runs out, the feed is as before.
+    pub fn keep(&mut self, piece: &[u8]) -> Result<bool, AllocError>
+        ensures kept { IfOk result (λ is_kept. is_kept ≡ true →
+            (feed F.profile self.old.standing (self.old.kept ++ piece.now) ≡ fed_into [] self.new)
+            × (fault_at self.new.standing ≡ None)) }
+        ensures same { IfOk result (λ is_kept. is_kept ≡ false → self.new ≡ self.old) }
+        ensures memory { OnErr result (self.new ≡ self.old) }
+    {
+        if self.standing.is_over() {
+            return Ok(false);
+        }
+        let kept = &mut self.kept;
+        keep::<F>(kept, piece, self.standing)
+    }
+
+    /// The same feed again.
+    pub fn copy(&self, alloc: Global) -> Result<Feed<F>, AllocError>
+        ensures { IfOk result (λ f. f ≡ self.now) }
+    {
+        let mut kept = Vec::with_capacity(alloc, self.kept.len())?;
+        kept.extend_from_slice(&self.kept)?;
+        Ok(Feed {
+            standing: self.standing,
+            kept,
+            of: PhantomData,
+        })
     }
 
     /// Whether not all of the four bytes of the hello have come.

@@ -1,0 +1,17 @@
+pub use Rattle.definitions.specs.Engines
+pub use Rattle.definitions.specs.Hearing
+pub use Rattle.definitions.specs.Taking
+pub use Rattle.definitions.specs.Ends
+pub use Rattle.definitions.specs.Streams
+pub use Rattle.definitions.specs.Wire
+pub use Rattle.definitions.specs.Theorems
+pub use Rattle.definitions.specs.Refusals
+pub use Rattle.definitions.specs.Worlds
+pub use Rattle.strategy_check.specs.Checked
+pub use Rattle.wire_core.specs.Feeds
+pub use Rattle.wire_core.specs.Events
+pub use Rattle.ends_core.specs.EndStates
+pub use Rattle.ends_core.specs.Turns
+pub use Rattle.ends_core.specs.Roles
+pub mod Outboxes
+pub mod Sessions

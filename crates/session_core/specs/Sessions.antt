@@ -1,0 +1,231 @@
+-- A session as plain data, and what it says of all bytes that were pushed and all bytes that were taken.
+--     TalkState, SessionState            an end, how its session stands, and what it has to say; and the stream
+--     due P t                            the bytes that are due: texts, and one fault frame where this side refuses
+--     hearing_at state h                 how the session stands, as a stream is heard
+--     beginning, opened, noted, refused_by, with_outbox, finished     what single calls make of it
+--     Hears S P t e u, HearsIf           what one event makes of it
+--     said_to s bytes, session_at s bytes    what a side says to these bytes, and its end then
+--     Tells S P s c pushed taken         the end, the refusal and the text are those of the definitions
+--     Goes, Stays                        it goes on; or what comes later counts no more
+--     Knows S P s c pushed taken         all of it
+--     Begins S P a s c                   nothing was pushed
+--     Pushes S P c bytes d               whatever was pushed before, these bytes were pushed behind it
+--     Takes S P c bytes d                whatever was taken before, these bytes were taken behind it
+--     peer_of a items                    who speaks: the accepted table, and a set
+--     speaker_of S side P                the side of a role
+--     known_at s bytes                   what a side learns from the messages that it takes, by what they say
+--     KeepsBounds s bytes bound limit       few messages, short lists, and knowledge as told, whatever was pushed
+use Rattle.std.specs.Prelude.{◌≡◌, ℕ, ◌≤◌, ◌⊎◌, Bool, true, false, List, [], ◌∷◌, ◌++◌, length, flat_map, Option, Some, None}
+use Rattle.std.specs.Prelude.{IsTrue, if◌then◌else◌, ⊤}
+use Rattle.std.specs.List.{AllByRecursion}
+use Rattle.definitions.specs.Fingerprints.{Summary}
+use Rattle.definitions.specs.Items.{Item, IsBytes}
+use Rattle.definitions.specs.Messages.{Message}
+use Rattle.definitions.specs.Replies.{Peer}
+use Rattle.definitions.specs.Refusals.{truncated}
+use Rattle.definitions.specs.Talks.{Knowledge, knows}
+use Rattle.definitions.specs.Theorems.{IsShort}
+use Rattle.definitions.specs.Wire.{Profile, session_text, message_text, fault_text, Event, Came, Ended, Failed}
+use Rattle.definitions.specs.Streams.{Before_hello}
+use Rattle.definitions.specs.Ends.{End, Stage, Fresh, Waits, Over, Spent, is_over, is_live}
+use Rattle.definitions.specs.Engines.{Speaker, initiating, responding, says, session, own, takes, messages_in, replied}
+use Rattle.definitions.specs.Taking.{ended}
+use Rattle.definitions.specs.Hearing.{Hearing, Goes_on, Over_at, Peer_refused, Refused_for, hear_now, hears, hearing_to}
+use Rattle.definitions.specs.Worlds.{Side}
+use Rattle.definitions.specs.Worlds as worlds
+use Rattle.strategy_check.specs.Checked.{Checked}
+use Rattle.wire_core.specs.Feeds.{StreamState, Holds, fault_at}
+use Rattle.wire_core.specs.Events.{event_value}
+use Rattle.wire_core.specs.declared.event.Event as declared
+use Rattle.ends_core.specs.EndStates.{EndState}
+use Rattle.session_core.specs.Outboxes.{OutboxState, outbox_state}
+use Rattle.session_core.specs.declared.state.State.{State}
+use Rattle.session_core.specs.declared.state.State.TheVariants as states
+
+pub record TalkState (F : Type 0) : Type 0 where
+  -- the end, and what it took of a message that has not ended
+  pub held : EndState F
+  pub outbox : OutboxState F
+  pub state : State
+  -- the text of its refusal is made
+  pub told : Bool
+
+pub record SessionState (F : Type 0) : Type 0 where
+  pub talk : TalkState F
+  pub feed : StreamState
+  -- the peer's bytes have ended
+  pub over : Bool
+
+abbrev pub is_open : State → Bool
+is_open states.Open = true
+is_open states.Ended = false
+is_open (states.Refused code) = false
+is_open (states.PeerRefused code) = false
+
+-- ---- what is due
+
+-- by which this side refuses, if it does
+abbrev pub frame_of : State → List ℕ
+frame_of states.Open = []
+frame_of states.Ended = []
+frame_of (states.Refused code) = fault_text code
+frame_of (states.PeerRefused code) = []
+
+abbrev pub frame_due : State → Bool → List ℕ
+frame_due state told = if told then [] else frame_of state
+
+abbrev pub due : {F : Type 0} → Profile F → TalkState F → List ℕ
+due W t = t.outbox.ready ++ (flat_map (message_text W) t.outbox.later ++ frame_due t.state t.told)
+
+-- ---- what single calls make of it
+
+abbrev pub beginning : {F : Type 0} → EndState F → OutboxState F → TalkState F
+beginning h o = record { held = h; outbox = o; state = states.Open; told = false }
+
+abbrev pub opened : {F : Type 0} → EndState F → OutboxState F → SessionState F
+opened h o = record {
+  talk = beginning h o;
+  feed = record { standing = Before_hello; kept = [] };
+  over = false;
+}
+
+abbrev pub noted : {F : Type 0} → TalkState F → TalkState F
+noted t = if is_over t.held.end.stage then record t { state = states.Ended } else t
+
+abbrev pub refused_by : {F : Type 0} → TalkState F → ℕ → TalkState F
+refused_by t code = record t { state = states.Refused code; told = false }
+
+abbrev pub with_outbox : {F : Type 0} → TalkState F → OutboxState F → Bool → TalkState F
+with_outbox t o told = record t { outbox = o; told = told }
+
+abbrev pub with_talk : {F : Type 0} → SessionState F → TalkState F → SessionState F
+with_talk c t = record c { talk = t }
+
+-- no more bytes come: before the session's end that is a refusal
+abbrev pub cut_off : {F : Type 0} → TalkState F → TalkState F
+cut_off t = if is_open t.state then refused_by t truncated else t
+
+abbrev pub finished : {F : Type 0} → SessionState F → SessionState F
+finished c = record c { talk = cut_off c.talk; over = true }
+
+-- ---- one event
+
+abbrev pub hearing_at : {F : Type 0} → State → EndState F → Hearing F
+hearing_at states.Open h = Goes_on h.end h.taken
+hearing_at states.Ended h = Over_at h.end
+hearing_at (states.Refused code) h = Refused_for code
+hearing_at (states.PeerRefused code) h = Peer_refused code
+
+abbrev pub said_by : {F : Type 0} → EndState F → Event F → List (Message F)
+said_by h (Came p) = []
+said_by h Ended = replied (ended h.taken)
+said_by h (Failed code) = []
+
+module _ {F : Type 0} (S : Summary F) (W : Profile F) where
+  -- it is heard, and what it calls for is due
+  pub record Hears (t : TalkState F) (e : Event F) (u : TalkState F) : Type 0 where
+    pub heard : hearing_at u.state u.held ≡ hear_now S t.held.end t.held.taken e
+    pub due_then : due W u ≡ due W t ++ (flat_map (message_text W) (said_by t.held e) ++ frame_of u.state)
+
+  -- an event, if there is one
+  abbrev pub HearsIf : TalkState F → Option (declared.Event F) → TalkState F → Type 0
+  HearsIf t None u = u ≡ t
+  HearsIf t (Some e) u = Hears t (event_value e) u
+
+  -- ---- all bytes
+
+  abbrev pub said_to : Speaker F → List ℕ → List (Message F)
+  said_to s bytes = says S s (messages_in W bytes)
+
+  abbrev pub called_by : Speaker F → List ℕ → List (Message F)
+  called_by s bytes = own S s (messages_in W bytes)
+
+  abbrev pub session_at : Speaker F → List ℕ → End F
+  session_at s bytes = session S s (messages_in W bytes)
+
+  -- a session that goes on, or has ended, has this end
+  abbrev pub IsEnd : State → End F → End F → Type 0
+  IsEnd states.Open e f = (e ≡ f) × IsTrue (is_live f.stage)
+  IsEnd states.Ended e f = (e ≡ f) × IsTrue (is_over f.stage)
+  IsEnd (states.Refused code) e f = ⊤
+  IsEnd (states.PeerRefused code) e f = ⊤
+
+  -- what the session tells of the bytes that were pushed and of those that were taken
+  pub record Tells (s : Speaker F) (c : SessionState F) (pushed taken : List ℕ) : Type 0 where
+    -- whether it goes on, has ended, or who refused and why: a refusal of this side is the first fault of the bytes
+    pub heard : hearing_to S W s c.over pushed ≡ hearing_at c.talk.state c.talk.held
+    -- the end is the one that the messages in these bytes make
+    pub end : IsEnd c.talk.state c.talk.held.end (session_at s pushed)
+    -- what was taken and what is due: a hello, all that is said to these bytes, and one fault frame for a refusal
+    pub text : taken ++ due W c.talk ≡ session_text W (said_to s pushed) ++ frame_of c.talk.state
+
+  pub record Goes (s : Speaker F) (c : SessionState F) (pushed : List ℕ) : Type 0 where
+    pub events : List (Event F)
+    pub holds : Holds W c.feed pushed events
+    pub heard : hears S s events ≡ Goes_on c.talk.held.end c.talk.held.taken
+    pub fine : fault_at c.feed.standing ≡ None
+    pub listens : c.over ≡ false
+
+  -- whatever comes later, the same was heard and said
+  abbrev pub Lasts : Speaker F → TalkState F → List ℕ → Type 0
+  Lasts s t pushed = (later : List ℕ) (over : Bool) → IsBytes later →
+      (hearing_to S W s over (pushed ++ later) ≡ hearing_at t.state t.held)
+      × (said_to s (pushed ++ later) ≡ said_to s pushed)
+
+  abbrev pub Stays : Speaker F → SessionState F → List ℕ → Type 0
+  Stays s c pushed = IsTrue c.over ⊎ Lasts s c.talk pushed
+
+  abbrev pub GoesOn : Bool → Speaker F → SessionState F → List ℕ → Type 0
+  GoesOn true s c pushed = Goes s c pushed
+  GoesOn false s c pushed = Stays s c pushed
+
+  pub record Knows (s : Speaker F) (c : SessionState F) (pushed taken : List ℕ) : Type 0 where
+    pub are_bytes : IsBytes pushed
+    pub tells : Tells s c pushed taken
+    pub goes_on : GoesOn (is_open c.talk.state) s c pushed
+
+  pub record Begins (a : Checked) (s : Speaker F) (c : SessionState F) : Type 0 where
+    pub knows : Knows s c [] []
+    pub peer : c.talk.held.end.peer ≡ s.start.peer
+    pub steps : c.talk.held.steps ≡ a.steps
+
+  -- whatever was pushed and taken before, these bytes were pushed behind it
+  abbrev pub Pushes : SessionState F → List ℕ → SessionState F → Type 0
+  Pushes c bytes d = (s : Speaker F) (pushed taken : List ℕ) → is_live s.start.stage ≡ true →
+      Knows s c pushed taken → Knows s d (pushed ++ bytes) taken
+
+  -- whatever was pushed and taken before, these bytes were taken behind it
+  abbrev pub Takes : SessionState F → List ℕ → SessionState F → Type 0
+  Takes c bytes d = (s : Speaker F) (pushed taken : List ℕ) → Knows s c pushed taken →
+      Knows s d pushed (taken ++ bytes)
+
+  -- ---- what is learned, and how much is said
+
+  -- our messages that the messages taken answer, one each: the first that a responder takes answers none
+  abbrev pub answered : Stage F → List (Message F) → List (Message F)
+  answered Fresh Ms = [] ∷ Ms
+  answered (Waits first) Ms = Ms
+  answered Over Ms = Ms
+  answered Spent Ms = Ms
+
+  -- what a side learns from the messages that it takes, each beside our message that it answers
+  abbrev pub known_at : Speaker F → List ℕ → Knowledge
+  known_at s bytes =
+      knows s.start.peer.items (answered s.start.stage (said_to s bytes))
+      (takes S s.start (messages_in W bytes))
+
+  -- whatever the bytes are, there are few messages of this side, no list in them is longer than the limit, and once the
+  -- session is over the side has learned just what the messages that it took say; this holds of what is called for, too
+  pub record KeepsBounds (s : Speaker F) (bytes : List ℕ) (bound limit : ℕ) : Type 0 where
+    pub few : length (said_to s bytes) ≤ bound
+    pub few_called : length (called_by s bytes) ≤ bound
+    pub short : AllByRecursion (AllByRecursion (IsShort limit)) (said_to s bytes)
+    pub short_called : AllByRecursion (AllByRecursion (IsShort limit)) (called_by s bytes)
+    pub learned : IsTrue (is_over (session_at s bytes).stage) → (session_at s bytes).learned ≡ known_at s bytes
+
+abbrev pub peer_of : Checked → List Item → Peer
+peer_of a items = record { table = a.table; items = items }
+
+abbrev pub speaker_of : {F : Type 0} → Summary F → Side → Peer → Speaker F
+speaker_of S worlds.Initiator P = initiating S P
+speaker_of S worlds.Responder P = responding P

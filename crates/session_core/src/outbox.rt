@@ -1,0 +1,123 @@
+//! What a side has to say: texts that are made, and messages whose text is not made yet.
+
+ghost use Rattle.std.specs.Prelude.{◌≡◌, ◌++◌, [], length, drop, min, flat_map, IfOk, OnOk, OnErr};
+ghost use Rattle.definitions.specs.Wire.{message_text};
+ghost use Rattle.session_core.specs.Outboxes.{outbox_state, Answered};
+
+use digest_core::Summary;
+use ends_core::{EndFault, Role, SessionEnd, Turn};
+use std::alloc::{AllocError, Global};
+use std::marker::Model;
+use store_core::RangeStore;
+use wire_core::{Message, encode_hello, encode_message};
+
+/// What a side has to say and nobody has taken.
+#[derive(Drop)]
+pub(crate) struct Outbox<F: Summary> {
+    made: Vec<u8>,
+    // The bytes in front of this place were taken.
+    from: usize,
+    unsaid: Vec<Message<F>>,
+}
+
+impl<F: Summary> Model for Outbox<F> {
+    ghost use Rattle.std.specs.Prelude.{◌≤◌, drop, vec_len, vec_items};
+    ghost use Rattle.session_core.specs.Outboxes.{OutboxState, outbox_state};
+
+    ghost Value = { OutboxState F };
+
+    ghost view = { λ o. outbox_state (drop o.from (vec_items o.made)) o.unsaid.items };
+
+    ghost invariant = { λ o. o.from ≤ vec_len o.made };
+}
+
+/// Makes the texts of messages.
+fn texts_of<F: Summary>(alloc: Global, messages: &[Message<F>]) -> Result<Vec<u8>, AllocError>
+    ensures { IfOk result (λ texts. texts.items ≡ flat_map (message_text F.profile) messages.now) }
+{
+    let mut out = Vec::new(alloc);
+    for message in messages {
+        let text = encode_message(alloc, message)?;
+        out.extend_from_slice(&text)?;
+    }
+    Ok(out)
+}
+
+/// The hello.
+pub(crate) fn hello_text<F: Summary>(alloc: Global) -> Result<Vec<u8>, AllocError>
+    ensures { IfOk result (λ text. text.items ≡ F.profile.hello) }
+{
+    let mut text = Vec::new(alloc);
+    text.extend_from_slice(&encode_hello::<F>())?;
+    Ok(text)
+}
+
+impl<F: Summary> Outbox<F> {
+    /// These bytes are to be said, and then these messages.
+    pub(crate) fn of(made: Vec<u8>, unsaid: Vec<Message<F>>) -> Outbox<F>
+        ensures { result ≡ outbox_state made.items unsaid.items }
+    {
+        Outbox {
+            made,
+            from: 0,
+            unsaid,
+        }
+    }
+
+    /// Ends a message that an end has taken, and says the reply, if it wants one.
+    pub(crate) fn answer<R: Role, S: RangeStore>(
+        &mut self,
+        alloc: Global,
+        end: &mut SessionEnd<R, S, F>,
+    ) -> Result<(), EndFault>
+        ensures { Answered end.old end.new self.old self.new result }
+    {
+        self.unsaid.reserve(1)?;
+        match end.end(alloc)? {
+            Turn::Reply(reply) => self.unsaid.push_reserved(reply),
+            Turn::Over => {}
+        }
+        Ok(())
+    }
+
+    /// Makes all texts, and these bytes behind them. Where memory runs out nothing has changed.
+    pub(crate) fn make(&mut self, alloc: Global, last: &[u8]) -> Result<(), AllocError>
+        ensures made { OnOk result (self.new ≡ outbox_state (self.old.ready
+            ++ (flat_map (message_text F.profile) self.old.later ++ last.now)) []) }
+        ensures memory { OnErr result (self.new ≡ self.old) }
+    {
+        let mut texts = texts_of(alloc, &self.unsaid)?;
+        texts.extend_from_slice(last)?;
+        self.made.extend_from_slice(&texts)?;
+        self.unsaid.clear();
+        Ok(())
+    }
+
+    /// The bytes whose text is made.
+    pub(crate) fn ready(&self) -> &[u8]
+        ensures { result.now ≡ self.now.ready }
+    {
+        &self.made[self.from..]
+    }
+
+    /// Takes this many of these bytes off the front, or all where there are fewer, and returns how many it took.
+    pub(crate) fn take(&mut self, count: usize) -> usize
+        ensures count { result ≡ min count (length self.old.ready) }
+        ensures rest { self.new ≡ outbox_state (drop result self.old.ready) self.old.later }
+    {
+        let taken = count.min(self.made.len() - self.from);
+        self.from += taken;
+        self.forget();
+        taken
+    }
+
+    /// Forgets the bytes that were taken, once all are.
+    fn forget(&mut self)
+        ensures { self.new ≡ self.old }
+    {
+        if self.from == self.made.len() {
+            self.made.clear();
+            self.from = 0;
+        }
+    }
+}

@@ -1,0 +1,281 @@
+//! A session of this side: the bytes that its peer sends are pushed, and the bytes that it says are taken.
+
+ghost use Rattle.std.specs.Prelude.{◌≡◌, ◌≢◌, ◌≤◌, ◌<◌, ◌+◌, true, false, [], ℕ, List, length, take, drop, min};
+ghost use Rattle.std.specs.Prelude.{IfOk, IfErr, OnOk, OnErr, IfSome, IfNone};
+ghost use Rattle.std.specs.List.{IsDistinct};
+ghost use Rattle.std.specs.Arc.{arc_value};
+ghost use Rattle.definitions.specs.Items.{same_item, IsBytes};
+ghost use Rattle.definitions.specs.Ranks.{rank_by};
+ghost use Rattle.definitions.specs.Replies.{Peer};
+ghost use Rattle.definitions.specs.Engines.{Speaker, initiating, responding};
+ghost use Rattle.definitions.specs.Ends.{is_live};
+ghost use Rattle.ends_core.specs.Roles.{most_of};
+ghost use Rattle.session_core.specs.Outboxes.{outbox_state};
+ghost use Rattle.session_core.specs.Sessions.{due, opened, with_talk, finished, with_outbox};
+ghost use Rattle.session_core.specs.Sessions.{Knows, Begins, Pushes, Takes, known_at, speaker_of, peer_of};
+ghost use Rattle.session_core.specs.declared.state.State.TheVariants as states;
+
+use crate::outbox::{Outbox, hello_text};
+use crate::state::State;
+use crate::talk::Talk;
+use digest_core::{Fingerprint, Summary};
+use ends_core::{Initiating, Initiator, Learned, Responder, Responding, Role, SessionEnd};
+use std::alloc::{AllocError, Global};
+use std::marker::Model;
+use std::sync::Arc;
+use store_core::RangeStore;
+use strategy_check::Accepted;
+use wire_core::{DecodeError, Feed, WireFault};
+
+/// A session of this side, over a store and an accepted strategy. The profile is that of the summary.
+#[derive(Drop)]
+pub struct Session<R: Role, S: RangeStore, F: Summary = Fingerprint> {
+    talk: Talk<R, S, F>,
+    feed: Feed<F>,
+    // The peer's bytes have ended.
+    over: bool,
+}
+
+impl<R: Role, S: RangeStore, F: Summary> Model for Session<R, S, F> {
+    ghost use Rattle.session_core.specs.Sessions.{SessionState};
+
+    ghost Value = { SessionState F };
+
+    ghost view = { λ c. record { talk = c.talk; feed = c.feed; over = c.over } };
+}
+
+/// Tells that each number of the bytes is below 256; nothing is done.
+fn are_bytes(bytes: &[u8])
+    ensures { IsBytes bytes.now }
+{
+    codec_laws::reads_are_bytes();
+    let _ = bytes;
+}
+
+/// What is taken where memory ran out: what was taken before, unless that is nothing.
+fn unless_none(taken: usize) -> Result<usize, AllocError>
+    ensures some { IfOk result (λ count. (count ≡ taken) × (0 < taken)) }
+    ensures none { OnErr result (taken ≡ 0) }
+{
+    if taken == 0 {
+        return Err(AllocError);
+    }
+    Ok(taken)
+}
+
+impl<S: RangeStore, F: Summary> Session<Initiating, S, F> {
+    /// The side that speaks first. Its hello and its first message are due. Where memory runs out the store is given
+    /// back.
+    pub fn initiate(
+        alloc: Global,
+        accepted: Arc<Accepted>,
+        store: S,
+    ) -> Result<Session<Initiating, S, F>, S>
+        requires { length (S.content store) ≤ (arc_value accepted).table.cap }
+        ensures begins { IfOk result (λ c. Begins F.summary F.profile (arc_value accepted)
+            (initiating F.summary (peer_of (arc_value accepted) (S.content store))) c) }
+        ensures memory { IfErr result (λ s. s ≡ store) }
+    {
+        let Ok(made) = hello_text::<F>(alloc) else {
+            return Err(store);
+        };
+        let Ok(mut unsaid) = Vec::with_capacity(alloc, 1) else {
+            return Err(store);
+        };
+        let (end, first) = Initiator::start(alloc, accepted, store)?;
+        unsaid.push_reserved(first);
+        Ok(Session::of(alloc, end, Outbox::of(made, unsaid)))
+    }
+}
+
+impl<S: RangeStore, F: Summary> Session<Responding, S, F> {
+    /// The side that is spoken to first. Its hello is due. Where memory runs out the store is given back.
+    pub fn respond(
+        alloc: Global,
+        accepted: Arc<Accepted>,
+        store: S,
+    ) -> Result<Session<Responding, S, F>, S>
+        requires { length (S.content store) ≤ (arc_value accepted).table.cap }
+        ensures begins { IfOk result (λ c. Begins F.summary F.profile (arc_value accepted)
+            (responding (peer_of (arc_value accepted) (S.content store))) c) }
+        ensures memory { IfErr result (λ s. s ≡ store) }
+    {
+        let Ok(made) = hello_text::<F>(alloc) else {
+            return Err(store);
+        };
+        let end = Responder::new(alloc, accepted, store);
+        Ok(Session::of(alloc, end, Outbox::of(made, Vec::new(alloc))))
+    }
+}
+
+impl<R: Role, S: RangeStore, F: Summary> Session<R, S, F> {
+    /// Nothing was pushed.
+    fn of(alloc: Global, end: SessionEnd<R, S, F>, outbox: Outbox<F>) -> Session<R, S, F>
+        ensures { result ≡ opened end outbox }
+    {
+        Session {
+            talk: Talk::new(end, outbox),
+            feed: Feed::new(alloc),
+            over: false,
+        }
+    }
+
+    /// Takes bytes of the peer, cut in any way, and hears the events that they complete. Returns how many it took: all,
+    /// unless memory ran out; then what is left is pushed again later.
+    ///
+    /// Where memory runs out before it has taken any, the session is as before, and so it is where the peer's bytes have
+    /// ended. What comes after the end of the session, or after a refusal, counts no more.
+    pub fn push(&mut self, alloc: Global, piece: &[u8]) -> Result<usize, AllocError>
+        ensures took { IfOk result (λ n. n ≤ length piece.now) }
+        ensures pushes { IfOk result (λ n. self.old.over ≡ false →
+            Pushes F.summary F.profile self.old (take n piece.now) self.new) }
+        ensures over { self.old.over ≡ true → self.new ≡ self.old }
+        ensures memory { OnErr result (self.new ≡ self.old) }
+    {
+        laws::frames_say::<F>();
+        laws::bytes_agree::<F>();
+        are_bytes(piece);
+        if self.over {
+            return Ok(piece.len());
+        }
+        let taken = self.hear_all(alloc, piece)?;
+        if self.talk.is_open() {
+            return Ok(taken);
+        }
+        Ok(piece.len())
+    }
+
+    /// Hears one event of a piece after another, until the session is no longer open.
+    fn hear_all(&mut self, alloc: Global, piece: &[u8]) -> Result<usize, AllocError>
+        requires { IsBytes piece.now }
+        ensures took { IfOk result (λ n. n ≤ length piece.now) }
+        ensures pushes { IfOk result (λ n. Pushes F.summary F.profile self.old (take n piece.now) self.new) }
+        ensures over { self.new.over ≡ self.old.over }
+        ensures memory { OnErr result (self.new ≡ self.old) }
+    {
+        let mut taken = 0;
+        while taken < piece.len() && self.talk.is_open() {
+            match self.hear_next(alloc, &piece[taken..]) {
+                Ok(count) => taken += count,
+                Err(AllocError) => return unless_none(taken),
+            }
+        }
+        Ok(taken)
+    }
+
+    /// Takes the next event off the front of a piece, and hears it. Returns how many bytes it took.
+    fn hear_next(&mut self, alloc: Global, piece: &[u8]) -> Result<usize, AllocError>
+        requires open { self.old.talk.state ≡ states.Open }
+        requires some { 0 < length piece.now }
+        requires bytes { IsBytes piece.now }
+        ensures took { IfOk result (λ n. (0 < n) × (n ≤ length piece.now)) }
+        ensures pushes { IfOk result (λ n. Pushes F.summary F.profile self.old (take n piece.now) self.new) }
+        ensures over { self.new.over ≡ self.old.over }
+        ensures memory { OnErr result (self.new ≡ self.old) }
+    {
+        laws::frames_say::<F>();
+        laws::bytes_agree::<F>();
+        if self.feed.keep(piece)? {
+            return Ok(piece.len());
+        }
+        // where memory runs out below, the feed is as before
+        let mut feed = self.feed.copy(alloc)?;
+        match feed.next(alloc, piece) {
+            Ok((taken, event)) => {
+                self.talk.hear_if(alloc, event)?;
+                self.feed = feed;
+                Ok(taken)
+            }
+            Err(DecodeError::Fault(fault)) => {
+                self.talk.refuse(fault.number());
+                self.feed = feed;
+                Ok(piece.len())
+            }
+            Err(DecodeError::Memory) => Err(AllocError),
+        }
+    }
+
+    /// The peer's bytes end here: where the session has not ended, it is refused 3.
+    pub fn finish(&mut self)
+        ensures finished { self.new ≡ finished self.old }
+        ensures knows { (s : Speaker F) (pushed taken : List ℕ) → is_live s.start.stage ≡ true →
+            Knows F.summary F.profile s self.old pushed taken → Knows F.summary F.profile s self.new pushed taken }
+    {
+        laws::bytes_agree::<F>();
+        if self.talk.is_open() {
+            self.talk.refuse(WireFault::Truncated.number());
+        }
+        self.over = true;
+    }
+
+    /// Makes the text of all that is due. Where memory runs out the session is as before.
+    pub fn make_due(&mut self, alloc: Global) -> Result<(), AllocError>
+        ensures made { OnOk result (self.new ≡ with_talk self.old (with_outbox self.old.talk
+            (outbox_state (due F.profile self.old.talk) []) true)) }
+        ensures knows { OnOk result (Takes F.summary F.profile self.old [] self.new) }
+        ensures memory { OnErr result (self.new ≡ self.old) }
+    {
+        self.talk.make_due(alloc)
+    }
+
+    /// The bytes that are due, as far as their text is made.
+    pub fn due(&self) -> &[u8]
+        ensures { result.now ≡ self.now.talk.outbox.ready }
+    {
+        self.talk.ready()
+    }
+
+    /// Takes this many of these bytes off the front, or all where there are fewer, and returns how many it took.
+    pub fn take(&mut self, count: usize) -> usize
+        ensures count { result ≡ min count (length self.old.talk.outbox.ready) }
+        ensures rest { self.new ≡ with_talk self.old (with_outbox self.old.talk
+            (outbox_state (drop result self.old.talk.outbox.ready) self.old.talk.outbox.later) self.old.talk.told) }
+        ensures takes { Takes F.summary F.profile self.old (take result self.old.talk.outbox.ready) self.new }
+    {
+        self.talk.take(count)
+    }
+
+    /// How the session stands.
+    pub fn state(&self) -> State
+        ensures { result ≡ self.now.talk.state }
+    {
+        self.talk.state()
+    }
+
+    /// The greatest number of messages that it says, whatever its peer sends.
+    pub fn bound(&self) -> u32
+        ensures { result ≡ rank_by self.now.talk.held.steps (length self.now.talk.held.end.peer.items)
+            + most_of R.side }
+    {
+        self.talk.end().bound()
+    }
+
+    /// How many messages it has said, which is never more than `bound()`.
+    pub fn sent(&self) -> u32
+        ensures sent { result ≡ self.now.talk.held.end.sent }
+        ensures few { result ≤ rank_by self.now.talk.held.steps (length self.now.talk.held.end.peer.items)
+            + most_of R.side }
+    {
+        self.talk.end().sent()
+    }
+
+    /// What was learned, each item once, where the session has ended.
+    pub fn learned(&self) -> Option<&Learned>
+        ensures ended { IfSome result (λ _. self.now.talk.state ≡ states.Ended) }
+        ensures none { IfNone result (self.now.talk.state ≢ states.Ended) }
+        ensures learned { IfSome result (λ l. l.now ≡ self.now.talk.held.end.learned) }
+        ensures known { IfSome result (λ l. (P : Peer) (pushed taken : List ℕ) →
+            Knows F.summary F.profile (speaker_of F.summary R.side P) self.now pushed taken →
+            l.now ≡ known_at F.summary F.profile (speaker_of F.summary R.side P) pushed) }
+        ensures ours { IsDistinct same_item self.now.talk.held.end.learned.ours }
+        ensures theirs { IsDistinct same_item self.now.talk.held.end.learned.theirs }
+    {
+        laws::initiator_learns::<F>();
+        laws::responder_learns::<F>();
+        let learned = self.talk.end().learned();
+        match self.talk.state() {
+            State::Ended => Some(learned),
+            _ => None,
+        }
+    }
+}
