@@ -1,9 +1,9 @@
 //! Sessions by bytes that are pushed and taken, without a reader or a writer.
 
-use crate::support::frames::{ABC_TO_EMPTY, EMPTY_TO_ABC, HELLO, fault};
+use crate::support::frames::{ABC_TO_EMPTY, EMPTY_TO_ABC, HELLO, fault, joined};
 use crate::support::letters::items;
 use crate::support::shown::shown_learned;
-use crate::support::tables::{LISTS_TWO, BINARY_EIGHT, accepted};
+use crate::support::tables::{BINARY_EIGHT, LISTS_TWO, accepted};
 use ends_core::{Initiating, Responding, Role};
 use item_core::Item;
 use range_tree::Tree;
@@ -80,9 +80,12 @@ fn meets_abc(rt: &impl Abort, alloc: Global, most: usize) -> Result<(), Fail> {
     let mut second = second_over(rt, alloc, abc)?;
     assert!(rt; first.learned().is_none());
     let (forth, back) = said(rt, alloc, &mut first, &mut second, most)?;
-    assert_eq!(rt; forth.as_slice(), EMPTY_TO_ABC.concat(alloc)?.as_slice());
-    assert_eq!(rt; back.as_slice(), ABC_TO_EMPTY.concat(alloc)?.as_slice());
-    assert_eq!(rt; (first.state(), second.state()), (State::Ended, State::Ended));
+    assert_eq!(rt; forth.as_slice(), joined(alloc, EMPTY_TO_ABC)?.as_slice());
+    assert_eq!(rt; back.as_slice(), joined(alloc, ABC_TO_EMPTY)?.as_slice());
+    assert_eq!(rt;
+        (first.state(), second.state()),
+        (State::Ended, State::Ended)
+    );
     assert_eq!(rt; (first.sent(), second.sent()), (2, 1));
     let learned = first.learned().expect(rt, "ended");
     assert_eq!(rt; shown_learned(alloc, learned)?.as_str(), "ours theirs abc");

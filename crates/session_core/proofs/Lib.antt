@@ -1,1 +1,3 @@
+pub mod Heard
 pub mod KeptBounds
+pub mod Steps

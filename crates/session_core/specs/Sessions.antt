@@ -3,6 +3,7 @@
 --     due P t                            the bytes that are due: texts, and one fault frame where this side refuses
 --     hearing_at state h                 how the session stands, as a stream is heard
 --     beginning, opened, noted, refused_by, with_outbox, finished     what single calls make of it
+--     feed_of W f piece, IsFed           what a feed makes of a piece, and the event that it completes, if any
 --     Hears S P t e u, HearsIf           what one event makes of it
 --     said_to s bytes, session_at s bytes    what a side says to these bytes, and its end then
 --     Tells S P s c pushed taken         the end, the refusal and the text are those of the definitions
@@ -26,7 +27,7 @@ use Rattle.definitions.specs.Refusals.{truncated}
 use Rattle.definitions.specs.Talks.{Knowledge, knows}
 use Rattle.definitions.specs.Theorems.{IsShort}
 use Rattle.definitions.specs.Wire.{Profile, session_text, message_text, fault_text, Event, Came, Ended, Failed}
-use Rattle.definitions.specs.Streams.{Before_hello}
+use Rattle.definitions.specs.Streams.{Before_hello, Fed, feed}
 use Rattle.definitions.specs.Ends.{End, Stage, Fresh, Waits, Over, Spent, is_over, is_live}
 use Rattle.definitions.specs.Engines.{Speaker, initiating, responding, says, session, own, takes, messages_in, replied}
 use Rattle.definitions.specs.Taking.{ended}
@@ -34,7 +35,7 @@ use Rattle.definitions.specs.Hearing.{Hearing, Goes_on, Over_at, Peer_refused, R
 use Rattle.definitions.specs.Worlds.{Side}
 use Rattle.definitions.specs.Worlds as worlds
 use Rattle.strategy_check.specs.Checked.{Checked}
-use Rattle.wire_core.specs.Feeds.{StreamState, Holds, fault_at}
+use Rattle.wire_core.specs.Feeds.{StreamState, Holds, fed_into, fault_at}
 use Rattle.wire_core.specs.Events.{event_value}
 use Rattle.wire_core.specs.declared.event.Event as declared
 use Rattle.ends_core.specs.EndStates.{EndState}
@@ -120,6 +121,18 @@ abbrev pub said_by : {F : Type 0} → EndState F → Event F → List (Message F
 said_by h (Came p) = []
 said_by h Ended = replied (ended h.taken)
 said_by h (Failed code) = []
+
+abbrev pub events_of : {F : Type 0} → Option (declared.Event F) → List (Event F)
+events_of None = []
+events_of (Some e) = event_value e ∷ []
+
+-- what a feed makes of a piece
+abbrev pub feed_of : {F : Type 0} → Profile F → StreamState → List ℕ → Fed F
+feed_of W f piece = feed W f.standing (f.kept ++ piece)
+
+-- the feed took the piece, which completed this event or none
+abbrev pub IsFed : {F : Type 0} → Profile F → StreamState → List ℕ → Option (declared.Event F) → StreamState → Type 0
+IsFed W f piece event g = (feed_of W f piece ≡ fed_into (events_of event) g) × (fault_at g.standing ≡ None)
 
 module _ {F : Type 0} (S : Summary F) (W : Profile F) where
   -- it is heard, and what it calls for is due

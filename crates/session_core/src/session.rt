@@ -1,7 +1,7 @@
 //! A session of this side: the bytes that its peer sends are pushed, and the bytes that it says are taken.
 
 ghost use Rattle.std.specs.Prelude.{◌≡◌, ◌≢◌, ◌≤◌, ◌<◌, ◌+◌, true, false, [], ℕ, List, length, take, drop, min};
-ghost use Rattle.std.specs.Prelude.{IfOk, IfErr, OnOk, OnErr, IfSome, IfNone};
+ghost use Rattle.std.specs.Prelude.{Some, IfOk, IfErr, OnOk, OnErr, IfSome, IfNone};
 ghost use Rattle.std.specs.List.{IsDistinct};
 ghost use Rattle.std.specs.Arc.{arc_value};
 ghost use Rattle.definitions.specs.Items.{same_item, IsBytes};
@@ -9,10 +9,12 @@ ghost use Rattle.definitions.specs.Ranks.{rank_by};
 ghost use Rattle.definitions.specs.Replies.{Peer};
 ghost use Rattle.definitions.specs.Engines.{Speaker, initiating, responding};
 ghost use Rattle.definitions.specs.Ends.{is_live};
+ghost use Rattle.wire_core.specs.Refused.{fault_number};
+ghost use Rattle.wire_core.specs.Feeds.{fed_into, fault_at};
 ghost use Rattle.ends_core.specs.Roles.{most_of};
 ghost use Rattle.session_core.specs.Outboxes.{outbox_state};
 ghost use Rattle.session_core.specs.Sessions.{due, opened, with_talk, finished, with_outbox};
-ghost use Rattle.session_core.specs.Sessions.{Knows, Begins, Pushes, Takes, known_at, speaker_of, peer_of};
+ghost use Rattle.session_core.specs.Sessions.{feed_of, IsFed, Knows, Begins, Pushes, Takes, known_at, speaker_of, peer_of};
 ghost use Rattle.session_core.specs.declared.state.State.TheVariants as states;
 
 use crate::outbox::{Outbox, hello_text};
@@ -25,7 +27,7 @@ use std::marker::Model;
 use std::sync::Arc;
 use store_core::RangeStore;
 use strategy_check::Accepted;
-use wire_core::{DecodeError, Feed, WireFault};
+use wire_core::{DecodeError, Event, Feed, WireFault};
 
 /// A session of this side, over a store and an accepted strategy. The profile is that of the summary.
 #[derive(Drop)]
@@ -132,6 +134,7 @@ impl<R: Role, S: RangeStore, F: Summary> Session<R, S, F> {
         ensures over { self.old.over ≡ true → self.new ≡ self.old }
         ensures memory { OnErr result (self.new ≡ self.old) }
     {
+        codec_laws::feeds_join::<F>();
         laws::frames_say::<F>();
         laws::bytes_agree::<F>();
         are_bytes(piece);
@@ -173,26 +176,79 @@ impl<R: Role, S: RangeStore, F: Summary> Session<R, S, F> {
         ensures over { self.new.over ≡ self.old.over }
         ensures memory { OnErr result (self.new ≡ self.old) }
     {
-        laws::frames_say::<F>();
-        laws::bytes_agree::<F>();
-        if self.feed.keep(piece)? {
+        if self.keep(piece)? {
             return Ok(piece.len());
         }
         // where memory runs out below, the feed is as before
         let mut feed = self.feed.copy(alloc)?;
         match feed.next(alloc, piece) {
             Ok((taken, event)) => {
-                self.talk.hear_if(alloc, event)?;
-                self.feed = feed;
+                self.go_on(alloc, feed, &piece[..taken], event)?;
                 Ok(taken)
             }
             Err(DecodeError::Fault(fault)) => {
-                self.talk.refuse(fault.number());
-                self.feed = feed;
+                self.refuse_for(feed, piece, fault);
                 Ok(piece.len())
             }
             Err(DecodeError::Memory) => Err(AllocError),
         }
+    }
+
+    /// Keeps a piece that completes no event, and returns whether it did.
+    fn keep(&mut self, piece: &[u8]) -> Result<bool, AllocError>
+        requires open { self.old.talk.state ≡ states.Open }
+        requires bytes { IsBytes piece.now }
+        ensures pushes { IfOk result (λ kept. kept ≡ true →
+            Pushes F.summary F.profile self.old piece.now self.new) }
+        ensures same { IfOk result (λ kept. kept ≡ false → self.new ≡ self.old) }
+        ensures over { self.new.over ≡ self.old.over }
+        ensures memory { OnErr result (self.new ≡ self.old) }
+    {
+        codec_laws::feeds_join::<F>();
+        laws::frames_say::<F>();
+        laws::bytes_agree::<F>();
+        self.feed.keep(piece)
+    }
+
+    /// Goes on with the feed that took the piece, and hears the event that it completed, if there is one.
+    fn go_on(
+        &mut self,
+        alloc: Global,
+        feed: Feed<F>,
+        piece: &[u8],
+        event: Option<Event<F>>,
+    ) -> Result<(), AllocError>
+        requires open { self.old.talk.state ≡ states.Open }
+        requires bytes { IsBytes piece.now }
+        requires fed { IsFed F.profile self.old.feed piece.now event feed }
+        ensures pushes { OnOk result (Pushes F.summary F.profile self.old piece.now self.new) }
+        ensures over { self.new.over ≡ self.old.over }
+        ensures memory { OnErr result (self.new ≡ self.old) }
+    {
+        codec_laws::feeds_join::<F>();
+        laws::frames_say::<F>();
+        laws::bytes_agree::<F>();
+        let _ = piece; // proof only
+        self.talk.hear_if(alloc, event)?;
+        self.feed = feed;
+        Ok(())
+    }
+
+    /// Refuses for a fault that the feed found in a piece.
+    fn refuse_for(&mut self, feed: Feed<F>, piece: &[u8], fault: WireFault)
+        requires open { self.old.talk.state ≡ states.Open }
+        requires bytes { IsBytes piece.now }
+        requires fed { feed_of F.profile self.old.feed piece.now ≡ fed_into [] feed }
+        requires fault { Some (fault_number fault) ≡ fault_at feed.standing }
+        ensures pushes { Pushes F.summary F.profile self.old piece.now self.new }
+        ensures over { self.new.over ≡ self.old.over }
+    {
+        codec_laws::feeds_join::<F>();
+        laws::frames_say::<F>();
+        laws::bytes_agree::<F>();
+        let _ = piece; // proof only
+        self.talk.refuse(fault.number());
+        self.feed = feed;
     }
 
     /// The peer's bytes end here: where the session has not ended, it is refused 3.
@@ -201,7 +257,16 @@ impl<R: Role, S: RangeStore, F: Summary> Session<R, S, F> {
         ensures knows { (s : Speaker F) (pushed taken : List ℕ) → is_live s.start.stage ≡ true →
             Knows F.summary F.profile s self.old pushed taken → Knows F.summary F.profile s self.new pushed taken }
     {
+        codec_laws::feeds_join::<F>();
+        laws::frames_say::<F>();
         laws::bytes_agree::<F>();
+        self.cut_off();
+    }
+
+    /// Refuses 3 where the session goes on, and hears no more.
+    fn cut_off(&mut self)
+        ensures { self.new ≡ finished self.old }
+    {
         if self.talk.is_open() {
             self.talk.refuse(WireFault::Truncated.number());
         }

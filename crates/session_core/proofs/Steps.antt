@@ -1,0 +1,529 @@
+-- What single calls make of all that a session says of the bytes so far.
+--
+-- While it goes on, the events of the bytes pushed were all heard, and what was taken with what is due is the text of
+-- all that is said to them. A piece that completes no event changes neither; an event adds its reply. Where an event or
+-- a fault of the stream stops the session, the laws say that whatever comes later counts no more. To make texts, or to
+-- take bytes of them, moves bytes between what is due and what was taken, and keeps their sum.
+use Rattle.std.proofs.Common.{◌≡◌, ◌≢◌, ℕ, ◌+◌, ◌≤◌, ◌<◌, ◌⊎◌, Bool, true, false, List, [], ◌∷◌, ◌++◌, length, take, drop}
+use Rattle.std.proofs.Common.{Result, Ok, Err, IfOk, OnOk}
+use Rattle.std.specs.declared.alloc.AllocError.{AllocError}
+use Rattle.std.proofs.Common.{flat_map, Option, Some, None, IsTrue, inl, inr, refl, sym, ap, ◌∙◌, subst, append_assoc}
+use Rattle.std.proofs.Common.{append-nil, arith}
+use Rattle.std.specs.Prelude.{if◌then◌else◌}
+use Rattle.std.proofs.lemmas.Grind.{flat_map-append}
+use Rattle.std.proofs.lemmas.List.{take-append-drop}
+use Rattle.std.proofs.Math.Seq.{take-add, take-length}
+use Rattle.definitions.specs.Fingerprints.{Summary}
+use Rattle.definitions.specs.Items.{IsBytes}
+use Rattle.definitions.specs.Messages.{Message}
+use Rattle.definitions.specs.Refusals.{truncated}
+use Rattle.definitions.specs.Wire.{Profile, IsProfile, message_text, session_text, fault_text, Event, Came, Ended, Failed}
+use Rattle.definitions.specs.Streams.{Standing, Before_hello, In_message, Meaning_over, Faulted, Fed, feed, messages_of}
+use Rattle.definitions.specs.Ends.{End, is_live, is_over}
+use Rattle.definitions.specs.Engines.{Speaker, says, own, session, messages_in}
+use Rattle.definitions.specs.Taking.{nothing_taken}
+use Rattle.definitions.specs.Hearing.{Hearing, Goes_on, Over_at, Peer_refused, Refused_for, hear_now, hears, with_end}
+use Rattle.definitions.specs.Hearing.{hearing_to}
+use Rattle.laws.specs.Hearing.{has_stopped, FramesSay, BytesAgree, AgreesBy}
+use Rattle.codec_laws.specs.Parts.{FeedsJoin, joined}
+use Rattle.codec_laws.proofs.Fields.{IsBytes-both, rest_fits}
+use Rattle.wire_core.specs.Feeds.{StreamState, Holds, fed_into, fault_at}
+use Rattle.ends_core.specs.EndStates.{EndState}
+use Rattle.session_core.specs.declared.state.State.{State}
+use Rattle.session_core.specs.declared.state.State.TheVariants as states
+use Rattle.session_core.specs.Outboxes.{OutboxState, outbox_state}
+use Rattle.session_core.specs.Sessions.{TalkState, SessionState, is_open, frame_of, frame_due, due, refused_by}
+use Rattle.wire_core.specs.Events.{event_value}
+use Rattle.wire_core.specs.declared.event.Event as declared
+use Rattle.session_core.specs.Sessions.{HearsIf, IsFed}
+use Rattle.session_core.specs.Sessions.{with_outbox, with_talk, finished, cut_off, hearing_at, said_by, Hears, said_to}
+use Rattle.session_core.specs.Sessions.{session_at, IsEnd, Tells, Goes, Lasts, Stays, GoesOn, Knows, Pushes}
+use Rattle.session_core.specs.Sessions.{Takes}
+use Rattle.session_core.proofs.Heard.{so_far, events_in, says-next, says-stopped, hears-next, hearing-stopped}
+use Rattle.session_core.proofs.Heard.{hearing-on, hearing-fault, said-of}
+
+closed-stops : {F : Type 0} (x : State) (h : EndState F) → is_open x ≡ false → has_stopped (hearing_at x h) ≡ true
+closed-stops states.Open h closed = absurd cc
+closed-stops states.Ended h closed = refl
+closed-stops (states.Refused code) h closed = refl
+closed-stops (states.PeerRefused code) h closed = refl
+
+-- while it goes on no fault frame is due
+no-frame : (x : State) (told : Bool) → is_open x ≡ true → frame_due x told ≡ []
+no-frame states.Open true goes = refl
+no-frame states.Open false goes = refl
+no-frame states.Ended told goes = absurd cc
+no-frame (states.Refused code) told goes = absurd cc
+no-frame (states.PeerRefused code) told goes = absurd cc
+
+no-frame-yet : (x : State) → is_open x ≡ true → frame_of x ≡ []
+no-frame-yet states.Open goes = refl
+no-frame-yet states.Ended goes = absurd cc
+no-frame-yet (states.Refused code) goes = absurd cc
+no-frame-yet (states.PeerRefused code) goes = absurd cc
+
+open-hears : {F : Type 0} (x : State) (h : EndState F) → is_open x ≡ true → hearing_at x h ≡ Goes_on h.end h.taken
+open-hears states.Open h goes = refl
+open-hears states.Ended h goes = absurd cc
+open-hears (states.Refused code) h goes = absurd cc
+open-hears (states.PeerRefused code) h goes = absurd cc
+
+fault-is : (s : Standing) (code : ℕ) → Some code ≡ fault_at s → s ≡ Faulted code
+fault-is Before_hello code is = absurd cc
+fault-is (In_message parts) code is = absurd cc
+fault-is Meaning_over code is = absurd cc
+fault-is (Faulted fault) code is = let same : code ≡ fault = cc in ap Faulted (sym same)
+
+-- three texts behind one another
+regroup : (a b c d : List ℕ) → (a ++ b) ++ (c ++ d) ≡ (a ++ (b ++ c)) ++ d
+regroup a b c d =
+    append_assoc a b (c ++ d) ∙ ap (λ (l : List ℕ). a ++ l) (sym (append_assoc b c d))
+    ∙ sym (append_assoc a (b ++ c) d)
+
+module _ {F : Type 0} (S : Summary F) (W : Profile F) where
+  -- the laws that are cited, in one place
+  pub record Laws : Type 0 where
+    pub say : FramesSay S
+    pub agree : BytesAgree S W
+    pub join : FeedsJoin W
+
+  -- ---- the stream
+
+  pub holds-on : Laws → (f g : StreamState) (bytes piece : List ℕ) (es new : List (Event F)) →
+      IsBytes bytes → IsBytes piece →
+      Holds W f bytes es → feed W f.standing (f.kept ++ piece) ≡ fed_into new g →
+      Holds W g (bytes ++ piece) (es ++ new)
+  holds-on laws f g bytes piece es new fits more holds step =
+      laws.join Before_hello bytes piece fits more
+      ∙ ap (λ (a : Fed F). joined a (feed W a.to (a.kept ++ piece))) holds
+      ∙ ap (λ (b : Fed F). joined (fed_into es f) b) step
+
+  -- ---- what a session that goes on, or has stopped, says
+
+  abbrev Text : Speaker F → SessionState F → List ℕ → List ℕ → Type 0
+  Text s c pushed taken =
+      taken ++ due W c.talk ≡ session_text W (said_to S W s pushed) ++ frame_of c.talk.state
+
+  -- the end is the one that the messages make
+  end-of : Laws → (s : Speaker F) (over : Bool) (bytes : List ℕ) (x : State) (h : EndState F) →
+      is_live s.start.stage ≡ true → hearing_to S W s over bytes ≡ hearing_at x h →
+      IsEnd S W x h.end (session_at S W s bytes)
+  end-of laws s over bytes x h live heard = by x heard where
+    Ms : List (Message F)
+    Ms = messages_in W bytes
+
+    Agreed : Hearing F → Type 0
+    Agreed y = AgreesBy (session S s Ms) (says S s Ms) (own S s Ms) y
+
+    by : (x : State) → hearing_to S W s over bytes ≡ hearing_at x h → IsEnd S W x h.end (session S s Ms)
+    by states.Open heard =
+        let agreed : Agreed (Goes_on h.end h.taken) = subst Agreed heard (laws.agree s over bytes live) in
+        (agreed.0, subst (λ (e : End F). IsTrue (is_live e.stage)) agreed.0 agreed.1)
+    by states.Ended heard =
+        let agreed : Agreed (Over_at h.end) = subst Agreed heard (laws.agree s over bytes live) in
+        (agreed.0, subst (λ (e : End F). IsTrue (is_over e.stage)) agreed.0 agreed.1)
+    by (states.Refused code) heard = tt
+    by (states.PeerRefused code) heard = tt
+
+  pub knows-open : Laws → (s : Speaker F) (c : SessionState F) (pushed taken : List ℕ) →
+      is_live s.start.stage ≡ true → IsBytes pushed → is_open c.talk.state ≡ true → Goes S W s c pushed →
+      Text s c pushed taken → Knows S W s c pushed taken
+  knows-open laws s c pushed taken live fits is goes text =
+      let heard = ap (λ (over : Bool). hearing_to S W s over pushed) goes.listens
+      ∙ hearing-on S W s false c.feed pushed goes.events c.talk.held.end c.talk.held.taken goes.holds goes.heard
+      goes.fine
+      ∙ sym (open-hears c.talk.state c.talk.held is) in
+      record {
+        are_bytes = fits;
+        tells = record {
+          heard = heard;
+          end = end-of laws s c.over pushed c.talk.state c.talk.held live heard;
+          text = text;
+        };
+        goes_on = subst (λ (b : Bool). GoesOn S W b s c pushed) (sym is) goes;
+      }
+
+  pub knows-closed : Laws → (s : Speaker F) (c : SessionState F) (pushed taken : List ℕ) →
+      is_live s.start.stage ≡ true → IsBytes pushed → is_open c.talk.state ≡ false →
+      Lasts S W s c.talk pushed → Text s c pushed taken → Knows S W s c pushed taken
+  knows-closed laws s c pushed taken live fits closed lasts text =
+      let heard = ap (λ (l : List ℕ). hearing_to S W s c.over l) (sym (append-nil pushed))
+      ∙ (lasts [] c.over tt).0 in
+      record {
+        are_bytes = fits;
+        tells = record {
+          heard = heard;
+          end = end-of laws s c.over pushed c.talk.state c.talk.held live heard;
+          text = text;
+        };
+        goes_on = subst (λ (b : Bool). GoesOn S W b s c pushed) (sym closed) (inr lasts);
+      }
+
+  -- ---- what is known of it
+
+  pub goes-of : (s : Speaker F) (c : SessionState F) (pushed taken : List ℕ) → is_open c.talk.state ≡ true →
+      Knows S W s c pushed taken → Goes S W s c pushed
+  goes-of s c pushed taken goes k = subst (λ (b : Bool). GoesOn S W b s c pushed) goes k.goes_on
+
+  stays-of : (s : Speaker F) (c : SessionState F) (pushed taken : List ℕ) → is_open c.talk.state ≡ false →
+      Knows S W s c pushed taken → Stays S W s c pushed
+  stays-of s c pushed taken closed k = subst (λ (b : Bool). GoesOn S W b s c pushed) closed k.goes_on
+
+  text-of : (s : Speaker F) (c : SessionState F) (pushed taken : List ℕ) → is_open c.talk.state ≡ true →
+      Knows S W s c pushed taken → taken ++ due W c.talk ≡ session_text W (said_to S W s pushed)
+  text-of s c pushed taken goes k =
+      k.tells.text ∙ ap (λ (l : List ℕ). session_text W (said_to S W s pushed) ++ l) (no-frame-yet c.talk.state goes)
+      ∙ append-nil (session_text W (said_to S W s pushed))
+
+  -- ---- a piece that completes no event
+
+  pub quiet : Laws → (s : Speaker F) (c d : SessionState F) (piece pushed taken : List ℕ) →
+      is_live s.start.stage ≡ true → is_open c.talk.state ≡ true → IsBytes piece →
+      d.talk ≡ c.talk → d.over ≡ c.over →
+      feed W c.feed.standing (c.feed.kept ++ piece) ≡ fed_into [] d.feed → fault_at d.feed.standing ≡ None →
+      Knows S W s c pushed taken → Knows S W s d (pushed ++ piece) taken
+  quiet laws s c d piece pushed taken live goes more talk over step fine k =
+      knows-open laws s d (pushed ++ piece) taken live (IsBytes-both pushed piece k.are_bytes more)
+      (ap (λ (t : TalkState F). is_open t.state) talk ∙ goes)
+      (record {
+        events = g.events;
+        holds = on;
+        heard = g.heard ∙ ap (λ (t : TalkState F). Goes_on t.held.end t.held.taken) (sym talk);
+        fine = fine;
+        listens = over ∙ g.listens;
+      })
+      (ap (λ (t : TalkState F). taken ++ due W t) talk
+      ∙ text-of s c pushed taken goes k
+      ∙ ap (λ (l : List (Message F)). session_text W l) (sym same)
+      ∙ sym (append-nil (session_text W (said_to S W s (pushed ++ piece))))
+      ∙ ap (λ (l : List ℕ). session_text W (said_to S W s (pushed ++ piece)) ++ l)
+      (sym (no-frame-yet d.talk.state (ap (λ (t : TalkState F). is_open t.state) talk ∙ goes)))) where
+    g : Goes S W s c pushed
+    g = goes-of s c pushed taken goes k
+
+    on : Holds W d.feed (pushed ++ piece) g.events
+    on = subst (Holds W d.feed (pushed ++ piece)) (append-nil g.events)
+        (holds-on laws c.feed d.feed pushed piece g.events [] k.are_bytes more g.holds step)
+
+    same : said_to S W s (pushed ++ piece) ≡ said_to S W s pushed
+    same = said-of S W s (pushed ++ piece) g.events (ap (λ (f : Fed F). f.events) on)
+        ∙ sym (said-of S W s pushed g.events (ap (λ (f : Fed F). f.events) g.holds))
+
+  -- ---- an event
+
+  pub one-event : Laws → (s : Speaker F) (c d : SessionState F) (e : Event F) (piece pushed taken : List ℕ) →
+      is_live s.start.stage ≡ true → is_open c.talk.state ≡ true → IsBytes piece →
+      Hears S W c.talk e d.talk → d.over ≡ c.over →
+      feed W c.feed.standing (c.feed.kept ++ piece) ≡ fed_into (e ∷ []) d.feed → fault_at d.feed.standing ≡ None →
+      Knows S W s c pushed taken → Knows S W s d (pushed ++ piece) taken
+  one-event laws s c d e piece pushed taken live goes more heard over step fine k = by (is_open d.talk.state) refl where
+    g : Goes S W s c pushed
+    g = goes-of s c pushed taken goes k
+
+    es : List (Event F)
+    es = g.events ++ e ∷ []
+
+    fits : IsBytes (pushed ++ piece)
+    fits = IsBytes-both pushed piece k.are_bytes more
+
+    on : Holds W d.feed (pushed ++ piece) es
+    on = holds-on laws c.feed d.feed pushed piece g.events (e ∷ []) k.are_bytes more g.holds step
+
+    before : said_to S W s pushed ≡ so_far S W s g.events
+    before = said-of S W s pushed g.events (ap (λ (f : Fed F). f.events) g.holds)
+
+    now : said_to S W s (pushed ++ piece) ≡ said_to S W s pushed ++ said_by c.talk.held e
+    now = said-of S W s (pushed ++ piece) es (ap (λ (f : Fed F). f.events) on)
+        ∙ says-next S W laws.say s c.talk.held g.events e live g.heard
+        ∙ ap (λ (l : List (Message F)). l ++ said_by c.talk.held e) (sym before)
+
+    hears-all : hears S s es ≡ hearing_at d.talk.state d.talk.held
+    hears-all = hears-next S W s c.talk.held g.events e g.heard ∙ sym heard.heard
+
+    text : Text s d (pushed ++ piece) taken
+    text =
+        let f = message_text W in
+        let said = said_to S W s pushed in
+        let new = said_by c.talk.held e in
+        ap (λ (l : List ℕ). taken ++ l) heard.due_then
+        ∙ sym (append_assoc taken (due W c.talk) (flat_map f new ++ frame_of d.talk.state))
+        ∙ ap (λ (l : List ℕ). l ++ (flat_map f new ++ frame_of d.talk.state)) (text-of s c pushed taken goes k)
+        ∙ regroup W.hello (flat_map f said) (flat_map f new) (frame_of d.talk.state)
+        ∙ ap (λ (l : List ℕ). (W.hello ++ l) ++ frame_of d.talk.state) (sym (flat_map-append f said new))
+        ∙ ap (λ (l : List (Message F)). session_text W l ++ frame_of d.talk.state) (sym now)
+
+    lasts : is_open d.talk.state ≡ false → Lasts S W s d.talk (pushed ++ piece)
+    lasts closed later end bytes =
+        let rest = (feed W d.feed.standing (d.feed.kept ++ later)).events in
+        let all : events_in S W ((pushed ++ piece) ++ later) ≡ es ++ rest =
+        ap (λ (f : Fed F). f.events) (laws.join Before_hello (pushed ++ piece) later fits bytes
+        ∙ ap (λ (a : Fed F). joined a (feed W a.to (a.kept ++ later))) on) in
+        let stop = closed-stops d.talk.state d.talk.held closed in (
+          hearing-stopped S W s end ((pushed ++ piece) ++ later) es rest (hearing_at d.talk.state d.talk.held) all
+              hears-all stop,
+          said-of S W s ((pushed ++ piece) ++ later) (es ++ rest) all
+              ∙ says-stopped S W laws.say s es rest live (ap has_stopped hears-all ∙ stop)
+              ∙ sym (said-of S W s (pushed ++ piece) es (ap (λ (f : Fed F). f.events) on)),
+        )
+
+    by : (b : Bool) → is_open d.talk.state ≡ b → Knows S W s d (pushed ++ piece) taken
+    by true still = knows-open laws s d (pushed ++ piece) taken live fits still
+        (record {
+          events = es;
+          holds = on;
+          heard = hears-all ∙ open-hears d.talk.state d.talk.held still;
+          fine = fine;
+          listens = over ∙ g.listens;
+        })
+        text
+    by false closed = knows-closed laws s d (pushed ++ piece) taken live fits closed (lasts closed) text
+
+  -- ---- a fault of the stream
+
+  -- this side refuses, and a fault frame is due
+  refused-due : (t : TalkState F) (code : ℕ) → is_open t.state ≡ true →
+      due W (refused_by t code) ≡ due W t ++ fault_text code
+  refused-due t code goes =
+      let f = message_text W in
+      let texts = flat_map f t.outbox.later in
+      sym (ap (λ (l : List ℕ). (t.outbox.ready ++ (texts ++ l)) ++ fault_text code) (no-frame t.state t.told goes)
+      ∙ ap (λ (l : List ℕ). (t.outbox.ready ++ l) ++ fault_text code) (append-nil texts)
+      ∙ append_assoc t.outbox.ready texts (fault_text code))
+
+  refused-text : (s : Speaker F) (c d : SessionState F) (code : ℕ) (pushed more taken : List ℕ) →
+      is_open c.talk.state ≡ true → d.talk ≡ refused_by c.talk code → said_to S W s more ≡ said_to S W s pushed →
+      Knows S W s c pushed taken → Text s d more taken
+  refused-text s c d code pushed more taken goes talk same k =
+      ap (λ (t : TalkState F). taken ++ due W t) talk
+      ∙ ap (λ (l : List ℕ). taken ++ l) (refused-due c.talk code goes)
+      ∙ sym (append_assoc taken (due W c.talk) (fault_text code))
+      ∙ ap (λ (l : List ℕ). l ++ fault_text code) (text-of s c pushed taken goes k)
+      ∙ ap (λ (l : List (Message F)). session_text W l ++ fault_text code) (sym same)
+      ∙ ap (λ (t : TalkState F). session_text W (said_to S W s more) ++ frame_of t.state) (sym talk)
+
+  pub faulty : Laws → (s : Speaker F) (c d : SessionState F) (code : ℕ) (piece pushed taken : List ℕ) →
+      is_live s.start.stage ≡ true → is_open c.talk.state ≡ true → IsBytes piece →
+      d.talk ≡ refused_by c.talk code → d.over ≡ c.over →
+      feed W c.feed.standing (c.feed.kept ++ piece) ≡ fed_into [] d.feed → Some code ≡ fault_at d.feed.standing →
+      Knows S W s c pushed taken → Knows S W s d (pushed ++ piece) taken
+  faulty laws s c d code piece pushed taken live goes more talk over step fault k =
+      knows-closed laws s d (pushed ++ piece) taken live fits (ap (λ (t : TalkState F). is_open t.state) talk) lasts
+      (refused-text s c d code pushed (pushed ++ piece) taken goes talk same k) where
+    g : Goes S W s c pushed
+    g = goes-of s c pushed taken goes k
+
+    fits : IsBytes (pushed ++ piece)
+    fits = IsBytes-both pushed piece k.are_bytes more
+
+    at : d.feed.standing ≡ Faulted code
+    at = fault-is d.feed.standing code fault
+
+    on : Holds W d.feed (pushed ++ piece) g.events
+    on = subst (Holds W d.feed (pushed ++ piece)) (append-nil g.events)
+        (holds-on laws c.feed d.feed pushed piece g.events [] k.are_bytes more g.holds step)
+
+    same : said_to S W s (pushed ++ piece) ≡ said_to S W s pushed
+    same = said-of S W s (pushed ++ piece) g.events (ap (λ (f : Fed F). f.events) on)
+        ∙ sym (said-of S W s pushed g.events (ap (λ (f : Fed F). f.events) g.holds))
+
+    lasts : Lasts S W s d.talk (pushed ++ piece)
+    lasts later end bytes =
+        let behind = ap (λ (to : Standing). feed W to (d.feed.kept ++ later)) at in
+        let whole = laws.join Before_hello (pushed ++ piece) later fits bytes
+        ∙ ap (λ (a : Fed F). joined a (feed W a.to (a.kept ++ later))) on
+        ∙ ap (λ (b : Fed F). joined (fed_into g.events d.feed) b) behind in
+        let all : events_in S W ((pushed ++ piece) ++ later) ≡ g.events =
+        ap (λ (f : Fed F). f.events) whole ∙ append-nil g.events in (
+          hearing-fault S W s end ((pushed ++ piece) ++ later) g.events c.talk.held.end c.talk.held.taken code all
+              (ap (λ (f : Fed F). f.to) whole) g.heard
+              ∙ ap (λ (t : TalkState F). hearing_at t.state t.held) (sym talk),
+          said-of S W s ((pushed ++ piece) ++ later) g.events all
+              ∙ sym (said-of S W s (pushed ++ piece) g.events (ap (λ (f : Fed F). f.events) on)),
+        )
+
+  -- ---- what comes later
+
+  pub later : Laws → (s : Speaker F) (c : SessionState F) (more pushed taken : List ℕ) →
+      is_live s.start.stage ≡ true → is_open c.talk.state ≡ false → c.over ≡ false → IsBytes more →
+      Knows S W s c pushed taken → Knows S W s c (pushed ++ more) taken
+  later laws s c more pushed taken live closed listens bytes k =
+      by (stays-of s c pushed taken closed k) where
+    by : Stays S W s c pushed → Knows S W s c (pushed ++ more) taken
+    by (inl over) = let wrong = sym over ∙ listens in absurd cc
+    by (inr lasts) = knows-closed laws s c (pushed ++ more) taken live (IsBytes-both pushed more k.are_bytes bytes)
+        closed
+        (λ rest end are.
+            let both = IsBytes-both more rest bytes are in
+            let one = lasts (more ++ rest) end both in
+            let assoc = append_assoc pushed more rest in (
+              ap (λ (l : List ℕ). hearing_to S W s end l) assoc ∙ one.0,
+              ap (λ (l : List ℕ). said_to S W s l) assoc ∙ one.1 ∙ sym (lasts more end bytes).1,
+            ))
+        (k.tells.text
+        ∙ ap (λ (l : List (Message F)). session_text W l ++ frame_of c.talk.state) (sym (lasts more false bytes).1))
+
+  -- ---- the end of the bytes
+
+  -- the session has stopped, or it is refused
+  pub finish : Laws → (s : Speaker F) (c : SessionState F) (pushed taken : List ℕ) →
+      is_live s.start.stage ≡ true → Knows S W s c pushed taken → Knows S W s (finished c) pushed taken
+  finish laws s c pushed taken live k = by (is_open c.talk.state) refl where
+    d : SessionState F
+    d = finished c
+
+    cut : is_open c.talk.state ≡ true → d.talk ≡ refused_by c.talk truncated
+    cut goes = ap (λ (b : Bool). if b then refused_by c.talk truncated else c.talk) goes
+
+    kept : is_open c.talk.state ≡ false → d.talk ≡ c.talk
+    kept closed = ap (λ (b : Bool). if b then refused_by c.talk truncated else c.talk) closed
+
+    by : (b : Bool) → is_open c.talk.state ≡ b → Knows S W s d pushed taken
+    by true goes =
+        let g = goes-of s c pushed taken goes k in
+        let talk = cut goes in
+        let heard = hearing-on S W s true c.feed pushed g.events c.talk.held.end c.talk.held.taken g.holds g.heard g.fine
+        ∙ ap (λ (t : TalkState F). hearing_at t.state t.held) (sym talk) in
+        record {
+          are_bytes = k.are_bytes;
+          tells = record {
+            heard = heard;
+            end = end-of laws s true pushed d.talk.state d.talk.held live heard;
+            text = refused-text s c d truncated pushed pushed taken goes talk refl k;
+          };
+          goes_on = subst (λ (b : Bool). GoesOn S W b s d pushed)
+              (sym (ap (λ (t : TalkState F). is_open t.state) talk)) (inl refl);
+        }
+    by false closed =
+        let talk = kept closed in
+        let state = ap (λ (t : TalkState F). t.state) talk in
+        let heard = still (stays-of s c pushed taken closed k)
+        ∙ ap (λ (t : TalkState F). hearing_at t.state t.held) (sym talk) in
+        record {
+          are_bytes = k.are_bytes;
+          tells = record {
+            heard = heard;
+            end = end-of laws s true pushed d.talk.state d.talk.held live heard;
+            text = ap (λ (t : TalkState F). taken ++ due W t) talk ∙ k.tells.text
+                ∙ ap (λ (x : State). session_text W (said_to S W s pushed) ++ frame_of x) (sym state);
+          };
+          goes_on = subst (λ (b : Bool). GoesOn S W b s d pushed) (sym (ap is_open state ∙ closed)) (inl refl);
+        } where
+      still : Stays S W s c pushed → hearing_to S W s true pushed ≡ hearing_at c.talk.state c.talk.held
+      still (inl over) = ap (λ (b : Bool). hearing_to S W s b pushed) (sym over) ∙ k.tells.heard
+      still (inr lasts) = ap (λ (l : List ℕ). hearing_to S W s true l) (sym (append-nil pushed)) ∙ (lasts [] true tt).0
+
+  -- ---- what is taken, and texts that are made
+
+  pub retold : (s : Speaker F) (c : SessionState F) (o : OutboxState F) (told : Bool) (pushed taken after : List ℕ) →
+      after ++ due W (with_outbox c.talk o told) ≡ taken ++ due W c.talk →
+      Knows S W s c pushed taken → Knows S W s (with_talk c (with_outbox c.talk o told)) pushed after
+  retold s c o told pushed taken after same k = record {
+    are_bytes = k.are_bytes;
+    tells = record { heard = k.tells.heard; end = k.tells.end; text = same ∙ k.tells.text };
+    goes_on = by (is_open c.talk.state) k.goes_on;
+  } where
+    by : (b : Bool) → GoesOn S W b s c pushed →
+        GoesOn S W b s (with_talk c (with_outbox c.talk o told)) pushed
+    by true g =
+        record { events = g.events; holds = g.holds; heard = g.heard; fine = g.fine; listens = g.listens }
+    by false (inl over) = inl over
+    by false (inr lasts) = inr lasts
+
+  -- all that is due is made
+  pub made-due : (t : TalkState F) →
+      due W (with_outbox t (outbox_state (due W t) []) true) ≡ due W t
+  made-due t = append-nil (due W t)
+
+  -- some of the bytes that are made are taken
+  pub taken-due : (t : TalkState F) (front back : List ℕ) → t.outbox.ready ≡ front ++ back →
+      front ++ due W (with_outbox t (outbox_state back t.outbox.later) t.told) ≡ due W t
+  taken-due t front back split =
+      let rest = flat_map (message_text W) t.outbox.later ++ frame_due t.state t.told in
+      sym (append_assoc front back rest) ∙ ap (λ (l : List ℕ). l ++ rest) (sym split)
+
+  -- so many bytes are taken
+  pub takes-some : (s : Speaker F) (c : SessionState F) (n : ℕ) (pushed taken : List ℕ) → Knows S W s c pushed taken →
+      Knows S W s (with_talk c (with_outbox c.talk
+      (outbox_state (drop n c.talk.outbox.ready) c.talk.outbox.later) c.talk.told))
+      pushed (taken ++ take n c.talk.outbox.ready)
+  takes-some s c n pushed taken k =
+      let ready = c.talk.outbox.ready in
+      let o = outbox_state (drop n ready) c.talk.outbox.later in
+      retold s c o c.talk.told pushed taken (taken ++ take n ready)
+      (append_assoc taken (take n ready) (due W (with_outbox c.talk o c.talk.told))
+      ∙ ap (λ (l : List ℕ). taken ++ l) (taken-due c.talk (take n ready) (drop n ready) (sym (take-append-drop n ready))))
+      k
+
+  -- all texts are made
+  pub makes-all : (s : Speaker F) (c : SessionState F) (pushed taken : List ℕ) → Knows S W s c pushed taken →
+      Knows S W s (with_talk c (with_outbox c.talk (outbox_state (due W c.talk) []) true)) pushed (taken ++ [])
+  makes-all s c pushed taken k =
+      let o = outbox_state (due W c.talk) [] in
+      retold s c o true pushed taken (taken ++ [])
+      (ap (λ (l : List ℕ). l ++ due W (with_outbox c.talk o true)) (append-nil taken)
+      ∙ ap (λ (l : List ℕ). taken ++ l) (made-due c.talk))
+      k
+
+  pub all-made : (c : SessionState F) (t : TalkState F) (result : Result (Unit {0}) AllocError) →
+      OnOk result (t ≡ with_outbox c.talk (outbox_state (due W c.talk) []) true) →
+      OnOk result (Takes S W c [] (with_talk c t))
+  all-made c t (Ok x) is = λ s pushed taken k.
+      subst (λ (u : TalkState F). Knows S W s (with_talk c u) pushed (taken ++ [])) (sym is)
+      (makes-all s c pushed taken k)
+  all-made c t (Err e) is = tt
+
+  -- ---- one piece
+
+  -- the feed took the piece, and its event, if there is one, was heard
+  pub piece-heard : Laws → (s : Speaker F) (c d : SessionState F) (event : Option (declared.Event F))
+      (piece pushed taken : List ℕ) → is_live s.start.stage ≡ true → is_open c.talk.state ≡ true → IsBytes piece →
+      HearsIf S W c.talk event d.talk → d.over ≡ c.over → IsFed W c.feed piece event d.feed →
+      Knows S W s c pushed taken → Knows S W s d (pushed ++ piece) taken
+  piece-heard laws s c d None piece pushed taken live goes bytes heard over (step, fine) k =
+      quiet laws s c d piece pushed taken live goes bytes heard over step fine k
+  piece-heard laws s c d (Some e) piece pushed taken live goes bytes heard over (step, fine) k =
+      one-event laws s c d (event_value e) piece pushed taken live goes bytes heard over step fine k
+
+  -- it was kept, if it completes no event
+  pub piece-kept : Laws → (c d : SessionState F) (piece : List ℕ) (result : Result Bool AllocError) →
+      is_open c.talk.state ≡ true → IsBytes piece → d.talk ≡ c.talk → d.over ≡ c.over →
+      IfOk result (λ kept. kept ≡ true → IsFed W c.feed piece None d.feed) →
+      IfOk result (λ kept. kept ≡ true → Pushes S W c piece d)
+  piece-kept laws c d piece (Ok kept) goes bytes talk over step = λ is s pushed taken live k.
+      quiet laws s c d piece pushed taken live goes bytes talk over (step is).0 (step is).1 k
+  piece-kept laws c d piece (Err e) goes bytes talk over step = tt
+
+  -- ---- one call after another
+
+  -- so many bytes of a piece, and then more of them
+  pub pushes-on : (c d e : SessionState F) (piece : List ℕ) (m n : ℕ) → Pushes S W c (take m piece) d →
+      Pushes S W d (take n (drop m piece)) e → Pushes S W c (take (m + n) piece) e
+  pushes-on c d e piece m n first second s pushed taken live k =
+      subst (λ (l : List ℕ). Knows S W s e l taken)
+      (append_assoc pushed (take m piece) (take n (drop m piece))
+      ∙ ap (λ (l : List ℕ). pushed ++ l) (sym (take-add m n piece)))
+      (second s (pushed ++ take m piece) taken live (first s pushed taken live k))
+
+  pub pushes-nothing : (c : SessionState F) → Pushes S W c [] c
+  pushes-nothing c s pushed taken live k = subst (λ (l : List ℕ). Knows S W s c l taken) (sym (append-nil pushed)) k
+
+  -- where memory ran out behind so many bytes
+  pub pushes-so : (c d e : SessionState F) (piece : List ℕ) (m : ℕ) (result : Result ℕ AllocError) →
+      IfOk result (λ n. (n ≡ m) × (0 < m)) → e ≡ d → Pushes S W c (take m piece) d →
+      IfOk result (λ n. Pushes S W c (take n piece) e)
+  pushes-so c d e piece m (Ok n) is same pushes =
+      subst (λ (x : SessionState F). Pushes S W c (take n piece) x) (sym same)
+      (subst (λ (k : ℕ). Pushes S W c (take k piece) d) (sym is.0) pushes)
+  pushes-so c d e piece m (Err x) is same pushes = tt
+
+  -- the session has stopped, so the rest of a piece counts no more
+  pub push-ends : Laws → (s : Speaker F) (c : SessionState F) (piece : List ℕ) (n : ℕ) (pushed taken : List ℕ) →
+      is_live s.start.stage ≡ true → is_open c.talk.state ≡ false → c.over ≡ false → IsBytes piece →
+      Knows S W s c (pushed ++ take n piece) taken → Knows S W s c (pushed ++ take (length piece) piece) taken
+  push-ends laws s c piece n pushed taken live closed listens bytes k =
+      let whole = take-append-drop n piece in
+      subst (λ (l : List ℕ). Knows S W s c l taken)
+      (append_assoc pushed (take n piece) (drop n piece)
+      ∙ ap (λ (l : List ℕ). pushed ++ l) (whole ∙ sym (take-length piece)))
+      (later laws s c (drop n piece) (pushed ++ take n piece) taken live closed listens
+      (rest_fits piece (take n piece) (drop n piece) (sym whole) bytes) k)

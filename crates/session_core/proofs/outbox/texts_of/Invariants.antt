@@ -1,0 +1,9 @@
+use Rattle.std.proofs.Common.{◌≡◌, take}
+use Rattle.std.specs.Prelude.{flat_map}
+use Rattle.definitions.specs.Wire.{message_text}
+use Rattle.session_core.proofs.outbox.texts_of.Given as goal
+
+abbrev pub invariant-loop-message : goal.invariant-loop-message
+invariant-loop-message g l = record {
+  written : l.out.items ≡ flat_map (message_text g.F.Summary.profile) (take l.message-index l.messages);
+}

@@ -1,0 +1,19 @@
+use Rattle.std.proofs.Common.{rules, ◌≡◌, true, ap, refl}
+use Rattle.session_core.specs.Sessions.{SessionState, HearsIf, IsFed, is_open}
+use Rattle.session_core.proofs.Steps.{Laws, piece-heard}
+use Rattle.session_core.proofs.session.Session.go_on.Goals as goal
+
+pub returns-clause-pushes : goal.returns-clause-pushes
+returns-clause-pushes g c = λ s pushed taken live k.
+    let laws : Laws g.F.Summary.summary g.F.Summary.profile = record {
+      say = c.frames_say.ensures g.F.Summary.summary;
+      agree = c.bytes_agree.ensures g.F.Summary.summary g.F.Summary.profile;
+      join = c.feeds_join.ensures g.F.Summary.profile g.met.F.Summary.real;
+    } in
+    let d : SessionState g.row.F.Denot =
+    record { talk = c.hear_if.new.self; feed = c.args.feed; over = c.args.self.now.over } in
+    let heard : HearsIf g.F.Summary.summary g.F.Summary.profile c.args.self.now.talk c.args.event c.hear_if.new.self =
+    search rules in
+    let after = piece-heard g.F.Summary.summary g.F.Summary.profile laws s c.args.self.now d c.args.event
+    c.args.piece.now pushed taken live (ap is_open c.requires.open) c.requires.bytes heard refl c.requires.fed k in
+    search (rules, after)

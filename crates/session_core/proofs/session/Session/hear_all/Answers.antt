@@ -1,0 +1,31 @@
+use Rattle.std.proofs.Common.{◌≡◌, ◌-◌, ℕ, List, length, take, drop, sym, ap, ◌∙◌, subst, arith}
+use Rattle.std.proofs.lemmas.List.{length-drop}
+use Rattle.std.proofs.Math.Seq.{take-length}
+use Rattle.session_core.specs.Sessions.{Pushes}
+use Rattle.session_core.proofs.Steps.{pushes-on, pushes-so}
+use Rattle.session_core.proofs.session.Session.hear_all.Goals as goal
+
+pub loop-taken-preserved : goal.loop-taken-preserved
+loop-taken-preserved g c =
+    let before = c.loop-taken.invariant in
+    let took = c.in-Ok.ensures.took in
+    let piece = c.args.piece.now in
+    let from = c.loop-taken.taken in
+    let left = length-drop from piece in
+    let rest : take (length piece - from) (drop from piece) ≡ drop from piece =
+    ap (λ (n : ℕ). take n (drop from piece)) (sym left) ∙ take-length (drop from piece) in
+    let heard = subst (λ (l : List ℕ). Pushes g.F.Summary.summary g.F.Summary.profile c.loop-taken.self
+    (take c.in-Ok.count l) c.hear_next.new.self) rest c.in-Ok.ensures.pushes in
+    record {
+      some = omega (arith, before.some, took.1, left, ap (λ (l : List ℕ). length l) rest);
+      pushes = pushes-on g.F.Summary.summary g.F.Summary.profile c.args.self.now c.loop-taken.self c.hear_next.new.self
+          piece from c.in-Ok.count before.pushes heard;
+      over = c.in-Ok.ensures.over ∙ before.over;
+      none = λ is. absurd (omega (arith, is, took.0));
+    }
+
+pub returns-in-Err-clause-pushes : goal.returns-in-Err-clause-pushes
+returns-in-Err-clause-pushes g c =
+    pushes-so g.F.Summary.summary g.F.Summary.profile c.args.self.now c.loop-taken.self c.hear_next.new.self
+    c.args.piece.now c.loop-taken.taken c.unless_none.result c.unless_none.ensures.some c.in-Err.ensures.memory
+    c.loop-taken.invariant.pushes
