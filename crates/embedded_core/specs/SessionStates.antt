@@ -1,0 +1,110 @@
+-- A session in either role and profile, and what calls make of it: each relation is the one of session_core, in the
+-- session's own profile.
+--     Opens v opening profile s      a session over a version, in this role and profile, to which nothing was pushed
+--     Changes s t R                  both are of one role and profile, and R holds of them
+--     PushesTo bytes, Finishes, MakesDue, TakesOff count     what calls make of a session
+--     ready_of, state_in, bound_of, sent_by, learned_in      what is told of it
+use Rattle.std.specs.Prelude.{◌≡◌, ℕ, ◌+◌, ◌≤◌, true, false, List, [], length, take}
+use Rattle.definitions.specs.Fingerprints.{Summary, Lanes, Counted, two_lanes, counted_lanes}
+use Rattle.definitions.specs.Items.{Item}
+use Rattle.definitions.specs.Ranks.{rank_by}
+use Rattle.definitions.specs.Talks.{Knowledge}
+use Rattle.definitions.specs.Ends.{is_live}
+use Rattle.definitions.specs.Engines.{Speaker, initiating, responding}
+use Rattle.definitions.specs.Wire.{Profile, two_lane_profile, counted_profile}
+use Rattle.session_core.specs.Sessions.{SessionState, Begins, Pushes, Takes, Knows, peer_of, due}
+use Rattle.session_core.specs.declared.state.State.{State}
+use Rattle.embedded_core.specs.SetStates.{VersionState}
+use Rattle.embedded_core.specs.declared.any_session.AnySession.{AnySession}
+use Rattle.embedded_core.specs.declared.any_session.AnySession.TheVariants as any
+use Rattle.embedded_core.specs.declared.any_session.Opening.{Opening}
+use Rattle.embedded_core.specs.declared.any_session.Opening.TheVariants as openings
+use Rattle.embedded_core.specs.declared.any_session.WireProfile.{WireProfile}
+use Rattle.embedded_core.specs.declared.any_session.WireProfile.TheVariants as profiles
+
+-- what two sessions of one profile have to do with each other
+abbrev pub Relation : Type 1
+Relation = (F : Type 0) → Summary F → Profile F → SessionState F → SessionState F → Type 0
+
+abbrev pub IsFirst : AnySession → (SessionState Lanes → Type 0) → Type 0
+IsFirst (any.First c) P = P c
+IsFirst (any.Second c) P = ⊥
+IsFirst (any.FirstCounted c) P = ⊥
+IsFirst (any.SecondCounted c) P = ⊥
+
+abbrev pub IsSecond : AnySession → (SessionState Lanes → Type 0) → Type 0
+IsSecond (any.First c) P = ⊥
+IsSecond (any.Second c) P = P c
+IsSecond (any.FirstCounted c) P = ⊥
+IsSecond (any.SecondCounted c) P = ⊥
+
+abbrev pub IsFirstCounted : AnySession → (SessionState Counted → Type 0) → Type 0
+IsFirstCounted (any.First c) P = ⊥
+IsFirstCounted (any.Second c) P = ⊥
+IsFirstCounted (any.FirstCounted c) P = P c
+IsFirstCounted (any.SecondCounted c) P = ⊥
+
+abbrev pub IsSecondCounted : AnySession → (SessionState Counted → Type 0) → Type 0
+IsSecondCounted (any.First c) P = ⊥
+IsSecondCounted (any.Second c) P = ⊥
+IsSecondCounted (any.FirstCounted c) P = ⊥
+IsSecondCounted (any.SecondCounted c) P = P c
+
+abbrev pub Changes : AnySession → AnySession → Relation → Type 0
+Changes (any.First c) t R = IsFirst t (λ d. R Lanes two_lanes two_lane_profile c d)
+Changes (any.Second c) t R = IsSecond t (λ d. R Lanes two_lanes two_lane_profile c d)
+Changes (any.FirstCounted c) t R = IsFirstCounted t (λ d. R Counted counted_lanes counted_profile c d)
+Changes (any.SecondCounted c) t R = IsSecondCounted t (λ d. R Counted counted_lanes counted_profile c d)
+
+abbrev pub PushesTo : List ℕ → Relation
+PushesTo bytes F S W c d = c.over ≡ false → Pushes S W c bytes d
+
+abbrev pub Finishes : Relation
+Finishes F S W c d = (s : Speaker F) (pushed taken : List ℕ) → is_live s.start.stage ≡ true →
+    Knows S W s c pushed taken → Knows S W s d pushed taken
+
+abbrev pub MakesDue : Relation
+MakesDue F S W c d = Takes S W c [] d × (d.talk.outbox.ready ≡ due W c.talk)
+
+abbrev pub TakesOff : ℕ → Relation
+TakesOff count F S W c d = Takes S W c (take count c.talk.outbox.ready) d
+
+abbrev pub Opens : VersionState → Opening → WireProfile → AnySession → Type 0
+Opens v openings.Initiator profiles.Plain s = IsFirst s (λ c.
+    Begins two_lanes two_lane_profile v.accepted (initiating two_lanes (peer_of v.accepted v.items)) c)
+Opens v openings.Responder profiles.Plain s = IsSecond s (λ c.
+    Begins two_lanes two_lane_profile v.accepted (responding (peer_of v.accepted v.items)) c)
+Opens v openings.Initiator profiles.Counted s = IsFirstCounted s (λ c.
+    Begins counted_lanes counted_profile v.accepted (initiating counted_lanes (peer_of v.accepted v.items)) c)
+Opens v openings.Responder profiles.Counted s = IsSecondCounted s (λ c.
+    Begins counted_lanes counted_profile v.accepted (responding (peer_of v.accepted v.items)) c)
+
+abbrev pub ready_of : AnySession → List ℕ
+ready_of (any.First c) = c.talk.outbox.ready
+ready_of (any.Second c) = c.talk.outbox.ready
+ready_of (any.FirstCounted c) = c.talk.outbox.ready
+ready_of (any.SecondCounted c) = c.talk.outbox.ready
+
+abbrev pub state_in : AnySession → State
+state_in (any.First c) = c.talk.state
+state_in (any.Second c) = c.talk.state
+state_in (any.FirstCounted c) = c.talk.state
+state_in (any.SecondCounted c) = c.talk.state
+
+abbrev pub bound_of : AnySession → ℕ
+bound_of (any.First c) = rank_by c.talk.held.steps (length c.talk.held.end.peer.items) + 2
+bound_of (any.Second c) = rank_by c.talk.held.steps (length c.talk.held.end.peer.items) + 1
+bound_of (any.FirstCounted c) = rank_by c.talk.held.steps (length c.talk.held.end.peer.items) + 2
+bound_of (any.SecondCounted c) = rank_by c.talk.held.steps (length c.talk.held.end.peer.items) + 1
+
+abbrev pub sent_by : AnySession → ℕ
+sent_by (any.First c) = c.talk.held.end.sent
+sent_by (any.Second c) = c.talk.held.end.sent
+sent_by (any.FirstCounted c) = c.talk.held.end.sent
+sent_by (any.SecondCounted c) = c.talk.held.end.sent
+
+abbrev pub learned_in : AnySession → Knowledge
+learned_in (any.First c) = c.talk.held.end.learned
+learned_in (any.Second c) = c.talk.held.end.learned
+learned_in (any.FirstCounted c) = c.talk.held.end.learned
+learned_in (any.SecondCounted c) = c.talk.held.end.learned

@@ -1,0 +1,56 @@
+-- A set of items under a strategy, and a version of it.
+--     SetState, set_by a h           a checked table, and a history of at most as many items as its cap
+--     VersionState                   a checked table, and items
+--     newest s                       the version of a set that is the newest
+--     IsSetFrom form text a result   what an item file's text gives: the set of its items, or why not
+--     Inserts s x t result           an item was put in, or was there, or there was no room
+use Rattle.std.specs.Prelude.{◌≡◌, ℕ, ◌≤◌, Bool, true, false, List, length, Result, Ok, Err, ⊤}
+use Rattle.definitions.specs.Items.{Item}
+use Rattle.definitions.specs.Sets.{set_of}
+use Rattle.definitions.specs.Histories.{History, content, opening_history, insertion, history_after}
+use Rattle.definitions.specs.Histories.{Insertion, New, Already, Full}
+use Rattle.strategy_check.specs.Checked.{Checked}
+use Rattle.settings_core.specs.ItemFiles.{file_items}
+use Rattle.settings_core.specs.declared.words.ItemForm.{ItemForm}
+use Rattle.embedded_core.specs.declared.fault.EmbeddedFault.{EmbeddedFault}
+use Rattle.embedded_core.specs.declared.fault.EmbeddedFault.TheVariants as faults
+
+pub record SetState : Type 0 where
+  pub accepted : Checked
+  pub history : History
+
+abbrev pub set_by : Checked → History → SetState
+set_by a h = record { accepted = a; history = h }
+
+pub record VersionState : Type 0 where
+  pub accepted : Checked
+  pub items : List Item
+
+abbrev pub newest : SetState → VersionState
+newest s = record { accepted = s.accepted; items = content s.history }
+
+-- the set has this item too, unless it is there or there is no room
+abbrev pub with_item : SetState → Item → SetState
+with_item s x = set_by s.accepted (history_after s.history 0 x (insertion s.accepted.table.cap s.history x))
+
+abbrev pub IsAnswer : Insertion → Result Bool EmbeddedFault → Type 0
+IsAnswer a (Ok true) = (version : ℕ) × (a ≡ New version)
+IsAnswer a (Ok false) = a ≡ Already
+IsAnswer a (Err faults.Full) = a ≡ Full
+IsAnswer a (Err faults.Memory) = ⊤
+IsAnswer a (Err (faults.Strategy f)) = ⊥
+IsAnswer a (Err (faults.Check f)) = ⊥
+IsAnswer a (Err (faults.Length f)) = ⊥
+IsAnswer a (Err faults.BadItemLine) = ⊥
+IsAnswer a (Err faults.TooManyItems) = ⊥
+
+-- a new item is in the set, and else nothing has changed
+abbrev pub Inserts : SetState → Item → SetState → Result Bool EmbeddedFault → Type 0
+Inserts s x t (Ok b) = IsAnswer (insertion s.accepted.table.cap s.history x) (Ok b) × (t ≡ with_item s x)
+Inserts s x t (Err f) = IsAnswer (insertion s.accepted.table.cap s.history x) (Err f) × (t ≡ s)
+
+-- the items of the text, each once, by writer 0
+abbrev pub IsSetFrom : ItemForm → List ℕ → Checked → Result SetState EmbeddedFault → Type 0
+IsSetFrom form text a (Ok s) = (items : List Item) × (file_items form text ≡ Ok items)
+    × (length (set_of items) ≤ a.table.cap) × (s ≡ set_by a (opening_history (set_of items)))
+IsSetFrom form text a (Err f) = ⊤

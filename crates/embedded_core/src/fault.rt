@@ -1,0 +1,118 @@
+//! Why a call is refused.
+
+ghost use Rattle.std.specs.Prelude.{◌≡◌};
+ghost use Rattle.embedded_core.specs.Faults.{embedded_fault_number, of_strategy, of_check, of_settings, of_log};
+ghost use Rattle.embedded_core.specs.declared.fault.EmbeddedFault.TheVariants as faults;
+
+use item_core::LengthFault;
+use settings_core::SettingsFault;
+use std::alloc::{AllocError, AllocFailed};
+use strategy_check::{CheckError, CheckFault};
+use strategy_core::{StrategyError, StrategyFault};
+use version_log::LogFault;
+
+/// Why a call is refused.
+#[derive(Clone, Copy, Debug, PartialEq, Eq)]
+pub enum EmbeddedFault {
+    /// A text is no strategy: 30 to 35.
+    Strategy(StrategyFault),
+    /// A strategy is not to be accepted: 36 to 39.
+    Check(CheckFault),
+    /// The set has as many items as its cap: 40.
+    Full,
+    /// An item has no byte, or more than 64: 71, 72.
+    Length(LengthFault),
+    /// A line of an item file is no item: 81.
+    BadItemLine,
+    /// An item file has more different items than the cap: 82.
+    TooManyItems,
+    /// Memory ran out: 90.
+    Memory,
+}
+
+impl EmbeddedFault {
+    /// The number of the refusal.
+    pub fn number(self) -> u8
+        ensures { result ≡ embedded_fault_number self }
+    {
+        match self {
+            EmbeddedFault::Strategy(fault) => fault.number(),
+            EmbeddedFault::Check(fault) => fault.number(),
+            EmbeddedFault::Full => 40,
+            EmbeddedFault::Length(fault) => fault.number(),
+            EmbeddedFault::BadItemLine => 81,
+            EmbeddedFault::TooManyItems => 82,
+            EmbeddedFault::Memory => 90,
+        }
+    }
+}
+
+impl From<StrategyError> for EmbeddedFault {
+    ghost from_gives = { λ f e. e ≡ of_strategy f };
+
+    fn from(error: StrategyError) -> EmbeddedFault {
+        match error {
+            StrategyError::Fault(fault) => EmbeddedFault::Strategy(fault),
+            StrategyError::Memory => EmbeddedFault::Memory,
+        }
+    }
+}
+
+impl From<CheckError> for EmbeddedFault {
+    ghost from_gives = { λ f e. e ≡ of_check f };
+
+    fn from(error: CheckError) -> EmbeddedFault {
+        match error {
+            CheckError::Fault(fault) => EmbeddedFault::Check(fault),
+            CheckError::Memory => EmbeddedFault::Memory,
+        }
+    }
+}
+
+impl From<LogFault> for EmbeddedFault {
+    ghost from_gives = { λ f e. e ≡ of_log f };
+
+    fn from(fault: LogFault) -> EmbeddedFault {
+        match fault {
+            LogFault::Full => EmbeddedFault::Full,
+            LogFault::Memory => EmbeddedFault::Memory,
+        }
+    }
+}
+
+impl From<LengthFault> for EmbeddedFault {
+    ghost from_gives = { λ f e. e ≡ faults.Length f };
+
+    fn from(fault: LengthFault) -> EmbeddedFault {
+        EmbeddedFault::Length(fault)
+    }
+}
+
+impl From<SettingsFault> for EmbeddedFault {
+    ghost from_gives = { λ f e. e ≡ of_settings f };
+
+    fn from(fault: SettingsFault) -> EmbeddedFault {
+        match fault {
+            SettingsFault::BadItemLine { line: _ } => EmbeddedFault::BadItemLine,
+            SettingsFault::TooManyItems => EmbeddedFault::TooManyItems,
+            SettingsFault::Strategy(fault) => EmbeddedFault::Strategy(fault),
+            SettingsFault::CannotRead | SettingsFault::Memory => EmbeddedFault::Memory,
+        }
+    }
+}
+
+impl From<AllocError> for EmbeddedFault {
+    ghost from_gives = { λ _ e. e ≡ faults.Memory };
+
+    fn from(_refused: AllocError) -> EmbeddedFault {
+        EmbeddedFault::Memory
+    }
+}
+
+impl<T: Drop> From<AllocFailed<T>> for EmbeddedFault {
+    ghost from_gives = { λ _ e. e ≡ faults.Memory };
+
+    fn from(_refused: AllocFailed<T>) -> EmbeddedFault {
+        EmbeddedFault::Memory
+    }
+}

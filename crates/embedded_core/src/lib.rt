@@ -1,0 +1,12 @@
+//! What a program in another language holds: a strategy, a set, a version of it, a session in either role and profile.
+#![tactic(auto)]
+
+mod any_session;
+mod fault;
+mod set;
+mod strategy;
+
+pub use any_session::{AnySession, Opening, WireProfile};
+pub use fault::EmbeddedFault;
+pub use set::{Set, Version};
+pub use strategy::read_strategy;

@@ -1,0 +1,2 @@
+mod ThingBox
+mod Remade

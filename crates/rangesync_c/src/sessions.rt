@@ -1,0 +1,190 @@
+//! Sessions.
+
+ghost use Rattle.std.specs.Prelude.{◌≡◌, ◌≢◌, ◌≤◌, ◌++◌, true, Ok, Err, IsSomeAnd, IfOk, IfErr, length, take, drop, min};
+ghost use Rattle.embedded_core.specs.SessionStates.{Opens, Changes, PushesTo, Finishes, MakesDue, TakesOff};
+ghost use Rattle.embedded_core.specs.SessionStates.{ready_of, state_in, bound_of, sent_by};
+ghost use Rattle.rangesync_c.specs.Meaning.{IfVersion, IfSession, IsSession, no_version, no_session};
+
+use crate::codes::{FINE, MEMORY, NOT_THERE, OTHER_KIND};
+use crate::held::{Held, Place, Thing, thing_out};
+use core::mem::replace_with;
+use embedded_core::{AnySession, Opening, Version, WireProfile};
+use std::alloc::{AllocError, Global};
+
+/// The role of a number: 0 speaks first, 1 is spoken to first.
+fn opening_of(number: u32) -> Option<Opening> {
+    match number {
+        0 => Some(Opening::Initiator),
+        1 => Some(Opening::Responder),
+        _ => None,
+    }
+}
+
+/// The wire profile of a number, 1 or 2.
+fn profile_of(number: u32) -> Option<WireProfile> {
+    match number {
+        1 => Some(WireProfile::Plain),
+        2 => Some(WireProfile::Counted),
+        _ => None,
+    }
+}
+
+/// The version once more.
+fn version_of(alloc: Global, thing: &Thing) -> Result<Version, u32>
+    ensures version { IfVersion thing.now (λ v. IfOk result (λ w. w ≡ v)) }
+    ensures kind { no_version thing.now ≡ true → IfOk result (λ _. ⊥) }
+{
+    match thing {
+        Thing::Version(version) => match version.copy(alloc) {
+            Ok(version) => Ok(version),
+            Err(_) => Err(MEMORY),
+        },
+        _ => Err(OTHER_KIND),
+    }
+}
+
+/// Opens a session over a version: the role is 0 where it speaks first, 1 where it is spoken to first, and the profile
+/// 1 or 2. 98 for another number, 90.
+#[unsafe(no_mangle)]
+pub extern "C" fn rs_session_open(
+    alloc: Global,
+    version: &mut Held,
+    role: u32,
+    profile: u32,
+    out: &mut Place,
+) -> u32
+    ensures opened { result ≡ 0 → IfVersion version.old.value (λ v. IsSomeAnd out.new.value (λ made.
+        IsSession made (λ s. (opening : _) × (profile : _) × Opens v opening profile s))) }
+    ensures kind { no_version version.old.value ≡ true → result ≢ 0 }
+    ensures failed { result ≢ 0 → out.new.value ≡ out.old.value }
+    ensures same { version.new.value ≡ version.old.value }
+{
+    let over = replace_with(version, (), |version, _nothing| {
+        let thing = version.into_thing();
+        let over = version_of(alloc, &thing);
+        (Held::of(thing), over)
+    });
+    let over = match over {
+        Ok(over) => over,
+        Err(code) => return code,
+    };
+    let (Some(opening), Some(profile)) = (opening_of(role), profile_of(profile)) else {
+        return NOT_THERE;
+    };
+    match AnySession::open(alloc, over, opening, profile) {
+        Ok(session) => thing_out(alloc, Thing::Session(session), out),
+        Err(AllocError) => MEMORY,
+    }
+}
+
+/// Pushes bytes to a session.
+fn push_to(alloc: Global, thing: &mut Thing, bytes: &[u8]) -> Result<usize, u32>
+    ensures pushed { IfOk result (λ n. IfSession thing.old (λ s. IsSession thing.new (λ t.
+        Changes s t (PushesTo (take n bytes.now))))) }
+    ensures took { IfOk result (λ n. n ≤ length bytes.now) }
+    ensures kind { no_session thing.old ≡ true → IfOk result (λ _. ⊥) }
+    ensures failed { IfErr result (λ _. thing.new ≡ thing.old) }
+{
+    let Thing::Session(session) = thing else {
+        return Err(OTHER_KIND);
+    };
+    match session.push(alloc, bytes) {
+        Ok(taken) => Ok(taken),
+        Err(AllocError) => Err(MEMORY),
+    }
+}
+
+/// Pushes bytes of the peer, cut in any way, and says how many were taken: all, unless memory ran out; push the rest
+/// again later. 90 where none was taken, and nothing has changed.
+#[unsafe(no_mangle)]
+pub extern "C" fn rs_session_push(
+    alloc: Global,
+    session: &mut Held,
+    bytes: &[u8],
+    taken: &mut usize,
+) -> u32
+    ensures pushed { result ≡ 0 → IfSession session.old.value (λ s. IsSession session.new.value (λ t.
+        Changes s t (PushesTo (take taken.new bytes.now)))) }
+    ensures took { result ≡ 0 → taken.new ≤ length bytes.now }
+    ensures kind { no_session session.old.value ≡ true → result ≢ 0 }
+    ensures failed { result ≢ 0 → session.new.value ≡ session.old.value }
+{
+    let pushed = replace_with(session, bytes, |session, bytes| {
+        let mut thing = session.into_thing();
+        let pushed = push_to(alloc, thing.as_mut(), bytes);
+        (Held::of(thing), pushed)
+    });
+    match pushed {
+        Ok(count) => {
+            *taken = count;
+            FINE
+        }
+        Err(code) => code,
+    }
+}
+
+/// Says that the bytes of a session's peer have ended.
+fn finish(thing: &mut Thing) -> u32
+    ensures finished { result ≡ 0 → IfSession thing.old (λ s. IsSession thing.new (λ t. Changes s t Finishes)) }
+    ensures kind { no_session thing.old ≡ true → (result ≡ 99) × (thing.new ≡ thing.old) }
+{
+    match thing {
+        Thing::Session(session) => {
+            session.finish();
+            FINE
+        }
+        _ => OTHER_KIND,
+    }
+}
+
+/// Says that the peer's bytes end here: where the session has not ended, it is refused 3.
+#[unsafe(no_mangle)]
+pub extern "C" fn rs_session_finish(session: &mut Held) -> u32
+    ensures finished { result ≡ 0 → IfSession session.old.value (λ s. IsSession session.new.value (λ t.
+        Changes s t Finishes)) }
+    ensures kind { no_session session.old.value ≡ true →
+        (result ≡ 99) × (session.new.value ≡ session.old.value) }
+{
+    replace_with(session, (), |session, _nothing| {
+        let mut thing = session.into_thing();
+        let answer = finish(thing.as_mut());
+        (Held::of(thing), answer)
+    })
+}
+
+/// How a session stands: 0 open, 1 ended, 2 refused by this side, 3 refused by the peer; and the number, or 0.
+fn state_of(thing: &Thing) -> Result<(u32, u32), u32>
+    ensures kind { no_session thing.now ≡ true → IfOk result (λ _. ⊥) }
+{
+    let Thing::Session(session) = thing else {
+        return Err(OTHER_KIND);
+    };
+    Ok(match session.state() {
+        session_core::State::Open => (0, 0),
+        session_core::State::Ended => (1, 0),
+        session_core::State::Refused(code) => (2, u32::from(code)),
+        session_core::State::PeerRefused(code) => (3, u32::from(code)),
+    })
+}
+
+/// Says how a session stands: 0 open, 1 ended, 2 refused by this side, 3 refused by the peer; and the number of the
+/// refusal, or 0.
+#[unsafe(no_mangle)]
+pub extern "C" fn rs_session_state(session: &mut Held, state: &mut u32, code: &mut u32) -> u32
+    ensures kind { no_session session.old.value ≡ true → result ≢ 0 }
+    ensures same { session.new.value ≡ session.old.value }
+{
+    let stands = replace_with(session, (), |session, _nothing| {
+        let thing = session.into_thing();
+        let stands = state_of(&thing);
+        (Held::of(thing), stands)
+    });
+    match stands {
+        Ok((number, refusal)) => {
+            *state = number;
+            *code = refusal;
+            FINE
+        }
+        Err(code) => code,
+    }
+}

@@ -1,0 +1,164 @@
+//! Sets of items.
+
+ghost use Rattle.std.specs.Prelude.{◌≡◌, ◌≢◌, true, Ok, Err, IsSomeAnd, IfOk, IfErr, length};
+ghost use Rattle.embedded_core.specs.SetStates.{newest, with_item};
+ghost use Rattle.rangesync_c.specs.Meaning.{IfStrategy, IfSet, IsSet, IsVersion, no_strategy, no_set};
+
+use crate::codes::{FINE, MEMORY, NOT_THERE, OTHER_KIND};
+use crate::held::{Held, Place, Thing, thing_out};
+use crate::strategies::strategy_at;
+use core::mem::replace_with;
+use embedded_core::{Set, Version};
+use item_core::Item;
+use settings_core::ItemForm;
+use std::alloc::Global;
+
+/// The form of an item file's text: 0 for hex, 1 for text lines.
+fn form_of(number: u32) -> Option<ItemForm> {
+    match number {
+        0 => Some(ItemForm::Hex),
+        1 => Some(ItemForm::Text),
+        _ => None,
+    }
+}
+
+/// Makes a set of the items of an item file's text, which may be empty. The form is 0 for hex, 1 for text lines. 81
+/// where a line is no item, 82 where there are more different items than the strategy's cap, 90; 98 for another form.
+#[unsafe(no_mangle)]
+pub extern "C" fn rs_set_read(
+    alloc: Global,
+    strategy: &mut Held,
+    form: u32,
+    text: &[u8],
+    out: &mut Place,
+) -> u32
+    ensures read { result ≡ 0 → IfStrategy strategy.old.value (λ a. IsSomeAnd out.new.value (λ made.
+        IsSet made (λ s. s.accepted ≡ a))) }
+    ensures kind { no_strategy strategy.old.value ≡ true → result ≢ 0 }
+    ensures failed { result ≢ 0 → out.new.value ≡ out.old.value }
+    ensures same { strategy.new.value ≡ strategy.old.value }
+{
+    let accepted = match strategy_at(strategy) {
+        Ok(accepted) => accepted,
+        Err(code) => return code,
+    };
+    let Some(form) = form_of(form) else {
+        return NOT_THERE;
+    };
+    match Set::from_text(alloc, accepted, form, text) {
+        Ok(set) => thing_out(alloc, Thing::Set(set), out),
+        Err(fault) => u32::from(fault.number()),
+    }
+}
+
+/// Puts an item into a set.
+fn insert_into(alloc: Global, thing: &mut Thing, bytes: &[u8]) -> Result<bool, u32>
+    ensures new { IfOk result (λ _. IfSet thing.old (λ s. IsSet thing.new (λ t. t ≡ with_item s bytes.now))) }
+    ensures kind { no_set thing.old ≡ true → IfOk result (λ _. ⊥) }
+    ensures failed { IfErr result (λ _. thing.new ≡ thing.old) }
+{
+    let Thing::Set(set) = thing else {
+        return Err(OTHER_KIND);
+    };
+    let item = match Item::new(bytes) {
+        Ok(item) => item,
+        Err(fault) => return Err(u32::from(fault.number())),
+    };
+    match set.insert(alloc, item) {
+        Ok(is_new) => Ok(is_new),
+        Err(fault) => Err(u32::from(fault.number())),
+    }
+}
+
+/// Puts an item into a set, and says whether it is new. 71 for no bytes, 72 for more than 64, 40 where the set is full,
+/// 90; then nothing has changed.
+#[unsafe(no_mangle)]
+pub extern "C" fn rs_set_insert(
+    alloc: Global,
+    set: &mut Held,
+    bytes: &[u8],
+    is_new: &mut bool,
+) -> u32
+    ensures new { result ≡ 0 → IfSet set.old.value (λ s. IsSet set.new.value (λ t. t ≡ with_item s bytes.now)) }
+    ensures kind { no_set set.old.value ≡ true → result ≢ 0 }
+    ensures failed { result ≢ 0 → set.new.value ≡ set.old.value }
+{
+    let inserted = replace_with(set, bytes, |set, bytes| {
+        let mut thing = set.into_thing();
+        let inserted = insert_into(alloc, thing.as_mut(), bytes);
+        (Held::of(thing), inserted)
+    });
+    match inserted {
+        Ok(answer) => {
+            *is_new = answer;
+            FINE
+        }
+        Err(code) => code,
+    }
+}
+
+/// How many items a set has.
+fn count_of(thing: &Thing) -> Result<usize, u32>
+    ensures count { IfSet thing.now (λ s. result ≡ Ok (length s.history)) }
+    ensures kind { no_set thing.now ≡ true → result ≡ Err 99 }
+{
+    match thing {
+        Thing::Set(set) => Ok(set.count()),
+        _ => Err(OTHER_KIND),
+    }
+}
+
+/// Says how many items a set has, which is the number of its newest version.
+#[unsafe(no_mangle)]
+pub extern "C" fn rs_set_count(set: &mut Held, count: &mut usize) -> u32
+    ensures count { IfSet set.old.value (λ s. (result ≡ 0) × (count.new ≡ length s.history)) }
+    ensures kind { no_set set.old.value ≡ true → (result ≡ 99) × (count.new ≡ count.old) }
+    ensures same { set.new.value ≡ set.old.value }
+{
+    let counted = replace_with(set, (), |set, _nothing| {
+        let thing = set.into_thing();
+        let counted = count_of(&thing);
+        (Held::of(thing), counted)
+    });
+    match counted {
+        Ok(number) => {
+            *count = number;
+            FINE
+        }
+        Err(code) => code,
+    }
+}
+
+/// The newest version of a set.
+fn version_of(alloc: Global, thing: &Thing) -> Result<Version, u32>
+    ensures version { IfSet thing.now (λ s. IfOk result (λ v. v ≡ newest s)) }
+    ensures kind { no_set thing.now ≡ true → IfOk result (λ _. ⊥) }
+{
+    match thing {
+        Thing::Set(set) => match set.version(alloc) {
+            Ok(version) => Ok(version),
+            Err(_) => Err(MEMORY),
+        },
+        _ => Err(OTHER_KIND),
+    }
+}
+
+/// Makes a handle of the newest version of a set, which stays as it is. It may be given to another thread.
+#[unsafe(no_mangle)]
+pub extern "C" fn rs_set_share(alloc: Global, set: &mut Held, out: &mut Place) -> u32
+    ensures version { result ≡ 0 → IfSet set.old.value (λ s. IsSomeAnd out.new.value (λ made.
+        IsVersion made (λ v. v ≡ newest s))) }
+    ensures kind { no_set set.old.value ≡ true → result ≢ 0 }
+    ensures failed { result ≢ 0 → out.new.value ≡ out.old.value }
+    ensures same { set.new.value ≡ set.old.value }
+{
+    let version = replace_with(set, (), |set, _nothing| {
+        let thing = set.into_thing();
+        let version = version_of(alloc, &thing);
+        (Held::of(thing), version)
+    });
+    match version {
+        Ok(version) => thing_out(alloc, Thing::Version(version), out),
+        Err(code) => code,
+    }
+}
