@@ -2,7 +2,7 @@
 -- session's own profile.
 --     Opens v opening profile s      a session over a version, in this role and profile, to which nothing was pushed
 --     Changes s t R                  both are of one role and profile, and R holds of them
---     PushesTo bytes, Finishes, MakesDue, TakesOff count     what calls make of a session
+--     PushesTo bytes, Finishes, MakesDue, TakesOff count, Pulls bytes     what calls make of a session
 --     ready_of, state_in, bound_of, sent_by, learned_in      what is told of it
 use Rattle.std.specs.Prelude.{◌≡◌, ℕ, ◌+◌, ◌≤◌, true, false, List, [], length, take}
 use Rattle.definitions.specs.Fingerprints.{Summary, Lanes, Counted, two_lanes, counted_lanes}
@@ -68,6 +68,10 @@ MakesDue F S W c d = Takes S W c [] d × (d.talk.outbox.ready ≡ due W c.talk)
 
 abbrev pub TakesOff : ℕ → Relation
 TakesOff count F S W c d = Takes S W c (take count c.talk.outbox.ready) d
+
+-- these bytes were taken off what is due
+abbrev pub Pulls : List ℕ → Relation
+Pulls bytes F S W c d = Takes S W c bytes d
 
 abbrev pub Opens : VersionState → Opening → WireProfile → AnySession → Type 0
 Opens v openings.Initiator profiles.Plain s = IsFirst s (λ c.

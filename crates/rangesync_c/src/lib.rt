@@ -4,6 +4,7 @@
 
 mod codes;
 mod held;
+mod learned;
 mod sessions;
 mod sets;
 mod strategies;

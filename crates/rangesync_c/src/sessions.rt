@@ -1,7 +1,7 @@
 //! Sessions.
 
-ghost use Rattle.std.specs.Prelude.{◌≡◌, ◌≢◌, ◌≤◌, ◌++◌, true, Ok, Err, IsSomeAnd, IfOk, IfErr, length, take, drop, min};
-ghost use Rattle.embedded_core.specs.SessionStates.{Opens, Changes, PushesTo, Finishes, MakesDue, TakesOff};
+ghost use Rattle.std.specs.Prelude.{◌≡◌, ◌≢◌, ◌≤◌, ◌⊎◌, true, IsSomeAnd, IfOk, IfErr, length, take, drop, min};
+ghost use Rattle.embedded_core.specs.SessionStates.{Opens, Changes, PushesTo, Finishes, MakesDue, TakesOff, Pulls};
 ghost use Rattle.embedded_core.specs.SessionStates.{ready_of, state_in, bound_of, sent_by};
 ghost use Rattle.rangesync_c.specs.Meaning.{IfVersion, IfSession, IsSession, no_version, no_session};
 
@@ -183,6 +183,108 @@ pub extern "C" fn rs_session_state(session: &mut Held, state: &mut u32, code: &m
         Ok((number, refusal)) => {
             *state = number;
             *code = refusal;
+            FINE
+        }
+        Err(code) => code,
+    }
+}
+
+/// Makes the text of what is due, and copies the front of it.
+fn front_of(alloc: Global, thing: &mut Thing, most: usize) -> Result<Vec<u8>, u32>
+    ensures front { IfOk result (λ front. IfSession thing.old (λ s. IsSession thing.new (λ t.
+        Changes s t MakesDue × (front.items ≡ take most (ready_of t))))) }
+    ensures kind { no_session thing.old ≡ true → IfOk result (λ _. ⊥) }
+    ensures failed { IfErr result (λ _. (thing.new ≡ thing.old)
+        ⊎ IfSession thing.old (λ s. IsSession thing.new (λ t. Changes s t MakesDue))) }
+{
+    let Thing::Session(session) = thing else {
+        return Err(OTHER_KIND);
+    };
+    let Ok(()) = session.make_due(alloc) else {
+        return Err(MEMORY);
+    };
+    let due = session.due();
+    match Vec::from_slice(alloc, &due[..due.len().min(most)]) {
+        Ok(front) => Ok(front),
+        Err(_) => Err(MEMORY),
+    }
+}
+
+/// Takes so many bytes off what is due.
+fn take_off(thing: &mut Thing, count: usize)
+    ensures { IfSession thing.old (λ s. IsSession thing.new (λ t.
+        Changes s t (TakesOff (min count (length (ready_of s)))))) }
+    ensures kind { no_session thing.old ≡ true → thing.new ≡ thing.old }
+{
+    if let Thing::Session(session) = thing {
+        let _taken = session.take(count);
+    }
+}
+
+/// Moves bytes that are due to the peer to `room`, as many as fit, and says how many. 90 where memory ran out, and no
+/// byte was moved.
+#[unsafe(no_mangle)]
+pub extern "C" fn rs_session_pull(
+    alloc: Global,
+    session: &mut Held,
+    room: &mut [u8],
+    used: &mut usize,
+) -> u32
+    ensures pulled { result ≡ 0 → IfSession session.old.value (λ s. IsSession session.new.value (λ t.
+        Changes s t (Pulls (take used.new room.new)))) }
+    ensures few { result ≡ 0 → used.new ≤ length room.old }
+    ensures rest { drop used.new room.new ≡ drop used.new room.old }
+    ensures kind { no_session session.old.value ≡ true → result ≢ 0 }
+    ensures failed { result ≢ 0 → room.new ≡ room.old }
+{
+    let most = room.len();
+    let front = replace_with(session, most, |session, most| {
+        let mut thing = session.into_thing();
+        let front = front_of(alloc, thing.as_mut(), most);
+        (Held::of(thing), front)
+    });
+    let front = match front {
+        Ok(front) => front,
+        Err(code) => return code,
+    };
+    room[..front.len()].copy_from_slice(&front);
+    *used = front.len();
+    replace_with(session, front.len(), |session, count| {
+        let mut thing = session.into_thing();
+        take_off(thing.as_mut(), count);
+        (Held::of(thing), ())
+    });
+    FINE
+}
+
+/// How many messages a session said, and how many it says at most.
+fn messages_of(thing: &Thing) -> Result<(u32, u32), u32>
+    ensures sent { IfSession thing.now (λ s. IfOk result (λ n. (n.0 ≡ sent_by s) × (n.1 ≡ bound_of s))) }
+    ensures kind { no_session thing.now ≡ true → IfOk result (λ _. ⊥) }
+{
+    match thing {
+        Thing::Session(session) => Ok((session.sent(), session.bound())),
+        _ => Err(OTHER_KIND),
+    }
+}
+
+/// Says how many messages a session said, and how many it says at most, whatever comes.
+#[unsafe(no_mangle)]
+pub extern "C" fn rs_session_messages(session: &mut Held, sent: &mut u32, bound: &mut u32) -> u32
+    ensures sent { result ≡ 0 → IfSession session.old.value (λ s.
+        (sent.new ≡ sent_by s) × (bound.new ≡ bound_of s)) }
+    ensures kind { no_session session.old.value ≡ true → result ≢ 0 }
+    ensures same { session.new.value ≡ session.old.value }
+{
+    let messages = replace_with(session, (), |session, _nothing| {
+        let thing = session.into_thing();
+        let messages = messages_of(&thing);
+        (Held::of(thing), messages)
+    });
+    match messages {
+        Ok((said, most)) => {
+            *sent = said;
+            *bound = most;
             FINE
         }
         Err(code) => code,

@@ -1,0 +1,90 @@
+/* Two sets of this process find out their differences: example STRATEGY LEFT RIGHT, by the paths of a strategy file and
+ * of two item files in hex. Prints what sync prints of the side of LEFT. */
+#include "rangesync.h"
+#include <stdio.h>
+#include <stdlib.h>
+
+static void must(uint32_t number, const char *what) {
+    if (number != 0) {
+        fprintf(stderr, "%s: refused %u\n", what, number);
+        exit(1);
+    }
+}
+
+/* The bytes of a file, which are never given back. */
+static uint8_t *read_all(const char *path, size_t *length) {
+    FILE *file = fopen(path, "rb");
+    size_t room = 1 << 24;
+    uint8_t *bytes = malloc(room);
+    if (file == NULL || bytes == NULL) {
+        perror(path);
+        exit(3);
+    }
+    *length = fread(bytes, 1, room, file);
+    fclose(file);
+    return bytes;
+}
+
+/* A session over the items of a file. */
+static rs_handle open_over(rs_handle *strategy, const char *path, uint32_t role) {
+    rs_handle set, version, session;
+    size_t length;
+    uint8_t *lines = read_all(path, &length);
+    must(rs_set_read(strategy, RS_HEX, lines, length, &set), path);
+    must(rs_set_share(&set, &version), path);
+    must(rs_session_open(&version, role, 1, &session), path);
+    rs_free(set);
+    rs_free(version);
+    free(lines);
+    return session;
+}
+
+/* Moves all that is due of one session to the other, and says how many bytes these were. */
+static size_t pass(rs_handle *from, rs_handle *to) {
+    uint8_t room[65536];
+    size_t used, taken, all = 0;
+    do {
+        must(rs_session_pull(from, room, sizeof room, &used), "pull");
+        must(rs_session_push(to, room, used, &taken), "push");
+        all += taken;
+    } while (used > 0);
+    return all;
+}
+
+static void print_items(rs_handle *session, const char *word, size_t count,
+                        uint32_t (*item)(rs_handle *, size_t, uint8_t *, size_t, size_t *)) {
+    for (size_t place = 0; place < count; place++) {
+        uint8_t bytes[64];
+        size_t used;
+        must(item(session, place, bytes, sizeof bytes, &used), word);
+        printf("%s ", word);
+        for (size_t at = 0; at < used; at++) printf("%02x", bytes[at]);
+        printf("\n");
+    }
+}
+
+int main(int count, char **words) {
+    if (count != 4) {
+        fprintf(stderr, "usage: example STRATEGY LEFT RIGHT\n");
+        return 2;
+    }
+    size_t length, ours, theirs;
+    uint32_t sent, bound;
+    rs_handle strategy;
+    uint8_t *text = read_all(words[1], &length);
+    must(rs_strategy_read(text, length, &strategy), words[1]);
+    free(text);
+    rs_handle left = open_over(&strategy, words[2], RS_FIRST);
+    rs_handle right = open_over(&strategy, words[3], RS_SECOND);
+    rs_free(strategy);
+    while (pass(&left, &right) + pass(&right, &left) > 0) {
+    }
+    must(rs_session_messages(&left, &sent, &bound), "messages");
+    must(rs_session_learned(&left, &ours, &theirs), "learned");
+    printf("sent %u of %u\n", sent, bound);
+    print_items(&left, "ours", ours, rs_session_ours);
+    print_items(&left, "theirs", theirs, rs_session_theirs);
+    rs_free(left);
+    rs_free(right);
+    return 0;
+}

@@ -1,0 +1,114 @@
+/* One side of a rangesync session, in this process.
+ *
+ * A program keeps a set of items, and opens sessions over versions of it. A session takes the bytes that came from its
+ * peer, cut in any way, and gives the bytes that are due to it: the program moves them, over a socket or whatever it
+ * has. Once a session has ended it tells the items that only one of the sides has.
+ *
+ *     rs_handle strategy, set, version, session;
+ *     rs_strategy_read(text, text_length, &strategy);          a strategy file, as examples/all-round.toml
+ *     rs_set_read(&strategy, RS_HEX, lines, lines_length, &set);
+ *     rs_set_share(&set, &version);                            the set as it is now
+ *     rs_session_open(&version, RS_FIRST, 1, &session);
+ *     rs_session_pull(&session, room, sizeof room, &used);     and send these bytes
+ *     rs_session_push(&session, came, came_length, &taken);    bytes that came
+ *
+ * Handles. A handle is a struct of one pointer, which the library owns. A call that makes one writes it to *out, and
+ * only where it returns 0. Each handle is given back once, by rs_free, in any order: a session keeps what it needs of
+ * its version, its set and its strategy.
+ *
+ * What is proved of these functions rests on the caller for this, and for nothing else:
+ *   - each pointer is valid for what it is used for, and none is NULL, also where the length beside it is 0;
+ *   - each handle was made by a call that returned 0, and was not given back;
+ *   - one call at a time uses a handle, and no call is given one handle twice. Between calls a handle may move to
+ *     another thread. Threads that share a set each take a version of it (rs_set_share).
+ *
+ * Each function returns 0, or a number, and then changes nothing, but where it says so:
+ *   30 to 35  a text is no strategy          36 to 38  a strategy is not accepted
+ *   40        a set has as many items as its strategy's cap
+ *   71, 72    an item has no byte, or more than 64
+ *   81, 82    a line is no item, or there are more different items than the cap
+ *   90        memory ran out
+ *   98        there is no such thing, or no room for it
+ *   99        the handle is of another kind
+ * docs/PROTOCOL.md has the numbers by which a session is refused (rs_session_state).
+ */
+#ifndef RANGESYNC_H
+#define RANGESYNC_H
+#include <stdbool.h>
+#include <stddef.h>
+#include <stdint.h>
+#ifdef __cplusplus
+extern "C" {
+#endif
+
+/* A strategy, a set, a version of a set, or a session. */
+typedef struct rs_handle {
+    void *at;
+} rs_handle;
+
+/* The form of an item file: a line is an item in hex, or as it stands. */
+enum { RS_HEX = 0, RS_TEXT = 1 };
+
+/* The role of a session: it speaks first, or its peer does. */
+enum { RS_FIRST = 0, RS_SECOND = 1 };
+
+/* How a session stands. */
+enum { RS_OPEN = 0, RS_ENDED = 1, RS_REFUSED = 2, RS_PEER_REFUSED = 3 };
+
+/* Reads a strategy, a text in TOML, and checks that sessions under it end. 30 to 38, 90. */
+uint32_t rs_strategy_read(const uint8_t *text, size_t length, rs_handle *out);
+
+/* Makes a set of the items of an item file's text, which may be empty. 81, 82, 90, 98 (another form), 99. */
+uint32_t rs_set_read(rs_handle *strategy, uint32_t form, const uint8_t *text, size_t length, rs_handle *out);
+
+/* Puts an item in, and says whether it is new. Versions that were taken before stay as they are. 40, 71, 72, 90, 99. */
+uint32_t rs_set_insert(rs_handle *set, const uint8_t *item, size_t length, bool *is_new);
+
+/* Says how many items a set has. 99. */
+uint32_t rs_set_count(rs_handle *set, size_t *count);
+
+/* Makes a handle of the newest version of a set, which stays as it is. 90, 99. */
+uint32_t rs_set_share(rs_handle *set, rs_handle *out);
+
+/* Says how many items a version has. 99. */
+uint32_t rs_version_count(rs_handle *version, size_t *count);
+
+/* Says whether a version has an item. 71, 72, 99. */
+uint32_t rs_version_has(rs_handle *version, const uint8_t *item, size_t length, bool *found);
+
+/* Opens a session over a version, in a role and in wire profile 1 or 2. 90, 98 (another role or profile), 99. */
+uint32_t rs_session_open(rs_handle *version, uint32_t role, uint32_t profile, rs_handle *out);
+
+/* Takes bytes of the peer, cut in any way, and says how many it took: all, unless memory ran out; push the rest again
+ * later. What comes after the end of a session, or after a refusal, counts no more. 90 (it took none), 99. */
+uint32_t rs_session_push(rs_handle *session, const uint8_t *bytes, size_t length, size_t *taken);
+
+/* Says that the peer's bytes end here: a session that has not ended is refused 3. 99. */
+uint32_t rs_session_finish(rs_handle *session);
+
+/* Moves bytes that are due to the peer to `room`, as many as fit, and says how many: none where none are due. Send them
+ * all, also where the session has ended or is refused. 90 (it moved none), 99. */
+uint32_t rs_session_pull(rs_handle *session, uint8_t *room, size_t length, size_t *used);
+
+/* Says how a session stands, and the number by which it is refused, or 0. 99. */
+uint32_t rs_session_state(rs_handle *session, uint32_t *state, uint32_t *code);
+
+/* Says how many messages a session said, and how many it says at most, whatever comes. 99. */
+uint32_t rs_session_messages(rs_handle *session, uint32_t *sent, uint32_t *bound);
+
+/* Says how many items were learned that only this side has, and how many that only the other side has. 98 (the session
+ * has not ended), 99. */
+uint32_t rs_session_learned(rs_handle *session, size_t *ours, size_t *theirs);
+
+/* Writes one of these items, by its place from 0, and says its length, which is at most 64. 98 (there is none, or no
+ * room for it), 99. */
+uint32_t rs_session_ours(rs_handle *session, size_t place, uint8_t *room, size_t length, size_t *used);
+uint32_t rs_session_theirs(rs_handle *session, size_t place, uint8_t *room, size_t length, size_t *used);
+
+/* Gives a handle of any kind back. */
+void rs_free(rs_handle handle);
+
+#ifdef __cplusplus
+}
+#endif
+#endif

@@ -1,0 +1,152 @@
+//! What a session learned.
+
+ghost use Rattle.std.specs.Prelude.{◌≡◌, ◌≢◌, true, Some, IfOk, length, take, slice_get};
+ghost use Rattle.embedded_core.specs.SessionStates.{learned_in};
+ghost use Rattle.rangesync_c.specs.Meaning.{IfSession, no_session};
+
+use crate::codes::{FINE, NOT_THERE, OTHER_KIND};
+use crate::held::{Held, Thing};
+use core::mem::replace_with;
+use item_core::Item;
+
+/// How many items were learned that only this side has, and how many that only the other side has.
+fn counts_of(thing: &Thing) -> Result<(usize, usize), u32>
+    ensures counts { IfSession thing.now (λ s. IfOk result (λ n.
+        (n.0 ≡ length (learned_in s).ours) × (n.1 ≡ length (learned_in s).theirs))) }
+    ensures kind { no_session thing.now ≡ true → IfOk result (λ _. ⊥) }
+{
+    let Thing::Session(session) = thing else {
+        return Err(OTHER_KIND);
+    };
+    match session.learned() {
+        Some(learned) => Ok((learned.ours().len(), learned.theirs().len())),
+        None => Err(NOT_THERE),
+    }
+}
+
+/// Says how many items were learned that only this side has, and how many that only the other side has. 98 where the
+/// session has not ended.
+#[unsafe(no_mangle)]
+pub extern "C" fn rs_session_learned(
+    session: &mut Held,
+    ours: &mut usize,
+    theirs: &mut usize,
+) -> u32
+    ensures counts { result ≡ 0 → IfSession session.old.value (λ s.
+        (ours.new ≡ length (learned_in s).ours) × (theirs.new ≡ length (learned_in s).theirs)) }
+    ensures kind { no_session session.old.value ≡ true → result ≢ 0 }
+    ensures same { session.new.value ≡ session.old.value }
+{
+    let counts = replace_with(session, (), |session, _nothing| {
+        let thing = session.into_thing();
+        let counts = counts_of(&thing);
+        (Held::of(thing), counts)
+    });
+    match counts {
+        Ok((own, other)) => {
+            *ours = own;
+            *theirs = other;
+            FINE
+        }
+        Err(code) => code,
+    }
+}
+
+/// The item at this place among those that only this side has.
+fn own_at(thing: &Thing, place: usize) -> Result<Item, u32>
+    ensures item { IfSession thing.now (λ s. IfOk result (λ x. slice_get (learned_in s).ours place ≡ Some x)) }
+    ensures kind { no_session thing.now ≡ true → IfOk result (λ _. ⊥) }
+{
+    let Thing::Session(session) = thing else {
+        return Err(OTHER_KIND);
+    };
+    let Some(learned) = session.learned() else {
+        return Err(NOT_THERE);
+    };
+    match learned.ours().get(place) {
+        Some(item) => Ok(*item),
+        None => Err(NOT_THERE),
+    }
+}
+
+/// The item at this place among those that only the other side has.
+fn other_at(thing: &Thing, place: usize) -> Result<Item, u32>
+    ensures item { IfSession thing.now (λ s. IfOk result (λ x. slice_get (learned_in s).theirs place ≡ Some x)) }
+    ensures kind { no_session thing.now ≡ true → IfOk result (λ _. ⊥) }
+{
+    let Thing::Session(session) = thing else {
+        return Err(OTHER_KIND);
+    };
+    let Some(learned) = session.learned() else {
+        return Err(NOT_THERE);
+    };
+    match learned.theirs().get(place) {
+        Some(item) => Ok(*item),
+        None => Err(NOT_THERE),
+    }
+}
+
+/// Writes an item to the front of the room, and says its length. 98 where there is not that much room.
+fn write_item(item: &Item, room: &mut [u8], used: &mut usize) -> u32
+    ensures written { result ≡ 0 → (used.new ≡ length item.now) × (take used.new room.new ≡ item.now) }
+    ensures failed { result ≢ 0 → room.new ≡ room.old }
+{
+    let bytes = item.bytes();
+    *used = bytes.len();
+    if bytes.len() > room.len() {
+        return NOT_THERE;
+    }
+    room[..bytes.len()].copy_from_slice(bytes);
+    FINE
+}
+
+/// Writes the item at this place, from 0, of those that only this side has, and says its length. 98 where there is
+/// none, where the session has not ended, or where there is no room for it: 64 bytes are enough.
+#[unsafe(no_mangle)]
+pub extern "C" fn rs_session_ours(
+    session: &mut Held,
+    place: usize,
+    room: &mut [u8],
+    used: &mut usize,
+) -> u32
+    ensures item { result ≡ 0 → IfSession session.old.value (λ s.
+        slice_get (learned_in s).ours place ≡ Some (take used.new room.new)) }
+    ensures kind { no_session session.old.value ≡ true → result ≢ 0 }
+    ensures failed { result ≢ 0 → room.new ≡ room.old }
+    ensures same { session.new.value ≡ session.old.value }
+{
+    let found = replace_with(session, place, |session, place| {
+        let thing = session.into_thing();
+        let found = own_at(&thing, place);
+        (Held::of(thing), found)
+    });
+    match found {
+        Ok(item) => write_item(&item, room, used),
+        Err(code) => code,
+    }
+}
+
+/// Writes the item at this place, from 0, of those that only the other side has, as `rs_session_ours` does.
+#[unsafe(no_mangle)]
+pub extern "C" fn rs_session_theirs(
+    session: &mut Held,
+    place: usize,
+    room: &mut [u8],
+    used: &mut usize,
+) -> u32
+    ensures item { result ≡ 0 → IfSession session.old.value (λ s.
+        slice_get (learned_in s).theirs place ≡ Some (take used.new room.new)) }
+    ensures kind { no_session session.old.value ≡ true → result ≢ 0 }
+    ensures failed { result ≢ 0 → room.new ≡ room.old }
+    ensures same { session.new.value ≡ session.old.value }
+{
+    let found = replace_with(session, place, |session, place| {
+        let thing = session.into_thing();
+        let found = other_at(&thing, place);
+        (Held::of(thing), found)
+    });
+    match found {
+        Ok(item) => write_item(&item, room, used),
+        Err(code) => code,
+    }
+}
