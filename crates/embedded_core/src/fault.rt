@@ -1,6 +1,6 @@
 //! Why a call is refused.
 
-ghost use Rattle.std.specs.Prelude.{◌≡◌};
+ghost use Rattle.std.specs.Prelude.{◌≡◌, ◌<◌};
 ghost use Rattle.embedded_core.specs.Faults.{embedded_fault_number, of_strategy, of_check, of_settings, of_log};
 ghost use Rattle.embedded_core.specs.declared.fault.EmbeddedFault.TheVariants as faults;
 
@@ -33,7 +33,8 @@ pub enum EmbeddedFault {
 impl EmbeddedFault {
     /// The number of the refusal.
     pub fn number(self) -> u8
-        ensures { result ≡ embedded_fault_number self }
+        ensures number { result ≡ embedded_fault_number self }
+        ensures above { 0 < result }
     {
         match self {
             EmbeddedFault::Strategy(fault) => fault.number(),

@@ -1,6 +1,6 @@
 //! What a session learned.
 
-ghost use Rattle.std.specs.Prelude.{◌≡◌, ◌≢◌, true, Some, IfOk, length, take, slice_get};
+ghost use Rattle.std.specs.Prelude.{◌≡◌, ◌≢◌, true, Some, IfOk, IfErr, length, take, slice_get};
 ghost use Rattle.embedded_core.specs.SessionStates.{learned_in};
 ghost use Rattle.rangesync_c.specs.Meaning.{IfSession, no_session};
 
@@ -11,6 +11,7 @@ use item_core::Item;
 
 /// How many items were learned that only this side has, and how many that only the other side has.
 fn counts_of(thing: &Thing) -> Result<(usize, usize), u32>
+    ensures number { IfErr result (λ code. code ≢ 0) }
     ensures counts { IfSession thing.now (λ s. IfOk result (λ n.
         (n.0 ≡ length (learned_in s).ours) × (n.1 ≡ length (learned_in s).theirs))) }
     ensures kind { no_session thing.now ≡ true → IfOk result (λ _. ⊥) }
@@ -54,6 +55,7 @@ pub extern "C" fn rs_session_learned(
 
 /// The item at this place among those that only this side has.
 fn own_at(thing: &Thing, place: usize) -> Result<Item, u32>
+    ensures number { IfErr result (λ code. code ≢ 0) }
     ensures item { IfSession thing.now (λ s. IfOk result (λ x. slice_get (learned_in s).ours place ≡ Some x)) }
     ensures kind { no_session thing.now ≡ true → IfOk result (λ _. ⊥) }
 {
@@ -71,6 +73,7 @@ fn own_at(thing: &Thing, place: usize) -> Result<Item, u32>
 
 /// The item at this place among those that only the other side has.
 fn other_at(thing: &Thing, place: usize) -> Result<Item, u32>
+    ensures number { IfErr result (λ code. code ≢ 0) }
     ensures item { IfSession thing.now (λ s. IfOk result (λ x. slice_get (learned_in s).theirs place ≡ Some x)) }
     ensures kind { no_session thing.now ≡ true → IfOk result (λ _. ⊥) }
 {

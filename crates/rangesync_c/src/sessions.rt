@@ -31,6 +31,7 @@ fn profile_of(number: u32) -> Option<WireProfile> {
 
 /// The version once more.
 fn version_of(alloc: Global, thing: &Thing) -> Result<Version, u32>
+    ensures number { IfErr result (λ code. code ≢ 0) }
     ensures version { IfVersion thing.now (λ v. IfOk result (λ w. w ≡ v)) }
     ensures kind { no_version thing.now ≡ true → IfOk result (λ _. ⊥) }
 {
@@ -79,6 +80,7 @@ pub extern "C" fn rs_session_open(
 
 /// Pushes bytes to a session.
 fn push_to(alloc: Global, thing: &mut Thing, bytes: &[u8]) -> Result<usize, u32>
+    ensures number { IfErr result (λ code. code ≢ 0) }
     ensures pushed { IfOk result (λ n. IfSession thing.old (λ s. IsSession thing.new (λ t.
         Changes s t (PushesTo (take n bytes.now))))) }
     ensures took { IfOk result (λ n. n ≤ length bytes.now) }
@@ -154,6 +156,7 @@ pub extern "C" fn rs_session_finish(session: &mut Held) -> u32
 
 /// How a session stands: 0 open, 1 ended, 2 refused by this side, 3 refused by the peer; and the number, or 0.
 fn state_of(thing: &Thing) -> Result<(u32, u32), u32>
+    ensures number { IfErr result (λ code. code ≢ 0) }
     ensures kind { no_session thing.now ≡ true → IfOk result (λ _. ⊥) }
 {
     let Thing::Session(session) = thing else {
@@ -191,6 +194,7 @@ pub extern "C" fn rs_session_state(session: &mut Held, state: &mut u32, code: &m
 
 /// Makes the text of what is due, and copies the front of it.
 fn front_of(alloc: Global, thing: &mut Thing, most: usize) -> Result<Vec<u8>, u32>
+    ensures number { IfErr result (λ code. code ≢ 0) }
     ensures front { IfOk result (λ front. IfSession thing.old (λ s. IsSession thing.new (λ t.
         Changes s t MakesDue × (front.items ≡ take most (ready_of t))))) }
     ensures kind { no_session thing.old ≡ true → IfOk result (λ _. ⊥) }
@@ -212,7 +216,7 @@ fn front_of(alloc: Global, thing: &mut Thing, most: usize) -> Result<Vec<u8>, u3
 
 /// Takes so many bytes off what is due.
 fn take_off(thing: &mut Thing, count: usize)
-    ensures { IfSession thing.old (λ s. IsSession thing.new (λ t.
+    ensures taken { IfSession thing.old (λ s. IsSession thing.new (λ t.
         Changes s t (TakesOff (min count (length (ready_of s)))))) }
     ensures kind { no_session thing.old ≡ true → thing.new ≡ thing.old }
 {
@@ -259,6 +263,7 @@ pub extern "C" fn rs_session_pull(
 
 /// How many messages a session said, and how many it says at most.
 fn messages_of(thing: &Thing) -> Result<(u32, u32), u32>
+    ensures number { IfErr result (λ code. code ≢ 0) }
     ensures sent { IfSession thing.now (λ s. IfOk result (λ n. (n.0 ≡ sent_by s) × (n.1 ≡ bound_of s))) }
     ensures kind { no_session thing.now ≡ true → IfOk result (λ _. ⊥) }
 {

@@ -53,6 +53,7 @@ pub extern "C" fn rs_set_read(
 
 /// Puts an item into a set.
 fn insert_into(alloc: Global, thing: &mut Thing, bytes: &[u8]) -> Result<bool, u32>
+    ensures number { IfErr result (λ code. code ≢ 0) }
     ensures new { IfOk result (λ _. IfSet thing.old (λ s. IsSet thing.new (λ t. t ≡ with_item s bytes.now))) }
     ensures kind { no_set thing.old ≡ true → IfOk result (λ _. ⊥) }
     ensures failed { IfErr result (λ _. thing.new ≡ thing.old) }
@@ -99,6 +100,7 @@ pub extern "C" fn rs_set_insert(
 
 /// How many items a set has.
 fn count_of(thing: &Thing) -> Result<usize, u32>
+    ensures number { IfErr result (λ code. code ≢ 0) }
     ensures count { IfSet thing.now (λ s. result ≡ Ok (length s.history)) }
     ensures kind { no_set thing.now ≡ true → result ≡ Err 99 }
 {
@@ -131,6 +133,7 @@ pub extern "C" fn rs_set_count(set: &mut Held, count: &mut usize) -> u32
 
 /// The newest version of a set.
 fn version_of(alloc: Global, thing: &Thing) -> Result<Version, u32>
+    ensures number { IfErr result (λ code. code ≢ 0) }
     ensures version { IfSet thing.now (λ s. IfOk result (λ v. v ≡ newest s)) }
     ensures kind { no_set thing.now ≡ true → IfOk result (λ _. ⊥) }
 {

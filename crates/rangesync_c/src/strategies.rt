@@ -1,6 +1,6 @@
 //! Strategies.
 
-ghost use Rattle.std.specs.Prelude.{◌≡◌, ◌≢◌, true, Ok, IsSomeAnd, IfOk};
+ghost use Rattle.std.specs.Prelude.{◌≡◌, ◌≢◌, true, Ok, IsSomeAnd, IfOk, IfErr};
 ghost use Rattle.std.specs.Arc.{arc_value};
 ghost use Rattle.embedded_core.specs.Faults as faults;
 ghost use Rattle.rangesync_c.specs.Meaning.{IfStrategy, IsStrategy, no_strategy};
@@ -29,6 +29,7 @@ pub extern "C" fn rs_strategy_read(alloc: Global, text: &[u8], out: &mut Place) 
 
 /// One more owner of a strategy.
 fn owner_of(thing: &Thing) -> Result<Arc<Accepted>, u32>
+    ensures number { IfErr result (λ code. code ≢ 0) }
     ensures owner { IfStrategy thing.now (λ a. IfOk result (λ owner. arc_value owner ≡ a)) }
     ensures kind { no_strategy thing.now ≡ true → IfOk result (λ _. ⊥) }
 {
@@ -43,6 +44,7 @@ fn owner_of(thing: &Thing) -> Result<Arc<Accepted>, u32>
 
 /// One more owner of the strategy that a handle stands for.
 pub(crate) fn strategy_at(strategy: &mut Held) -> Result<Arc<Accepted>, u32>
+    ensures number { IfErr result (λ code. code ≢ 0) }
     ensures owner { IfStrategy strategy.old.value (λ a. IfOk result (λ owner. arc_value owner ≡ a)) }
     ensures kind { no_strategy strategy.old.value ≡ true → IfOk result (λ _. ⊥) }
     ensures same { strategy.new.value ≡ strategy.old.value }

@@ -11,6 +11,7 @@ use item_core::Item;
 
 /// How many items a version has.
 fn count_of(thing: &Thing) -> Result<usize, u32>
+    ensures number { IfErr result (λ code. code ≢ 0) }
     ensures count { IfVersion thing.now (λ v. result ≡ Ok (length v.items)) }
     ensures kind { no_version thing.now ≡ true → result ≡ Err 99 }
 {
@@ -43,6 +44,7 @@ pub extern "C" fn rs_version_count(version: &mut Held, count: &mut usize) -> u32
 
 /// Whether a version has an item.
 fn has_item(thing: &Thing, bytes: &[u8]) -> Result<bool, u32>
+    ensures number { IfErr result (λ code. code ≢ 0) }
     ensures has { IfVersion thing.now (λ v. IfOk result (λ found. found ≡ has v.items bytes.now)) }
     ensures kind { no_version thing.now ≡ true → IfOk result (λ _. ⊥) }
 {
