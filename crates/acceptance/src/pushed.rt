@@ -88,7 +88,10 @@ fn meets_abc(rt: &impl Abort, alloc: Global, most: usize) -> Result<(), Fail> {
     );
     assert_eq!(rt; (first.sent(), second.sent()), (2, 1));
     let learned = first.learned().expect(rt, "ended");
-    assert_eq!(rt; shown_learned(alloc, learned)?.as_str(), "ours - theirs abc");
+    assert_eq!(rt;
+        shown_learned(alloc, learned)?.as_str(),
+        "ours - theirs abc"
+    );
     Ok(())
 }
 

@@ -4,7 +4,7 @@
 --     newest s                       the version of a set that is the newest
 --     IsSetFrom form text a result   what an item file's text gives: the set of its items, or why not
 --     Inserts s x t result           an item was put in, or was there, or there was no room
-use Rattle.std.specs.Prelude.{◌≡◌, ℕ, ◌≤◌, Bool, true, false, List, length, Result, Ok, Err, ⊤}
+use Rattle.std.specs.Prelude.{◌≡◌, ℕ, ◌≤◌, ◌<◌, Bool, true, false, List, length, Result, Ok, Err, ⊤}
 use Rattle.definitions.specs.Items.{Item}
 use Rattle.definitions.specs.Sets.{set_of}
 use Rattle.definitions.specs.Histories.{History, content, opening_history, insertion, history_after}
@@ -49,8 +49,19 @@ abbrev pub Inserts : SetState → Item → SetState → Result Bool EmbeddedFaul
 Inserts s x t (Ok b) = IsAnswer (insertion s.accepted.table.cap s.history x) (Ok b) × (t ≡ with_item s x)
 Inserts s x t (Err f) = IsAnswer (insertion s.accepted.table.cap s.history x) (Err f) × (t ≡ s)
 
+-- a line of the text is no item, or there are more items than the cap; or memory ran out
+abbrev pub IsNoSet : ItemForm → List ℕ → Checked → EmbeddedFault → Type 0
+IsNoSet form text a faults.BadItemLine = (line : ℕ) × (file_items form text ≡ Err line)
+IsNoSet form text a faults.TooManyItems = (items : List Item) × (file_items form text ≡ Ok items)
+    × (a.table.cap < length (set_of items))
+IsNoSet form text a faults.Memory = ⊤
+IsNoSet form text a faults.Full = ⊥
+IsNoSet form text a (faults.Strategy f) = ⊥
+IsNoSet form text a (faults.Check f) = ⊥
+IsNoSet form text a (faults.Length f) = ⊥
+
 -- the items of the text, each once, by writer 0
 abbrev pub IsSetFrom : ItemForm → List ℕ → Checked → Result SetState EmbeddedFault → Type 0
 IsSetFrom form text a (Ok s) = (items : List Item) × (file_items form text ≡ Ok items)
     × (length (set_of items) ≤ a.table.cap) × (s ≡ set_by a (opening_history (set_of items)))
-IsSetFrom form text a (Err f) = ⊤
+IsSetFrom form text a (Err f) = IsNoSet form text a f

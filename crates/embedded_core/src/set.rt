@@ -59,7 +59,7 @@ impl Model for Version {
 }
 
 impl Set {
-    /// A set of the items of an item file's text. Fails with 81 at its first bad line, then with 82 where it has more
+    /// A set of the items of an item file's text. Fails with 81 where a line is no item, then with 82 where it has more
     /// different items than the strategy's cap, and with 90.
     pub fn from_text(
         alloc: Global,

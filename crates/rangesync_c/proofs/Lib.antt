@@ -1,2 +1,3 @@
-mod ThingBox
-mod Remade
+pub mod ThingBox
+pub mod Remade
+pub mod Pulled

@@ -2,11 +2,21 @@
 --     IfStrategy, IfSet, IfVersion, IfSession t P     P holds of it, where the handle stands for one
 --     IsStrategy, IsSet, IsVersion, IsSession t P     the handle stands for one, and P holds of it
 --     no_strategy, no_set, no_version, no_session t   whether it stands for something else
+--     form_number, opening_number, profile_number     the number by which C names a form, a role, a profile
+--     state_number, state_code s                      the numbers by which C is told how a session stands
 use Rattle.std.specs.Prelude.{ℕ, Bool, true, false, List, ⊤}
 use Rattle.std.specs.Arc.{arc_value}
 use Rattle.strategy_check.specs.Checked.{Checked}
 use Rattle.embedded_core.specs.SetStates.{SetState, VersionState}
 use Rattle.embedded_core.specs.declared.any_session.AnySession.{AnySession}
+use Rattle.embedded_core.specs.declared.any_session.Opening.{Opening}
+use Rattle.embedded_core.specs.declared.any_session.Opening.TheVariants as openings
+use Rattle.embedded_core.specs.declared.any_session.WireProfile.{WireProfile}
+use Rattle.embedded_core.specs.declared.any_session.WireProfile.TheVariants as profiles
+use Rattle.session_core.specs.declared.state.State.{State}
+use Rattle.session_core.specs.declared.state.State.TheVariants as states
+use Rattle.settings_core.specs.declared.words.ItemForm.{ItemForm}
+use Rattle.settings_core.specs.declared.words.ItemForm.TheVariants as forms
 use Rattle.rangesync_c.specs.declared.held.Thing.{Thing}
 use Rattle.rangesync_c.specs.declared.held.Thing.TheVariants as things
 
@@ -81,3 +91,28 @@ no_session (things.Strategy x) = true
 no_session (things.Set x) = true
 no_session (things.Version x) = true
 no_session (things.Session x) = false
+
+abbrev pub form_number : ItemForm → ℕ
+form_number forms.Hex = 0
+form_number forms.Text = 1
+
+abbrev pub opening_number : Opening → ℕ
+opening_number openings.Initiator = 0
+opening_number openings.Responder = 1
+
+abbrev pub profile_number : WireProfile → ℕ
+profile_number profiles.Plain = 1
+profile_number profiles.Counted = 2
+
+abbrev pub state_number : State → ℕ
+state_number states.Open = 0
+state_number states.Ended = 1
+state_number (states.Refused code) = 2
+state_number (states.PeerRefused code) = 3
+
+-- the number of a refusal, or 0
+abbrev pub state_code : State → ℕ
+state_code states.Open = 0
+state_code states.Ended = 0
+state_code (states.Refused code) = code
+state_code (states.PeerRefused code) = code

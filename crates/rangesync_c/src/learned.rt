@@ -1,7 +1,8 @@
 //! What a session learned.
 
-ghost use Rattle.std.specs.Prelude.{◌≡◌, ◌≢◌, true, Some, IfOk, IfErr, length, take, slice_get};
-ghost use Rattle.embedded_core.specs.SessionStates.{learned_in};
+ghost use Rattle.std.specs.Prelude.{◌≡◌, ◌≢◌, true, Some, Err, IfOk, IfErr, length, take, slice_get};
+ghost use Rattle.embedded_core.specs.SessionStates.{learned_in, state_in};
+ghost use Rattle.session_core.specs.declared.state.State.TheVariants as states;
 ghost use Rattle.rangesync_c.specs.Meaning.{IfSession, no_session};
 
 use crate::codes::{FINE, NOT_THERE, OTHER_KIND};
@@ -14,7 +15,9 @@ fn counts_of(thing: &Thing) -> Result<(usize, usize), u32>
     ensures number { IfErr result (λ code. code ≢ 0) }
     ensures counts { IfSession thing.now (λ s. IfOk result (λ n.
         (n.0 ≡ length (learned_in s).ours) × (n.1 ≡ length (learned_in s).theirs))) }
-    ensures kind { no_session thing.now ≡ true → IfOk result (λ _. ⊥) }
+    ensures ended { IfOk result (λ _. IfSession thing.now (λ s. state_in s ≡ states.Ended)) }
+    ensures not_yet { IfErr result (λ _. IfSession thing.now (λ s. state_in s ≢ states.Ended)) }
+    ensures kind { no_session thing.now ≡ true → result ≡ Err 99 }
 {
     let Thing::Session(session) = thing else {
         return Err(OTHER_KIND);
@@ -35,7 +38,9 @@ pub extern "C" fn rs_session_learned(
 ) -> u32
     ensures counts { result ≡ 0 → IfSession session.old.value (λ s.
         (ours.new ≡ length (learned_in s).ours) × (theirs.new ≡ length (learned_in s).theirs)) }
-    ensures kind { no_session session.old.value ≡ true → result ≢ 0 }
+    ensures ended { result ≡ 0 → IfSession session.old.value (λ s. state_in s ≡ states.Ended) }
+    ensures not_yet { result ≢ 0 → IfSession session.old.value (λ s. state_in s ≢ states.Ended) }
+    ensures kind { no_session session.old.value ≡ true → result ≡ 99 }
     ensures same { session.new.value ≡ session.old.value }
 {
     let counts = replace_with(session, (), |session, _nothing| {
@@ -57,7 +62,7 @@ pub extern "C" fn rs_session_learned(
 fn own_at(thing: &Thing, place: usize) -> Result<Item, u32>
     ensures number { IfErr result (λ code. code ≢ 0) }
     ensures item { IfSession thing.now (λ s. IfOk result (λ x. slice_get (learned_in s).ours place ≡ Some x)) }
-    ensures kind { no_session thing.now ≡ true → IfOk result (λ _. ⊥) }
+    ensures kind { no_session thing.now ≡ true → result ≡ Err 99 }
 {
     let Thing::Session(session) = thing else {
         return Err(OTHER_KIND);
@@ -75,7 +80,7 @@ fn own_at(thing: &Thing, place: usize) -> Result<Item, u32>
 fn other_at(thing: &Thing, place: usize) -> Result<Item, u32>
     ensures number { IfErr result (λ code. code ≢ 0) }
     ensures item { IfSession thing.now (λ s. IfOk result (λ x. slice_get (learned_in s).theirs place ≡ Some x)) }
-    ensures kind { no_session thing.now ≡ true → IfOk result (λ _. ⊥) }
+    ensures kind { no_session thing.now ≡ true → result ≡ Err 99 }
 {
     let Thing::Session(session) = thing else {
         return Err(OTHER_KIND);
@@ -114,7 +119,7 @@ pub extern "C" fn rs_session_ours(
 ) -> u32
     ensures item { result ≡ 0 → IfSession session.old.value (λ s.
         slice_get (learned_in s).ours place ≡ Some (take used.new room.new)) }
-    ensures kind { no_session session.old.value ≡ true → result ≢ 0 }
+    ensures kind { no_session session.old.value ≡ true → result ≡ 99 }
     ensures failed { result ≢ 0 → room.new ≡ room.old }
     ensures same { session.new.value ≡ session.old.value }
 {
@@ -139,7 +144,7 @@ pub extern "C" fn rs_session_theirs(
 ) -> u32
     ensures item { result ≡ 0 → IfSession session.old.value (λ s.
         slice_get (learned_in s).theirs place ≡ Some (take used.new room.new)) }
-    ensures kind { no_session session.old.value ≡ true → result ≢ 0 }
+    ensures kind { no_session session.old.value ≡ true → result ≡ 99 }
     ensures failed { result ≢ 0 → room.new ≡ room.old }
     ensures same { session.new.value ≡ session.old.value }
 {

@@ -1,9 +1,11 @@
 //! Sessions.
 
-ghost use Rattle.std.specs.Prelude.{◌≡◌, ◌≢◌, ◌≤◌, ◌⊎◌, true, IsSomeAnd, IfOk, IfErr, length, take, drop, min};
+ghost use Rattle.std.specs.Prelude.{◌≡◌, ◌≢◌, ◌≤◌, ◌⊎◌, true, Err, IsSomeAnd, IfOk, IfErr, IfSome};
+ghost use Rattle.std.specs.Prelude.{length, take, drop, min};
 ghost use Rattle.embedded_core.specs.SessionStates.{Opens, Changes, PushesTo, Finishes, MakesDue, TakesOff, Pulls};
 ghost use Rattle.embedded_core.specs.SessionStates.{ready_of, state_in, bound_of, sent_by};
 ghost use Rattle.rangesync_c.specs.Meaning.{IfVersion, IfSession, IsSession, no_version, no_session};
+ghost use Rattle.rangesync_c.specs.Meaning.{opening_number, profile_number, state_number, state_code};
 
 use crate::codes::{FINE, MEMORY, NOT_THERE, OTHER_KIND};
 use crate::held::{Held, Place, Thing, thing_out};
@@ -12,7 +14,9 @@ use embedded_core::{AnySession, Opening, Version, WireProfile};
 use std::alloc::{AllocError, Global};
 
 /// The role of a number: 0 speaks first, 1 is spoken to first.
-fn opening_of(number: u32) -> Option<Opening> {
+fn opening_of(number: u32) -> Option<Opening>
+    ensures { IfSome result (λ opening. opening_number opening ≡ number) }
+{
     match number {
         0 => Some(Opening::Initiator),
         1 => Some(Opening::Responder),
@@ -21,7 +25,9 @@ fn opening_of(number: u32) -> Option<Opening> {
 }
 
 /// The wire profile of a number, 1 or 2.
-fn profile_of(number: u32) -> Option<WireProfile> {
+fn profile_of(number: u32) -> Option<WireProfile>
+    ensures { IfSome result (λ profile. profile_number profile ≡ number) }
+{
     match number {
         1 => Some(WireProfile::Plain),
         2 => Some(WireProfile::Counted),
@@ -33,7 +39,7 @@ fn profile_of(number: u32) -> Option<WireProfile> {
 fn version_of(alloc: Global, thing: &Thing) -> Result<Version, u32>
     ensures number { IfErr result (λ code. code ≢ 0) }
     ensures version { IfVersion thing.now (λ v. IfOk result (λ w. w ≡ v)) }
-    ensures kind { no_version thing.now ≡ true → IfOk result (λ _. ⊥) }
+    ensures kind { no_version thing.now ≡ true → result ≡ Err 99 }
 {
     match thing {
         Thing::Version(version) => match version.copy(alloc) {
@@ -55,8 +61,9 @@ pub extern "C" fn rs_session_open(
     out: &mut Place,
 ) -> u32
     ensures opened { result ≡ 0 → IfVersion version.old.value (λ v. IsSomeAnd out.new.value (λ made.
-        IsSession made (λ s. (opening : _) × (profile : _) × Opens v opening profile s))) }
-    ensures kind { no_version version.old.value ≡ true → result ≢ 0 }
+        IsSession made (λ s. (opening : _) × (wire : _) × (opening_number opening ≡ role)
+        × (profile_number wire ≡ profile) × Opens v opening wire s))) }
+    ensures kind { no_version version.old.value ≡ true → result ≡ 99 }
     ensures failed { result ≢ 0 → out.new.value ≡ out.old.value }
     ensures same { version.new.value ≡ version.old.value }
 {
@@ -84,7 +91,7 @@ fn push_to(alloc: Global, thing: &mut Thing, bytes: &[u8]) -> Result<usize, u32>
     ensures pushed { IfOk result (λ n. IfSession thing.old (λ s. IsSession thing.new (λ t.
         Changes s t (PushesTo (take n bytes.now))))) }
     ensures took { IfOk result (λ n. n ≤ length bytes.now) }
-    ensures kind { no_session thing.old ≡ true → IfOk result (λ _. ⊥) }
+    ensures kind { no_session thing.old ≡ true → result ≡ Err 99 }
     ensures failed { IfErr result (λ _. thing.new ≡ thing.old) }
 {
     let Thing::Session(session) = thing else {
@@ -108,7 +115,7 @@ pub extern "C" fn rs_session_push(
     ensures pushed { result ≡ 0 → IfSession session.old.value (λ s. IsSession session.new.value (λ t.
         Changes s t (PushesTo (take taken.new bytes.now)))) }
     ensures took { result ≡ 0 → taken.new ≤ length bytes.now }
-    ensures kind { no_session session.old.value ≡ true → result ≢ 0 }
+    ensures kind { no_session session.old.value ≡ true → result ≡ 99 }
     ensures failed { result ≢ 0 → session.new.value ≡ session.old.value }
 {
     let pushed = replace_with(session, bytes, |session, bytes| {
@@ -157,7 +164,9 @@ pub extern "C" fn rs_session_finish(session: &mut Held) -> u32
 /// How a session stands: 0 open, 1 ended, 2 refused by this side, 3 refused by the peer; and the number, or 0.
 fn state_of(thing: &Thing) -> Result<(u32, u32), u32>
     ensures number { IfErr result (λ code. code ≢ 0) }
-    ensures kind { no_session thing.now ≡ true → IfOk result (λ _. ⊥) }
+    ensures stands { IfSession thing.now (λ s. IfOk result (λ n.
+        (n.0 ≡ state_number (state_in s)) × (n.1 ≡ state_code (state_in s)))) }
+    ensures kind { no_session thing.now ≡ true → result ≡ Err 99 }
 {
     let Thing::Session(session) = thing else {
         return Err(OTHER_KIND);
@@ -174,7 +183,9 @@ fn state_of(thing: &Thing) -> Result<(u32, u32), u32>
 /// refusal, or 0.
 #[unsafe(no_mangle)]
 pub extern "C" fn rs_session_state(session: &mut Held, state: &mut u32, code: &mut u32) -> u32
-    ensures kind { no_session session.old.value ≡ true → result ≢ 0 }
+    ensures stands { result ≡ 0 → IfSession session.old.value (λ s.
+        (state.new ≡ state_number (state_in s)) × (code.new ≡ state_code (state_in s))) }
+    ensures kind { no_session session.old.value ≡ true → result ≡ 99 }
     ensures same { session.new.value ≡ session.old.value }
 {
     let stands = replace_with(session, (), |session, _nothing| {
@@ -197,7 +208,8 @@ fn front_of(alloc: Global, thing: &mut Thing, most: usize) -> Result<Vec<u8>, u3
     ensures number { IfErr result (λ code. code ≢ 0) }
     ensures front { IfOk result (λ front. IfSession thing.old (λ s. IsSession thing.new (λ t.
         Changes s t MakesDue × (front.items ≡ take most (ready_of t))))) }
-    ensures kind { no_session thing.old ≡ true → IfOk result (λ _. ⊥) }
+    ensures few { IfOk result (λ front. length front.items ≤ most) }
+    ensures kind { no_session thing.old ≡ true → result ≡ Err 99 }
     ensures failed { IfErr result (λ _. (thing.new ≡ thing.old)
         ⊎ IfSession thing.old (λ s. IsSession thing.new (λ t. Changes s t MakesDue))) }
 {
@@ -214,6 +226,23 @@ fn front_of(alloc: Global, thing: &mut Thing, most: usize) -> Result<Vec<u8>, u3
     }
 }
 
+/// The same of the session that a handle stands for.
+fn front_at(alloc: Global, session: &mut Held, most: usize) -> Result<Vec<u8>, u32>
+    ensures number { IfErr result (λ code. code ≢ 0) }
+    ensures front { IfOk result (λ front. IfSession session.old.value (λ s. IsSession session.new.value (λ t.
+        Changes s t MakesDue × (front.items ≡ take most (ready_of t))))) }
+    ensures few { IfOk result (λ front. length front.items ≤ most) }
+    ensures kind { no_session session.old.value ≡ true → result ≡ Err 99 }
+    ensures failed { IfErr result (λ _. (session.new.value ≡ session.old.value)
+        ⊎ IfSession session.old.value (λ s. IsSession session.new.value (λ t. Changes s t MakesDue))) }
+{
+    replace_with(session, most, |session, most| {
+        let mut thing = session.into_thing();
+        let front = front_of(alloc, thing.as_mut(), most);
+        (Held::of(thing), front)
+    })
+}
+
 /// Takes so many bytes off what is due.
 fn take_off(thing: &mut Thing, count: usize)
     ensures taken { IfSession thing.old (λ s. IsSession thing.new (λ t.
@@ -223,6 +252,28 @@ fn take_off(thing: &mut Thing, count: usize)
     if let Thing::Session(session) = thing {
         let _taken = session.take(count);
     }
+}
+
+/// The same of the session that a handle stands for.
+fn take_at(session: &mut Held, count: usize)
+    ensures taken { IfSession session.old.value (λ s. IsSession session.new.value (λ t.
+        Changes s t (TakesOff (min count (length (ready_of s)))))) }
+    ensures kind { no_session session.old.value ≡ true → session.new.value ≡ session.old.value }
+{
+    replace_with(session, count, |session, count| {
+        let mut thing = session.into_thing();
+        take_off(thing.as_mut(), count);
+        (Held::of(thing), ())
+    })
+}
+
+/// Copies bytes to the front of the room.
+fn copy_front(front: &[u8], room: &mut [u8])
+    requires { length front.now ≤ length room.old }
+    ensures copied { take (length front.now) room.new ≡ front.now }
+    ensures rest { drop (length front.now) room.new ≡ drop (length front.now) room.old }
+{
+    room[..front.len()].copy_from_slice(front);
 }
 
 /// Moves bytes that are due to the peer to `room`, as many as fit, and says how many. 90 where memory ran out, and no
@@ -238,26 +289,18 @@ pub extern "C" fn rs_session_pull(
         Changes s t (Pulls (take used.new room.new)))) }
     ensures few { result ≡ 0 → used.new ≤ length room.old }
     ensures rest { drop used.new room.new ≡ drop used.new room.old }
-    ensures kind { no_session session.old.value ≡ true → result ≢ 0 }
+    ensures kind { no_session session.old.value ≡ true → result ≡ 99 }
     ensures failed { result ≢ 0 → room.new ≡ room.old }
+    ensures stays { result ≢ 0 → (session.new.value ≡ session.old.value)
+        ⊎ IfSession session.old.value (λ s. IsSession session.new.value (λ t. Changes s t MakesDue)) }
 {
-    let most = room.len();
-    let front = replace_with(session, most, |session, most| {
-        let mut thing = session.into_thing();
-        let front = front_of(alloc, thing.as_mut(), most);
-        (Held::of(thing), front)
-    });
-    let front = match front {
+    let front = match front_at(alloc, session, room.len()) {
         Ok(front) => front,
         Err(code) => return code,
     };
-    room[..front.len()].copy_from_slice(&front);
+    copy_front(&front, room);
     *used = front.len();
-    replace_with(session, front.len(), |session, count| {
-        let mut thing = session.into_thing();
-        take_off(thing.as_mut(), count);
-        (Held::of(thing), ())
-    });
+    take_at(session, front.len());
     FINE
 }
 
@@ -265,7 +308,7 @@ pub extern "C" fn rs_session_pull(
 fn messages_of(thing: &Thing) -> Result<(u32, u32), u32>
     ensures number { IfErr result (λ code. code ≢ 0) }
     ensures sent { IfSession thing.now (λ s. IfOk result (λ n. (n.0 ≡ sent_by s) × (n.1 ≡ bound_of s))) }
-    ensures kind { no_session thing.now ≡ true → IfOk result (λ _. ⊥) }
+    ensures kind { no_session thing.now ≡ true → result ≡ Err 99 }
 {
     match thing {
         Thing::Session(session) => Ok((session.sent(), session.bound())),
@@ -278,7 +321,7 @@ fn messages_of(thing: &Thing) -> Result<(u32, u32), u32>
 pub extern "C" fn rs_session_messages(session: &mut Held, sent: &mut u32, bound: &mut u32) -> u32
     ensures sent { result ≡ 0 → IfSession session.old.value (λ s.
         (sent.new ≡ sent_by s) × (bound.new ≡ bound_of s)) }
-    ensures kind { no_session session.old.value ≡ true → result ≢ 0 }
+    ensures kind { no_session session.old.value ≡ true → result ≡ 99 }
     ensures same { session.new.value ≡ session.old.value }
 {
     let messages = replace_with(session, (), |session, _nothing| {

@@ -1,8 +1,9 @@
 //! Sets of items.
 
-ghost use Rattle.std.specs.Prelude.{◌≡◌, ◌≢◌, true, Ok, Err, IsSomeAnd, IfOk, IfErr, length};
-ghost use Rattle.embedded_core.specs.SetStates.{newest, with_item};
-ghost use Rattle.rangesync_c.specs.Meaning.{IfStrategy, IfSet, IsSet, IsVersion, no_strategy, no_set};
+ghost use Rattle.std.specs.Prelude.{◌≡◌, ◌≢◌, ◌<◌, true, Ok, Err, IsSomeAnd, IfOk, IfErr, IfSome, IfNone, length};
+ghost use Rattle.embedded_core.specs.SetStates.{newest, with_item, IsSetFrom, IsAnswer};
+ghost use Rattle.definitions.specs.Histories.{insertion};
+ghost use Rattle.rangesync_c.specs.Meaning.{IfStrategy, IfSet, IsSet, IsVersion, no_strategy, no_set, form_number};
 
 use crate::codes::{FINE, MEMORY, NOT_THERE, OTHER_KIND};
 use crate::held::{Held, Place, Thing, thing_out};
@@ -14,7 +15,10 @@ use settings_core::ItemForm;
 use std::alloc::Global;
 
 /// The form of an item file's text: 0 for hex, 1 for text lines.
-fn form_of(number: u32) -> Option<ItemForm> {
+fn form_of(number: u32) -> Option<ItemForm>
+    ensures form { IfSome result (λ form. form_number form ≡ number) }
+    ensures none { IfNone result (1 < number) }
+{
     match number {
         0 => Some(ItemForm::Hex),
         1 => Some(ItemForm::Text),
@@ -33,8 +37,8 @@ pub extern "C" fn rs_set_read(
     out: &mut Place,
 ) -> u32
     ensures read { result ≡ 0 → IfStrategy strategy.old.value (λ a. IsSomeAnd out.new.value (λ made.
-        IsSet made (λ s. s.accepted ≡ a))) }
-    ensures kind { no_strategy strategy.old.value ≡ true → result ≢ 0 }
+        IsSet made (λ s. (kind : _) × (form_number kind ≡ form) × IsSetFrom kind text.now a (Ok s)))) }
+    ensures kind { no_strategy strategy.old.value ≡ true → result ≡ 99 }
     ensures failed { result ≢ 0 → out.new.value ≡ out.old.value }
     ensures same { strategy.new.value ≡ strategy.old.value }
 {
@@ -55,7 +59,9 @@ pub extern "C" fn rs_set_read(
 fn insert_into(alloc: Global, thing: &mut Thing, bytes: &[u8]) -> Result<bool, u32>
     ensures number { IfErr result (λ code. code ≢ 0) }
     ensures new { IfOk result (λ _. IfSet thing.old (λ s. IsSet thing.new (λ t. t ≡ with_item s bytes.now))) }
-    ensures kind { no_set thing.old ≡ true → IfOk result (λ _. ⊥) }
+    ensures answer { IfOk result (λ is_new. IfSet thing.old (λ s.
+        IsAnswer (insertion s.accepted.table.cap s.history bytes.now) (Ok is_new))) }
+    ensures kind { no_set thing.old ≡ true → result ≡ Err 99 }
     ensures failed { IfErr result (λ _. thing.new ≡ thing.old) }
 {
     let Thing::Set(set) = thing else {
@@ -81,7 +87,9 @@ pub extern "C" fn rs_set_insert(
     is_new: &mut bool,
 ) -> u32
     ensures new { result ≡ 0 → IfSet set.old.value (λ s. IsSet set.new.value (λ t. t ≡ with_item s bytes.now)) }
-    ensures kind { no_set set.old.value ≡ true → result ≢ 0 }
+    ensures answer { result ≡ 0 → IfSet set.old.value (λ s.
+        IsAnswer (insertion s.accepted.table.cap s.history bytes.now) (Ok is_new.new)) }
+    ensures kind { no_set set.old.value ≡ true → result ≡ 99 }
     ensures failed { result ≢ 0 → set.new.value ≡ set.old.value }
 {
     let inserted = replace_with(set, bytes, |set, bytes| {
@@ -135,7 +143,7 @@ pub extern "C" fn rs_set_count(set: &mut Held, count: &mut usize) -> u32
 fn version_of(alloc: Global, thing: &Thing) -> Result<Version, u32>
     ensures number { IfErr result (λ code. code ≢ 0) }
     ensures version { IfSet thing.now (λ s. IfOk result (λ v. v ≡ newest s)) }
-    ensures kind { no_set thing.now ≡ true → IfOk result (λ _. ⊥) }
+    ensures kind { no_set thing.now ≡ true → result ≡ Err 99 }
 {
     match thing {
         Thing::Set(set) => match set.version(alloc) {
@@ -151,7 +159,7 @@ fn version_of(alloc: Global, thing: &Thing) -> Result<Version, u32>
 pub extern "C" fn rs_set_share(alloc: Global, set: &mut Held, out: &mut Place) -> u32
     ensures version { result ≡ 0 → IfSet set.old.value (λ s. IsSomeAnd out.new.value (λ made.
         IsVersion made (λ v. v ≡ newest s))) }
-    ensures kind { no_set set.old.value ≡ true → result ≢ 0 }
+    ensures kind { no_set set.old.value ≡ true → result ≡ 99 }
     ensures failed { result ≢ 0 → out.new.value ≡ out.old.value }
     ensures same { set.new.value ≡ set.old.value }
 {

@@ -1,6 +1,6 @@
 //! Strategies.
 
-ghost use Rattle.std.specs.Prelude.{◌≡◌, ◌≢◌, true, Ok, IsSomeAnd, IfOk, IfErr};
+ghost use Rattle.std.specs.Prelude.{◌≡◌, ◌≢◌, true, Ok, Err, IsSomeAnd, IfOk, IfErr};
 ghost use Rattle.std.specs.Arc.{arc_value};
 ghost use Rattle.embedded_core.specs.Faults as faults;
 ghost use Rattle.rangesync_c.specs.Meaning.{IfStrategy, IsStrategy, no_strategy};
@@ -31,7 +31,7 @@ pub extern "C" fn rs_strategy_read(alloc: Global, text: &[u8], out: &mut Place) 
 fn owner_of(thing: &Thing) -> Result<Arc<Accepted>, u32>
     ensures number { IfErr result (λ code. code ≢ 0) }
     ensures owner { IfStrategy thing.now (λ a. IfOk result (λ owner. arc_value owner ≡ a)) }
-    ensures kind { no_strategy thing.now ≡ true → IfOk result (λ _. ⊥) }
+    ensures kind { no_strategy thing.now ≡ true → result ≡ Err 99 }
 {
     match thing {
         Thing::Strategy(accepted) => match Arc::try_clone(accepted) {
@@ -46,7 +46,7 @@ fn owner_of(thing: &Thing) -> Result<Arc<Accepted>, u32>
 pub(crate) fn strategy_at(strategy: &mut Held) -> Result<Arc<Accepted>, u32>
     ensures number { IfErr result (λ code. code ≢ 0) }
     ensures owner { IfStrategy strategy.old.value (λ a. IfOk result (λ owner. arc_value owner ≡ a)) }
-    ensures kind { no_strategy strategy.old.value ≡ true → IfOk result (λ _. ⊥) }
+    ensures kind { no_strategy strategy.old.value ≡ true → result ≡ Err 99 }
     ensures same { strategy.new.value ≡ strategy.old.value }
 {
     replace_with(strategy, (), |strategy, _nothing| {

@@ -46,7 +46,7 @@ pub extern "C" fn rs_version_count(version: &mut Held, count: &mut usize) -> u32
 fn has_item(thing: &Thing, bytes: &[u8]) -> Result<bool, u32>
     ensures number { IfErr result (λ code. code ≢ 0) }
     ensures has { IfVersion thing.now (λ v. IfOk result (λ found. found ≡ has v.items bytes.now)) }
-    ensures kind { no_version thing.now ≡ true → IfOk result (λ _. ⊥) }
+    ensures kind { no_version thing.now ≡ true → result ≡ Err 99 }
 {
     let Thing::Version(version) = thing else {
         return Err(OTHER_KIND);
@@ -61,7 +61,7 @@ fn has_item(thing: &Thing, bytes: &[u8]) -> Result<bool, u32>
 #[unsafe(no_mangle)]
 pub extern "C" fn rs_version_has(version: &mut Held, bytes: &[u8], found: &mut bool) -> u32
     ensures has { result ≡ 0 → IfVersion version.old.value (λ v. found.new ≡ has v.items bytes.now) }
-    ensures kind { no_version version.old.value ≡ true → result ≢ 0 }
+    ensures kind { no_version version.old.value ≡ true → result ≡ 99 }
     ensures same { version.new.value ≡ version.old.value }
 {
     let answer = replace_with(version, bytes, |version, bytes| {

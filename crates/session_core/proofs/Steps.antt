@@ -198,16 +198,16 @@ module _ {F : Type 0} (S : Summary F) (W : Profile F) where
       ∙ sym (append-nil (session_text W (said_to S W s (pushed ++ piece))))
       ∙ ap (λ (l : List ℕ). session_text W (said_to S W s (pushed ++ piece)) ++ l)
       (sym (no-frame-yet d.talk.state (ap (λ (t : TalkState F). is_open t.state) talk ∙ goes)))) where
-    g : Goes S W s c pushed
-    g = goes-of s c pushed taken goes k
+        g : Goes S W s c pushed
+        g = goes-of s c pushed taken goes k
 
-    on : Holds W d.feed (pushed ++ piece) g.events
-    on = subst (Holds W d.feed (pushed ++ piece)) (append-nil g.events)
-        (holds-on laws c.feed d.feed pushed piece g.events [] k.are_bytes more g.holds step)
+        on : Holds W d.feed (pushed ++ piece) g.events
+        on = subst (Holds W d.feed (pushed ++ piece)) (append-nil g.events)
+            (holds-on laws c.feed d.feed pushed piece g.events [] k.are_bytes more g.holds step)
 
-    same : said_to S W s (pushed ++ piece) ≡ said_to S W s pushed
-    same = said-of S W s (pushed ++ piece) g.events (ap (λ (f : Fed F). f.events) on)
-        ∙ sym (said-of S W s pushed g.events (ap (λ (f : Fed F). f.events) g.holds))
+        same : said_to S W s (pushed ++ piece) ≡ said_to S W s pushed
+        same = said-of S W s (pushed ++ piece) g.events (ap (λ (f : Fed F). f.events) on)
+            ∙ sym (said-of S W s pushed g.events (ap (λ (f : Fed F). f.events) g.holds))
 
   -- ---- an event
 
@@ -309,37 +309,37 @@ module _ {F : Type 0} (S : Summary F) (W : Profile F) where
   faulty laws s c d code piece pushed taken live goes more talk over step fault k =
       knows-closed laws s d (pushed ++ piece) taken live fits (ap (λ (t : TalkState F). is_open t.state) talk) lasts
       (refused-text s c d code pushed (pushed ++ piece) taken goes talk same k) where
-    g : Goes S W s c pushed
-    g = goes-of s c pushed taken goes k
+        g : Goes S W s c pushed
+        g = goes-of s c pushed taken goes k
 
-    fits : IsBytes (pushed ++ piece)
-    fits = IsBytes-both pushed piece k.are_bytes more
+        fits : IsBytes (pushed ++ piece)
+        fits = IsBytes-both pushed piece k.are_bytes more
 
-    at : d.feed.standing ≡ Faulted code
-    at = fault-is d.feed.standing code fault
+        at : d.feed.standing ≡ Faulted code
+        at = fault-is d.feed.standing code fault
 
-    on : Holds W d.feed (pushed ++ piece) g.events
-    on = subst (Holds W d.feed (pushed ++ piece)) (append-nil g.events)
-        (holds-on laws c.feed d.feed pushed piece g.events [] k.are_bytes more g.holds step)
+        on : Holds W d.feed (pushed ++ piece) g.events
+        on = subst (Holds W d.feed (pushed ++ piece)) (append-nil g.events)
+            (holds-on laws c.feed d.feed pushed piece g.events [] k.are_bytes more g.holds step)
 
-    same : said_to S W s (pushed ++ piece) ≡ said_to S W s pushed
-    same = said-of S W s (pushed ++ piece) g.events (ap (λ (f : Fed F). f.events) on)
-        ∙ sym (said-of S W s pushed g.events (ap (λ (f : Fed F). f.events) g.holds))
+        same : said_to S W s (pushed ++ piece) ≡ said_to S W s pushed
+        same = said-of S W s (pushed ++ piece) g.events (ap (λ (f : Fed F). f.events) on)
+            ∙ sym (said-of S W s pushed g.events (ap (λ (f : Fed F). f.events) g.holds))
 
-    lasts : Lasts S W s d.talk (pushed ++ piece)
-    lasts later end bytes =
-        let behind = ap (λ (to : Standing). feed W to (d.feed.kept ++ later)) at in
-        let whole = laws.join Before_hello (pushed ++ piece) later fits bytes
-        ∙ ap (λ (a : Fed F). joined a (feed W a.to (a.kept ++ later))) on
-        ∙ ap (λ (b : Fed F). joined (fed_into g.events d.feed) b) behind in
-        let all : events_in S W ((pushed ++ piece) ++ later) ≡ g.events =
-        ap (λ (f : Fed F). f.events) whole ∙ append-nil g.events in (
-          hearing-fault S W s end ((pushed ++ piece) ++ later) g.events c.talk.held.end c.talk.held.taken code all
-              (ap (λ (f : Fed F). f.to) whole) g.heard
-              ∙ ap (λ (t : TalkState F). hearing_at t.state t.held) (sym talk),
-          said-of S W s ((pushed ++ piece) ++ later) g.events all
-              ∙ sym (said-of S W s (pushed ++ piece) g.events (ap (λ (f : Fed F). f.events) on)),
-        )
+        lasts : Lasts S W s d.talk (pushed ++ piece)
+        lasts later end bytes =
+            let behind = ap (λ (to : Standing). feed W to (d.feed.kept ++ later)) at in
+            let whole = laws.join Before_hello (pushed ++ piece) later fits bytes
+            ∙ ap (λ (a : Fed F). joined a (feed W a.to (a.kept ++ later))) on
+            ∙ ap (λ (b : Fed F). joined (fed_into g.events d.feed) b) behind in
+            let all : events_in S W ((pushed ++ piece) ++ later) ≡ g.events =
+            ap (λ (f : Fed F). f.events) whole ∙ append-nil g.events in (
+              hearing-fault S W s end ((pushed ++ piece) ++ later) g.events c.talk.held.end c.talk.held.taken code all
+                  (ap (λ (f : Fed F). f.to) whole) g.heard
+                  ∙ ap (λ (t : TalkState F). hearing_at t.state t.held) (sym talk),
+              said-of S W s ((pushed ++ piece) ++ later) g.events all
+                  ∙ sym (said-of S W s (pushed ++ piece) g.events (ap (λ (f : Fed F). f.events) on)),
+            )
 
   -- ---- what comes later
 
@@ -348,19 +348,19 @@ module _ {F : Type 0} (S : Summary F) (W : Profile F) where
       Knows S W s c pushed taken → Knows S W s c (pushed ++ more) taken
   later laws s c more pushed taken live closed listens bytes k =
       by (stays-of s c pushed taken closed k) where
-    by : Stays S W s c pushed → Knows S W s c (pushed ++ more) taken
-    by (inl over) = let wrong = sym over ∙ listens in absurd cc
-    by (inr lasts) = knows-closed laws s c (pushed ++ more) taken live (IsBytes-both pushed more k.are_bytes bytes)
-        closed
-        (λ rest end are.
+        by : Stays S W s c pushed → Knows S W s c (pushed ++ more) taken
+        by (inl over) = let wrong = sym over ∙ listens in absurd cc
+        by (inr lasts) = knows-closed laws s c (pushed ++ more) taken live (IsBytes-both pushed more k.are_bytes bytes)
+            closed
+            (λ rest end are.
             let both = IsBytes-both more rest bytes are in
             let one = lasts (more ++ rest) end both in
             let assoc = append_assoc pushed more rest in (
               ap (λ (l : List ℕ). hearing_to S W s end l) assoc ∙ one.0,
               ap (λ (l : List ℕ). said_to S W s l) assoc ∙ one.1 ∙ sym (lasts more end bytes).1,
             ))
-        (k.tells.text
-        ∙ ap (λ (l : List (Message F)). session_text W l ++ frame_of c.talk.state) (sym (lasts more false bytes).1))
+            (k.tells.text
+            ∙ ap (λ (l : List (Message F)). session_text W l ++ frame_of c.talk.state) (sym (lasts more false bytes).1))
 
   -- ---- the end of the bytes
 
@@ -408,9 +408,9 @@ module _ {F : Type 0} (S : Summary F) (W : Profile F) where
           };
           goes_on = subst (λ (b : Bool). GoesOn S W b s d pushed) (sym (ap is_open state ∙ closed)) (inl refl);
         } where
-      still : Stays S W s c pushed → hearing_to S W s true pushed ≡ hearing_at c.talk.state c.talk.held
-      still (inl over) = ap (λ (b : Bool). hearing_to S W s b pushed) (sym over) ∙ k.tells.heard
-      still (inr lasts) = ap (λ (l : List ℕ). hearing_to S W s true l) (sym (append-nil pushed)) ∙ (lasts [] true tt).0
+          still : Stays S W s c pushed → hearing_to S W s true pushed ≡ hearing_at c.talk.state c.talk.held
+          still (inl over) = ap (λ (b : Bool). hearing_to S W s b pushed) (sym over) ∙ k.tells.heard
+          still (inr lasts) = ap (λ (l : List ℕ). hearing_to S W s true l) (sym (append-nil pushed)) ∙ (lasts [] true tt).0
 
   -- ---- what is taken, and texts that are made
 

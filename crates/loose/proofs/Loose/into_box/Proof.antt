@@ -22,7 +22,7 @@ use prog.Model.{Model}
 use prog.Routine.{Routine}
 use prog.Wp.{WpFn}
 use types.Logic.{Logic, sem}
-use types.Kit.{Item, Goal, Seq, Step, step, Soaks, ‵, raw, ◌⊛◌, some, later, at_ret, ◌$◌, ◌∵◌, !}
+use types.Kit.{Item, Goal, Seq, Step, step, Soaks, ‵, raw, ◌⊛◌, some, later, at_ret, ◌$◌, ◌∵◌, ! }
 use types.Kit.{qed, by, move, drop, group, mean, split, split3, join, fsplit, fjoin, feq_i, pick, use1, await}
 use types.Kit.{suffices, done}
 use types.Run.{enter, of_opd, no_more, and_then, stop, fld, first, blocks, exec, returns}

@@ -13,7 +13,7 @@ returns-clause-pushes g c =
     let d : SessionState g.row.F.Denot =
     record { talk = c.args.self.now.talk; feed = c.keep.new.self; over = c.args.self.now.over } in
     let step : IfOk c.keep.result (λ kept. kept ≡ true →
-        IsFed g.F.Summary.profile c.args.self.now.feed c.args.piece.now None c.keep.new.self) = search rules in
+    IsFed g.F.Summary.profile c.args.self.now.feed c.args.piece.now None c.keep.new.self) = search rules in
     let after = piece-kept g.F.Summary.summary g.F.Summary.profile laws c.args.self.now d c.args.piece.now c.keep.result
     (ap is_open c.requires.open) c.requires.bytes refl refl step in
     search (rules, after)

@@ -8,7 +8,7 @@ pub returns-clause-knows : goal.returns-clause-knows
 returns-clause-knows g c =
     let t = c.args.self.now.talk in
     let made : OnOk c.make_due.result (c.make_due.new.self
-        ≡ with_outbox t (outbox_state (due g.F.Summary.profile t) []) true) = search rules in
+    ≡ with_outbox t (outbox_state (due g.F.Summary.profile t) []) true) = search rules in
     let after = all-made g.F.Summary.summary g.F.Summary.profile c.args.self.now c.make_due.new.self c.make_due.result
     made in
     subst (λ (x : SessionState g.row.F.Denot). OnOk c.make_due.result
