@@ -3,9 +3,10 @@
 --     VersionState                   a checked table, and items
 --     newest s                       the version of a set that is the newest
 --     IsSetFrom form text a result   what an item file's text gives: the set of its items, or why not
+--     between lower upper            the range between these bytes, where none are the start and the end
 --     Inserts s x t result           an item was put in, or was there, or there was no room
-use Rattle.std.specs.Prelude.{◌≡◌, ℕ, ◌≤◌, ◌<◌, Bool, true, false, List, length, Result, Ok, Err, ⊤}
-use Rattle.definitions.specs.Items.{Item}
+use Rattle.std.specs.Prelude.{◌≡◌, ℕ, ◌≤◌, ◌<◌, Bool, true, false, List, [], ◌∷◌, length, Option, Some, None, Result, Ok, Err, ⊤}
+use Rattle.definitions.specs.Items.{Item, Range}
 use Rattle.definitions.specs.Sets.{set_of}
 use Rattle.definitions.specs.Histories.{History, content, opening_history, insertion, history_after}
 use Rattle.definitions.specs.Histories.{Insertion, New, Already, Full}
@@ -26,6 +27,14 @@ pub record VersionState : Type 0 where
   pub accepted : Checked
   pub items : List Item
 
+-- before the item of these bytes; to the end where there are none
+abbrev pub upper_of : List ℕ → Option (List ℕ)
+upper_of [] = None
+upper_of (b ∷ bs) = Some (b ∷ bs)
+
+abbrev pub between : List ℕ → List ℕ → Range
+between lower upper = record { lower = lower; upper = upper_of upper }
+
 abbrev pub newest : SetState → VersionState
 newest s = record { accepted = s.accepted; items = content s.history }
 
@@ -41,6 +50,7 @@ IsAnswer a (Err faults.Memory) = ⊤
 IsAnswer a (Err (faults.Strategy f)) = ⊥
 IsAnswer a (Err (faults.Check f)) = ⊥
 IsAnswer a (Err (faults.Length f)) = ⊥
+IsAnswer a (Err faults.EmptyRange) = ⊥
 IsAnswer a (Err faults.BadItemLine) = ⊥
 IsAnswer a (Err faults.TooManyItems) = ⊥
 
@@ -56,6 +66,7 @@ IsNoSet form text a faults.TooManyItems = (items : List Item) × (file_items for
     × (a.table.cap < length (set_of items))
 IsNoSet form text a faults.Memory = ⊤
 IsNoSet form text a faults.Full = ⊥
+IsNoSet form text a faults.EmptyRange = ⊥
 IsNoSet form text a (faults.Strategy f) = ⊥
 IsNoSet form text a (faults.Check f) = ⊥
 IsNoSet form text a (faults.Length f) = ⊥

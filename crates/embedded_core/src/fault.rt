@@ -4,7 +4,7 @@ ghost use Rattle.std.specs.Prelude.{◌≡◌, ◌<◌};
 ghost use Rattle.embedded_core.specs.Faults.{embedded_fault_number, of_strategy, of_check, of_settings, of_log};
 ghost use Rattle.embedded_core.specs.declared.fault.EmbeddedFault.TheVariants as faults;
 
-use item_core::LengthFault;
+use item_core::{EmptyRange, LengthFault};
 use settings_core::SettingsFault;
 use std::alloc::{AllocError, AllocFailed};
 use strategy_check::{CheckError, CheckFault};
@@ -22,6 +22,8 @@ pub enum EmbeddedFault {
     Full,
     /// An item has no byte, or more than 64: 71, 72.
     Length(LengthFault),
+    /// The lower bound of a range is not below the upper one: 73.
+    EmptyRange,
     /// A line of an item file is no item: 81.
     BadItemLine,
     /// An item file has more different items than the cap: 82.
@@ -41,6 +43,7 @@ impl EmbeddedFault {
             EmbeddedFault::Check(fault) => fault.number(),
             EmbeddedFault::Full => 40,
             EmbeddedFault::Length(fault) => fault.number(),
+            EmbeddedFault::EmptyRange => 73,
             EmbeddedFault::BadItemLine => 81,
             EmbeddedFault::TooManyItems => 82,
             EmbeddedFault::Memory => 90,
@@ -86,6 +89,14 @@ impl From<LengthFault> for EmbeddedFault {
 
     fn from(fault: LengthFault) -> EmbeddedFault {
         EmbeddedFault::Length(fault)
+    }
+}
+
+impl From<EmptyRange> for EmbeddedFault {
+    ghost from_gives = { λ _ e. e ≡ faults.EmptyRange };
+
+    fn from(_refused: EmptyRange) -> EmbeddedFault {
+        EmbeddedFault::EmptyRange
     }
 }
 

@@ -2,11 +2,13 @@
 #![tactic(auto)]
 
 mod any_session;
+mod between;
 mod fault;
 mod set;
 mod strategy;
 
 pub use any_session::{AnySession, Opening, WireProfile};
+pub use between::range_between;
 pub use fault::EmbeddedFault;
 pub use set::{Set, Version};
 pub use strategy::read_strategy;

@@ -95,7 +95,7 @@ fn other_at(thing: &Thing, place: usize) -> Result<Item, u32>
 }
 
 /// Writes an item to the front of the room, and says its length. 98 where there is not that much room.
-fn write_item(item: &Item, room: &mut [u8], used: &mut usize) -> u32
+pub(crate) fn write_item(item: &Item, room: &mut [u8], used: &mut usize) -> u32
     ensures written { result ≡ 0 → (used.new ≡ length item.now) × (take used.new room.new ≡ item.now) }
     ensures failed { result ≢ 0 → room.new ≡ room.old }
 {

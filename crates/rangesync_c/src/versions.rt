@@ -1,13 +1,16 @@
 //! Versions of sets.
 
-ghost use Rattle.std.specs.Prelude.{◌≡◌, ◌≢◌, true, Ok, Err, IfOk, IfErr, length};
-ghost use Rattle.definitions.specs.Sets.{has};
+ghost use Rattle.std.specs.Prelude.{◌≡◌, ◌≢◌, true, Ok, Err, Some, IfOk, IfErr, length, take, slice_get};
+ghost use Rattle.definitions.specs.Sets.{has, items_in};
+ghost use Rattle.embedded_core.specs.SetStates.{between};
 ghost use Rattle.rangesync_c.specs.Meaning.{IfVersion, no_version};
 
-use crate::codes::{FINE, OTHER_KIND};
+use crate::codes::{FINE, NOT_THERE, OTHER_KIND};
 use crate::held::{Held, Thing};
+use crate::learned::write_item;
 use core::mem::replace_with;
-use item_core::Item;
+use embedded_core::{EmbeddedFault, range_between};
+use item_core::{Item, Range};
 
 /// How many items a version has.
 fn count_of(thing: &Thing) -> Result<usize, u32>
@@ -74,6 +77,105 @@ pub extern "C" fn rs_version_has(version: &mut Held, bytes: &[u8], found: &mut b
             *found = has;
             FINE
         }
+        Err(code) => code,
+    }
+}
+
+/// How many items a version has in a range, unless the bounds are of none.
+fn count_between(thing: &Thing, range: Result<Range, EmbeddedFault>) -> Result<usize, u32>
+    ensures number { IfErr result (λ code. code ≢ 0) }
+    ensures count { IfVersion thing.now (λ v. IfOk range (λ X. IfOk result (λ n. n ≡ length (items_in v.items X)))) }
+    ensures bounds { IfErr range (λ _. IfOk result (λ _. ⊥)) }
+    ensures kind { no_version thing.now ≡ true → result ≡ Err 99 }
+{
+    let Thing::Version(version) = thing else {
+        return Err(OTHER_KIND);
+    };
+    match range {
+        Ok(range) => Ok(version.count_in(&range)),
+        Err(fault) => Err(u32::from(fault.number())),
+    }
+}
+
+/// Says how many items a version has from the lower bound on and before the upper one; a bound without bytes is the
+/// start, or the end. 72 for a bound of more than 64 bytes, 73 where the lower one is not below the upper one.
+#[unsafe(no_mangle)]
+pub extern "C" fn rs_version_count_in(
+    version: &mut Held,
+    lower: &[u8],
+    upper: &[u8],
+    count: &mut usize,
+) -> u32
+    ensures count { result ≡ 0 → IfVersion version.old.value (λ v.
+        count.new ≡ length (items_in v.items (between lower.now upper.now))) }
+    ensures kind { no_version version.old.value ≡ true → result ≡ 99 }
+    ensures same { version.new.value ≡ version.old.value }
+{
+    let range = range_between(lower, upper);
+    let counted = replace_with(version, range, |version, range| {
+        let thing = version.into_thing();
+        let counted = count_between(&thing, range);
+        (Held::of(thing), counted)
+    });
+    match counted {
+        Ok(number) => {
+            *count = number;
+            FINE
+        }
+        Err(code) => code,
+    }
+}
+
+/// The item at this place among those that a version has in a range.
+fn item_between(
+    thing: &Thing,
+    range: Result<Range, EmbeddedFault>,
+    place: usize,
+) -> Result<Item, u32>
+    ensures number { IfErr result (λ code. code ≢ 0) }
+    ensures item { IfVersion thing.now (λ v. IfOk range (λ X. IfOk result (λ x.
+        slice_get (items_in v.items X) place ≡ Some x))) }
+    ensures bounds { IfErr range (λ _. IfOk result (λ _. ⊥)) }
+    ensures kind { no_version thing.now ≡ true → result ≡ Err 99 }
+{
+    let Thing::Version(version) = thing else {
+        return Err(OTHER_KIND);
+    };
+    let range = match range {
+        Ok(range) => range,
+        Err(fault) => return Err(u32::from(fault.number())),
+    };
+    if place >= version.count_in(&range) {
+        return Err(NOT_THERE);
+    }
+    Ok(version.item_in(&range, place))
+}
+
+/// Writes the item at this place, from 0, of those that a version has from the lower bound on and before the upper one,
+/// and says its length. 98 where there is none, or no room for it: 64 bytes are enough; 72 and 73 as `rs_version_count_in`.
+#[unsafe(no_mangle)]
+pub extern "C" fn rs_version_item_in(
+    version: &mut Held,
+    lower: &[u8],
+    upper: &[u8],
+    place: usize,
+    room: &mut [u8],
+    used: &mut usize,
+) -> u32
+    ensures item { result ≡ 0 → IfVersion version.old.value (λ v.
+        slice_get (items_in v.items (between lower.now upper.now)) place ≡ Some (take used.new room.new)) }
+    ensures kind { no_version version.old.value ≡ true → result ≡ 99 }
+    ensures failed { result ≢ 0 → room.new ≡ room.old }
+    ensures same { version.new.value ≡ version.old.value }
+{
+    let range = range_between(lower, upper);
+    let found = replace_with(version, (range, place), |version, (range, place)| {
+        let thing = version.into_thing();
+        let found = item_between(&thing, range, place);
+        (Held::of(thing), found)
+    });
+    match found {
+        Ok(item) => write_item(&item, room, used),
         Err(code) => code,
     }
 }
