@@ -15,7 +15,6 @@
 //! | `failing` | engines whose reads and writes fail, each in turn |
 //! | `workers` | `run_workers`: what is inserted, what is dropped, the source's fault, two sessions at a time |
 //! | `locks` | the lock: two seats, two threads, the last writer number |
-//! | `pushed` | sessions by bytes that are pushed and taken, with no reader or writer |
 //! | `worlds` | runs of nodes and sessions beside inserts |
 //! | `vectors` | the worked cases of `docs/vectors` |
 //! | `support/` | what the tests share: readers, writers and gates, frames, letters, messages as text, strategies |
@@ -41,8 +40,6 @@ mod parts;
 mod placing;
 #[cfg(test)]
 mod profiles;
-#[cfg(test)]
-mod pushed;
 #[cfg(test)]
 mod sessions;
 #[cfg(test)]
