@@ -1,5 +1,5 @@
 /* Two sets of this process find out their differences: example STRATEGY LEFT RIGHT, by the paths of a strategy file and
- * of two item files in hex. Prints what sync prints of the side of LEFT. */
+ * of two item files in hex. Prints how many messages the side of LEFT sent, how many at most, and what it learned. */
 #include "rangesync.h"
 #include <stdio.h>
 #include <stdlib.h>

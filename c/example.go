@@ -1,5 +1,5 @@
 // A session with `rangesync serve`: example-go STRATEGY ITEMS ADDRESS, by the paths of a strategy file and of an item
-// file in hex. Prints what `sync` prints.
+// file in hex. Prints the items that `sync` prints, in the order learned.
 package main
 
 /*
@@ -70,6 +70,10 @@ func talk(session *C.rs_handle, connection net.Conn) (state, code C.uint32_t) {
 }
 
 func main() {
+	if len(os.Args) != 4 {
+		fmt.Fprintln(os.Stderr, "usage: example-go STRATEGY ITEMS ADDRESS")
+		os.Exit(2)
+	}
 	connection, err := net.Dial("tcp", os.Args[3])
 	fine(err)
 	session := open(os.Args[1], os.Args[2])

@@ -1,5 +1,5 @@
-//! A session with `rangesync serve`: example-rust STRATEGY ITEMS ADDRESS, by the paths of a strategy file and of an item
-//! file in hex. Prints what `sync` prints.
+//! A session with `rangesync serve`: example-rust STRATEGY ITEMS ADDRESS, by the paths of a strategy file and of an
+//! item file in hex. Prints the items that `sync` prints, in the order learned.
 
 use std::io::{Read, Write};
 use std::net::TcpStream;
@@ -89,8 +89,12 @@ fn print(session: &mut Handle, word: &str, count: usize, item: Item) {
 
 fn main() -> io::Result<()> {
     let words: Vec<String> = env::args().collect();
-    let mut connection = TcpStream::connect(&words[3])?;
-    let mut session = open(&words[1], &words[2])?;
+    let [_, strategy, items, address] = &words[..] else {
+        eprintln!("usage: example-rust STRATEGY ITEMS ADDRESS");
+        process::exit(2);
+    };
+    let mut connection = TcpStream::connect(address)?;
+    let mut session = open(strategy, items)?;
     let (state, code) = talk(&mut session, &mut connection)?;
     if state != 1 {
         println!("state {state} code {code}");

@@ -25,7 +25,8 @@
  * Each function returns 0, or a number, and then changes nothing, but where it says so:
  *   30 to 35  a text is no strategy          36 to 38  a strategy is not accepted
  *   40        a set has as many items as its strategy's cap
- *   71, 72    an item has no byte, or more than 64
+ *   71, 72    an item has no byte, or it or a bound has more than 64
+ *   73        a lower bound is not below the upper one
  *   81, 82    a line is no item, or there are more different items than the cap
  *   90        memory ran out
  *   98        there is no such thing, or no room for it
@@ -76,6 +77,16 @@ uint32_t rs_version_count(rs_handle *version, size_t *count);
 /* Says whether a version has an item. 71, 72, 99. */
 uint32_t rs_version_has(rs_handle *version, const uint8_t *item, size_t length, bool *found);
 
+/* Says how many items a version has from the lower bound on and before the upper one. Items are in the order of their
+ * bytes; a bound of length 0 is the start, or the end. 72, 73, 99. */
+uint32_t rs_version_count_in(rs_handle *version, const uint8_t *lower, size_t lower_length, const uint8_t *upper,
+                             size_t upper_length, size_t *count);
+
+/* Writes one of these items, by its place from 0 in their order, and says its length, which is at most 64. 72, 73, 98
+ * (there is none; or there is no room for it, and its length is said all the same), 99. */
+uint32_t rs_version_item_in(rs_handle *version, const uint8_t *lower, size_t lower_length, const uint8_t *upper,
+                            size_t upper_length, size_t place, uint8_t *room, size_t length, size_t *used);
+
 /* Opens a session over a version, in a role and in wire profile 1 or 2. 90, 98 (another role or profile), 99. */
 uint32_t rs_session_open(rs_handle *version, uint32_t role, uint32_t profile, rs_handle *out);
 
@@ -83,7 +94,7 @@ uint32_t rs_session_open(rs_handle *version, uint32_t role, uint32_t profile, rs
  * later. What comes after the end of a session, or after a refusal, counts no more. 90 (it took none), 99. */
 uint32_t rs_session_push(rs_handle *session, const uint8_t *bytes, size_t length, size_t *taken);
 
-/* Says that the peer's bytes end here: a session that has not ended is refused 3. 99. */
+/* Says that the peer's bytes end here: a session that is still open is refused 3. 99. */
 uint32_t rs_session_finish(rs_handle *session);
 
 /* Moves bytes that are due to the peer to `room`, as many as fit, and says how many: none where none are due. Send them
@@ -100,8 +111,8 @@ uint32_t rs_session_messages(rs_handle *session, uint32_t *sent, uint32_t *bound
  * has not ended), 99. */
 uint32_t rs_session_learned(rs_handle *session, size_t *ours, size_t *theirs);
 
-/* Writes one of these items, by its place from 0, and says its length, which is at most 64. 98 (there is none, or no
- * room for it), 99. */
+/* Writes one of these items, by its place from 0 in the order learned, and says its length, which is at most 64. 98
+ * (there is none; or there is no room for it, and its length is said all the same), 99. */
 uint32_t rs_session_ours(rs_handle *session, size_t place, uint8_t *room, size_t length, size_t *used);
 uint32_t rs_session_theirs(rs_handle *session, size_t place, uint8_t *room, size_t length, size_t *used);
 

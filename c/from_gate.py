@@ -1,0 +1,61 @@
+#!/usr/bin/env python3
+"""Builds c/out/librangesync.a over the libraries that `rt ci` has just proved and left in crates/*/out.
+
+`rt lib` takes none of them, since the gate keeps nothing of its checks, and would prove every crate once more.
+"""
+
+import os
+import pathlib
+import shutil
+import subprocess
+import sys
+
+TOP = pathlib.Path(__file__).resolve().parent.parent
+KIT = pathlib.Path(shutil.which("rt") or "rt").resolve().parent.parent
+LIBRARY = "rangesync_c"
+
+
+def read_uses() -> dict[str, list[str]]:
+    """What each crate of crates.txt uses."""
+    uses = {}
+    for line in (TOP / "crates.txt").read_text(encoding="utf-8").splitlines():
+        name, colon, used = line.partition("#")[0].partition(":")
+        if colon:
+            uses[name.split()[0]] = used.split()
+    return uses
+
+
+def below(name: str, uses: dict[str, list[str]], found: list[str]) -> list[str]:
+    """The crates below one, each after those that it uses."""
+    for used in uses[name]:
+        if used in uses and used not in found:
+            below(used, uses, found)
+            found.append(used)
+    return found
+
+
+def library_of(name: str, uses: dict[str, list[str]]) -> pathlib.Path:
+    if name in uses:
+        return TOP / "crates" / name / "out" / "rlib" / f"{name}.rlib"
+    return KIT / "rlibs" / f"{name}.rlib"
+
+
+def main() -> int:
+    uses = read_uses()
+    words = [str(KIT / "bin" / "rattle"), "build", "--crate-name", LIBRARY, "src/lib.rt", "--crate-type", "staticlib"]
+    for name in dict.fromkeys(["std", *uses[LIBRARY]]):
+        words += ["--extern", f"{name}={library_of(name, uses)}"]
+    words += ["-L", f"dependency={KIT / 'rlibs'}"]
+    for name in below(LIBRARY, uses, []):
+        words += ["-L", f"dependency={library_of(name, uses).parent}"]
+    words += ["--antt-project", str(KIT / "rattle/logic/antt-project.json"), "--logic-built", str(KIT / "logic_built")]
+    words += ["--links", f"{LIBRARY}=", "--jobs", str(os.cpu_count() or 1)]
+    words += ["--toolchain", str(KIT / "toolchain"), "--backend", "llvm"]
+    out = TOP / "c" / "out"
+    out.mkdir(exist_ok=True)
+    words += ["-o", str(out / "librangesync.a")]
+    return subprocess.run(words, cwd=TOP / "crates" / LIBRARY, check=False).returncode
+
+
+if __name__ == "__main__":
+    sys.exit(main())
