@@ -12,7 +12,8 @@ use Rattle.definitions.specs.Talks.{Knowledge}
 use Rattle.definitions.specs.Ends.{is_live}
 use Rattle.definitions.specs.Engines.{Speaker, initiating, responding}
 use Rattle.definitions.specs.Wire.{Profile, two_lane_profile, counted_profile}
-use Rattle.session_core.specs.Sessions.{SessionState, Begins, Pushes, Takes, Knows, peer_of, due}
+use Rattle.session_core.specs.Sessions.{SessionState, Begins, Pushes, Takes, Knows, due}
+use Rattle.ends_core.specs.Sides.{peer_of}
 use Rattle.session_core.specs.declared.state.State.{State}
 use Rattle.embedded_core.specs.SetStates.{VersionState}
 use Rattle.embedded_core.specs.declared.any_session.AnySession.{AnySession}

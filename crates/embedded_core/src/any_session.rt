@@ -4,7 +4,8 @@ ghost use Rattle.std.specs.Prelude.{◌≡◌, ◌≢◌, ◌≤◌, length, tak
 ghost use Rattle.embedded_core.specs.SessionStates.{Opens, Changes, PushesTo, Finishes, MakesDue, TakesOff};
 ghost use Rattle.embedded_core.specs.SessionStates.{ready_of, state_in, bound_of, sent_by, learned_in};
 ghost use Rattle.definitions.specs.Engines.{initiating, responding};
-ghost use Rattle.session_core.specs.Sessions.{Begins, peer_of};
+ghost use Rattle.session_core.specs.Sessions.{Begins};
+ghost use Rattle.ends_core.specs.Sides.{peer_of};
 ghost use Rattle.session_core.specs.declared.state.State.TheVariants as states;
 
 use crate::set::Version;

@@ -17,3 +17,6 @@ pub mod Turns
 pub mod Closing
 pub mod Roles
 pub mod Standing
+pub use Rattle.definitions.specs.Engines
+pub use Rattle.definitions.specs.Theorems
+pub mod Sides

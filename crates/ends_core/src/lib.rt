@@ -1,6 +1,7 @@
 //! The two ends of a session.
 #![tactic(auto)]
 
+mod bounds;
 mod cutting;
 mod draft;
 mod end;
@@ -13,6 +14,7 @@ mod stage;
 mod taking;
 mod turn;
 
+pub use bounds::sides_keep_bounds;
 pub use learned::Learned;
 pub use role::{Initiating, Responding, Role};
 pub use session_end::{Initiator, Responder, SessionEnd};

@@ -7,6 +7,7 @@ pub mod Opens
 pub mod Taking
 pub mod Hearing
 pub mod Said
+pub mod GoingOn
 pub mod Ends
 pub mod Stops
 pub mod Knowledge

@@ -3,6 +3,7 @@
 --     FramesAgree S               of every end that takes messages
 --     BytesAgree S P              of a side and the bytes that it reads
 --     FramesSay S                 what is said while frames are heard, and nothing behind a stop
+--     HearingsGoOn S              one event more, and what comes after a stop, of a side and the bytes that it reads
 --     OwnBegins S                 what was said begins what is called for
 --     OwnIsFew S, OwnIsShort S    whatever the messages are, few are called for, and their lists are short
 use Rattle.std.specs.Prelude.{◌≡◌, ◌⊎◌, ℕ, ◌+◌, ◌≤◌, length, Bool, true, false, List, [], ◌∷◌, ◌++◌, IsFalse, fold}
@@ -14,13 +15,14 @@ use Rattle.definitions.specs.Strategies.{IsTable}
 use Rattle.definitions.specs.Ranks.{Accepted}
 use Rattle.definitions.specs.Theorems.{Ready, rank, IsShort}
 use Rattle.definitions.specs.Wire.{Profile, Event, Came, Ended, Failed}
-use Rattle.definitions.specs.Streams.{messages_of}
+use Rattle.definitions.specs.Streams.{Before_hello, feed, messages_of}
 use Rattle.definitions.specs.Refusals.{too_many_parts}
 use Rattle.definitions.specs.Ends.{End, heard, is_live, is_over, is_sendable}
 use Rattle.definitions.specs.Engines.{Speaker, replied, answers, calls, says, own, initiating, responding, session}
 use Rattle.definitions.specs.Engines.{messages_in}
-use Rattle.definitions.specs.Taking.{nothing_taken, ended}
-use Rattle.definitions.specs.Hearing.{Hearing, Goes_on, Over_at, Peer_refused, Refused_for, hear, hearing_to}
+use Rattle.definitions.specs.Taking.{Taken, nothing_taken, ended}
+use Rattle.definitions.specs.Hearing.{Hearing, Goes_on, Over_at, Peer_refused, Refused_for, hear, hear_now}
+use Rattle.definitions.specs.Hearing.{hears, hearing_to}
 
 -- all that is called for may be said, but for one reply with too many parts, which is refused
 abbrev pub SaidBut : {F : Type 0} → List (Message F) → List (Message F) → ℕ → Type 0
@@ -76,6 +78,30 @@ SaysOn {F} said (Refused_for code) = (more : List (Event F)) → said more ≡ s
 abbrev pub FramesSay : {F : Type 0} → Summary F → Type 0
 FramesSay {F} S = (e : End F) (events : List (Event F)) → is_live e.stage ≡ true →
     SaysOn (λ more. answers S e (messages_of [] (events ++ more))) (fold (hear S) (Goes_on e (nothing_taken e)) events)
+
+-- what a side says to these events
+abbrev pub said_to_events : {F : Type 0} → Summary F → Speaker F → List (Event F) → List (Message F)
+said_to_events S s events = says S s (messages_of [] events)
+
+-- what one event more adds to it, by what was taken of its message
+abbrev pub adds : {F : Type 0} → Taken F → Event F → List (Message F)
+adds t (Came p) = []
+adds t Ended = replied (ended t)
+adds t (Failed code) = []
+
+pub record HearingsGoOn {F : Type 0} (S : Summary F) : Type 0 where
+  -- while it goes on, one event more is heard, and its reply is said
+  pub hears_next : (s : Speaker F) (events : List (Event F)) (e : End F) (t : Taken F) (event : Event F) →
+      hears S s events ≡ Goes_on e t → hears S s (events ++ event ∷ []) ≡ hear_now S e t event
+  pub says_next : (s : Speaker F) (events : List (Event F)) (e : End F) (t : Taken F) (event : Event F) →
+      is_live s.start.stage ≡ true → hears S s events ≡ Goes_on e t →
+      said_to_events S s (events ++ event ∷ []) ≡ said_to_events S s events ++ adds t event
+  -- once it has stopped, nothing more is said, and the same is heard of all bytes whose events begin so
+  pub says_no_more : (s : Speaker F) (events rest : List (Event F)) → is_live s.start.stage ≡ true →
+      has_stopped (hears S s events) ≡ true → said_to_events S s (events ++ rest) ≡ said_to_events S s events
+  pub hears_no_more : (P : Profile F) (s : Speaker F) (over : Bool) (bytes : List ℕ) (events rest : List (Event F)) →
+      (feed P Before_hello bytes).events ≡ events ++ rest → has_stopped (hears S s events) ≡ true →
+      hearing_to S P s over bytes ≡ hears S s events
 
 -- what was said so far begins what all events call for
 abbrev pub OwnBegins : {F : Type 0} → Summary F → Type 0

@@ -20,7 +20,8 @@ ghost use Rattle.laws.specs.Growing.{TalksGrow, KnowledgeGrows};
 ghost use Rattle.laws.specs.Turns.{TalksBegin, TalksGoOn, EndsHear, EndsTalk};
 ghost use Rattle.laws.specs.Saying.{EndsSay};
 ghost use Rattle.laws.specs.Taking.{PartsAreTaken};
-ghost use Rattle.laws.specs.Hearing.{FramesAgree, BytesAgree, FramesSay, OwnBegins, OwnIsFew, OwnIsShort};
+ghost use Rattle.laws.specs.Hearing.{FramesAgree, BytesAgree, FramesSay, HearingsGoOn, OwnBegins};
+ghost use Rattle.laws.specs.Hearing.{OwnIsFew, OwnIsShort};
 ghost use Rattle.laws.specs.Sessions.{SessionsOpen, SessionsGoOn, SessionsStay, SessionsKeepNodes, SessionsTell};
 ghost use Rattle.laws.specs.Sizes.{CountsTellSizes};
 ghost use Rattle.laws.specs.Weaker.{InitiatorStopsAnyhow, ResponderStopsAnyhow, ListsAreShortAnyhow};
@@ -206,6 +207,13 @@ pub fn bytes_agree<F>()
 /// docs/LAWS.md: *What is said at each frame*.
 pub fn frames_say<F>()
     ensures { (S : Summary F) → FramesSay S }
+{}
+
+/// While a side goes on, one event more is heard and its reply is said; after a stop nothing more is, wherever the bytes
+/// are cut.
+/// docs/LAWS.md: *What is said at each frame*.
+pub fn hearings_go_on<F>()
+    ensures { (S : Summary F) → HearingsGoOn S }
 {}
 
 /// What was said so far begins what all events call for.

@@ -15,7 +15,8 @@ use Rattle.definitions.specs.Engines.{Speaker, text}
 use Rattle.definitions.specs.Fingerprints.{Summary}
 use Rattle.definitions.specs.Messages.{Message}
 use Rattle.definitions.specs.Wire.{Profile, part_text, end_text, message_text, session_text}
-use Rattle.peer_threads.specs.Outcomes.{Traffic, call_of, called_by}
+use Rattle.peer_threads.specs.Outcomes.{Traffic, call_of}
+use Rattle.ends_core.specs.Sides.{called_by}
 use Rattle.peer_threads.specs.Outboxes.{OutboxState, HasWritten, BreaksIn}
 use Rattle.peer_threads.specs.Underway.{WroteUpTo, BreaksOff}
 

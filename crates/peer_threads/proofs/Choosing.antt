@@ -28,7 +28,8 @@ use Rattle.peer_threads.specs.Inboxes.{StopsAt}
 use Rattle.peer_threads.specs.Outboxes.{OutboxState, outbox_state}
 use Rattle.peer_threads.specs.Outcomes.{Origin, Reader, Behind, traffic, traffic_of, traffic_behind, SaidAll}
 use Rattle.peer_threads.specs.Outcomes.{Bears}
-use Rattle.peer_threads.specs.Outcomes.{BearsUnopened, KeepsBounds, Speaks, SpeaksUnopened, Unopened, CameFirst}
+use Rattle.peer_threads.specs.Outcomes.{BearsUnopened, Speaks, SpeaksUnopened, Unopened, CameFirst}
+use Rattle.ends_core.specs.Sides.{KeepsBounds}
 use Rattle.peer_threads.specs.Outcomes.{sent_in}
 use Rattle.peer_threads.specs.Stops.{outcome_of}
 use Rattle.peer_threads.specs.Underway.{WhyStopped, IsNone, Leaves, first_held}

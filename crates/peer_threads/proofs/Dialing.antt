@@ -26,7 +26,8 @@ use Rattle.peer_threads.specs.declared.outcome.Outcome.{Outcome}
 use Rattle.peer_threads.specs.declared.outcome.Direction.TheVariants as directions
 use Rattle.peer_threads.specs.declared.stop.Stop.{Stop}
 use Rattle.peer_threads.specs.declared.stop.Stop.TheVariants as stops
-use Rattle.peer_threads.specs.Outcomes.{Traffic, traffic, KeepsBounds, Speaks, peer_of, peer_at}
+use Rattle.peer_threads.specs.Outcomes.{Traffic, traffic, Speaks, peer_at}
+use Rattle.ends_core.specs.Sides.{KeepsBounds, peer_of}
 use Rattle.peer_threads.specs.Inboxes.{InboxState, HasRead}
 use Rattle.peer_threads.specs.Outboxes.{OutboxState, outbox_state, hello_due, HasWritten, Adds, BreaksIn}
 use Rattle.peer_threads.specs.Stops.{outcome_of}

@@ -27,8 +27,10 @@ use Rattle.peer_threads.specs.declared.outcome.Direction.{Direction}
 use Rattle.peer_threads.specs.declared.outcome.Direction.TheVariants as directions
 use Rattle.peer_threads.specs.declared.stop.Stop.{Stop}
 use Rattle.peer_threads.specs.declared.stop.Stop.TheVariants as stops
-use Rattle.peer_threads.specs.Outcomes.{Traffic, traffic_of, SaidAll, Bears, KeepsBounds, Speaks, SpeaksUnopened}
-use Rattle.peer_threads.specs.Outcomes.{BearsUnopened, call_of, called_by, failing, sent_in, peer_of, peer_at}
+use Rattle.peer_threads.specs.Outcomes.{Traffic, traffic_of, SaidAll, Bears, Speaks, SpeaksUnopened}
+use Rattle.ends_core.specs.Sides.{KeepsBounds}
+use Rattle.peer_threads.specs.Outcomes.{BearsUnopened, call_of, failing, sent_in, peer_at}
+use Rattle.ends_core.specs.Sides.{called_by, peer_of}
 use Rattle.peer_threads.specs.Outboxes.{OutboxState, refusal_text, Begins, WroteSo}
 use Rattle.peer_threads.specs.Stops.{outcome_of}
 use Rattle.peer_threads.specs.Underway.{WroteFirst, WroteUpTo, IsLong, IsFirst, IsNone, HasBroken}

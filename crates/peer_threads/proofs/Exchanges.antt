@@ -28,13 +28,14 @@ use Rattle.definitions.specs.Hearing.{Hearing, Goes_on, Over_at, Peer_refused, R
 use Rattle.definitions.specs.Hearing.{ended_by, hear_now, hear, begins, hears, stop_at, with_end}
 use Rattle.definitions.specs.Hearing.{hearing_to}
 use Rattle.definitions.specs.Accounts.{Seen, IsOfTheTable}
-use Rattle.laws.specs.Hearing.{has_stopped, SaysOn, FramesSay, OwnBegins, SaidBut, AgreesBy, BytesAgree}
+use Rattle.laws.specs.Hearing.{has_stopped, HearingsGoOn, OwnBegins, SaidBut, AgreesBy, BytesAgree}
 use Rattle.wire_core.specs.Feeds.{fault_at}
 use Rattle.ends_core.specs.EndStates.{EndState}
 use Rattle.peer_threads.specs.declared.stop.Stop.{Stop}
 use Rattle.peer_threads.specs.declared.stop.Stop.TheVariants as stops
 use Rattle.peer_threads.specs.declared.outcome.Direction.TheVariants as directions
-use Rattle.peer_threads.specs.Outcomes.{Traffic, Takes, traffic_of, SaidAll, said_to, called_by}
+use Rattle.peer_threads.specs.Outcomes.{Traffic, Takes, traffic_of, SaidAll}
+use Rattle.ends_core.specs.Sides.{said_to, called_by}
 use Rattle.peer_threads.specs.Inboxes.{InboxState, HasRead, IsFaulty, StopsAt, ReadOn}
 use Rattle.peer_threads.specs.Outboxes.{OutboxState, HasWritten, Adds}
 use Rattle.peer_threads.specs.Underway.{heard_as, said_by, Underway, SomeOf, Unsaid, Refuses, StopsBy, WroteFirst}
@@ -54,7 +55,7 @@ on-further unread mid left a b =
 module _ {F : Type 0} (S : Summary F) (W : Profile F) where
   -- the laws that are cited, in one place
   pub record Laws : Type 0 where
-    pub say : FramesSay S
+    pub go_on : HearingsGoOn S
     pub begin : OwnBegins S
     pub agree : BytesAgree S W
 
@@ -74,76 +75,6 @@ module _ {F : Type 0} (S : Summary F) (W : Profile F) where
   all-events b bytes es has = (has.more, has.events)
 
   -- ---- what is said
-
-  said-at : (s : Speaker F) (es : List (Event F)) →
-      answers S s.start (messages_of [] (es ++ [])) ≡ answers S s.start (messages_of [] es)
-  said-at s es = ap (λ l. answers S s.start (messages_of [] l)) (append-nil es)
-
-  -- one event more
-  pub says-next : FramesSay S → (s : Speaker F) (h : EndState F) (es : List (Event F)) (e : Event F) →
-      is_live s.start.stage ≡ true → hears S s es ≡ Goes_on h.end h.taken →
-      so_far s (es ++ e ∷ []) ≡ so_far s es ++ said_by h e
-  says-next law s h es e live at = by e where
-    on : SaysOn (λ more. answers S s.start (messages_of [] (es ++ more))) (Goes_on h.end h.taken)
-    on = subst (SaysOn (λ more. answers S s.start (messages_of [] (es ++ more)))) at (law s.start es live)
-
-    none : (e : Event F) →
-        answers S s.start (messages_of [] (es ++ e ∷ [])) ≡ answers S s.start
-        (messages_of [] (es ++ [])) →
-        so_far s (es ++ e ∷ []) ≡ so_far s es ++ []
-    none e same = ap (λ (l : List (Message F)). s.first ++ l) (same ∙ said-at s es) ∙ sym (append-nil (so_far s es))
-
-    by : (e : Event F) → so_far s (es ++ e ∷ []) ≡ so_far s es ++ said_by h e
-    by (Came p) = none (Came p) (on.0 p)
-    by Ended =
-        ap (λ (l : List (Message F)). s.first ++ l)
-        (on.1 ∙ ap (λ (l : List (Message F)). l ++ replied (ended h.taken)) (said-at s es))
-        ∙ sym (append_assoc s.first (answers S s.start (messages_of [] es)) (replied (ended h.taken)))
-    by (Failed code) = none (Failed code) (on.2 code)
-
-  -- behind a stop
-  stop-says : (said : List (Event F) → List (Message F)) (h : Hearing F) → has_stopped h ≡ true →
-      SaysOn said h → (more : List (Event F)) → said more ≡ said []
-  stop-says said (Goes_on e t) stopped on more = absurd cc
-  stop-says said (Over_at e) stopped on more = on more
-  stop-says said (Peer_refused code) stopped on more = on more
-  stop-says said (Refused_for code) stopped on more = on more
-
-  pub says-stopped : FramesSay S → (s : Speaker F) (es rest : List (Event F)) →
-      is_live s.start.stage ≡ true → has_stopped (hears S s es) ≡ true → so_far s (es ++ rest) ≡ so_far s es
-  says-stopped law s es rest live stopped =
-      ap (λ (l : List (Message F)). s.first ++ l)
-      (stop-says (λ more. answers S s.start (messages_of [] (es ++ more))) (hears S s es) stopped
-      (law s.start es live) rest ∙ said-at s es)
-
-  -- ---- what is heard
-
-  stays : (h : Hearing F) (rest : List (Event F)) → has_stopped h ≡ true → fold (hear S) h rest ≡ h
-  stays h [] stopped = refl
-  stays (Goes_on e t) (x ∷ rest) stopped = absurd cc
-  stays (Over_at e) (x ∷ rest) stopped = stays (Over_at e) rest stopped
-  stays (Peer_refused code) (x ∷ rest) stopped = stays (Peer_refused code) rest stopped
-  stays (Refused_for code) (x ∷ rest) stopped = stays (Refused_for code) rest stopped
-
-  kept : (h : Hearing F) (to : Standing) (over : Bool) → has_stopped h ≡ true → with_end over (stop_at to h) ≡ h
-  kept (Goes_on e t) to over stopped = absurd cc
-  kept (Over_at e) to over stopped = refl
-  kept (Peer_refused code) to over stopped = refl
-  kept (Refused_for code) to over stopped = refl
-
-  pub hearing-stopped : (s : Speaker F) (over : Bool) (bytes : List ℕ) (es rest : List (Event F))
-      (h : Hearing F) →
-      events_in bytes ≡ es ++ rest → hears S s es ≡ h → has_stopped h ≡ true →
-      hearing_to S W s over bytes ≡ h
-  hearing-stopped s over bytes es rest h all at stopped =
-      let to = (feed W Before_hello bytes).to in
-      ap (λ l. with_end over (stop_at to (hears S s l))) all
-      ∙ ap (λ x. with_end over (stop_at to x))
-      (fold-append (hear S) (begins s) es rest ∙ ap (λ x. fold (hear S) x rest) at
-      ∙ stays h rest stopped)
-      ∙ kept h to over stopped
-
-  -- ---- what is told
 
   slice_last : (xs : List (Message F)) (N : Message F) → slice_get (xs ++ N ∷ []) (length xs) ≡ Some N
   slice_last [] N = refl
@@ -285,9 +216,9 @@ module _ {F : Type 0} (S : Summary F) (W : Profile F) where
     are_bytes = x.are_bytes;
     read = x.read;
     came = came;
-    written = subst (HasWritten W p t.held holds) (sym (says-next laws.say s h x.es e live x.heard))
+    written = subst (HasWritten W p t.held holds) (sym (laws.go_on.says_next s x.es h.end h.taken e live x.heard))
         (adds o p t.held t.holds holds (so_far s x.es) (said_by h e) x.written added);
-    heard = fold-append (hear S) (begins s) x.es (e ∷ []) ∙ ap (λ y. hear S y e) x.heard ∙ sym now;
+    heard = laws.go_on.hears_next s x.es h.end h.taken e x.heard ∙ sym now;
   }
 
   -- so it does behind so many events, and then one more was handed out
@@ -345,9 +276,9 @@ module _ {F : Type 0} (S : Summary F) (W : Profile F) where
       is_live s.start.stage ≡ true → (x : At s h o t e) →
       has_stopped (hear_now S h.end h.taken e) ≡ true → said_by h e ≡ [] → said_to S W s x.bytes ≡ so_far s x.es
   nothing-more laws s h o t e live x stopped none =
-      ap (λ l. so_far s l) x.all ∙ says-stopped laws.say s (x.es ++ e ∷ []) x.rest live
+      ap (λ l. so_far s l) x.all ∙ laws.go_on.says_no_more s (x.es ++ e ∷ []) x.rest live
       (ap has_stopped (heard-next s h o t e x) ∙ stopped)
-      ∙ says-next laws.say s h x.es e live x.heard ∙ ap (λ (l : List (Message F)). so_far s x.es ++ l) none
+      ∙ laws.go_on.says_next s x.es h.end h.taken e live x.heard ∙ ap (λ (l : List (Message F)). so_far s x.es ++ l) none
       ∙ append-nil (so_far s x.es)
 
   -- the event itself stops the session
@@ -370,8 +301,8 @@ module _ {F : Type 0} (S : Summary F) (W : Profile F) where
             let said = nothing-more laws s h o t e live x (ap has_stopped is) (refused-says h e code is) in (
               inl (first-kept laws s h o p t holds e x added),
               inl (first-at laws s r.ended x.bytes (so_far s x.es) p.sent code live
-                  (hearing-stopped s r.ended x.bytes (x.es ++ e ∷ []) x.rest
-                  (Refused_for code) x.all heard refl) said still.count),
+                  (laws.go_on.hears_no_more W s r.ended x.bytes (x.es ++ e ∷ []) x.rest x.all
+                  (ap has_stopped heard) ∙ heard) said still.count),
             )
         by (stops.PeerRefused code) is =
             let now : hear_now S h.end h.taken e ≡ Peer_refused code = ap (hear_now S h.end h.taken) is in
@@ -381,8 +312,8 @@ module _ {F : Type 0} (S : Summary F) (W : Profile F) where
             record {
               said = said-all s p u2 x.bytes (so_far s x.es) said still;
               frame = ap (λ l. fault_of l) frames ∙ first-frame (begins s) x.es x.rest h.end h.taken code x.heard;
-              told = hearing-stopped s r.ended x.bytes (x.es ++ e ∷ []) x.rest (Peer_refused code) x.all
-                  (heard-next s h o t e x ∙ now) refl;
+              told = laws.go_on.hears_no_more W s r.ended x.bytes (x.es ++ e ∷ []) x.rest x.all
+                  (ap has_stopped (heard-next s h o t e x ∙ now)) ∙ (heard-next s h o t e x ∙ now);
             }
         by stops.Memory is = inl (first-kept laws s h o p t holds e x added)
         by (stops.Io side) is = absurd is
@@ -406,7 +337,7 @@ module _ {F : Type 0} (S : Summary F) (W : Profile F) where
         some (inl added) = first-kept laws s h o p t holds e x added
         some (inr added) =
             wrote-first s p u2 x.bytes (so_far s (x.es ++ e ∷ [])) begun_next.0 begun_next.1
-            (subst (HasWritten W p t.held holds) (sym (says-next laws.say s h x.es e live x.heard))
+            (subst (HasWritten W p t.held holds) (sym (laws.go_on.says_next s x.es h.end h.taken e live x.heard))
             (adds o p t.held t.holds holds (so_far s x.es) (said_by h e) x.written added))
 
         by : (stop : Stop) → Unsaid W o p t.holds holds broken (said_by h e) stop →
@@ -415,7 +346,7 @@ module _ {F : Type 0} (S : Summary F) (W : Profile F) where
         by (stops.PeerRefused code) is = absurd is
         by stops.Memory added = inl (first-kept laws s h o p t holds e x added)
         by (stops.Io side) (write, failed, part) =
-            let one = says-next laws.say s h x.es e live x.heard
+            let one = laws.go_on.says_next s x.es h.end h.taken e live x.heard
             ∙ ap (λ (l : List (Message F)). so_far s x.es ++ l) part.one in
             let calls = begun_next.1 ∙ ap (λ (l : List (Message F)). l ++ begun_next.0) one
             ∙ append_assoc (so_far s x.es) (part.message ∷ []) begun_next.0 in (
@@ -548,11 +479,11 @@ module _ {F : Type 0} (S : Summary F) (W : Profile F) where
       let Ms = messages_in W u.bytes in
       let at : hears S s u.events ≡ Over_at h.end = u.heard ∙ heard-over S W h over in
       let behind = all-events b u.bytes u.events u.came in
-      let told = hearing-stopped s false u.bytes u.events behind.0 (Over_at h.end) behind.1 at refl in
+      let told = laws.go_on.hears_no_more W s false u.bytes u.events behind.0 behind.1 (ap has_stopped at) ∙ at in
       let agreed = subst (AgreesBy (session S s Ms) (says S s Ms) (own S s Ms)) told
       (laws.agree s false u.bytes live) in
       let said : said_to S W s u.bytes ≡ so_far s u.events =
-      ap (λ l. so_far s l) behind.1 ∙ says-stopped laws.say s u.events behind.0 live (ap has_stopped at) in
+      ap (λ l. so_far s l) behind.1 ∙ laws.go_on.says_no_more s u.events behind.0 live (ap has_stopped at) in
       record {
         bytes = u.bytes;
         are_bytes = u.are_bytes;

@@ -5,7 +5,6 @@ pub mod Hellos
 pub mod Hearings
 pub mod Breaks
 pub mod Exchanges
-pub mod KeptBounds
 pub mod Endings
 pub mod Serving
 pub mod Dialing

@@ -15,8 +15,10 @@ pub use Rattle.version_lock.specs.Beginnings
 pub use Rattle.wire_core.specs.Feeds
 pub use Rattle.wire_core.specs.Events
 pub use Rattle.io_core.specs.Watch
+pub use Rattle.laws.specs.Hearing as HearingLaws
 pub use Rattle.ends_core.specs.EndStates
 pub use Rattle.ends_core.specs.Turns
+pub use Rattle.ends_core.specs.Sides
 pub mod Faults
 pub mod Outcomes
 pub mod Choices

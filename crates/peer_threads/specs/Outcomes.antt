@@ -4,17 +4,11 @@
 --     Traffic                  what was to be read and is left, and what a writer held and holds
 --     traffic, traffic_behind  the same of a reader, and behind bytes that were read before
 --     seen failed ended        what is seen of a watched reader or writer
---     said_to s bytes          all that a side says to these bytes
---     called_by s bytes        all that these bytes call for: a reply that is too long to be said, too
---     session_at s bytes       its end then
---     peer_of a items          who speaks: the accepted table, and a set
 --     peer_at a w              who speaks: the accepted table, and the set of the history that the view w found
 --     kind_of o                how the table of sessions counts the outcome o
---     known_at s bytes         what a side learns from the messages that it takes, by what they say
 --     call_of s version bytes written r w      a session as it is seen from outside
 --     failing side                             what failed, as the accounts have it
 --     Bears s version t r w bytes o      what the outcome o says
---     KeepsBounds s bytes bound limit       few own messages, short lists, and knowledge as told, whatever was read
 --     Speaks fits s version bound limit t r w o  all of it, of the bytes that were read, bounded where it fits
 --     Unopened t r w o         what an outcome says where no history was looked at
 --     CameFirst unread left    what was read begins with a message that may stand first
@@ -35,6 +29,7 @@ use Rattle.definitions.specs.Hearing.{Peer_refused, hearing_to}
 use Rattle.definitions.specs.Accounts.{Call, Seen, IsRefused, IsFirstFault, IsMemory, IsIo, Failing, Reading, Writing}
 use Rattle.definitions.specs.Theorems.{IsShort}
 use Rattle.strategy_check.specs.Checked.{Checked}
+use Rattle.ends_core.specs.Sides.{KeepsBounds, peer_of, said_to, session_at}
 use Rattle.session_table.specs.declared.totals.CloseKind.{CloseKind}
 use Rattle.session_table.specs.declared.totals.CloseKind.TheVariants as kinds
 use Rattle.version_lock.specs.declared.view.View.{View}
@@ -70,9 +65,6 @@ traffic_behind front unread left held holds = traffic_of (Behind front unread) l
 abbrev pub seen : Bool → Bool → Seen
 seen failed ended = record { failed = failed; ended = ended }
 
-abbrev pub peer_of : Checked → List Item → Peer
-peer_of a items = record { table = a.table; items = items }
-
 abbrev pub peer_at : Checked → View → Peer
 peer_at a w = peer_of a (content w.base)
 
@@ -100,13 +92,6 @@ abbrev pub failing : Direction → Failing
 failing directions.Read = Reading
 failing directions.Write = Writing
 
--- the own messages that the messages taken answer, one each: the first that a responder takes answers none
-abbrev pub answered : {F : Type 0} → Stage F → List (Message F) → List (Message F)
-answered Fresh own = [] ∷ own
-answered (Waits first) own = own
-answered Over own = own
-answered Spent own = own
-
 -- the version of a session that ended
 abbrev pub HasVersion : Outcome → ℕ → Type 0
 HasVersion (Ended learned sent version) v = version ≡ v
@@ -116,23 +101,14 @@ HasVersion (Io side sent) v = ⊤
 HasVersion (Memory sent) v = ⊤
 
 module _ {F : Type 0} (S : Summary F) (W : Profile F) where
-  abbrev pub said_to : Speaker F → List ℕ → List (Message F)
-  said_to s bytes = says S s (messages_in W bytes)
-
-  abbrev pub called_by : Speaker F → List ℕ → List (Message F)
-  called_by s bytes = own S s (messages_in W bytes)
-
-  abbrev pub session_at : Speaker F → List ℕ → End F
-  session_at s bytes = session S s (messages_in W bytes)
-
   -- the side has written all that it says to these bytes: so many messages, behind its hello
   pub record SaidAll (s : Speaker F) (t : Traffic) (bytes : List ℕ) (sent : ℕ) : Type 0 where
-    pub written : Appends t.held t.holds (text W sent (said_to s bytes))
-    pub count : length (said_to s bytes) ≡ sent
+    pub written : Appends t.held t.holds (text W sent (said_to S W s bytes))
+    pub count : length (said_to S W s bytes) ≡ sent
 
   abbrev pub Bears : Speaker F → ℕ → Traffic → Seen → Seen → List ℕ → Outcome → Type 0
   Bears s version t r w bytes (Ended learned sent n) =
-      SaidAll s t bytes sent × IsTrue (is_over (session_at s bytes).stage) × (learned ≡ (session_at s bytes).learned)
+      SaidAll s t bytes sent × IsTrue (is_over (session_at S W s bytes).stage) × (learned ≡ (session_at S W s bytes).learned)
   Bears s version t r w bytes (PeerRefused code sent) =
       SaidAll s t bytes sent × (fault_frame W bytes ≡ Some code)
       × (hearing_to S W s r.ended bytes ≡ Peer_refused code)
@@ -146,21 +122,6 @@ module _ {F : Type 0} (S : Summary F) (W : Profile F) where
       (written : List ℕ) × Appends t.held t.holds written
       × IsMemory S W (call_of s version bytes written r w) sent
 
-  -- what a side learns from the messages that it takes, each beside the own message that it answers
-  abbrev pub known_at : Speaker F → List ℕ → Knowledge
-  known_at s bytes =
-      knows s.start.peer.items (answered s.start.stage (said_to s bytes))
-      (takes S s.start (messages_in W bytes))
-
-  -- whatever the bytes are, there are few own messages, no list in them is longer than the limit, and once the session
-  -- is over the side has learned just what the messages that it took say; this holds of what is called for, too
-  pub record KeepsBounds (s : Speaker F) (bytes : List ℕ) (bound limit : ℕ) : Type 0 where
-    pub few : length (said_to s bytes) ≤ bound
-    pub few_called : length (called_by s bytes) ≤ bound
-    pub short : AllByRecursion (AllByRecursion (IsShort limit)) (said_to s bytes)
-    pub short_called : AllByRecursion (AllByRecursion (IsShort limit)) (called_by s bytes)
-    pub learned : IsTrue (is_over (session_at s bytes).stage) → (session_at s bytes).learned ≡ known_at s bytes
-
   -- the bytes that were read, and what the outcome says of them; the side is bounded where its set is known to fit
   pub record Speaks (fits : Type 0) (s : Speaker F) (version bound limit : ℕ) (t : Traffic) (r w : Seen)
       (o : Outcome) : Type 0 where
@@ -168,7 +129,7 @@ module _ {F : Type 0} (S : Summary F) (W : Profile F) where
     pub read : Takes t.unread t.left bytes
     pub bears : Bears s version t r w bytes o
     pub sent : sent_in o ≤ bound
-    pub bounded : fits → KeepsBounds s bytes bound limit
+    pub bounded : fits → KeepsBounds S W s bytes bound limit
 
   -- ---- before a history is looked at
 

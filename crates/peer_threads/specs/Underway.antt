@@ -31,6 +31,7 @@ use Rattle.definitions.specs.Engines.{Speaker, says, fault_frame, replied, text}
 use Rattle.definitions.specs.Taking.{ended}
 use Rattle.definitions.specs.Hearing.{Hearing, Goes_on, Over_at, Peer_refused, Refused_for, hear_now, hears, hearing_to}
 use Rattle.definitions.specs.Accounts.{Seen, BrokeOff, IsOfTheTable}
+use Rattle.laws.specs.Hearing.{adds}
 use Rattle.ends_core.specs.EndStates.{EndState}
 use Rattle.ends_core.specs.Turns.{fresh, behind_parts}
 use Rattle.peer_threads.specs.declared.outcome.Outcome.{Outcome}
@@ -38,7 +39,8 @@ use Rattle.peer_threads.specs.declared.outcome.Direction.{Direction}
 use Rattle.peer_threads.specs.declared.outcome.Direction.TheVariants as directions
 use Rattle.peer_threads.specs.declared.stop.Stop.{Stop}
 use Rattle.peer_threads.specs.declared.stop.Stop.TheVariants as stops
-use Rattle.peer_threads.specs.Outcomes.{Traffic, Takes, SaidAll, Bears, sent_in, call_of, called_by, session_at}
+use Rattle.peer_threads.specs.Outcomes.{Traffic, Takes, SaidAll, Bears, sent_in, call_of}
+use Rattle.ends_core.specs.Sides.{called_by, session_at}
 use Rattle.peer_threads.specs.Inboxes.{InboxState, HasRead, StopsAt}
 use Rattle.peer_threads.specs.Outboxes.{OutboxState, HasWritten, Adds, BreaksIn, WroteSo, refusal_text}
 
@@ -51,9 +53,7 @@ heard_as h = if is_over h.end.stage then Over_at h.end else Goes_on h.end h.take
 -- ---- one event
 
 abbrev pub said_by : {F : Type 0} → EndState F → Event F → List (Message F)
-said_by h (Came p) = []
-said_by h Ended = replied (ended h.taken)
-said_by h (Failed code) = []
+said_by h e = adds h.taken e
 
 -- this side refuses the event, or it tells that the peer refused, or memory runs out
 abbrev pub Refuses : {F : Type 0} → Summary F → EndState F → Event F → Stop → Type 0

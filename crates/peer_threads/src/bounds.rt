@@ -6,7 +6,7 @@ ghost use Rattle.definitions.specs.Items.{IsBytes};
 ghost use Rattle.definitions.specs.Histories.{History, content};
 ghost use Rattle.definitions.specs.Ranks.{rank_by};
 ghost use Rattle.definitions.specs.Engines.{initiating, responding};
-ghost use Rattle.peer_threads.specs.Outcomes.{KeepsBounds, peer_of};
+ghost use Rattle.ends_core.specs.Sides.{KeepsBounds, peer_of};
 
 use digest_core::Summary;
 use std::sync::Arc;
@@ -24,16 +24,6 @@ pub(crate) fn sides_keep_bounds<F: Summary>(accepted: &Arc<Accepted>)
         KeepsBounds F.summary F.profile (responding (peer_of (arc_value accepted.now) (content h))) bytes
         (rank_by (arc_value accepted.now).steps (length (content h)) + 1) (arc_value accepted.now).table.limit }
 {
-    codec_laws::heard_are_messages::<F>();
-    laws::messages_have_ranges::<F>();
-    laws::initiator_stops::<F>();
-    laws::responder_stops::<F>();
-    laws::ends_keep_limits::<F>();
-    laws::initiator_learns::<F>();
-    laws::responder_learns::<F>();
-    laws::own_is_few::<F>();
-    laws::own_is_short::<F>();
-    rank_laws::ranks_are_read();
+    ends_core::sides_keep_bounds::<F>(accepted);
     store_core::laws::set_of_a_list();
-    let _ = accepted.cap(); // proof only: the strategy was checked
 }

@@ -20,7 +20,8 @@ ghost use Rattle.peer_threads.specs.Inboxes.{Counts, Reads, ReadOn};
 ghost use Rattle.peer_threads.specs.Choices.{ChosenSpeaks, ChosenUnopened, ChosenFirst};
 ghost use Rattle.peer_threads.specs.Hellos.{IsHello};
 ghost use Rattle.peer_threads.specs.Outcomes.{Origin, Reader, Behind, traffic, traffic_of, traffic_behind, seen};
-ghost use Rattle.peer_threads.specs.Outcomes.{Speaks, Unopened, CameFirst, HasVersion, peer_at, peer_of};
+ghost use Rattle.peer_threads.specs.Outcomes.{Speaks, Unopened, CameFirst, HasVersion, peer_at};
+ghost use Rattle.ends_core.specs.Sides.{peer_of};
 ghost use Rattle.peer_threads.specs.Outboxes.{outbox_state};
 ghost use Rattle.peer_threads.specs.Underway.{Exchanged, FirstCame, EndCame, IsFirstPart, first_held, most_sent};
 ghost use Rattle.peer_threads.specs.Underway.{IsNone, Refuses, Stopped, Talked, Spoke};
@@ -145,7 +146,7 @@ fn first_message<R: Read, W: Write, F: Summary>(
     ensures stopped_reads { IfErr result
         (λ _. connection.new.reader.reads + hello.reads ≤ connection.old.reader.reads + 2 ^ 32) }
 {
-    laws::frames_say::<F>();
+    laws::hearings_go_on::<F>();
     laws::own_begins::<F>();
     laws::bytes_agree::<F>();
     let mut inbox = Inbox::<F>::behind(alloc, hello)?;
@@ -182,7 +183,7 @@ fn answer<T: Wait, G: Gate, P: Role, S: RangeStore, R: Read, W: Write, F: Summar
     ensures reads { begun.inbox.reads ≤ 2 ^ 32 →
         connection.new.reader.reads + begun.inbox.reads ≤ connection.old.reader.reads + 2 ^ 32 }
 {
-    laws::frames_say::<F>();
+    laws::hearings_go_on::<F>();
     laws::own_begins::<F>();
     laws::bytes_agree::<F>();
     let Begun { mut inbox, first } = begun;
@@ -388,7 +389,7 @@ pub fn serve_one<T: Wait, S: RangeStore, G: Gate, R: Read, W: Write>(
     ensures version { HasVersion result (length seat.new.view.base) }
     ensures reads { connection.new.reader.reads ≤ connection.old.reader.reads + 2 ^ 32 }
 {
-    laws::frames_say::<Fingerprint>();
+    laws::hearings_go_on::<Fingerprint>();
     laws::own_begins::<Fingerprint>();
     laws::bytes_agree::<Fingerprint>();
     sides_keep_bounds::<Fingerprint>(shared.accepted);

@@ -5,7 +5,7 @@ ghost use Rattle.std.specs.Arc.{arc_value};
 ghost use Rattle.definitions.specs.Messages.{opening};
 ghost use Rattle.definitions.specs.Ends as ends;
 ghost use Rattle.ends_core.specs.Turns.{fresh};
-ghost use Rattle.peer_threads.specs.Outcomes.{peer_of};
+ghost use Rattle.ends_core.specs.Sides.{peer_of};
 
 use crate::booking::Host;
 use digest_core::Summary;

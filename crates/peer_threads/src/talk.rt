@@ -168,7 +168,7 @@ pub(crate) fn talk<T: Wait, G: Gate, P: Role, S: RangeStore, R: Read, W: Write, 
     ensures reads { inbox.old.reads ≤ 2 ^ 32 →
         Counts connection.old.reader.reads connection.new.reader.reads inbox.old inbox.new }
 {
-    laws::frames_say::<F>();
+    laws::hearings_go_on::<F>();
     laws::own_begins::<F>();
     laws::bytes_agree::<F>();
     let _ = party.sent(); // proof only: no more messages than the bound

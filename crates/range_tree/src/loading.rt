@@ -2,6 +2,8 @@
 
 ghost use Rattle.std.specs.Prelude.{◌≡◌, ◌<◌, ◌≤◌, length, map, IfOk};
 ghost use Rattle.std.specs.Arc.{arc_value};
+ghost use Rattle.std.specs.List.{AllByRecursion};
+ghost use Rattle.definitions.specs.Items.{IsItem};
 ghost use Rattle.range_tree.specs.Parts.{items_of, IsFull};
 ghost use Rattle.range_tree.specs.Leaves.{leaf_items, leaf_width};
 ghost use Rattle.range_tree.specs.Branches.{branch_items, branch_width};
@@ -9,9 +11,10 @@ ghost use Rattle.range_tree.specs.Branches.{branch_items, branch_width};
 use crate::branch::Branch;
 use crate::leaf::Leaf;
 use crate::parts;
+use item_core::Item;
 use std::alloc::{AllocError, Global};
 use std::sync::Arc;
-use store_core::Entry;
+use store_core::spans;
 
 /// How many of those that are left go together: 32, or all where they are fewer than 64. So each group has 32 to 63,
 /// but where there are fewer in all.
@@ -22,22 +25,24 @@ fn group_size(left: usize) -> usize
     if left < 64 { left } else { 32 }
 }
 
-/// The leaf of these entries.
-fn leaf_of(alloc: Global, entries: &[Entry]) -> Result<Arc<Leaf>, AllocError>
-    requires some { 0 < length entries.now }
-    requires small { length entries.now ≤ 64 }
-    ensures { IfOk result (λ leaf. leaf_items (arc_value leaf) ≡ entries.now) }
+/// The leaf of these items, each hashed.
+fn leaf_of(alloc: Global, items: &[Item]) -> Result<Arc<Leaf>, AllocError>
+    requires some { 0 < length items.now }
+    requires small { length items.now ≤ 64 }
+    ensures items { IfOk result (λ leaf. leaf_items (arc_value leaf) ≡ items.now) }
+    ensures are_items { IfOk result (λ _. AllByRecursion IsItem items.now) }
 {
-    Ok(Arc::new(alloc, Leaf::of(Vec::from_slice(alloc, entries)?))?)
+    Ok(Arc::new(alloc, Leaf::of(spans::digested(alloc, items)?))?)
 }
 
-/// The leaves of these entries.
-fn leaves_of(alloc: Global, entries: &[Entry]) -> Result<Vec<Arc<Leaf>>, AllocError>
-    ensures items { IfOk result (λ held. items_of leaf_items held.items ≡ entries.now) }
+/// The leaves of these items, each hashed, one leaf after another.
+fn leaves_of(alloc: Global, items: &[Item]) -> Result<Vec<Arc<Leaf>>, AllocError>
+    ensures items { IfOk result (λ held. items_of leaf_items held.items ≡ items.now) }
+    ensures are_items { IfOk result (λ _. AllByRecursion IsItem items.now) }
     ensures full { IfOk result (λ held. IsFull leaf_width (map arc_value held.items)) }
 {
     let mut held = Vec::new(alloc);
-    let mut rest = entries;
+    let mut rest = items;
     'groups: while !rest.is_empty() {
         let (front, back) = rest.split_at(group_size(rest.len()));
         held.push(leaf_of(alloc, front)?)?;
@@ -75,10 +80,11 @@ fn branches_over(alloc: Global, leaves: &[Arc<Leaf>]) -> Result<Vec<Arc<Branch>>
     Ok(held)
 }
 
-/// The branches of these entries.
-pub fn branches_of(alloc: Global, entries: &[Entry]) -> Result<Vec<Arc<Branch>>, AllocError>
-    ensures items { IfOk result (λ held. items_of branch_items held.items ≡ entries.now) }
+/// The branches of these items, each hashed.
+pub fn branches_of(alloc: Global, items: &[Item]) -> Result<Vec<Arc<Branch>>, AllocError>
+    ensures items { IfOk result (λ held. items_of branch_items held.items ≡ items.now) }
+    ensures are_items { IfOk result (λ _. AllByRecursion IsItem items.now) }
     ensures full { IfOk result (λ held. IsFull branch_width (map arc_value held.items)) }
 {
-    branches_over(alloc, &leaves_of(alloc, entries)?)
+    branches_over(alloc, &leaves_of(alloc, items)?)
 }

@@ -14,7 +14,7 @@ use digest_core::{Fingerprint, Summary, laws};
 use item_core::{Item, Range};
 use std::alloc::{AllocError, Global};
 use std::sync::Arc;
-use store_core::{Entry, Insertion, RangeStore, spans};
+use store_core::{Entry, Insertion, RangeStore};
 
 /// The one branch of one leaf of one entry.
 fn branches_of_one(alloc: Global, entry: Entry) -> Result<Vec<Arc<Branch>>, AllocError>
@@ -66,11 +66,12 @@ impl RangeStore for Tree {
     }
 
     fn from_rising(alloc: Global, items: &[Item]) -> Result<Tree, AllocError> {
-        let entries = spans::digested(alloc, items)?;
+        let branches = branches_of(alloc, items)?;
+        let total = parts::total(&branches);
         Ok(Tree {
-            branches: branches_of(alloc, &entries)?,
-            count: entries.len(),
-            total: spans::total(&entries),
+            branches,
+            count: items.len(),
+            total,
         })
     }
 

@@ -24,7 +24,7 @@ use Rattle.definitions.specs.Engines.{Speaker, says, own, session, messages_in}
 use Rattle.definitions.specs.Taking.{nothing_taken}
 use Rattle.definitions.specs.Hearing.{Hearing, Goes_on, Over_at, Peer_refused, Refused_for, hear_now, hears, with_end}
 use Rattle.definitions.specs.Hearing.{hearing_to}
-use Rattle.laws.specs.Hearing.{has_stopped, FramesSay, BytesAgree, AgreesBy}
+use Rattle.laws.specs.Hearing.{has_stopped, HearingsGoOn, BytesAgree, AgreesBy}
 use Rattle.codec_laws.specs.Parts.{FeedsJoin, joined}
 use Rattle.codec_laws.proofs.Fields.{IsBytes-both, rest_fits}
 use Rattle.wire_core.specs.Feeds.{StreamState, Holds, fed_into, fault_at}
@@ -36,11 +36,12 @@ use Rattle.session_core.specs.Sessions.{TalkState, SessionState, is_open, frame_
 use Rattle.wire_core.specs.Events.{event_value}
 use Rattle.wire_core.specs.declared.event.Event as declared
 use Rattle.session_core.specs.Sessions.{HearsIf, IsFed}
-use Rattle.session_core.specs.Sessions.{with_outbox, with_talk, finished, cut_off, hearing_at, said_by, Hears, said_to}
-use Rattle.session_core.specs.Sessions.{session_at, IsEnd, Tells, Goes, Lasts, Stays, GoesOn, Knows, Pushes}
+use Rattle.session_core.specs.Sessions.{with_outbox, with_talk, finished, cut_off, hearing_at, said_by, Hears}
+use Rattle.ends_core.specs.Sides.{said_to}
+use Rattle.session_core.specs.Sessions.{IsEnd, Tells, Goes, Lasts, Stays, GoesOn, Knows, Pushes}
+use Rattle.ends_core.specs.Sides.{session_at}
 use Rattle.session_core.specs.Sessions.{Takes}
-use Rattle.session_core.proofs.Heard.{so_far, events_in, says-next, says-stopped, hears-next, hearing-stopped}
-use Rattle.session_core.proofs.Heard.{hearing-on, hearing-fault, said-of}
+use Rattle.session_core.proofs.Heard.{so_far, events_in, hearing-on, hearing-fault, said-of}
 
 closed-stops : {F : Type 0} (x : State) (h : EndState F) → is_open x ≡ false → has_stopped (hearing_at x h) ≡ true
 closed-stops states.Open h closed = absurd cc
@@ -83,7 +84,7 @@ regroup a b c d =
 module _ {F : Type 0} (S : Summary F) (W : Profile F) where
   -- the laws that are cited, in one place
   pub record Laws : Type 0 where
-    pub say : FramesSay S
+    pub go_on : HearingsGoOn S
     pub agree : BytesAgree S W
     pub join : FeedsJoin W
 
@@ -234,11 +235,12 @@ module _ {F : Type 0} (S : Summary F) (W : Profile F) where
 
     now : said_to S W s (pushed ++ piece) ≡ said_to S W s pushed ++ said_by c.talk.held e
     now = said-of S W s (pushed ++ piece) es (ap (λ (f : Fed F). f.events) on)
-        ∙ says-next S W laws.say s c.talk.held g.events e live g.heard
+        ∙ laws.go_on.says_next s g.events c.talk.held.end c.talk.held.taken e live g.heard
         ∙ ap (λ (l : List (Message F)). l ++ said_by c.talk.held e) (sym before)
 
     hears-all : hears S s es ≡ hearing_at d.talk.state d.talk.held
-    hears-all = hears-next S W s c.talk.held g.events e g.heard ∙ sym heard.heard
+    hears-all =
+        laws.go_on.hears_next s g.events c.talk.held.end c.talk.held.taken e g.heard ∙ sym heard.heard
 
     text : Text s d (pushed ++ piece) taken
     text =
@@ -259,10 +261,10 @@ module _ {F : Type 0} (S : Summary F) (W : Profile F) where
         ap (λ (f : Fed F). f.events) (laws.join Before_hello (pushed ++ piece) later fits bytes
         ∙ ap (λ (a : Fed F). joined a (feed W a.to (a.kept ++ later))) on) in
         let stop = closed-stops d.talk.state d.talk.held closed in (
-          hearing-stopped S W s end ((pushed ++ piece) ++ later) es rest (hearing_at d.talk.state d.talk.held) all
-              hears-all stop,
+          laws.go_on.hears_no_more W s end ((pushed ++ piece) ++ later) es rest all
+              (ap has_stopped hears-all ∙ stop) ∙ hears-all,
           said-of S W s ((pushed ++ piece) ++ later) (es ++ rest) all
-              ∙ says-stopped S W laws.say s es rest live (ap has_stopped hears-all ∙ stop)
+              ∙ laws.go_on.says_no_more s es rest live (ap has_stopped hears-all ∙ stop)
               ∙ sym (said-of S W s (pushed ++ piece) es (ap (λ (f : Fed F). f.events) on)),
         )
 

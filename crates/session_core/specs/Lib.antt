@@ -13,5 +13,7 @@ pub use Rattle.wire_core.specs.Events
 pub use Rattle.ends_core.specs.EndStates
 pub use Rattle.ends_core.specs.Turns
 pub use Rattle.ends_core.specs.Roles
+pub use Rattle.ends_core.specs.Sides
+pub use Rattle.laws.specs.Hearing as HearingLaws
 pub mod Outboxes
 pub mod Sessions

@@ -5,17 +5,13 @@
 --     beginning, opened, noted, refused_by, with_outbox, finished     what single calls make of it
 --     feed_of W f piece, IsFed           what a feed makes of a piece, and the event that it completes, if any
 --     Hears S P t e u, HearsIf           what one event makes of it
---     said_to s bytes, session_at s bytes    what a side says to these bytes, and its end then
 --     Tells S P s c pushed taken         the end, the refusal and the text are those of the definitions
 --     Goes, Stays                        it goes on; or what comes later counts no more
 --     Knows S P s c pushed taken         all of it
 --     Begins S P a s c                   nothing was pushed
 --     Pushes S P c bytes d               whatever was pushed before, these bytes were pushed behind it
 --     Takes S P c bytes d                whatever was taken before, these bytes were taken behind it
---     peer_of a items                    who speaks: the accepted table, and a set
 --     speaker_of S side P                the side of a role
---     known_at s bytes                   what a side learns from the messages that it takes, by what they say
---     KeepsBounds s bytes bound limit       few messages, short lists, and knowledge as told, whatever was pushed
 use Rattle.std.specs.Prelude.{◌≡◌, ℕ, ◌≤◌, ◌⊎◌, Bool, true, false, List, [], ◌∷◌, ◌++◌, length, flat_map, Option, Some, None}
 use Rattle.std.specs.Prelude.{IsTrue, if◌then◌else◌, ⊤}
 use Rattle.std.specs.List.{AllByRecursion}
@@ -34,11 +30,13 @@ use Rattle.definitions.specs.Taking.{ended}
 use Rattle.definitions.specs.Hearing.{Hearing, Goes_on, Over_at, Peer_refused, Refused_for, hear_now, hears, hearing_to}
 use Rattle.definitions.specs.Worlds.{Side}
 use Rattle.definitions.specs.Worlds as worlds
+use Rattle.laws.specs.Hearing.{adds}
 use Rattle.strategy_check.specs.Checked.{Checked}
 use Rattle.wire_core.specs.Feeds.{StreamState, Holds, fed_into, fault_at}
 use Rattle.wire_core.specs.Events.{event_value}
 use Rattle.wire_core.specs.declared.event.Event as declared
 use Rattle.ends_core.specs.EndStates.{EndState}
+use Rattle.ends_core.specs.Sides.{said_to, session_at}
 use Rattle.session_core.specs.Outboxes.{OutboxState, outbox_state}
 use Rattle.session_core.specs.declared.state.State.{State}
 use Rattle.session_core.specs.declared.state.State.TheVariants as states
@@ -118,9 +116,7 @@ hearing_at (states.Refused code) h = Refused_for code
 hearing_at (states.PeerRefused code) h = Peer_refused code
 
 abbrev pub said_by : {F : Type 0} → EndState F → Event F → List (Message F)
-said_by h (Came p) = []
-said_by h Ended = replied (ended h.taken)
-said_by h (Failed code) = []
+said_by h e = adds h.taken e
 
 abbrev pub events_of : {F : Type 0} → Option (declared.Event F) → List (Event F)
 events_of None = []
@@ -147,15 +143,6 @@ module _ {F : Type 0} (S : Summary F) (W : Profile F) where
 
   -- ---- all bytes
 
-  abbrev pub said_to : Speaker F → List ℕ → List (Message F)
-  said_to s bytes = says S s (messages_in W bytes)
-
-  abbrev pub called_by : Speaker F → List ℕ → List (Message F)
-  called_by s bytes = own S s (messages_in W bytes)
-
-  abbrev pub session_at : Speaker F → List ℕ → End F
-  session_at s bytes = session S s (messages_in W bytes)
-
   -- a session that goes on, or has ended, has this end
   abbrev pub IsEnd : State → End F → End F → Type 0
   IsEnd states.Open e f = (e ≡ f) × IsTrue (is_live f.stage)
@@ -168,9 +155,9 @@ module _ {F : Type 0} (S : Summary F) (W : Profile F) where
     -- whether it goes on, has ended, or who refused and why: a refusal of this side is the first fault of the bytes
     pub heard : hearing_to S W s c.over pushed ≡ hearing_at c.talk.state c.talk.held
     -- the end is the one that the messages in these bytes make
-    pub end : IsEnd c.talk.state c.talk.held.end (session_at s pushed)
+    pub end : IsEnd c.talk.state c.talk.held.end (session_at S W s pushed)
     -- what was taken and what is due: a hello, all that is said to these bytes, and one fault frame for a refusal
-    pub text : taken ++ due W c.talk ≡ session_text W (said_to s pushed) ++ frame_of c.talk.state
+    pub text : taken ++ due W c.talk ≡ session_text W (said_to S W s pushed) ++ frame_of c.talk.state
 
   pub record Goes (s : Speaker F) (c : SessionState F) (pushed : List ℕ) : Type 0 where
     pub events : List (Event F)
@@ -183,7 +170,7 @@ module _ {F : Type 0} (S : Summary F) (W : Profile F) where
   abbrev pub Lasts : Speaker F → TalkState F → List ℕ → Type 0
   Lasts s t pushed = (later : List ℕ) (over : Bool) → IsBytes later →
       (hearing_to S W s over (pushed ++ later) ≡ hearing_at t.state t.held)
-      × (said_to s (pushed ++ later) ≡ said_to s pushed)
+      × (said_to S W s (pushed ++ later) ≡ said_to S W s pushed)
 
   abbrev pub Stays : Speaker F → SessionState F → List ℕ → Type 0
   Stays s c pushed = IsTrue c.over ⊎ Lasts s c.talk pushed
@@ -211,33 +198,6 @@ module _ {F : Type 0} (S : Summary F) (W : Profile F) where
   abbrev pub Takes : SessionState F → List ℕ → SessionState F → Type 0
   Takes c bytes d = (s : Speaker F) (pushed taken : List ℕ) → Knows s c pushed taken →
       Knows s d pushed (taken ++ bytes)
-
-  -- ---- what is learned, and how much is said
-
-  -- our messages that the messages taken answer, one each: the first that a responder takes answers none
-  abbrev pub answered : Stage F → List (Message F) → List (Message F)
-  answered Fresh Ms = [] ∷ Ms
-  answered (Waits first) Ms = Ms
-  answered Over Ms = Ms
-  answered Spent Ms = Ms
-
-  -- what a side learns from the messages that it takes, each beside our message that it answers
-  abbrev pub known_at : Speaker F → List ℕ → Knowledge
-  known_at s bytes =
-      knows s.start.peer.items (answered s.start.stage (said_to s bytes))
-      (takes S s.start (messages_in W bytes))
-
-  -- whatever the bytes are, there are few messages of this side, no list in them is longer than the limit, and once the
-  -- session is over the side has learned just what the messages that it took say; this holds of what is called for, too
-  pub record KeepsBounds (s : Speaker F) (bytes : List ℕ) (bound limit : ℕ) : Type 0 where
-    pub few : length (said_to s bytes) ≤ bound
-    pub few_called : length (called_by s bytes) ≤ bound
-    pub short : AllByRecursion (AllByRecursion (IsShort limit)) (said_to s bytes)
-    pub short_called : AllByRecursion (AllByRecursion (IsShort limit)) (called_by s bytes)
-    pub learned : IsTrue (is_over (session_at s bytes).stage) → (session_at s bytes).learned ≡ known_at s bytes
-
-abbrev pub peer_of : Checked → List Item → Peer
-peer_of a items = record { table = a.table; items = items }
 
 abbrev pub speaker_of : {F : Type 0} → Summary F → Side → Peer → Speaker F
 speaker_of S worlds.Initiator P = initiating S P

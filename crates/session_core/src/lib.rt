@@ -1,12 +1,10 @@
 //! A session of this side, bytes in and bytes out: no reader, no writer and no thread.
 #![tactic(auto)]
 
-mod bounds;
 mod outbox;
 mod session;
 mod state;
 mod talk;
 
-pub use bounds::sides_keep_bounds;
 pub use session::Session;
 pub use state::State;

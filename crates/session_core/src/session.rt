@@ -14,7 +14,8 @@ ghost use Rattle.wire_core.specs.Feeds.{fed_into, fault_at};
 ghost use Rattle.ends_core.specs.Roles.{most_of};
 ghost use Rattle.session_core.specs.Outboxes.{outbox_state};
 ghost use Rattle.session_core.specs.Sessions.{due, opened, with_talk, finished, with_outbox};
-ghost use Rattle.session_core.specs.Sessions.{feed_of, IsFed, Knows, Begins, Pushes, Takes, known_at, speaker_of, peer_of};
+ghost use Rattle.session_core.specs.Sessions.{feed_of, IsFed, Knows, Begins, Pushes, Takes, speaker_of};
+ghost use Rattle.ends_core.specs.Sides.{known_at, peer_of};
 ghost use Rattle.session_core.specs.declared.state.State.TheVariants as states;
 
 use crate::outbox::{Outbox, hello_text};
@@ -135,7 +136,7 @@ impl<R: Role, S: RangeStore, F: Summary> Session<R, S, F> {
         ensures memory { OnErr result (self.new ≡ self.old) }
     {
         codec_laws::feeds_join::<F>();
-        laws::frames_say::<F>();
+        laws::hearings_go_on::<F>();
         laws::bytes_agree::<F>();
         are_bytes(piece);
         if self.over {
@@ -205,7 +206,7 @@ impl<R: Role, S: RangeStore, F: Summary> Session<R, S, F> {
         ensures memory { OnErr result (self.new ≡ self.old) }
     {
         codec_laws::feeds_join::<F>();
-        laws::frames_say::<F>();
+        laws::hearings_go_on::<F>();
         laws::bytes_agree::<F>();
         self.feed.keep(piece)
     }
@@ -226,7 +227,7 @@ impl<R: Role, S: RangeStore, F: Summary> Session<R, S, F> {
         ensures memory { OnErr result (self.new ≡ self.old) }
     {
         codec_laws::feeds_join::<F>();
-        laws::frames_say::<F>();
+        laws::hearings_go_on::<F>();
         laws::bytes_agree::<F>();
         let _ = piece; // proof only
         self.talk.hear_if(alloc, event)?;
@@ -244,7 +245,7 @@ impl<R: Role, S: RangeStore, F: Summary> Session<R, S, F> {
         ensures over { self.new.over ≡ self.old.over }
     {
         codec_laws::feeds_join::<F>();
-        laws::frames_say::<F>();
+        laws::hearings_go_on::<F>();
         laws::bytes_agree::<F>();
         let _ = piece; // proof only
         self.talk.refuse(fault.number());
@@ -258,7 +259,7 @@ impl<R: Role, S: RangeStore, F: Summary> Session<R, S, F> {
             Knows F.summary F.profile s self.old pushed taken → Knows F.summary F.profile s self.new pushed taken }
     {
         codec_laws::feeds_join::<F>();
-        laws::frames_say::<F>();
+        laws::hearings_go_on::<F>();
         laws::bytes_agree::<F>();
         self.cut_off();
     }

@@ -10,7 +10,7 @@ use Rattle.peer_threads.proofs.engines.answer.Goals as goal
 pub returns-in_err-take-clause-talked : goal.returns-in_err-take-clause-talked
 returns-in_err-take-clause-talked g c = λ p steps unread held new x.
     let laws : Laws g.F.Summary.summary g.F.Summary.profile = record {
-      say = c.frames_say.ensures g.F.Summary.summary;
+      go_on = c.hearings_go_on.ensures g.F.Summary.summary;
       begin = c.own_begins.ensures g.F.Summary.summary;
       agree = c.bytes_agree.ensures g.F.Summary.summary g.F.Summary.profile;
     } in
@@ -26,7 +26,7 @@ returns-in_err-take-clause-talked g c = λ p steps unread held new x.
 pub returns-in_err-end-clause-talked : goal.returns-in_err-end-clause-talked
 returns-in_err-end-clause-talked g c = λ p steps unread held new x.
     let laws : Laws g.F.Summary.summary g.F.Summary.profile = record {
-      say = c.frames_say.ensures g.F.Summary.summary;
+      go_on = c.hearings_go_on.ensures g.F.Summary.summary;
       begin = c.own_begins.ensures g.F.Summary.summary;
       agree = c.bytes_agree.ensures g.F.Summary.summary g.F.Summary.profile;
     } in
@@ -45,7 +45,7 @@ returns-in_err-end-clause-few g c =
 pub returns-clause-talked : goal.returns-clause-talked
 returns-clause-talked g c = λ p steps unread held new x.
     let laws : Laws g.F.Summary.summary g.F.Summary.profile = record {
-      say = c.frames_say.ensures g.F.Summary.summary;
+      go_on = c.hearings_go_on.ensures g.F.Summary.summary;
       begin = c.own_begins.ensures g.F.Summary.summary;
       agree = c.bytes_agree.ensures g.F.Summary.summary g.F.Summary.profile;
     } in
@@ -68,7 +68,7 @@ returns-in_err-end-clause-on g c = λ p steps unread held new x. on-nothing _
 pub returns-clause-on : goal.returns-clause-on
 returns-clause-on g c = λ p steps unread held new x.
     let laws : Laws g.F.Summary.summary g.F.Summary.profile = record {
-      say = c.frames_say.ensures g.F.Summary.summary;
+      go_on = c.hearings_go_on.ensures g.F.Summary.summary;
       begin = c.own_begins.ensures g.F.Summary.summary;
       agree = c.bytes_agree.ensures g.F.Summary.summary g.F.Summary.profile;
     } in

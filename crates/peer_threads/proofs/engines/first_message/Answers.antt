@@ -14,7 +14,7 @@ pub returns-in_err-inbox-clause-stopped : goal.returns-in_err-inbox-clause-stopp
 returns-in_err-inbox-clause-stopped g c =
     told c.from_residual.result c.in_err-inbox.field-0.0 _ (search rules) (λ P.
     let laws : Laws g.F.Summary.summary g.F.Summary.profile = record {
-      say = c.frames_say.ensures g.F.Summary.summary;
+      go_on = c.hearings_go_on.ensures g.F.Summary.summary;
       begin = c.own_begins.ensures g.F.Summary.summary;
       agree = c.bytes_agree.ensures g.F.Summary.summary g.F.Summary.profile;
     } in
@@ -43,7 +43,7 @@ returns-in_err-first-clause-stopped g c =
     let is = err_from_is_err_and c.from_residual-in_err-first.result c.from_residual-in_err-first.ensures.1 in
     told c.from_residual-in_err-first.result c.in_err-first.field-0.0 _ (is.1 ∙ ap Err is.2) (λ P.
     let laws : Laws g.F.Summary.summary g.F.Summary.profile = record {
-      say = c.frames_say.ensures g.F.Summary.summary;
+      go_on = c.hearings_go_on.ensures g.F.Summary.summary;
       begin = c.own_begins.ensures g.F.Summary.summary;
       agree = c.bytes_agree.ensures g.F.Summary.summary g.F.Summary.profile;
     } in
@@ -60,7 +60,7 @@ returns-in_err-first_end-clause-stopped g c =
     let is = err_from_is_err_and c.from_residual-in_err-first_end.result c.from_residual-in_err-first_end.ensures.1 in
     told c.from_residual-in_err-first_end.result c.in_err-first_end.field-0.0 _ (is.1 ∙ ap Err is.2) (λ P.
     let laws : Laws g.F.Summary.summary g.F.Summary.profile = record {
-      say = c.frames_say.ensures g.F.Summary.summary;
+      go_on = c.hearings_go_on.ensures g.F.Summary.summary;
       begin = c.own_begins.ensures g.F.Summary.summary;
       agree = c.bytes_agree.ensures g.F.Summary.summary g.F.Summary.profile;
     } in

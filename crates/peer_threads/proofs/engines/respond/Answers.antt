@@ -4,7 +4,8 @@ use Rattle.definitions.specs.Engines.{responding}
 use Rattle.definitions.specs.Ranks.{rank_by}
 use Rattle.session_table.specs.Faults.{table_fault_number}
 use Rattle.peer_threads.specs.declared.stop.Stop.TheVariants as stops
-use Rattle.peer_threads.specs.Outcomes.{traffic_of, seen, peer_of}
+use Rattle.peer_threads.specs.Outcomes.{traffic_of, seen}
+use Rattle.ends_core.specs.Sides.{peer_of}
 use Rattle.peer_threads.specs.Stops.{outcome_of}
 use Rattle.peer_threads.specs.Underway.{Leaves, Spoke, most_sent}
 use Rattle.peer_threads.proofs.Exchanges.{on-nothing}

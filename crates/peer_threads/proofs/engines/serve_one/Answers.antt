@@ -13,7 +13,7 @@ use Rattle.peer_threads.proofs.engines.serve_one.Goals as goal
 pub returns-in-Err-clause-view : goal.returns-in-Err-clause-view
 returns-in-Err-clause-view g c =
     let laws : Laws two_lanes two_lane_profile = record {
-      say = c.frames_say.ensures two_lanes;
+      go_on = c.hearings_go_on.ensures two_lanes;
       begin = c.own_begins.ensures two_lanes;
       agree = c.bytes_agree.ensures two_lanes two_lane_profile;
     } in
@@ -32,7 +32,7 @@ returns-in-Err-clause-view g c =
 pub returns-in-Err-clause-bytes : goal.returns-in-Err-clause-bytes
 returns-in-Err-clause-bytes g c =
     let laws : Laws two_lanes two_lane_profile = record {
-      say = c.frames_say.ensures two_lanes;
+      go_on = c.hearings_go_on.ensures two_lanes;
       begin = c.own_begins.ensures two_lanes;
       agree = c.bytes_agree.ensures two_lanes two_lane_profile;
     } in

@@ -8,7 +8,7 @@ use Rattle.peer_threads.proofs.talk.talk.Goals as goal
 pub returns-then-is_over-clause-talked : goal.returns-then-is_over-clause-talked
 returns-then-is_over-clause-talked g c = λ s unread held live start.
     let laws : Laws g.F.Summary.summary g.F.Summary.profile = record {
-      say = c.frames_say.ensures g.F.Summary.summary;
+      go_on = c.hearings_go_on.ensures g.F.Summary.summary;
       begin = c.own_begins.ensures g.F.Summary.summary;
       agree = c.bytes_agree.ensures g.F.Summary.summary g.F.Summary.profile;
     } in
@@ -19,7 +19,7 @@ returns-then-is_over-clause-talked g c = λ s unread held live start.
 pub returns-in_err-event-clause-talked : goal.returns-in_err-event-clause-talked
 returns-in_err-event-clause-talked g c = λ s unread held live start.
     let laws : Laws g.F.Summary.summary g.F.Summary.profile = record {
-      say = c.frames_say.ensures g.F.Summary.summary;
+      go_on = c.hearings_go_on.ensures g.F.Summary.summary;
       begin = c.own_begins.ensures g.F.Summary.summary;
       agree = c.bytes_agree.ensures g.F.Summary.summary g.F.Summary.profile;
     } in
@@ -34,7 +34,7 @@ returns-in_err-event-clause-talked g c = λ s unread held live start.
 pub returns-in_err-hear-clause-talked : goal.returns-in_err-hear-clause-talked
 returns-in_err-hear-clause-talked g c = λ s unread held live start.
     let laws : Laws g.F.Summary.summary g.F.Summary.profile = record {
-      say = c.frames_say.ensures g.F.Summary.summary;
+      go_on = c.hearings_go_on.ensures g.F.Summary.summary;
       begin = c.own_begins.ensures g.F.Summary.summary;
       agree = c.bytes_agree.ensures g.F.Summary.summary g.F.Summary.profile;
     } in
@@ -60,7 +60,7 @@ loop-turn-preserved g c = record {
       (omega (arith, so.0, now.0), now.1);
   goes = λ s unread held live start.
       let laws : Laws g.F.Summary.summary g.F.Summary.profile = record {
-        say = c.frames_say.ensures g.F.Summary.summary;
+        go_on = c.hearings_go_on.ensures g.F.Summary.summary;
         begin = c.own_begins.ensures g.F.Summary.summary;
         agree = c.bytes_agree.ensures g.F.Summary.summary g.F.Summary.profile;
       } in
@@ -79,7 +79,7 @@ loop-turn-preserved g c = record {
 pub returns-clause-talked : goal.returns-clause-talked
 returns-clause-talked g c = λ s unread held live start.
     let laws : Laws g.F.Summary.summary g.F.Summary.profile = record {
-      say = c.frames_say.ensures g.F.Summary.summary;
+      go_on = c.hearings_go_on.ensures g.F.Summary.summary;
       begin = c.own_begins.ensures g.F.Summary.summary;
       agree = c.bytes_agree.ensures g.F.Summary.summary g.F.Summary.profile;
     } in

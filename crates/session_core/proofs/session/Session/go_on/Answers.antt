@@ -6,7 +6,7 @@ use Rattle.session_core.proofs.session.Session.go_on.Goals as goal
 pub returns-clause-pushes : goal.returns-clause-pushes
 returns-clause-pushes g c = λ s pushed taken live k.
     let laws : Laws g.F.Summary.summary g.F.Summary.profile = record {
-      say = c.frames_say.ensures g.F.Summary.summary;
+      go_on = c.hearings_go_on.ensures g.F.Summary.summary;
       agree = c.bytes_agree.ensures g.F.Summary.summary g.F.Summary.profile;
       join = c.feeds_join.ensures g.F.Summary.profile g.met.F.Summary.real;
     } in

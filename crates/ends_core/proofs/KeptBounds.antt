@@ -15,7 +15,7 @@ use Rattle.definitions.specs.Theorems.{ResponderLearns}
 use Rattle.laws.specs.Hearing.{OwnIsFew, OwnIsShort}
 use Rattle.codec_laws.specs.Parts.{HeardAreMessages}
 use Rattle.strategy_check.specs.Checked.{Checked, IsChecked}
-use Rattle.session_core.specs.Sessions.{KeepsBounds, peer_of}
+use Rattle.ends_core.specs.Sides.{KeepsBounds, peer_of}
 
 module _ {F : Type 0} (S : Summary F) (W : Profile F) where
   abbrev pub HaveRanges : Type 0

@@ -1,0 +1,36 @@
+//! What each side keeps to, whatever its peer sends.
+
+ghost use Rattle.std.specs.Prelude.{◌≤◌, ◌+◌, ℕ, List, length};
+ghost use Rattle.definitions.specs.Items.{Item, IsBytes};
+ghost use Rattle.definitions.specs.Sets.{IsSet};
+ghost use Rattle.definitions.specs.Ranks.{rank_by};
+ghost use Rattle.definitions.specs.Engines.{initiating, responding};
+ghost use Rattle.ends_core.specs.Sides.{KeepsBounds, peer_of};
+
+use digest_core::Summary;
+use strategy_check::Accepted;
+
+/// A side that goes by an accepted strategy sends few messages and short lists, and learns just what the messages that it
+/// takes say, whatever the bytes are that it gets.
+pub fn sides_keep_bounds<F: Summary>(accepted: &Accepted)
+    ensures initiator { (items : List Item) (bytes : List ℕ) → IsSet items → IsBytes bytes →
+        length items ≤ accepted.now.table.cap →
+        KeepsBounds F.summary F.profile (initiating F.summary (peer_of accepted.now items)) bytes
+        (rank_by accepted.now.steps (length items) + 2) accepted.now.table.limit }
+    ensures responder { (items : List Item) (bytes : List ℕ) → IsSet items → IsBytes bytes →
+        length items ≤ accepted.now.table.cap →
+        KeepsBounds F.summary F.profile (responding (peer_of accepted.now items)) bytes
+        (rank_by accepted.now.steps (length items) + 1) accepted.now.table.limit }
+{
+    codec_laws::heard_are_messages::<F>();
+    laws::messages_have_ranges::<F>();
+    laws::initiator_stops::<F>();
+    laws::responder_stops::<F>();
+    laws::ends_keep_limits::<F>();
+    laws::initiator_learns::<F>();
+    laws::responder_learns::<F>();
+    laws::own_is_few::<F>();
+    laws::own_is_short::<F>();
+    rank_laws::ranks_are_read();
+    let _ = accepted.cap(); // proof only: the strategy was checked
+}
