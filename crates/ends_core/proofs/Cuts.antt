@@ -10,12 +10,10 @@ use Rattle.std.proofs.lemmas.Cmp.{ranked}
 use Rattle.std.proofs.lemmas.Bool.{and_parts}
 use Rattle.std.proofs.lemmas.List.Kept.{IsStrictlySortedBy-filter}
 use Rattle.std.proofs.lemmas.Map.Keys.{Less-from_sorted, sorted_head, sorted_tail}
-use Rattle.std.specs.List.{slice_get}
-use Rattle.std.proofs.lemmas.List.{drop_more}
-use Rattle.std.proofs.lemmas.Option.{get_or_from_slice_get}
+use Rattle.std.proofs.lemmas.List.{drop_more, get_or-map, length-map}
 use Rattle.definitions.specs.Items.{cut_range, Item, Range, item_cmp, comes_before, is_below, contains}
 use Rattle.definitions.specs.Sets.{IsSet, items_in}
-use Rattle.ends_core.specs.Cutting.{items_at}
+use Rattle.store_core.specs.Stores.{items_at}
 use Rattle.definitions.proofs.Order.{upto-before}
 use Rattle.definitions.proofs.Lists.{All-filter, All-at}
 
@@ -91,15 +89,22 @@ pub record IsStep (A : List Item) (X rest : Range) (x : Item) (now later : List 
   } ∷ cut_range (record { lower = x; upper = rest.upper }) (items_at A X later)
   pub ahead : IsAhead A X x later
 
-pub step : (A : List Item) (X rest : Range) (places : List ℕ) (i : ℕ) (x : Item) → IsSet A → i < length places →
-    slice_get (items_in A X) (get_or places i 0) ≡ Some x →
+length_read : (A : List Item) (X : Range) (places : List ℕ) → length (items_at A X places) ≡ length places
+length_read A X places = length-map places (λ place. get_or (items_in A X) place [])
+
+pub step : (A : List Item) (X rest : Range) (places : List ℕ) (items : List Item) (i : ℕ) (x : Item) → IsSet A →
+    items ≡ items_at A X places → i < length items → x ≡ get_or items i x →
     rest.upper ≡ X.upper → IsAhead A X rest.lower (drop i places) →
     IsStep A X rest x (drop i places) (drop (i + 1) places)
-step A X rest places i x set low found upper ahead =
+step A X rest places items i x set made inside read upper ahead =
+    let low : i < length places = omega (arith, inside, ap length made, length_read A X places) in
     let place = get_or places i 0 in
+    let is : get_or (items_in A X) place [] ≡ x =
+    sym (get_or-map (λ p. get_or (items_in A X) p []) places i 0 x low)
+    ∙ ap (λ (ys : List Item). get_or ys i x) (sym made)
+    ∙ sym read in
     let here : drop i places ≡ place ∷ drop (i + 1) places = drop_more places i 0 low in
     let next : IsAhead A X rest.lower (place ∷ drop (i + 1) places) = subst (IsAhead A X rest.lower) here ahead in
-    let is : get_or (items_in A X) place [] ≡ x = get_or_from_slice_get (items_in A X) place x [] found in
     let below : is_below x X.upper ≡ true =
     subst (λ (y : Item). is_below y X.upper ≡ true) is (below_upper A X place next.within.0) in
     record {

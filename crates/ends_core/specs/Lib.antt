@@ -6,7 +6,6 @@ pub use Rattle.definitions.specs.Placing
 pub use Rattle.definitions.specs.Talks
 pub mod Learning
 pub mod Drafts
-pub mod Cutting
 pub use Rattle.definitions.specs.Ends
 pub use Rattle.definitions.specs.Taking
 pub use Rattle.place_core.specs.Placements

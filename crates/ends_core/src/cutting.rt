@@ -6,7 +6,7 @@ ghost use Rattle.std.specs.List.Sorted.{IsStrictlySortedBy};
 ghost use Rattle.std.specs.Ordering.{nat_cmp};
 ghost use Rattle.definitions.specs.Items.{cut_range as cut, comes_before, is_below};
 ghost use Rattle.definitions.specs.Sets.{items_in};
-ghost use Rattle.ends_core.specs.Cutting.{items_at};
+ghost use Rattle.store_core.specs.Stores.{items_at};
 
 use item_core::{Item, Lower, Range, Upper};
 use std::alloc::{AllocError, Global};
@@ -40,10 +40,11 @@ pub(crate) fn cut_range<S: RangeStore>(
     ensures { IfOk result
         (λ parts. parts.items ≡ cut range.now (items_at (S.content store.now) range.now places.now)) }
 {
+    let items = store.nths(alloc, range, places)?;
     let mut parts = Vec::with_capacity(alloc, places.len() + 1)?;
     let mut rest = *range;
-    for place in places {
-        let (front, back) = split_at(&rest, store.nth(range, *place));
+    for item in &items {
+        let (front, back) = split_at(&rest, *item);
         parts.push(front)?;
         rest = back;
     }

@@ -168,11 +168,14 @@ impl<F: Summary> Draft<F> {
         Ok(())
     }
 
-    /// What the parts tell.
-    pub(crate) fn learned(&self) -> &Learned
-        ensures { result.now ≡ self.now.learned }
+    /// Adds what the parts tell to what was learned before. Both are unchanged where memory runs out; else only what is
+    /// answered is left here.
+    pub(crate) fn teach(&mut self, learned: &mut Learned) -> Result<(), AllocError>
+        ensures ok { OnOk result (learned.new ≡ and_then learned.old self.old.learned) }
+        ensures answer { OnOk result (drafted_answer self.new ≡ drafted_answer self.old) }
+        ensures err { OnErr result ((learned.new ≡ learned.old) × (self.new ≡ self.old)) }
     {
-        &self.learned
+        learned.take_in(&mut self.learned)
     }
 
     /// Where the session stands behind the end of the message.

@@ -227,7 +227,7 @@ impl<S: RangeStore, F: Summary> End<S, F> {
                 return Err(fault);
             }
         };
-        self.learned.append(self.draft.learned())?;
+        self.draft.teach(&mut self.learned)?;
         let draft = mem::replace(&mut self.draft, Draft::nothing(alloc));
         let turn = draft.into_turn();
         self.stage = stage;

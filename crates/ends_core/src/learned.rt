@@ -6,6 +6,7 @@ ghost use Rattle.definitions.specs.Talks.{nothing, and_then};
 use item_core::Item;
 use std::alloc::{AllocError, Global};
 use std::marker::Model;
+use std::mem;
 
 /// What a peer learned: own items that the other one lacks, and items of the other one that it lacks itself.
 #[derive(Debug, Drop)]
@@ -62,6 +63,19 @@ impl Learned {
         self.ours.reserve(later.ours.len())?;
         self.theirs.extend_from_slice(&later.theirs)?;
         self.ours.extend_from_slice(&later.ours)
+    }
+
+    /// Adds what was learned later, by moving it where nothing was learned before, so that it is not held twice. Both
+    /// are unchanged where memory runs out.
+    pub(crate) fn take_in(&mut self, later: &mut Learned) -> Result<(), AllocError>
+        ensures ok { OnOk result (self.new ≡ and_then self.old later.old) }
+        ensures err { OnErr result ((self.new ≡ self.old) × (later.new ≡ later.old)) }
+    {
+        if self.ours.is_empty() && self.theirs.is_empty() {
+            mem::swap(self, later);
+            return Ok(());
+        }
+        self.append(later)
     }
 
     /// Gives up what was added behind so many items.

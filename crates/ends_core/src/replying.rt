@@ -1,15 +1,17 @@
 //! The reply to a part of a message under a strategy.
 
-ghost use Rattle.std.specs.Prelude.{◌≡◌, ◌++◌, ◌<◌, ◌≤◌, ◌^◌, map, length, not, IfOk, OnOk, IsTrue};
+ghost use Rattle.std.specs.Prelude.{◌≡◌, ◌++◌, ◌<◌, ◌≤◌, ◌^◌, List, map, length, not, IfOk, OnOk, IsTrue};
+ghost use Rattle.definitions.specs.Items.{Item as Bytes, Range as Bounds};
 ghost use Rattle.definitions.specs.Messages.{Sum, Listing};
 ghost use Rattle.definitions.specs.Replies as replies;
 ghost use Rattle.definitions.specs.Sets.{has, items_in};
 ghost use Rattle.definitions.specs.Strategies.{IsTable, act, shares, is_split};
 ghost use Rattle.definitions.specs.Wire.{IsPart};
+ghost use Rattle.store_core.specs.Stores.{counted_in};
 
 use crate::cutting::cut_range;
 use crate::learning::push_unlisted;
-use digest_core::Summary;
+use digest_core::{Fingerprint, Summary};
 use item_core::{Item, Range};
 use std::alloc::{AllocError, Global};
 use store_core::RangeStore;
@@ -82,8 +84,17 @@ pub(crate) fn sum_in<S: RangeStore, F: Summary>(store: &S, range: &Range) -> F
     F::of_set(count, lanes)
 }
 
+/// The Sum of a range, by the number of items that it holds and their fingerprint.
+fn sum_by<F: Summary>(told: &(Range, usize, Fingerprint)) -> Part<F>
+    ensures { (A : List Bytes) (X : Bounds) → told.now ≡ counted_in A X → result ≡ replies.sum_of F.summary A X }
+{
+    let (range, count, lanes) = told;
+    Part::sum(*range, F::of_set(*count, *lanes))
+}
+
 /// Appends the Sum of each range.
 fn push_sums<S: RangeStore, F: Summary>(
+    alloc: Global,
     parts: &mut Vec<Part<F>>,
     store: &S,
     ranges: &[Range],
@@ -91,8 +102,9 @@ fn push_sums<S: RangeStore, F: Summary>(
     ensures { OnOk result (parts.new.items ≡ parts.old.items ++ map (replies.sum_of F.summary (S.content store.now))
         ranges.now) }
 {
-    for range in ranges {
-        parts.push(Part::sum(*range, sum_in(store, range)))?;
+    let counted = store.counts_and_sums(alloc, ranges)?;
+    for told in &counted {
+        parts.push(sum_by(told))?;
     }
     Ok(())
 }
@@ -125,7 +137,7 @@ fn push_cut<S: RangeStore, F: Summary>(
     rank_laws::shares_are_parts();
     let places = places_of(alloc, strategy, count_in(strategy, store, range))?;
     let ranges = cut_range(alloc, store, range, &places)?;
-    push_sums(parts, store, &ranges)
+    push_sums(alloc, parts, store, &ranges)
 }
 
 /// Appends what is said of a range that differs: its list, or the Sums of its parts.

@@ -19,7 +19,8 @@ use Rattle.definitions.specs.Items.{IsBytes}
 use Rattle.definitions.specs.Messages.{Message}
 use Rattle.definitions.specs.Refusals.{truncated}
 use Rattle.definitions.specs.Wire.{Profile, message_text, session_text, Event, Came, Ended, Failed}
-use Rattle.definitions.specs.Streams.{Standing, Before_hello, In_message, Meaning_over, Faulted, feed, messages_of}
+use Rattle.definitions.specs.Streams.{Standing, Before_hello, In_message, Meaning_over, Faulted, feed, stays}
+use Rattle.definitions.specs.Streams.{messages_of}
 use Rattle.definitions.specs.Ends as answered
 use Rattle.definitions.specs.Ends.{End, Answer, Replies, Ends, is_live, is_over, is_sendable}
 use Rattle.definitions.specs.Engines.{Speaker, says, session, own, answers, replied, messages_in, fault_of}
@@ -278,7 +279,8 @@ module _ {F : Type 0} (S : Summary F) (W : Profile F) where
   nothing-more laws s h o t e live x stopped none =
       ap (λ l. so_far s l) x.all ∙ laws.go_on.says_no_more s (x.es ++ e ∷ []) x.rest live
       (ap has_stopped (heard-next s h o t e x) ∙ stopped)
-      ∙ laws.go_on.says_next s x.es h.end h.taken e live x.heard ∙ ap (λ (l : List (Message F)). so_far s x.es ++ l) none
+      ∙ laws.go_on.says_next s x.es h.end h.taken e live x.heard
+      ∙ ap (λ (l : List (Message F)). so_far s x.es ++ l) none
       ∙ append-nil (so_far s x.es)
 
   -- the event itself stops the session

@@ -1,8 +1,11 @@
 -- Spans of lists, and lists that are kept in parts.
-use Rattle.std.proofs.Common.{◌≡◌, ℕ, None, zero, suc, ◌+◌, ◌-◌, ◌<◌, ◌≤◌, Bool, not, ◌&&◌, filter, List, [], ◌∷◌, ◌++◌}
+use Rattle.std.proofs.Common.{◌≡◌, ℕ, None, Some, zero, suc, ◌+◌, ◌-◌, ◌<◌, ◌≤◌, Bool, not, ◌&&◌, filter, List, [], ◌∷◌}
+use Rattle.std.proofs.Common.{◌++◌}
 use Rattle.std.proofs.Common.{take, drop, map, length, min, get_or, refl, sym, ap, ◌∙◌, arith}
 use Rattle.std.specs.List.{flat_map, slice_get}
 use Rattle.std.proofs.lemmas.List.{drop_more, take_more, take-append-drop, take-append-le, drop-append-le, append_assoc}
+use Rattle.std.proofs.lemmas.List.{get_or-drop, get_or-take, length-drop}
+use Rattle.std.proofs.lemmas.Option.{get_or_from_slice_get}
 use Rattle.std.proofs.lemmas.List.{append-nil, map-append, length-append, length-take, take_min, drop_min, drop-take}
 use Rattle.std.proofs.lemmas.List.Concat.{flat_map-append}
 use Rattle.definitions.proofs.Partitions.{later}
@@ -200,3 +203,16 @@ pub get_past : {X : Type 0} (xs : List X) (n : ℕ) → length xs ≤ n → slic
 get_past [] n low = refl
 get_past (x ∷ xs) zero low = absurd (omega arith)
 get_past (x ∷ xs) (suc n) low = get_past xs n (omega arith)
+
+pub get_in_span : {X : Type 0} (s e i : ℕ) (xs : List X) (x d : X) → i < length (span s e xs) →
+    slice_get xs (s + i) ≡ Some x → get_or (span s e xs) i d ≡ x
+get_in_span s e i xs x d low is =
+    let inside : s + i < e = omega (arith, low, length-drop s (take e xs), length-take e xs) in
+    get_or-drop s (take e xs) i d ∙ get_or-take e xs (s + i) d inside ∙ get_or_from_slice_get xs (s + i) x d is
+
+-- one element more of a list that is gone over
+pub map_more : {X Y : Type 0} (f : X → Y) (xs : List X) (i : ℕ) (d : X) (y : Y) (held now : List Y) → i < length xs →
+    f (get_or xs i d) ≡ y → now ≡ held ++ y ∷ [] → held ≡ map f (take i xs) → now ≡ map f (take (i + 1) xs)
+map_more f xs i d y held now low is adds so_far =
+    adds ∙ ap (λ hs. hs ++ y ∷ []) so_far ∙ ap (λ z. map f (take i xs) ++ z ∷ []) (sym is)
+    ∙ sym (map-append f (take i xs) (get_or xs i d ∷ [])) ∙ ap (map f) (sym (take_more xs i d low))

@@ -3,6 +3,7 @@
 
 mod branch;
 mod branch_part;
+mod edge;
 mod leaf;
 mod leaf_part;
 mod loading;

@@ -76,6 +76,9 @@ pub fn sum_between<P: Part>(parts: &[Arc<P>], from: usize, to: usize) -> Fingerp
     let mut start = from;
     let mut end = to;
     for part in parts {
+        if end == 0 {
+            return total;
+        }
         total = total.join(part.sum_between(start, end));
         let len = part.len();
         start = start.saturating_sub(len);

@@ -61,6 +61,23 @@ fn counts(rt: &impl Abort, tree: &Tree) {
     assert!(rt; count == 1 && sum == tree.sum(&last) && compared <= 44);
 }
 
+// Three ranges, one after the other, and the items at two places of the second one.
+fn several_at_once(rt: &impl Abort, alloc: Global, tree: &Tree) {
+    let before = from_to(rt, b"", Upper::Before(item(rt, 0x10)));
+    let after = from_to(rt, b"\x00\x20", Upper::End);
+    let range = sixteen(rt);
+    let told = tree
+        .counts_and_sums(alloc, &[before, range, after])
+        .expect(rt, "memory");
+    assert!(rt; told.len() == 3);
+    assert!(rt; told[0].1 == 16 && told[1].1 == 16 && told[2].1 == 65_504);
+    assert!(rt; told[1].0 == range && told[1].2 == tree.sum(&range));
+    assert!(rt; told[0].2.join(told[1].2).join(told[2].2) == tree.sum(&Range::whole()));
+    assert!(rt; tree.count(&range) == 16);
+    let items = tree.nths(alloc, &range, &[0, 15]).expect(rt, "memory");
+    assert!(rt; items.len() == 2 && items[0] == item(rt, 0x10) && items[1] == item(rt, 0x1f));
+}
+
 #[test]
 fn all_pairs_of_bytes(rt: HostRuntime) {
     let alloc = rt.alloc();
@@ -80,6 +97,7 @@ fn all_pairs_of_bytes(rt: HostRuntime) {
     assert!(rt; one.sum(&Range::whole()) == first && hundred.sum(&Range::whole()) == sum);
     has_all(&rt, &all);
     counts(&rt, &all);
+    several_at_once(&rt, alloc, &all);
     let other = falling(&rt, alloc);
     has_all(&rt, &other);
     counts(&rt, &other);

@@ -6,6 +6,7 @@ ghost use Rattle.range_tree.specs.Branches.{branch_items, branch_width};
 ghost use Rattle.range_tree.specs.Trees.{tree_items};
 
 use crate::branch::Branch;
+use crate::edge::Edge;
 use crate::leaf::Leaf;
 use crate::loading::branches_of;
 use crate::parts;
@@ -93,9 +94,32 @@ impl RangeStore for Tree {
         (count, sum)
     }
 
+    fn counts_and_sums(
+        &self,
+        alloc: Global,
+        ranges: &[Range],
+    ) -> Result<Vec<(Range, usize, Fingerprint)>, AllocError> {
+        let mut held = Vec::with_capacity(alloc, ranges.len())?;
+        let mut edge = Edge::start();
+        for range in ranges {
+            held.push(self.counted_from(&mut edge, range))?;
+        }
+        Ok(held)
+    }
+
     fn nth(&self, range: &Range, place: usize) -> Item {
         let (from, _, _) = self.places(range);
         parts::item_at(&self.branches, from + place)
+    }
+
+    fn nths(
+        &self,
+        alloc: Global,
+        range: &Range,
+        places: &[usize],
+    ) -> Result<Vec<Item>, AllocError> {
+        let (from, to, _) = self.places(range);
+        self.items_within(alloc, from, to, places)
     }
 
     fn items(&self, alloc: Global, range: &Range) -> Result<Vec<Item>, AllocError> {

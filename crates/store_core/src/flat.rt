@@ -55,8 +55,30 @@ impl RangeStore for FlatStore {
         (entries.len(), spans::total(entries))
     }
 
+    fn counts_and_sums(
+        &self,
+        alloc: Global,
+        ranges: &[Range],
+    ) -> Result<Vec<(Range, usize, Fingerprint)>, AllocError> {
+        let mut held = Vec::with_capacity(alloc, ranges.len())?;
+        for range in ranges {
+            let (count, sum) = self.count_and_sum(range);
+            held.push((*range, count, sum))?;
+        }
+        Ok(held)
+    }
+
     fn nth(&self, range: &Range, place: usize) -> Item {
         *self.entries_in(range)[place].item()
+    }
+
+    fn nths(
+        &self,
+        alloc: Global,
+        range: &Range,
+        places: &[usize],
+    ) -> Result<Vec<Item>, AllocError> {
+        spans::items_at(alloc, self.entries_in(range), places)
     }
 
     fn items(&self, alloc: Global, range: &Range) -> Result<Vec<Item>, AllocError> {

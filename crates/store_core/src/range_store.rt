@@ -1,10 +1,10 @@
-ghost use Rattle.std.specs.Prelude.{◌≡◌, ◌<◌, ◌↔◌, List, [], length, not, Some, slice_get, IfOk, IsTrue};
+ghost use Rattle.std.specs.Prelude.{◌≡◌, ◌<◌, ◌↔◌, List, [], length, map, not, Some, slice_get, IfOk, IsTrue};
 ghost use Rattle.std.specs.List.{AllByRecursion};
 ghost use Rattle.definitions.specs.Items as items;
 ghost use Rattle.definitions.specs.Items.{IsItem};
 ghost use Rattle.definitions.specs.Sets.{IsSet, has, items_in, add_item, set_of};
 ghost use Rattle.definitions.specs.Fingerprints.{two_lanes};
-ghost use Rattle.store_core.specs.Stores.{IfNew, is_new};
+ghost use Rattle.store_core.specs.Stores.{IfNew, is_new, items_at, counted_in};
 
 use crate::{laws, spans};
 use digest_core::Fingerprint;
@@ -66,10 +66,24 @@ pub trait RangeStore: Drop + Sized {
         ensures count { result.0 ≡ length (items_in (content self.now) range.now) }
         ensures sum { result.1 ≡ two_lanes.of (items_in (content self.now) range.now) };
 
+    /// Each range with the number of items that it holds, and their fingerprint. It is quickest where each range begins
+    /// where the one before it ends.
+    fn counts_and_sums(
+        &self,
+        alloc: Global,
+        ranges: &[Range],
+    ) -> Result<Vec<(Range, usize, Fingerprint)>, AllocError>
+        ensures { IfOk result (λ held. held.items ≡ map (counted_in (content self.now)) ranges.now) };
+
     /// The item at this place among those in the range, from 0.
     fn nth(&self, range: &Range, place: usize) -> Item
         requires { place < length (items_in (content self.now) range.now) }
         ensures { slice_get (items_in (content self.now) range.now) place ≡ Some result };
+
+    /// The items at these places among those in the range, from 0.
+    fn nths(&self, alloc: Global, range: &Range, places: &[usize]) -> Result<Vec<Item>, AllocError>
+        requires { AllByRecursion (λ place. place < length (items_in (content self.now) range.now)) places.now }
+        ensures { IfOk result (λ held. held.items ≡ items_at (content self.now) range.now places.now) };
 
     /// The items in the range, in rising order.
     fn items(&self, alloc: Global, range: &Range) -> Result<Vec<Item>, AllocError>

@@ -1,7 +1,7 @@
 //! Sorted slices of entries: the part in a range, its fingerprint, and the slice with one more entry.
 
 ghost use Rattle.std.specs.Prelude.{◌≡◌, ◌≤◌, ◌∷◌, ◌++◌, true, false, take, drop, length, filter, not, is_none, IfOk};
-ghost use Rattle.std.specs.Prelude.{IfSome};
+ghost use Rattle.std.specs.Prelude.{IfSome, ◌<◌, [], map, get_or};
 ghost use Rattle.std.specs.List.{AllByRecursion};
 ghost use Rattle.std.specs.List.Sorted.{IsPartitionPoint};
 ghost use Rattle.definitions.specs.Items.{IsItem, comes_before, is_below};
@@ -102,6 +102,18 @@ pub fn with_entry(
     held.extend_from_slice(front)?;
     held.push(entry)?;
     held.extend_from_slice(back)?;
+    Ok(held)
+}
+
+/// The items of the entries at these places.
+pub fn items_at(alloc: Global, entries: &[Entry], places: &[usize]) -> Result<Vec<Item>, AllocError>
+    requires { AllByRecursion (λ place. place < length entries.now) places.now }
+    ensures { IfOk result (λ held. held.items ≡ map (λ place. get_or entries.now place []) places.now) }
+{
+    let mut held = Vec::with_capacity(alloc, places.len())?;
+    for place in places {
+        held.push(*entries[*place].item())?;
+    }
     Ok(held)
 }
 

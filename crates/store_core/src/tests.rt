@@ -61,9 +61,32 @@ fn a_to_c<S: RangeStore>(rt: &impl Abort, alloc: Global) {
     assert!(rt; again.len() == 3 && again.sum(&before_c) == sum);
 }
 
+// Through the trait alone: a, b and c are asked for by two ranges, one after the other, and by two places.
+fn several_at_once<S: RangeStore>(rt: &impl Abort, alloc: Global, items: &[Item; 3]) {
+    let given = Vec::from_slice(alloc, items).expect(rt, "memory");
+    let store = S::from_items(alloc, given).expect(rt, "memory");
+    let before_c = from_to(rt, b"", Upper::Before(items[2]));
+    let from_c = from_to(rt, b"c", Upper::End);
+    let told = store
+        .counts_and_sums(alloc, &[before_c, from_c])
+        .expect(rt, "memory");
+    let sum = Fingerprint::of_item(&items[0]).join(Fingerprint::of_item(&items[1]));
+    assert!(rt; told.len() == 2);
+    assert!(rt;
+        told[0] == (before_c, 2, sum) && told[1] == (from_c, 1, Fingerprint::of_item(&items[2]))
+    );
+    assert!(rt; store.count(&Range::whole()) == 3);
+    let two = store
+        .nths(alloc, &Range::whole(), &[0, 2])
+        .expect(rt, "memory");
+    assert!(rt; two.len() == 2 && two[0] == items[0] && two[1] == items[2]);
+}
+
 #[test]
 fn flat_store(rt: HostRuntime) {
     a_to_c::<FlatStore>(&rt, rt.alloc());
+    let items = [item(&rt, b"a"), item(&rt, b"b"), item(&rt, b"c")];
+    several_at_once::<FlatStore>(&rt, rt.alloc(), &items);
 }
 
 #[test]

@@ -131,6 +131,12 @@ pub fn take_item(bytes: &mut &[u8], range: &Range, before: Option<&Item>) -> Res
     Ok(item)
 }
 
+/// How many items the bytes can hold at most, of those counted: an item takes two bytes at least. So a count alone
+/// makes nobody take memory.
+fn room_for(bytes: &[u8], count: u32) -> usize {
+    bytes.len().min(2 * count as usize) / 2
+}
+
 /// So many items, which rise and lie in the range.
 pub fn take_items(
     alloc: Global,
@@ -140,7 +146,7 @@ pub fn take_items(
 ) -> Result<Vec<Item>, DecodeError>
     ensures { Gives (λ x. (x.items, bytes.new.now)) result (reading.items_at range.now count None bytes.old.now) }
 {
-    let mut items: Vec<Item> = Vec::new(alloc);
+    let mut items: Vec<Item> = Vec::with_capacity(alloc, room_for(bytes, count))?;
     'each: for _ in 0..count {
         let item = take_item(bytes, range, items.last())?;
         items.push(item)?;

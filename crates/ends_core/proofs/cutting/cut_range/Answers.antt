@@ -1,11 +1,11 @@
 use Rattle.std.proofs.Common.{◌≡◌, ◌++◌, ◌∷◌, [], List, refl, sym, ap, subst, drop, ◌+◌, ◌∙◌, rules}
 use Rattle.definitions.specs.Items.{Range, cut_range}
-use Rattle.ends_core.specs.Cutting.{items_at}
-use Rattle.ends_core.proofs.Cuts.{IsAhead, ahead_first, step, cut_more}
+use Rattle.store_core.specs.Stores.{items_at}
+use Rattle.ends_core.proofs.Cuts.{IsAhead, IsStep, ahead_first, step, cut_more}
 use Rattle.ends_core.proofs.cutting.cut_range.Goals as goal
 
-pub loop-place-init : goal.loop-place-init
-loop-place-init g c =
+pub loop-item-init : goal.loop-item-init
+loop-item-init g c =
     let A = g.S.RangeStore.content c.args.store.now in
     let X = c.args.range.now in
     let none : c.in_ok-parts.parts.items ≡ [] = search rules in
@@ -18,31 +18,34 @@ loop-place-init g c =
 
 pub split_at-front-requires-clause-lower : goal.split_at-front-requires-clause-lower
 split_at-front-requires-clause-lower g c =
-    let inv = c.loop-place.invariant in
-    (step (g.S.RangeStore.content c.args.store.now) c.args.range.now c.loop-place.rest
-    c.args.places.now c.loop-place.place-index c.nth.result (g.met.S.RangeStore.rises c.args.store.now)
-    (search rules) c.nth.ensures inv.upper inv.ahead).lower
+    let inv = c.loop-item.invariant in
+    (step (g.S.RangeStore.content c.args.store.now) c.args.range.now c.loop-item.rest
+    c.args.places.now c.deref-item-items.result.now c.loop-item.item-index c.item-item.result
+    (g.met.S.RangeStore.rises c.args.store.now) (c.deref-item-items.ensures.value ∙ c.in_ok-items.ensures)
+    c.loop-item-test.true c.item-item.is inv.upper inv.ahead).lower
 
 pub split_at-front-requires-clause-upper : goal.split_at-front-requires-clause-upper
 split_at-front-requires-clause-upper g c =
-    let inv = c.loop-place.invariant in
-    (step (g.S.RangeStore.content c.args.store.now) c.args.range.now c.loop-place.rest
-    c.args.places.now c.loop-place.place-index c.nth.result (g.met.S.RangeStore.rises c.args.store.now)
-    (search rules) c.nth.ensures inv.upper inv.ahead).upper
+    let inv = c.loop-item.invariant in
+    (step (g.S.RangeStore.content c.args.store.now) c.args.range.now c.loop-item.rest
+    c.args.places.now c.deref-item-items.result.now c.loop-item.item-index c.item-item.result
+    (g.met.S.RangeStore.rises c.args.store.now) (c.deref-item-items.ensures.value ∙ c.in_ok-items.ensures)
+    c.loop-item-test.true c.item-item.is inv.upper inv.ahead).upper
 
-pub loop-place-preserved : goal.loop-place-preserved
-loop-place-preserved g c =
-    let inv = c.loop-place.invariant in
+pub loop-item-preserved : goal.loop-item-preserved
+loop-item-preserved g c =
+    let inv = c.loop-item.invariant in
     let A = g.S.RangeStore.content c.args.store.now in
     let X = c.args.range.now in
-    let x = c.nth.result in
-    let rest = c.loop-place.rest in
+    let x = c.item-item.result in
+    let rest = c.loop-item.rest in
     let parts = c.split_at-front.result in
     let back : parts.1 ≡ record { lower = x; upper = rest.upper } = c.split_at-front.ensures.back in
-    let pushed : c.push.new.self.items ≡ c.loop-place.parts.items ++ parts.0 ∷ [] = search rules in
-    let one = step A X rest c.args.places.now c.loop-place.place-index x (g.met.S.RangeStore.rises c.args.store.now)
-    (search rules) c.nth.ensures inv.upper inv.ahead in
-    let later = drop (c.loop-place.place-index + 1) c.args.places.now in
+    let pushed : c.push.new.self.items ≡ c.loop-item.parts.items ++ parts.0 ∷ [] = search rules in
+    let one = step A X rest c.args.places.now c.deref-item-items.result.now c.loop-item.item-index x
+    (g.met.S.RangeStore.rises c.args.store.now) (c.deref-item-items.ensures.value ∙ c.in_ok-items.ensures)
+    c.loop-item-test.true c.item-item.is inv.upper inv.ahead in
+    let later = drop (c.loop-item.item-index + 1) c.args.places.now in
     let cut = cut_more parts.0 rest x _ (cut_range (record { lower = x; upper = rest.upper }) (items_at A X later)) _ _
     _ c.split_at-front.ensures.front one.cut pushed inv.cut in
     record {

@@ -1,10 +1,25 @@
+use Rattle.std.proofs.Common.{◌≤◌, ◌+◌, length, subst}
+use Rattle.definitions.specs.Engines.{initiating, responding}
 use Rattle.definitions.specs.Histories.{content, items_of}
+use Rattle.definitions.specs.Ranks.{rank_by}
+use Rattle.strategy_check.specs.Checked.{Checked}
+use Rattle.ends_core.specs.Sides.{KeepsBounds, peer_of}
 use Rattle.peer_threads.proofs.bounds.sides_keep_bounds.Goals as goal
 
 pub returns-clause-initiator : goal.returns-clause-initiator
 returns-clause-initiator g c = λ h bytes are room.
-    c.sides_keep_bounds.ensures.initiator (content h) bytes (c.set_of_a_list.ensures.set (items_of h)) are room
+    let S = g.F.Summary.summary in
+    let kept = c.sides_keep_bounds.ensures.initiator (content h) bytes (c.set_of_a_list.ensures.set (items_of h)) are in
+    subst (λ (a : Checked). length (content h) ≤ a.table.cap →
+    KeepsBounds S g.F.Summary.profile (initiating S (peer_of a (content h))) bytes
+    (rank_by a.steps (length (content h)) + 2) a.table.limit)
+    c.deref.ensures.value kept room
 
 pub returns-clause-responder : goal.returns-clause-responder
 returns-clause-responder g c = λ h bytes are room.
-    c.sides_keep_bounds.ensures.responder (content h) bytes (c.set_of_a_list.ensures.set (items_of h)) are room
+    let S = g.F.Summary.summary in
+    let kept = c.sides_keep_bounds.ensures.responder (content h) bytes (c.set_of_a_list.ensures.set (items_of h)) are in
+    subst (λ (a : Checked). length (content h) ≤ a.table.cap →
+    KeepsBounds S g.F.Summary.profile (responding (peer_of a (content h))) bytes
+    (rank_by a.steps (length (content h)) + 1) a.table.limit)
+    c.deref.ensures.value kept room

@@ -8,7 +8,7 @@ use Rattle.wire_core.proofs.field.take_items.Goals as goal
 
 pub returns-in_err-item : goal.returns-in_err-item
 returns-in_err-item c =
-    let p = err_from_is_err_and c.from_residual.result c.from_residual.ensures.1 in
+    let p = err_from_is_err_and c.from_residual-in_err-item.result c.from_residual-in_err-item.ensures.1 in
     let before : last_of c.each.items.items ≡ option_copied c.last.result =
     sym (c.last.ensures.value ∙ ap last_of c.deref.ensures.value) in
     rw (p.1, p.2) (items_end c.args.range.now (errors.Fault c.in_err-item.field-0.0) c.each.items.items c.args.count
