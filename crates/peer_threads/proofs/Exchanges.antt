@@ -19,8 +19,7 @@ use Rattle.definitions.specs.Items.{IsBytes}
 use Rattle.definitions.specs.Messages.{Message}
 use Rattle.definitions.specs.Refusals.{truncated}
 use Rattle.definitions.specs.Wire.{Profile, message_text, session_text, Event, Came, Ended, Failed}
-use Rattle.definitions.specs.Streams.{Standing, Before_hello, In_message, Meaning_over, Faulted, feed, stays}
-use Rattle.definitions.specs.Streams.{messages_of}
+use Rattle.definitions.specs.Streams.{Standing, Before_hello, In_message, Meaning_over, Faulted, feed, messages_of}
 use Rattle.definitions.specs.Ends as answered
 use Rattle.definitions.specs.Ends.{End, Answer, Replies, Ends, is_live, is_over, is_sendable}
 use Rattle.definitions.specs.Engines.{Speaker, says, session, own, answers, replied, messages_in, fault_of}
@@ -135,6 +134,13 @@ module _ {F : Type 0} (S : Summary F) (W : Profile F) where
   }
 
   -- a side that still hears has heard no fault frame, so the one that comes is the first
+  stays : (h : Hearing F) (rest : List (Event F)) → has_stopped h ≡ true → fold (hear S) h rest ≡ h
+  stays h [] stopped = refl
+  stays (Goes_on e t) (x ∷ rest) stopped = absurd cc
+  stays (Over_at e) (x ∷ rest) stopped = stays (Over_at e) rest stopped
+  stays (Peer_refused code) (x ∷ rest) stopped = stays (Peer_refused code) rest stopped
+  stays (Refused_for code) (x ∷ rest) stopped = stays (Refused_for code) rest stopped
+
   first-frame : (h : Hearing F) (es rest : List (Event F)) (e : End F) (t : Taken F) (code : ℕ) →
       fold (hear S) h es ≡ Goes_on e t → fault_of (es ++ Failed code ∷ rest) ≡ Some code
   first-frame h [] rest e t code at = refl

@@ -13,7 +13,7 @@ returns-clause-initiator g c = λ h bytes are room.
     subst (λ (a : Checked). length (content h) ≤ a.table.cap →
     KeepsBounds S g.F.Summary.profile (initiating S (peer_of a (content h))) bytes
     (rank_by a.steps (length (content h)) + 2) a.table.limit)
-    c.deref.ensures.value kept room
+    c.deref.ensures kept room
 
 pub returns-clause-responder : goal.returns-clause-responder
 returns-clause-responder g c = λ h bytes are room.
@@ -22,4 +22,4 @@ returns-clause-responder g c = λ h bytes are room.
     subst (λ (a : Checked). length (content h) ≤ a.table.cap →
     KeepsBounds S g.F.Summary.profile (responding (peer_of a (content h))) bytes
     (rank_by a.steps (length (content h)) + 1) a.table.limit)
-    c.deref.ensures.value kept room
+    c.deref.ensures kept room
