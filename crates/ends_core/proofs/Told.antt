@@ -8,7 +8,7 @@ use Rattle.std.proofs.lemmas.Bool.{false≢true}
 use Rattle.definitions.specs.Fingerprints.{Summary}
 use Rattle.definitions.specs.Items.{Item, Range, Apart, Rises, is_below, same_range}
 use Rattle.definitions.specs.Sets.{has, items_in, difference}
-use Rattle.definitions.specs.Messages.{Part, Sum, Listing, Answer, Message, open_parts, open_ranges}
+use Rattle.definitions.specs.Messages.{Part, Sum, Listing, Answer, Message, is_open, open_parts, open_ranges}
 use Rattle.definitions.specs.Placing.{Refused, next, next_outside, next_answer, placed, refusal}
 use Rattle.definitions.specs.Refusals.{misplaced, mark_count, answer_repeats}
 use Rattle.definitions.specs.Replies.{Peer}
@@ -136,6 +136,12 @@ told-learned A own c (Answer X marks items) apart h = λ i. record {
   theirs = sym (append-nil items) i;
 }
 
+-- only an Answer tells by the list that it answers
+told-alike : {F : Type 0} (A l m : List Item) (p : Part F) → (is_open p ≡ false → l ≡ m) → told A l p ≡ told A m p
+told-alike A l m (Sum X f) same = refl
+told-alike A l m (Listing X items) same = refl
+told-alike {F} A l m (Answer X marks items) same = ap (λ k. told {F = F} A k (Answer X marks items)) (same refl)
+
 -- the own message at a place: the first message of all answers none
 own-at : {F : Type 0} (x : Placement F) → (x.first ≡ true → x.own ≡ []) → own_of (stage_at x) ≡ x.own
 own-at x none = by x.first refl where
@@ -145,12 +151,13 @@ own-at x none = by x.first refl where
 
 -- a part that was placed and drafted was taken
 pub part-taken : {F : Type 0} (S : Summary F) (P : Peer) (x y : Placement F) (c : Cursor) (d e : Drafted F)
-    (p : Part F) → (x.first ≡ true → x.own ≡ []) → Apart (open_ranges (own_of (stage_at x))) →
-    x.now ≡ place_at x.own c →
-    y ≡ record x { now = next x.now p } → refusal (next x.now p) ≡ None → e ≡ drafted S P d (due x.own c) p →
+    (listed : List Item) (p : Part F) → (x.first ≡ true → x.own ≡ []) → Apart (open_ranges (own_of (stage_at x))) →
+    x.now ≡ place_at x.own c → (is_open p ≡ false → listed ≡ due x.own c) →
+    y ≡ record x { now = next x.now p } → refusal (next x.now p) ≡ None → e ≡ drafted S P d listed p →
     taken_at y e ≡ taken S (record { peer = P; stage = stage_at x; sent = 0; learned = nothing }) (taken_at x d) p
-part-taken S P x y c d e p none apart at placed_at fine added =
-    let learns : told P.items (due x.own c) p ≡ learn P.items (own_of (stage_at x)) (p ∷ []) =
+part-taken S P x y c d e listed p none apart at answered placed_at fine added =
+    let learns : told P.items listed p ≡ learn P.items (own_of (stage_at x)) (p ∷ []) =
+    told-alike P.items listed (due x.own c) p answered ∙
     told-learned P.items x.own c p (subst (λ o. Apart (open_ranges o)) (own-at x none) apart)
     (ap (λ z. refusal (next z p)) (sym at) ∙ fine) ∙ ap (λ o. learn P.items o (p ∷ [])) (sym (own-at x none)) in
     let t = taken S (record { peer = P; stage = stage_at x; sent = 0; learned = nothing }) (taken_at x d) p in

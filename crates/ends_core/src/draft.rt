@@ -102,7 +102,7 @@ fn add_both<F: Summary>(
 }
 
 /// Whether the part wants a reply.
-fn is_open<F: Summary>(part: &Part<F>) -> bool
+pub(crate) fn is_open<F: Summary>(part: &Part<F>) -> bool
     ensures { result ≡ messages.is_open part.now }
 {
     part.kind() != PartKind::Answer

@@ -1,8 +1,9 @@
 //! Taking one part of a message.
 
-ghost use Rattle.std.specs.Prelude.{◌≡◌, ◌≤◌, length, Err, OnOk, IfSome};
+ghost use Rattle.std.specs.Prelude.{◌≡◌, ◌≤◌, false, length, Err, OnOk, IfSome};
 ghost use Rattle.definitions.specs.Items.{Apart};
 ghost use Rattle.definitions.specs.Ends.{own_of};
+ghost use Rattle.definitions.specs.Messages as messages;
 ghost use Rattle.definitions.specs.Messages.{open_ranges};
 ghost use Rattle.definitions.specs.Placing as placing;
 ghost use Rattle.definitions.specs.Talks.{nothing};
@@ -10,15 +11,28 @@ ghost use Rattle.definitions.specs.Taking.{taken};
 ghost use Rattle.ends_core.specs.Drafts.{taken_at};
 ghost use Rattle.ends_core.specs.EndStates.{stage_at};
 ghost use Rattle.ends_core.specs.Turns.{told_in};
+ghost use Rattle.place_core.specs.Placements.{due};
 
-use crate::draft::Draft;
+use crate::draft::{Draft, is_open};
 use crate::turn::EndFault;
 use digest_core::Summary;
-use place_core::Place;
+use item_core::Item;
+use place_core::{Cursor, Place};
 use std::alloc::{AllocError, Global};
 use store_core::RangeStore;
 use strategy_core::Strategy;
 use wire_core::Part;
+
+/// The list that an Answer answers, which was placed from where the cursor stood. For another part nothing is looked
+/// for.
+fn answered<'a, F: Summary>(place: &'a Place<F>, before: &Cursor, part: &Part<F>) -> &'a [Item]
+    ensures { messages.is_open part.now ≡ false → result.now ≡ due place.now.own before.now }
+{
+    if is_open(part) {
+        return &[];
+    }
+    place.due(before)
+}
 
 /// Places a part, and adds its reply and what it tells. Where memory runs out all is as before; where the part is
 /// refused the place keeps the refusal.
@@ -44,7 +58,8 @@ pub(crate) fn take_part<S: RangeStore, F: Summary>(
 {
     let before = place.cursor();
     place.next(part)?;
-    match draft.add(alloc, strategy, store, place.due(&before), part) {
+    let listed = answered(place, &before, part);
+    match draft.add(alloc, strategy, store, listed, part) {
         Ok(()) => Ok(()),
         Err(AllocError) => {
             place.return_to(&before);
