@@ -1,5 +1,6 @@
-//! The responder's end of a session in plain Rust over std alone, to time the proved crate beside it.
-//! Prints a line `NAME PARTS MICROSECONDS` for each case.
+//! The responder's end of a session in plain Rust over std alone, to time the proved crate beside it. Its set is a
+//! sorted vector with running sums, so the fingerprint of a range is one difference; it takes no item in. Prints a
+//! line `NAME PARTS MICROSECONDS` for each case.
 
 mod placed;
 mod short;
@@ -11,35 +12,49 @@ use std::time::Instant;
 
 type Sum = [u128; 2];
 
-fn join(a: Sum, b: Sum) -> Sum {
-    [a[0].wrapping_add(b[0]), a[1].wrapping_add(b[1])]
-}
-
-/// The items in rising order, each with its fingerprint beside it.
+/// The items in rising order, and the fingerprint of those before each place.
 #[derive(Clone)]
 struct Store {
-    entries: Vec<(Short, Sum)>,
+    items: Vec<Short>,
+    before: Vec<Sum>,
 }
 
 impl Store {
-    fn within(&self, range: &Range) -> &[(Short, Sum)] {
-        let rest = &self.entries[self.entries.partition_point(|(item, _)| *item < range.lower)..];
-        match range.upper {
-            None => rest,
-            Some(upper) => &rest[..rest.partition_point(|(item, _)| *item < upper)],
+    /// The store of these items, which rise, with their fingerprints.
+    fn of(entries: impl Iterator<Item = (Short, Sum)>) -> Store {
+        let (mut items, mut before, mut all): (Vec<Short>, Vec<Sum>, Sum) = (Vec::new(), vec![[0; 2]], [0; 2]);
+        for (item, sum) in entries {
+            all = [all[0].wrapping_add(sum[0]), all[1].wrapping_add(sum[1])];
+            items.push(item);
+            before.push(all);
         }
+        Store { items, before }
+    }
+
+    /// The places of the items in the range.
+    fn places(&self, range: &Range) -> (usize, usize) {
+        let from = self.items.partition_point(|item| *item < range.lower);
+        let to = range.upper.map_or(self.items.len(), |upper| self.items.partition_point(|item| *item < upper));
+        (from, to)
+    }
+
+    fn within(&self, range: &Range) -> &[Short] {
+        let (from, to) = self.places(range);
+        &self.items[from..to]
     }
 
     fn has(&self, wanted: &Short) -> bool {
-        self.entries.binary_search_by(|(item, _)| item.cmp(wanted)).is_ok()
+        self.items.binary_search(wanted).is_ok()
     }
 
     fn sum(&self, range: &Range) -> Sum {
-        self.within(range).iter().fold([0; 2], |sum, (_, print)| join(sum, *print))
+        let (from, to) = self.places(range);
+        let (less, all) = (self.before[from], self.before[to]);
+        [all[0].wrapping_sub(less[0]), all[1].wrapping_sub(less[1])]
     }
 
     fn items(&self, range: &Range) -> Vec<Short> {
-        self.within(range).iter().map(|(item, _)| *item).collect()
+        self.within(range).to_vec()
     }
 }
 
@@ -86,7 +101,7 @@ impl End {
             parts.push(Part::List(*range, self.store.items(range)));
             return;
         }
-        let middle = own[own.len() / 2].0;
+        let middle = own[own.len() / 2];
         let front = Range { lower: range.lower, upper: Some(middle) };
         let back = Range { lower: middle, upper: range.upper };
         parts.push(Part::Sum(front, self.store.sum(&front)));
@@ -223,10 +238,9 @@ fn timed(store: &Store, parts: u32) {
 }
 
 fn main() {
-    let entries = (0..LAST / 4)
-        .map(|index| (item(4 * index), [u128::from(index) << 64, u128::from(index) << 96]))
-        .collect();
-    let store = Store { entries };
+    let store = Store::of(
+        (0..LAST / 4).map(|index| (item(4 * index), [u128::from(index) << 64, u128::from(index) << 96])),
+    );
     timed(&store, 8_192);
     timed(&store, 131_072);
 }
