@@ -4,5 +4,6 @@ pub use Rattle.definitions.specs.Fingerprints
 pub mod Parts
 pub mod Grown
 pub mod Leaves
+pub mod Loads
 pub mod Branches
 pub mod Trees

@@ -1,12 +1,14 @@
 //! A tree of many items at once.
 
-ghost use Rattle.std.specs.Prelude.{◌≡◌, ◌<◌, ◌≤◌, length, map, IfOk};
+ghost use Rattle.std.specs.Prelude.{◌≡◌, ◌<◌, ◌≤◌, ◌++◌, length, map, IfOk};
 ghost use Rattle.std.specs.Arc.{arc_value};
 ghost use Rattle.std.specs.List.{AllByRecursion};
+ghost use Rattle.std.specs.Thread.{IsSync};
 ghost use Rattle.definitions.specs.Items.{IsItem};
 ghost use Rattle.range_tree.specs.Parts.{items_of, IsFull};
 ghost use Rattle.range_tree.specs.Leaves.{leaf_items, leaf_width};
 ghost use Rattle.range_tree.specs.Branches.{branch_items, branch_width};
+ghost use Rattle.range_tree.specs.Loads.{AreLeavesOf};
 
 use crate::branch::Branch;
 use crate::leaf::Leaf;
@@ -14,7 +16,11 @@ use crate::parts;
 use item_core::Item;
 use std::alloc::{AllocError, Global};
 use std::sync::Arc;
+use std::thread::{Threads, join};
 use store_core::spans;
+
+/// Fewer items than this are hashed by one thread.
+const FEW: usize = 1_024;
 
 /// How many of those that are left go together: 32, or all where they are fewer than 64. So each group has 32 to 63,
 /// but where there are fewer in all.
@@ -49,6 +55,44 @@ fn leaves_of(alloc: Global, items: &[Item]) -> Result<Vec<Arc<Leaf>>, AllocError
         rest = back;
     }
     Ok(held)
+}
+
+/// The leaves of both lists, one list after the other.
+fn both(front: Vec<Arc<Leaf>>, back: Vec<Arc<Leaf>>) -> Result<Vec<Arc<Leaf>>, AllocError>
+    ensures { IfOk result (λ held. held.items ≡ front.items ++ back.items) }
+{
+    let mut held = front;
+    let mut back = back;
+    held.append(&mut back)?;
+    Ok(held)
+}
+
+/// The leaves of these items, each hashed. The items are cut in two `halvings` times, and each part has its own thread.
+fn leaves_by<R: Threads + Sync>(
+    rt: &R,
+    alloc: Global,
+    items: &[Item],
+    halvings: u32,
+) -> Result<Vec<Arc<Leaf>>, AllocError>
+    ensures { IfOk result (λ held. AreLeavesOf items.now held.items) }
+{
+    if halvings == 0 || items.len() < FEW {
+        return leaves_of(alloc, items);
+    }
+    let (front, back) = items.split_at(items.len() / 2);
+    let less = halvings - 1;
+    let (first, second) = join(
+        rt,
+        || -> Result<Vec<Arc<Leaf>>, AllocError>
+            requires { IsSync R.row }
+            ensures { IfOk result (λ held. AreLeavesOf front.entry.now held.items) }
+        { leaves_by(rt, alloc, front, less) },
+        || -> Result<Vec<Arc<Leaf>>, AllocError>
+            requires { IsSync R.row }
+            ensures { IfOk result (λ held. AreLeavesOf back.entry.now held.items) }
+        { leaves_by(rt, alloc, back, less) },
+    );
+    both(first?, second?)
 }
 
 /// The branch of these leaves, which it shares.
@@ -87,4 +131,17 @@ pub fn branches_of(alloc: Global, items: &[Item]) -> Result<Vec<Arc<Branch>>, Al
     ensures full { IfOk result (λ held. IsFull branch_width (map arc_value held.items)) }
 {
     branches_over(alloc, &leaves_of(alloc, items)?)
+}
+
+/// The branches of these items, each hashed, by up to four threads.
+pub fn branches_on<R: Threads + Sync>(
+    rt: &R,
+    alloc: Global,
+    items: &[Item],
+) -> Result<Vec<Arc<Branch>>, AllocError>
+    ensures items { IfOk result (λ held. items_of branch_items held.items ≡ items.now) }
+    ensures are_items { IfOk result (λ _. AllByRecursion IsItem items.now) }
+    ensures full { IfOk result (λ held. IsFull branch_width (map arc_value held.items)) }
+{
+    branches_over(alloc, &leaves_by(rt, alloc, items, 2)?)
 }

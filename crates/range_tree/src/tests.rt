@@ -4,7 +4,8 @@ use item_core::{Item, Lower, Range, Upper};
 use std::alloc::Global;
 use std::process::Abort;
 use std::test::Fail;
-use store_core::{Insertion, RangeStore};
+use std::thread::Threads;
+use store_core::{Insertion, RangeStore, laws, spans};
 
 fn item(rt: &impl Abort, number: u16) -> Item {
     Item::new(&number.to_be_bytes()).ok().expect(rt, "an item")
@@ -115,6 +116,36 @@ fn items_given_twice(rt: HostRuntime) {
     assert!(rt; matches!(tree.with(alloc, item(&rt, 2)), Ok(Insertion::Already)));
     let held = tree.items(alloc, &Range::whole()).expect(&rt, "memory");
     assert!(rt; held.len() == 2 && held[0] == item(&rt, 1) && held[1] == item(&rt, 2));
+}
+
+// The first numbers, loaded by one thread and by as many as four.
+fn loaded(rt: &(impl Abort + Threads + Sync), alloc: Global, count: u16) -> Result<(), Fail> {
+    laws::set_of_a_list();
+    let mut items = Vec::new(alloc);
+    for number in 0..count {
+        items.push(item(rt, number))?;
+    }
+    let items = spans::distinct(items);
+    let one = Tree::from_rising(alloc, &items)?;
+    let four = Tree::from_rising_on(rt, alloc, &items)?;
+    let range = sixteen(rt);
+    assert!(rt; four.len() == usize::from(count) && four.count(&range) == one.count(&range));
+    assert!(rt; four.sum(&Range::whole()) == one.sum(&Range::whole()));
+    assert!(rt; four.sum(&range) == one.sum(&range));
+    assert!(rt; four.sum_counted(&range).1 <= 44);
+    let held = four.items(alloc, &Range::whole())?;
+    assert!(rt; held.as_slice() == items.as_slice());
+    Ok(())
+}
+
+// None, one, the most for one thread, the fewest for two and for four, and more.
+#[test]
+fn loaded_by_threads(rt: HostRuntime) -> Result<(), Fail> {
+    let alloc = rt.alloc();
+    for count in [0u16, 1, 1_023, 1_024, 2_047, 2_048, 5_001] {
+        loaded(&rt, alloc, count)?;
+    }
+    Ok(())
 }
 
 // More than a leaf holds, and more than a branch.

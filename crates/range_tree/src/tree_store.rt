@@ -1,6 +1,8 @@
 ghost use Rattle.std.specs.Prelude.{◌≡◌, ◌≤◌, ◌∷◌, ◌++◌, [], length, take, drop, map, IfOk};
 ghost use Rattle.std.specs.Arc.{arc_value};
-ghost use Rattle.definitions.specs.Sets.{add_item};
+ghost use Rattle.std.specs.List.{AllByRecursion};
+ghost use Rattle.definitions.specs.Items.{IsItem};
+ghost use Rattle.definitions.specs.Sets.{IsSet, add_item};
 ghost use Rattle.range_tree.specs.Parts.{items_of, IsFull};
 ghost use Rattle.range_tree.specs.Branches.{branch_items, branch_width};
 ghost use Rattle.range_tree.specs.Trees.{tree_items};
@@ -8,13 +10,14 @@ ghost use Rattle.range_tree.specs.Trees.{tree_items};
 use crate::branch::Branch;
 use crate::edge::Edge;
 use crate::leaf::Leaf;
-use crate::loading::branches_of;
+use crate::loading::{branches_of, branches_on};
 use crate::parts;
 use crate::tree::Tree;
 use digest_core::{Fingerprint, Summary, laws};
 use item_core::{Item, Range};
 use std::alloc::{AllocError, Global};
 use std::sync::Arc;
+use std::thread::Threads;
 use store_core::{Entry, Insertion, RangeStore};
 
 /// The one branch of one leaf of one entry.
@@ -51,6 +54,40 @@ fn branches_with(
     parts::with_at(alloc, branches, place, entry)
 }
 
+/// The tree of these branches, which hold `count` items.
+fn tree_over(branches: Vec<Arc<Branch>>, count: usize) -> Tree
+    requires rises { IsSet (items_of branch_items branches.items) }
+    requires are_items { AllByRecursion IsItem (items_of branch_items branches.items) }
+    requires full { IsFull branch_width (map arc_value branches.items) }
+    requires count { count ≡ length (items_of branch_items branches.items) }
+    ensures { tree_items result ≡ items_of branch_items branches.items }
+{
+    let total = parts::total(&branches);
+    Tree {
+        branches,
+        count,
+        total,
+    }
+}
+
+impl Tree {
+    /// The tree of the items of a set, as `from_rising` makes it, but hashed by up to four threads.
+    ///
+    /// Fails only if memory runs out.
+    pub fn from_rising_on<R: Threads + Sync>(
+        rt: &R,
+        alloc: Global,
+        items: &[Item],
+    ) -> Result<Tree, AllocError>
+        requires { IsSet items.now }
+        ensures items { IfOk result (λ t. tree_items t ≡ items.now) }
+        ensures are_items { IfOk result (λ _. AllByRecursion IsItem items.now) }
+    {
+        let branches = branches_on(rt, alloc, items)?;
+        Ok(tree_over(branches, items.len()))
+    }
+}
+
 impl RangeStore for Tree {
     ghost content = { tree_items };
 
@@ -68,12 +105,7 @@ impl RangeStore for Tree {
 
     fn from_rising(alloc: Global, items: &[Item]) -> Result<Tree, AllocError> {
         let branches = branches_of(alloc, items)?;
-        let total = parts::total(&branches);
-        Ok(Tree {
-            branches,
-            count: items.len(),
-            total,
-        })
+        Ok(tree_over(branches, items.len()))
     }
 
     fn len(&self) -> usize {

@@ -12,6 +12,7 @@ use settings_core::{ItemForm, SettingsFault, read_input_items, read_items, read_
 use std::alloc::Global;
 use std::io::Read;
 use std::rt::Files;
+use std::thread::Threads;
 use strategy_check::{Accepted, check};
 use strategy_core::Strategy;
 use version_log::Log;
@@ -62,11 +63,11 @@ fn item_set<R: Files + AllocGlobal, I: Read + Drop>(
     }
 }
 
-/// The strategy in one file and a log of the items in another, or in the input.
+/// The strategy in one file and a log of the items in another, or in the input. Up to four threads hash the items.
 ///
 /// The strategy is judged first: 80, 30 to 35, then 37, 36 or 38. Then the items are: 80, 81, then 82 where there are
 /// more different items than the strategy's cap.
-pub fn load<R: Files + AllocGlobal, I: Read + Drop>(
+pub fn load<R: Files + AllocGlobal + Threads + Sync, I: Read + Drop>(
     rt: &R,
     sources: Sources<'_>,
     reader: I,
@@ -76,6 +77,7 @@ pub fn load<R: Files + AllocGlobal, I: Read + Drop>(
     let alloc = rt.alloc();
     let accepted = accepted(alloc, read_strategy(rt, sources.table)?)?;
     let items = item_set(rt, sources, reader, accepted.cap() as usize)?;
-    let log = Log::of_set(alloc, accepted.cap(), &items)?;
+    let store = Tree::from_rising_on(rt, alloc, &items)?;
+    let log = Log::of_store(alloc, accepted.cap(), &items, store)?;
     Ok(Loaded { accepted, log })
 }

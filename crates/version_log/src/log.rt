@@ -87,10 +87,21 @@ impl<S: RangeStore> Log<S> {
         requires fits { length items.now ≤ cap }
         ensures { IfOk result (λ p. p ≡ opened cap items.now 1) }
     {
+        Log::of_store(alloc, cap, items, S::from_rising(alloc, items)?)
+    }
+
+    /// The log of the items of a set, as `of_set` makes it, over a store of them that is there already.
+    pub fn of_store(alloc: Global, cap: u32, items: &[Item], store: S) -> Result<Log<S>, AllocError>
+        requires cap { IsCap cap }
+        requires set { IsSet items.now }
+        requires fits { length items.now ≤ cap }
+        requires store { S.content store ≡ items.now }
+        ensures { IfOk result (λ p. p ≡ opened cap items.now 1) }
+    {
         Ok(Log {
             cap,
             entries: first_entries_of_set(alloc, items)?,
-            store: S::from_rising(alloc, items)?,
+            store,
             next_writer: 1,
         })
     }

@@ -1,6 +1,4 @@
-use Rattle.std.proofs.Common.{◌≡◌, refl, sym, subst, rules}
-use Rattle.definitions.specs.Items.{comes_before}
-use Rattle.range_tree.specs.Parts.{PassFirst}
+use Rattle.std.proofs.Common.{rules}
 use Rattle.range_tree.specs.Trees.{tree_items}
 use Rattle.range_tree.proofs.Ranks.{pass_start}
 use Rattle.range_tree.proofs.tree_store.TreeRangeStore.counts_and_sums.Goals as goal

@@ -1,6 +1,6 @@
 use Rattle.std.proofs.Common.{rules, arith, ◌∙◌, sym, length, ◌≤◌}
 use Rattle.version_log.proofs.Once.{writers_opened}
-use Rattle.version_log.proofs.log.Log.of_set.Goals as goal
+use Rattle.version_log.proofs.log.Log.of_store.Goals as goal
 
 pub invariant_of-result : goal.invariant_of-result
 invariant_of-result g c =
@@ -9,7 +9,7 @@ invariant_of-result g c =
     let count = opening.count in
     let room = c.requires.fits in
     let small : length entries.items ≤ c.args.cap = rw count room in (
-      c.in_ok-from_rising.ensures ∙ sym opening.content,
+      c.requires.store ∙ sym opening.content,
       record {
         once = opening.once;
         fits = small;
