@@ -9,11 +9,16 @@ build_plain() {
   out/plain make out
 }
 
+# Copies a folder, by hard links where the file system has them: what rt keeps of the crates takes gigabytes.
+copy() {
+  cp -al "$1" "$2" 2> /dev/null || { rm -rf "$2" && cp -a "$1" "$2"; }
+}
+
 # A copy of the repository, in which the proved programs that are timed are crates too.
 copy_repository() {
   rm -rf out/repo
   mkdir -p out/repo
-  cp -a ../crates out/repo/crates
+  copy ../crates out/repo/crates
   cp ../crates.txt out/repo/crates.txt
 }
 

@@ -147,6 +147,30 @@ class WithTheProgram(Check):
     test_second_in_profile_2_by_1_byte = functools.partialmethod(second, 2, 1)
     test_second_in_profile_2_by_1000_bytes = functools.partialmethod(second, 2, 1000)
 
+    def test_both_profiles_at_once(self) -> None:
+        """One server, and two connections that take turns, one in each profile."""
+        words = ["--addr", "127.0.0.1:0", "--sessions", "2", "--workers", "2"]
+        with program("serve", *words, *self.words) as process, contextlib.ExitStack() as held:
+            address = ("127.0.0.1", port_of(process))
+            sessions = [held.enter_context(large(HERE).initiate(profile)) for profile in (1, 2)]
+            connections = [held.enter_context(socket.create_connection(address, SECONDS)) for _ in sessions]
+            open_sessions = [2]
+            while open_sessions[-1]:
+                for session, connection in zip(sessions, connections):
+                    if session.state is State.OPEN:
+                        connection.sendall(b"".join(session.pulls()))
+                        came = connection.recv(65_536)
+                        self.assertTrue(came)
+                        self.assertEqual(session.push(came), len(came))
+                open_sessions.append(sum(session.state is State.OPEN for session in sessions))
+            for session, connection in zip(sessions, connections):
+                connection.sendall(b"".join(session.pulls()))
+                self.finds(session.learned(), OURS, THEIRS)
+            said = process.communicate(timeout=SECONDS)[0].splitlines()
+        self.assertEqual(open_sessions[1], 2)
+        self.assertEqual(said[1].rpartition(" messages ")[0], "opened 2 ended 2 refused 0 io 0 memory 0")
+        self.assertEqual((said[2], process.returncode), (f"items {len(HERE | THERE)}", 0))
+
     def test_refused_by_serve(self) -> None:
         with program("serve", "--addr", "127.0.0.1:0", *self.words) as process, large(HERE).initiate() as session:
             with socket.create_connection(("127.0.0.1", port_of(process)), SECONDS) as connection:
