@@ -61,6 +61,16 @@ impl Item {
         }
     }
 
+    /// The item of these bytes, which are known to be 1 to 64. Nothing is tested.
+    pub fn of(bytes: &[u8]) -> Item
+        requires { (1 ≤ length bytes.now) × (length bytes.now ≤ 64) }
+        ensures { result ≡ bytes.now }
+    {
+        Item {
+            bytes: Short::of(bytes),
+        }
+    }
+
     /// The bytes, 1 to 64 of them.
     pub fn bytes(&self) -> &[u8]
         ensures bytes { result.now ≡ self.now }

@@ -46,6 +46,16 @@ impl Lower {
         }
     }
 
+    /// The bound of these bytes, which are known to be no more than 64. Nothing is tested.
+    pub fn of(bytes: &[u8]) -> Lower
+        requires { length bytes.now ≤ 64 }
+        ensures { result ≡ bytes.now }
+    {
+        Lower {
+            bytes: Short::of(bytes),
+        }
+    }
+
     /// The bytes, 0 to 64 of them.
     pub fn bytes(&self) -> &[u8]
         ensures bytes { result.now ≡ self.now }
@@ -59,7 +69,15 @@ impl Lower {
         ensures above { result ≡ comes_before item.now self.now }
         ensures lower { IsLower self.now }
     {
-        item.bytes().cmp(self.bytes()).is_lt()
+        self.starts_after(item.bytes())
+    }
+
+    /// Whether these bytes are before the bound.
+    pub(crate) fn starts_after(&self, bytes: &[u8]) -> bool
+        ensures above { result ≡ comes_before bytes.now self.now }
+        ensures lower { IsLower self.now }
+    {
+        bytes.cmp(self.bytes()).is_lt()
     }
 }
 

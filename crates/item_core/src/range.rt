@@ -87,8 +87,15 @@ impl Range {
     pub fn contains(&self, item: &Item) -> bool
         ensures { result ≡ items.contains self.now item.now }
     {
+        self.contains_bytes(item.bytes())
+    }
+
+    /// Whether the range holds the item of these bytes.
+    pub fn contains_bytes(&self, bytes: &[u8]) -> bool
+        ensures { result ≡ items.contains self.now bytes.now }
+    {
         let Range { lower, upper } = self;
-        !lower.is_above(item) && upper.is_above(item)
+        !lower.starts_after(bytes) && upper.ends_after(bytes)
     }
 
     /// Whether the parts make up the range: the first begins where the range does, each later one where the one

@@ -75,10 +75,18 @@ impl Short {
         if bytes.len() > MAX_LENGTH {
             return None;
         }
-        Some(Short {
+        Some(Short::of(bytes))
+    }
+
+    /// The byte string, which is known to be no longer than 64 bytes.
+    pub fn of(bytes: &[u8]) -> Short
+        requires { length bytes.now ≤ 64 }
+        ensures { result ≡ bytes.now }
+    {
+        Short {
             bytes: padded(bytes),
             length: bytes.len() as u8,
-        })
+        }
     }
 
     /// The bytes.

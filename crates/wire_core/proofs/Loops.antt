@@ -1,10 +1,7 @@
 -- Reading one after the other, as a loop does.
-use Rattle.std.proofs.Common.{◌≡◌, ℕ, suc, ◌-◌, ◌+◌, ◌≤◌, ◌<◌, List, [], ◌∷◌, ◌++◌, length, Option, Some, Result, Ok}
+use Rattle.std.proofs.Common.{◌≡◌, ℕ, suc, ◌-◌, ◌+◌, ◌≤◌, ◌<◌, List, [], ◌∷◌, ◌++◌, Option, Some, Result, Ok}
 use Rattle.std.proofs.Common.{Err, refl, sym, ap, ◌∙◌, append_assoc, arith}
-use Rattle.std.specs.Prelude.{slice_get}
-use Rattle.std.proofs.lemmas.List.{append-nil, length-append}
-use Rattle.std.proofs.lemmas.Option.{slice_get-get_or}
-use Rattle.std.proofs.Math.Seq.{get_or-append_seam}
+use Rattle.std.proofs.lemmas.List.{append-nil}
 use Rattle.definitions.specs.Items.{Item, Range}
 use Rattle.definitions.specs.Reading.{◌>>=◌, item_at, items_at}
 use Rattle.wire_core.specs.Refused.{fault_number, Fails}
@@ -14,9 +11,6 @@ use Rattle.wire_core.specs.declared.fault.DecodeError.TheVariants as errors
 -- what was read before, and what is still read
 abbrev pub with_items : List Item → Result (List Item × List ℕ) ℕ → Result (List Item × List ℕ) ℕ
 with_items front read = read >>= λ x. Ok (front ++ x.0, x.1)
-
-abbrev pub last_of : List Item → Option Item
-last_of items = slice_get items (length items - 1)
 
 regroup : (front : List Item) (x : Item) (read : Result (List Item × List ℕ) ℕ) →
     with_items front (read >>= λ xs. Ok (x ∷ xs.0, xs.1)) ≡ with_items (front ++ x ∷ []) read
@@ -53,10 +47,3 @@ items_are_done X front count i before bytes total le so_far =
     let one : with_items front (items_at X (count - i) before bytes) ≡ Ok (front, bytes) =
     rw k (ap (λ (ns : List Item). Ok (ns, bytes)) (append-nil front)) in
     sym so_far ∙ one
-
-pub last-pushed : (front : List Item) (x : Item) → last_of (front ++ x ∷ []) ≡ Some x
-last-pushed front x =
-    let n : length (front ++ x ∷ []) - 1 ≡ length front = omega (arith, length-append front (x ∷ [])) in
-    let within : length front < length (front ++ x ∷ []) = omega (arith, length-append front (x ∷ [])) in
-    ap (λ i. slice_get (front ++ x ∷ []) i) n ∙ slice_get-get_or (front ++ x ∷ []) (length front) x within
-    ∙ ap (λ (y : Item). Some y) (get_or-append_seam front x [] x)

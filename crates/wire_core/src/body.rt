@@ -129,15 +129,15 @@ fn range_length(range: &Range) -> usize
 pub fn items_fault(range: &Range, items: &[Item]) -> Option<PartFault>
     ensures { option_map part_fault_number result ≡ faults.items_fault range.now None items.now }
 {
-    let mut before: Option<&Item> = None;
+    let mut before: Option<&[u8]> = None;
     for item in items {
-        if !rises_from(before, item) {
+        if !rises_from(before, item.bytes()) {
             return Some(PartFault::ItemOrder);
         }
         if !range.contains(item) {
             return Some(PartFault::ItemOutside);
         }
-        before = Some(item);
+        before = Some(item.bytes());
     }
     None
 }

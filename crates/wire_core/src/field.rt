@@ -1,7 +1,7 @@
 //! Reading the fields of a body. Each reader takes a field off the front of the bytes and gives its value, or the
 //! fault.
 
-ghost use Rattle.std.specs.Prelude.{◌≡◌, length, None, IfOk};
+ghost use Rattle.std.specs.Prelude.{◌≡◌, ◌≤◌, length, None, IfOk};
 ghost use Rattle.std.specs.Option.{option_copied};
 ghost use Rattle.definitions.specs.Reading as reading;
 ghost use Rattle.definitions.specs.Faults as faults;
@@ -45,16 +45,16 @@ pub fn take_number(bytes: &mut &[u8]) -> Result<u32, WireFault>
     Ok(u32::from_be_bytes([four[0], four[1], four[2], four[3]]))
 }
 
-/// A lower bound: its length, 0 to 64, and its bytes.
-pub fn take_lower(bytes: &mut &[u8]) -> Result<Lower, WireFault>
-    ensures { GivesField (λ x. (x, bytes.new.now)) result (reading.lower_at bytes.old.now) }
+/// The bytes of a lower bound: its length, 0 to 64, and so many bytes.
+pub fn take_lower<'a>(bytes: &mut &'a [u8]) -> Result<&'a [u8], WireFault>
+    ensures read { GivesField (λ x. (x.now, bytes.new.now)) result (reading.lower_at bytes.old.now) }
+    ensures length { IfOk result (λ x. length x.now ≤ 64) }
 {
     let length = take_byte(bytes)?;
     if length > 64 {
         return Err(WireFault::BadBound);
     }
-    let text = take_bytes(bytes, length as usize)?;
-    Lower::new(text).map_err(|_| WireFault::BadBound)
+    take_bytes(bytes, length as usize)
 }
 
 /// Whether an item may have so many bytes: 1 to 64.
@@ -76,7 +76,7 @@ pub fn take_upper(bytes: &mut &[u8]) -> Result<Upper, WireFault>
         return Err(WireFault::BadBound);
     }
     let text = take_bytes(bytes, length as usize)?;
-    Upper::new(text).map_err(|_| WireFault::BadBound)
+    Ok(Upper::Before(Item::of(text)))
 }
 
 /// A lower and an upper bound, the lower one below the upper one.
@@ -85,50 +85,54 @@ pub fn take_range(bytes: &mut &[u8]) -> Result<Range, WireFault>
 {
     let lower = take_lower(bytes)?;
     let upper = take_upper(bytes)?;
-    let Ok(range) = Range::new(lower, upper) else {
+    let Ok(range) = Range::new(Lower::of(lower), upper) else {
         return Err(WireFault::EmptyRange);
     };
     Ok(range)
 }
 
-/// An item: its length, 1 to 64, and its bytes.
-pub fn take_text(bytes: &mut &[u8]) -> Result<Item, WireFault>
-    ensures { GivesField (λ x. (x, bytes.new.now)) result (reading.text_at bytes.old.now) }
+/// The bytes of an item: its length, 1 to 64, and so many bytes.
+pub fn take_text<'a>(bytes: &mut &'a [u8]) -> Result<&'a [u8], WireFault>
+    ensures read { GivesField (λ x. (x.now, bytes.new.now)) result (reading.text_at bytes.old.now) }
+    ensures length { IfOk result (λ x. (1 ≤ length x.now) × (length x.now ≤ 64)) }
 {
     let length = take_byte(bytes)?;
     if !is_item_length(length) {
         return Err(WireFault::ItemLength);
     }
-    let text = take_bytes(bytes, length as usize)?;
-    let Ok(item) = Item::new(text) else {
-        return Err(WireFault::ItemLength);
-    };
-    Ok(item)
+    take_bytes(bytes, length as usize)
 }
 
-/// Whether the item is greater than the one before it, if there is one.
-pub fn rises_from(before: Option<&Item>, item: &Item) -> bool
-    ensures { result ≡ faults.rises_from (option_copied before.entry) item.now }
+/// Whether the bytes are greater than those of the item before them, if there is one.
+pub fn rises_from(before: Option<&[u8]>, bytes: &[u8]) -> bool
+    ensures { result ≡ faults.rises_from (option_copied before.entry) bytes.now }
 {
     match before {
         None => true,
-        Some(before) => before < item,
+        Some(before) => before.cmp(bytes).is_lt(),
     }
 }
 
-/// An item of the range that is greater than the one before it, if there is one.
-pub fn take_item(bytes: &mut &[u8], range: &Range, before: Option<&Item>) -> Result<Item, WireFault>
-    ensures { GivesField (λ x. (x, bytes.new.now)) result
+/// The bytes of an item of the range that is greater than the one before it, if there is one.
+///
+/// They are compared where they lie. To read an item that has just been built makes a processor wait for its copies.
+pub fn take_item<'a>(
+    bytes: &mut &'a [u8],
+    range: &Range,
+    before: Option<&[u8]>,
+) -> Result<&'a [u8], WireFault>
+    ensures read { GivesField (λ x. (x.now, bytes.new.now)) result
         (reading.item_at range.now (option_copied before.entry) bytes.old.now) }
+    ensures length { IfOk result (λ x. (1 ≤ length x.now) × (length x.now ≤ 64)) }
 {
-    let item = take_text(bytes)?;
-    if !rises_from(before, &item) {
+    let text = take_text(bytes)?;
+    if !rises_from(before, text) {
         return Err(WireFault::ItemOrder);
     }
-    if !range.contains(&item) {
+    if !range.contains_bytes(text) {
         return Err(WireFault::ItemOutside);
     }
-    Ok(item)
+    Ok(text)
 }
 
 /// How many items the bytes can hold at most, of those counted: an item takes two bytes at least. So a count alone
@@ -147,9 +151,11 @@ pub fn take_items(
     ensures { Gives (λ x. (x.items, bytes.new.now)) result (reading.items_at range.now count None bytes.old.now) }
 {
     let mut items: Vec<Item> = Vec::with_capacity(alloc, room_for(bytes, count))?;
+    let mut before: Option<&[u8]> = None;
     'each: for _ in 0..count {
-        let item = take_item(bytes, range, items.last())?;
-        items.push(item)?;
+        let text = take_item(bytes, range, before)?;
+        items.push(Item::of(text))?;
+        before = Some(text);
     }
     Ok(items)
 }

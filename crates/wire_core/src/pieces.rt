@@ -44,9 +44,9 @@ fn give_up(kept: &mut Vec<u8>, taken: usize)
     requires { taken ≤ length kept.old.items }
     ensures { kept.new.items ≡ drop taken kept.old.items }
 {
-    if taken > 0 {
-        kept.drain(..taken);
-    }
+    let left = kept.len() - taken;
+    kept.copy_within(taken.., 0);
+    kept.truncate(left);
 }
 
 /// Appends a piece. A byte alone is pushed, as a copy costs more than the byte.

@@ -17,7 +17,11 @@ use std::alloc::{AllocError, Global};
 /// The frame of a message's end.
 const END: [u8; 5] = [0, 0, 0, 1, 4];
 
+// The hints below: with two profiles in a program, a range would else be written by a call, and Sums take a twentieth
+// longer.
+
 /// Appends a length byte and the bytes: an item, or a lower bound.
+#[inline(always)]
 fn push_short(out: &mut Vec<u8>, bytes: &[u8]) -> Result<(), AllocError>
     requires { length bytes.now ≤ 64 }
     ensures { OnOk result (out.new.items ≡ out.old.items ++ wire.short_text bytes.now) }
@@ -28,6 +32,7 @@ fn push_short(out: &mut Vec<u8>, bytes: &[u8]) -> Result<(), AllocError>
 }
 
 /// Appends an upper bound.
+#[inline(always)]
 fn push_upper(out: &mut Vec<u8>, upper: &Upper) -> Result<(), AllocError>
     ensures { OnOk result (out.new.items ≡ out.old.items ++ wire.upper_text (upper_value upper.now)) }
 {
@@ -41,6 +46,7 @@ fn push_upper(out: &mut Vec<u8>, upper: &Upper) -> Result<(), AllocError>
 }
 
 /// Appends both bounds of a range.
+#[inline(always)]
 fn push_range(out: &mut Vec<u8>, range: &Range) -> Result<(), AllocError>
     ensures { OnOk result (out.new.items ≡ out.old.items ++ wire.range_text range.now) }
 {
@@ -49,6 +55,7 @@ fn push_range(out: &mut Vec<u8>, range: &Range) -> Result<(), AllocError>
 }
 
 /// Appends a number of four bytes, the greatest first.
+#[inline(always)]
 fn push_number(out: &mut Vec<u8>, number: u32) -> Result<(), AllocError>
     ensures { OnOk result (out.new.items ≡ out.old.items ++ wire.count_text number) }
 {
