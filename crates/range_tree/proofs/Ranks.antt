@@ -216,8 +216,3 @@ not_before_start (b ∷ bs) = refl
 
 pub pass_start : (A : List Item) → PassFirst (λ z. comes_before z []) A 0
 pass_start A = ((λ k d low high. absurd (omega arith)), (λ k d low high. not_before_start (get_or A k d)))
-
--- bytes that are not too long and no item are none
-pub short_is_none : (bytes : List ℕ) → ((1 ≤ length bytes) × (length bytes ≤ 64) → ⊥) → length bytes ≤ 64 → bytes ≡ []
-short_is_none [] refused low = refl
-short_is_none (b ∷ bs) refused low = absurd (refused (omega arith, low))

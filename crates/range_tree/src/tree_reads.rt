@@ -32,10 +32,10 @@ impl Tree {
         ensures places { PassFirst (λ z. comes_before z lower.now) (tree_items self.now) result.0 }
         ensures steps { length self.now.branches.items ≤ 64 → result.1 ≤ 21 }
     {
-        match Item::new(lower.bytes()) {
-            Ok(item) => self.rank(&item),
-            Err(_) => (0, 0),
+        if lower.bytes().is_empty() {
+            return (0, 0);
         }
+        self.rank(&Item::of(lower.bytes()))
     }
 
     /// How many items are below the bound, and how many comparisons with it were made.

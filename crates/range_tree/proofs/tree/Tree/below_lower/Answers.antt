@@ -1,17 +1,15 @@
-use Rattle.std.proofs.Common.{◌≡◌, ◌≤◌, [], sym, subst, length, List}
+use Rattle.std.proofs.Common.{◌≡◌, [], sym, subst, ◌∙◌, rules, length}
+use Rattle.std.proofs.lemmas.List.{nil_from_length}
 use Rattle.definitions.specs.Items.{comes_before}
 use Rattle.range_tree.specs.Parts.{PassFirst}
 use Rattle.range_tree.specs.Trees.{tree_items}
-use Rattle.range_tree.proofs.Ranks.{pass_start, short_is_none}
+use Rattle.range_tree.proofs.Ranks.{pass_start}
 use Rattle.range_tree.proofs.tree.Tree.below_lower.Goals as goal
 
-pub returns-in-Err-clause-places : goal.returns-in-Err-clause-places
-returns-in-Err-clause-places c =
+pub returns-then-is_empty-clause-places : goal.returns-then-is_empty-clause-places
+returns-then-is_empty-clause-places c =
     let A = tree_items c.args.self.now in
     let lower = c.args.lower.now in
-    let refused : (1 ≤ length c.bytes.result.now) × (length c.bytes.result.now ≤ 64) → ⊥ =
-    λ h. let e = c.in-Err.ensures.ok.1 h in absurd (cc) in
-    let none : lower ≡ [] =
-    short_is_none lower (subst (λ (b : List _). (1 ≤ length b) × (length b ≤ 64) → ⊥) c.bytes.ensures.bytes refused)
-    c.bytes.ensures.lower.not_long in
+    let zero : length c.bytes.result.now ≡ 0 = search (rules, c.if-is_empty.ensures) in
+    let none : lower ≡ [] = sym c.bytes.ensures.bytes ∙ nil_from_length c.bytes.result.now zero in
     subst (λ b. PassFirst (λ z. comes_before z b) A 0) (sym none) (pass_start A)
