@@ -56,3 +56,24 @@ side_by_side() {
     $1 in plain { printf "%-14s %12.1f %12.1f %8.2f\n", $1, plain[$1], $2, $2 / (plain[$1] > 0 ? plain[$1] : 1) }' \
     "$1" "$2"
 }
+
+# Of what several runs of a program printed, lines `STEP TIME`: the least time of each step. A process may find that
+# each large vector takes new pages, or that it gets those of the one before, so one run alone says little.
+least() {
+  awk '!($1 in time) { steps[++count] = $1 }
+    !($1 in time) || $2 < time[$1] { time[$1] = $2 }
+    END { for (i = 1; i <= count; i++) print steps[i], time[steps[i]] }'
+}
+
+# Runs a plain program and the proved one of this name so many times in turn, each run in a process of its own, and
+# leaves the least times in out/plain.times and out/proved.times.
+in_turn() {
+  local times=$1 plain=$2 proved=$3
+  rm -f out/plain.all out/proved.all
+  for ((run = 0; run < times; run++)); do
+    $plain >> out/plain.all
+    (cd out && "repo/crates/$proved/out/$proved") >> out/proved.all
+  done
+  least < out/plain.all > out/plain.times
+  least < out/proved.all > out/proved.times
+}
