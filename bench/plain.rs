@@ -610,8 +610,8 @@ fn run(folder: &Path, rounds: usize) -> Result<(), Refusal> {
 fn run_codec(folder: &Path, rounds: usize) -> Result<(), Refusal> {
     let mut times = Times(Vec::new());
     for (name, decode, encode) in [("sums", "sums_decode", "sums_encode"), ("list", "list_decode", "list_encode")] {
+        let text = read(&folder.join(name))?;
         for _ in 0..rounds {
-            let text = read(&folder.join(name))?;
             let parts = times.time(decode, || decode_message(&text))?;
             let again = times.time(encode, || encode_message(&parts))?;
             if again != text {
