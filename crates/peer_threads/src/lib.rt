@@ -9,6 +9,7 @@ mod engines;
 mod gate;
 mod hello;
 mod inbox;
+mod noting;
 mod outbox;
 mod outcome;
 mod piece;

@@ -36,4 +36,8 @@ pub trait Source {
 
     /// The next connection, or none where there will be no more. It may wait for a peer.
     fn take(&self) -> Result<Option<(Self::In, Self::Out)>, SourceFault>;
+
+    /// Closes a connection whose session is over, and of which all that is put into the log has been put there. It may
+    /// wait for the peer.
+    fn close(&self, _reader: Self::In, _writer: Self::Out) {}
 }

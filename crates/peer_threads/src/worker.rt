@@ -1,18 +1,19 @@
 //! One worker: it takes connections from the source, serves each, and adds what their peers were first to know.
 
-ghost use Rattle.std.specs.Prelude.{◌≡◌, ◌≤◌, IsSome};
+ghost use Rattle.std.specs.Prelude.{◌≡◌, ◌≤◌, false, IsSome, length, take};
 ghost use Rattle.std.specs.Arc.{arc_value};
 ghost use Rattle.peer_threads.specs.Workers.{MayWork};
 
 use crate::connection::Connection;
 use crate::engines::serve_one;
 use crate::gate::Gate;
+use crate::noting::Noting;
 use crate::outcome::Outcome;
 use crate::shared::Shared;
 use crate::source::{Source, SourceFault};
 use ends_core::Learned;
 use item_core::Item;
-use std::alloc::{AllocError, Global};
+use std::alloc::Global;
 use std::io::{Read, Write};
 use std::sync::{OnceLock, Wait};
 use store_core::RangeStore;
@@ -45,6 +46,12 @@ impl<'a, C: Source> Intake<'a, C> {
                 None
             }
         }
+    }
+
+    /// Closes a connection whose session is over.
+    fn close(&self, connection: Connection<C::In, C::Out>) {
+        let Connection { reader, writer } = connection;
+        self.source.close(reader.into_inner(), writer.into_inner());
     }
 
     /// The source's first fault, if it had one.
@@ -91,75 +98,140 @@ fn serve_all<T: Wait, S: RangeStore, G: Gate, C: Source>(
         let Some((reader, writer)) = intake.next(rt) else {
             return;
         };
-        if let Some(learned) = serve(rt, alloc, shared, seat, reader, writer) {
-            add_all(rt, alloc, shared, seat, learned.theirs());
-        }
+        let connection = Connection::new(reader, writer);
+        intake.close(serve(rt, alloc, shared, seat, connection));
     }
     unreachable!()
 }
 
-// Serves one connection and closes it. What was learned, where the session ended.
+// Serves one connection, and gives it back once all that was learned has been put into the log or is left out.
 fn serve<T: Wait, S: RangeStore, G: Gate, R: Read + Drop, W: Write + Drop>(
     rt: &T,
     alloc: Global,
     shared: &Shared<'_, S, G>,
     seat: &mut Seat<S>,
-    reader: R,
-    writer: W,
-) -> Option<Learned>
+    mut connection: Connection<R, W>,
+) -> Connection<R, W>
     requires lock { seat.old.table_id ≡ shared.now.lock.now }
     requires fits { seat.old.view.cap ≤ (arc_value shared.now.accepted.now).table.cap }
+    requires enrolled { IsSome seat.old.view.writer }
+    requires fresh { (connection.reader.failed ≡ false) × (connection.reader.ended ≡ false)
+        × (connection.writer.failed ≡ false) }
     ensures seat { seat.new.table_id ≡ seat.old.table_id }
     ensures kept { (seat.new.view.writer ≡ seat.old.view.writer) × (seat.new.view.cap ≡ seat.old.view.cap) }
 {
-    let mut connection = Connection::new(reader, writer);
-    match serve_one(rt, alloc, shared, seat, &mut connection) {
-        Outcome::Ended { learned, .. } => Some(learned),
+    if let Some((serial, learned)) = talk_to(rt, alloc, shared, seat, &mut connection) {
+        settle(rt, alloc, shared, seat, serial, learned.theirs());
+    }
+    connection
+}
+
+// Runs the session of a connection. Its serial and what was learned, where it ended.
+fn talk_to<T: Wait, S: RangeStore, G: Gate, R: Read, W: Write>(
+    rt: &T,
+    alloc: Global,
+    shared: &Shared<'_, S, G>,
+    seat: &mut Seat<S>,
+    connection: &mut Connection<R, W>,
+) -> Option<(u64, Learned)>
+    requires lock { seat.old.table_id ≡ shared.now.lock.now }
+    requires fits { seat.old.view.cap ≤ (arc_value shared.now.accepted.now).table.cap }
+    requires fresh { (connection.old.reader.failed ≡ false) × (connection.old.reader.ended ≡ false)
+        × (connection.old.writer.failed ≡ false) }
+    ensures seat { seat.new.table_id ≡ seat.old.table_id }
+    ensures kept { (seat.new.view.writer ≡ seat.old.view.writer) × (seat.new.view.cap ≡ seat.old.view.cap) }
+{
+    let noting = Noting::new(shared.gate);
+    let own = Shared {
+        lock: shared.lock,
+        accepted: shared.accepted,
+        sessions: shared.sessions,
+        gate: &noting,
+    };
+    match serve_one(rt, alloc, &own, seat, connection) {
+        Outcome::Ended { learned, .. } => Some((noting.serial()?, learned)),
         _ => None,
     }
 }
 
-// Adds the item to the log, and tells the gate whether the log took it or it was dropped for want of room. Else memory
-// ran out.
-fn add<T: Wait, S: RangeStore, G: Gate>(
+// Puts into the log what the gate admits of the items that the session with this serial taught, and tells the gate how
+// many are left out.
+fn settle<T: Wait, S: RangeStore, G: Gate>(
     rt: &T,
     alloc: Global,
     shared: &Shared<'_, S, G>,
     seat: &mut Seat<S>,
-    item: &Item,
-) -> Result<(), AllocError>
-    requires lock { seat.old.table_id ≡ shared.now.lock.now }
-    requires enrolled { IsSome seat.old.view.writer }
-    ensures seat { seat.new.table_id ≡ seat.old.table_id }
-    ensures kept { (seat.new.view.writer ≡ seat.old.view.writer) × (seat.new.view.cap ≡ seat.old.view.cap) }
-{
-    match shared.lock.insert(rt, alloc, seat, *item) {
-        Ok(Added::New(_)) => shared.gate.took(item),
-        Ok(Added::Already) => {}
-        Err(LogFault::Full) => shared.gate.dropped(1),
-        Err(LogFault::Memory) => return Err(AllocError),
-    }
-    Ok(())
-}
-
-// Adds the items to the log, in order. An item for which there is no room is dropped. Where memory runs out it stops,
-// and all that are left are dropped.
-fn add_all<T: Wait, S: RangeStore, G: Gate>(
-    rt: &T,
-    alloc: Global,
-    shared: &Shared<'_, S, G>,
-    seat: &mut Seat<S>,
-    items: &[Item],
+    serial: u64,
+    theirs: &[Item],
 )
     requires lock { seat.old.table_id ≡ shared.now.lock.now }
     requires enrolled { IsSome seat.old.view.writer }
     ensures seat { seat.new.table_id ≡ seat.old.table_id }
     ensures kept { (seat.new.view.writer ≡ seat.old.view.writer) × (seat.new.view.cap ≡ seat.old.view.cap) }
 {
+    let admitted = first_items(theirs, shared.gate.admits(serial, theirs.len()));
+    let dropped = add_all(rt, alloc, shared, seat, admitted);
+    shared
+        .gate
+        .settled(serial, theirs.len() - admitted.len() + dropped);
+}
+
+// The first so many items, or all where there are no more.
+fn first_items(items: &[Item], count: usize) -> &[Item]
+    ensures first { result.now ≡ take count items.now }
+    ensures few { length result.now ≤ length items.now }
+{
+    &items[..count.min(items.len())]
+}
+
+// Adds the items to the log, in order. An item for which there is no room is dropped. Where memory runs out it stops,
+// and all that are left are dropped. How many were dropped, of which the gate is told.
+fn add_all<T: Wait, S: RangeStore, G: Gate>(
+    rt: &T,
+    alloc: Global,
+    shared: &Shared<'_, S, G>,
+    seat: &mut Seat<S>,
+    items: &[Item],
+) -> usize
+    requires lock { seat.old.table_id ≡ shared.now.lock.now }
+    requires enrolled { IsSome seat.old.view.writer }
+    ensures seat { seat.new.table_id ≡ seat.old.table_id }
+    ensures kept { (seat.new.view.writer ≡ seat.old.view.writer) × (seat.new.view.cap ≡ seat.old.view.cap) }
+    ensures dropped { result ≤ length items.now }
+{
+    let mut dropped = 0;
     for (index, item) in items.iter().enumerate() {
-        if add(rt, alloc, shared, seat, item).is_err() {
-            shared.gate.dropped(items.len() - index);
-            return;
+        match add(rt, alloc, shared, seat, item) {
+            Ok(()) => {}
+            Err(LogFault::Full) => {
+                shared.gate.dropped(LogFault::Full, 1);
+                dropped += 1;
+            }
+            Err(LogFault::Memory) => {
+                let left = items.len() - index;
+                shared.gate.dropped(LogFault::Memory, left);
+                return dropped + left;
+            }
         }
     }
+    dropped
+}
+
+// Adds the item to the log, and tells the gate where the log lacked it. Else there was no room for it, or no memory.
+fn add<T: Wait, S: RangeStore, G: Gate>(
+    rt: &T,
+    alloc: Global,
+    shared: &Shared<'_, S, G>,
+    seat: &mut Seat<S>,
+    item: &Item,
+) -> Result<(), LogFault>
+    requires lock { seat.old.table_id ≡ shared.now.lock.now }
+    requires enrolled { IsSome seat.old.view.writer }
+    ensures seat { seat.new.table_id ≡ seat.old.table_id }
+    ensures kept { (seat.new.view.writer ≡ seat.old.view.writer) × (seat.new.view.cap ≡ seat.old.view.cap) }
+{
+    if let Added::New(_) = shared.lock.insert(rt, alloc, seat, *item)? {
+        shared.gate.took(item);
+    }
+    Ok(())
 }

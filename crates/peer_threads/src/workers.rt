@@ -28,9 +28,10 @@ pub struct Report {
 /// Serves the source's connections by 1 to 16 workers, each in a thread where one can be made and with a seat of its
 /// own, until the source has no more.
 ///
-/// What a worker's peer was first to know, by an ended session, is inserted into the log in the order learned; an item
-/// for which there is no room is dropped, and where memory runs out the rest of that session's items. The gate is told
-/// of each item that the log took, and of those dropped.
+/// What a worker's peer was first to know, by an ended session, is inserted into the log in the order learned, as many
+/// items as the gate admits; an item for which there is no room is dropped, and where memory runs out the rest of what
+/// was admitted. The gate is told of each item that the log took, of those dropped, and then of how many are left out;
+/// and then the source closes the connection.
 pub fn run_workers<
     T: Threads + Wait + Sync,
     S: RangeStore + Send,

@@ -7,9 +7,9 @@ use Rattle.tcp_front.specs.declared.fault.ConnectFault.{ConnectFault}
 use Rattle.tcp_front.specs.declared.fault.ConnectFault.TheVariants as connects
 
 abbrev pub listen_fault_number : ListenFault → ℕ
-listen_fault_number listens.Bind = codes.bind
+listen_fault_number (listens.Bind _) = codes.bind
 listen_fault_number listens.Memory = codes.no_memory
 
 abbrev pub connect_fault_number : ConnectFault → ℕ
-connect_fault_number connects.Connect = codes.connect
+connect_fault_number (connects.Connect _) = codes.connect
 connect_fault_number connects.Memory = codes.no_memory

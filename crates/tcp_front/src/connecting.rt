@@ -12,11 +12,12 @@ use std::net::{Net, SocketAddr, TcpStream, ToSocketAddrs};
 /// Why a connection was not made.
 fn fault_of(error: &io::Error) -> ConnectFault
     ensures memory { error_kind error.now ≡ ErrorKind.OutOfMemory → result ≡ ConnectFault.Memory }
-    ensures connect { error_kind error.now ≢ ErrorKind.OutOfMemory → result ≡ ConnectFault.Connect }
+    ensures connect { error_kind error.now ≢ ErrorKind.OutOfMemory →
+        result ≡ ConnectFault.Connect (error_kind error.now) }
 {
     match error.kind() {
         ErrorKind::OutOfMemory => ConnectFault::Memory,
-        _ => ConnectFault::Connect,
+        kind => ConnectFault::Connect(kind),
     }
 }
 

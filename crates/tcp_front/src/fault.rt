@@ -3,11 +3,13 @@
 ghost use Rattle.std.specs.Prelude.{◌≡◌};
 ghost use Rattle.tcp_front.specs.Faults.{listen_fault_number, connect_fault_number};
 
+use std::io::ErrorKind;
+
 /// Why there is no listener.
 #[derive(Clone, Copy, Debug, PartialEq, Eq)]
 pub enum ListenFault {
-    /// The address is none, or is in use, or may not be listened at.
-    Bind,
+    /// The address is none, or is in use, or may not be listened at: what the system said.
+    Bind(ErrorKind),
     /// Memory ran out.
     Memory,
 }
@@ -18,7 +20,7 @@ impl ListenFault {
         ensures { result ≡ listen_fault_number self }
     {
         match self {
-            ListenFault::Bind => 60,
+            ListenFault::Bind(_) => 60,
             ListenFault::Memory => 90,
         }
     }
@@ -27,8 +29,8 @@ impl ListenFault {
 /// Why there is no connection.
 #[derive(Clone, Copy, Debug, PartialEq, Eq)]
 pub enum ConnectFault {
-    /// The address is none, or nobody listens there.
-    Connect,
+    /// The address is none, or nobody answers there: what the system said.
+    Connect(ErrorKind),
     /// Memory ran out.
     Memory,
 }
@@ -39,7 +41,7 @@ impl ConnectFault {
         ensures { result ≡ connect_fault_number self }
     {
         match self {
-            ConnectFault::Connect => 61,
+            ConnectFault::Connect(_) => 61,
             ConnectFault::Memory => 90,
         }
     }

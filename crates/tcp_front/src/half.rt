@@ -15,7 +15,6 @@ pub struct Half(Arc<TcpStream>);
 
 impl Half {
     /// The connection.
-    #[cfg(test)]
     pub(crate) fn stream(&self) -> &TcpStream {
         &self.0
     }

@@ -1,6 +1,7 @@
 //! Connections over TCP: a listener that workers share, and a connection that is made.
 #![tactic(auto)]
 
+mod closing;
 mod connecting;
 mod fault;
 mod half;
@@ -11,6 +12,7 @@ mod patience;
 mod tests;
 mod trying;
 
+pub use closing::finish;
 pub use connecting::connect;
 pub use fault::{ConnectFault, ListenFault};
 pub use half::Half;

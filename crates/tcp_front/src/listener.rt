@@ -3,6 +3,7 @@
 ghost use Rattle.std.specs.Prelude.{◌≡◌, ◌≢◌};
 ghost use Rattle.std.specs.IoError.{error_kind};
 
+use crate::closing::finish;
 use crate::fault::ListenFault;
 use crate::half::{Half, halves};
 use crate::limits::{Limits, limited};
@@ -34,11 +35,12 @@ pub struct Listener<'a, C> {
 /// Why a listener was not made.
 fn listen_fault(error: &io::Error) -> ListenFault
     ensures memory { error_kind error.now ≡ ErrorKind.OutOfMemory → result ≡ ListenFault.Memory }
-    ensures bind { error_kind error.now ≢ ErrorKind.OutOfMemory → result ≡ ListenFault.Bind }
+    ensures bind { error_kind error.now ≢ ErrorKind.OutOfMemory →
+        result ≡ ListenFault.Bind (error_kind error.now) }
 {
     match error.kind() {
         ErrorKind::OutOfMemory => ListenFault::Memory,
-        _ => ListenFault::Bind,
+        kind => ListenFault::Bind(kind),
     }
 }
 
@@ -55,7 +57,8 @@ fn accept_fault(error: &io::Error) -> SourceFault
 
 /// Listens at an address: an IP address or a host's name, and a port, as `127.0.0.1:7700`; at port 0 the system chooses
 /// one. After this many connections the listener gives no more; with none it has no end. A read or a write of a
-/// connection that takes longer than the limits say fails, and its input ends after the bytes that they say.
+/// connection that takes longer than the limits say fails, and its input ends after the bytes that they say. A
+/// connection is closed as by `finish`.
 ///
 /// Fails with 60 if the text is no address, or the address is in use or may not be listened at, and with 90.
 pub fn listen<'a, R: Net<Listener = TcpListener, Stream = TcpStream> + Clock + AllocGlobal>(
@@ -135,6 +138,10 @@ impl<C: Clock> Source for Listener<'_, C> {
             self.left.store(0, Ordering::SeqCst);
         }
         Ok(Some(next?))
+    }
+
+    fn close(&self, reader: Take<Half>, _writer: Half) {
+        finish(self.clock, reader.get_ref().stream(), reader.limit());
     }
 }
 

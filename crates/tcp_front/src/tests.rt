@@ -1,13 +1,14 @@
 //! Connections over the loopback, at ports that the system chooses.
 
-use crate::{ConnectFault, Half, Limits, ListenFault, Listener, connect, limited, listen};
+use crate::{ConnectFault, Half, Limits, ListenFault, Listener, connect, finish, limited, listen};
 use peer_threads::{Source, SourceFault};
 use std::alloc::Alloc;
 use std::io;
 use std::io::{Read, Take, Write};
-use std::net::{Net, TcpListener, TcpStream};
+use std::net::{Net, Shutdown, TcpListener, TcpStream};
 use std::process::Abort;
-use std::time::{Clock, Duration};
+use std::thread::{Threads, join};
+use std::time::{Clock, Duration, Instant};
 
 /// How many seconds a call may take, where a test does not wait for it.
 const PATIENCE: u32 = 60;
@@ -24,9 +25,9 @@ fn limits(patience: u32) -> Limits {
 fn opened<'a, R: Net<Listener = TcpListener, Stream = TcpStream> + AllocGlobal + Clock + Abort>(
     rt: &'a R,
     connections: Option<u32>,
-    patience: u32,
+    limits: Limits,
 ) -> io::Result<(Listener<'a, R>, String)> {
-    let listener = listen(rt, "127.0.0.1:0", connections, limits(patience))
+    let listener = listen(rt, "127.0.0.1:0", connections, limits)
         .ok()
         .expect(rt, "a listener");
     let address = listener.local_addr().expect(rt, "an address");
@@ -41,7 +42,7 @@ fn taken<R: Clock + Abort>(rt: &R, listener: &Listener<R>) -> (Take<Half>, Half)
 
 #[test]
 fn bytes_both_ways(rt: HostRuntime) -> io::Result<()> {
-    let (listener, address) = opened(&rt, Some(1), PATIENCE)?;
+    let (listener, address) = opened(&rt, Some(1), limits(PATIENCE))?;
     let mut near = connect(&rt, &address, PATIENCE)
         .ok()
         .expect(&rt, "a connection");
@@ -61,7 +62,7 @@ fn bytes_both_ways(rt: HostRuntime) -> io::Result<()> {
 
 #[test]
 fn all_handles_have_the_patience(rt: HostRuntime) -> io::Result<()> {
-    let (listener, address) = opened(&rt, Some(1), 7)?;
+    let (listener, address) = opened(&rt, Some(1), limits(7))?;
     let near = connect(&rt, &address, 9).ok().expect(&rt, "a connection");
     let (reader, writer) = taken(&rt, &listener);
     assert!(rt; near.read_timeout()? == Some(Duration::from_secs(9)));
@@ -73,7 +74,7 @@ fn all_handles_have_the_patience(rt: HostRuntime) -> io::Result<()> {
 
 #[test]
 fn a_silent_peer(rt: HostRuntime) -> io::Result<()> {
-    let (listener, address) = opened(&rt, Some(1), 1)?;
+    let (listener, address) = opened(&rt, Some(1), limits(1))?;
     let mut near = connect(&rt, &address, 1).ok().expect(&rt, "a connection");
     let (mut reader, _writer) = taken(&rt, &listener);
     let mut bytes = [0u8; 5];
@@ -84,7 +85,7 @@ fn a_silent_peer(rt: HostRuntime) -> io::Result<()> {
 
 #[test]
 fn the_input_ends_at_its_limit(rt: HostRuntime) -> io::Result<()> {
-    let (listener, address) = opened(&rt, Some(1), PATIENCE)?;
+    let (listener, address) = opened(&rt, Some(1), limits(PATIENCE))?;
     let mut near = connect(&rt, &address, PATIENCE)
         .ok()
         .expect(&rt, "a connection");
@@ -109,7 +110,7 @@ fn bytes_up_to_a_limit(rt: HostRuntime) -> io::Result<()> {
 
 #[test]
 fn connections_are_counted(rt: HostRuntime) -> io::Result<()> {
-    let (two, address) = opened(&rt, Some(2), PATIENCE)?;
+    let (two, address) = opened(&rt, Some(2), limits(PATIENCE))?;
     let _first = connect(&rt, &address, PATIENCE)
         .ok()
         .expect(&rt, "a connection");
@@ -123,14 +124,14 @@ fn connections_are_counted(rt: HostRuntime) -> io::Result<()> {
     let _other = taken(&rt, &two);
     assert!(rt; matches!(two.take(), Ok(None)));
     assert!(rt; matches!(two.take(), Ok(None)));
-    let (none, _) = opened(&rt, Some(0), PATIENCE)?;
+    let (none, _) = opened(&rt, Some(0), limits(PATIENCE))?;
     assert!(rt; matches!(none.take(), Ok(None)));
     Ok(())
 }
 
 #[test]
 fn after_a_failed_accept(rt: HostRuntime) -> io::Result<()> {
-    let (listener, address) = opened(&rt, None, PATIENCE)?;
+    let (listener, address) = opened(&rt, None, limits(PATIENCE))?;
     listener.never_wait()?;
     let failed = listener.take().err().expect(&rt, "a fault");
     assert_eq!(rt; failed, SourceFault::Accept);
@@ -144,7 +145,7 @@ fn after_a_failed_accept(rt: HostRuntime) -> io::Result<()> {
 
 #[test]
 fn addresses_in_use_or_of_nobody(rt: HostRuntime) -> io::Result<()> {
-    let (listener, address) = opened(&rt, None, PATIENCE)?;
+    let (listener, address) = opened(&rt, None, limits(PATIENCE))?;
     let again = listen(&rt, &address, None, limits(PATIENCE))
         .err()
         .map(ListenFault::number);
@@ -167,4 +168,95 @@ fn texts_that_are_no_addresses(rt: HostRuntime) {
         let there = connect(&rt, text, PATIENCE).err().map(ConnectFault::number);
         assert_eq!(rt; there, Some(61));
     }
+}
+
+/// So many times 4,000 bytes.
+fn write_blocks(mut stream: impl Write + Drop, count: u32) -> io::Result<()> {
+    for _ in 0..count {
+        stream.write_all(&[7; 4_000])?;
+    }
+    Ok(())
+}
+
+/// The number of milliseconds since then.
+fn millis_since<R: Clock>(rt: &R, start: Instant) -> io::Result<u128> {
+    Ok(start.elapsed(rt)?.as_millis())
+}
+
+// A close that leaves input unread resets the connection, and the peer does not get all.
+#[test]
+fn what_was_written_last_arrives(rt: HostRuntime) -> io::Result<()> {
+    let wide = Limits {
+        patience: PATIENCE,
+        most_bytes: 1_000_000,
+    };
+    let (listener, address) = opened(&rt, Some(1), wide)?;
+    let near = connect(&rt, &address, PATIENCE)
+        .ok()
+        .expect(&rt, "a connection");
+    let (reader, mut writer) = taken(&rt, &listener);
+    let (rt, near, listener) = (&rt, &near, &listener);
+    let (sent, (unread, came)) = join(
+        rt,
+        move || {
+            let sent = write_blocks(&mut writer, 250);
+            listener.close(reader, writer);
+            sent
+        },
+        move || {
+            join(
+                rt,
+                move || write_blocks(near, 100),
+                move || io::copy(&mut &*near, &mut io::sink()),
+            )
+        },
+    );
+    sent?;
+    unread?;
+    assert_eq!(rt; came?, 1_000_000);
+    Ok(())
+}
+
+#[test]
+fn a_peer_that_stays_is_let_go(rt: HostRuntime) -> io::Result<()> {
+    let (listener, address) = opened(&rt, Some(1), limits(PATIENCE))?;
+    let _near = connect(&rt, &address, PATIENCE)
+        .ok()
+        .expect(&rt, "a connection");
+    let (reader, writer) = taken(&rt, &listener);
+    let start = Instant::now(&rt)?;
+    listener.close(reader, writer);
+    let waited = millis_since(&rt, start)?;
+    assert!(rt; 900 <= waited && waited <= 3_000);
+    Ok(())
+}
+
+// Of what a peer sends on, 65,536 bytes are read, and no more is waited for.
+#[test]
+fn a_peer_that_sends_on_is_let_go(rt: HostRuntime) -> io::Result<()> {
+    let (listener, address) = opened(&rt, Some(1), limits(PATIENCE))?;
+    let near = connect(&rt, &address, PATIENCE)
+        .ok()
+        .expect(&rt, "a connection");
+    let (reader, writer) = taken(&rt, &listener);
+    write_blocks(&near, 17)?;
+    let start = Instant::now(&rt)?;
+    listener.close(reader, writer);
+    assert!(rt; millis_since(&rt, start)? < 900);
+    Ok(())
+}
+
+#[test]
+fn a_peer_that_is_done_costs_no_wait(rt: HostRuntime) -> io::Result<()> {
+    let (listener, address) = opened(&rt, Some(1), limits(PATIENCE))?;
+    let near = connect(&rt, &address, PATIENCE)
+        .ok()
+        .expect(&rt, "a connection");
+    let (reader, writer) = taken(&rt, &listener);
+    let start = Instant::now(&rt)?;
+    near.shutdown(Shutdown::Write)?;
+    listener.close(reader, writer);
+    finish(&rt, &near, 0);
+    assert!(rt; millis_since(&rt, start)? < 900);
+    Ok(())
 }

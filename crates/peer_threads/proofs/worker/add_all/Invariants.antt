@@ -1,4 +1,4 @@
-use Rattle.std.proofs.Common.{◌≡◌, IsSome}
+use Rattle.std.proofs.Common.{◌≡◌, ◌≤◌, IsSome}
 use Rattle.peer_threads.proofs.worker.add_all.Given as goal
 
 abbrev pub invariant-loop-index : goal.invariant-loop-index
@@ -7,3 +7,4 @@ invariant-loop-index g l =
     × (l.seat.view.writer ≡ l.fn.seat.view.writer)
     × (l.seat.view.cap ≡ l.fn.seat.view.cap)
     × IsSome l.seat.view.writer
+    × (l.dropped ≤ l.index)
