@@ -10,7 +10,7 @@ use Rattle.clap.proofs.WalkLemmas.{one_text-rows}
 use Rattle.settings_core.specs.Calls.{Finds, IsNumber, IsWritten, profile_number}
 use Rattle.settings_core.specs.declared.words.WireProfile.{WireProfile}
 use Rattle.settings_core.specs.declared.words.WireProfile.TheVariants as profiles
-use Rattle.settings_core.specs.Spans.{IsSessionCount}
+use Rattle.settings_core.specs.Spans.{IsWithin}
 
 -- what `parse` gives at an unsigned number of k bits
 abbrev Parses : ℕ → Text → Result ℕ ParseIntError → Type 0
@@ -86,9 +86,10 @@ number_tried k f id r none value = subst (λ t. Tells k t r) (one_text-rows f id
     go None at = subst (Tells k None) (sym (none at)) (tt, tt)
     go (Some text) at = given text r (value text at)
 
-pub small : (x : Option ℕ) → IfSome x IsSessionCount → IfSome x (λ n. n < 2 ^ 32)
-small None span = tt
-small (Some n) span = omega (arith, span)
+pub small : (least most : ℕ) → most < 2 ^ 32 → (x : Option ℕ) → IfSome x (IsWithin least most)
+    → IfSome x (λ n. n < 2 ^ 32)
+small least most fits None span = tt
+small least most fits (Some n) span = let high = span.1 in omega (arith, fits, high)
 
 -- another number names no profile
 pub no_profile : (text : Option Text) (n : ℕ) → IsWritten text (Some n) → (n ≡ 1 → ⊥) → (n ≡ 2 → ⊥) →

@@ -1,15 +1,19 @@
 -- What the words of a call ask for.
---     AsksFor name rows c    the command of this name, with these values, is c
---     WordsAskFor words c    the words, of which the first is the program's own name, are well formed and ask for c
---     profile_number p       how a wire profile is named
---     is_text form           whether the form of items is text
---     Finds P found          what was found has this property; or nothing was found, and nothing has it
+--     AsksFor name rows c      the command of this name, with these values, is c; no values ask for a `serve` with
+--                              neither ITEMS nor a file to keep
+--     CallsFor name rows call  the same of a call: its command, and whether refusals are explained
+--     WordsAskFor words call   the words, of which the first is the program's own name, are well formed and ask for
+--                              this call
+--     profile_number p         how a wire profile is named
+--     is_text form             whether the form of items is text
+--     Finds P found            what was found has this property; or nothing was found, and nothing has it
 use Rattle.std.specs.Prelude.{◌≡◌, ℕ, codes, Bool, true, false, List, [], Option, Some, None, IsSomeAnd, ⊤}
 use Rattle.std.specs.Prelude.{option_map}
 use Rattle.std.specs.Str.Parse.{IsNumeral, digits_value, without_leading_plus}
 use Rattle.clap.specs.Words.{Row, Text, fault_of, first_of, one_of, subcommand_of}
 use Rattle.settings_core.specs.Program.{program}
 use Rattle.settings_core.specs.Spans.{AreInSpan}
+use Rattle.settings_core.specs.declared.words.Call.{Call}
 use Rattle.settings_core.specs.declared.words.Command.{Command}
 use Rattle.settings_core.specs.declared.words.ItemForm.{ItemForm}
 use Rattle.settings_core.specs.declared.words.ItemForm.TheVariants as forms
@@ -59,13 +63,18 @@ HasValues rows (Answer hexed form items) = IsFlag (codes "hex") rows hexed
     × IsFlag (codes "text") rows (is_text form) × IsText (codes "ITEMS") rows items.now
 HasValues rows (Check file) = IsText (codes "FILE") rows file.now
 HasValues rows Sim = ⊤
-HasValues rows (Serve table address workers sessions patience most_bytes report learned form items) =
+HasValues rows (Serve table address workers sessions patience most_bytes report learned keep durable most_learned
+    read_only report_items form items) =
     IsText (codes "table") rows table.now × IsText (codes "addr") rows address.now
     × IsNumber (codes "workers") rows (Some workers) × IsNumber (codes "sessions") rows sessions
     × IsNumber (codes "patience") rows (Some patience) × IsNumber (codes "most-bytes") rows (Some most_bytes)
     × IsAnyText (codes "report") rows (option_map (λ text. text.now) report)
     × IsAnyText (codes "learned") rows (option_map (λ text. text.now) learned)
-    × IsFlag (codes "text") rows (is_text form) × IsText (codes "ITEMS") rows items.now
+    × IsAnyText (codes "keep") rows (option_map (λ text. text.now) keep)
+    × IsFlag (codes "durable") rows durable × IsNumber (codes "most-learned") rows most_learned
+    × IsFlag (codes "read-only") rows read_only × IsNumber (codes "report-items") rows report_items
+    × IsFlag (codes "text") rows (is_text form)
+    × IsAnyText (codes "ITEMS") rows (option_map (λ text. text.now) items)
 HasValues rows (Sync table address profile patience most_bytes stats form items) =
     IsText (codes "table") rows table.now × IsText (codes "addr") rows address.now
     × IsNumber (codes "profile") rows (Some (profile_number profile))
@@ -77,15 +86,20 @@ abbrev pub name_of : Command → Text
 name_of (Answer hexed form items) = codes "answer"
 name_of (Check file) = codes "check"
 name_of Sim = codes "sim"
-name_of (Serve table address workers sessions patience most_bytes report learned form items) = codes "serve"
+name_of (Serve table address workers sessions patience most_bytes report learned keep durable most_learned read_only
+    report_items form items) = codes "serve"
 name_of (Sync table address profile patience most_bytes stats form items) = codes "sync"
 
 abbrev pub AsksFor : Text → List Row → Command → Type 0
 AsksFor name rows c = (name_of c ≡ name) × HasValues rows c × AreInSpan c
 
-abbrev pub WordsAskFor : List Text → Command → Type 0
-WordsAskFor words c = (fault_of program words ≡ [])
-    × IsSomeAnd (subcommand_of program words) (λ p. AsksFor p.0 p.1 c)
+abbrev pub CallsFor : Text → List Row → Call → Type 0
+CallsFor name rows call = AsksFor name rows call.command × IsFlag (codes "why") rows call.explains
+
+-- ITEMS of `serve` may be left out: that they may not without a file to keep is said of the values
+abbrev pub WordsAskFor : List Text → Call → Type 0
+WordsAskFor words call = (fault_of (program false) words ≡ [])
+    × IsSomeAnd (subcommand_of (program false) words) (λ p. CallsFor p.0 p.1 call)
 
 abbrev pub Finds : {X : Type 0} → (X → Type 0) → Option X → Type 0
 Finds P (Some x) = P x

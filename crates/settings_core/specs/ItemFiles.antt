@@ -9,7 +9,9 @@
 --     line_items form line    no item where nothing is left, else the item that is spelled; None where none is
 --     items_from form n ls    the items of these lines, of which the first has the number n, or the number of the first
 --                             bad line
---     file_items form text    the items of a file, or the number of its first bad line, from 1
+--     has_byte_order_mark text  whether a text begins with the byte order mark of UTF-8
+--     file_items form text    the items of a file, or the number of its first bad line, from 1; a file that begins with
+--                             a byte order mark is refused by its line 1, so that the mark is part of no item
 use Rattle.std.specs.Prelude.{ℕ, ◌+◌, ◌==◌, Bool, ◌&&◌, ◌||◌, List, [], ◌∷◌, ◌++◌, reverse, length, nat_le}
 use Rattle.std.specs.Prelude.{if◌then◌else◌, Option, Some, None, option_map, Result, Ok, Err, bytes_eq, codes, take}
 use Rattle.std.specs.Prelude.{drop}
@@ -94,5 +96,13 @@ abbrev pub items_from : ItemForm → ℕ → List (List ℕ) → Result (List It
 items_from form n [] = Ok []
 items_from form n (line ∷ lines) = line_before n (line_items form line) (items_from form (n + 1) lines)
 
+-- what some editors put in front of a file
+abbrev pub byte_order_mark : List ℕ
+byte_order_mark = 239 ∷ 187 ∷ 191 ∷ []
+
+abbrev pub has_byte_order_mark : List ℕ → Bool
+has_byte_order_mark text = bytes_eq (take 3 text) byte_order_mark
+
+-- in hex its line 1 is bad anyhow
 abbrev pub file_items : ItemForm → List ℕ → Result (List Item) ℕ
-file_items form text = items_from form 1 (lines text)
+file_items form text = if has_byte_order_mark text then Err 1 else items_from form 1 (lines text)

@@ -1,8 +1,8 @@
 -- The words that the program knows, as `clap` sees them.
---     program          its commands: answer, check, sim, serve and sync
+--     program must     its commands: answer, check, sim, serve and sync; and whether the ITEMS of serve must be given
 --     IsWord r a       the argument is this one, for its own command alone
 --     IsCommand a c    the command is this one, with no argument for those below it
-use Rattle.std.specs.Prelude.{◌≡◌, pos, codes, true, false, [], ◌∷◌, Some}
+use Rattle.std.specs.Prelude.{◌≡◌, pos, codes, Bool, true, false, [], ◌∷◌, Some}
 use Rattle.clap.specs.Words.{App, Rule, app_of, new_app, new_rule, rule_of, with_rule, with_subcommand}
 use Rattle.clap.specs.Simple.{on_top}
 use Rattle.clap.specs.declared.builder.arg.Arg.{Arg}
@@ -19,9 +19,9 @@ IsCommand a c = (app_of c ≡ a) × ((out-Command c).has_globals ≡ false)
 
 -- ---- arguments
 
--- `ITEMS`
-abbrev pub items : Rule
-items = record (new_rule (codes "ITEMS")) { required = true }
+-- `ITEMS`, and whether it must be given
+abbrev pub items : Bool → Rule
+items must = record (new_rule (codes "ITEMS")) { required = must }
 
 -- `--table FILE`
 abbrev pub table : Rule
@@ -99,37 +99,85 @@ report = record (new_rule (codes "report")) { long = Some (codes "report"); valu
 abbrev pub learned : Rule
 learned = record (new_rule (codes "learned")) { long = Some (codes "learned"); value_names = 1 }
 
+-- `--keep FILE`
+abbrev pub keep : Rule
+keep = record (new_rule (codes "keep")) { long = Some (codes "keep"); value_names = 1 }
+
+-- `--durable`
+abbrev pub durable : Rule
+durable = record (new_rule (codes "durable")) { long = Some (codes "durable"); action = Some SetTrue }
+
+-- `--most-learned N`, of 1 to 4,294,967,295
+abbrev pub most_learned : Rule
+most_learned = record (new_rule (codes "most-learned")) {
+  long = Some (codes "most-learned");
+  value_names = 1;
+  parser = Some (Signed (pos 1) (pos 4294967295));
+}
+
+-- `--read-only`
+abbrev pub read_only : Rule
+read_only = record (new_rule (codes "read-only")) { long = Some (codes "read-only"); action = Some SetTrue }
+
+-- `--report-items N`, of 0 to 4,294,967,295
+abbrev pub report_items : Rule
+report_items = record (new_rule (codes "report-items")) {
+  long = Some (codes "report-items");
+  value_names = 1;
+  parser = Some (Signed (pos 0) (pos 4294967295));
+}
+
+-- `--why`
+abbrev pub why : Rule
+why = record (new_rule (codes "why")) { long = Some (codes "why"); action = Some SetTrue }
+
 -- `FILE`
 abbrev pub file : Rule
 file = record (new_rule (codes "FILE")) { required = true }
 
 -- ---- commands
 
+-- `--text`, `--why` and `ITEMS`, with which most commands end
+abbrev pub with_items : App → Bool → App
+with_items a must = with_rule (with_rule (with_rule a text) why) (items must)
+
 abbrev pub answer : App
-answer = with_rule (with_rule (with_rule (new_app (codes "answer")) hex) text) items
+answer = with_items (with_rule (new_app (codes "answer")) hex) true
 
 abbrev pub check : App
-check = with_rule (new_app (codes "check")) file
+check = with_rule (with_rule (new_app (codes "check")) why) file
 
 abbrev pub sim : App
-sim = new_app (codes "sim")
+sim = with_rule (new_app (codes "sim")) why
 
 -- `serve` with the words that say what it serves
 abbrev pub served : App
 served = with_rule (with_rule (with_rule (with_rule (with_rule (with_rule (new_app (codes "serve")) table) address)
     workers) sessions) patience) most_bytes
 
-abbrev pub serve : App
-serve = with_rule (with_rule (with_rule (with_rule served report) learned) text) items
+-- and with those that say which files it writes
+abbrev pub written : App
+written = with_rule (with_rule (with_rule (with_rule served report) learned) keep) durable
+
+-- and with those that say how much is taken of a session
+abbrev pub bounded : App
+bounded = with_rule (with_rule (with_rule written most_learned) read_only) report_items
+
+abbrev pub serve : Bool → App
+serve must = with_items bounded must
+
+-- `sync` with its own words
+abbrev pub asked : App
+asked = with_rule (with_rule (with_rule (with_rule (with_rule (with_rule (new_app (codes "sync")) table) address)
+    profile) patience) most_bytes) stats
 
 abbrev pub sync : App
-sync = with_rule (with_rule (with_rule (with_rule (with_rule (with_rule (with_rule (with_rule (new_app (codes "sync"))
-    table) address) profile) patience) most_bytes) stats) text) items
+sync = with_items asked true
 
 -- the program itself, which has a version and asks for a command
 abbrev pub top : App
 top = on_top (λ s. record s { has_version = true; subcommand_required = true }) (new_app (codes "rangesync"))
 
-abbrev pub program : App
-program = with_subcommand (with_subcommand (with_subcommand (with_subcommand (with_subcommand top answer.top) check.top)
-    sim.top) serve.top) sync.top
+abbrev pub program : Bool → App
+program must = with_subcommand (with_subcommand (with_subcommand (with_subcommand (with_subcommand top answer.top)
+    check.top) sim.top) (serve must).top) sync.top

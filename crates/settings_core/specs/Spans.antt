@@ -1,8 +1,14 @@
 -- The numbers that words may give.
---     AreInSpan c      the numbers of the command are in their spans
-use Rattle.std.specs.Prelude.{ℕ, ◌≤◌, IfSome, ⊤}
+--     AreInSpan c            the numbers of the command are in their spans; and `serve` is given ITEMS, a file to keep,
+--                            or both
+--     IsWithin least most n  the number is in this span
+--     IsAnyGiven x y         one of the two is given, or both are
+use Rattle.std.specs.Prelude.{ℕ, ◌≤◌, IfSome, Option, Some, None, ⊤}
 use Rattle.settings_core.specs.declared.words.Command.{Command}
 use Rattle.settings_core.specs.declared.words.Command.TheVariants.{Answer, Check, Sim, Serve, Sync}
+
+abbrev pub IsWithin : ℕ → ℕ → ℕ → Type 0
+IsWithin least most n = (least ≤ n) × (n ≤ most)
 
 abbrev pub IsWorkerCount : ℕ → Type 0
 IsWorkerCount n = (1 ≤ n) × (n ≤ 16)
@@ -18,11 +24,27 @@ IsPatience n = (1 ≤ n) × (n ≤ 86400)
 abbrev pub IsByteCount : ℕ → Type 0
 IsByteCount n = (1024 ≤ n) × (n ≤ 4294967295)
 
+-- how many items of one session are put into the set at most
+abbrev pub IsLearnedCount : ℕ → Type 0
+IsLearnedCount n = (1 ≤ n) × (n ≤ 4294967295)
+
+-- how many items of one session are reported at most
+abbrev pub IsReportedCount : ℕ → Type 0
+IsReportedCount n = (0 ≤ n) × (n ≤ 4294967295)
+
+-- one of the two, or both
+abbrev pub IsAnyGiven : {X Y : Type 0} → Option X → Option Y → Type 0
+IsAnyGiven None None = ⊥
+IsAnyGiven None (Some y) = ⊤
+IsAnyGiven (Some x) y = ⊤
+
 abbrev pub AreInSpan : Command → Type 0
 AreInSpan (Answer hexed form items) = ⊤
 AreInSpan (Check file) = ⊤
 AreInSpan Sim = ⊤
-AreInSpan (Serve table address workers sessions patience most_bytes report learned form items) = IsWorkerCount workers
-    × IfSome sessions IsSessionCount × IsPatience patience × IsByteCount most_bytes
+AreInSpan (Serve table address workers sessions patience most_bytes report learned keep durable most_learned read_only
+    report_items form items) = IsWorkerCount workers × IfSome sessions IsSessionCount × IsPatience patience
+    × IsByteCount most_bytes × IfSome most_learned IsLearnedCount × IfSome report_items IsReportedCount
+    × IsAnyGiven keep items
 AreInSpan (Sync table address profile patience most_bytes stats form items) = IsPatience patience
     × IsByteCount most_bytes

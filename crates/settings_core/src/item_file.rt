@@ -2,7 +2,7 @@
 //!
 //! In hex a carriage return at a line's end, then spaces and tabs at both its ends, and blank lines are ignored. A line
 //! of text without one carriage return at its end is an item as it stands, or spells one in hex behind `0x`; empty
-//! lines are ignored. An item given twice counts once.
+//! lines are ignored. An item given twice counts once. A file that begins with a byte order mark is refused.
 
 ghost use Rattle.std.specs.Prelude.{◌≡◌, ◌≢◌, ◌<◌, ◌≤◌, ℕ, List, [], ◌∷◌, ◌++◌, length, IfOk, IfErr, IfSome, OnOk};
 ghost use Rattle.std.specs.Prelude.{option_map, Some, None, Ok, Err};
@@ -12,7 +12,8 @@ ghost use Rattle.definitions.specs.Sets.{IsSet};
 ghost use Rattle.settings_core.specs.Faults.{IsSetOf};
 ghost use Rattle.settings_core.specs.Files.{IsFromFile};
 ghost use Rattle.settings_core.specs.ItemFiles.{is_blank, without_front, without_end, digits_in, decoded, line_items};
-ghost use Rattle.settings_core.specs.ItemFiles.{lines, lines_in, file_items, text_in, text_item, content_of, spelled};
+ghost use Rattle.settings_core.specs.ItemFiles.{lines, lines_in, items_from, file_items, text_in, text_item};
+ghost use Rattle.settings_core.specs.ItemFiles.{content_of, spelled, has_byte_order_mark};
 
 use crate::fault::SettingsFault;
 use crate::file::{read_file, read_text};
@@ -151,10 +152,10 @@ fn first_line(text: &[u8]) -> (&[u8], Option<&[u8]>)
 }
 
 /// The items of the lines in order.
-fn items_of(alloc: Global, form: ItemForm, text: &[u8]) -> Result<Vec<Item>, SettingsFault>
-    ensures items { IfOk result (λ v. file_items form text.now ≡ Ok v.items) }
+fn items_of_lines(alloc: Global, form: ItemForm, text: &[u8]) -> Result<Vec<Item>, SettingsFault>
+    ensures items { IfOk result (λ v. items_from form 1 (lines text.now) ≡ Ok v.items) }
     ensures refused { IfErr result (λ e. e ≢ SettingsFault.Memory → (line : ℕ)
-        × (e ≡ SettingsFault.BadItemLine line) × (file_items form text.now ≡ Err line)) }
+        × (e ≡ SettingsFault.BadItemLine line) × (items_from form 1 (lines text.now) ≡ Err line)) }
 {
     let mut items = Vec::new(alloc);
     let mut rest = Some(text);
@@ -166,6 +167,25 @@ fn items_of(alloc: Global, form: ItemForm, text: &[u8]) -> Result<Vec<Item>, Set
         rest = after;
     }
     Ok(items)
+}
+
+/// Whether a file's text begins with a byte order mark. Its line 1 is bad then.
+pub fn has_byte_order_mark(text: &[u8]) -> bool
+    ensures { result ≡ has_byte_order_mark text.now }
+{
+    text.starts_with(b"\xEF\xBB\xBF")
+}
+
+/// The items of a file's text in order.
+fn items_of(alloc: Global, form: ItemForm, text: &[u8]) -> Result<Vec<Item>, SettingsFault>
+    ensures items { IfOk result (λ v. file_items form text.now ≡ Ok v.items) }
+    ensures refused { IfErr result (λ e. e ≢ SettingsFault.Memory → (line : ℕ)
+        × (e ≡ SettingsFault.BadItemLine line) × (file_items form text.now ≡ Err line)) }
+{
+    if has_byte_order_mark(text) {
+        return Err(SettingsFault::BadItemLine { line: 1 });
+    }
+    items_of_lines(alloc, form, text)
 }
 
 /// The set of the items of a file's text, in rising order.

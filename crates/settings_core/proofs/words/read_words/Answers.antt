@@ -1,15 +1,16 @@
-use Rattle.std.proofs.Common.{◌≡◌, ◌∙◌, inl, inr, refl, sym, ap, map, true, IfErr, IsSomeAnd, subst, Result, Ok, Err}
+use Rattle.std.proofs.Common.{◌≡◌, ◌∙◌, inl, inr, refl, sym, ap, map, true, false, IfErr, IsSomeAnd, subst}
+use Rattle.std.proofs.Common.{Result, Ok, Err}
 use Rattle.clap.specs.Words.{IsAmong, fault_of, is_simple, is_simple_and_free, kind_of, subcommand_of}
 use Rattle.clap.proofs.OnLiterals.{clap_on_literals}
-use Rattle.settings_core.specs.Calls.{AsksFor}
+use Rattle.settings_core.specs.Calls.{CallsFor}
 use Rattle.settings_core.specs.Program.{program}
 use Rattle.settings_core.proofs.words.read_words.Goals as goal
 
-simple : is_simple program ≡ true
+simple : is_simple (program false) ≡ true
 unfolding clap_on_literals
 simple = refl
 
-free : is_simple_and_free program ≡ true
+free : is_simple_and_free (program false) ≡ true
 unfolding clap_on_literals
 free = refl
 
@@ -25,7 +26,7 @@ returns-in-Some-clause-asked g c =
     let entered = (c.in-Ok.ensures.matches (ap is_simple is ∙ simple)).1 ∙ ap (λ a. subcommand_of a words) is in
     let taken = c.in-Ok.ensures.kinds (ap is_simple_and_free is ∙ free) in (
       ap (λ a. fault_of a words) (sym is) ∙ taken,
-      subst (λ o. IsSomeAnd o (λ p. AsksFor p.0 p.1 c.in-Some.command))
+      subst (λ o. IsSomeAnd o (λ p. CallsFor p.0 p.1 c.in-Some.call))
           entered c.in-Some.ensures,
     )
 
@@ -39,18 +40,19 @@ returns-in-Err-clause-refused g c =
       | inr among ↦ subst (IsAmong (kind_of c.in-Err.error)) (ap (λ a. fault_of a words) is ∙ asks.0) among
     ]
 
-pub returns-in_err-format-in-None-clause-refused : goal.returns-in_err-format-in-None-clause-refused
-returns-in_err-format-in-None-clause-refused g c =
+pub returns-in_err-items_fault-in-None-clause-refused : goal.returns-in_err-items_fault-in-None-clause-refused
+returns-in_err-items_fault-in-None-clause-refused g c =
     let is = c.in_ok-program_words.ensures.0 in
     let words = map g.W.AsStr.text c.args.words.now in
     let entered = (c.in-Ok.ensures.matches (ap is_simple is ∙ simple)).1 ∙ ap (λ a. subcommand_of a words) is in
-    each_error c.from_residual-in_err-format-in-None.result _ _
-    (λ asked asks. c.in-None.ensures asked (subst (λ o. IsSomeAnd o (λ p. AsksFor p.0 p.1 asked)) (sym entered) asks.1))
+    each_error c.from_residual-in_err-items_fault-in-None.result _ _
+    (λ asked asks. c.in-None.ensures asked (subst (λ o. IsSomeAnd o (λ p. CallsFor p.0 p.1 asked)) (sym entered)
+    asks.1))
 
 pub returns-clause-refused : goal.returns-clause-refused
 returns-clause-refused g c =
     let is = c.in_ok-program_words.ensures.0 in
     let words = map g.W.AsStr.text c.args.words.now in
     let entered = (c.in-Ok.ensures.matches (ap is_simple is ∙ simple)).1 ∙ ap (λ a. subcommand_of a words) is in
-    λ known asked asks. c.in-None.ensures asked (subst (λ o. IsSomeAnd o (λ p. AsksFor p.0 p.1 asked)) (sym entered)
+    λ known asked asks. c.in-None.ensures asked (subst (λ o. IsSomeAnd o (λ p. CallsFor p.0 p.1 asked)) (sym entered)
     asks.1)

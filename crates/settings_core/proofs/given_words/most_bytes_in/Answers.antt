@@ -2,7 +2,7 @@ use Rattle.std.proofs.Common.{rules, arith, codes, subst, Some, None}
 use Rattle.clap.specs.Words.{found_of, one_of, rows_of}
 use Rattle.settings_core.specs.Spans.{IsByteCount}
 use Rattle.settings_core.proofs.Values.{kept, nothing, number_got, one_number}
-use Rattle.settings_core.proofs.words.most_bytes_in.Goals as goal
+use Rattle.settings_core.proofs.given_words.most_bytes_in.Goals as goal
 
 pub returns-in_err-most_bytes : goal.returns-in_err-most_bytes
 returns-in_err-most_bytes c =

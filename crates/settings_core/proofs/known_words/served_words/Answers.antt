@@ -3,7 +3,7 @@ use Rattle.std.proofs.lemmas.Result.{IfOk-weaker}
 use Rattle.clap.specs.Words.{App, new_app, with_rule}
 use Rattle.settings_core.specs.Program.{IsCommand, table, address, workers, sessions, patience, most_bytes}
 use Rattle.settings_core.proofs.Adding.{with_word}
-use Rattle.settings_core.proofs.words.served_words.Goals as goal
+use Rattle.settings_core.proofs.known_words.served_words.Goals as goal
 
 abbrev named : App
 named = new_app (codes "serve")

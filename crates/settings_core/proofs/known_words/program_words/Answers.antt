@@ -1,9 +1,9 @@
-use Rattle.std.proofs.Common.{rules}
+use Rattle.std.proofs.Common.{rules, Bool}
 use Rattle.std.proofs.lemmas.Result.{IfOk-weaker}
 use Rattle.clap.specs.Words.{App, with_subcommand}
 use Rattle.settings_core.specs.Program.{IsCommand, top, answer, check, sim, serve, sync}
 use Rattle.settings_core.proofs.Adding.{with_command}
-use Rattle.settings_core.proofs.words.program_words.Goals as goal
+use Rattle.settings_core.proofs.known_words.program_words.Goals as goal
 
 abbrev with_answer : App
 with_answer = with_subcommand top answer.top
@@ -14,8 +14,8 @@ with_check = with_subcommand with_answer check.top
 abbrev with_sim : App
 with_sim = with_subcommand with_check sim.top
 
-abbrev with_serve : App
-with_serve = with_subcommand with_sim serve.top
+abbrev with_serve : Bool → App
+with_serve must = with_subcommand with_sim (serve must).top
 
 pub returns : goal.returns
 returns c =
@@ -26,12 +26,12 @@ returns c =
     let two = with_command with_answer check c.in_ok-subcommand.field-0 c.in_ok-check_words.field-0
     c.in_ok-subcommand-2.field-0 one
     c.in_ok-check_words.ensures c.in_ok-subcommand-2.ensures in
-    let three = with_command with_check sim c.in_ok-subcommand-2.field-0 c.sim_words.result
+    let three = with_command with_check sim c.in_ok-subcommand-2.field-0 c.in_ok-sim_words.field-0
     c.in_ok-subcommand-3.field-0 two
-    c.sim_words.ensures c.in_ok-subcommand-3.ensures in
-    let four = with_command with_sim serve c.in_ok-subcommand-3.field-0 c.in_ok-serve_words.field-0
+    c.in_ok-sim_words.ensures c.in_ok-subcommand-3.ensures in
+    let four = with_command with_sim (serve c.args.must) c.in_ok-subcommand-3.field-0 c.in_ok-serve_words.field-0
     c.in_ok-subcommand-4.field-0 three
     c.in_ok-serve_words.ensures c.in_ok-subcommand-4.ensures in
-    IfOk-weaker c.subcommand-5.result _ _ (λ new. with_command with_serve sync c.in_ok-subcommand-4.field-0
-    c.in_ok-sync_words.field-0 new four
+    IfOk-weaker c.subcommand-5.result _ _ (λ new. with_command (with_serve c.args.must) sync
+    c.in_ok-subcommand-4.field-0 c.in_ok-sync_words.field-0 new four
     c.in_ok-sync_words.ensures) c.subcommand-5.ensures

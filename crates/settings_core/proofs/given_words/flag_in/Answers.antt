@@ -1,7 +1,7 @@
 use Rattle.std.proofs.Common.{◌∙◌}
 use Rattle.clap.specs.Words.{found_of}
 use Rattle.clap.proofs.WalkLemmas.{one_text-rows}
-use Rattle.settings_core.proofs.words.flag_in.Goals as goal
+use Rattle.settings_core.proofs.given_words.flag_in.Goals as goal
 
 pub returns : goal.returns
 returns c =

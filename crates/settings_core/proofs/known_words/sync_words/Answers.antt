@@ -1,9 +1,8 @@
 use Rattle.std.proofs.Common.{rules, codes}
-use Rattle.std.proofs.lemmas.Result.{IfOk-weaker}
 use Rattle.clap.specs.Words.{App, new_app, with_rule}
-use Rattle.settings_core.specs.Program.{IsCommand, table, address, profile, patience, most_bytes, stats, text, items}
+use Rattle.settings_core.specs.Program.{IsCommand, table, address, profile, patience, most_bytes, stats, asked}
 use Rattle.settings_core.proofs.Adding.{with_word}
-use Rattle.settings_core.proofs.words.sync_words.Goals as goal
+use Rattle.settings_core.proofs.known_words.sync_words.Goals as goal
 
 abbrev named : App
 named = new_app (codes "sync")
@@ -31,12 +30,7 @@ returns c =
     let five = with_word (with_rule (with_rule placed profile) patience) most_bytes c.in_ok-arg-4.field-0
     c.most_bytes_word.result c.in_ok-arg-5.field-0 four
     c.most_bytes_word.ensures c.in_ok-arg-5.ensures in
-    let six = with_word bounded stats c.in_ok-arg-5.field-0 c.stats_word.result c.in_ok-arg-6.field-0 five
+    let six = with_word bounded stats c.in_ok-arg-5.field-0 c.stats_word.result c.in_ok-command.command five
     c.stats_word.ensures
-    c.in_ok-arg-6.ensures in
-    let seven = with_word (with_rule bounded stats) text c.in_ok-arg-6.field-0 c.text_word.result
-    c.in_ok-arg-7.field-0 six
-    c.text_word.ensures c.in_ok-arg-7.ensures in
-    IfOk-weaker c.arg-8.result _ _ (λ new. with_word (with_rule (with_rule bounded stats) text) items
-    c.in_ok-arg-7.field-0 c.items_word.result new seven
-    c.items_word.ensures) c.arg-8.ensures
+    c.in_ok-command.ensures in
+    c.with_items.ensures asked six

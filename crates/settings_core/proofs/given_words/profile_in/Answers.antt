@@ -2,7 +2,7 @@ use Rattle.std.proofs.Common.{rules, codes, subst, Some, None}
 use Rattle.clap.specs.Words.{found_of, one_of, rows_of}
 use Rattle.settings_core.specs.Calls.{IsNumber, profile_number}
 use Rattle.settings_core.proofs.Values.{nothing, no_profile, number_got, small_profile}
-use Rattle.settings_core.proofs.words.profile_in.Goals as goal
+use Rattle.settings_core.proofs.given_words.profile_in.Goals as goal
 
 pub returns-in_err-number : goal.returns-in_err-number
 returns-in_err-number c =

@@ -1,0 +1,202 @@
+//! What given words ask for, as `clap` has read them.
+
+ghost use Rattle.std.specs.Prelude.{◌≡◌, ◌≤◌, codes, option_map, IfSome, IsSomeAnd, Some};
+ghost use Rattle.clap.specs.Words.{first_of, found_of, rows_of, subcommand_rows_of};
+ghost use Rattle.settings_core.specs.Calls.{AsksFor, CallsFor, Finds, IsFlag, IsNumber, is_text, profile_number};
+ghost use Rattle.settings_core.specs.Spans.{IsByteCount, IsLearnedCount, IsPatience, IsReportedCount, IsSessionCount};
+ghost use Rattle.settings_core.specs.Spans.{IsWithin, IsWorkerCount};
+
+use crate::known_words::{MAX_PATIENCE, MAX_SESSIONS, MAX_WORKERS, MIN_BYTES};
+use crate::words::{Call, Command, ItemForm, WireProfile};
+use clap::ArgMatches;
+
+/// The number of workers, which `clap` has read in its span.
+fn workers_in(matches: &ArgMatches<'_>) -> Option<u8>
+    ensures { Finds (λ n. IsNumber (codes "workers") (rows_of (found_of matches.now)) (Some n)
+        × IsWorkerCount n) result }
+{
+    let workers = matches.get_one::<u8>("workers")?;
+    (1..=MAX_WORKERS).contains(&workers).then_some(workers)
+}
+
+/// A number that may be given, if one is, which `clap` has read in this span.
+fn number_in(matches: &ArgMatches<'_>, id: &str, least: u32, most: u32) -> Option<Option<u32>>
+    ensures { Finds (λ n. IsNumber id.now (rows_of (found_of matches.now)) n
+        × IfSome n (IsWithin least most)) result }
+{
+    match matches.try_get_one::<u32>(id).ok()? {
+        Some(count) if !(least..=most).contains(&count) => None,
+        number => Some(number),
+    }
+}
+
+/// The number of connections, if one is given.
+fn sessions_in(matches: &ArgMatches<'_>) -> Option<Option<u32>>
+    ensures { Finds (λ n. IsNumber (codes "sessions") (rows_of (found_of matches.now)) n
+        × IfSome n IsSessionCount) result }
+{
+    number_in(matches, "sessions", 1, MAX_SESSIONS)
+}
+
+/// How many items of one session are put into the set, if it is given.
+fn most_learned_in(matches: &ArgMatches<'_>) -> Option<Option<u32>>
+    ensures { Finds (λ n. IsNumber (codes "most-learned") (rows_of (found_of matches.now)) n
+        × IfSome n IsLearnedCount) result }
+{
+    number_in(matches, "most-learned", 1, u32::MAX)
+}
+
+/// How many items of one session are reported, if it is given.
+fn report_items_in(matches: &ArgMatches<'_>) -> Option<Option<u32>>
+    ensures { Finds (λ n. IsNumber (codes "report-items") (rows_of (found_of matches.now)) n
+        × IfSome n IsReportedCount) result }
+{
+    number_in(matches, "report-items", 0, u32::MAX)
+}
+
+/// The wire profile, which `clap` has read as 1 or 2.
+fn profile_in(matches: &ArgMatches<'_>) -> Option<WireProfile>
+    ensures { Finds
+        (λ p. IsNumber (codes "profile") (rows_of (found_of matches.now)) (Some (profile_number p))) result }
+{
+    let number = matches.get_one::<u8>("profile")?;
+    match number {
+        1 => Some(WireProfile::One),
+        2 => Some(WireProfile::Two),
+        _ => None,
+    }
+}
+
+/// The seconds that are waited, which `clap` has read in their span.
+fn patience_in(matches: &ArgMatches<'_>) -> Option<u32>
+    ensures { Finds (λ n. IsNumber (codes "patience") (rows_of (found_of matches.now)) (Some n)
+        × IsPatience n) result }
+{
+    let patience = matches.get_one::<u32>("patience")?;
+    (1..=MAX_PATIENCE).contains(&patience).then_some(patience)
+}
+
+/// The bytes that are read, which `clap` has read in their span.
+fn most_bytes_in(matches: &ArgMatches<'_>) -> Option<u32>
+    ensures { Finds (λ n. IsNumber (codes "most-bytes") (rows_of (found_of matches.now)) (Some n)
+        × IsByteCount n) result }
+{
+    let most_bytes = matches.get_one::<u32>("most-bytes")?;
+    (MIN_BYTES..=u32::MAX)
+        .contains(&most_bytes)
+        .then_some(most_bytes)
+}
+
+/// The text that is given for an argument.
+fn text_in<'a>(matches: &ArgMatches<'a>, id: &str) -> Option<&'a str>
+    ensures { option_map (λ text. text.now) result ≡ first_of id.now (rows_of (found_of matches.now)) }
+{
+    matches.get_str(id)
+}
+
+/// Whether a flag is given.
+fn flag_in(matches: &ArgMatches<'_>, id: &str) -> bool
+    ensures { IsFlag id.now (rows_of (found_of matches.now)) result }
+{
+    matches.get_flag(id)
+}
+
+/// How items stand in files, and how they are printed.
+fn form_in(matches: &ArgMatches<'_>) -> ItemForm
+    ensures { IsFlag (codes "text") (rows_of (found_of matches.now)) (is_text result) }
+{
+    if flag_in(matches, "text") {
+        ItemForm::Text
+    } else {
+        ItemForm::Hex
+    }
+}
+
+/// What the words of `answer` ask for.
+fn answer_in<'a>(matches: &ArgMatches<'a>) -> Option<Command<'a>>
+    ensures { Finds (AsksFor (codes "answer") (rows_of (found_of matches.now))) result }
+{
+    Some(Command::Answer {
+        hexed: flag_in(matches, "hex"),
+        form: form_in(matches),
+        items: text_in(matches, "ITEMS")?,
+    })
+}
+
+/// What the words of `check` ask for.
+fn check_in<'a>(matches: &ArgMatches<'a>) -> Option<Command<'a>>
+    ensures { Finds (AsksFor (codes "check") (rows_of (found_of matches.now))) result }
+{
+    Some(Command::Check {
+        file: text_in(matches, "FILE")?,
+    })
+}
+
+/// What the words of `serve` ask for: nothing, where neither ITEMS nor a file that keeps the set is given.
+fn serve_in<'a>(matches: &ArgMatches<'a>) -> Option<Command<'a>>
+    ensures { Finds (AsksFor (codes "serve") (rows_of (found_of matches.now))) result }
+{
+    let keep = text_in(matches, "keep");
+    let items = text_in(matches, "ITEMS");
+    if keep.is_none() && items.is_none() {
+        return None;
+    }
+    Some(Command::Serve {
+        table: text_in(matches, "table")?,
+        address: text_in(matches, "addr")?,
+        workers: workers_in(matches)?,
+        sessions: sessions_in(matches)?,
+        patience: patience_in(matches)?,
+        most_bytes: most_bytes_in(matches)?,
+        report: text_in(matches, "report"),
+        learned: text_in(matches, "learned"),
+        keep,
+        durable: flag_in(matches, "durable"),
+        most_learned: most_learned_in(matches)?,
+        read_only: flag_in(matches, "read-only"),
+        report_items: report_items_in(matches)?,
+        form: form_in(matches),
+        items,
+    })
+}
+
+/// What the words of `sync` ask for.
+fn sync_in<'a>(matches: &ArgMatches<'a>) -> Option<Command<'a>>
+    ensures { Finds (AsksFor (codes "sync") (rows_of (found_of matches.now))) result }
+{
+    Some(Command::Sync {
+        table: text_in(matches, "table")?,
+        address: text_in(matches, "addr")?,
+        profile: profile_in(matches)?,
+        patience: patience_in(matches)?,
+        most_bytes: most_bytes_in(matches)?,
+        stats: flag_in(matches, "stats"),
+        form: form_in(matches),
+        items: text_in(matches, "ITEMS")?,
+    })
+}
+
+/// What the command of this name, with these values, is asked to do.
+fn command_in<'a>(name: &str, matches: &ArgMatches<'a>) -> Option<Command<'a>>
+    ensures { Finds (AsksFor name.now (rows_of (found_of matches.now))) result }
+{
+    match name {
+        "answer" => answer_in(matches),
+        "check" => check_in(matches),
+        "sim" => Some(Command::Sim),
+        "serve" => serve_in(matches),
+        "sync" => sync_in(matches),
+        _ => None,
+    }
+}
+
+/// What words that fit ask for.
+pub(crate) fn call_in<'a>(matches: &ArgMatches<'a>) -> Option<Call<'a>>
+    ensures { Finds (λ call. IsSomeAnd (subcommand_rows_of matches.now) (λ p. CallsFor p.0 p.1 call)) result }
+{
+    let (name, inner) = matches.subcommand()?;
+    Some(Call {
+        command: command_in(name, inner)?,
+        explains: flag_in(inner, "why"),
+    })
+}
