@@ -1,2 +1,4 @@
-mod ReadAgain
+mod FirstLines
 mod Plain
+mod Ports
+mod ReadAgain

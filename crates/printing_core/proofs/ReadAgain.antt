@@ -1,6 +1,7 @@
 -- What is printed as text is read again.
 -- The text of an item has no line feed and no carriage return: a plain one since they are control characters, and one
--- behind `0x` since its bytes are hex digits. So its line is the text, and what this spells is the item.
+-- behind `0x` since its bytes are hex digits. So its line is the text, and what this spells is the item. And no text of
+-- an item begins with a byte order mark, so that the first one does not make the file's line 1 bad.
 use Rattle.std.proofs.Common.{◌≡◌, ◌∙◌, ℕ, zero, suc, ◌<◌, ◌+◌, ◌++◌, ◌==◌, ◌-◌, ◌≤◌, ◌&&◌, ◌||◌, Bool, true, false}
 use Rattle.std.proofs.Common.{List, [], ◌∷◌, length}
 use Rattle.std.proofs.Common.{get_or, take, drop, Option, Some, None, Result, Ok, Err, refl, sym, ap, subst, inl, inr}
@@ -19,6 +20,7 @@ use Rattle.hex.proofs.HexLemmas.{decode_of-encode_lower, decode_of-ok}
 use Rattle.definitions.specs.Items.{Item, IsItem, IsBytes}
 use Rattle.settings_core.specs.ItemFiles.{lines, mark, is_marked, text_in, text_item, one_item, decoded, content_items}
 use Rattle.settings_core.specs.ItemFiles.{line_items, line_before, before, items_from, file_items}
+use Rattle.settings_core.specs.ItemFiles.{has_byte_order_mark}
 use Rattle.settings_core.specs.declared.words.ItemForm.{ItemForm}
 use Rattle.settings_core.specs.declared.words.ItemForm.TheVariants as forms
 use Rattle.printing_core.specs.ItemTexts.{is_plain, item_text, item_line, marked_text, ReadsWhatIsPrinted}
@@ -34,11 +36,13 @@ is_no false not_true = refl
 
 -- ---- plain texts
 
-parts_of : (a b c : Bool) → (a && not b && not c) ≡ true → (a ≡ true) × (b ≡ false) × (c ≡ false)
-parts_of true false false is = (refl, refl, refl)
-parts_of true false true is = absurd (cc is)
-parts_of true true c is = absurd (cc is)
-parts_of false b c is = absurd (cc is)
+parts_of : (a b c d : Bool) → (a && not b && not c && not d) ≡ true
+    → (a ≡ true) × (b ≡ false) × (c ≡ false) × (d ≡ false)
+parts_of true false false false is = (refl, refl, refl, refl)
+parts_of true false false true is = absurd (cc is)
+parts_of true false true d is = absurd (cc is)
+parts_of true true c d is = absurd (cc is)
+parts_of false b c d is = absurd (cc is)
 
 neither : (a b : Bool) → (a || b) ≡ false → (a ≡ false) × (b ≡ false)
 neither false b none = (refl, none)
@@ -108,22 +112,26 @@ record Spells (text : List ℕ) (x : Item) : Type 0 where
   line : IsOneLine text
   some : 1 ≤ length text
   is : text_item text ≡ Some x
+  orderless : has_byte_order_mark text ≡ false
 
 spells : (x : Item) → IsItem x → Spells (item_text forms.Text x) x
 spells x fit = by (is_plain x) refl
   where
     by : (b : Bool) → is_plain x ≡ b → Spells (if b then x else marked_text x) x
     by true is =
-        let parts = parts_of (is_utf8 x) (list_any is_control (chars x)) (is_marked x) is in
+        let parts = parts_of (is_utf8 x) (list_any is_control (chars x)) (is_marked x)
+        (has_byte_order_mark x) is in
         record {
           line = plain_line x (no_control x parts.0 parts.1);
           some = fit.not_empty;
           is = plain_spells x fit parts.2;
+          orderless = parts.3;
         }
     by false is = record {
       line = marked_line x fit.bytes;
       some = omega arith;
       is = marked_spells x fit;
+      orderless = refl;
     }
 
 -- ---- lines
@@ -162,5 +170,24 @@ items_read n (x ∷ xs) fit =
     ∙ (ap (λ o. line_before n o (items_from forms.Text (n + 1) (lines rest))) (line_spells text x is)
     ∙ ap (before (x ∷ [])) (items_read (n + 1) xs fit.1)))
 
+-- ---- the first line
+
+-- a text without the mark in front has none with its line feed, since this is no byte of the mark
+first_is_orderless : (text rest : List ℕ) → has_byte_order_mark text ≡ false
+    → has_byte_order_mark (text ++ 10 ∷ rest) ≡ false
+first_is_orderless [] rest is = refl
+first_is_orderless (a ∷ []) rest is = grind (arith)
+first_is_orderless (a ∷ b ∷ []) rest is = grind (arith)
+first_is_orderless (a ∷ b ∷ c ∷ text) rest is = is
+
+lines_are_orderless : (xs : List Item) → AllByRecursion IsItem xs
+    → has_byte_order_mark (flat_map (item_line forms.Text) xs) ≡ false
+lines_are_orderless [] fit = refl
+lines_are_orderless (x ∷ xs) fit =
+    let text = item_text forms.Text x in
+    let rest = flat_map (item_line forms.Text) xs in
+    ap has_byte_order_mark (append_assoc text (10 ∷ []) rest)
+    ∙ first_is_orderless text rest (spells x fit.0).orderless
+
 pub text_read_again : ReadsWhatIsPrinted forms.Text
-text_read_again xs fit = items_read 1 xs fit
+text_read_again xs fit = rw (lines_are_orderless xs fit) (items_read 1 xs fit)

@@ -11,7 +11,7 @@ use Rattle.printing_core.specs.declared.fault.Fault.{Fault}
 use Rattle.printing_core.specs.declared.fault.Fault.TheVariants.{CannotRead, BadItemLine, TooManyItems, BadScenario}
 use Rattle.printing_core.specs.declared.fault.Fault.TheVariants.{BadStep, Strategy, Check, Wire, Misplaced, Bind}
 use Rattle.printing_core.specs.declared.fault.Fault.TheVariants.{Connect, Accept, Session, PeerRefused, ReaderFailed}
-use Rattle.printing_core.specs.declared.fault.Fault.TheVariants.{WriterFailed, Memory}
+use Rattle.printing_core.specs.declared.fault.Fault.TheVariants.{WriterFailed, LinesLost, Memory}
 
 abbrev pub IsReason : Table → Fault → Type 0
 IsReason T (Check f) = check_fault T ≡ Some (fault_of f)
@@ -24,13 +24,14 @@ IsReason T (BadStep step) = ⊥
 IsReason T (Strategy f) = ⊥
 IsReason T (Wire f) = ⊥
 IsReason T Misplaced = ⊥
-IsReason T Bind = ⊥
-IsReason T Connect = ⊥
+IsReason T (Bind kind) = ⊥
+IsReason T (Connect kind) = ⊥
 IsReason T Accept = ⊥
 IsReason T (Session code) = ⊥
 IsReason T (PeerRefused code) = ⊥
 IsReason T ReaderFailed = ⊥
 IsReason T WriterFailed = ⊥
+IsReason T LinesLost = ⊥
 
 abbrev pub IsCheckOf : Table → Result (String Global) Fault → Type 0
 IsCheckOf T (Ok text) =

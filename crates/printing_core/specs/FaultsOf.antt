@@ -34,7 +34,7 @@ use Rattle.printing_core.specs.declared.fault.Fault.{Fault}
 use Rattle.printing_core.specs.declared.fault.Fault.TheVariants.{CannotRead, BadItemLine, TooManyItems, BadScenario}
 use Rattle.printing_core.specs.declared.fault.Fault.TheVariants.{BadStep, Strategy, Check, Wire, Misplaced, Bind}
 use Rattle.printing_core.specs.declared.fault.Fault.TheVariants.{Connect, Accept, Session, PeerRefused, ReaderFailed}
-use Rattle.printing_core.specs.declared.fault.Fault.TheVariants.{WriterFailed, Memory}
+use Rattle.printing_core.specs.declared.fault.Fault.TheVariants.{WriterFailed, LinesLost, Memory}
 
 abbrev pub of_answer : AnswerFault → Fault
 of_answer answers.CannotRead = CannotRead
@@ -79,11 +79,11 @@ of_log logs.Full = TooManyItems
 of_log logs.Memory = Memory
 
 abbrev pub of_listen : ListenFault → Fault
-of_listen listens.Bind = Bind
+of_listen (listens.Bind kind) = Bind kind
 of_listen listens.Memory = Memory
 
 abbrev pub of_connect : ConnectFault → Fault
-of_connect connects.Connect = Connect
+of_connect (connects.Connect kind) = Connect kind
 of_connect connects.Memory = Memory
 
 abbrev pub of_source : SourceFault → Fault
@@ -101,13 +101,14 @@ status_of (Strategy f) = 1
 status_of (Check f) = 1
 status_of (Wire f) = 1
 status_of Misplaced = 1
-status_of Bind = 3
-status_of Connect = 3
+status_of (Bind kind) = 3
+status_of (Connect kind) = 3
 status_of Accept = 3
 status_of (Session code) = 1
 status_of (PeerRefused code) = 1
 status_of ReaderFailed = 3
 status_of WriterFailed = 3
+status_of LinesLost = 3
 status_of Memory = 3
 
 -- 2 for words that the program does not know; 0 for help that was printed, 3 where it was not, or for memory

@@ -1,6 +1,6 @@
 -- An item as it is printed.
 --     is_plain x           whether the bytes are a text that stands for itself: UTF-8 without control characters, and
---                          not `0x` in front
+--                          neither `0x` nor a byte order mark in front
 --     item_text form x     the item in hex; or as it stands where it is plain, else in hex behind `0x`
 --     item_line form x     this and a newline
 --     ReadsWhatIsPrinted   a file of such lines of text has the items that were printed, in their order
@@ -11,12 +11,12 @@ use Rattle.std.specs.List.{AllByRecursion, list_any}
 use Rattle.std.specs.Str.{is_utf8}
 use Rattle.hex.specs.Hex.{encode_lower}
 use Rattle.definitions.specs.Items.{Item, IsItem}
-use Rattle.settings_core.specs.ItemFiles.{mark, is_marked, file_items}
+use Rattle.settings_core.specs.ItemFiles.{mark, is_marked, has_byte_order_mark, file_items}
 use Rattle.settings_core.specs.declared.words.ItemForm.{ItemForm}
 use Rattle.settings_core.specs.declared.words.ItemForm.TheVariants as forms
 
 abbrev pub is_plain : List ℕ → Bool
-is_plain x = is_utf8 x && not (list_any is_control (chars x)) && not (is_marked x)
+is_plain x = is_utf8 x && not (list_any is_control (chars x)) && not (is_marked x) && not (has_byte_order_mark x)
 
 -- the text, if it is plain
 abbrev pub plain_text : List ℕ → Option (List ℕ)

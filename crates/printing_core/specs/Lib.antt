@@ -1,10 +1,13 @@
+pub mod AddressTexts
 pub mod Blanks
 pub mod Checks
 pub mod Endings
 pub mod FaultsOf
+pub mod FlawTexts
 pub mod HexLines
 pub mod ItemTexts
 pub mod Lines
+pub mod Notices
 pub mod ReportTexts
 pub mod SessionTexts
 pub mod ShownLines

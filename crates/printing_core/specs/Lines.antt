@@ -17,7 +17,7 @@ use Rattle.printing_core.specs.declared.fault.Fault.{Fault}
 use Rattle.printing_core.specs.declared.fault.Fault.TheVariants.{CannotRead, BadItemLine, TooManyItems, BadScenario}
 use Rattle.printing_core.specs.declared.fault.Fault.TheVariants.{BadStep, Strategy, Check, Wire, Misplaced, Bind}
 use Rattle.printing_core.specs.declared.fault.Fault.TheVariants.{Connect, Accept, Session, PeerRefused, ReaderFailed}
-use Rattle.printing_core.specs.declared.fault.Fault.TheVariants.{WriterFailed, Memory}
+use Rattle.printing_core.specs.declared.fault.Fault.TheVariants.{WriterFailed, LinesLost, Memory}
 
 abbrev pub strategy_line : StrategyFault → List ℕ
 strategy_line NotToml = codes "refused 30 NotToml"
@@ -33,7 +33,8 @@ check_line (ListTooLong upto) = codes "refused 37 ListTooLong " ++ decimal upto
 check_line (TooDeep count rank) = codes "refused 38 TooDeep " ++ (decimal count ++ (codes " " ++ decimal rank))
 check_line (BadCertificate count) = codes "refused 39 BadCertificate " ++ decimal count
 
--- the refusals of the wire, of an end, and of the table or the gate of its process
+-- the refusals of the wire, of an end, and of what its process holds: its log and lock, its table and gate, its
+-- listener, its input and its memory
 abbrev pub session_refusal_name : ℕ → List ℕ
 session_refusal_name n =
     if n == 1 then codes "BadHello"
@@ -55,11 +56,17 @@ session_refusal_name n =
     else if n == 24 then codes "MarkCount"
     else if n == 25 then codes "AnswerRepeats"
     else if n == 26 then codes "Spent"
+    else if n == 40 then codes "Full"
+    else if n == 41 then codes "Busy"
+    else if n == 42 then codes "WritersSpent"
     else if n == 50 then codes "TableFull"
     else if n == 51 then codes "Unknown"
     else if n == 52 then codes "OverBound"
     else if n == 53 then codes "SerialsSpent"
     else if n == 54 then codes "GateClosed"
+    else if n == 62 then codes "Accept"
+    else if n == 80 then codes "CannotRead"
+    else if n == 90 then codes "Memory"
     else codes "Other"
 
 -- the line of every fault
@@ -74,13 +81,14 @@ fault_line (Check f) = check_line f
 fault_line (Wire f) =
     codes "refused " ++ (decimal (fault_number f) ++ (codes " " ++ session_refusal_name (fault_number f)))
 fault_line Misplaced = codes "refused 20 Misplaced"
-fault_line Bind = codes "refused 60 Bind"
-fault_line Connect = codes "refused 61 Connect"
+fault_line (Bind kind) = codes "refused 60 Bind"
+fault_line (Connect kind) = codes "refused 61 Connect"
 fault_line Accept = codes "refused 62 Accept"
 fault_line (Session code) = codes "refused " ++ (decimal code ++ (codes " " ++ session_refusal_name code))
 fault_line (PeerRefused code) = codes "peer refused " ++ decimal code
 fault_line ReaderFailed = codes "io read"
 fault_line WriterFailed = codes "io write"
+fault_line LinesLost = codes "io write"
 fault_line Memory = codes "refused 90 Memory"
 
 -- a space and the number

@@ -11,6 +11,7 @@ use peer_threads::SourceFault;
 use settings_core::SettingsFault;
 use sim_core::{ScenarioError, ScenarioFault};
 use std::alloc::{AllocError, AllocFailed};
+use std::io::ErrorKind;
 use strategy_check::{CheckError, CheckFault};
 use strategy_core::StrategyFault;
 use tcp_front::{ConnectFault, ListenFault};
@@ -41,10 +42,10 @@ pub enum Fault {
     Wire(WireFault),
     /// A part of the message is no Sum.
     Misplaced,
-    /// No listener was made.
-    Bind,
-    /// No connection was made.
-    Connect,
+    /// No listener was made: what the system said.
+    Bind(ErrorKind),
+    /// No connection was made: what the system said.
+    Connect(ErrorKind),
     /// A connection could not be accepted.
     Accept,
     /// A session was refused here, with this number.
@@ -55,6 +56,8 @@ pub enum Fault {
     ReaderFailed,
     /// The writer failed: a beginning of what was to be written was.
     WriterFailed,
+    /// Lines of a file were not written.
+    LinesLost,
     /// Memory ran out.
     Memory,
 }
@@ -162,7 +165,7 @@ impl From<ListenFault> for Fault {
 
     fn from(fault: ListenFault) -> Fault {
         match fault {
-            ListenFault::Bind => Fault::Bind,
+            ListenFault::Bind(kind) => Fault::Bind(kind),
             ListenFault::Memory => Fault::Memory,
         }
     }
@@ -173,7 +176,7 @@ impl From<ConnectFault> for Fault {
 
     fn from(fault: ConnectFault) -> Fault {
         match fault {
-            ConnectFault::Connect => Fault::Connect,
+            ConnectFault::Connect(kind) => Fault::Connect(kind),
             ConnectFault::Memory => Fault::Memory,
         }
     }

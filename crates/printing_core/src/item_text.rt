@@ -8,7 +8,7 @@ ghost use Rattle.settings_core.specs.ItemFiles.{is_marked};
 ghost use Rattle.printing_core.specs.ItemTexts.{plain_text, marked_text, item_text, ReadsWhatIsPrinted};
 
 use item_core::Item;
-use settings_core::ItemForm;
+use settings_core::{ItemForm, has_byte_order_mark};
 use std::alloc::{AllocError, Global};
 
 /// A file of items that were printed as text, a line each, has these items.
@@ -31,15 +31,15 @@ fn is_marked(bytes: &[u8]) -> bool
     bytes.starts_with(b"0x")
 }
 
-/// The bytes as a text that stands for itself, if they are one: UTF-8 without control characters, and not `0x` in
-/// front.
+/// The bytes as a text that stands for itself, if they are one: UTF-8 without control characters, and neither `0x` nor
+/// a byte order mark in front.
 fn plain_text(bytes: &[u8]) -> Option<&str>
     ensures { option_map (λ text. text.now) result ≡ plain_text bytes.now }
 {
     let Ok(text) = str::from_utf8(bytes) else {
         return None;
     };
-    if has_control(text) || is_marked(bytes) {
+    if has_control(text) || is_marked(bytes) || has_byte_order_mark(bytes) {
         return None;
     }
     Some(text)

@@ -4,6 +4,7 @@
 mod accepted;
 mod ending;
 mod fault;
+mod flaws;
 mod hexed;
 mod item_text;
 mod printed;
@@ -11,18 +12,26 @@ mod reports;
 mod session_texts;
 mod shown;
 mod stats;
+mod told;
+mod unreached;
 mod why;
 
 pub use accepted::checked_text;
 pub use ending::refusal_of;
 pub use fault::Fault;
+pub use flaws::{InputFlaw, ServerFlaw, Unread};
 pub use hexed::{decode_text, encode_lines};
 pub use item_text::{push_item, text_is_read_again};
 pub use printed::{
     tell, tell_address, tell_dropped, tell_no_text, tell_stats, tell_unwritten, tell_words,
 };
-pub use reports::{learned_line, report_text};
+pub use reports::{Reporting, learned_line, left_out_line, report_text};
 pub use session_texts::{listening_line, outcome_text, served_text};
 pub use shown::shown_line;
 pub use stats::{Stats, Tally};
-pub use why::{InputFlaw, ServerFlaw, Unreached, Unread, Why, tell_why};
+pub use told::{
+    Cause, tell_full, tell_left_out, tell_left_waiting, tell_torn, tell_unwritten_cause,
+    tell_written_again,
+};
+pub use unreached::{Unreached, port_is_too_high, unreached_connect, unreached_listen};
+pub use why::{Key, Why, tell_why};

@@ -16,8 +16,8 @@ use strategy_core::StrategyFault;
 /// The status of a call whose words ask for nothing.
 const USAGE_STATUS: u8 = 2;
 
-/// The name of the refusal of a session, by its number: one of the wire, of an end, or of the table or the gate of its
-/// process.
+/// The name of the refusal of a session, by its number: one of the wire, of an end, or of what its process holds: its
+/// log and lock, its table and gate, its listener, its input and its memory.
 pub fn session_refusal_name(code: u8) -> &'static str
     ensures { result.now ≡ session_refusal_name code }
 {
@@ -41,11 +41,17 @@ pub fn session_refusal_name(code: u8) -> &'static str
         24 => "MarkCount",
         25 => "AnswerRepeats",
         26 => "Spent",
+        40 => "Full",
+        41 => "Busy",
+        42 => "WritersSpent",
         50 => "TableFull",
         51 => "Unknown",
         52 => "OverBound",
         53 => "SerialsSpent",
         54 => "GateClosed",
+        62 => "Accept",
+        80 => "CannotRead",
+        90 => "Memory",
         _ => "Other",
     }
 }
@@ -57,11 +63,12 @@ impl Fault {
     {
         match self {
             Fault::CannotRead
-            | Fault::Bind
-            | Fault::Connect
+            | Fault::Bind(_)
+            | Fault::Connect(_)
             | Fault::Accept
             | Fault::ReaderFailed
             | Fault::WriterFailed
+            | Fault::LinesLost
             | Fault::Memory => 3,
             Fault::BadItemLine { line: _ }
             | Fault::TooManyItems
@@ -130,15 +137,15 @@ impl fmt::Display for Fault {
                 write!(f, "refused {code} {}", session_refusal_name(code))
             }
             Fault::Misplaced => write!(f, "refused 20 Misplaced"),
-            Fault::Bind => write!(f, "refused 60 Bind"),
-            Fault::Connect => write!(f, "refused 61 Connect"),
+            Fault::Bind(_) => write!(f, "refused 60 Bind"),
+            Fault::Connect(_) => write!(f, "refused 61 Connect"),
             Fault::Accept => write!(f, "refused 62 Accept"),
             Fault::Session { code } => {
                 write!(f, "refused {code} {}", session_refusal_name(*code))
             },
             Fault::PeerRefused { code } => write!(f, "peer refused {code}"),
             Fault::ReaderFailed => write!(f, "io read"),
-            Fault::WriterFailed => write!(f, "io write"),
+            Fault::WriterFailed | Fault::LinesLost => write!(f, "io write"),
             Fault::Memory => write!(f, "refused 90 Memory"),
         }
     }

@@ -1,17 +1,30 @@
 //! What `serve` writes of its sessions to its files.
 
-ghost use Rattle.std.specs.Prelude.{◌≡◌, IfOk, string_bytes};
+ghost use Rattle.std.specs.Prelude.{◌≡◌, ◌++◌, IfOk, OnOk, string_bytes, take};
 ghost use Rattle.printing_core.specs.SessionTexts.{of_direction};
 ghost use Rattle.printing_core.specs.ItemTexts.{item_line};
-ghost use Rattle.printing_core.specs.ReportTexts.{stopped_line, report_text};
+ghost use Rattle.printing_core.specs.ReportTexts.{stopped_line, learned_lines, more_line, first_lines, reported_text};
+ghost use Rattle.printing_core.specs.ReportTexts.{report_text, left_out_line};
+ghost use Rattle.definitions.specs.Sets.{set_of};
 
 use crate::fault::Fault;
 use crate::item_text::push_item;
-use crate::session_texts::push_learned;
+use crate::session_texts::{Naming, push_learned, push_lines};
+use ends_core::Learned;
 use item_core::Item;
 use peer_threads::{Direction, Outcome};
 use settings_core::ItemForm;
 use std::alloc::{AllocError, Global};
+use store_core::spans::distinct;
+
+/// How sessions are reported.
+#[derive(Clone, Copy, Debug, PartialEq, Eq)]
+pub struct Reporting {
+    /// The form of the items.
+    pub form: ItemForm,
+    /// How many lines of items a session may have; `None`: as many as it has items.
+    pub most: Option<u32>,
+}
 
 /// What failed of a connection, as a fault.
 fn of_direction(side: Direction) -> Fault
@@ -30,15 +43,79 @@ fn stopped_line(alloc: Global, serial: u64, fault: Fault) -> Result<String, Allo
     format!(in alloc; "session {serial} {fault}\n")
 }
 
+/// Appends how many lines were left out, if any were.
+fn push_more(text: &mut String, count: usize) -> Result<(), AllocError>
+    ensures { OnOk result (string_bytes text.new ≡ string_bytes text.old ++ more_line count) }
+{
+    if count == 0 {
+        return Ok(());
+    }
+    write!(text, "more {count}\n")
+}
+
+/// The first so many of these items; all, where there are no more.
+fn first_of(items: &[Item], most: usize) -> &[Item]
+    ensures { result.now ≡ take most items.now }
+{
+    &items[..most.min(items.len())]
+}
+
+/// These items in rising order, each once.
+fn rising(alloc: Global, items: &[Item]) -> Result<Vec<Item>, AllocError>
+    ensures { IfOk result (λ rising. rising.items ≡ set_of items.now) }
+{
+    Ok(distinct(Vec::from_slice(alloc, items)?))
+}
+
+/// Appends the first so many lines of both differences, and how many were left out, if any were.
+fn push_first(
+    alloc: Global,
+    text: &mut String,
+    form: ItemForm,
+    learned: &Learned,
+    most: usize,
+) -> Result<(), AllocError>
+    ensures { OnOk result (string_bytes text.new ≡ string_bytes text.old
+        ++ first_lines most (learned_lines form learned.now)) }
+{
+    let ours = rising(alloc, learned.ours())?;
+    let theirs = rising(alloc, learned.theirs())?;
+    let room = most.saturating_sub(ours.len());
+    let name = Naming { name: "ours", form };
+    push_lines(alloc, text, name, first_of(&ours, most))?;
+    let name = Naming {
+        name: "theirs",
+        form,
+    };
+    push_lines(alloc, text, name, first_of(&theirs, room))?;
+    push_more(text, (ours.len() + theirs.len()).saturating_sub(most))
+}
+
+/// Appends both differences as they are reported.
+fn push_reported(
+    alloc: Global,
+    text: &mut String,
+    reporting: Reporting,
+    learned: &Learned,
+) -> Result<(), AllocError>
+    ensures { OnOk result (string_bytes text.new ≡ string_bytes text.old
+        ++ reported_text reporting.form reporting.most learned.now) }
+{
+    match reporting.most {
+        Some(most) => push_first(alloc, text, reporting.form, learned, most as usize),
+        None => push_learned(alloc, text, reporting.form, learned),
+    }
+}
+
 /// The lines of a session with this serial that is over: its version, the messages sent and both differences, each
-/// rising, in this form; or, in one line, why it did not end.
+/// rising, as it is reported; or, in one line, why it did not end.
 pub fn report_text(
     alloc: Global,
-    form: ItemForm,
+    reporting: Reporting,
     serial: u64,
     outcome: &Outcome,
 ) -> Result<String, AllocError>
-    ensures { IfOk result (λ text. string_bytes text ≡ report_text form serial outcome.now) }
+    ensures { IfOk result (λ text. string_bytes text ≡ report_text reporting.form reporting.most serial outcome.now) }
 {
     match outcome {
         Outcome::Ended {
@@ -47,7 +124,7 @@ pub fn report_text(
             version,
         } => {
             let mut text = format!(in alloc; "session {serial} version {version} sent {sent}\n")?;
-            push_learned(alloc, &mut text, form, learned)?;
+            push_reported(alloc, &mut text, reporting, learned)?;
             Ok(text)
         }
         Outcome::Refused { code, .. } => {
@@ -59,6 +136,13 @@ pub fn report_text(
         Outcome::Io { side, .. } => stopped_line(alloc, serial, of_direction(*side)),
         Outcome::Memory { .. } => stopped_line(alloc, serial, Fault::Memory),
     }
+}
+
+/// The line that says that so many items which the session with this serial learned were not put in.
+pub fn left_out_line(alloc: Global, serial: u64, count: usize) -> Result<String, AllocError>
+    ensures { IfOk result (λ text. string_bytes text ≡ left_out_line serial count) }
+{
+    format!(in alloc; "session {serial} not put in {count}\n")
 }
 
 /// The line of an item file for an item, in this form.

@@ -43,9 +43,9 @@ pub fn served_text(alloc: Global, totals: Totals, items: usize) -> Result<String
 
 /// What stands in front of an item on its line, and the form of the item.
 #[derive(Clone, Copy)]
-struct Naming<'a> {
-    name: &'a str,
-    form: ItemForm,
+pub(crate) struct Naming<'a> {
+    pub name: &'a str,
+    pub form: ItemForm,
 }
 
 /// Appends the name, a space and the item, as a line.
@@ -65,7 +65,7 @@ fn push_named(
 }
 
 /// Appends a line for each item.
-fn push_lines(
+pub(crate) fn push_lines(
     alloc: Global,
     text: &mut String,
     naming: Naming<'_>,

@@ -14,3 +14,4 @@ returns c =
     ap Some same ∙ all_plain c.args.bytes.now c.in-Ok.ensures.cases.1
     (subst (λ x. list_any is_control (chars x) ≡ false) same (sym c.has_control.ensures ∙ c.if-has_control.false))
     (sym c.is_marked.ensures ∙ c.if-is_marked.false)
+    (sym c.has_byte_order_mark.ensures ∙ c.if-has_byte_order_mark.false)

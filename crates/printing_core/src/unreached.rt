@@ -1,0 +1,130 @@
+//! Why an address is not listened at, or not reached.
+
+ghost use Rattle.std.specs.Prelude.{◌≡◌, Some, option_copied};
+ghost use Rattle.std.specs.Char.{is_ascii_digit};
+ghost use Rattle.std.specs.List.{list_all};
+ghost use Rattle.printing_core.specs.AddressTexts.{unreached_text, unreached_listen, unreached_connect, port_of};
+ghost use Rattle.printing_core.specs.AddressTexts.{is_too_high, port_is_too_high};
+
+use std::fmt;
+use std::io::ErrorKind;
+
+/// Why an address is not listened at, or not reached.
+#[derive(Clone, Copy, Debug, PartialEq, Eq)]
+pub enum Unreached {
+    /// Its text has no port.
+    NoPort,
+    /// Its port is above 65535.
+    PortTooHigh,
+    /// Its host has no address.
+    NoHost,
+    /// It is in use.
+    InUse,
+    /// It is another machine's.
+    NotHere,
+    /// This user may not listen there.
+    NoLeave,
+    /// It is not listened at, for any other reason.
+    NotFree,
+    /// Nobody answers there.
+    Nobody,
+    /// No answer came in so many seconds.
+    NoAnswer { seconds: u32 },
+    /// The network has no way there.
+    NoWay,
+    /// A connection there was not accepted.
+    NoRoom,
+}
+
+/// An address, and why it is not listened at or not reached.
+#[derive(Clone, Copy)]
+pub(crate) struct AddressLine<'a>(pub &'a str, pub Unreached);
+
+impl fmt::Display for AddressLine<'_> {
+    ghost output = { λ line. Some (unreached_text line.0.now line.1) };
+
+    fn fmt<W: fmt::Write>(&self, f: &mut fmt::Formatter<W>) -> fmt::Result {
+        let address = self.0;
+        match self.1 {
+            Unreached::NoPort => write!(f, "{address} has no port"),
+            Unreached::PortTooHigh => write!(f, "the port of {address} is above 65535"),
+            Unreached::NoHost => write!(f, "{address} names no host that is known"),
+            Unreached::InUse => write!(f, "{address} is in use"),
+            Unreached::NotHere => write!(f, "{address} is not an address of this machine"),
+            Unreached::NoLeave => write!(f, "this user may not listen at {address}"),
+            Unreached::NotFree => {
+                write!(
+                    f,
+                    "{address} is in use, or is not an address of this machine"
+                )
+            }
+            Unreached::Nobody => write!(f, "nobody listens at {address}"),
+            Unreached::NoAnswer { seconds } => {
+                write!(f, "{address}: no answer in {seconds} seconds")
+            }
+            Unreached::NoWay => write!(f, "{address} cannot be reached"),
+            Unreached::NoRoom => write!(f, "the system has no room for one more connection"),
+        }
+    }
+}
+
+/// Why an address that is well is not listened at, by what the system said.
+pub fn unreached_listen(kind: ErrorKind) -> Unreached
+    ensures { result ≡ unreached_listen kind }
+{
+    match kind {
+        ErrorKind::AddrInUse => Unreached::InUse,
+        ErrorKind::AddrNotAvailable => Unreached::NotHere,
+        ErrorKind::PermissionDenied => Unreached::NoLeave,
+        _ => Unreached::NotFree,
+    }
+}
+
+/// Why an address that is well is not reached, by what the system said; there were so many seconds for it.
+pub fn unreached_connect(kind: ErrorKind, seconds: u32) -> Unreached
+    ensures { result ≡ unreached_connect kind seconds }
+{
+    match kind {
+        ErrorKind::TimedOut | ErrorKind::WouldBlock => Unreached::NoAnswer { seconds },
+        ErrorKind::HostUnreachable | ErrorKind::NetworkUnreachable => Unreached::NoWay,
+        _ => Unreached::Nobody,
+    }
+}
+
+/// What follows the last `:` of an address, if it has one.
+fn port_of(address: &str) -> Option<&str>
+    ensures { option_copied result ≡ port_of address.now }
+{
+    let (_host, port) = address.rsplit_once(':')?;
+    Some(port)
+}
+
+/// Whether all bytes are decimal digits.
+fn are_digits(bytes: &[u8]) -> bool
+    ensures { result ≡ list_all is_ascii_digit bytes.now }
+{
+    bytes.iter().all(|byte| byte.is_ascii_digit())
+}
+
+/// Whether this is decimal digits, and a number above 65535.
+fn is_too_high(digits: &str) -> bool
+    ensures { result ≡ is_too_high digits.now }
+{
+    if digits.is_empty() {
+        return false;
+    }
+    if !are_digits(digits.as_bytes()) {
+        return false;
+    }
+    digits.parse::<u16>().is_err()
+}
+
+/// Whether what follows the last `:` of an address is decimal digits, and a number above 65535.
+pub fn port_is_too_high(address: &str) -> bool
+    ensures { result ≡ port_is_too_high address.now }
+{
+    match port_of(address) {
+        Some(port) => is_too_high(port),
+        None => false,
+    }
+}
