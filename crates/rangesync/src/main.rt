@@ -1,6 +1,9 @@
 //! The program `rangesync`.
 #![tactic(auto)]
 
+mod bad_line;
+mod book;
+mod disk;
 mod loading;
 mod metering;
 mod reporting;
@@ -13,9 +16,10 @@ mod tests;
 mod why;
 
 use printing_core::{Fault, tell, tell_no_text};
+use run::StandardError;
 use std::env::Env;
 use std::fs::File;
-use std::io::{Read, Write};
+use std::io::{IsTerminal, Read, Write};
 use std::net::{Net, TcpListener, TcpStream};
 use std::process::ExitCode;
 use std::rt::Files;
@@ -25,7 +29,7 @@ use std::time::Clock;
 use std::{env, io};
 
 /// The status of the run on the environment's words.
-fn status<R, I: Read + Drop, O: Write + Drop, E: Write + Drop + Send>(
+fn status<R, I: Read + Drop, O: Write + Drop, E: Write + IsTerminal + Drop + Send>(
     rt: &R,
     reader: I,
     out: O,
@@ -49,7 +53,14 @@ where
         Err(_) => return tell_no_text(err),
     };
     match words.collect::<Vec<String>>(rt.alloc()) {
-        Ok(words) => run::run(rt, words.as_slice(), reader, out, err),
+        Ok(words) => {
+            let is_terminal = err.is_terminal();
+            let err = StandardError {
+                writer: err,
+                is_terminal,
+            };
+            run::run(rt, words.as_slice(), reader, out, err)
+        }
         Err(refused) => tell(err, Fault::from(refused)),
     }
 }

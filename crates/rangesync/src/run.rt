@@ -5,14 +5,14 @@ ghost use Rattle.store_core.specs.Flat.{flat_items};
 ghost use Rattle.settings_core.specs.Spans.{AreInSpan};
 
 use crate::loading::{Sources, load};
-use crate::reporting::Paths;
+use crate::reporting::{Paths, Rules};
 use crate::serve::{Serving, serve};
 use crate::sync::{Asking, sync};
 use crate::why::explain;
 use answer_core::{answer, list_reply};
 use io_core::{Watched, read_input, write_output};
-use printing_core::{Fault, checked_text, decode_text, encode_lines, tell, tell_words};
-use settings_core::{Command, read_items, read_strategy, read_words};
+use printing_core::{Fault, Reporting, checked_text, decode_text, encode_lines, tell, tell_words};
+use settings_core::{Call, Command, read_items, read_strategy, read_words};
 use sim_core::{scenario_of, sim_text};
 use std::alloc::Global;
 use std::convert::AsStr;
@@ -123,6 +123,11 @@ where
             most_bytes,
             report,
             learned,
+            keep,
+            durable,
+            most_learned,
+            read_only,
+            report_items,
             form,
             items,
         } => {
@@ -137,11 +142,24 @@ where
                 paths: Paths {
                     report,
                     learned,
-                    form,
+                    keep,
+                },
+                rules: Rules {
+                    reporting: Reporting {
+                        form,
+                        most: report_items,
+                    },
+                    most_learned: if read_only { Some(0) } else { most_learned },
+                    is_durable: durable,
                 },
             };
-            let sources = Sources { table, form, items };
-            serve(rt, load(rt, sources, reader)?, serving, out, err)
+            let sources = Sources {
+                table,
+                form,
+                items,
+                keep,
+            };
+            serve(rt, load(rt, sources, reader, err)?, serving, out, err)
         }
         Command::Sync {
             table,
@@ -163,20 +181,38 @@ where
                 },
                 stats,
             };
-            let sources = Sources { table, form, items };
-            sync(rt, load(rt, sources, reader)?, asking, out, err)
+            let sources = Sources {
+                table,
+                form,
+                items: Some(items),
+                keep: None,
+            };
+            sync(rt, load(rt, sources, reader, err)?, asking, out, err)
         }
     }
 }
 
+/// Where refusals are told, and whether a second line is told of each without being asked for: a terminal has a person
+/// before it.
+#[derive(Drop)]
+pub struct StandardError<E> {
+    /// What takes the lines.
+    pub writer: E,
+    /// Whether it is a terminal.
+    pub is_terminal: bool,
+}
+
 /// Runs the program on these words, of which the first is its own name, and gives the status: 0 done, 1 refused, 2 for
 /// words that it does not know, 3 for a file, an input, an output, the network or memory.
+///
+/// A refusal is one line on standard error. What it speaks of, and the usual cause, is a second line if standard error
+/// is a terminal, or with `--why`.
 pub fn run<R, W: AsStr, I: Read + Drop, O: Write + Drop, E: Write + Drop + Send>(
     rt: &R,
     words: &[W],
     reader: I,
     out: O,
-    err: E,
+    err: StandardError<E>,
 ) -> u8
 where
     R: Files<File = File>
@@ -188,16 +224,21 @@ where
         + Sync,
     ensures known { result ≤ 3 }
 {
-    let mut err = err;
-    let command = match read_words(rt.alloc(), words) {
-        Ok(command) => command,
+    let StandardError {
+        writer: mut err,
+        is_terminal,
+    } = err;
+    let Call { command, explains } = match read_words(rt.alloc(), words) {
+        Ok(call) => call,
         Err(fault) => return tell_words(out, err, fault),
     };
     match obey(rt, command, reader, out, &mut err) {
         Ok(()) => 0,
         Err(fault) => {
             let status = tell(&mut err, fault);
-            explain(rt, command, fault, &mut err);
+            if explains || is_terminal {
+                explain(rt, command, fault, &mut err);
+            }
             status
         }
     }

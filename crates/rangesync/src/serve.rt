@@ -1,13 +1,16 @@
 //! Sessions with those who connect.
 
-ghost use Rattle.std.specs.Prelude.{◌≡◌};
+ghost use Rattle.std.specs.Prelude.{◌≡◌, ◌≤◌};
+ghost use Rattle.std.specs.Arc.{arc_value};
 ghost use Rattle.settings_core.specs.Spans.{IsWorkerCount};
 
+use crate::disk::Disk;
 use crate::loading::Loaded;
-use crate::reporting::{Paths, Reporter, open_files};
+use crate::reporting::{Closed, Paths, Reporter, Rules, open_books};
 use io_core::{Watched, WriterFailed, write_output};
-use peer_threads::{Shared, run_workers};
+use peer_threads::{Report, Shared, run_workers};
 use printing_core::{Fault, listening_line, refusal_of, served_text, tell_address, tell_dropped};
+use range_tree::Tree;
 use session_table::SessionTable;
 use std::alloc::Global;
 use std::fs::File;
@@ -15,10 +18,10 @@ use std::io::Write;
 use std::net::{Net, SocketAddr, TcpListener, TcpStream};
 use std::rt::Files;
 use std::sync::{Arc, Mutex, Wait};
-use std::thread::Threads;
+use std::thread::{Threads, join};
 use std::time::Clock;
-use tcp_front::{Limits, listen};
-use version_lock::VersionLock;
+use tcp_front::{Limits, Listener, listen};
+use version_lock::{Seat, VersionLock};
 
 /// How sessions are served.
 #[derive(Clone, Copy)]
@@ -33,6 +36,8 @@ pub struct Serving<'a> {
     pub limits: Limits,
     /// The files that are written of the sessions.
     pub paths: Paths<'a>,
+    /// What is written to them, and how much of a session is put into the log.
+    pub rules: Rules,
 }
 
 /// Says at once that this address is listened at. Where the system chose the port, the real address goes to standard
@@ -53,11 +58,108 @@ fn announce<O: Write, E: Write>(
     Ok(())
 }
 
+/// The gate of a server: it writes to the files of a disk.
+type Desk<'r, 'a, R, E> = Reporter<'r, 'a, R, Disk<File>, E>;
+
+/// Serves by workers, who are lent this seat, until the source has no more.
+fn work<R, E: Write + Drop + Send>(
+    rt: &R,
+    shared: &Shared<'_, Tree, Desk<'_, '_, R, E>>,
+    seat: Seat<Tree>,
+    listener: &Listener<'_, R>,
+    workers: u8,
+) -> Report
+where
+    R: Net<Listener = TcpListener, Stream = TcpStream>
+        + Threads
+        + Wait
+        + Clock
+        + AllocGlobal
+        + Sync,
+    requires lock { seat.table_id ≡ shared.now.lock.now }
+    requires fits { seat.view.cap ≤ (arc_value shared.now.accepted.now).table.cap }
+    requires workers { IsWorkerCount workers }
+{
+    let mut seat = seat;
+    let report = run_workers(rt, rt.alloc(), shared, &mut seat, listener, workers);
+    shared.gate.end();
+    report
+}
+
+/// Serves by workers until the source has no more; beside them what could not be written is tried again each second.
+fn work_beside<R, E: Write + Drop + Send>(
+    rt: &R,
+    shared: &Shared<'_, Tree, Desk<'_, '_, R, E>>,
+    seat: Seat<Tree>,
+    listener: &Listener<'_, R>,
+    workers: u8,
+) -> Report
+where
+    R: Net<Listener = TcpListener, Stream = TcpStream>
+        + Threads
+        + Wait
+        + Clock
+        + AllocGlobal
+        + Sync,
+    requires lock { seat.table_id ≡ shared.now.lock.now }
+    requires fits { seat.view.cap ≤ (arc_value shared.now.accepted.now).table.cap }
+    requires workers { IsWorkerCount workers }
+{
+    let gate = shared.gate;
+    // If no thread can be made for the first, it runs after the second, and returns at once.
+    let (_tried, report) = join(
+        rt,
+        move || gate.keep_trying(),
+        move || -> Report
+            requires { (seat.table_id ≡ shared.now.lock.now)
+                × (seat.view.cap ≤ (arc_value shared.now.accepted.now).table.cap) × IsWorkerCount workers }
+        { work(rt, shared, seat, listener, workers) },
+    );
+    report
+}
+
+/// Serves by workers until the source has no more, and sees that what is written to files is tried again, if anything is.
+fn work_and_write<R, E: Write + Drop + Send>(
+    rt: &R,
+    shared: &Shared<'_, Tree, Desk<'_, '_, R, E>>,
+    seat: Seat<Tree>,
+    listener: &Listener<'_, R>,
+    workers: u8,
+) -> Report
+where
+    R: Net<Listener = TcpListener, Stream = TcpStream>
+        + Threads
+        + Wait
+        + Clock
+        + AllocGlobal
+        + Sync,
+    requires lock { seat.table_id ≡ shared.now.lock.now }
+    requires fits { seat.view.cap ≤ (arc_value shared.now.accepted.now).table.cap }
+    requires workers { IsWorkerCount workers }
+{
+    if shared.gate.may_wait() {
+        work_beside(rt, shared, seat, listener, workers)
+    } else {
+        work(rt, shared, seat, listener, workers)
+    }
+}
+
+/// The refusal of a run whose workers ended so, and whose files were closed so.
+fn ending(report: Report, closed: Closed) -> Result<(), Fault> {
+    refusal_of(report)?;
+    if closed.is_written {
+        Ok(())
+    } else {
+        Err(Fault::LinesLost)
+    }
+}
+
 /// Serves sessions until there are no more connections, and prints what was counted. What is asked for of each session
-/// goes to its files; standard error is told once of a file that cannot be written, and at the end how many learned
-/// items were dropped, if any were.
+/// goes to its files; what cannot be written waits, and is tried again at the next line and each second. Standard error
+/// is told when that begins and when it goes on, and at the end how many learned items were dropped, if any were.
 ///
-/// Else 90, 80, 60, or `io write`; and behind what was counted 62, or 90 where no worker started.
+/// Else 90, 80, 60, or `io write`; and after what was counted 62, or 90 where no worker started, or `io write` where
+/// lines of a file are lost.
 pub fn serve<R, O: Write + Drop, E: Write + Send>(
     rt: &R,
     loaded: Loaded,
@@ -78,26 +180,32 @@ where
 {
     let alloc = rt.alloc();
     let mut out = out;
-    let Loaded { accepted, log } = loaded;
+    let Loaded {
+        accepted,
+        log,
+        kept,
+    } = loaded;
+    let cap = accepted.cap() as usize;
     let accepted = Arc::new(alloc, accepted)?;
     let (lock, mut seat) = VersionLock::new(alloc, log)?;
     let sessions = Mutex::new(SessionTable::new(alloc, usize::from(serving.workers))?);
-    let files = open_files(rt, serving.paths)?;
+    let books = open_books(rt, serving.paths, kept, err)?;
     let listener = listen(rt, serving.address, serving.sessions, serving.limits)?;
     announce(alloc, serving.address, listener.local_addr(), &mut out, err)?;
-    let reporter = Reporter::new(rt, alloc, files, &mut *err);
+    let reporter = Reporter::new(rt, alloc, serving.rules, cap, books, &mut *err);
     let shared = Shared {
         lock: &lock,
         accepted: &accepted,
         sessions: &sessions,
         gate: &reporter,
     };
-    let report = run_workers(rt, alloc, &shared, &mut seat, &listener, serving.workers);
-    let dropped = reporter.close();
-    tell_dropped(err, dropped);
+    let own = lock.split_seat(&mut seat);
+    let report = work_and_write(rt, &shared, own, &listener, serving.workers);
+    let closed = reporter.close();
+    tell_dropped(err, closed.dropped);
     let totals = sessions.into_inner().totals();
     let items = lock.close_with(rt, seat).count();
     let text = served_text(alloc, totals, items)?;
     write_output(&mut Watched::new(out), text.as_bytes())?;
-    refusal_of(report)
+    ending(report, closed)
 }

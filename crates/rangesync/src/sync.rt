@@ -17,7 +17,7 @@ use std::io::Write;
 use std::net::{Net, TcpStream};
 use std::sync::{Arc, Mutex, Wait};
 use std::time::{Clock, Instant};
-use tcp_front::{Limits, connect, limited};
+use tcp_front::{Limits, connect, finish, limited};
 use version_lock::{Seat, VersionLock};
 
 /// With whom a session is run.
@@ -81,7 +81,11 @@ pub fn sync<R: Net<Stream = TcpStream> + Wait + Clock + AllocGlobal, O: Write + 
     requires cap { loaded.log.cap ≡ loaded.accepted.table.cap }
 {
     let alloc = rt.alloc();
-    let Loaded { accepted, log } = loaded;
+    let Loaded {
+        accepted,
+        log,
+        kept: _,
+    } = loaded;
     let accepted = Arc::new(alloc, accepted)?;
     let (lock, mut seat) = VersionLock::new(alloc, log)?;
     let sessions = Mutex::new(SessionTable::new(alloc, 1)?);
@@ -102,6 +106,8 @@ pub fn sync<R: Net<Stream = TcpStream> + Wait + Clock + AllocGlobal, O: Write + 
         }
         WireProfile::Two => dial::<_, Counted>(rt, alloc, &shared, &mut seat, &stream, most_bytes),
     };
+    let left = u64::from(most_bytes).saturating_sub(stats.received.bytes);
+    finish(rt, &stream, left);
     if asking.stats {
         tell_stats(err, stats);
     }

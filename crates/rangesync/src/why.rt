@@ -2,12 +2,15 @@
 //!
 //! Standard input is never read here, and of files only those that can be read twice.
 
-use crate::row::refused_row;
+use crate::bad_line::why_bad;
+use crate::row::{BadNumber, bad_number, refused_row};
 use io_core::{MAX_INPUT, Watched, read_input};
-use printing_core::{Fault, InputFlaw, ServerFlaw, Unreached, Unread, Why, shown_line, tell_why};
-use settings_core::{Command, ItemForm, SettingsFault, item_set};
-use std::alloc::Global;
-use std::fs::{File, OpenOptions};
+use printing_core::{
+    Fault, InputFlaw, ServerFlaw, Unreached, Unread, Why, port_is_too_high, tell_why,
+    unreached_connect, unreached_listen,
+};
+use settings_core::{Command, ItemForm, item_set};
+use std::fs::{File, OpenOptions, TryLockError};
 use std::io::{ErrorKind, Write};
 use std::net::{Net, TcpListener, TcpStream, ToSocketAddrs};
 use std::rt::Files;
@@ -30,8 +33,10 @@ struct Given<'a> {
     items: Option<&'a str>,
     /// The form of the items.
     form: ItemForm,
-    /// The files that are written to.
-    written: [Option<&'a str>; 2],
+    /// The file in which the set is kept.
+    keep: Option<&'a str>,
+    /// The files that are written to, that one first.
+    written: [Option<&'a str>; 3],
     /// Whether standard input is read as hex; `None` where it is not read.
     hexed: Option<bool>,
     /// The address to listen at or to connect to.
@@ -47,7 +52,8 @@ const NOTHING: Given<'static> = Given {
     table: None,
     items: None,
     form: ItemForm::Hex,
-    written: [None, None],
+    keep: None,
+    written: [None, None, None],
     hexed: None,
     address: "",
     patience: 0,
@@ -86,15 +92,17 @@ fn given_to(command: Command<'_>) -> Given<'_> {
             address,
             report,
             learned,
+            keep,
             form,
             items,
             ..
         } => Given {
             table: Some(table),
-            items: file_of(items),
+            items: items.and_then(|items| file_of(items)),
             form,
-            written: [report, learned],
-            hexed: input_of(items),
+            keep,
+            written: [keep, report, learned],
+            hexed: items.and_then(|items| input_of(items)),
             address,
             ..NOTHING
         },
@@ -130,8 +138,21 @@ enum Again {
     Unknown,
 }
 
+/// The numbers that Linux gives where the process, or the system, may open no more files.
+const NO_MORE_FILES: [i32; 2] = [24, 23];
+
+/// Whether a file was not opened since no more may be.
+fn is_for_want_of_files(error: &io::Error) -> bool {
+    error
+        .raw_os_error()
+        .is_some_and(|code| NO_MORE_FILES.contains(&code))
+}
+
 /// Why a file was not opened.
 fn again_of(error: &io::Error) -> Again {
+    if is_for_want_of_files(error) {
+        return Again::Unread(Unread::NoMoreFiles);
+    }
     match error.kind() {
         ErrorKind::NotFound => Again::Unread(Unread::Absent),
         ErrorKind::PermissionDenied => Again::Unread(Unread::Forbidden),
@@ -163,17 +184,23 @@ fn read_again<R: Files + AllocGlobal>(rt: &R, path: &str) -> Again {
     }
 }
 
-/// Whether a file that is written to is opened.
-fn is_opened<R: Files>(rt: &R, path: &str) -> bool {
-    OpenOptions::new().append(true).open(rt, path).is_ok()
+/// Why a file that is written to was not opened, or not locked; `None` where both can be done.
+fn why_not_opened<R: Files<File = File>>(rt: &R, path: &str) -> Option<Unread> {
+    match OpenOptions::new().append(true).open(rt, path) {
+        Err(error) if is_for_want_of_files(&error) => Some(Unread::NoMoreFiles),
+        Err(_) => Some(Unread::Unwritable),
+        Ok(file) => match file.try_lock() {
+            Err(TryLockError::WouldBlock) => Some(Unread::Locked),
+            _ => None,
+        },
+    }
 }
 
 /// Why one of the files that are written to was not opened.
-fn why_unwritten<'a, R: Files>(rt: &R, given: Given<'a>) -> Option<Why<'a>> {
+fn why_unwritten<'a, R: Files<File = File>>(rt: &R, given: Given<'a>) -> Option<Why<'a>> {
     for file in given.written {
         let Some(file) = file else { continue };
-        if !is_opened(rt, file) {
-            let cause = Unread::Unwritable;
+        if let Some(cause) = why_not_opened(rt, file) {
             return Some(Why::Unread { file, cause });
         }
     }
@@ -181,7 +208,10 @@ fn why_unwritten<'a, R: Files>(rt: &R, given: Given<'a>) -> Option<Why<'a>> {
 }
 
 /// Why one of the files, or standard input, was not read; or why a file that is written to was not opened.
-fn why_unread<'a, R: Files + AllocGlobal>(rt: &R, given: Given<'a>) -> Option<Why<'a>> {
+fn why_unread<'a, R: Files<File = File> + AllocGlobal>(
+    rt: &R,
+    given: Given<'a>,
+) -> Option<Why<'a>> {
     let mut unknown = false;
     for file in [given.table, given.items] {
         let Some(file) = file else { continue };
@@ -200,45 +230,28 @@ fn why_unread<'a, R: Files + AllocGlobal>(rt: &R, given: Given<'a>) -> Option<Wh
     given.hexed.map(|_| Why::Input(InputFlaw::CannotRead))
 }
 
-/// Whether a line of an item file is bad.
-fn is_bad(alloc: Global, form: ItemForm, line: &[u8]) -> bool {
-    match item_set(alloc, form, line, 1) {
-        Err(SettingsFault::BadItemLine { line: _ }) => true,
-        _ => false,
-    }
-}
-
-/// The line of this number, from 1, without its line feed.
-fn line_at(text: &[u8], number: usize) -> &[u8] {
-    for (index, line) in text.split(|byte| *byte == b'\n').enumerate() {
-        if index + 1 == number {
-            return line;
-        }
-    }
-    &text[..0]
-}
-
-/// A line as it is shown, without a carriage return at its end.
-fn shown(alloc: Global, line: &[u8]) -> Option<String> {
-    shown_line(alloc, line.strip_suffix(b"\r").unwrap_or(line)).ok()
-}
-
-/// What line of the item file is bad; or that standard input is no hex.
+/// Which line of the item file, or of the file in which the set is kept, is bad, and why; or that standard input is no
+/// hex.
 fn why_bad_line<'a, R: Files + AllocGlobal>(
     rt: &R,
     given: Given<'a>,
     line: usize,
 ) -> Option<Why<'a>> {
-    let file = given.items?;
-    let Again::Text(text) = read_again(rt, file) else {
-        return None;
-    };
-    let found = line_at(&text, line);
-    if is_bad(rt.alloc(), given.form, found) {
-        let shown = shown(rt.alloc(), found)?;
-        return Some(Why::BadLine { file, line, shown });
+    let mut unknown = false;
+    for file in [given.items, given.keep] {
+        let Some(file) = file else { continue };
+        match read_again(rt, file) {
+            Again::Text(text) => match why_bad(rt.alloc(), given.form, file, &text, line) {
+                Some(why) => return Some(why),
+                None => {}
+            },
+            _ => unknown = true,
+        }
     }
-    given.hexed.map(|_| Why::Input(InputFlaw::NotHex))
+    if unknown || given.hexed != Some(true) {
+        return None;
+    }
+    Some(Why::Input(InputFlaw::NotHex))
 }
 
 /// How many different items an item file may have.
@@ -253,14 +266,43 @@ fn cap_of<R: Files + AllocGlobal>(rt: &R, table: Option<&str>) -> Option<usize> 
     Some(strategy.cap() as usize)
 }
 
-/// What has too many items.
+/// Whether a file alone has more different items than this.
+fn has_too_many<R: Files + AllocGlobal>(rt: &R, form: ItemForm, file: &str, cap: usize) -> bool {
+    match read_again(rt, file) {
+        Again::Text(text) => item_set(rt.alloc(), form, &text, cap).is_err(),
+        _ => false,
+    }
+}
+
+/// What has too many items: the item file alone, or that and the file in which the set is kept.
 fn why_too_many<'a, R: Files + AllocGlobal>(rt: &R, given: Given<'a>) -> Option<Why<'a>> {
     if given.items.is_none() && given.table.is_none() {
         return Some(Why::Input(InputFlaw::TooManyItems));
     }
-    let file = given.items.unwrap_or(STANDARD_INPUT);
     let cap = cap_of(rt, given.table)?;
+    let first = given.items.unwrap_or(STANDARD_INPUT);
+    let file = match given.keep {
+        Some(keep) if !has_too_many(rt, given.form, first, cap) => keep,
+        _ => first,
+    };
     Some(Why::TooManyItems { file, cap })
+}
+
+/// Which number of a strategy is bad, and what it may be.
+fn why_bad_number(place: &str, number: BadNumber) -> Why<'_> {
+    let BadNumber {
+        row,
+        key,
+        least,
+        greatest,
+    } = number;
+    Why::BadKey {
+        place,
+        row,
+        key,
+        least,
+        greatest,
+    }
 }
 
 /// What holds no strategy, and its wrong row where it has one.
@@ -278,6 +320,11 @@ fn why_no_strategy<'a, R: Files + AllocGlobal>(
     let Again::Text(text) = read_again(rt, place) else {
         return Why::NoStrategy { place, fault };
     };
+    if fault == StrategyFault::BadNumber {
+        if let Some(number) = bad_number(rt.alloc(), &text) {
+            return why_bad_number(place, number);
+        }
+    }
     match refused_row(rt.alloc(), &text) {
         Some(row) => Why::BadRow { place, row, fault },
         None => Why::NoStrategy { place, fault },
@@ -286,6 +333,10 @@ fn why_no_strategy<'a, R: Files + AllocGlobal>(
 
 /// Why a listener or a connection was not made; `otherwise` where the address is well.
 fn why_unreached<'a, R: Net>(rt: &R, address: &'a str, otherwise: Unreached) -> Option<Why<'a>> {
+    if port_is_too_high(address) {
+        let cause = Unreached::PortTooHigh;
+        return Some(Why::Address { address, cause });
+    }
     let cause = match address.to_socket_addrs(rt) {
         Ok(_) => otherwise,
         Err(error) => match error.kind() {
@@ -313,6 +364,7 @@ fn session_flaw(given: Given<'_>, code: u8) -> Option<ServerFlaw> {
         3 => Some(ServerFlaw::Cut {
             most_bytes: given.most_bytes,
         }),
+        12 => Some(ServerFlaw::TooManyParts),
         2..=26 => Some(ServerFlaw::Unruly),
         _ => None,
     }
@@ -342,8 +394,11 @@ where
             place: given.table.unwrap_or(STANDARD_INPUT),
             fault,
         }),
-        Fault::Bind => why_unreached(rt, given.address, Unreached::NotFree),
-        Fault::Connect => why_unreached(rt, given.address, Unreached::Nobody),
+        Fault::Bind(kind) => why_unreached(rt, given.address, unreached_listen(kind)),
+        Fault::Connect(kind) => {
+            let otherwise = unreached_connect(kind, given.patience);
+            why_unreached(rt, given.address, otherwise)
+        }
         Fault::WriterFailed => Some(why_not_written(given)),
         _ => why_said(given, fault),
     }

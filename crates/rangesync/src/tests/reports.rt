@@ -1,6 +1,6 @@
 //! What `serve` writes of its sessions to files, and `sync` of what its session cost.
 
-use super::{Wanted, gives, refused};
+use super::{Wanted, gives, refused, terminal};
 use crate::run::run;
 use std::fs::File;
 use std::io::{Read, Write};
@@ -210,12 +210,19 @@ fn files_that_are_not_written(rt: HostRuntime) -> io::Result<()> {
         "/dev/null",
     ];
     let wanted = Wanted {
-        status: 0,
+        status: 3,
         out: b"listening 127.0.0.1:7706
 opened 2 ended 2 refused 0 io 0 memory 0 messages 2
 items 2
 ",
-        err: "report not written\nlearned not written\n",
+        err: "report not written
+/dev/full: no room is left on the disk, 2 lines wait
+learned not written
+/dev/full: no room is left on the disk, 1 line waits
+report: 5 lines not written
+learned: 2 lines not written
+io write
+",
     };
     join(
         &rt,
@@ -292,7 +299,7 @@ fn an_item_without_room(rt: HostRuntime) -> io::Result<()> {
 opened 1 ended 1 refused 0 io 0 memory 0 messages 1
 items 1
 ",
-        err: "dropped 1\n",
+        err: "the set is full with 1 item: what peers have beside them is dropped\ndropped 1\n",
     };
     join(
         &rt,
@@ -330,7 +337,7 @@ where
     let mut out: Vec<u8> = Vec::new(rt.alloc());
     let mut err: Vec<u8> = Vec::new(rt.alloc());
     let input: &[u8] = &[];
-    let status = run(rt, &words, input, &mut out, &mut err);
+    let status = run(rt, &words, input, &mut out, terminal(&mut err));
     let cost = b"messages sent 2 received 1
 parts sent 2 received 1
 bytes sent 69 received 24

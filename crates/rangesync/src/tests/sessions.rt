@@ -1,6 +1,6 @@
 //! Sessions over the loopback, through the program.
 
-use super::{Wanted, gives, refused};
+use super::{Wanted, gives, refused, terminal};
 use crate::run::run;
 use peer_threads::Source;
 use std::alloc::AllocError;
@@ -16,7 +16,7 @@ use std::{fs, io};
 use tcp_front::{Limits, Listener, listen};
 
 /// The strategy of at most eight items that lists one and cuts more in half.
-pub const BINARY_EIGHT: &str = "cap = 8
+const BINARY_EIGHT: &str = "cap = 8
 limit = 1
 rounds = 3
 [[row]]
@@ -38,14 +38,14 @@ const MAX_TRIES: u32 = 1_000_000;
 
 /// What a run gave: its status, and what it wrote.
 #[derive(Drop)]
-pub struct Given {
+struct Given {
     status: u8,
     out: Vec<u8>,
     err: Vec<u8>,
 }
 
-/// Runs the words on this input.
-fn run_on<R>(rt: &R, words: &[&str], input: &[u8]) -> Given
+/// Runs the words on no input.
+fn run_words<R>(rt: &R, words: &[&str]) -> Given
 where
     R: Files<File = File>
         + Net<Listener = TcpListener, Stream = TcpStream>
@@ -57,42 +57,9 @@ where
 {
     let mut out: Vec<u8> = Vec::new(rt.alloc());
     let mut err: Vec<u8> = Vec::new(rt.alloc());
-    let status = run(rt, words, input, &mut out, &mut err);
+    let input: &[u8] = &[];
+    let status = run(rt, words, input, &mut out, terminal(&mut err));
     Given { status, out, err }
-}
-
-/// Runs the words on no input.
-pub fn run_words<R>(rt: &R, words: &[&str]) -> Given
-where
-    R: Files<File = File>
-        + Net<Listener = TcpListener, Stream = TcpStream>
-        + Threads
-        + Wait
-        + Clock
-        + AllocGlobal
-        + Sync,
-{
-    run_on(rt, words, &[])
-}
-
-/// Runs the words on this input again and again while nobody listens.
-pub fn run_late_on<R>(rt: &R, words: &[&str], input: &[u8]) -> Given
-where
-    R: Files<File = File>
-        + Net<Listener = TcpListener, Stream = TcpStream>
-        + Threads
-        + Wait
-        + Clock
-        + AllocGlobal
-        + Sync,
-{
-    for _ in 0..MAX_TRIES {
-        let given = run_on(rt, words, input);
-        if !given.err.as_slice().starts_with(b"refused 61 Connect\n") {
-            return given;
-        }
-    }
-    run_on(rt, words, input)
 }
 
 /// Runs the words again and again while nobody listens.
@@ -106,11 +73,17 @@ where
         + AllocGlobal
         + Sync,
 {
-    run_late_on(rt, words, &[])
+    for _ in 0..MAX_TRIES {
+        let given = run_words(rt, words);
+        if !given.err.as_slice().starts_with(b"refused 61 Connect\n") {
+            return given;
+        }
+    }
+    run_words(rt, words)
 }
 
 /// Compares what a run gave.
-pub fn compare<R: Abort>(rt: &R, given: &Given, status: u8, out: &str, err: &str) {
+fn compare<R: Abort>(rt: &R, given: &Given, status: u8, out: &str, err: &str) {
     assert!(rt; given.err.as_slice() == err.as_bytes(), "{:?}", given.err);
     assert!(rt; given.out.as_slice() == out.as_bytes(), "{:?}", given.out);
     assert_eq!(rt; given.status, status);
@@ -446,7 +419,7 @@ fn an_address_in_use(rt: HostRuntime) -> io::Result<()> {
     let (_listener, address) = opened(&rt)?;
     let lines = format!(in rt.alloc();
         "refused 60 Bind
-{address} is in use, or is not an address of this machine
+{address} is in use
 "
     )?;
     serves(&rt, table, &address, &refused(3, &lines));

@@ -1,0 +1,131 @@
+//! A file of lines that a server writes to, and what standard error is told of it.
+
+use line_file::{Device, LineFile, Unwritten, torn_length};
+use printing_core::{
+    Cause, tell_left_out, tell_left_waiting, tell_unwritten, tell_unwritten_cause,
+    tell_written_again,
+};
+use std::alloc::AllocError;
+use std::io::Write;
+
+/// How many bytes may wait to be written. What is told beyond them is left out.
+const MOST_WAITING: usize = 16_777_216;
+
+/// After so many failures in a row a new text only waits, until `write` is called.
+const MOST_FAILURES: u8 = 2;
+
+/// What a file of lines is called on standard error.
+#[derive(Clone, Copy, Debug, PartialEq, Eq)]
+pub struct Name<'a> {
+    /// The option that it is given by, without its dashes.
+    pub option: &'a str,
+    /// Its path.
+    pub path: &'a str,
+}
+
+/// A file of lines. What cannot be written waits, in order.
+#[derive(Drop)]
+pub struct Book<'a, D> {
+    name: Name<'a>,
+    lines: LineFile<D>,
+    /// How many writes failed since one went well. It stops at the greatest number.
+    failures: u8,
+    /// How many texts were given up. It stops at the greatest number.
+    left_out: usize,
+}
+
+/// Why lines wait.
+fn cause_of(unwritten: Unwritten) -> Cause {
+    match unwritten {
+        Unwritten::Short => Cause::Short,
+        Unwritten::Failed(kind) => Cause::from(kind),
+    }
+}
+
+impl<'a, D: Device> Book<'a, D> {
+    /// Writes to these lines from now on.
+    pub fn new(name: Name<'a>, lines: LineFile<D>) -> Book<'a, D> {
+        Book {
+            name,
+            lines,
+            failures: 0,
+            left_out: 0,
+        }
+    }
+
+    /// Puts a text of whole lines after those that wait; it is left out if too many wait, or where memory runs out.
+    fn tell(&mut self, text: Result<String, AllocError>) -> Result<(), AllocError> {
+        let text = text?;
+        let bytes = text.as_bytes();
+        let room = MOST_WAITING.saturating_sub(self.lines.waiting().len());
+        if bytes.len() > room || torn_length(bytes) > 0 {
+            return Err(AllocError);
+        }
+        self.lines.tell(bytes)
+    }
+
+    /// Puts an empty line after those that wait. It ends a last line without a line feed of a file that stands before
+    /// this one, as in `cat`.
+    pub fn begin_blank(&mut self) {
+        if self.lines.tell(b"\n").is_err() {
+            self.left_out = self.left_out.saturating_add(1);
+        }
+    }
+
+    /// Puts a text of whole lines after those that wait, and writes them all. Where that failed before, it is tried once
+    /// more, and after that only by `write`.
+    pub fn put<E: Write>(&mut self, err: &mut E, text: Result<String, AllocError>) {
+        if self.tell(text).is_err() {
+            self.left_out = self.left_out.saturating_add(1);
+        }
+        if self.failures < MOST_FAILURES {
+            self.write(err);
+        }
+    }
+
+    /// Writes what waits. Standard error is told once when that begins to fail, and once when it goes on.
+    pub fn write<E: Write>(&mut self, err: &mut E) {
+        let waiting = self.lines.waiting_lines();
+        match self.lines.write() {
+            Ok(()) if self.failures > 0 => {
+                self.failures = 0;
+                tell_written_again(err, self.name.option, waiting);
+            }
+            Ok(()) => {}
+            Err(unwritten) => {
+                // Where that fails too, it is done before the next write.
+                let _cut = self.lines.heal();
+                self.fail(err, cause_of(unwritten));
+            }
+        }
+    }
+
+    /// Counts a failure, and tells why lines wait if it is the first in a row.
+    fn fail<E: Write>(&mut self, err: &mut E, cause: Cause) {
+        if self.failures == 0 {
+            let lines = self.lines.waiting_lines();
+            tell_unwritten(err, self.name.option);
+            tell_unwritten_cause(err, self.name.path, cause, lines);
+        }
+        self.failures = self.failures.saturating_add(1);
+    }
+
+    /// Sees that what was written outlives a loss of power.
+    pub fn sync<E: Write>(&mut self, err: &mut E) {
+        if let Err(error) = self.lines.sync() {
+            self.fail(err, Cause::from(error.kind()));
+        }
+    }
+
+    /// Writes what waits for the last time, and tells what is lost, if anything is. Whether nothing is.
+    pub fn close<E: Write>(mut self, err: &mut E) -> bool
+    where
+        D: Drop,
+    {
+        self.write(err);
+        let waiting = self.lines.waiting_lines();
+        tell_left_waiting(err, self.name.option, waiting);
+        tell_left_out(err, self.name.option, self.left_out);
+        waiting == 0 && self.left_out == 0
+    }
+}
