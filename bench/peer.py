@@ -1,6 +1,6 @@
 """A peer by docs/PROTOCOL.md: its messages, what it refuses and what it learns, from bytes to bytes.
 
-It is written from that page with Python's standard library alone, and nothing of the program is used. `bench/vectors`
+It is written from that page with Python's standard library alone, and nothing of the program is used. `tests/run peer`
 checks the worked cases of docs/vectors by it.
 """
 

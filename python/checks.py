@@ -63,6 +63,12 @@ def outcome(session: Session) -> str:
     return words if session.refusal is None else f"{words} {session.refusal}"
 
 
+def worked_set(case: dict[str, Any]) -> Set:
+    """The items of a case of docs/vectors, under its table."""
+    table = (TOP / f"docs/vectors/tables/{case['table']}.toml").read_bytes()
+    return Set(Strategy(table), map(bytes.fromhex, case["items"]))
+
+
 @contextlib.contextmanager
 def program(*words: str) -> Iterator[subprocess.Popen[str]]:
     """The program as it runs; it is ended in every case."""
@@ -201,20 +207,22 @@ class WithoutTheProgram(Check):
         for held, rank in (eight(bytes([number]) for number in range(8)), 3), (eight([b"a", b"b"]), 1):
             self.assertEqual((held.initiate().bound, held.respond().bound), (rank + 2, rank + 1))
 
-    def worked_cases(self, folder: str) -> None:
-        """The cases of a folder of docs/vectors: each side that has a table, over all that the other side writes."""
+    def worked(self, folder: str, least: int) -> Iterator[tuple[str, dict[str, Any]]]:
+        """The cases of a folder of docs/vectors, at least so many, by the names of their files."""
         paths = sorted((TOP / "docs/vectors" / folder).glob("*.toml"))
-        self.assertGreaterEqual(len(paths), 20)
-        for path in paths:
-            case = tomllib.loads(path.read_text())
+        self.assertGreaterEqual(len(paths), least)
+        return ((path.stem, tomllib.loads(path.read_text())) for path in paths)
+
+    def worked_cases(self, folder: str) -> None:
+        """The cases of such a folder: each side that has a table, over all that the other side writes."""
+        for name, case in self.worked(folder, 20):
             for role, peer in ("initiator", "responder"), ("responder", "initiator"):
                 for most in (1, 1000) if "table" in case[role] else ():
-                    with self.subTest(path.stem, role=role, most=most):
+                    with self.subTest(name, role=role, most=most):
                         self.worked_case(role, case[role], bytes.fromhex(case[peer]["writes"]), most)
 
     def worked_case(self, role: str, side: dict[str, Any], came: bytes, most: int) -> None:
-        table = (TOP / f"docs/vectors/tables/{side['table']}.toml").read_bytes()
-        held, writes = Set(Strategy(table), map(bytes.fromhex, side["items"])), bytes.fromhex(side["writes"])
+        held, writes = worked_set(side), bytes.fromhex(side["writes"])
         profile = {b"RRS1": 1, b"RRS2": 2}[writes[:4]]
         session = held.initiate(profile) if role == "initiator" else held.respond(profile)
         wrote = b""
@@ -225,11 +233,40 @@ class WithoutTheProgram(Check):
         wrote += b"".join(session.pulls(most))
         self.assertEqual((wrote.hex(), outcome(session), session.sent), (writes.hex(), side["outcome"], side["sent"]))
         if session.state is State.ENDED:
-            ours, theirs = (set(map(bytes.fromhex, side[key])) for key in ("ours", "theirs"))
-            self.finds(session.learned(), ours, theirs)
+            ours, theirs = (list(map(bytes.fromhex, side[key])) for key in ("ours", "theirs"))
+            self.finds(session.learned(), set(ours), set(theirs))
+            self.assertEqual(session._items("rs_session_ours", len(ours)), ours)
+            self.assertEqual(session._items("rs_session_theirs", len(theirs)), theirs)
 
     test_worked_sessions = functools.partialmethod(worked_cases, "sessions")
     test_worked_faults = functools.partialmethod(worked_cases, "faults")
+
+    def test_worked_replies(self) -> None:
+        """A responder that has had the hello of profile 1 is given a first message. A reply of no parts ends it."""
+        end = bytes.fromhex("00000001 04")
+        for name, case in self.worked("replies", 12):
+            message = bytes.fromhex(case["message"])
+            if "refused" in case:
+                wanted = bytes([0, 0, 0, 2, 5, case["refused"]]), f"refused {case['refused']}", 0
+            else:
+                reply = bytes.fromhex(case["reply"])
+                wanted = reply, "ended" if reply == end else "open", 1
+            for most in (1, 1000):
+                with self.subTest(name, most=most), worked_set(case).respond() as session:
+                    session.push(b"RRS1")
+                    self.assertEqual(b"".join(session.pulls()), b"RRS1")
+                    for at in range(0, len(message), most):
+                        session.push(message[at : at + most])
+                    self.assertEqual((b"".join(session.pulls(most)), outcome(session), session.sent), wanted)
+
+    def test_worked_fingerprints(self) -> None:
+        """The hello of an initiator, and a first message of one Sum over everything."""
+        for name, case in self.worked("fingerprints", 7):
+            for profile, front in (1, "52525331 00000023 0100ff"), (2, "52525332 00000027 0100ff"):
+                first = bytes.fromhex(f"{front} {case[f'profile_{profile}']} 00000001 04")
+                held = large(map(bytes.fromhex, case["items"]))
+                with self.subTest(name, profile=profile), held.initiate(profile) as session:
+                    self.assertEqual((b"".join(session.pulls()), session.sent), (first, 1))
 
     def test_other_hellos(self) -> None:
         for came in b"RRS2", b"GET / HTTP/1.1\r\n\r\n", bytes(100):

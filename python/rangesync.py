@@ -417,21 +417,21 @@ class Session(_Held):
         return ours.value, theirs.value
 
     def _items(self, name: str, count: int) -> list[bytes]:
-        """So many items, which the library has in the order learned, as they rise."""
+        """So many items, in the order learned."""
         room, used = ctypes.create_string_buffer(64), ctypes.c_size_t()
         items = []
         for place in range(count):
             self._ask(name, place, room, 64, ctypes.byref(used))
             items.append(ctypes.string_at(room, used.value))
-        return sorted(items)
+        return items
 
     def ours(self) -> Iterator[bytes]:
         """The items that only this side has, rising. Raises as `learned` does."""
-        return iter(self._items("rs_session_ours", self._counts()[0]))
+        return iter(sorted(self._items("rs_session_ours", self._counts()[0])))
 
     def theirs(self) -> Iterator[bytes]:
         """The items that only the other side has, rising. Raises as `learned` does."""
-        return iter(self._items("rs_session_theirs", self._counts()[1]))
+        return iter(sorted(self._items("rs_session_theirs", self._counts()[1])))
 
     def learned(self) -> Learned:
         """What it found, once it has ended. Raises `Refused` with the session's refusal, and 98 while it goes on."""

@@ -1,4 +1,4 @@
-//! Tests that cross crates: worked cases from bytes to bytes.
+//! Tests that cross crates, from bytes to bytes.
 //!
 //! | File | Tests |
 //! |---|---|
@@ -16,7 +16,6 @@
 //! | `workers` | `run_workers`: what is inserted, what is dropped, the source's fault, two sessions at a time |
 //! | `locks` | the lock: two seats, two threads, the last writer number |
 //! | `worlds` | runs of nodes and sessions beside inserts |
-//! | `vectors` | the worked cases of `docs/vectors` |
 //! | `support/` | what the tests share: readers, writers and gates, frames, letters, messages as text, strategies |
 #![tactic(auto)]
 
@@ -46,8 +45,6 @@ mod sessions;
 mod splitting;
 #[cfg(test)]
 mod support;
-#[cfg(test)]
-mod vectors;
 #[cfg(test)]
 mod workers;
 #[cfg(test)]

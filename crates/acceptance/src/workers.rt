@@ -22,6 +22,12 @@ use std::test::Fail;
 use std::thread::Threads;
 use version_log::Log;
 
+/// What a peer says that has abc, to a side with no items.
+const TEACHES_ABC: &[&[u8]] = &[HELLO, SUM_OF_ABC, END, ABC_IS_NEW, END];
+
+/// What a peer says that has aa, x and y, in this order, to a side with a to g.
+const TEACHES_THREE: &[&[u8]] = &[HELLO, SUM_OF_ONES, END, AA_BEFORE_D, X_AND_Y_FROM_D, END];
+
 /// Connections whose peers all say the same, 0 to 2 of them; behind them there is none, or a fault.
 #[derive(Drop)]
 struct Peers<'a> {
@@ -29,7 +35,11 @@ struct Peers<'a> {
     input: &'a [&'a [u8]],
     count: u64,
     fault: Option<SourceFault>,
+    gate: &'a Witness,
     taken: AtomicU64,
+    /// How many connections were closed, and how many sessions were settled by then.
+    closed: AtomicU64,
+    settled: AtomicU64,
     /// What was written to the first connection, and to the second.
     first: Mutex<Vec<u8>>,
     second: Mutex<Vec<u8>>,
@@ -38,6 +48,7 @@ struct Peers<'a> {
 impl<'a> Peers<'a> {
     fn new(
         alloc: Global,
+        gate: &'a Witness,
         input: &'a [&'a [u8]],
         count: u64,
         fault: Option<SourceFault>,
@@ -47,7 +58,10 @@ impl<'a> Peers<'a> {
             input,
             count,
             fault,
+            gate,
             taken: AtomicU64::new(0),
+            closed: AtomicU64::new(0),
+            settled: AtomicU64::new(0),
             first: Mutex::new(Vec::new(alloc)),
             second: Mutex::new(Vec::new(alloc)),
         }
@@ -82,6 +96,12 @@ impl<'a> Source for &'a Peers<'a> {
         };
         Ok(Some((input, PieceWriter { held, piece: 7 })))
     }
+
+    fn close(&self, _reader: PieceReader, _writer: PieceWriter<'a>) {
+        self.closed.fetch_add(1, Ordering::SeqCst);
+        let settled = self.gate.settled.load(Ordering::SeqCst);
+        self.settled.fetch_max(settled, Ordering::SeqCst);
+    }
 }
 
 /// What came of workers over a log of these items: their report, and the log.
@@ -91,7 +111,6 @@ fn worked<T: Threads + Wait + Abort + Sync>(
     items: &[Item],
     next_writer: u64,
     peers: &Peers<'_>,
-    gate: &Witness,
     workers: u8,
 ) -> Result<(Report, Log<Tree>), Fail> {
     assert!(rt; 1 <= workers && workers <= 16);
@@ -102,7 +121,7 @@ fn worked<T: Threads + Wait + Abort + Sync>(
         lock: &lock,
         accepted: &accepted,
         sessions: &sessions,
-        gate,
+        gate: peers.gate,
     };
     let report = run_workers(rt, alloc, &shared, &mut seat, &peers, workers);
     Ok((report, lock.close_with(rt, seat)))
@@ -114,14 +133,42 @@ fn told(rt: &impl Abort, end: &OnceLock<String>, wanted: &str) {
     assert_eq!(rt; text.as_str(), wanted);
 }
 
-/// Compares how many items the log took, and how many were dropped.
-fn kept(rt: &impl Abort, gate: &Witness, taken: u64, lost: u64) {
-    let told = (
-        gate.taken.load(Ordering::SeqCst),
-        gate.lost.load(Ordering::SeqCst),
-    );
-    assert_eq!(rt; told, (taken, lost));
+/// What became of the items that the sessions of these peers taught.
+#[derive(Clone, Copy, Debug, PartialEq, Eq)]
+struct Kept {
+    /// How many the log took, and how many found no room or no memory.
+    taken: u64,
+    full: u64,
+    no_memory: u64,
+    /// How many sessions were settled, and how many of their items were left out.
+    settled: u64,
+    left_out: u64,
 }
+
+/// Compares what became of learned items. As many connections are to be closed as there were, and none before its session
+/// was settled.
+fn keeps(rt: &impl Abort, peers: &Peers<'_>, wanted: Kept) {
+    let gate = peers.gate;
+    let told = Kept {
+        taken: gate.taken.load(Ordering::SeqCst),
+        full: gate.full.load(Ordering::SeqCst),
+        no_memory: gate.no_memory.load(Ordering::SeqCst),
+        settled: gate.settled.load(Ordering::SeqCst),
+        left_out: gate.left_out.load(Ordering::SeqCst),
+    };
+    assert_eq!(rt; told, wanted);
+    assert_eq!(rt; peers.closed.load(Ordering::SeqCst), peers.count);
+    assert_eq!(rt; peers.settled.load(Ordering::SeqCst), wanted.settled);
+}
+
+/// Nothing was learned.
+const NOTHING: Kept = Kept {
+    taken: 0,
+    full: 0,
+    no_memory: 0,
+    settled: 0,
+    left_out: 0,
+};
 
 /// Compares a report.
 fn reports(rt: &impl Abort, report: Report, started: u8, fault: Option<SourceFault>) {
@@ -139,13 +186,17 @@ fn ends_with(rt: &impl Abort, log: &Log<Tree>, count: usize, writer: u32, bytes:
 #[test]
 fn one_writer_number_is_left(rt: HostRuntime) -> Result<(), Fail> {
     let alloc = rt.alloc();
-    let input: &[&[u8]] = &[HELLO, SUM_OF_ABC, END, ABC_IS_NEW, END];
-    let peers = Peers::new(alloc, input, 1, None);
     let gate = Witness::new(alloc, Rule::Always);
-    let (report, log) = worked(&rt, alloc, &[], 4_294_967_295, &peers, &gate, 3)?;
+    let peers = Peers::new(alloc, &gate, TEACHES_ABC, 1, None);
+    let (report, log) = worked(&rt, alloc, &[], 4_294_967_295, &peers, 3)?;
     reports(&rt, report, 1, None);
     told(&rt, &gate.first, "Ended ours - theirs abc version 0 sent 1");
-    kept(&rt, &gate, 1, 0);
+    let wanted = Kept {
+        taken: 1,
+        settled: 1,
+        ..NOTHING
+    };
+    keeps(&rt, &peers, wanted);
     ends_with(&rt, &log, 1, 4_294_967_295, b"abc");
     let written = joined(alloc, &[HELLO, LIST_OF_NOTHING, END])?;
     assert_eq!(rt; *peers.first.lock(&rt), written);
@@ -155,28 +206,76 @@ fn one_writer_number_is_left(rt: HostRuntime) -> Result<(), Fail> {
 #[test]
 fn source_that_fails_at_once(rt: HostRuntime) -> Result<(), Fail> {
     let alloc = rt.alloc();
-    let peers = Peers::new(alloc, &[], 0, Some(SourceFault::Accept));
     let gate = Witness::new(alloc, Rule::Always);
-    let (report, log) = worked(&rt, alloc, &[], 1, &peers, &gate, 3)?;
+    let peers = Peers::new(alloc, &gate, &[], 0, Some(SourceFault::Accept));
+    let (report, log) = worked(&rt, alloc, &[], 1, &peers, 3)?;
     reports(&rt, report, 3, Some(SourceFault::Accept));
     assert_eq!(rt; SourceFault::Accept.number(), 62);
     assert!(rt; log.version() == 0 && gate.told.load(Ordering::SeqCst) == 0);
     Ok(())
 }
 
-// Of aa, x and y, in the order learned, the log has room for one. Workers that add them in another order fail in this
-// test.
+/// Serves a peer that teaches aa, x and y over a log of seven items, which has room for one more: it is to take aa.
+fn takes_one_of_three<T: Threads + Wait + Abort + Sync>(
+    rt: &T,
+    alloc: Global,
+    gate: &Witness,
+    wanted: Kept,
+) -> Result<(), Fail> {
+    let peers = Peers::new(alloc, gate, TEACHES_THREE, 1, None);
+    let seven = items(rt, alloc, b"abcdefg")?;
+    let (report, log) = worked(rt, alloc, &seven, 1, &peers, 1)?;
+    reports(rt, report, 1, None);
+    keeps(rt, &peers, wanted);
+    ends_with(rt, &log, 8, 1, b"aa");
+    Ok(())
+}
+
+// Workers that add in another order than learned, or do not tell that the log was full, fail in this test.
 #[test]
 fn room_for_one_of_three(rt: HostRuntime) -> Result<(), Fail> {
     let alloc = rt.alloc();
-    let input: &[&[u8]] = &[HELLO, SUM_OF_ONES, END, AA_BEFORE_D, X_AND_Y_FROM_D, END];
-    let peers = Peers::new(alloc, input, 1, None);
     let gate = Witness::new(alloc, Rule::Always);
-    let seven = items(&rt, alloc, b"abcdefg")?;
-    let (report, log) = worked(&rt, alloc, &seven, 1, &peers, &gate, 1)?;
-    reports(&rt, report, 1, None);
-    kept(&rt, &gate, 1, 2);
-    ends_with(&rt, &log, 8, 1, b"aa");
+    let wanted = Kept {
+        taken: 1,
+        full: 2,
+        settled: 1,
+        left_out: 2,
+        ..NOTHING
+    };
+    takes_one_of_three(&rt, alloc, &gate, wanted)
+}
+
+// Workers that try to put in more than is admitted, or count only what found no room, fail in this test.
+#[test]
+fn one_of_three_is_admitted(rt: HostRuntime) -> Result<(), Fail> {
+    let alloc = rt.alloc();
+    let gate = Witness::admitting(alloc, 1);
+    let wanted = Kept {
+        taken: 1,
+        settled: 1,
+        left_out: 2,
+        ..NOTHING
+    };
+    takes_one_of_three(&rt, alloc, &gate, wanted)
+}
+
+// The gate holds the first session until the second has ended, so both learn abc, which the log lacks. Workers that
+// leave out what is there already fail in this test.
+#[test]
+fn two_learn_the_same(rt: HostRuntime) -> Result<(), Fail> {
+    let alloc = rt.alloc();
+    let gate = Witness::new(alloc, Rule::SecondFirst);
+    let peers = Peers::new(alloc, &gate, TEACHES_ABC, 2, None);
+    let (report, log) = worked(&rt, alloc, &[], 1, &peers, 2)?;
+    reports(&rt, report, 2, None);
+    let wanted = Kept {
+        taken: 1,
+        settled: 2,
+        ..NOTHING
+    };
+    keeps(&rt, &peers, wanted);
+    assert!(rt; log.version() == 1 && *log.entry(0).item() == item(&rt, b"abc"));
     Ok(())
 }
 
@@ -185,10 +284,10 @@ fn room_for_one_of_three(rt: HostRuntime) -> Result<(), Fail> {
 #[test]
 fn two_sessions_at_a_time(rt: HostRuntime) -> Result<(), Fail> {
     let alloc = rt.alloc();
-    let peers = Peers::new(alloc, EMPTY_TO_ABC, 2, None);
     let gate = Witness::new(alloc, Rule::SecondFirst);
+    let peers = Peers::new(alloc, &gate, EMPTY_TO_ABC, 2, None);
     let abc = [item(&rt, b"abc")];
-    let (report, log) = worked(&rt, alloc, &abc, 1, &peers, &gate, 2)?;
+    let (report, log) = worked(&rt, alloc, &abc, 1, &peers, 2)?;
     reports(&rt, report, 2, None);
     told(&rt, &gate.first, "Ended ours abc theirs - version 1 sent 1");
     told(

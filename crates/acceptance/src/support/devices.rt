@@ -9,6 +9,7 @@ use std::io::{ErrorKind, Read, Write};
 use std::sync::atomic::{AtomicU64, Ordering};
 use std::sync::{Mutex, OnceLock};
 use std::thread::yield_now;
+use version_log::LogFault;
 
 /// A reader that gives at most so many bytes a call.
 #[derive(Drop)]
@@ -97,30 +98,47 @@ pub(crate) enum Rule {
     SecondFirst,
 }
 
-/// A gate that keeps how each session ended, as text, how often it was told of an end, and how many items the log took
-/// and were dropped.
+/// A gate that keeps how each session ended, as text, how often it was told of an end, how many items the log took, how
+/// many found no room or no memory, how many sessions were settled, and how many of their items were left out.
 #[derive(Drop)]
 pub(crate) struct Witness {
     pub(crate) alloc: Global,
     pub(crate) rule: Rule,
+    /// How many items of a session are admitted.
+    pub(crate) most: usize,
     pub(crate) first: OnceLock<String>,
     pub(crate) second: OnceLock<String>,
     pub(crate) told: AtomicU64,
     pub(crate) taken: AtomicU64,
-    pub(crate) lost: AtomicU64,
+    pub(crate) full: AtomicU64,
+    pub(crate) no_memory: AtomicU64,
+    pub(crate) settled: AtomicU64,
+    pub(crate) left_out: AtomicU64,
 }
 
 impl Witness {
+    /// A gate that admits all items.
     pub(crate) fn new(alloc: Global, rule: Rule) -> Witness {
         Witness {
             alloc,
             rule,
+            most: usize::MAX,
             first: OnceLock::new(),
             second: OnceLock::new(),
             told: AtomicU64::new(0),
             taken: AtomicU64::new(0),
-            lost: AtomicU64::new(0),
+            full: AtomicU64::new(0),
+            no_memory: AtomicU64::new(0),
+            settled: AtomicU64::new(0),
+            left_out: AtomicU64::new(0),
         }
+    }
+
+    /// A gate that admits at most so many items of a session.
+    pub(crate) fn admitting(alloc: Global, most: usize) -> Witness {
+        let mut gate = Witness::new(alloc, Rule::Always);
+        gate.most = most;
+        gate
     }
 
     // Looks 100,000,000 times whether the second session has ended.
@@ -159,12 +177,32 @@ impl Gate for Witness {
         let _there = place.try_set(text);
     }
 
+    fn admits(&self, _serial: u64, _count: usize) -> usize {
+        self.most
+    }
+
     fn took(&self, _item: &Item) {
         self.taken.fetch_add(1, Ordering::SeqCst);
     }
 
-    fn dropped(&self, count: usize) {
-        self.lost.fetch_add(count as u64, Ordering::SeqCst);
+    fn dropped(&self, fault: LogFault, count: usize) {
+        let told = match fault {
+            LogFault::Full => &self.full,
+            LogFault::Memory => &self.no_memory,
+        };
+        told.fetch_add(count as u64, Ordering::SeqCst);
+    }
+
+    fn settled(&self, serial: u64, left_out: usize) {
+        // only a session that it was told of
+        let place = if serial == 1 {
+            &self.first
+        } else {
+            &self.second
+        };
+        self.settled
+            .fetch_add(u64::from(place.get().is_some()), Ordering::SeqCst);
+        self.left_out.fetch_add(left_out as u64, Ordering::SeqCst);
     }
 }
 
