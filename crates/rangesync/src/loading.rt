@@ -2,13 +2,15 @@
 
 ghost use Rattle.std.specs.Prelude.{◌≡◌, ◌≤◌, length, IfOk};
 ghost use Rattle.definitions.specs.Sets.{IsSet};
+ghost use Rattle.settings_core.specs.Faults.{IsSetOf};
+ghost use Rattle.settings_core.specs.Files.{IsFromFile};
 
 use crate::disk::{Opened, item_file, open_lines};
 use crate::reporting::Kept;
 use item_core::Item;
 use printing_core::Fault;
 use range_tree::Tree;
-use settings_core::{ItemForm, read_input_items, read_items, read_strategy};
+use settings_core::{ItemForm, SettingsFault, read_input_items, read_items, read_strategy};
 use std::alloc::Global;
 use std::fs::File;
 use std::io::{Read, Write};
@@ -58,17 +60,22 @@ impl Sources<'_> {
     }
 }
 
-/// The set of the items of the file, or of the input; none if there is neither.
+/// The set of the items of the file, or of the input.
 fn item_set<R: Files + AllocGlobal, I: Read + Drop>(
     rt: &R,
-    sources: Sources<'_>,
+    form: ItemForm,
+    items: &str,
     reader: I,
     cap: usize,
-) -> Result<Vec<Item>, Fault> {
-    match sources.items {
-        None => Ok(Vec::new(rt.alloc())),
-        Some("-") => Ok(read_input_items(rt.alloc(), sources.form, reader, cap)?),
-        Some(path) => Ok(read_items(rt, sources.form, path, cap)?),
+) -> Result<Vec<Item>, SettingsFault>
+    ensures set { IsFromFile (λ text. IsSetOf (λ v. v.items) form text cap) result }
+    ensures rises { IfOk result (λ v. IsSet v.items) }
+    ensures few { IfOk result (λ v. length v.items ≤ cap) }
+{
+    if items == "-" {
+        read_input_items(rt.alloc(), form, reader, cap)
+    } else {
+        read_items(rt, form, items, cap)
     }
 }
 
@@ -129,7 +136,10 @@ pub fn load<R: Files<File = File> + AllocGlobal + Threads + Sync, I: Read + Drop
     let alloc = rt.alloc();
     let accepted = accepted(alloc, read_strategy(rt, sources.table)?)?;
     let cap = accepted.cap() as usize;
-    let items = item_set(rt, sources, reader, cap)?;
+    let items = match sources.items {
+        Some(items) => item_set(rt, sources.form, items, reader, cap)?,
+        None => Vec::new(alloc),
+    };
     let mut kept = open_kept(rt, sources, err)?;
     let more = kept_set(alloc, &mut kept.opened, sources.form, cap)?;
     let items = joined(items, &more, cap)?;
