@@ -3,66 +3,16 @@
 ghost use Rattle.std.specs.Prelude.{◌≤◌, length};
 ghost use Rattle.store_core.specs.Flat.{flat_items};
 
+use crate::support::devices::{Failing, PieceReader, PieceWriter};
+use crate::support::frames::joined;
 use answer_core::{AnswerFault, answer};
 use io_core::Watched;
 use item_core::Item;
 use std::alloc::Global;
-use std::io;
-use std::io::{ErrorKind, Read, Write};
 use std::process::Abort;
+use std::sync::Mutex;
 use std::test::Fail;
 use store_core::{FlatStore, RangeStore};
-
-/// A reader that gives one byte a call, and fails at call number `fail_at`, from 0.
-#[derive(Drop)]
-struct Drip {
-    bytes: &'static [u8],
-    calls: usize,
-    fail_at: usize,
-}
-
-impl Read for Drip {
-    fn read(&mut self, buf: &mut [u8]) -> io::Result<usize> {
-        let call = self.calls;
-        self.calls = call.saturating_add(1);
-        if call == self.fail_at {
-            return Err(io::Error::from(ErrorKind::ConnectionReset));
-        }
-        match (self.bytes.split_first(), buf.first_mut()) {
-            (Some((byte, rest)), Some(place)) => {
-                *place = *byte;
-                self.bytes = rest;
-                Ok(1)
-            }
-            _ => Ok(0),
-        }
-    }
-}
-
-/// A writer that takes at most 7 bytes a call, and fails at call number `fail_at`, from 0.
-#[derive(Drop)]
-struct Narrow {
-    held: Vec<u8>,
-    calls: usize,
-    fail_at: usize,
-}
-
-impl Write for Narrow {
-    fn write(&mut self, buf: &[u8]) -> io::Result<usize> {
-        let call = self.calls;
-        self.calls = call.saturating_add(1);
-        if call == self.fail_at {
-            return Err(io::Error::from(ErrorKind::ConnectionReset));
-        }
-        let count = buf.len().min(7);
-        self.held.extend_from_slice(&buf[..count])?;
-        Ok(count)
-    }
-
-    fn flush(&mut self) -> io::Result<()> {
-        Ok(())
-    }
-}
 
 /// Sums of no items over `[S, b)` and `[b, E)`.
 const MESSAGE: [u8; 85] = [
@@ -84,39 +34,51 @@ fn letters(rt: &impl Abort, alloc: Global) -> Result<FlatStore, Fail> {
     Ok(FlatStore::from_items(alloc, vec![in alloc; b, a]?)?)
 }
 
-/// The answer to the message by these items, and what was written.
+/// The answer to the message by these items.
 fn answered_by(
     alloc: Global,
     store: &FlatStore,
-    read_fails_at: usize,
-    write_fails_at: usize,
-) -> (Result<(), AnswerFault>, Vec<u8>)
+    reader: Failing<PieceReader>,
+    writer: Failing<PieceWriter<'_>>,
+) -> Result<(), AnswerFault>
     requires { length (flat_items store.now) ≤ 65536 }
 {
-    let mut reader = Watched::new(Drip {
-        bytes: &MESSAGE,
-        calls: 0,
-        fail_at: read_fails_at,
-    });
-    let mut writer = Watched::new(Narrow {
-        held: Vec::new(alloc),
-        calls: 0,
-        fail_at: write_fails_at,
-    });
-    let result = answer(alloc, store, &mut reader, &mut writer);
-    (result, writer.into_inner().held)
+    answer(
+        alloc,
+        store,
+        &mut Watched::new(reader),
+        &mut Watched::new(writer),
+    )
 }
 
-/// The answer to the message by the items a and b, and what was written.
+/// The answer to the message by the items a and b, a byte a read and 7 bytes a write, and what was written. The read
+/// and the write that come after so many fail.
 fn answered(
     rt: &impl Abort,
     alloc: Global,
-    read_fails_at: usize,
-    write_fails_at: usize,
+    reads: u64,
+    writes: u64,
 ) -> Result<(Result<(), AnswerFault>, Vec<u8>), Fail> {
     let store = letters(rt, alloc)?;
     assert!(rt; store.len() <= 65_536);
-    Ok(answered_by(alloc, &store, read_fails_at, write_fails_at))
+    let held = Mutex::new(Vec::new(alloc));
+    let reader = Failing {
+        inner: PieceReader {
+            bytes: joined(alloc, &[&MESSAGE])?,
+            taken: 0,
+            piece: 1,
+        },
+        calls_left: reads,
+    };
+    let writer = Failing {
+        inner: PieceWriter {
+            held: &held,
+            piece: 7,
+        },
+        calls_left: writes,
+    };
+    let result = answered_by(alloc, &store, reader, writer);
+    Ok((result, held.into_inner()))
 }
 
 #[test]
@@ -129,7 +91,7 @@ fn two_items_listed_apart(rt: HostRuntime) -> Result<(), Fail> {
 
 #[test]
 fn each_read_fails_in_turn(rt: HostRuntime) -> Result<(), Fail> {
-    for fail_at in 0..86 {
+    for fail_at in 0..86u64 {
         let (result, written) = answered(&rt, rt.alloc(), fail_at, 1_000)?;
         assert_eq!(rt; result, Err(AnswerFault::CannotRead), "at {fail_at}");
         assert!(rt; written.is_empty(), "at {fail_at}");
@@ -139,8 +101,8 @@ fn each_read_fails_in_turn(rt: HostRuntime) -> Result<(), Fail> {
 
 #[test]
 fn each_write_fails_in_turn(rt: HostRuntime) -> Result<(), Fail> {
-    for fail_at in 0..5 {
-        let (result, written) = answered(&rt, rt.alloc(), 1_000, fail_at)?;
+    for fail_at in 0..5usize {
+        let (result, written) = answered(&rt, rt.alloc(), 1_000, fail_at as u64)?;
         assert_eq!(rt; result, Err(AnswerFault::Io), "at {fail_at}");
         assert_eq!(rt; written.as_slice(), &REPLY[..fail_at * 7], "at {fail_at}");
     }

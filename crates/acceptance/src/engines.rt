@@ -9,7 +9,7 @@ use crate::support::frames::{
 };
 use crate::support::letters::item;
 use crate::support::tables::{BINARY_EIGHT, accepted};
-use digest_core::{Counted, Fingerprint};
+use digest_core::Fingerprint;
 use item_core::Item;
 use peer_threads::{Connection, Outcome, Shared, dial_one, serve_one};
 use range_tree::Tree;
@@ -49,9 +49,6 @@ pub(crate) fn opened(
 #[derive(Clone, Copy, Debug, PartialEq, Eq)]
 pub(crate) enum Engine {
     Dial,
-    /// As `Dial`, in profile 2.
-    DialCounted,
-    /// In the profile of the peer's hello.
     Serve,
 }
 
@@ -94,9 +91,6 @@ fn called<T: Wait, R: Read + Drop, W: Write + Drop>(
     match engine {
         Engine::Dial => {
             dial_one::<_, _, _, _, _, Fingerprint>(rt, alloc, shared, seat, &mut connection)
-        }
-        Engine::DialCounted => {
-            dial_one::<_, _, _, _, _, Counted>(rt, alloc, shared, seat, &mut connection)
         }
         Engine::Serve => serve_one(rt, alloc, shared, seat, &mut connection),
     }
@@ -213,7 +207,7 @@ fn counts(rt: &impl Abort, told: &Told, opened: u64, ended: u64, refused: u64) {
 }
 
 /// A case of a side with no items, which reads and writes 7 bytes a call at most.
-pub(crate) fn empty<'a>(engine: Engine, input: &'a [&'a [u8]]) -> Case<'a> {
+fn empty<'a>(engine: Engine, input: &'a [&'a [u8]]) -> Case<'a> {
     Case {
         engine,
         items: &[],

@@ -1,8 +1,8 @@
-//! Peers that are not honest: messages that are not placed, and one to which the reply would be too long.
+//! Ends that are spent: by a Sum that stalls, and by a message to which the reply would be too long.
 
-use crate::support::letters::{answer, item, items, list, message, range};
+use crate::support::letters::{item, items, message, range};
 use crate::support::shown::{shown, shown_learned};
-use crate::support::tables::{BINARY_EIGHT, BINARY_TWO, LISTS_TWO, accepted, initiator, responder};
+use crate::support::tables::{BINARY_EIGHT, accepted, initiator, responder};
 use digest_core::Fingerprint;
 use ends_core::{EndFault, Initiator, Responder, Turn};
 use item_core::{Item, Range};
@@ -10,7 +10,7 @@ use range_tree::Tree;
 use std::alloc::Global;
 use std::process::Abort;
 use std::test::Fail;
-use wire_core::{Marks, Message, Part};
+use wire_core::{Message, Part};
 
 /// A Sum of 0 in lane 0 and 1 in lane 1, which is the fingerprint of none of these sets.
 pub(crate) fn sum(range: Range) -> Part {
@@ -21,10 +21,6 @@ pub(crate) fn sum(range: Range) -> Part {
 
 fn alone(rt: &impl Abort, alloc: Global, part: Part) -> Result<Message, Fail> {
     Ok(message(rt, vec![in alloc; part]?))
-}
-
-fn both(rt: &impl Abort, alloc: Global, first: Part, second: Part) -> Result<Message, Fail> {
-    Ok(message(rt, vec![in alloc; first, second]?))
 }
 
 /// The reply of a responder to a Sum over everything.
@@ -39,134 +35,6 @@ fn first_reply(rt: &impl Abort, alloc: Global, end: &mut Responder<Tree>) -> Res
 /// The number by which a message is refused; none where it is taken.
 fn number(taken: Result<Turn, EndFault>) -> Option<u8> {
     taken.err().map(EndFault::number)
-}
-
-/// The number by which an initiator without items refuses the message behind its first one.
-fn refusal_at_start(rt: &impl Abort, alloc: Global, message: &Message) -> Result<Option<u8>, Fail> {
-    let accepted = accepted(rt, alloc, BINARY_EIGHT);
-    let (mut end, _first) = initiator(rt, alloc, &accepted, Vec::new(alloc))?;
-    Ok(number(end.receive(alloc, message)))
-}
-
-/// The number by which a responder refuses the message behind this reply to a Sum over everything.
-fn refusal_behind(
-    rt: &impl Abort,
-    alloc: Global,
-    end: &mut Responder<Tree>,
-    reply: &str,
-    message: &Message,
-) -> Result<Option<u8>, Fail> {
-    assert_eq!(rt; first_reply(rt, alloc, end)?.as_str(), reply);
-    Ok(number(end.receive(alloc, message)))
-}
-
-/// The number by which a responder that has sent a List of a and b refuses the message.
-fn refusal_after_list(
-    rt: &impl Abort,
-    alloc: Global,
-    message: &Message,
-) -> Result<Option<u8>, Fail> {
-    let accepted = accepted(rt, alloc, LISTS_TWO);
-    let mut end = responder(rt, alloc, &accepted, items(rt, alloc, b"ab")?)?;
-    refusal_behind(rt, alloc, &mut end, "1 List S..E ab\n", message)
-}
-
-/// The number by which a responder that has sent Sums before b and from b on refuses the message.
-fn refusal_after_sums(
-    rt: &impl Abort,
-    alloc: Global,
-    message: &Message,
-) -> Result<Option<u8>, Fail> {
-    let accepted = accepted(rt, alloc, BINARY_TWO);
-    let mut end = responder(rt, alloc, &accepted, items(rt, alloc, b"ab")?)?;
-    refusal_behind(rt, alloc, &mut end, "1 Sum S..b Sum b..E\n", message)
-}
-
-#[test]
-fn gaps_in_placing(rt: HostRuntime) -> Result<(), Fail> {
-    let alloc = rt.alloc();
-    let before_b = alone(&rt, alloc, sum(range(&rt, b"", b"b")))?;
-    let apart = both(
-        &rt,
-        alloc,
-        sum(range(&rt, b"", b"b")),
-        sum(range(&rt, b"c", b"")),
-    )?;
-    assert_eq!(rt; refusal_at_start(&rt, alloc, &apart)?, Some(22));
-    assert_eq!(rt; refusal_at_start(&rt, alloc, &before_b)?, Some(22));
-    Ok(())
-}
-
-/// The number by which a responder refuses the message as the first of all.
-fn refusal_as_first(rt: &impl Abort, alloc: Global, message: &Message) -> Result<Option<u8>, Fail> {
-    let accepted = accepted(rt, alloc, BINARY_EIGHT);
-    let mut fresh = responder(rt, alloc, &accepted, Vec::new(alloc))?;
-    Ok(number(fresh.receive(alloc, message)))
-}
-
-#[test]
-fn no_parts_where_some_are_due(rt: HostRuntime) -> Result<(), Fail> {
-    let alloc = rt.alloc();
-    let no_parts = message(&rt, Vec::new(alloc));
-    assert_eq!(rt; refusal_after_list(&rt, alloc, &no_parts)?, Some(23));
-    assert_eq!(rt; refusal_as_first(&rt, alloc, &no_parts)?, Some(20));
-    Ok(())
-}
-
-/// The number by which an Answer of these marks and items behind a List of a and b is refused.
-fn refusal_of_answer(
-    rt: &impl Abort,
-    alloc: Global,
-    range: Range,
-    marks: Marks,
-    letters: &[u8],
-) -> Result<Option<u8>, Fail> {
-    let part = answer(rt, alloc, range, marks, letters)?;
-    refusal_after_list(rt, alloc, &alone(rt, alloc, part)?)
-}
-
-#[test]
-fn answers_to_a_list(rt: HostRuntime) -> Result<(), Fail> {
-    let alloc = rt.alloc();
-    let whole = Range::whole();
-    let one = Marks::new(alloc, &[true])?;
-    assert_eq!(rt; refusal_of_answer(&rt, alloc, whole, one, b"")?, Some(24));
-    let two = Marks::new(alloc, &[true, true])?;
-    assert_eq!(rt; refusal_of_answer(&rt, alloc, whole, two, b"b")?, Some(25));
-    let two = Marks::new(alloc, &[true, true])?;
-    assert_eq!(rt; refusal_of_answer(&rt, alloc, whole, two, b"c")?, None);
-    let two = Marks::new(alloc, &[true, true])?;
-    let before_c = range(&rt, b"", b"c");
-    assert_eq!(rt;
-        refusal_of_answer(&rt, alloc, before_c, two, b"")?,
-        Some(20)
-    );
-    Ok(())
-}
-
-#[test]
-fn parts_out_of_order(rt: HostRuntime) -> Result<(), Fail> {
-    let alloc = rt.alloc();
-    let last = list(&rt, alloc, range(&rt, b"b", b""), b"")?;
-    assert_eq!(rt;
-        refusal_after_sums(&rt, alloc, &alone(&rt, alloc, last)?)?,
-        None
-    );
-    let last = list(&rt, alloc, range(&rt, b"b", b""), b"")?;
-    let front = list(&rt, alloc, range(&rt, b"", b"b"), b"")?;
-    let turned = both(&rt, alloc, last, front)?;
-    assert_eq!(rt; refusal_after_sums(&rt, alloc, &turned)?, Some(20));
-    Ok(())
-}
-
-#[test]
-fn a_sum_over_an_open_range_or_past_it(rt: HostRuntime) -> Result<(), Fail> {
-    let alloc = rt.alloc();
-    let stalls = alone(&rt, alloc, sum(range(&rt, b"", b"b")))?;
-    assert_eq!(rt; refusal_after_sums(&rt, alloc, &stalls)?, Some(21));
-    let past = alone(&rt, alloc, sum(range(&rt, b"", b"c")))?;
-    assert_eq!(rt; refusal_after_sums(&rt, alloc, &past)?, Some(20));
-    Ok(())
 }
 
 /// Asserts that an initiator refuses a Sum over everything, and then the same again, and that it has learned nothing.

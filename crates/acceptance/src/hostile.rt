@@ -1,9 +1,9 @@
-//! Peers that cut, misplace, stall and flood, at an engine.
+//! Peers that cut, refuse and flood, at an engine.
 
 use crate::engines::{Case, Engine, Ground, comes_to, outcome_of, shown_call};
 use crate::support::devices::{Rule, Witness};
 use crate::support::frames::{
-    ABC_TO_EMPTY, EMPTY_TO_ABC, END, HELLO, LIST_OF_ABC, SUM_OF_NOTHING, fault, joined,
+    ABC_TO_EMPTY, EMPTY_TO_ABC, END, HELLO, SUM_OF_NOTHING, fault, joined,
 };
 use crate::support::letters::{item, range};
 use crate::support::tables::{BINARY_EIGHT, accepted};
@@ -15,17 +15,6 @@ use std::sync::{Arc, Mutex, Wait};
 use std::test::Fail;
 use strategy_check::Accepted;
 use wire_core::{Part, encode_part};
-
-/// An Answer over everything without marks and items.
-const ANSWER_OF_NOTHING: &[u8] = &[0, 0, 0, 0x0B, 3, 0, 0xFF, 0, 0, 0, 0, 0, 0, 0, 0];
-
-/// A List over everything that says it has 4,294,967,295 items, and has two.
-const LIST_OF_TOO_MANY: &[u8] = &[
-    0, 0, 0, 0x0B, 2, 0, 0xFF, 0xFF, 0xFF, 0xFF, 0xFF, 1, 0x61, 1, 0x62,
-];
-
-/// A frame of a kind that there is not.
-const NO_KIND: &[u8] = &[0, 0, 0, 1, 6];
 
 /// The message that a side without items writes first, behind its hello.
 const FIRST_OF_EMPTY: &[&[u8]] = &[HELLO, SUM_OF_NOTHING, END];
@@ -41,15 +30,6 @@ fn push_sum(
 ) -> Result<(), AllocError> {
     let sum = Part::sum(range(rt, lower, upper), Fingerprint::from_bytes([0u8; 32]));
     bytes.extend_from_slice(&encode_part(alloc, &sum)?)
-}
-
-/// A Sum before b, and one from c on.
-fn apart(rt: &impl Abort, alloc: Global) -> Result<(Vec<u8>, Vec<u8>), AllocError> {
-    let mut before_b = Vec::new(alloc);
-    push_sum(rt, alloc, &mut before_b, b"", b"b")?;
-    let mut from_c = Vec::new(alloc);
-    push_sum(rt, alloc, &mut from_c, b"c", b"")?;
-    Ok((before_b, from_c))
 }
 
 /// Compares what a side without items that speaks first comes to, which reads and writes so many bytes a call, and all
@@ -73,53 +53,6 @@ fn dials<T: Wait + Abort>(
     comes_to(rt, alloc, &told, outcome, &[&first, last])?;
     assert_eq!(rt; (told.totals.opened, told.live), (1, 0));
     Ok(())
-}
-
-/// Compares that it refuses with this number, whether one byte, seven or all are read and written a call.
-fn refuses<T: Wait + Abort>(rt: &T, alloc: Global, input: &[&[u8]], code: u8) -> Result<(), Fail> {
-    let outcome = format!(in alloc; "Refused {code} sent 1")?;
-    for piece in [1, 7, 1_000] {
-        dials(rt, alloc, input, piece, &outcome, &fault(code))?;
-    }
-    Ok(())
-}
-
-#[test]
-fn no_input(rt: HostRuntime) -> Result<(), Fail> {
-    refuses(&rt, rt.alloc(), &[], 3)
-}
-
-#[test]
-fn frame_lengths_of_nothing_and_of_one_too_many(rt: HostRuntime) -> Result<(), Fail> {
-    let alloc = rt.alloc();
-    refuses(&rt, alloc, &[HELLO, &[0, 0, 0, 0]], 2)?;
-    refuses(&rt, alloc, &[HELLO, &[0, 0x80, 0, 1]], 2)
-}
-
-#[test]
-fn an_answer_first(rt: HostRuntime) -> Result<(), Fail> {
-    refuses(&rt, rt.alloc(), &[HELLO, ANSWER_OF_NOTHING], 20)
-}
-
-#[test]
-fn a_gap_at_the_end_of_the_message(rt: HostRuntime) -> Result<(), Fail> {
-    let alloc = rt.alloc();
-    let (before_b, _) = apart(&rt, alloc)?;
-    refuses(&rt, alloc, &[HELLO, &before_b, END], 22)
-}
-
-#[test]
-fn a_count_of_all_ones(rt: HostRuntime) -> Result<(), Fail> {
-    refuses(&rt, rt.alloc(), &[HELLO, LIST_OF_TOO_MANY], 2)
-}
-
-// The refusal is the one of the earliest frame: what stands behind it counts no more.
-#[test]
-fn a_gap_before_a_frame_of_no_kind(rt: HostRuntime) -> Result<(), Fail> {
-    let alloc = rt.alloc();
-    let (before_b, from_c) = apart(&rt, alloc)?;
-    refuses(&rt, alloc, &[HELLO, &before_b, &from_c, NO_KIND], 22)?;
-    refuses(&rt, alloc, &[HELLO, &before_b, NO_KIND], 4)
 }
 
 #[test]
@@ -180,19 +113,6 @@ fn served<T: Wait + Abort>(
     };
     let outcome = shown_call(rt, alloc, &case, &ground, &held)?;
     Ok((outcome, held.into_inner()))
-}
-
-#[test]
-fn a_list_as_first_message(rt: HostRuntime) -> Result<(), Fail> {
-    let alloc = rt.alloc();
-    let accepted = accepted(&rt, alloc, BINARY_EIGHT);
-    let sessions = Mutex::new(SessionTable::new(alloc, 1)?);
-    let input: &[&[u8]] = &[HELLO, LIST_OF_ABC, END];
-    let (outcome, written) = served(&rt, alloc, &accepted, &sessions, input)?;
-    assert_eq!(rt; outcome.as_str(), "Refused 20 sent 0");
-    assert_eq!(rt; written, joined(alloc, &[HELLO, &fault(20)])?);
-    assert_eq!(rt; sessions.into_inner().live(), 0);
-    Ok(())
 }
 
 /// Serves the first so many of the bytes that a side without items says, which are not all.

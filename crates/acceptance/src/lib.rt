@@ -3,14 +3,12 @@
 //! | File | Tests |
 //! |---|---|
 //! | `answers` | `answer` from bytes to bytes, by readers and writers that do little at a time and that fail |
-//! | `messages` | reading and writing messages and streams, at the edges of lengths, numbers and counts |
-//! | `profiles` | sessions of both wire profiles, and hellos that do not fit |
-//! | `placing` | gaps, Answers, a peer that stalls, a place that is rewound |
-//! | `sessions` | whole sessions between small sets, message by message |
+//! | `messages` | the longest of messages and parts, parts that are refused when they are made, copies, events |
+//! | `placing` | whole messages, a place that is rewound, a refusal that stays |
+//! | `bounds` | how many messages an end may send |
 //! | `parts` | messages that are taken part by part, and given up |
-//! | `splitting` | a peer that keeps a session going as long as it can |
-//! | `floods` | messages of very many parts, up to one to which the reply would be too long |
-//! | `hostile` | peers that are not honest, and each beginning of a session |
+//! | `floods` | ends that are spent: by a Sum that stalls, by a message to which the reply would be too long |
+//! | `hostile` | fault frames of any number, too many Sums, and each beginning of a session |
 //! | `engines` | `serve_one` and `dial_one` over memory: what was written, and the outcome |
 //! | `failing` | engines whose reads and writes fail, each in turn |
 //! | `workers` | `run_workers`: what is inserted, what is dropped, the source's fault, two sessions at a time |
@@ -21,6 +19,8 @@
 
 #[cfg(test)]
 mod answers;
+#[cfg(test)]
+mod bounds;
 #[cfg(test)]
 mod engines;
 #[cfg(test)]
@@ -37,12 +37,6 @@ mod messages;
 mod parts;
 #[cfg(test)]
 mod placing;
-#[cfg(test)]
-mod profiles;
-#[cfg(test)]
-mod sessions;
-#[cfg(test)]
-mod splitting;
 #[cfg(test)]
 mod support;
 #[cfg(test)]

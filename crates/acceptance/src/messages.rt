@@ -25,47 +25,22 @@ fn fault_in(alloc: Global, bytes: &[u8]) -> Option<u8> {
         .map(DecodeError::number)
 }
 
+// A body of as many bytes as one may have is read, in a message and in a stream, and its kind is none.
 #[test]
-fn edges_of_the_frame_length(rt: HostRuntime) -> Result<(), Fail> {
+fn longest_frame(rt: HostRuntime) -> Result<(), Fail> {
     let alloc = rt.alloc();
-    assert_eq!(rt; fault_in(alloc, &[0, 0, 0, 0]), Some(2));
-    assert_eq!(rt; fault_in(alloc, &[0, 0x80, 0, 1]), Some(2));
     let mut longest = vec![in alloc; 0u8; 4 + 8_388_608]?;
     longest[1] = 0x80;
     assert_eq!(rt; fault_in(alloc, &longest), Some(4));
+    let mut fed = Fed::new(alloc);
+    let _ = fed.refusal(alloc, b"RRS1");
+    assert_eq!(rt; fed.refusal(alloc, &longest), Some(4));
     Ok(())
-}
-
-#[test]
-fn hello_of_another_profile(rt: HostRuntime) {
-    // One message has no hello: the four bytes of one are a frame's length.
-    let bytes = [0x52, 0x52, 0x53, 0x31, 0, 0, 0, 1, 4];
-    assert_eq!(rt; fault_in(rt.alloc(), &bytes), Some(2));
-}
-
-#[test]
-fn counts_that_the_body_cannot_hold(rt: HostRuntime) {
-    let alloc = rt.alloc();
-    let items = [0, 0, 0, 7, 2, 0, 0xFF, 0xFF, 0xFF, 0xFF, 0xFF];
-    let two_of_one = [0, 0, 0, 9, 2, 0, 0xFF, 0, 0, 0, 2, 1, 0x61];
-    let marks = [0, 0, 0, 8, 3, 0, 0xFF, 0xFF, 0xFF, 0xFF, 0xFF, 0];
-    let items_answered = [0, 0, 0, 11, 3, 0, 0xFF, 0, 0, 0, 0, 0xFF, 0xFF, 0xFF, 0xFF];
-    assert_eq!(rt; fault_in(alloc, &items), Some(2));
-    assert_eq!(rt; fault_in(alloc, &two_of_one), Some(2));
-    assert_eq!(rt; fault_in(alloc, &marks), Some(2));
-    assert_eq!(rt; fault_in(alloc, &items_answered), Some(2));
 }
 
 #[test]
 fn faults_of_items(rt: HostRuntime) -> Result<(), Fail> {
     let alloc = rt.alloc();
-    let falling = [0, 0, 0, 0x0B, 2, 0, 0xFF, 0, 0, 0, 2, 1, 0x62, 1, 0x61];
-    let twice = [0, 0, 0, 0x0B, 2, 0, 0xFF, 0, 0, 0, 2, 1, 0x61, 1, 0x61];
-    let outside = [0, 0, 0, 0x0A, 2, 0, 1, 0x62, 0, 0, 0, 1, 1, 0x62];
-    assert_eq!(rt; fault_in(alloc, &falling), Some(8));
-    assert_eq!(rt; fault_in(alloc, &twice), Some(8));
-    assert_eq!(rt; fault_in(alloc, &outside), Some(9));
-
     let (a, b) = (item(&rt, b"a"), item(&rt, b"b"));
     let whole = Range::whole();
     let falling = Part::<Fingerprint>::list(whole, vec![in alloc; b, a]?);
@@ -74,80 +49,6 @@ fn faults_of_items(rt: HostRuntime) -> Result<(), Fail> {
     assert_eq!(rt; twice.err().map(PartFault::number), Some(8));
     let outside = Part::<Fingerprint>::list(range_before(&rt, b"b"), vec![in alloc; b]?);
     assert_eq!(rt; outside.err().map(PartFault::number), Some(9));
-    Ok(())
-}
-
-#[test]
-fn unused_mark_bit(rt: HostRuntime) {
-    let bytes = [0, 0, 0, 0x0C, 3, 0, 0xFF, 0, 0, 0, 1, 2, 0, 0, 0, 0];
-    assert_eq!(rt; fault_in(rt.alloc(), &bytes), Some(10));
-}
-
-#[test]
-fn both_empty(rt: HostRuntime) -> Result<(), Fail> {
-    let alloc = rt.alloc();
-    let part = Part::sum(Range::whole(), Fingerprint::zero());
-    let message = Message::new(vec![in alloc; part]?)
-        .ok()
-        .expect(&rt, "a message");
-    let mut bytes = [0u8; 44];
-    bytes[3] = 0x23;
-    bytes[4] = 1;
-    bytes[6] = 0xFF;
-    bytes[42] = 1;
-    bytes[43] = 4;
-    let mut text = encode_message(alloc, &message)?;
-    assert_eq!(rt; text.as_slice(), bytes.as_slice());
-    assert_eq!(rt; decode_message(alloc, &bytes), Ok(message));
-    text.push(0)?;
-    assert_eq!(rt; fault_in(alloc, &text), Some(11), "trailing byte");
-    Ok(())
-}
-
-#[test]
-fn lanes_that_begin_with_zeros(rt: HostRuntime) -> Result<(), Fail> {
-    let alloc = rt.alloc();
-    let mut lanes = [0u8; 32];
-    lanes[15] = 1;
-    lanes[30] = 2;
-    let part = Part::sum(Range::whole(), Fingerprint::from_bytes(lanes));
-    let mut bytes = [0u8; 39];
-    bytes[3] = 0x23;
-    bytes[4] = 1;
-    bytes[6] = 0xFF;
-    bytes[22] = 1;
-    bytes[37] = 2;
-    let mut text = encode_part(alloc, &part)?;
-    assert_eq!(rt; text.as_slice(), bytes.as_slice());
-    text.extend_from_slice(&[0, 0, 0, 1, 4])?;
-    let message = decode_message(alloc, &text).ok().expect(&rt, "a message");
-    assert_eq!(rt; message.parts(), [part].as_slice());
-    Ok(())
-}
-
-#[test]
-fn few_marks(rt: HostRuntime) -> Result<(), Fail> {
-    let alloc = rt.alloc();
-    // How many marks, all of them set, and the bytes that hold them.
-    let cases: [(usize, &[u8]); 5] = [
-        (0, &[]),
-        (1, &[1]),
-        (7, &[0x7F]),
-        (8, &[0xFF]),
-        (9, &[0xFF, 1]),
-    ];
-    for (count, held) in cases {
-        let marks = Marks::new(alloc, &[true; 9][..count])?;
-        assert_eq!(rt; marks.bytes(), held, "of {count}");
-        let part = Part::<Fingerprint>::answer(Range::whole(), marks, Vec::new(alloc))
-            .ok()
-            .expect(&rt, "a part");
-        let mut text = encode_part(alloc, &part)?;
-        assert_eq!(rt; text.len(), 15 + held.len(), "of {count}");
-        text.extend_from_slice(&[0, 0, 0, 1, 4])?;
-        let message = decode_message(alloc, &text).ok().expect(&rt, "a message");
-        assert_eq!(rt; message.parts(), [part].as_slice(), "of {count}");
-    }
     Ok(())
 }
 
@@ -206,24 +107,6 @@ fn most_parts(rt: HostRuntime) -> Result<(), Fail> {
     text.extend_from_slice(&first)?;
     text.rotate_right(39);
     assert_eq!(rt; fault_in(alloc, &text), Some(12));
-    Ok(())
-}
-
-#[test]
-fn nine_marks(rt: HostRuntime) -> Result<(), Fail> {
-    let alloc = rt.alloc();
-    let marks = [true, false, false, false, false, false, false, false, true];
-    let marks = Marks::new(alloc, &marks)?;
-    let part = Part::<Fingerprint>::answer(Range::whole(), marks, Vec::new(alloc))
-        .ok()
-        .expect(&rt, "a part");
-    let bytes = [
-        0, 0, 0, 0x0D, 3, 0, 0xFF, 0, 0, 0, 9, 1, 1, 0, 0, 0, 0, 0, 0, 0, 1, 4,
-    ];
-    let frame = encode_part(alloc, &part)?;
-    assert_eq!(rt; frame.as_slice(), &bytes[..17]);
-    let message = decode_message(alloc, &bytes).ok().expect(&rt, "a message");
-    assert_eq!(rt; message.parts(), [part].as_slice());
     Ok(())
 }
 
@@ -295,13 +178,6 @@ impl Fed {
     }
 }
 
-/// The number of the refusal that the bytes meet behind a hello.
-fn refusal_behind_hello(alloc: Global, bytes: &[u8]) -> Option<u8> {
-    let mut fed = Fed::new(alloc);
-    let _ = fed.refusal(alloc, b"RRS1");
-    fed.refusal(alloc, bytes)
-}
-
 #[test]
 fn stream_of_another_profile(rt: HostRuntime) {
     let alloc = rt.alloc();
@@ -310,27 +186,6 @@ fn stream_of_another_profile(rt: HostRuntime) {
     assert_eq!(rt; fed.refusal(alloc, &[0x30]), Some(1));
     assert_eq!(rt; fed.refusal(alloc, &[]), Some(1));
     assert_eq!(rt; fed.end(), Some(1));
-}
-
-#[test]
-fn stream_cut_inside_a_frame(rt: HostRuntime) {
-    let alloc = rt.alloc();
-    let mut fed = Fed::new(alloc);
-    let bytes = [0x52, 0x52, 0x53, 0x31, 0, 0, 0, 0x23, 1, 0];
-    assert_eq!(rt; fed.refusal(alloc, &bytes), None);
-    assert!(rt; fed.events.is_empty());
-    assert_eq!(rt; fed.end(), Some(3));
-}
-
-#[test]
-fn lengths_of_frames_in_a_stream(rt: HostRuntime) -> Result<(), Fail> {
-    let alloc = rt.alloc();
-    assert_eq!(rt; refusal_behind_hello(alloc, &[0, 0, 0, 0]), Some(2));
-    assert_eq!(rt; refusal_behind_hello(alloc, &[0, 0x80, 0, 1]), Some(2));
-    let mut longest = vec![in alloc; 0u8; 4 + 8_388_608]?;
-    longest[1] = 0x80;
-    assert_eq!(rt; refusal_behind_hello(alloc, &longest), Some(4));
-    Ok(())
 }
 
 #[test]
@@ -372,6 +227,7 @@ fn events_one_by_one(rt: HostRuntime) {
     let mut feed = Feed::<Fingerprint>::new(alloc);
     let front = next_event(&rt, alloc, &mut feed, &bytes[..20]);
     assert_eq!(rt; front, (20, None));
+    assert_eq!(rt; feed.finish().err().map(WireFault::number), Some(3));
     let part = next_event(&rt, alloc, &mut feed, &bytes[20..]);
     let sum = Event::Part(Part::sum(Range::whole(), Fingerprint::zero()));
     assert_eq!(rt; part, (23, Some(sum)));

@@ -5,8 +5,6 @@ mod counted;
 mod fingerprint;
 pub mod laws;
 mod summary;
-#[cfg(test)]
-mod tests;
 
 pub use counted::Counted;
 pub use fingerprint::Fingerprint;

@@ -3,8 +3,6 @@
 
 mod input;
 mod output;
-#[cfg(test)]
-mod tests;
 mod watched;
 
 pub use input::{InputFault, MAX_INPUT, read_input};

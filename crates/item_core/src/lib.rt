@@ -6,8 +6,6 @@ mod listed;
 mod lower;
 mod range;
 mod short;
-#[cfg(test)]
-mod tests;
 mod upper;
 
 pub use item::{Item, LengthFault};

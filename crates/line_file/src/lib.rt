@@ -8,8 +8,6 @@
 mod device;
 mod file;
 mod laws;
-#[cfg(test)]
-mod tests;
 mod torn;
 
 pub use device::Device;

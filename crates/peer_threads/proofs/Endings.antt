@@ -21,15 +21,16 @@ use Rattle.definitions.specs.Wire.{Profile, fault_text}
 use Rattle.strategy_check.specs.Checked.{Checked}
 use Rattle.version_lock.specs.declared.view.View.{View}
 use Rattle.version_lock.specs.Calls.{PinState, IsPinOf}
-use Rattle.peer_threads.specs.declared.outcome.Outcome.{Outcome}
-use Rattle.peer_threads.specs.declared.outcome.Outcome.TheVariants as outcomes
-use Rattle.peer_threads.specs.declared.outcome.Direction.{Direction}
-use Rattle.peer_threads.specs.declared.outcome.Direction.TheVariants as directions
+use Rattle.outcome_core.specs.declared.outcome.Outcome.{Outcome}
+use Rattle.outcome_core.specs.declared.outcome.Outcome.TheVariants as outcomes
+use Rattle.outcome_core.specs.declared.outcome.Direction.{Direction}
+use Rattle.outcome_core.specs.declared.outcome.Direction.TheVariants as directions
 use Rattle.peer_threads.specs.declared.stop.Stop.{Stop}
 use Rattle.peer_threads.specs.declared.stop.Stop.TheVariants as stops
 use Rattle.peer_threads.specs.Outcomes.{Traffic, traffic_of, SaidAll, Bears, Speaks, SpeaksUnopened}
 use Rattle.ends_core.specs.Sides.{KeepsBounds}
-use Rattle.peer_threads.specs.Outcomes.{BearsUnopened, call_of, failing, sent_in, peer_at}
+use Rattle.peer_threads.specs.Outcomes.{BearsUnopened, call_of, failing, peer_at}
+use Rattle.outcome_core.specs.Sent.{sent_in}
 use Rattle.ends_core.specs.Sides.{called_by, peer_of}
 use Rattle.peer_threads.specs.Outboxes.{OutboxState, refusal_text, Begins, WroteSo}
 use Rattle.peer_threads.specs.Stops.{outcome_of}

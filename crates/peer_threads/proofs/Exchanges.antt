@@ -33,7 +33,7 @@ use Rattle.wire_core.specs.Feeds.{fault_at}
 use Rattle.ends_core.specs.EndStates.{EndState}
 use Rattle.peer_threads.specs.declared.stop.Stop.{Stop}
 use Rattle.peer_threads.specs.declared.stop.Stop.TheVariants as stops
-use Rattle.peer_threads.specs.declared.outcome.Direction.TheVariants as directions
+use Rattle.outcome_core.specs.declared.outcome.Direction.TheVariants as directions
 use Rattle.peer_threads.specs.Outcomes.{Traffic, Takes, traffic_of, SaidAll}
 use Rattle.ends_core.specs.Sides.{said_to, called_by}
 use Rattle.peer_threads.specs.Inboxes.{InboxState, HasRead, IsFaulty, StopsAt, ReadOn}

@@ -33,16 +33,17 @@ use Rattle.ends_core.specs.Turns.{fresh}
 use Rattle.strategy_check.specs.Checked.{Checked}
 use Rattle.version_lock.specs.declared.view.View.{View}
 use Rattle.version_lock.specs.Calls.{PinState, IsPinOf}
-use Rattle.peer_threads.specs.declared.outcome.Direction.TheVariants as directions
+use Rattle.outcome_core.specs.declared.outcome.Direction.TheVariants as directions
 use Rattle.peer_threads.specs.declared.stop.Stop.{Stop}
 use Rattle.peer_threads.specs.declared.stop.Stop.TheVariants as stops
-use Rattle.peer_threads.specs.declared.outcome.Outcome.{Outcome}
+use Rattle.outcome_core.specs.declared.outcome.Outcome.{Outcome}
 use Rattle.peer_threads.specs.Outcomes.{Traffic, Origin, Takes, traffic_of, traffic_behind, Speaks}
 use Rattle.ends_core.specs.Sides.{KeepsBounds}
 use Rattle.peer_threads.specs.Outcomes.{Unopened}
 use Rattle.peer_threads.specs.Outcomes.{CameFirst}
 use Rattle.ends_core.specs.Sides.{peer_of}
-use Rattle.peer_threads.specs.Outcomes.{peer_at, sent_in}
+use Rattle.peer_threads.specs.Outcomes.{peer_at}
+use Rattle.outcome_core.specs.Sent.{sent_in}
 use Rattle.peer_threads.specs.Inboxes.{InboxState, HasRead, StopsAt, ReadOn}
 use Rattle.peer_threads.specs.Outboxes.{OutboxState, outbox_state, hello_due, HasWritten, Adds, BreaksIn}
 use Rattle.peer_threads.specs.Stops.{outcome_of}

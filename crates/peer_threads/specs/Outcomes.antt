@@ -33,10 +33,11 @@ use Rattle.ends_core.specs.Sides.{KeepsBounds, peer_of, said_to, session_at}
 use Rattle.session_table.specs.declared.totals.CloseKind.{CloseKind}
 use Rattle.session_table.specs.declared.totals.CloseKind.TheVariants as kinds
 use Rattle.version_lock.specs.declared.view.View.{View}
-use Rattle.peer_threads.specs.declared.outcome.Outcome.{Outcome}
-use Rattle.peer_threads.specs.declared.outcome.Outcome.TheVariants.{Ended, Refused, PeerRefused, Io, Memory}
-use Rattle.peer_threads.specs.declared.outcome.Direction.{Direction}
-use Rattle.peer_threads.specs.declared.outcome.Direction.TheVariants as directions
+use Rattle.outcome_core.specs.Sent.{sent_in}
+use Rattle.outcome_core.specs.declared.outcome.Outcome.{Outcome}
+use Rattle.outcome_core.specs.declared.outcome.Outcome.TheVariants.{Ended, Refused, PeerRefused, Io, Memory}
+use Rattle.outcome_core.specs.declared.outcome.Direction.{Direction}
+use Rattle.outcome_core.specs.declared.outcome.Direction.TheVariants as directions
 
 -- a reader that has these bytes left; or bytes that were read before, and then such a reader
 pub data Origin : Type 0 where
@@ -67,13 +68,6 @@ seen failed ended = record { failed = failed; ended = ended }
 
 abbrev pub peer_at : Checked → View → Peer
 peer_at a w = peer_of a (content w.base)
-
-abbrev pub sent_in : Outcome → ℕ
-sent_in (Ended learned sent version) = sent
-sent_in (Refused code sent) = sent
-sent_in (PeerRefused code sent) = sent
-sent_in (Io side sent) = sent
-sent_in (Memory sent) = sent
 
 -- a session that either side refused is refused
 abbrev pub kind_of : Outcome → CloseKind

@@ -34,12 +34,13 @@ use Rattle.definitions.specs.Accounts.{Seen, BrokeOff, IsOfTheTable}
 use Rattle.laws.specs.Hearing.{adds}
 use Rattle.ends_core.specs.EndStates.{EndState}
 use Rattle.ends_core.specs.Turns.{fresh, behind_parts}
-use Rattle.peer_threads.specs.declared.outcome.Outcome.{Outcome}
-use Rattle.peer_threads.specs.declared.outcome.Direction.{Direction}
-use Rattle.peer_threads.specs.declared.outcome.Direction.TheVariants as directions
+use Rattle.outcome_core.specs.declared.outcome.Outcome.{Outcome}
+use Rattle.outcome_core.specs.declared.outcome.Direction.{Direction}
+use Rattle.outcome_core.specs.declared.outcome.Direction.TheVariants as directions
 use Rattle.peer_threads.specs.declared.stop.Stop.{Stop}
 use Rattle.peer_threads.specs.declared.stop.Stop.TheVariants as stops
-use Rattle.peer_threads.specs.Outcomes.{Traffic, Takes, SaidAll, Bears, sent_in, call_of}
+use Rattle.peer_threads.specs.Outcomes.{Traffic, Takes, SaidAll, Bears, call_of}
+use Rattle.outcome_core.specs.Sent.{sent_in}
 use Rattle.ends_core.specs.Sides.{called_by, session_at}
 use Rattle.peer_threads.specs.Inboxes.{InboxState, HasRead, StopsAt}
 use Rattle.peer_threads.specs.Outboxes.{OutboxState, HasWritten, Adds, BreaksIn, WroteSo, refusal_text}

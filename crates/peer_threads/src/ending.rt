@@ -8,11 +8,11 @@ ghost use Rattle.peer_threads.specs.Stops.{outcome_of};
 ghost use Rattle.peer_threads.specs.Underway.{Talked, Spoke, Leaves};
 
 use crate::outbox::Outbox;
-use crate::outcome::Outcome;
 use crate::stop::Stop;
 use digest_core::Summary;
 use ends_core::{Role, SessionEnd};
 use io_core::Watched;
+use outcome_core::Outcome;
 use std::io::Write;
 use store_core::RangeStore;
 

@@ -4,10 +4,10 @@ ghost use Rattle.std.specs.Prelude.{◌≡◌, ◌≤◌, ◌+◌, IfOk};
 ghost use Rattle.peer_threads.specs.Outcomes.{seen};
 ghost use Rattle.peer_threads.specs.Hellos.{HelloRead};
 
-use crate::outcome::Direction;
 use crate::piece::are_bytes;
 use crate::stop::Stop;
 use io_core::Watched;
+use outcome_core::Direction;
 use std::io::Read;
 use wire_core::WireFault;
 

@@ -8,11 +8,11 @@ ghost use Rattle.peer_threads.specs.Outcomes.{seen};
 ghost use Rattle.peer_threads.specs.Inboxes.{HasRead, StopsAt, Next, SoFar, Reads, Counts, Held, Fetched};
 
 use crate::hello::Hello;
-use crate::outcome::Direction;
 use crate::piece::Piece;
 use crate::stop::Stop;
 use digest_core::Summary;
 use io_core::Watched;
+use outcome_core::Direction;
 use std::alloc::{AllocError, Global};
 use std::io::Read;
 use std::marker::Model;

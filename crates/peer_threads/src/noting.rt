@@ -1,8 +1,8 @@
 //! A gate that notes which session it was told of.
 
 use crate::gate::Gate;
-use crate::outcome::Outcome;
 use item_core::Item;
+use outcome_core::Outcome;
 use std::sync::OnceLock;
 use version_log::LogFault;
 

@@ -8,22 +8,13 @@ ghost use Rattle.peer_threads.specs.Workers.{Outlives, MayWork};
 
 use crate::gate::Gate;
 use crate::shared::Shared;
-use crate::source::{Source, SourceFault};
 use crate::worker::{Intake, work};
+use outcome_core::{Report, Source, SourceFault};
 use std::alloc::Global;
 use std::sync::Wait;
 use std::thread::{Threads, join};
 use store_core::RangeStore;
 use version_lock::Seat;
-
-/// What workers did.
-#[derive(Clone, Copy, Debug, PartialEq, Eq)]
-pub struct Report {
-    /// How many workers got a writer number. One that got none took no connection.
-    pub started: u8,
-    /// The source's first fault, if it had one.
-    pub fault: Option<SourceFault>,
-}
 
 /// Serves the source's connections by 1 to 16 workers, each in a thread where one can be made and with a seat of its
 /// own, until the source has no more.

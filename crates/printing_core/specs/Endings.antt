@@ -2,8 +2,8 @@
 --     report_fault r     the fault that `serve` refuses with, if the report has one
 --     fault_in result    the fault of a call, if it has one
 use Rattle.std.specs.Prelude.{ℕ, Option, Some, None, Result, Ok, Err, ◌==◌, if◌then◌else◌}
-use Rattle.peer_threads.specs.declared.source.SourceFault.{SourceFault}
-use Rattle.peer_threads.specs.declared.workers.Report.{Report}
+use Rattle.outcome_core.specs.declared.source.SourceFault.{SourceFault}
+use Rattle.outcome_core.specs.declared.report.Report.{Report}
 use Rattle.printing_core.specs.FaultsOf.{of_source}
 use Rattle.printing_core.specs.declared.fault.Fault.{Fault}
 use Rattle.printing_core.specs.declared.fault.Fault.TheVariants.{Memory}

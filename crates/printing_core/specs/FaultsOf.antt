@@ -28,8 +28,8 @@ use Rattle.tcp_front.specs.declared.fault.ListenFault.{ListenFault}
 use Rattle.tcp_front.specs.declared.fault.ListenFault.TheVariants as listens
 use Rattle.tcp_front.specs.declared.fault.ConnectFault.{ConnectFault}
 use Rattle.tcp_front.specs.declared.fault.ConnectFault.TheVariants as connects
-use Rattle.peer_threads.specs.declared.source.SourceFault.{SourceFault}
-use Rattle.peer_threads.specs.declared.source.SourceFault.TheVariants as sources
+use Rattle.outcome_core.specs.declared.source.SourceFault.{SourceFault}
+use Rattle.outcome_core.specs.declared.source.SourceFault.TheVariants as sources
 use Rattle.printing_core.specs.declared.fault.Fault.{Fault}
 use Rattle.printing_core.specs.declared.fault.Fault.TheVariants.{CannotRead, BadItemLine, TooManyItems, BadScenario}
 use Rattle.printing_core.specs.declared.fault.Fault.TheVariants.{BadStep, Strategy, Check, Wire, Misplaced, Bind}

@@ -11,10 +11,10 @@ use Rattle.definitions.specs.Items.{Item}
 use Rattle.definitions.specs.Sets.{set_of}
 use Rattle.definitions.specs.Talks.{Knowledge}
 use Rattle.session_table.specs.declared.totals.Totals.{Totals}
-use Rattle.peer_threads.specs.declared.outcome.Direction.{Direction}
-use Rattle.peer_threads.specs.declared.outcome.Direction.TheVariants as directions
-use Rattle.peer_threads.specs.declared.outcome.Outcome.{Outcome}
-use Rattle.peer_threads.specs.declared.outcome.Outcome.TheVariants as outcomes
+use Rattle.outcome_core.specs.declared.outcome.Direction.{Direction}
+use Rattle.outcome_core.specs.declared.outcome.Direction.TheVariants as directions
+use Rattle.outcome_core.specs.declared.outcome.Outcome.{Outcome}
+use Rattle.outcome_core.specs.declared.outcome.Outcome.TheVariants as outcomes
 use Rattle.settings_core.specs.declared.words.ItemForm.{ItemForm}
 use Rattle.printing_core.specs.ItemTexts.{item_line}
 use Rattle.printing_core.specs.declared.fault.Fault.{Fault}

@@ -4,7 +4,7 @@ ghost use Rattle.std.specs.Prelude.{◌≡◌};
 ghost use Rattle.printing_core.specs.Endings.{report_fault, fault_in};
 
 use crate::fault::Fault;
-use peer_threads::Report;
+use outcome_core::Report;
 
 /// The refusal of a run whose workers ended so: the source's fault, or 90 where no worker started.
 pub fn refusal_of(report: Report) -> Result<(), Fault>

@@ -12,7 +12,7 @@ use crate::item_text::push_item;
 use crate::session_texts::{Naming, push_learned, push_lines};
 use ends_core::Learned;
 use item_core::Item;
-use peer_threads::{Direction, Outcome};
+use outcome_core::{Direction, Outcome};
 use settings_core::ItemForm;
 use std::alloc::{AllocError, Global};
 use store_core::spans::distinct;

@@ -9,7 +9,7 @@ use crate::fault::Fault;
 use crate::item_text::push_item;
 use ends_core::Learned;
 use item_core::Item;
-use peer_threads::{Direction, Outcome};
+use outcome_core::{Direction, Outcome};
 use session_table::Totals;
 use settings_core::ItemForm;
 use std::alloc::{AllocError, Global};

@@ -11,8 +11,6 @@ mod part;
 mod parts;
 mod search;
 mod spans;
-#[cfg(test)]
-mod tests;
 mod tree;
 mod tree_reads;
 mod tree_store;

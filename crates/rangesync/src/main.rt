@@ -11,8 +11,6 @@ mod row;
 mod run;
 mod serve;
 mod sync;
-#[cfg(test)]
-mod tests;
 mod why;
 
 use printing_core::{Fault, tell, tell_no_text};

@@ -5,8 +5,6 @@ mod climb;
 mod fault;
 mod ranks;
 mod staircase;
-#[cfg(test)]
-mod tests;
 
 pub use fault::{RankError, RankFault};
 pub use ranks::Ranks;

@@ -4,8 +4,6 @@
 mod fault;
 mod session;
 mod table;
-#[cfg(test)]
-mod tests;
 mod totals;
 
 pub use fault::TableFault;

@@ -7,8 +7,6 @@ mod flat_store;
 pub mod laws;
 mod range_store;
 pub mod spans;
-#[cfg(test)]
-mod tests;
 
 pub use entry::Entry;
 pub use flat_store::FlatStore;

@@ -5,8 +5,6 @@ mod accepted;
 mod checking;
 mod fault;
 mod reasons;
-#[cfg(test)]
-mod tests;
 
 pub use accepted::Accepted;
 pub use checking::{check, check_with};

@@ -8,8 +8,6 @@ mod peeling;
 mod reading;
 mod row;
 mod strategy;
-#[cfg(test)]
-mod tests;
 mod weights;
 
 pub use act::{Act, Cutting};

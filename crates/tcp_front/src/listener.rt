@@ -9,7 +9,7 @@ use crate::half::{Half, halves};
 use crate::limits::{Limits, limited};
 use crate::patience::bounded;
 use crate::trying::{Attempt, present};
-use peer_threads::{Source, SourceFault};
+use outcome_core::{Source, SourceFault};
 use std::alloc::Global;
 use std::io;
 use std::io::{ErrorKind, Take};

@@ -1,7 +1,7 @@
 //! Connections over the loopback, at ports that the system chooses.
 
 use crate::{ConnectFault, Half, Limits, ListenFault, Listener, connect, finish, limited, listen};
-use peer_threads::{Source, SourceFault};
+use outcome_core::{Source, SourceFault};
 use std::alloc::Alloc;
 use std::io;
 use std::io::{Read, Take, Write};

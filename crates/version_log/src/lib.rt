@@ -5,8 +5,6 @@ mod answer;
 mod entry;
 mod first_entries;
 mod log;
-#[cfg(test)]
-mod tests;
 
 pub use answer::{Added, LogFault, WritersSpent};
 pub use entry::Entry;

@@ -31,10 +31,10 @@ pub(crate) const SUM_OF_ABC: &[u8] = &[
 pub(crate) const LIST_OF_NOTHING: &[u8] = &[0, 0, 0, 7, 2, 0, 0xFF, 0, 0, 0, 0];
 
 /// A List over everything of abc.
-pub(crate) const LIST_OF_ABC: &[u8] = &[0, 0, 0, 0x0B, 2, 0, 0xFF, 0, 0, 0, 1, 3, 0x61, 0x62, 0x63];
+const LIST_OF_ABC: &[u8] = &[0, 0, 0, 0x0B, 2, 0, 0xFF, 0, 0, 0, 1, 3, 0x61, 0x62, 0x63];
 
 /// An Answer over everything that has one mark, which is set, and no items.
-pub(crate) const ABC_IS_LACKED: &[u8] = &[0, 0, 0, 0x0C, 3, 0, 0xFF, 0, 0, 0, 1, 1, 0, 0, 0, 0];
+const ABC_IS_LACKED: &[u8] = &[0, 0, 0, 0x0C, 3, 0, 0xFF, 0, 0, 0, 1, 1, 0, 0, 0, 0];
 
 /// An Answer over everything that has no marks, and the item abc.
 pub(crate) const ABC_IS_NEW: &[u8] = &[

@@ -4,7 +4,7 @@ use item_core::{Item, Lower, Range, Upper};
 use std::alloc::Global;
 use std::process::Abort;
 use std::test::Fail;
-use wire_core::{Marks, Message, Part};
+use wire_core::{Message, Part};
 
 pub(crate) fn item(rt: &impl Abort, bytes: &[u8]) -> Item {
     Item::new(bytes).ok().expect(rt, "an item")
@@ -38,17 +38,6 @@ pub(crate) fn list(
 ) -> Result<Part, Fail> {
     let part = Part::list(range, items(rt, alloc, letters)?);
     Ok(part.ok().expect(rt, "a List"))
-}
-
-pub(crate) fn answer(
-    rt: &impl Abort,
-    alloc: Global,
-    range: Range,
-    marks: Marks,
-    letters: &[u8],
-) -> Result<Part, Fail> {
-    let part = Part::answer(range, marks, items(rt, alloc, letters)?);
-    Ok(part.ok().expect(rt, "an Answer"))
 }
 
 pub(crate) fn message(rt: &impl Abort, parts: Vec<Part>) -> Message {

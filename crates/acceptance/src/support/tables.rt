@@ -24,10 +24,6 @@ pub(crate) const BINARY_TWO: &[u8] =
 pub(crate) const THREE_OFF_THE_FRONT: &[u8] =
     b"cap = 10\nlimit = 3\nrounds = 3\nrow = [{upto = 3, list = true}, {upto = 10, peel = 3}]";
 
-/// Cap 2: lists everything.
-pub(crate) const LISTS_TWO: &[u8] =
-    b"cap = 2\nlimit = 2\nrounds = 0\nrow = [{upto = 2, list = true}]";
-
 pub(crate) fn checked(rt: &impl Abort, alloc: Global, text: &[u8]) -> Accepted {
     let strategy = Strategy::read(alloc, text).ok().expect(rt, "a strategy");
     check(alloc, strategy).ok().expect(rt, "accepted")

@@ -1,0 +1,41 @@
+//! Tests of one library each.
+//!
+//! They lie here, since a crate with tests of its own is proved once more with them.
+//!
+//! | File | Tests |
+//! |---|---|
+//! | `checks` | `strategy_check` |
+//! | `devices` | `io_core` |
+//! | `fingerprints` | `digest_core` |
+//! | `items` | `item_core` |
+//! | `line_files` | `line_file` |
+//! | `logs` | `version_log` |
+//! | `ranks` | `rank_core` |
+//! | `session_tables` | `session_table` |
+//! | `stores` | `store_core` |
+//! | `strategies` | `strategy_core` |
+//! | `trees` | `range_tree` |
+#![tactic(auto)]
+
+#[cfg(test)]
+mod checks;
+#[cfg(test)]
+mod devices;
+#[cfg(test)]
+mod fingerprints;
+#[cfg(test)]
+mod items;
+#[cfg(test)]
+mod line_files;
+#[cfg(test)]
+mod logs;
+#[cfg(test)]
+mod ranks;
+#[cfg(test)]
+mod session_tables;
+#[cfg(test)]
+mod stores;
+#[cfg(test)]
+mod strategies;
+#[cfg(test)]
+mod trees;

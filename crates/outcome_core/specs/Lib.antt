@@ -1,0 +1,3 @@
+pub use Rattle.definitions.specs.Refusals
+pub mod Faults
+pub mod Sent

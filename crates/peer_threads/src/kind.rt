@@ -1,0 +1,19 @@
+//! How the table of sessions counts an outcome.
+
+ghost use Rattle.std.specs.Prelude.{◌≡◌};
+ghost use Rattle.peer_threads.specs.Outcomes.{kind_of};
+
+use outcome_core::Outcome;
+use session_table::CloseKind;
+
+/// How the table of sessions counts an outcome. A session that the peer refused is refused.
+pub(crate) fn kind_of(outcome: &Outcome) -> CloseKind
+    ensures { result ≡ kind_of outcome.now }
+{
+    match outcome {
+        Outcome::Ended { .. } => CloseKind::Ended,
+        Outcome::Refused { .. } | Outcome::PeerRefused { .. } => CloseKind::Refused,
+        Outcome::Io { .. } => CloseKind::Io,
+        Outcome::Memory { .. } => CloseKind::Memory,
+    }
+}
