@@ -14,10 +14,19 @@ copy() {
   cp -al "$1" "$2" 2> /dev/null || { rm -rf "$2" && cp -a "$1" "$2"; }
 }
 
+# Makes an empty folder for a copy of the repository, and out/NAME a link to it: in .git, since rt ci reads every other
+# folder, and takes no crates.txt below the top.
+new_repository() {
+  local name=$1 room
+  room=$(git rev-parse --absolute-git-dir)/bench/$name
+  rm -rf "$room" "out/$name"
+  mkdir -p "$room" out
+  ln -s "$room" "out/$name"
+}
+
 # A copy of the repository, in which the proved programs that are timed are crates too.
 copy_repository() {
-  rm -rf out/repo
-  mkdir -p out/repo
+  new_repository repo
   copy ../crates out/repo/crates
   cp ../crates.txt out/repo/crates.txt
 }
@@ -45,7 +54,7 @@ add_program_of() {
 # Proves and builds the program of this name, and runs it in bench/out; it prints its times.
 run_proved() {
   local name=$1
-  (cd "out/repo/crates/$name" && rt run > /dev/null 2> "../../../$name.log") || true
+  (cd "out/repo/crates/$name" && rt run > /dev/null) 2> "out/$name.log" || true
   (cd out && "repo/crates/$name/out/$name")
 }
 

@@ -338,7 +338,7 @@ static void one_list(void) {
 /* What makes a session stop, and what is due then. */
 static void refusals(void) {
     uint8_t room[64];
-    size_t size = 77;
+    size_t size = 77, theirs = 78;
     rs_handle set = set_of(&eight, RS_TEXT, "abc"), version = version_of(&set), none = {NULL};
     rs_handle cut = open_on(&set, RS_SECOND, 1), garbage = open_on(&set, RS_SECOND, 1);
     rs_handle told = open_on(&set, RS_SECOND, 2), other = open_on(&set, RS_FIRST, 2);
@@ -346,11 +346,11 @@ static void refusals(void) {
     CHECK(rs_session_open(&version, 2, 1, &none) == 98 && rs_session_open(&version, RS_FIRST, 0, &none) == 98);
     CHECK(rs_session_open(&version, RS_SECOND, 3, &none) == 98 && none.at == NULL);
     strcpy(about, "a session that is cut off");
-    CHECK(stands(&cut, RS_OPEN, 0) && rs_session_learned(&cut, &size, &size) == 98);
+    CHECK(stands(&cut, RS_OPEN, 0) && rs_session_learned(&cut, &size, &theirs) == 98);
     CHECK(rs_session_ours(&cut, 0, room, 64, &size) == 98 && rs_session_theirs(&cut, 0, room, 64, &size) == 98);
     push(&cut, HELLO "\0\0", 6);
     CHECK(rs_session_finish(&cut) == 0 && stands(&cut, RS_REFUSED, 3));
-    CHECK(rs_session_learned(&cut, &size, &size) == 98 && size == 77);
+    CHECK(rs_session_learned(&cut, &size, &theirs) == 98 && size == 77 && theirs == 78);
     CHECK(due_are(&cut, HELLO FAULT("\x03"), 10) && due_are(&cut, "", 0));
     strcpy(about, "garbage");
     push(&garbage, "GET / HTTP/1.1\r\n", 16);

@@ -71,6 +71,7 @@ enum { STRATEGY, SET, VERSION, SESSION, KINDS };
 /* What calls write to. */
 static rs_handle made;
 static uint8_t room[64];
+static const uint8_t bound[] = "z";
 static size_t size, other_size;
 static uint32_t number, other_number;
 static bool answer;
@@ -91,7 +92,7 @@ static uint32_t call(size_t which, rs_handle *it) {
     case 5: return rs_version_has(it, room, 1, &answer);
     case 6: return rs_session_open(it, RS_FIRST, 1, &made);
     case 7: return rs_version_count_in(it, room, 0, room, 0, &size);
-    case 8: return rs_version_item_in(it, room, 1, room, 1, 0, room, sizeof room, &size);
+    case 8: return rs_version_item_in(it, bound, 1, bound, 1, 0, room, sizeof room, &size);
     case 9: return rs_session_push(it, room, 1, &size);
     case 10: return rs_session_finish(it);
     case 11: return rs_session_pull(it, room, sizeof room, &size);

@@ -1,5 +1,5 @@
 #!/usr/bin/env python3
-"""Builds c/out/librangesync.a over the libraries that `rt ci` has just proved and left in crates/*/out.
+"""Builds c/out/alone.a over the libraries that `rt ci` has just proved and left in crates/*/out.
 
 `rt lib` takes none of them, since the gate keeps nothing of its checks, and would prove every crate once more.
 """
@@ -53,7 +53,7 @@ def main() -> int:
     words += ["--toolchain", str(KIT / "toolchain"), "--backend", "llvm"]
     out = TOP / "c" / "out"
     out.mkdir(exist_ok=True)
-    words += ["-o", str(out / "librangesync.a")]
+    words += ["-o", str(out / "alone.a")]
     return subprocess.run(words, cwd=TOP / "crates" / LIBRARY, check=False).returncode
 
 

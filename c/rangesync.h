@@ -16,11 +16,21 @@
  * only where it returns 0. Each handle is given back once, by rs_free, in any order: a session keeps what it needs of
  * its version, its set and its strategy.
  *
- * What is proved of these functions rests on the caller for this, and for nothing else:
- *   - each pointer is valid for what it is used for, and none is NULL, also where the length beside it is 0;
+ * What is proved of these functions rests on the caller for this, which no call tests:
+ *   - each pointer is valid for what it is used for, as far as the length beside it says, and none is NULL, also where
+ *     that length is 0;
+ *   - what a call may write to overlaps nothing else that it is given: the handle that it uses, `out`, `room`, and each
+ *     number or flag. So rs_session_learned(&s, &n, &n) is not allowed. Bytes that a call only reads (const) may
+ *     overlap one another: both bounds of a range may be one text;
  *   - each handle was made by a call that returned 0, and was not given back;
  *   - one call at a time uses a handle, and no call is given one handle twice. Between calls a handle may move to
- *     another thread. Threads that share a set each take a version of it (rs_set_share).
+ *     another thread, by a lock, or as a thread starts or is joined. Threads that share a set each take a version of
+ *     it (rs_set_share);
+ *   - malloc, realloc and free are those of the C library, or serve as they do. No call comes from a signal handler,
+ *     or from the forked child of a process with threads.
+ *
+ * What a call writes a result to need not be initialised: no call reads it. What stood there is overwritten; a handle
+ * that stood at `out` is not given back.
  *
  * Each function returns 0, or a number, and then changes nothing, but where it says so:
  *   30 to 35  a text is no strategy          36 to 38  a strategy is not accepted

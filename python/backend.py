@@ -2,8 +2,9 @@
 
     pip install ./python
 
-A wheel has rangesync.py and the library librangesync.so side by side. Where c/out/librangesync.so is not there yet, the
-repository's c/build proves and builds it first, which takes as long as the first call of ./rangesync.
+A wheel has rangesync.py and the library librangesync.so side by side. The library is what the repository's c/build makes:
+the released one if it is of these sources, or else one that is proved and built here, which takes about as long as
+./build.
 """
 
 from __future__ import annotations
@@ -47,11 +48,10 @@ def need_repository() -> None:
 
 
 def library() -> bytes:
-    """The library's bytes; it is built first where it is not there."""
-    if not LIBRARY.is_file():
-        ended = subprocess.run([str(TOP / "c" / "build")], check=False).returncode
-        if ended != 0 or not LIBRARY.is_file():
-            raise SystemExit(f"c/build ended with status {ended}, and made no {LIBRARY}; the lines above say why")
+    """The library's bytes."""
+    ended = subprocess.run([str(TOP / "c" / "build"), "--no-examples"], check=False).returncode
+    if ended != 0:
+        raise SystemExit(f"c/build ended with status {ended}; the lines above say why")
     return LIBRARY.read_bytes()
 
 

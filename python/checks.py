@@ -2,8 +2,9 @@
 
     python3 python/checks.py
 
-It takes Python 3.11, the library (c/build makes it) and the program (./rangesync makes it). What is expected is typed
-in, or is a difference of Python's own sets, or a worked case of docs/vectors. The last line is 'N passed, M failed'.
+It takes Python 3.11, the library (c/build makes it) and the program (./build makes it; RANGESYNC names another). What
+is expected is typed in, or is a difference of Python's own sets, or a worked case of docs/vectors. The last line is
+'N passed, M failed'.
 """
 
 from __future__ import annotations
@@ -31,7 +32,7 @@ os.environ.setdefault("RANGESYNC_LIBRARY", str(TOP / "c/out/librangesync.so"))
 
 from rangesync import Learned, Refused, Session, Set, State, Strategy, run  # noqa: E402
 
-PROGRAM = str(TOP / "crates/rangesync/out/rangesync")
+PROGRAM = os.environ.get("RANGESYNC") or str(TOP / "crates/rangesync/out/rangesync")
 ALL_ROUND = TOP / "examples/all-round.toml"
 EIGHT = (TOP / "examples/eight.toml").read_bytes()
 # Sets of at most 8 and of at most 65,536 items.
