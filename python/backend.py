@@ -2,9 +2,9 @@
 
     pip install ./python
 
-A wheel has rangesync.py and the library librangesync.so side by side. The library is what the repository's c/build makes:
-the released one if it is of these sources, or else one that is proved and built here, which takes about as long as
-./build.
+A wheel has the package rangesync and the library librangesync.so side by side. The library is what the repository's
+c/build makes: the released one if it is of these sources, or else one that is proved and built here, which takes about
+as long as ./build.
 """
 
 from __future__ import annotations
@@ -24,7 +24,7 @@ TOP = HERE.parent
 LIBRARY = TOP / "c" / "out" / "librangesync.so"
 # The library is built for this platform alone, and needs nothing of one Python.
 TAG = "py3-none-linux_x86_64"
-SOURCES = ["backend.py", "checks.py", "pyproject.toml", "rangesync.py"]
+SOURCES = ["README.md", "backend.py", "checks.py", "more_checks.py", "pyproject.toml"]
 LICENSES = ["LICENSE-APACHE", "LICENSE-MIT"]
 
 Settings = Mapping[str, object]
@@ -39,6 +39,12 @@ def project() -> dict[str, str]:
 def title() -> str:
     """The name and the version, as the names of files have them."""
     return "{name}-{version}".format(**project())
+
+
+def package() -> dict[str, bytes]:
+    """The files of the package, by their names from this folder on."""
+    paths = [*sorted((HERE / "rangesync").glob("*.py")), HERE / "rangesync" / "py.typed"]
+    return {f"rangesync/{path.name}": path.read_bytes() for path in paths}
 
 
 def need_repository() -> None:
@@ -87,7 +93,7 @@ def build_wheel(
     """Writes the wheel, and returns its name."""
     need_repository()
     info = f"{title()}.dist-info"
-    files = {"librangesync.so": library(), "rangesync.py": (HERE / "rangesync.py").read_bytes()}
+    files = {"librangesync.so": library(), **package()}
     files.update({f"{info}/licenses/{name}": (TOP / name).read_bytes() for name in LICENSES})
     files[f"{info}/METADATA"] = metadata()
     files[f"{info}/WHEEL"] = f"Wheel-Version: 1.0\nGenerator: rangesync\nRoot-Is-Purelib: false\nTag: {TAG}\n".encode()
@@ -106,7 +112,7 @@ def build_wheel(
 def build_sdist(sdist_directory: str, config_settings: Settings | None = None) -> str:
     """Writes the archive of the sources of this folder, and returns its name. It is no repository, and builds none."""
     need_repository()
-    files = {name: (HERE / name).read_bytes() for name in SOURCES}
+    files = {**{name: (HERE / name).read_bytes() for name in SOURCES}, **package()}
     files.update({name: (TOP / name).read_bytes() for name in LICENSES})
     files["PKG-INFO"] = metadata()
     sources = f"{title()}.tar.gz"

@@ -315,6 +315,8 @@ class WithoutTheProgram(Check):
             ("refused 33 RowOrder", 8, 1, 3, f"{list_1}, {list_1}"),
             ("refused 34 RowAction", 8, 8, 3, "{upto = 8, list = false}"),
             ("refused 35 CapMismatch", 9, 1, 3, f"{list_1}, {halves}"),
+            ("refused 29 BadBounds", "8\nbounds = 'long'", 1, 3, f"{list_1}, {halves}"),
+            ("refused 29 BadBounds", 8, 1, 3, "{upto = 8, list = true, bounds = 'short'}"),
             ("refused 36 NoDescent", 8, 1, 3, f"{list_1}, {{upto = 8, split = [1, 15]}}"),
             ("refused 37 ListTooLong", 8, 0, 3, f"{list_1}, {halves}"),
             ("refused 38 TooDeep", 8, 1, 2, f"{list_1}, {halves}"),
