@@ -1,12 +1,14 @@
 """A model of a session: its messages, their parts and their bytes, counted by docs/PROTOCOL.md.
 
 Nothing is hashed and nothing is sent. Two sets have one fingerprint in a range where they are equal there, so a clash
-of fingerprints is not in the model. The items of both sets are numbered in their order, and a range is a pair of such
-numbers; 0 as a lower bound is S, and the number of all items as an upper bound is E.
+of fingerprints is not in the model. The items of both sets are numbered in their order, and a bound is the number of
+the first item that is not before it, with its own length in bytes. As a lower bound (0, 0) is S, and as an upper bound
+the number of all items with 0 is E.
 
-`bench/strategies --check` compares what the model counts with what the program itself counts.
+`bench/strategies check` compares what the model counts with what the program itself counts.
 """
 
+import functools
 import itertools
 import tomllib
 from bisect import bisect_left
@@ -20,17 +22,18 @@ HELLO = 4
 class Table:
     """What is done with a range, by the number of its items: listed, or cut into shares."""
 
-    def __init__(self, cap, rows):
+    def __init__(self, cap, rows, bounds="items"):
         self.cap = cap
         self.tops = [row["upto"] for row in rows]
         self.rows = rows
+        self.bounds = bounds
         self.kept = {}
 
     @staticmethod
     def read(path):
         with open(path, "rb") as file:
             text = tomllib.load(file)
-        return Table(text["cap"], text["row"])
+        return Table(text["cap"], text["row"], text.get("bounds", "items"))
 
     def cuts(self, count):
         """The places of a range's items at which its parts begin, but the first part's; None where it is listed."""
@@ -43,10 +46,32 @@ class Table:
         if row.get("list"):
             return None
         if "peel" in row:
-            return [row["peel"]]
+            return [row["peel"]] if count > row["peel"] else []
         total = sum(row["split"])
         sums = [count * weights // total for weights in itertools.accumulate(row["split"])]
         return sorted({cut for cut in sums if 0 < cut < count})
+
+    def steps(self):
+        """The staircase of the least ranks, as the command `check` prints it; None where a range would not get less."""
+        ranks, steps = [0], []
+        for count in range(self.cap + 1):
+            rank = ranks[-1]
+            cuts = self.cuts_of(count)
+            if cuts == []:
+                return None
+            if cuts is not None:
+                greatest = max(high - low for low, high in itertools.pairwise([0, *cuts, count]))
+                rank = max(rank, ranks[greatest] + 1)
+            if rank > ranks[-1]:
+                steps.append(count - 1)
+            ranks[count:] = [rank]
+        return [*steps, self.cap]
+
+
+def separator_length(item, next_item):
+    """The length of the shortest byte string that is after an item and not after the next one."""
+    same = (place for place, (one, other) in enumerate(zip(item, next_item)) if one != other)
+    return next(same, len(item)) + 1
 
 
 class Side:
@@ -55,9 +80,28 @@ class Side:
     def __init__(self, everything, own):
         own = set(own)
         has = [item in own for item in everything]
+        self.everything = everything
         self.places = [place for place, is_own in enumerate(has) if is_own]
         self.before = [0, *itertools.accumulate(has)]
         self.written = [0, *itertools.accumulate(len(item) + 1 if own else 0 for item, own in zip(everything, has))]
+
+    @functools.cached_property
+    def items_bounds(self):
+        """For each own item the bound that is the item itself."""
+        return [(place, len(self.everything[place])) for place in self.places]
+
+    @functools.cached_property
+    def short_bounds(self):
+        """For each own item the short bound between the own item before it and it; the first one has none."""
+        bounds = [None]
+        for before, place in itertools.pairwise(self.places):
+            item = self.everything[place]
+            length = separator_length(self.everything[before], item)
+            bounds.append((bisect_left(self.everything, item[:length], before + 1, place), length))
+        return bounds
+
+    def bounds(self, kind):
+        return self.short_bounds if kind == "short" else self.items_bounds
 
 
 class Pair:
@@ -67,13 +111,13 @@ class Pair:
         self.everything = sorted(set(initiator) | set(responder))
         self.sides = [Side(self.everything, initiator), Side(self.everything, responder)]
         has, other = (side.before for side in self.sides)
-        differs = (has[at + 1] - has[at] != other[at + 1] - other[at] for at in range(len(self.everything)))
-        self.differing = [0, *itertools.accumulate(differs)]
-
-    def bounds(self, low, high):
-        """The bytes of a range's two bounds."""
-        lower = 1 + (len(self.everything[low]) if low > 0 else 0)
-        return lower + 1 + (len(self.everything[high]) if high < len(self.everything) else 0)
+        changes = [has[at + 1] - has[at] - other[at + 1] + other[at] for at in range(len(self.everything))]
+        self.differing = [0, *itertools.accumulate(map(abs, changes))]
+        lengths = [len(item) + 1 for item in self.everything]
+        self.only = [
+            [0, *itertools.accumulate(length * (change == own) for length, change in zip(lengths, changes))]
+            for own in (1, -1)
+        ]
 
     def items(self, side, low, high):
         """The bytes of a side's items in a range, with their number."""
@@ -82,14 +126,12 @@ class Pair:
 
     def lacked(self, side, low, high):
         """The bytes of the items in a range that the side has and the other lacks, with their number."""
-        has, other = self.sides[side].before, self.sides[1 - side].before
-        only = (at for at in range(low, high) if has[at + 1] > has[at] and other[at + 1] == other[at])
-        return 4 + sum(len(self.everything[at]) + 1 for at in only)
+        return 4 + self.only[side][high] - self.only[side][low]
 
     def bytes_of(self, side, part):
         """The bytes of a part that the side sends."""
-        kind, low, high = part
-        size = FRAME + self.bounds(low, high)
+        kind, (low, lower_length), (high, upper_length) = part
+        size = FRAME + 1 + lower_length + 1 + upper_length
         if kind == "sum":
             return size + FINGERPRINT
         if kind == "list":
@@ -100,17 +142,19 @@ class Pair:
 
     def reply(self, side, table, part):
         """The parts that the side sends in reply to a part of the other."""
-        kind, low, high = part
+        kind, lower, upper = part
         if kind == "list":
-            return [("answer", low, high)]
+            return [("answer", lower, upper)]
+        low, high = lower[0], upper[0]
         if kind == "answer" or self.differing[low] == self.differing[high]:
             return []
         own = self.sides[side]
         first = own.before[low]
         cuts = table.cuts(own.before[high] - first)
         if cuts is None:
-            return [("list", low, high)]
-        bounds = [low, *(own.places[first + cut] for cut in cuts), high]
+            return [("list", lower, upper)]
+        places = own.bounds(table.bounds)
+        bounds = [lower, *(places[first + cut] for cut in cuts), upper]
         return [("sum", *pair) for pair in itertools.pairwise(bounds)]
 
 
@@ -124,7 +168,7 @@ class Message:
 
 def session(pair, tables):
     """The messages of a session between the two sides, under the table of each."""
-    parts = [("sum", 0, len(pair.everything))]
+    parts = [("sum", (0, 0), (len(pair.everything), 0))]
     messages = [Message(pair, 0, parts)]
     while any(kind != "answer" for kind, _, _ in parts):
         side = len(messages) % 2
@@ -164,3 +208,74 @@ class Cost:
                 windows[side] *= 2
             seconds += round_trip / 2 + left * 8 / (megabits * 1e6)
         return seconds
+
+
+def number_length(number):
+    """The bytes of a number of which each byte has seven bits."""
+    return max(1, (number.bit_length() + 6) // 7)
+
+
+class Negentropy:
+    """A model of negentropy's messages (protocol version 1), to compare with. Nothing of that program is run.
+
+    The ids are the items, all with one time. A message is a byte, and then ranges in their order, each with its upper
+    bound, a byte for its mode, and what that has: a fingerprint of 16 bytes, or a number and ids. A bound is a byte for
+    the time, a byte for a length, and the shortest beginning of an id that serves. Ranges of which nothing is said are
+    one range that is skipped; what is skipped at the end is left out. A range that differs is cut into 16 of equally
+    many own ids, or listed if there are fewer than 32. Only the side that began learns the result: from a list of the
+    other side, or from the one that answers its own.
+    """
+
+    PARTS = 16
+    FINGERPRINT = 16
+
+    def __init__(self, pair):
+        self.pair = pair
+        self.sizes = []
+        everything = (len(pair.everything), 0)
+        ranges = self.split(0, (0, 0), everything)
+        while ranges:
+            side = len(self.sizes) % 2
+            self.sizes.append(self.size(side, ranges))
+            ranges = [reply for part in ranges for reply in self.reply(1 - side, part)]
+        if len(self.sizes) % 2:
+            self.sizes.append(1)
+        self.bytes = sum(self.sizes)
+        self.messages = len(self.sizes)
+
+    def split(self, side, lower, upper):
+        """The ranges that a side says of one that differs."""
+        own = self.pair.sides[side]
+        first = own.before[lower[0]]
+        count = own.before[upper[0]] - first
+        if count < 2 * self.PARTS:
+            return [("list", lower, upper)]
+        whole, more = divmod(count, self.PARTS)
+        cuts = [first + at * whole + min(at, more) for at in range(1, self.PARTS)]
+        bounds = [lower, *(own.short_bounds[cut] for cut in cuts), upper]
+        return [("sum", *ends) for ends in itertools.pairwise(bounds)]
+
+    def reply(self, side, part):
+        kind, lower, upper = part
+        if kind == "list":
+            return [("end", lower, upper)] if side == 1 else []
+        if kind == "end" or self.pair.differing[lower[0]] == self.pair.differing[upper[0]]:
+            return []
+        return self.split(side, lower, upper)
+
+    def size(self, side, ranges):
+        """The bytes of a message; a range that begins past the end of the one before has one that is skipped first."""
+        size, come = 1, (0, 0)
+        own = self.pair.sides[side]
+        for kind, lower, upper in ranges:
+            if lower != come:
+                size += 2 + lower[1] + 1
+            size += 2 + upper[1] + 1
+            if kind == "sum":
+                size += self.FINGERPRINT
+            else:
+                ids = own.before[upper[0]] - own.before[lower[0]]
+                # What is written of an item in a List has a byte for its length, which an id has not.
+                size += number_length(ids) + own.written[upper[0]] - own.written[lower[0]] - ids
+            come = upper
+        return size

@@ -201,6 +201,7 @@ class Own:
         self.items = sorted(set(items))
         self.rows = table["row"]
         self.tops = [row["upto"] for row in self.rows]
+        self.bounds = table.get("bounds", "items")
 
     def within(self, lower, upper):
         return tuple(item for item in self.items if is_inside(item, lower, upper))
@@ -219,6 +220,13 @@ class Own:
         cuts = (count * front // whole for front in itertools.accumulate(row["split"]))
         return sorted({cut for cut in cuts if 0 < cut < count})
 
+    def bound(self, own, place):
+        """The lower bound of a part that begins at this place, from 1 on, of the own items of a range."""
+        item = own[place]
+        if self.bounds == "items":
+            return item
+        return next(item[:length] for length in range(1, len(item) + 1) if item[:length] > own[place - 1])
+
     def reply(self, part):
         """The parts that reply to a part."""
         own = self.within(*part.range)
@@ -230,7 +238,7 @@ class Own:
         cuts = self.cuts(len(own))
         if cuts is None:
             return [Part(LIST, *part.range, items=own)]
-        bounds = [part.lower, *(own[cut] for cut in cuts), part.upper]
+        bounds = [part.lower, *(self.bound(own, cut) for cut in cuts), part.upper]
         return [self.sum(*pair) for pair in itertools.pairwise(bounds)]
 
 

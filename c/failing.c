@@ -35,6 +35,7 @@ static void bad_strategies(void) {
         {33, HEAD "row = [{upto = 1, list = true}, {upto = 1, split = [1, 1]}]"},
         {34, HEAD "row = [{upto = 8}]"},
         {35, HEAD "row = [{upto = 1, list = true}]"},
+        {29, HEAD "bounds = 'long'\n" HALVES},
         {36, HEAD "row = [{upto = 1, list = true}, {upto = 8, split = [1, 15]}]"},
         {37, HEAD "row = [{upto = 2, list = true}, {upto = 8, split = [1, 1]}]"},
         {38, "cap = 8\nlimit = 1\nrounds = 2\n" HALVES},

@@ -33,7 +33,7 @@
  * that stood at `out` is not given back.
  *
  * Each function returns 0, or a number, and then changes nothing, but where it says so:
- *   30 to 35  a text is no strategy          36 to 38  a strategy is not accepted
+ *   29 to 35  a text is no strategy          36 to 38  a strategy is not accepted
  *   40        a set has as many items as its strategy's cap
  *   71, 72    an item has no byte, or it or a bound has more than 64
  *   73        a lower bound is not below the upper one
@@ -41,6 +41,8 @@
  *   90        memory ran out
  *   98        there is no such thing, or no room for it
  *   99        the handle is of another kind
+ * The numbers beside a function are all that it returns but 0. One that has no 90 among them needs no memory: it
+ * returns 0 wherever none of its numbers is due.
  * docs/PROTOCOL.md has the numbers by which a session is refused (rs_session_state).
  */
 #ifndef RANGESYNC_H
@@ -66,7 +68,7 @@ enum { RS_FIRST = 0, RS_SECOND = 1 };
 /* How a session stands. */
 enum { RS_OPEN = 0, RS_ENDED = 1, RS_REFUSED = 2, RS_PEER_REFUSED = 3 };
 
-/* Reads a strategy, a text in TOML, and checks that sessions under it end. 30 to 38, 90. */
+/* Reads a strategy, a text in TOML, and checks that sessions under it end. 29 to 38, 90. */
 uint32_t rs_strategy_read(const uint8_t *text, size_t length, rs_handle *out);
 
 /* Makes a set of the items of an item file's text, which may be empty. 81, 82, 90, 98 (another form), 99. */
@@ -101,14 +103,16 @@ uint32_t rs_version_item_in(rs_handle *version, const uint8_t *lower, size_t low
 uint32_t rs_session_open(rs_handle *version, uint32_t role, uint32_t profile, rs_handle *out);
 
 /* Takes bytes of the peer, cut in any way, and says how many it took: all, unless memory ran out; push the rest again
- * later. What comes after the end of a session, or after a refusal, counts no more. 90 (it took none), 99. */
+ * later. It takes at least one, if there is one, or fails. Bytes after the end of a session, or after a refusal, are
+ * all taken, and count no more. 90 (it took none, and the session goes on as before), 99. */
 uint32_t rs_session_push(rs_handle *session, const uint8_t *bytes, size_t length, size_t *taken);
 
-/* Says that the peer's bytes end here: a session that is still open is refused 3. 99. */
+/* Says that the peer's bytes end here: a session that is still open is refused 3, and what is pushed later counts no
+ * more. 99. */
 uint32_t rs_session_finish(rs_handle *session);
 
-/* Moves bytes that are due to the peer to `room`, as many as fit, and says how many: none where none are due. Send them
- * all, also where the session has ended or is refused. 90 (it moved none), 99. */
+/* Moves bytes that are due to the peer to `room`, all of them or as many as fit, and says how many: none where none are
+ * due, or where length is 0. Send them all, also where the session has ended or is refused. 90 (it moved none), 99. */
 uint32_t rs_session_pull(rs_handle *session, uint8_t *room, size_t length, size_t *used);
 
 /* Says how a session stands, and the number by which it is refused, or 0. 99. */

@@ -2,5 +2,5 @@
 load "common.gnuplot"
 set title "65,536 items of 16 bytes, differences at the end of the order"
 load "bytes.gnuplot"
-plot for [column = 2:9] data."/bytes-end.data" \
+plot for [column = 2:10] data."/bytes-end.data" \
     using 1:column with linespoints linetype column - 1 title columnheader(column)

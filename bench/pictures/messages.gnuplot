@@ -9,4 +9,5 @@ set yrange [0:10]
 set xtics ("100" 100, "1,000" 1e3, "10,000" 1e4, "65,536" 65536)
 set key outside right
 plot for [column = 2:6] data."/messages.data" \
-    using 1:column with linespoints linetype column - 1 title columnheader(column)
+    using 1:column with linespoints linetype column - 1 title columnheader(column), \
+    data."/messages.data" using 1:7 with linespoints linetype 9 title columnheader(7)

@@ -6,6 +6,7 @@ pub use Rattle.definitions.proofs.Lists.{All-map, All-range, find-none, list_all
 pub use Rattle.definitions.proofs.Lists.{none_found, none_map, none_or, none_passes, or_none, range-at}
 pub use Rattle.definitions.proofs.Order.{before-asym, before-irrefl, before-trans, below-trans, not_before-trans}
 pub use Rattle.definitions.proofs.Order.{upto-before, upto-below}
+pub use Rattle.definitions.proofs.Separators.{separator-after, separator-is, separator-upto}
 pub use Rattle.std.proofs.Math.ListN.{get_or-append}
 pub use Rattle.std.proofs.Math.Nat.{div-div-eq-div-mul, div-eq_of_lt, div-zero, lt-div-mul-add, mod-eq_of_lt, mod-lt}
 pub use Rattle.std.proofs.Math.Nat.{mul-add, mul-div_cancel, mul-le-mul_left, mul_comm, zero-div}

@@ -6,3 +6,4 @@ pub mod Equality
 pub mod Words
 pub mod Lemmas
 pub mod Partitions
+pub mod Separators

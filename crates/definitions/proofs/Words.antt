@@ -18,7 +18,7 @@ pub use Rattle.definitions.specs.Histories.{Already, Full, History, Insertion, N
 pub use Rattle.definitions.specs.Histories.{items_of, version}
 pub use Rattle.definitions.specs.Items.{Apart, IsBytes, IsItem, IsLower, IsRange, IsUpper, Item, Range, Rises}
 pub use Rattle.definitions.specs.Items.{comes_before, contains, cut_range, is_below, item_cmp, ranges_between}
-pub use Rattle.definitions.specs.Items.{same_item, same_range, same_upper, whole}
+pub use Rattle.definitions.specs.Items.{IsSeparator, same_item, same_range, same_upper, separator, whole}
 pub use Rattle.definitions.specs.Messages.{Answer, IsOpening, Listing, Message, Part, RangesRise, Sum, has_open}
 pub use Rattle.definitions.specs.Messages.{is_open, open_parts, open_ranges, opening, range_of}
 pub use Rattle.definitions.specs.Placing.{Answers, AreSums, Behind, CutsUp, Follows, FollowsAll, Lists, Place, Placed}
@@ -37,8 +37,9 @@ pub use Rattle.definitions.specs.Reading.{number_at, range_at, sum_at, text_at, 
 pub use Rattle.definitions.specs.Refusals.{answer_repeats, bad_kind, empty_range, frame_length, gap, item_order}
 pub use Rattle.definitions.specs.Refusals.{item_outside, mark_count, mark_padding, misplaced, missing_answer, stall}
 pub use Rattle.definitions.specs.Refusals.{too_many_parts, trailing, truncated}
-pub use Rattle.definitions.specs.Replies.{Peer, answer_to, cutup, differing, inner_cuts, reply, reply_to, sum_of}
+pub use Rattle.definitions.specs.Replies.{Peer, answer_to, bound_at, cutup, differing, inner_cuts, reply, reply_to, sum_of}
 pub use Rattle.definitions.specs.Sets.{IsSet, add_item, difference, has, items_in, set_of, symmetric_difference, union}
+pub use Rattle.definitions.specs.Strategies.{At_items, Bounds, Short}
 pub use Rattle.definitions.specs.Strategies.{Act, IsAct, IsTable, List_items, Peel, Row, Split, Table, act, act_in}
 pub use Rattle.definitions.specs.Strategies.{cuts_by, differences, is_split, list_only, running_sums, shares, shares_by}
 pub use Rattle.definitions.specs.Strategies.{uptos, widest, width, width_of, without_zeros}

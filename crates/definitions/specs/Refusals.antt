@@ -84,6 +84,10 @@ spent = 26
 
 -- ---- strategies, and the checker
 
+-- the bounds of a strategy are neither items nor short
+abbrev pub bad_bounds : ℕ
+bad_bounds = 29
+
 -- the text is no TOML
 abbrev pub not_toml : ℕ
 not_toml = 30

@@ -3,7 +3,7 @@
 --     of_strategy, of_check, of_settings, of_log     the faults of other crates
 --     IsUnfit text f                     the text holds no accepted strategy, for this reason
 --     IsStrategy of text result          what a text gives: its strategy, accepted; or why not
-use Rattle.std.specs.Prelude.{◌≡◌, ℕ, List, Result, Ok, Err, ⊤}
+use Rattle.std.specs.Prelude.{ℕ, List, Result, Ok, Err, ⊤}
 use Rattle.definitions.specs.Strategies.{Table}
 use Rattle.definitions.specs.Refusals as codes
 use Rattle.item_core.specs.declared.item.LengthFault.{LengthFault}
@@ -15,8 +15,8 @@ use Rattle.strategy_check.specs.Checked.{Checked}
 use Rattle.strategy_check.specs.Refused as check
 use Rattle.strategy_check.specs.declared.fault.CheckError.{CheckError}
 use Rattle.strategy_check.specs.declared.fault.CheckError.TheVariants as check_errors
-use Rattle.settings_core.specs.declared.fault.SettingsFault.{SettingsFault}
-use Rattle.settings_core.specs.declared.fault.SettingsFault.TheVariants as settings
+use Rattle.item_files.specs.declared.fault.SettingsFault.{SettingsFault}
+use Rattle.item_files.specs.declared.fault.SettingsFault.TheVariants as settings
 use Rattle.version_log.specs.declared.answer.LogFault.{LogFault}
 use Rattle.version_log.specs.declared.answer.LogFault.TheVariants as logs
 use Rattle.embedded_core.specs.declared.fault.EmbeddedFault.{EmbeddedFault}

@@ -1,18 +1,19 @@
 -- A session in either role and profile, and what calls make of it: each relation is the one of session_core, in the
 -- session's own profile.
---     Opens v opening profile s      a session over a version, in this role and profile, to which nothing was pushed
+--     Opens v opening profile s      a session over a version, in this role and profile, to which nothing was pushed:
+--                                    it is open, and it listens
 --     Changes s t R                  both are of one role and profile, and R holds of them
+--     Listens c d                    the one still hears its peer where the other did
 --     PushesTo bytes, Finishes, MakesDue, TakesOff count, Pulls bytes     what calls make of a session
---     ready_of, state_in, bound_of, sent_by, learned_in      what is told of it
-use Rattle.std.specs.Prelude.{◌≡◌, ℕ, ◌+◌, ◌≤◌, true, false, List, [], length, take}
+--     ready_of, due_of, state_in, bound_of, sent_by, learned_in      what is told of it
+use Rattle.std.specs.Prelude.{◌≡◌, ℕ, ◌+◌, true, false, List, [], length, take}
 use Rattle.definitions.specs.Fingerprints.{Summary, Lanes, Counted, two_lanes, counted_lanes}
-use Rattle.definitions.specs.Items.{Item}
 use Rattle.definitions.specs.Ranks.{rank_by}
 use Rattle.definitions.specs.Talks.{Knowledge}
 use Rattle.definitions.specs.Ends.{is_live}
 use Rattle.definitions.specs.Engines.{Speaker, initiating, responding}
 use Rattle.definitions.specs.Wire.{Profile, two_lane_profile, counted_profile}
-use Rattle.session_core.specs.Sessions.{SessionState, Begins, Pushes, Takes, Knows, due}
+use Rattle.session_core.specs.Sessions.{SessionState, Begins, Pushes, Takes, Knows, due, finished}
 use Rattle.ends_core.specs.Sides.{peer_of}
 use Rattle.session_core.specs.declared.state.State.{State}
 use Rattle.embedded_core.specs.SetStates.{VersionState}
@@ -57,22 +58,29 @@ Changes (any.Second c) t R = IsSecond t (λ d. R Lanes two_lanes two_lane_profil
 Changes (any.FirstCounted c) t R = IsFirstCounted t (λ d. R Counted counted_lanes counted_profile c d)
 Changes (any.SecondCounted c) t R = IsSecondCounted t (λ d. R Counted counted_lanes counted_profile c d)
 
+-- whether the peer's bytes have ended is as before
+abbrev pub Listens : {F : Type 0} → SessionState F → SessionState F → Type 0
+Listens c d = d.over ≡ c.over
+
+-- these bytes were pushed; after the peer's bytes have ended nothing changes
 abbrev pub PushesTo : List ℕ → Relation
-PushesTo bytes F S W c d = c.over ≡ false → Pushes S W c bytes d
+PushesTo bytes F S W c d = (c.over ≡ false → Pushes S W c bytes d) × Listens c d × (c.over ≡ true → d ≡ c)
 
+-- a session that was open is refused 3, and hears no more; what is known of it stays known
 abbrev pub Finishes : Relation
-Finishes F S W c d = (s : Speaker F) (pushed taken : List ℕ) → is_live s.start.stage ≡ true →
-    Knows S W s c pushed taken → Knows S W s d pushed taken
+Finishes F S W c d = (d ≡ finished c) × ((s : Speaker F) (pushed taken : List ℕ) → is_live s.start.stage ≡ true →
+    Knows S W s c pushed taken → Knows S W s d pushed taken)
 
+-- the text of all that is due is made, and none of it is taken
 abbrev pub MakesDue : Relation
-MakesDue F S W c d = Takes S W c [] d × (d.talk.outbox.ready ≡ due W c.talk)
+MakesDue F S W c d = Takes S W c [] d × (d.talk.outbox.ready ≡ due W c.talk) × Listens c d
 
 abbrev pub TakesOff : ℕ → Relation
-TakesOff count F S W c d = Takes S W c (take count c.talk.outbox.ready) d
+TakesOff count F S W c d = Takes S W c (take count c.talk.outbox.ready) d × Listens c d
 
 -- these bytes were taken off what is due
 abbrev pub Pulls : List ℕ → Relation
-Pulls bytes F S W c d = Takes S W c bytes d
+Pulls bytes F S W c d = Takes S W c bytes d × Listens c d
 
 abbrev pub Opens : VersionState → Opening → WireProfile → AnySession → Type 0
 Opens v openings.Initiator profiles.Plain s = IsFirst s (λ c.
@@ -89,6 +97,13 @@ ready_of (any.First c) = c.talk.outbox.ready
 ready_of (any.Second c) = c.talk.outbox.ready
 ready_of (any.FirstCounted c) = c.talk.outbox.ready
 ready_of (any.SecondCounted c) = c.talk.outbox.ready
+
+-- all that is due, whether its text is made or not
+abbrev pub due_of : AnySession → List ℕ
+due_of (any.First c) = due two_lane_profile c.talk
+due_of (any.Second c) = due two_lane_profile c.talk
+due_of (any.FirstCounted c) = due counted_profile c.talk
+due_of (any.SecondCounted c) = due counted_profile c.talk
 
 abbrev pub state_in : AnySession → State
 state_in (any.First c) = c.talk.state

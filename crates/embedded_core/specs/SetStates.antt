@@ -4,15 +4,20 @@
 --     newest s                       the version of a set that is the newest
 --     IsSetFrom form text a result   what an item file's text gives: the set of its items, or why not
 --     between lower upper            the range between these bytes, where none are the start and the end
---     Inserts s x t result           an item was put in, or was there, or there was no room
-use Rattle.std.specs.Prelude.{◌≡◌, ℕ, ◌≤◌, ◌<◌, Bool, true, false, List, [], ◌∷◌, length, Option, Some, None, Result, Ok, Err, ⊤}
-use Rattle.definitions.specs.Items.{Item, Range}
+--     AreBounds lower upper          there is such a range
+--     IsNoRange lower upper f        there is none, for this reason
+--     Inserts s x t result           an item was put in, or was there, or there was no room; or it is new, there is
+--                                    room, and memory ran out
+use Rattle.std.specs.Prelude.{◌≡◌, ℕ, ◌≤◌, ◌<◌, ◌⊎◌, Bool, true, false, List, [], ◌∷◌, length, Option, Some, None}
+use Rattle.std.specs.Prelude.{Result, Ok, Err, IsTrue, IsFalse, ⊤}
+use Rattle.definitions.specs.Items.{Item, Range, is_below}
+use Rattle.item_core.specs.declared.item.LengthFault.TheVariants as lengths
 use Rattle.definitions.specs.Sets.{set_of}
 use Rattle.definitions.specs.Histories.{History, content, opening_history, insertion, history_after}
 use Rattle.definitions.specs.Histories.{Insertion, New, Already, Full}
 use Rattle.strategy_check.specs.Checked.{Checked}
-use Rattle.settings_core.specs.ItemFiles.{file_items}
-use Rattle.settings_core.specs.declared.words.ItemForm.{ItemForm}
+use Rattle.item_files.specs.ItemFiles.{file_items}
+use Rattle.item_files.specs.declared.form.ItemForm.{ItemForm}
 use Rattle.embedded_core.specs.declared.fault.EmbeddedFault.{EmbeddedFault}
 use Rattle.embedded_core.specs.declared.fault.EmbeddedFault.TheVariants as faults
 
@@ -35,6 +40,23 @@ upper_of (b ∷ bs) = Some (b ∷ bs)
 abbrev pub between : List ℕ → List ℕ → Range
 between lower upper = record { lower = lower; upper = upper_of upper }
 
+-- neither has more than 64 bytes, and the lower one is below the upper one
+abbrev pub AreBounds : List ℕ → List ℕ → Type 0
+AreBounds lower upper = (length lower ≤ 64) × (length upper ≤ 64) × IsTrue (is_below lower (upper_of upper))
+
+-- 72 where a bound has more than 64 bytes, and else 73 where the lower one is not below the upper one
+abbrev pub IsNoRange : List ℕ → List ℕ → EmbeddedFault → Type 0
+IsNoRange lower upper (faults.Length lengths.TooLong) = (64 < length lower) ⊎ (64 < length upper)
+IsNoRange lower upper (faults.Length lengths.Empty) = ⊥
+IsNoRange lower upper faults.EmptyRange = (length lower ≤ 64) × (length upper ≤ 64)
+    × IsFalse (is_below lower (upper_of upper))
+IsNoRange lower upper (faults.Strategy f) = ⊥
+IsNoRange lower upper (faults.Check f) = ⊥
+IsNoRange lower upper faults.Full = ⊥
+IsNoRange lower upper faults.BadItemLine = ⊥
+IsNoRange lower upper faults.TooManyItems = ⊥
+IsNoRange lower upper faults.Memory = ⊥
+
 abbrev pub newest : SetState → VersionState
 newest s = record { accepted = s.accepted; items = content s.history }
 
@@ -46,7 +68,7 @@ abbrev pub IsAnswer : Insertion → Result Bool EmbeddedFault → Type 0
 IsAnswer a (Ok true) = (version : ℕ) × (a ≡ New version)
 IsAnswer a (Ok false) = a ≡ Already
 IsAnswer a (Err faults.Full) = a ≡ Full
-IsAnswer a (Err faults.Memory) = ⊤
+IsAnswer a (Err faults.Memory) = (version : ℕ) × (a ≡ New version)
 IsAnswer a (Err (faults.Strategy f)) = ⊥
 IsAnswer a (Err (faults.Check f)) = ⊥
 IsAnswer a (Err (faults.Length f)) = ⊥

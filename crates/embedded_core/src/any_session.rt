@@ -1,10 +1,11 @@
 //! A session in either role and in either wire profile.
 
-ghost use Rattle.std.specs.Prelude.{◌≡◌, ◌≢◌, ◌≤◌, length, take, min, IfOk, OnOk, OnErr, IfSome, IfNone};
+ghost use Rattle.std.specs.Prelude.{◌≡◌, ◌≢◌, ◌≤◌, ◌<◌, false, length, take, min};
+ghost use Rattle.std.specs.Prelude.{Ok, IfOk, OnOk, OnErr, IfSome, IfNone};
 ghost use Rattle.embedded_core.specs.SessionStates.{Opens, Changes, PushesTo, Finishes, MakesDue, TakesOff};
 ghost use Rattle.embedded_core.specs.SessionStates.{ready_of, state_in, bound_of, sent_by, learned_in};
 ghost use Rattle.definitions.specs.Engines.{initiating, responding};
-ghost use Rattle.session_core.specs.Sessions.{Begins};
+ghost use Rattle.session_core.specs.Sessions.{Begins, is_open};
 ghost use Rattle.ends_core.specs.Sides.{peer_of};
 ghost use Rattle.session_core.specs.declared.state.State.TheVariants as states;
 
@@ -77,7 +78,7 @@ fn second<F: Summary>(
 }
 
 impl AnySession {
-    /// Opens a session over a version.
+    /// Opens a session over a version. It is open, and it hears its peer.
     pub fn open(
         alloc: Global,
         version: Version,
@@ -100,10 +101,14 @@ impl AnySession {
 
     /// Takes bytes of the peer, cut in any way, and returns how many it took: all, unless memory ran out.
     ///
-    /// Where memory runs out before it has taken any, it fails, and the session is as before.
+    /// Where memory runs out before it has taken any, it fails, and the session is as before. What comes after the end
+    /// of the session, or after a refusal, is taken and counts no more.
     pub fn push(&mut self, alloc: Global, piece: &[u8]) -> Result<usize, AllocError>
         ensures took { IfOk result (λ n. n ≤ length piece.now) }
         ensures pushes { IfOk result (λ n. Changes self.old self.new (PushesTo (take n piece.now))) }
+        ensures some { IfOk result (λ n. 0 < length piece.now → 0 < n) }
+        ensures all { IfOk result (λ n. is_open (state_in self.new) ≡ false → n ≡ length piece.now) }
+        ensures after { is_open (state_in self.old) ≡ false → (result ≡ Ok (length piece.now)) × (self.new ≡ self.old) }
         ensures memory { OnErr result (self.new ≡ self.old) }
     {
         match self {

@@ -5,7 +5,7 @@ ghost use Rattle.embedded_core.specs.Faults.{embedded_fault_number, of_strategy,
 ghost use Rattle.embedded_core.specs.declared.fault.EmbeddedFault.TheVariants as faults;
 
 use item_core::{EmptyRange, LengthFault};
-use settings_core::SettingsFault;
+use item_files::SettingsFault;
 use std::alloc::{AllocError, AllocFailed};
 use strategy_check::{CheckError, CheckFault};
 use strategy_core::{StrategyError, StrategyFault};
@@ -14,7 +14,7 @@ use version_log::LogFault;
 /// Why a call is refused.
 #[derive(Clone, Copy, Debug, PartialEq, Eq)]
 pub enum EmbeddedFault {
-    /// A text is no strategy: 30 to 35.
+    /// A text is no strategy: 29 to 35.
     Strategy(StrategyFault),
     /// A strategy is not to be accepted: 36 to 39.
     Check(CheckFault),

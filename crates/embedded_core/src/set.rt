@@ -10,8 +10,8 @@ ghost use Rattle.embedded_core.specs.SetStates.{set_by, newest, Inserts, IsSetFr
 
 use crate::fault::EmbeddedFault;
 use item_core::{Item, Range};
+use item_files::{ItemForm, item_set};
 use range_tree::Tree;
-use settings_core::{ItemForm, item_set};
 use std::alloc::{AllocError, Global};
 use std::marker::Model;
 use std::sync::Arc;

@@ -19,3 +19,4 @@ pub mod Standing
 pub use Rattle.definitions.specs.Engines
 pub use Rattle.definitions.specs.Theorems
 pub mod Sides
+pub mod Separating

@@ -9,7 +9,7 @@ ghost use Rattle.definitions.specs.Strategies.{IsTable, act, shares, is_split};
 ghost use Rattle.definitions.specs.Wire.{IsPart};
 ghost use Rattle.store_core.specs.Stores.{counted_in};
 
-use crate::cutting::cut_range;
+use crate::cutting::{bounds_at, cut_range};
 use crate::learning::push_unlisted;
 use digest_core::{Fingerprint, Summary};
 use item_core::{Item, Range};
@@ -131,12 +131,15 @@ fn push_cut<S: RangeStore, F: Summary>(
     requires few { length (S.content store.now) ≤ strategy.now.cap }
     requires split { IsTrue (is_split (act strategy.now (length (items_in (S.content store.now) range.now)))) }
     ensures { OnOk result (parts.new.items ≡ parts.old.items ++ map (replies.sum_of F.summary (S.content store.now))
-        (replies.cutup (S.content store.now) range.now
+        (replies.cutup strategy.now.bounds (S.content store.now) range.now
         (shares strategy.now (length (items_in (S.content store.now) range.now))))) }
 {
     rank_laws::shares_are_parts();
+    laws::cuts_have_ranges();
+    let _ = range.lower(); // proof only: the range rises
     let places = places_of(alloc, strategy, count_in(strategy, store, range))?;
-    let ranges = cut_range(alloc, store, range, &places)?;
+    let bounds = bounds_at(alloc, strategy.bounds(), store, range, &places)?;
+    let ranges = cut_range(alloc, range, &bounds)?;
     push_sums(alloc, parts, store, &ranges)
 }
 

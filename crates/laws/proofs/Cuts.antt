@@ -1,8 +1,9 @@
--- Ranges that are cut at own items: the parts, their sizes and their ranks.
--- In a set in order exactly j items come before the one at place j. So one cut at that item leaves j items of the
--- range before it and the rest after it, and each item of the range, of any set, lies on exactly one side. Several
--- cuts follow one by one: the parts hold the shares, rise, lie in the range, and each item of the range is in one of
--- them (`spread`).
+-- Ranges that are cut: the parts, their sizes and their ranks.
+-- A *seam* at place j of a set in order is after the item before that place, and not after the one at it, as that item
+-- itself and the shortest bound are. Exactly j items come before it. So one cut there leaves j items of the range
+-- before it and the rest after it, and each item of the range, of any set, lies on exactly one side. Several cuts
+-- follow one by one: the parts hold the shares, rise, lie in the range, and each item of the range is in one of them
+-- (`spread`).
 -- Then ranks. Call a range *under n* in a set if the rank of the number of the set's items in it is below n. A part
 -- has no more items than its range, so a cut raises no rank in either set. In the set that it is made by, each share
 -- has a lower rank than the whole, so the parts are under n - 1 there. This goes over from ranges to the Sums of a
@@ -25,6 +26,10 @@ use Rattle.definitions.proofs.Lemmas.{length-filter, count_by-le-length, IsStric
 use Rattle.definitions.proofs.Lemmas.{before-asym, not_before-trans, below-trans, upto-before, All-map, All-filter}
 use Rattle.definitions.proofs.Lemmas.{All-at, All-append}
 use Rattle.rank_laws.proofs.Tables.{sum-shares_by, shares_by-positive}
+use Rattle.definitions.proofs.Words.{Bounds, At_items, Short, bound_at}
+use Rattle.definitions.proofs.Lemmas.{before-trans, separator-after, separator-upto, cases_order, upto-below}
+use Rattle.definitions.proofs.Partitions.{filter_is_front, filter_is_back}
+use Rattle.std.proofs.Common.{inl, inr}
 use Rattle.laws.proofs.Times.{when}
 
 -- ==== Filters of a list, and of a list in order
@@ -58,25 +63,57 @@ filter-all p (x ∷ xs) h = let e = h.0 in let ih = filter-all p xs h.1 in cc
 before : (x y : Item) → item_cmp x y ≡ Less → comes_before x y ≡ true
 before x y e = ap is_lt e
 
--- the first s items of a set come before the one at place s, and the others do not
-pub sides_of_place : (B : List Item) (s : ℕ) → IsSet B → s < length B →
-    (filter (λ z. comes_before z (get_or B s [])) B ≡ take s B)
-    × (filter (λ z. not (comes_before z (get_or B s []))) B ≡ drop s B)
-sides_of_place [] s set h = absurd (omega arith)
-sides_of_place (b ∷ B) zero set h =
-    let later : AllByRecursion (λ z. comes_before z b ≡ false) B =
-    All-map _ _ (λ z e. before-asym b z (before b z e)) B (sorted_head item_cmp b B set) in
-    let none = filter-none (λ z. comes_before z b) B later in
-    let all = filter-all (λ z. not (comes_before z b)) B (All-map _ _ (λ z k. ap not k) B later) in
-    let one = before-irrefl b in
-    (cc, cc)
-sides_of_place (b ∷ B) (suc s) set h =
-    let first : comes_before b (get_or B s []) ≡ true =
-    before b (get_or B s []) (Less-from_sorted item_cmp (b ∷ B) 0 (suc s) [] set (omega arith) h) in
-    let ih = sides_of_place B s (sorted_tail item_cmp b B set) (omega arith) in
-    let left = ih.0 in
-    let right = ih.1 in
-    (cc, cc)
+-- c divides B at place s: it is after the item before the place, and not after the item at it
+pub record IsSeam (B : List Item) (s : ℕ) (c : List ℕ) : Type 0 where
+  pub after : comes_before (get_or B (s - 1) []) c ≡ true
+  pub upto : comes_before (get_or B s []) c ≡ false
+
+-- what stands at a place of a list, whatever stands past its end
+same_read : {X : Type 0} (xs : List X) (k : ℕ) (d e : X) → k < length xs → get_or xs k d ≡ get_or xs k e
+same_read [] k d e h = absurd (omega arith)
+same_read (x ∷ xs) zero d e h = refl
+same_read (x ∷ xs) (suc k) d e h = same_read xs k d e (omega arith)
+
+-- the first s items of a set come before a seam at place s, and the others do not
+pub sides_of_seam : (B : List Item) (s : ℕ) (c : List ℕ) → IsSet B → 0 < s → s < length B → IsSeam B s c →
+    (filter (λ z. comes_before z c) B ≡ take s B) × (filter (λ z. not (comes_before z c)) B ≡ drop s B)
+sides_of_seam B s c set z h seam = (
+  filter_is_front (λ z. comes_before z c) B s (early, late),
+  filter_is_back (λ z. comes_before z c) B s (early, late),
+) where
+  early : (k : ℕ) (d : Item) → 0 ≤ k → k < s → comes_before (get_or B k d) c ≡ true
+  early k d low high =
+      let last : comes_before (get_or B (s - 1) d) c ≡ true =
+      subst (λ (b : Item). comes_before b c ≡ true) (same_read B (s - 1) [] d (omega arith)) seam.after in
+      elim (cases_order k (s - 1)) [
+        | inl same ↦ rw same last
+        | inr (inl below) ↦ before-trans (get_or B k d) (get_or B (s - 1) d) c
+            (before (get_or B k d) (get_or B (s - 1) d)
+            (Less-from_sorted item_cmp B k (s - 1) d set below (omega arith))) last
+        | inr (inr other) ↦ absurd (omega arith)
+      ]
+
+  late : (k : ℕ) (d : Item) → s ≤ k → k < length B → comes_before (get_or B k d) c ≡ false
+  late k d low high =
+      let first : comes_before (get_or B s d) c ≡ false =
+      subst (λ (b : Item). comes_before b c ≡ false) (same_read B s [] d h) seam.upto in
+      elim (cases_order s k) [
+        | inl same ↦ rw (sym same) first
+        | inr (inl below) ↦ not_before-trans (get_or B k d) (get_or B s d) c
+            (before-asym (get_or B s d) (get_or B k d)
+            (before (get_or B s d) (get_or B k d) (Less-from_sorted item_cmp B s k d set below high))) first
+        | inr (inr other) ↦ absurd (omega arith)
+      ]
+
+-- the bound of a part is a seam of the items, of whichever kind the bounds are
+pub seams : (b : Bounds) (B : List Item) → IsSet B → (p : ℕ) → 0 < p → p < length B → IsSeam B p (bound_at b B p)
+seams b B set p z h = by b (before (get_or B (p - 1) []) (get_or B p []) (Less-from_sorted item_cmp B (p - 1) p [] set (omega arith) h)) where
+  by : (b : Bounds) → comes_before (get_or B (p - 1) []) (get_or B p []) ≡ true → IsSeam B p (bound_at b B p)
+  by At_items rise = record { after = rise; upto = before-irrefl (get_or B p []) }
+  by Short rise = record {
+    after = separator-after (get_or B (p - 1) []) (get_or B p []) rise;
+    upto = separator-upto (get_or B (p - 1) []) (get_or B p []) rise;
+  }
 
 -- what comes before a bound, and what does not
 pub filter-two_sides : (c : Item) (B : List Item) → IsSet B →
@@ -98,7 +135,7 @@ filter-two_sides c (b ∷ B) set =
     ] in
     either (comes_before b c) refl
 
--- ==== A range cut at items of a set: the parts have the shares as their sizes, and partition the range
+-- ==== A range cut at seams of a set: the parts have the shares as their sizes, and partition the range
 
 abbrev pub span : List ℕ → Option (List ℕ) → Range
 span x y = record { lower = x; upper = y }
@@ -191,36 +228,32 @@ flat_map-ranges D set x (c ∷ cs) y r =
     filter-two_sides c (items_in D (span x y)) (IsStrictlySortedBy-filter item_cmp (contains (span x y)) D set) in
     cc
 
--- a bound that is the item at place s
+-- a bound that is a seam at place s of the items of A in the range
 pub record IsPlace (A : List Item) (x c : List ℕ) (y : Option (List ℕ)) (s : ℕ) : Type 0 where
   pub after : comes_before x c ≡ true
   pub before : is_below c y ≡ true
   pub left : length (items_in A (span x (Some c))) ≡ s
   pub right : items_in A (span c y) ≡ drop s (items_in A (span x y))
 
-at_place : (A : List Item) (x c : List ℕ) (y : Option (List ℕ)) (s : ℕ) → IsSet A → 0 < s →
+at_seam : (A : List Item) (x c : List ℕ) (y : Option (List ℕ)) (s : ℕ) → IsSet A → 0 < s →
     s < length (items_in A (span x y)) →
-    get_or (items_in A (span x y)) s [] ≡ c → IsPlace A x c y s
-at_place A x c y s set z h e =
+    IsSeam (items_in A (span x y)) s c → IsPlace A x c y s
+at_seam A x c y s set z h seam =
     let B : List Item = items_in A (span x y) in
     let sorted : IsSet B = IsStrictlySortedBy-filter item_cmp (contains (span x y)) A set in
-    let in_range : contains (span x y) c ≡ true = subst (λ (d : Item). contains (span x y) d ≡ true) e
-    (All-at (λ z. contains (span x y) z ≡ true) B s [] h (All-filter (contains (span x y)) A)) in
-    let first : Item = get_or B 0 [] in
+    let last_in = and_parts _ _
+    (All-at (λ z. contains (span x y) z ≡ true) B (s - 1) [] (omega arith) (All-filter (contains (span x y)) A)) in
     let first_in = and_parts _ _
-    (All-at (λ z. contains (span x y) z ≡ true) B 0 [] (omega arith) (All-filter (contains (span x y)) A)) in
-    let rises : comes_before first c ≡ true =
-    subst (λ (d : Item). comes_before first d ≡ true) e (ap is_lt (Less-from_sorted item_cmp B 0 s [] sorted z h)) in
-    let before : length (filter (λ z. comes_before z c) B) ≡ s =
-    subst (λ (d : Item). length (filter (λ z. comes_before z d) B) ≡ s) e
-    (ap length (sides_of_place B s sorted h).0 ∙ length-take-le s B (omega arith)) in
-    let after : filter (λ z. not (comes_before z c)) B ≡ drop s B =
-    subst (λ (d : Item). filter (λ z. not (comes_before z d)) B ≡ drop s B) e (sides_of_place B s sorted h).1 in
+    (All-at (λ z. contains (span x y) z ≡ true) B s [] h (All-filter (contains (span x y)) A)) in
+    let after = upto-before x (get_or B (s - 1) []) c (not-true _ last_in.0) seam.after in
+    let below = upto-below c (get_or B s []) y seam.upto first_in.1 in
+    let in_range = inside_from_between x c y after below in
+    let sides = sides_of_seam B s c sorted z h seam in
     record {
-      after = upto-before x first c (not-true _ first_in.0) rises;
-      before = (and_parts _ _ in_range).1;
-      left = ap length (items_in-left A x c y in_range) ∙ before;
-      right = items_in-right A x c y in_range ∙ after;
+      after = after;
+      before = below;
+      left = ap length (items_in-left A x c y in_range) ∙ ap length sides.0 ∙ length-take-le s B (omega arith);
+      right = items_in-right A x c y in_range ∙ sides.1;
     }
 
 -- X is cut into ranges with so many items of A
@@ -229,30 +262,38 @@ pub record AreCuts (A : List Item) (x : List ℕ) (cs : List (List ℕ)) (y : Op
   pub rise : CutsRise x cs y
   pub counts : map (λ Y. length (items_in A Y)) (ranges_between x cs y) ≡ sizes
 
-cuts_from : (A L : List Item) (x : List ℕ) (y : Option (List ℕ)) (start : ℕ) (sizes : List ℕ) → IsSet A →
+cuts_from : (A L : List Item) (g : ℕ → List ℕ) (x : List ℕ) (y : Option (List ℕ)) (start : ℕ) (sizes : List ℕ) →
+    IsSet A → ((p : ℕ) → 0 < p → p < length L → IsSeam L p (g p)) →
     items_in A (span x y) ≡ drop start L → start + sum sizes ≡ length L → 0 < length sizes →
     AllByRecursion (λ s. 0 < s) sizes →
-    AreCuts A x (map (λ place. get_or L place []) (inner_cuts start sizes)) y sizes
-cuts_from A L x y start [] set e total some positive = absurd (omega arith)
-cuts_from A L x y start (s ∷ []) set e total some positive = grind (arith, length-drop start L)
-cuts_from A L x y start (s ∷ t ∷ ss) set e total some positive =
-    let c : Item = get_or L (start + s) [] in
+    AreCuts A x (map g (inner_cuts start sizes)) y sizes
+cuts_from A L g x y start [] set seam e total some positive = absurd (omega arith)
+cuts_from A L g x y start (s ∷ []) set seam e total some positive = grind (arith, length-drop start L)
+cuts_from A L g x y start (s ∷ t ∷ ss) set seam e total some positive =
+    let c : Item = g (start + s) in
     let first = sum_by-cons (λ n. n) s (t ∷ ss) in
     let second = sum_by-cons (λ n. n) t ss in
     let short : s < length (items_in A (span x y)) = omega (arith, ap length e, length-drop start L, positive.1.0) in
-    let here : get_or (items_in A (span x y)) s [] ≡ c = ap (λ B. get_or B s []) e ∙ get_or-drop start L s [] in
-    let p = at_place A x c y s set positive.0 short here in
+    let read : (j : ℕ) → get_or (items_in A (span x y)) j [] ≡ get_or L (start + j) [] =
+    λ j. ap (λ B. get_or B j []) e ∙ get_or-drop start L j [] in
+    let there = seam (start + s) (omega (arith, positive.0)) (omega (arith, positive.1.0)) in
+    let last : start + (s - 1) ≡ start + s - 1 = omega (arith, positive.0) in
+    let here : IsSeam (items_in A (span x y)) s c = record {
+      after = rw (read (s - 1), last) there.after;
+      upto = rw (read s) there.upto;
+    } in
+    let p = at_seam A x c y s set positive.0 short here in
     let rest : items_in A (span c y) ≡ drop (start + s) L = p.right ∙ (ap (drop s) e ∙ drop-drop s start L) in
-    let ih = cuts_from A L c y (start + s) (t ∷ ss) set rest (omega arith) (omega arith) positive.1 in
+    let ih = cuts_from A L g c y (start + s) (t ∷ ss) set seam rest (omega arith) (omega arith) positive.1 in
     record { rise = (p.after, p.before, ih.rise); counts = let a = p.left in let b = ih.counts in cc }
 
 -- The parts of a cut have the shares as their sizes, where none is 0 and they add up to what there is.
-pub cutup-AreCuts : (A : List Item) (X : Range) (sizes : List ℕ) → IsSet A → sum sizes ≡ length (items_in A X) →
-    0 < length sizes →
-    AllByRecursion (λ s. 0 < s) sizes →
-    AreCuts A X.lower (map (λ place. get_or (items_in A X) place []) (inner_cuts 0 sizes)) X.upper sizes
-cutup-AreCuts A X sizes set total some positive =
-    cuts_from A (items_in A X) X.lower X.upper 0 sizes set refl (omega arith) some positive
+pub cutup-AreCuts : (b : Bounds) (A : List Item) (X : Range) (sizes : List ℕ) → IsSet A →
+    sum sizes ≡ length (items_in A X) → 0 < length sizes → AllByRecursion (λ s. 0 < s) sizes →
+    AreCuts A X.lower (map (bound_at b (items_in A X)) (inner_cuts 0 sizes)) X.upper sizes
+cutup-AreCuts b A X sizes set total some positive =
+    cuts_from A (items_in A X) (bound_at b (items_in A X)) X.lower X.upper 0 sizes set
+    (seams b (items_in A X) (IsStrictlySortedBy-filter item_cmp (contains X) A set)) refl (omega arith) some positive
 
 -- ---- how many parts
 
@@ -317,10 +358,10 @@ within-IsUnder {P} {f} r n X Y w h =
 -- the cut of a range by a peer whose table cuts it
 abbrev pub peer_cuts : Peer → Range → List (List ℕ)
 peer_cuts P X =
-    map (λ place. get_or (items_in P.items X) place []) (inner_cuts 0 (shares P.table (length (items_in P.items X))))
+    map (bound_at P.table.bounds (items_in P.items X)) (inner_cuts 0 (shares P.table (length (items_in P.items X))))
 
 abbrev pub peer_cutup : Peer → Range → List Range
-peer_cutup P X = cutup P.items X (shares P.table (length (items_in P.items X)))
+peer_cutup P X = cutup P.table.bounds P.items X (shares P.table (length (items_in P.items X)))
 
 -- whether the peer's table cuts X
 abbrev pub does_split : Peer → Range → Bool
@@ -331,7 +372,7 @@ pub peer_cutup-AreCuts : {P : Peer} {f : List ℕ} → Ready P f → (X : Range)
 peer_cutup-AreCuts {P} {f} r X s =
     let n : ℕ = length (items_in P.items X) in
     let descends = r.ranks.descends n (omega (arith, length-items_in-le_all P.items X, r.room)) s in
-    cutup-AreCuts P.items X (shares P.table n) r.set (sum-shares_by (act P.table n) n descends.0)
+    cutup-AreCuts P.table.bounds P.items X (shares P.table n) r.set (sum-shares_by (act P.table n) n descends.0)
     (omega (arith, descends.0)) (shares_by-positive (act P.table n) n)
 
 -- the bounds of a cut rise, whatever the table
@@ -342,11 +383,15 @@ peer_cuts-rise P X set = by (shares P.table count) (sum-shares_by (act P.table c
       count = length (items_in P.items X)
 
       by : (sizes : List ℕ) → (2 ≤ length sizes → sum sizes ≡ count) → AllByRecursion (λ s. 0 < s) sizes →
-          CutsRise X.lower (map (λ place. get_or (items_in P.items X) place []) (inner_cuts 0 sizes)) X.upper
+          CutsRise X.lower (map (bound_at P.table.bounds (items_in P.items X)) (inner_cuts 0 sizes)) X.upper
       by [] total positive = tt
       by (s ∷ []) total positive = tt
       by (s ∷ t ∷ ss) total positive =
-          (cutup-AreCuts P.items X (s ∷ t ∷ ss) set (total (omega arith)) (omega arith) positive).rise
+          (cutup-AreCuts P.table.bounds P.items X (s ∷ t ∷ ss) set (total (omega arith)) (omega arith) positive).rise
+
+-- so its parts do
+pub peer_cutup-rises : (P : Peer) (X : Range) → IsSet P.items → Rises X → AllByRecursion Rises (peer_cutup P X)
+peer_cutup-rises P X set rises = ranges-rise X.lower (peer_cuts P X) X.upper rises (peer_cuts-rise P X set)
 
 pub spread-cutup : (x : Item) (n : ℕ) (P : Peer) (X : Range) → IsSet P.items →
     spread x n (peer_cutup P X) ≡ when (contains X x) n

@@ -17,7 +17,7 @@ use Rattle.std.specs.declared.cmp.Ordering.{Ordering}
 use Rattle.definitions.proofs.Words.{AllByRecursion, ordering_reverse, Item, item_cmp, same_item, Range, contains}
 use Rattle.definitions.proofs.Words.{IsSet, has, items_in, difference, symmetric_difference, Summary, IsExact, Part}
 use Rattle.definitions.proofs.Words.{Sum, Listing, Answer, Message, has_open, opening, Table, shares, width, Peer}
-use Rattle.definitions.proofs.Words.{inner_cuts, cutup, sum_of, reply_to, reply, talk, talk_from, part_bound}
+use Rattle.definitions.proofs.Words.{Bounds, inner_cuts, cutup, sum_of, reply_to, reply, talk, talk_from, part_bound}
 use Rattle.definitions.proofs.Words.{most_parts, start, messages, initiator_of, responder_of, PartsAreFew, CostClaim}
 use Rattle.definitions.proofs.Words.{CostsLittle, MessagesFit, IsHonest}
 use Rattle.definitions.proofs.Lemmas.{common_steps, length-append, mul-add, mul_comm, mul-le-mul_left, ltb-true}
@@ -116,15 +116,22 @@ length-inner_cuts start [] = omega arith
 length-inner_cuts start (s ∷ []) = omega arith
 length-inner_cuts start (s ∷ t ∷ ss) = omega (arith, length-inner_cuts (start + s) (t ∷ ss))
 
-length-cutup : (A : List Item) (X : Range) (sizes : List ℕ) → length (cutup A X sizes) ≤ max 1 (length sizes)
-length-cutup A X sizes = grind (arith, length-ranges_between, length-map, length-inner_cuts)
+length-cutup : (b : Bounds) (A : List Item) (X : Range) (sizes : List ℕ) →
+    length (cutup b A X sizes) ≤ max 1 (length sizes)
+length-cutup b A X sizes = grind (arith, length-ranges_between, length-map, length-inner_cuts)
 
-length-cutup-shares : (A : List Item) (X : Range) (T : Table) (n : ℕ) → length (cutup A X (shares T n)) ≤ width T
-length-cutup-shares A X T n = omega (arith, length-cutup A X (shares T n), length-shares T n, widest-positive T.rows)
+length-cutup-shares : (b : Bounds) (A : List Item) (X : Range) (T : Table) (n : ℕ) →
+    length (cutup b A X (shares T n)) ≤ width T
+length-cutup-shares b A X T n =
+    omega (arith, length-cutup b A X (shares T n), length-shares T n, widest-positive T.rows)
+
+length-shares-items : (T : Table) (n : ℕ) → max 1 (length (shares T n)) ≤ max 1 n
+length-shares-items T n = grind (arith, sum-shares_by, length-le-sum, shares_by-positive, cases_lt)
 
 -- no more parts than items, or one
-length-cutup-items : (A : List Item) (X : Range) (T : Table) (n : ℕ) → length (cutup A X (shares T n)) ≤ max 1 n
-length-cutup-items A X T n = grind (arith, sum-shares_by, length-le-sum, shares_by-positive, cases_lt, length-cutup)
+length-cutup-items : (b : Bounds) (A : List Item) (X : Range) (T : Table) (n : ℕ) →
+    length (cutup b A X (shares T n)) ≤ max 1 n
+length-cutup-items b A X T n = omega (arith, length-cutup b A X (shares T n), length-shares-items T n)
 
 -- ---- hits
 
@@ -230,7 +237,13 @@ talk-few S D w b exact bound one k I R left right diff wide wide' =
     (λ x. omega (arith, ap (λ b. when b 1) (contains-whole x)))
 
 by_width : (D : List Item) (Q : Peer) (w : ℕ) → width Q.table ≤ w → CutsFew D w Q
-by_width D Q w wide = grind (arith, widest-positive, room, length-cutup-shares)
+by_width D Q w wide = record {
+  one = omega (arith, widest-positive Q.table.rows);
+  cuts = λ X some. room w (length (items_in D X)) (length (peer_cutup Q X)) (omega (
+    arith,
+    length-cutup-shares Q.table.bounds Q.items X Q.table (length (items_in Q.items X)),
+  )) some;
+}
 
 -- only the sets matter, and the widths
 pub few_parts : {F : Type 0} (S : Summary F) → PartsAreFew S
@@ -246,7 +259,7 @@ by_items : (D : List Item) (Q : Peer) → ((X : Range) → length (items_in Q.it
     CutsFew D 1 Q
 by_items D Q holds = record {
   one = omega arith;
-  cuts = λ X some. omega (arith, length-cutup-items Q.items X Q.table (length (items_in Q.items X)), holds X);
+  cuts = λ X some. omega (arith, length-cutup-items Q.table.bounds Q.items X Q.table (length (items_in Q.items X)), holds X);
 }
 
 HasDifference-both : (A B : List Item) → HasDifference (A ++ B) A B

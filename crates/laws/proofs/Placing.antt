@@ -24,7 +24,7 @@ use Rattle.definitions.proofs.Words.{next_inside, finish, ends_before, placed_to
 use Rattle.definitions.proofs.Words.{CutsUp, Lists, Answers, misplaced, stall, gap, missing_answer, mark_count}
 use Rattle.definitions.proofs.Words.{answer_repeats, OpeningIsExact, PlacingIsExact, RepliesArePlaced, RepliesAreApart}
 use Rattle.definitions.proofs.Words.{PlacedAreApart, TalksAreApart, Summary, act, shares, is_split, IsRankTable, Peer}
-use Rattle.definitions.proofs.Words.{inner_cuts, cutup, sum_of, differing, answer_to, reply_to, reply}
+use Rattle.definitions.proofs.Words.{inner_cuts, bound_at, cutup, sum_of, differing, answer_to, reply_to, reply}
 use Rattle.definitions.proofs.Lemmas.{none_passes, list_any-none, All-filter, not-true, not-false, eqb-true, and_parts}
 use Rattle.definitions.proofs.Lemmas.{eq-eqb, false≢true, and_from, length-map, map-append, filter-append}
 use Rattle.definitions.proofs.Lemmas.{same_range-eq, same_item-itself, same_range-itself, below-trans, before-irrefl}
@@ -364,12 +364,12 @@ some_cut g (s ∷ t ∷ ss) h = omega arith
 differing-Follows : {F : Type 0} (S : Summary F) (P : Peer) (X : Range) (n : ℕ) (b : Bool) →
     (IsTrue b → 2 ≤ length (shares P.table n)) →
     Lists X
-    (if b then map (sum_of S P.items) (cutup P.items X (shares P.table n)) else Listing X (items_in P.items X) ∷ [])
+    (if b then map (sum_of S P.items) (cutup P.table.bounds P.items X (shares P.table n)) else Listing X (items_in P.items X) ∷ [])
     ⊎ CutsUp X
-    (if b then map (sum_of S P.items) (cutup P.items X (shares P.table n)) else Listing X (items_in P.items X) ∷ [])
+    (if b then map (sum_of S P.items) (cutup P.table.bounds P.items X (shares P.table n)) else Listing X (items_in P.items X) ∷ [])
 differing-Follows S P X n true h =
     inr (
-      map (λ place. get_or (items_in P.items X) place []) (inner_cuts 0 (shares P.table n)),
+      map (bound_at P.table.bounds (items_in P.items X)) (inner_cuts 0 (shares P.table n)),
       some_cut _ (shares P.table n) (h refl),
       sums-AreSums S P.items _,
     )

@@ -10,7 +10,7 @@ use Rattle.std.proofs.Common.{◌≡◌, true, ap, ℕ, ◌≤◌, false, List, 
 use Rattle.std.specs.Prelude.{◌==◌}
 use Rattle.std.specs.List.Sorted.{IsStrictlySortedBy}
 use Rattle.definitions.proofs.Words.{IsNonDecreasing, IsExact, Lanes, same_lanes, two_lanes, counted_lanes, whole}
-use Rattle.definitions.proofs.Words.{IsSet, Sum, Message, Table, List_items, Split, list_only, Descends, Accepted, Peer}
+use Rattle.definitions.proofs.Words.{IsSet, Sum, Message, Table, List_items, Split, At_items, list_only, Descends, Accepted, Peer}
 use Rattle.definitions.proofs.Words.{Ready}
 use Rattle.definitions.proofs.Lemmas.{eq-eqb, and_from, false≢true}
 use Rattle.laws.specs.Weaker.{InitiatorStopsAnyhow, ResponderStopsAnyhow, ListsAreShortAnyhow, KnowledgeIsExactAnyhow}
@@ -42,6 +42,7 @@ halves = record {
   limit = 1;
   rounds = 1;
   rows = record { upto = 1; act = List_items } ∷ record { upto = 2; act = Split (1 ∷ 1 ∷ []) } ∷ [];
+  bounds = At_items;
 }
 
 abbrev pair : Peer
@@ -89,7 +90,7 @@ responder_needs_ranges h =
 -- ---- rows that end below the cap
 
 abbrev no_rows : Table
-no_rows = record { cap = 1; limit = 0; rounds = 0; rows = [] }
+no_rows = record { cap = 1; limit = 0; rounds = 0; rows = []; bounds = At_items }
 
 no_rows-Descends : (n : ℕ) → n ≤ 1 → Descends no_rows (0 ∷ 0 ∷ []) n
 no_rows-Descends n h s = absurd (false≢true s)

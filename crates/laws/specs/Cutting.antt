@@ -1,9 +1,11 @@
 -- What a cut is.
 --     CutsAreExact           of a range by a peer's table
+--     CutsHaveRanges         its parts rise, whatever the table
+--     SeparatorsAreShortest  the computed separator of two items is the shortest one
 --     TalksHaveRanges        each range of a talk rises
 use Rattle.std.specs.Prelude.{◌≡◌, ℕ, ◌≤◌, List, length, map, flat_map, IsTrue}
 use Rattle.std.specs.List.{AllByRecursion}
-use Rattle.definitions.specs.Items.{Item, Range, Rises}
+use Rattle.definitions.specs.Items.{Item, Range, Rises, comes_before, separator, IsSeparator}
 use Rattle.definitions.specs.Sets.{IsSet, items_in}
 use Rattle.definitions.specs.Fingerprints.{Summary}
 use Rattle.definitions.specs.Strategies.{act, shares, is_split}
@@ -25,7 +27,15 @@ pub record IsExactCut (P : Peer) (X : Range) (Ys : List Range) : Type 0 where
 abbrev pub CutsAreExact : Type 0
 CutsAreExact =
     (P : Peer) (f : List ℕ) (X : Range) → Ready P f → IsTrue (is_split (act P.table (length (items_in P.items X)))) →
-    IsExactCut P X (cutup P.items X (shares P.table (length (items_in P.items X))))
+    IsExactCut P X (cutup P.table.bounds P.items X (shares P.table (length (items_in P.items X))))
+
+abbrev pub CutsHaveRanges : Type 0
+CutsHaveRanges =
+    (P : Peer) (X : Range) → IsSet P.items → Rises X →
+    AllByRecursion Rises (cutup P.table.bounds P.items X (shares P.table (length (items_in P.items X))))
+
+abbrev pub SeparatorsAreShortest : Type 0
+SeparatorsAreShortest = (x y : Item) → IsTrue (comes_before x y) → IsSeparator x y (separator x y)
 
 abbrev pub TalksHaveRanges : {F : Type 0} → Summary F → Type 0
 TalksHaveRanges S =

@@ -15,7 +15,7 @@ ghost use Rattle.definitions.specs.Theorems.{InitiatorStops, ResponderStops, End
 ghost use Rattle.definitions.specs.Theorems.{InitiatorLearns, ResponderLearns, ListsAreShort, KnowledgeIsExact};
 ghost use Rattle.definitions.specs.Theorems.{KnowledgeIsSound, PartsAreFew, Headline, CostClaim, HistoryClaim};
 ghost use Rattle.definitions.specs.Theorems.{AbsorbClaim, SessionsEnd};
-ghost use Rattle.laws.specs.Cutting.{CutsAreExact, TalksHaveRanges};
+ghost use Rattle.laws.specs.Cutting.{CutsAreExact, CutsHaveRanges, SeparatorsAreShortest, TalksHaveRanges};
 ghost use Rattle.laws.specs.Growing.{TalksGrow, KnowledgeGrows};
 ghost use Rattle.laws.specs.Turns.{TalksBegin, TalksGoOn, EndsHear, EndsTalk};
 ghost use Rattle.laws.specs.Saying.{EndsSay};
@@ -64,6 +64,18 @@ pub fn whole_has_all()
 /// docs/LAWS.md: *A cut is exact*.
 pub fn cuts_are_exact()
     ensures { CutsAreExact }
+{}
+
+/// The parts of a cut rise if the range does, whatever the table.
+/// docs/LAWS.md: *A cut is exact*.
+pub fn cuts_have_ranges()
+    ensures { CutsHaveRanges }
+{}
+
+/// The bound of a cut that is short is the shortest that serves.
+/// docs/LAWS.md: *A cut is exact*.
+pub fn separators_are_shortest()
+    ensures { SeparatorsAreShortest }
 {}
 
 /// An honest reply is placed, whatever it replies to.

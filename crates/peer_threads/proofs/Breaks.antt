@@ -187,3 +187,37 @@ module _ {F : Type 0} (S : Summary F) (W : Profile F) where
     written = begins;
     broke = subst (λ k. Broke s k bytes (take n hello)) (sym none) (broke-hello s n bytes part);
   }
+
+  -- ---- something that is called for is unsaid
+
+  abbrev all_text : Speaker F → List ℕ → List ℕ
+  all_text s bytes = session_text W (called_by S W s bytes)
+
+  cut-message : (n : ℕ) (Ms front more : Messages) (M : Message F) → Ms ≡ front ++ M ∷ more →
+      n < length (spelling M) → length (said front ++ take n (spelling M)) < length (said Ms)
+  cut-message n Ms front more M is part =
+      let whole = ap (λ (l : List ℕ). length l) (ap said is ∙ joined front (M ∷ more)) in
+      omega (
+        arith,
+        length-append (said front) (take n (spelling M)),
+        length-take n (spelling M),
+        length-append (said front) (spelled (M ∷ more)),
+        length-append (spelling M) (spelled more),
+      )
+
+  -- the writer failed in a message
+  pub cut-in-message : (s : Speaker F) (o p : OutboxState) (t : Traffic) (holds : Option (List ℕ)) (bytes : List ℕ)
+      (front more : Messages) (M : Message F) (is : called_by S W s bytes ≡ front ++ M ∷ more)
+      (w : HasWritten W o t.held holds front) (same : p ≡ o) (begins : BreaksIn holds t.holds (message_text W M)) →
+      length (breaks-in-message s o p t holds bytes front more M is w same begins).all < length (all_text s bytes)
+  unfolding breaks-in-message
+  cut-in-message s o p t holds bytes front more M is w same (n, part, begins) =
+      cut-message n (called_by S W s bytes) front more M is part
+
+  -- in the hello
+  pub cut-in-hello : (s : Speaker F) (o : OutboxState) (t : Traffic) (bytes : List ℕ) (none : o.sent ≡ 0)
+      (begins : BreaksIn t.held t.holds W.hello) →
+      length (breaks-in-hello s o t bytes none begins).all < length (all_text s bytes)
+  unfolding breaks-in-hello
+  cut-in-hello s o t bytes none (n, part, begins) =
+      omega (arith, length-take n hello, length-append hello (spelled (called_by S W s bytes)))

@@ -26,9 +26,8 @@ use Rattle.peer_threads.specs.Choices.{is_counted, ChosenSpeaks, ChosenUnopened,
 use Rattle.peer_threads.specs.Hellos.{NoHello}
 use Rattle.peer_threads.specs.Inboxes.{StopsAt}
 use Rattle.peer_threads.specs.Outboxes.{OutboxState, outbox_state}
-use Rattle.peer_threads.specs.Outcomes.{Origin, Reader, Behind, traffic, traffic_of, traffic_behind, SaidAll}
-use Rattle.peer_threads.specs.Outcomes.{Bears}
-use Rattle.peer_threads.specs.Outcomes.{BearsUnopened, Speaks, SpeaksUnopened, Unopened, CameFirst}
+use Rattle.peer_threads.specs.Outcomes.{Origin, Reader, Behind, traffic, traffic_behind}
+use Rattle.peer_threads.specs.Outcomes.{Speaks, SpeaksUnopened, Unopened, CameFirst}
 use Rattle.ends_core.specs.Sides.{KeepsBounds}
 use Rattle.outcome_core.specs.Sent.{sent_in}
 use Rattle.peer_threads.specs.Stops.{outcome_of}
@@ -40,31 +39,6 @@ use Rattle.peer_threads.proofs.Origins.{takes-all, begins-alike}
 -- ---- what an outcome says is said of what was written, wherever the bytes read come from
 
 module _ {F : Type 0} (S : Summary F) (W : Profile F) where
-  said-of : (s : Speaker F) (o q : Origin) (left held holds : Option (List ℕ)) (bytes : List ℕ) (sent : ℕ) →
-      SaidAll S W s (traffic_of o left held holds) bytes sent → SaidAll S W s (traffic_of q left held holds) bytes sent
-  said-of s o q left held holds bytes sent x = record { written = x.written; count = x.count }
-
-  bears-of : (s : Speaker F) (version : ℕ) (o q : Origin) (left held holds : Option (List ℕ)) (r w : Seen)
-      (bytes : List ℕ) (x : Outcome) → Bears S W s version (traffic_of o left held holds) r w bytes x →
-      Bears S W s version (traffic_of q left held holds) r w bytes x
-  bears-of s version o q left held holds r w bytes (outcomes.Ended learned sent n) b =
-      (said-of s o q left held holds bytes sent b.0, b.1, b.2)
-  bears-of s version o q left held holds r w bytes (outcomes.PeerRefused code sent) b =
-      (said-of s o q left held holds bytes sent b.0, b.1, b.2)
-  bears-of s version o q left held holds r w bytes (outcomes.Refused code sent) b = b
-  bears-of s version o q left held holds r w bytes (outcomes.Io side sent) b = b
-  bears-of s version o q left held holds r w bytes (outcomes.Memory sent) b = b
-
-  unopened-of : (s : Speaker F) (version : ℕ) (o q : Origin) (left held holds : Option (List ℕ)) (r w : Seen)
-      (bytes : List ℕ) (x : Outcome) → BearsUnopened S W s version (traffic_of o left held holds) r w bytes x →
-      BearsUnopened S W s version (traffic_of q left held holds) r w bytes x
-  unopened-of s version o q left held holds r w bytes (outcomes.Ended learned sent n) b = absurd b
-  unopened-of s version o q left held holds r w bytes (outcomes.PeerRefused code sent) b =
-      bears-of s version o q left held holds r w bytes (outcomes.PeerRefused code sent) b
-  unopened-of s version o q left held holds r w bytes (outcomes.Refused code sent) b = b
-  unopened-of s version o q left held holds r w bytes (outcomes.Io side sent) b = b
-  unopened-of s version o q left held holds r w bytes (outcomes.Memory sent) b = b
-
   -- ---- all that was read, the first four bytes too
 
   speaks-all : (fits : Type 0) (s : Speaker F) (version bound limit : ℕ) (front : List ℕ)
@@ -77,9 +51,10 @@ module _ {F : Type 0} (S : Summary F) (W : Profile F) where
     record {
       bytes = x.bytes;
       read = takes-all front x.bytes unread mid left first x.read;
-      bears = bears-of s version (Behind front mid) (Reader unread) left held holds r w x.bytes o x.bears;
+      bears = x.bears;
       sent = x.sent;
       bounded = x.bounded;
+      is_few = x.is_few;
     },
     begins-alike counted_profile front x.bytes mid left four x.read,
   )
@@ -93,7 +68,7 @@ module _ {F : Type 0} (S : Summary F) (W : Profile F) where
     record {
       bytes = x.bytes;
       read = takes-all front x.bytes unread mid left first x.read;
-      bears = unopened-of s version (Behind front mid) (Reader unread) left held holds r w x.bytes o x.bears;
+      bears = x.bears;
     },
     begins-alike counted_profile front x.bytes mid left four x.read,
   )
@@ -238,6 +213,8 @@ short-speaks laws fits p version bound limit x bytes unread left held holds r w 
             broken bytes stop why leaves;
         sent = sent stop;
         bounded = bounded none.fits;
+        is_few = λ fit written. let kept = bounded none.fits fit in
+            record { few = kept.few_called; short = kept.short_called };
       },
       short-chooses bytes none.less,
     )) where

@@ -3,11 +3,12 @@
 -- Nothing was read, so what was written is nothing, the hello, or the hello and the first message, which is what no
 -- bytes call for.
 use Rattle.std.proofs.Common.{◌≡◌, ℕ, ◌≤◌, ◌+◌, Bool, false, true, List, [], ◌∷◌, length, Option, inl, inr, refl}
-use Rattle.std.proofs.Common.{sym, ap, ◌∙◌, subst, append-nil, IsTrue, arith}
+use Rattle.std.proofs.Common.{sym, ap, ◌∙◌, subst, append-nil, IsTrue, ◌<◌, ◌⊎◌, arith}
 use Rattle.std.specs.Prelude.{⊤}
 use Rattle.std.proofs.KnownBytes.{Appends-nil, Consumes-nil}
 use Rattle.std.specs.Io.KnownBytes.{Appends}
-use Rattle.definitions.specs.Accounts.{Seen, IsOfTheTable}
+use Rattle.definitions.specs.Accounts.{Seen}
+use Rattle.definitions.specs.Refusals.{table_full, serials_spent}
 use Rattle.definitions.specs.Fingerprints.{Summary}
 use Rattle.definitions.specs.Histories.{History, content}
 use Rattle.definitions.specs.Items.{Item, IsBytes}
@@ -16,7 +17,7 @@ use Rattle.definitions.specs.Ranks.{rank_by}
 use Rattle.definitions.specs.Replies.{Peer}
 use Rattle.definitions.specs.Ends.{initiator}
 use Rattle.definitions.specs.Engines.{Speaker, initiating}
-use Rattle.definitions.specs.Wire.{Profile}
+use Rattle.definitions.specs.Wire.{Profile, session_text}
 use Rattle.strategy_check.specs.Checked.{Checked}
 use Rattle.ends_core.specs.EndStates.{EndState}
 use Rattle.ends_core.specs.Turns.{fresh}
@@ -26,15 +27,15 @@ use Rattle.outcome_core.specs.declared.outcome.Outcome.{Outcome}
 use Rattle.outcome_core.specs.declared.outcome.Direction.TheVariants as directions
 use Rattle.peer_threads.specs.declared.stop.Stop.{Stop}
 use Rattle.peer_threads.specs.declared.stop.Stop.TheVariants as stops
-use Rattle.peer_threads.specs.Outcomes.{Traffic, traffic, Speaks, peer_at}
-use Rattle.ends_core.specs.Sides.{KeepsBounds, peer_of}
+use Rattle.peer_threads.specs.Outcomes.{Traffic, traffic, Speaks, IsTimely, IsCut, peer_at}
+use Rattle.ends_core.specs.Sides.{KeepsBounds, called_by, peer_of}
 use Rattle.peer_threads.specs.Inboxes.{InboxState, HasRead}
 use Rattle.peer_threads.specs.Outboxes.{OutboxState, outbox_state, hello_due, HasWritten, Adds, BreaksIn}
 use Rattle.peer_threads.specs.Stops.{outcome_of}
-use Rattle.peer_threads.specs.Underway.{heard_as, Underway, SomeOf, Unsaid, WroteFirst, HasBroken, WhyStopped, Stopped}
+use Rattle.peer_threads.specs.Underway.{heard_as, Underway, Unsaid, WroteFirst, HasBroken, WhyStopped, Stopped}
 use Rattle.peer_threads.specs.Underway.{Leaves}
 use Rattle.peer_threads.specs.Underway.{Spoke}
-use Rattle.peer_threads.proofs.Breaks.{breaks-in-hello, breaks-in-message}
+use Rattle.peer_threads.proofs.Breaks.{breaks-in-hello, breaks-in-message, cut-in-hello, cut-in-message}
 use Rattle.peer_threads.proofs.Exchanges.{adds, adds-nothing, wrote-first}
 use Rattle.peer_threads.proofs.Endings.{stopped-speaks, of-pin}
 
@@ -71,7 +72,7 @@ module _ {F : Type 0} (S : Summary F) (W : Profile F) where
   }
 
   -- memory ran out before anything was written
-  pub stops-silent : (T : ℕ → Type 0) (s : Speaker F) (o : OutboxState) (unread held : Option (List ℕ))
+  pub stops-silent : (T : ℕ → ℕ → Type 0) (s : Speaker F) (o : OutboxState) (unread held : Option (List ℕ))
       (r : Seen) (broken : Bool) →
       o ≡ outbox_state false 0 → Stopped S W T s o (traffic unread unread held held) r broken stops.Memory
   stops-silent T s o unread held r broken new = record {
@@ -82,7 +83,7 @@ module _ {F : Type 0} (S : Summary F) (W : Profile F) where
   }
 
   -- the writer failed before the hello was written
-  pub stops-broken : (T : ℕ → Type 0) (s : Speaker F) (o p : OutboxState) (unread held holds : Option (List ℕ))
+  pub stops-broken : (T : ℕ → ℕ → Type 0) (s : Speaker F) (o p : OutboxState) (unread held holds : Option (List ℕ))
       (r : Seen) (broken : Bool) →
       o ≡ outbox_state false 0 → p ≡ o → IsTrue broken → BreaksIn held holds (hello_due W o) →
       Stopped S W T s p (traffic unread unread held holds) r broken (stops.Io directions.Write)
@@ -92,7 +93,11 @@ module _ {F : Type 0} (S : Summary F) (W : Profile F) where
     read = Consumes-nil unread;
     why =
         let part = subst (λ x. BreaksIn held holds (hello_due W x)) new front in
-        (breaks-in-hello S W s p (traffic unread unread held holds) [] (ap (λ x. x.sent) (same ∙ new)) part, failed);
+        let none = ap (λ x. x.sent) (same ∙ new) in (
+          breaks-in-hello S W s p (traffic unread unread held holds) [] none part,
+          failed,
+          cut-in-hello S W s p (traffic unread unread held holds) [] none part,
+        );
   }
 
   -- the first message was not said
@@ -101,7 +106,7 @@ module _ {F : Type 0} (S : Summary F) (W : Profile F) where
       first ≡ opening S p.items →
       o ≡ outbox_state false 0 → Appends held holds (hello_due W o) → q ≡ outbox_state true o.sent →
       Unsaid W q r holds more broken (first ∷ []) stop →
-      Stopped S W IsOfTheTable (initiating S p) r (traffic unread unread held more) input broken stop
+      Stopped S W (IsTimely r.sent) (initiating S p) r (traffic unread unread held more) input broken stop
   stops-first p o q r unread held holds more input broken first stop opens new whole greeted unsaid =
       record { bytes = []; are_bytes = tt; read = Consumes-nil unread; why = by stop unsaid } where
         t : Traffic
@@ -114,30 +119,36 @@ module _ {F : Type 0} (S : Summary F) (W : Profile F) where
         none added = wrote-first S W (initiating S p) r t [] [] (opening S p.items ∷ []) refl
             (adds-nothing S W q r held holds more [] hello added)
 
-        some : SomeOf W q r holds more (first ∷ []) → WroteFirst S W (initiating S p) r t []
-        some (inl added) = none added
-        some (inr added) =
+        some : Adds W q r holds more (first ∷ []) → WroteFirst S W (initiating S p) r t []
+        some added =
             wrote-first S W (initiating S p) r t [] (opening S p.items ∷ []) [] refl
             (subst (λ (M : Message F). HasWritten W r held more (M ∷ [])) opens
             (adds S W q r held holds more [] (first ∷ []) hello added))
 
         by : (stop : Stop) → Unsaid W q r holds more broken (first ∷ []) stop →
-            WhyStopped S W IsOfTheTable (initiating S p) r t input broken [] stop
-        by (stops.Refused code) (table, added) = (inl (some added), inr table)
+            WhyStopped S W (IsTimely r.sent) (initiating S p) r t input broken [] stop
+        by (stops.Refused code) (inl (uncounted, one, added)) =
+            let fewer : r.sent < 1 = omega (arith, added.count, hello.count) in
+            (inl (none added), inr (inr (inl (uncounted, fewer))))
+        by (stops.Refused code) (inr (shut, one, added)) =
+            (inl (some added), inr (inr (inr (shut, omega (arith, added.count)))))
         by (stops.PeerRefused code) r = absurd r
         by stops.Memory added = inl (none added)
         by (stops.Io side) (write, failed, part) =
             let s = initiating S p in
-            let calls = sym (ap (λ (M : Message F). M ∷ []) opens) ∙ part.one in (
-              breaks-in-message S W s q r t holds [] [] [] part.message calls hello part.same part.front,
+            let calls = sym (ap (λ (M : Message F). M ∷ []) opens) ∙ part.one in
+            let broke = breaks-in-message S W s q r t holds [] [] [] part.message calls hello part.same part.front in
+            let cut = cut-in-message S W s q r t holds [] [] [] part.message calls hello part.same part.front in (
+              broke,
               subst (HasBroken input broken []) (sym write) failed,
+              subst (IsCut (length broke.all) (length (session_text W (called_by S W s [])))) (sym write) cut,
             )
 
   -- the table of sessions refused before anything was written
   pub stops-unbooked : (s : Speaker F) (o : OutboxState) (unread held : Option (List ℕ)) (input : Seen)
       (broken : Bool) (code : ℕ) →
-      o ≡ outbox_state false 0 → IsOfTheTable code →
-      Stopped S W IsOfTheTable s o (traffic unread unread held held) input broken (stops.Refused code)
+      o ≡ outbox_state false 0 → (code ≡ table_full) ⊎ (code ≡ serials_spent) →
+      Stopped S W (IsTimely o.sent) s o (traffic unread unread held held) input broken (stops.Refused code)
   stops-unbooked s o unread held input broken code new table = record {
     bytes = [];
     are_bytes = tt;
@@ -145,7 +156,7 @@ module _ {F : Type 0} (S : Summary F) (W : Profile F) where
     why = (
       inr
           (record { greeted = ap (λ x. x.greeted) new; none = ap (λ x. x.sent) new; written = Appends-nil held }),
-      inr table,
+      inr (inl (table, ap (λ x. x.sent) new)),
     );
   }
 
@@ -153,7 +164,7 @@ module _ {F : Type 0} (S : Summary F) (W : Profile F) where
   pub speaks-unsaid : (s : Speaker F) (version bound : ℕ) (x : OutboxState) (unread held holds : Option (List ℕ))
       (r w : Seen) (broken : Bool) (stop : Stop) (o : Outcome) →
       x ≡ outbox_state false 0 →
-      Stopped S W IsOfTheTable s x (traffic unread unread held held) r broken stop →
+      Stopped S W (IsTimely x.sent) s x (traffic unread unread held held) r broken stop →
       Leaves W x held holds broken w.failed stop →
       o ≡ outcome_of x.sent stop → Spoke S W s version bound (traffic unread unread held holds) r w o
   speaks-unsaid s version bound x unread held holds r w broken stop o new stopped leaves is =

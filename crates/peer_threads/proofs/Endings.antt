@@ -6,9 +6,11 @@ use Rattle.std.proofs.Common.{◌≡◌, ℕ, ◌≤◌, ◌+◌, ◌⊎◌, Boo
 use Rattle.std.proofs.Common.{Result, Ok, Err, OnOk, OnErr, inl, inr, refl, sym, ap, ◌∙◌, subst, append_assoc}
 use Rattle.std.proofs.Common.{append-nil, take-append-drop, IsTrue, arith}
 use Rattle.std.specs.Prelude.{if◌then◌else◌}
-use Rattle.std.proofs.KnownBytes.{Appends-trans, Appends-kept}
+use Rattle.std.proofs.KnownBytes.{Appends-trans, Appends-kept, Keeps-refl}
 use Rattle.std.specs.Io.KnownBytes.{Appends, Keeps}
-use Rattle.definitions.specs.Accounts.{Seen, HasFailed, WroteFault, IsFirstFault, IsTooLong, IsOfTheTable}
+use Rattle.definitions.specs.Accounts.{Call, Seen, called_for, HasFailed, WroteAll, WroteFault, IsFirstFault, IsTooLong}
+use Rattle.definitions.specs.Accounts.{IsOfTheTable}
+use Rattle.definitions.specs.Messages.{Message}
 use Rattle.definitions.specs.Ends.{End, is_over}
 use Rattle.definitions.specs.Items.{Item, IsBytes}
 use Rattle.definitions.specs.Histories.{content}
@@ -29,9 +31,9 @@ use Rattle.peer_threads.specs.declared.stop.Stop.{Stop}
 use Rattle.peer_threads.specs.declared.stop.Stop.TheVariants as stops
 use Rattle.peer_threads.specs.Outcomes.{Traffic, traffic_of, SaidAll, Bears, Speaks, SpeaksUnopened}
 use Rattle.ends_core.specs.Sides.{KeepsBounds}
-use Rattle.peer_threads.specs.Outcomes.{BearsUnopened, call_of, failing, peer_at}
+use Rattle.peer_threads.specs.Outcomes.{BearsUnopened, IsTimely, call_of, failing, peer_at}
 use Rattle.outcome_core.specs.Sent.{sent_in}
-use Rattle.ends_core.specs.Sides.{called_by, peer_of}
+use Rattle.ends_core.specs.Sides.{called_by, said_to, peer_of}
 use Rattle.peer_threads.specs.Outboxes.{OutboxState, refusal_text, Begins, WroteSo}
 use Rattle.peer_threads.specs.Stops.{outcome_of}
 use Rattle.peer_threads.specs.Underway.{WroteFirst, WroteUpTo, IsLong, IsFirst, IsNone, HasBroken}
@@ -136,9 +138,9 @@ module _ {F : Type 0} (S : Summary F) (W : Profile F) where
   -- ---- each outcome
 
   -- why this side refused
-  why : (T : ℕ → Type 0) (s : Speaker F) (version : ℕ) (bytes written : List ℕ) (r w : Seen) (k code : ℕ) →
-      IsFirst S W s r.ended bytes k code ⊎ T code →
-      IsFirstFault S W (call_of s version bytes written r w) k code ⊎ T code
+  why : (T : ℕ → ℕ → Type 0) (s : Speaker F) (version : ℕ) (bytes written : List ℕ) (r w : Seen) (k code : ℕ) →
+      IsFirst S W s r.ended bytes k code ⊎ T (length (called_by S W s bytes)) code →
+      IsFirstFault S W (call_of s version bytes written r w) k code ⊎ T (length (called_by S W s bytes)) code
   why T s version bytes written r w k code (inr table) = inr table
   why T s version bytes written r w k code (inl first) =
       inl (record { first = first.first; behind = by first.behind }) where
@@ -155,29 +157,56 @@ module _ {F : Type 0} (S : Summary F) (W : Profile F) where
               long = long.long;
             })
 
-  said-kept : (s : Speaker F) (t : Traffic) (holds : Option (List ℕ)) (bytes : List ℕ) (sent : ℕ) →
-      Keeps t.holds holds → SaidAll S W s t bytes sent →
-      SaidAll S W s (traffic_of t.unread t.left t.held holds) bytes sent
-  said-kept s t holds bytes sent kept said =
-      record { written = Appends-kept t.held t.holds holds _ said.written kept; count = said.count }
+  -- the table of sessions or the gate refused
+  timely : (k called code : ℕ) → IsTimely k called code → IsOfTheTable code
+  timely k called code (inl (inl is, none)) = (omega (arith, is), omega (arith, is))
+  timely k called code (inl (inr is, none)) = (omega (arith, is), omega (arith, is))
+  timely k called code (inr (inl (inl is, some))) = (omega (arith, is), omega (arith, is))
+  timely k called code (inr (inl (inr is, some))) = (omega (arith, is), omega (arith, is))
+  timely k called code (inr (inr (is, some))) = (omega (arith, is), omega (arith, is))
+
+  either : (c : Call F) (k code : ℕ) →
+      IsFirstFault S W c k code ⊎ IsTimely k (length (called_for S W c)) code →
+      IsFirstFault S W c k code ⊎ IsOfTheTable code
+  either c k code (inl first) = inl first
+  either c k code (inr table) = inr (timely k (length (called_for S W c)) code table)
+
+  -- all that was called for was written
+  record AllBehind (s : Speaker F) (version : ℕ) (t : Traffic) (holds : Option (List ℕ)) (bytes : List ℕ) (r w : Seen)
+      (sent : ℕ) : Type 0 where
+    written : List ℕ
+    wrote : Appends t.held holds written
+    account : WroteAll S W (call_of s version bytes written r w) sent
+
+  all-behind : (s : Speaker F) (version : ℕ) (t : Traffic) (holds : Option (List ℕ)) (bytes : List ℕ) (r w : Seen)
+      (sent : ℕ) → Keeps t.holds holds → SaidAll S W s t bytes sent →
+      called_by S W s bytes ≡ said_to S W s bytes → AllBehind s version t holds bytes r w sent
+  all-behind s version t holds bytes r w sent kept said called = record {
+    written = text W sent (called_by S W s bytes);
+    wrote = subst (λ (l : List (Message F)). Appends t.held holds (text W sent l)) (sym called)
+        (Appends-kept t.held t.holds holds _ said.written kept);
+    account = record { count = ap (λ (l : List (Message F)). length l) called ∙ said.count; written = refl };
+  }
 
   pub bears : (s : Speaker F) (version : ℕ) (o : OutboxState) (t : Traffic) (holds : Option (List ℕ)) (r w : Seen)
       (broken : Bool) (bytes : List ℕ) (stop : Stop) →
-      WhyStopped S W IsOfTheTable s o t r broken bytes stop → Leaves W o t.holds holds broken w.failed stop →
+      WhyStopped S W (IsTimely o.sent) s o t r broken bytes stop → Leaves W o t.holds holds broken w.failed stop →
       Bears S W s version (traffic_of t.unread t.left t.held holds) r w bytes (outcome_of o.sent stop)
   bears s version o t holds r w broken bytes (stops.Refused code) x leaves =
       let f = frame-behind s version o t holds bytes r w code x.0 leaves in
-      let reason = why IsOfTheTable s version bytes f.written r w o.sent code x.1 in
-      (f.written, f.wrote, record { wrote = f.account; why = reason })
+      let reason = why (IsTimely o.sent) s version bytes f.written r w o.sent code x.1 in
+      let c = call_of s version bytes f.written r w in
+      (f.written, f.wrote, (record { wrote = f.account; why = either c o.sent code reason }, reason))
   bears s version o t holds r w broken bytes (stops.PeerRefused code) x leaves =
-      (said-kept s t holds bytes o.sent leaves x.said, x.frame, x.told)
+      let f = all-behind s version t holds bytes r w o.sent leaves x.said x.called in
+      (f.written, f.wrote, (record { wrote = f.account; told = x.told }, x.called, x.frame))
   bears s version o t holds r w broken bytes stops.Memory x leaves =
       let f = frame-behind s version o t holds bytes r w no_memory x leaves in
       (f.written, f.wrote, record { wrote = f.account })
-  bears s version o t holds r w broken bytes (stops.Io side) (breaks, failed) leaves = (
+  bears s version o t holds r w broken bytes (stops.Io side) (breaks, failed, cut) leaves = (
     breaks.all,
     Appends-kept t.held t.holds holds breaks.all breaks.written leaves.0,
-    record { wrote = breaks.broke version r w; failed = by side failed },
+    (record { wrote = breaks.broke version r w; failed = by side failed }, cut),
   ) where
     by : (side : Direction) → HasBroken r broken bytes side →
         HasFailed (call_of s version bytes breaks.all r w) (failing side)
@@ -187,7 +216,7 @@ module _ {F : Type 0} (S : Summary F) (W : Profile F) where
   -- a session that stopped
   pub stopped-speaks : (s : Speaker F) (version bound : ℕ) (o : OutboxState) (t : Traffic) (holds : Option (List ℕ))
       (r w : Seen) (broken : Bool) (stop : Stop) →
-      Stopped S W IsOfTheTable s o t r broken stop →
+      Stopped S W (IsTimely o.sent) s o t r broken stop →
       Leaves W o t.holds holds broken w.failed stop → o.sent ≤ bound →
       Spoke S W s version bound (traffic_of t.unread t.left t.held holds) r w (outcome_of o.sent stop)
   stopped-speaks s version bound o t holds r w broken stop x leaves few = record {
@@ -212,12 +241,20 @@ module _ {F : Type 0} (S : Summary F) (W : Profile F) where
     bytes = f.bytes;
     are_bytes = f.are_bytes;
     read = f.read;
-    bears = (
-      f.said,
-      subst (λ (x : End F). IsTrue (is_over x.stage)) f.end f.over,
-      ap
-          (λ (x : End F). x.learned) f.end,
-    );
+    bears =
+        let all = all-behind s version t t.holds f.bytes r w o.sent (Keeps-refl t.holds) f.said f.called in (
+          all.written,
+          all.wrote,
+          (
+            record {
+              wrote = all.account;
+              over = subst (λ (x : End F). IsTrue (is_over x.stage)) f.end f.over;
+              learned_is = ap (λ (x : End F). x.learned) f.end;
+              version_is = refl;
+            },
+            f.called,
+          ),
+        );
     few = few;
   }
 
@@ -225,7 +262,7 @@ module _ {F : Type 0} (S : Summary F) (W : Profile F) where
 
   pub anyhow : (s : Speaker F) (o : OutboxState) (t : Traffic) (r : Seen) (broken : Bool) (bytes : List ℕ)
       (stop : Stop) →
-      WhyStopped S W IsNone s o t r broken bytes stop → WhyStopped S W IsOfTheTable s o t r broken bytes stop
+      WhyStopped S W IsNone s o t r broken bytes stop → WhyStopped S W (IsTimely o.sent) s o t r broken bytes stop
   anyhow s o t r broken bytes (stops.Refused code) (wrote, inl first) = (wrote, inl first)
   anyhow s o t r broken bytes (stops.Refused code) (wrote, inr none) = absurd none
   anyhow s o t r broken bytes (stops.PeerRefused code) x = x
@@ -233,15 +270,15 @@ module _ {F : Type 0} (S : Summary F) (W : Profile F) where
   anyhow s o t r broken bytes (stops.Io side) x = x
 
   pub stopped-anyhow : (s : Speaker F) (o : OutboxState) (t : Traffic) (r : Seen) (broken : Bool) (stop : Stop) →
-      Stopped S W IsNone s o t r broken stop → Stopped S W IsOfTheTable s o t r broken stop
+      Stopped S W IsNone s o t r broken stop → Stopped S W (IsTimely o.sent) s o t r broken stop
   stopped-anyhow s o t r broken stop x =
       record { bytes = x.bytes; are_bytes = x.are_bytes; read = x.read; why = anyhow s o t r broken x.bytes stop x.why }
 
   only-first : (s : Speaker F) (version : ℕ) (bytes written : List ℕ) (r w : Seen) (k code : ℕ) →
-      IsFirst S W s r.ended bytes k code ⊎ IsNone code →
+      IsFirst S W s r.ended bytes k code ⊎ IsNone (length (called_by S W s bytes)) code →
       IsFirstFault S W (call_of s version bytes written r w) k code
   only-first s version bytes written r w k code x = by (why IsNone s version bytes written r w k code x) where
-    by : IsFirstFault S W (call_of s version bytes written r w) k code ⊎ IsNone code →
+    by : IsFirstFault S W (call_of s version bytes written r w) k code ⊎ IsNone (length (called_by S W s bytes)) code →
         IsFirstFault S W (call_of s version bytes written r w) k code
     by (inl first) = first
     by (inr none) = absurd none
@@ -253,7 +290,7 @@ module _ {F : Type 0} (S : Summary F) (W : Profile F) where
   bears-unopened s version o t holds r w broken bytes (stops.Refused code) y l =
       let f = frame-behind s version o t holds bytes r w code y.0 l in
       let first = only-first s version bytes f.written r w o.sent code y.1 in
-      (f.written, f.wrote, record { wrote = f.account; why = inl first }, first)
+      (f.written, f.wrote, (record { wrote = f.account; why = inl first }, first))
   bears-unopened s version o t holds r w broken bytes (stops.PeerRefused code) y l =
       bears s version o t holds r w broken bytes (stops.PeerRefused code)
       (anyhow s o t r broken bytes (stops.PeerRefused code) y) l
@@ -280,7 +317,15 @@ module _ {F : Type 0} (S : Summary F) (W : Profile F) where
       ((bytes : List ℕ) → IsBytes bytes → A → KeepsBounds S W s bytes bound limit) →
       Speaks S W A s version bound limit t r w o
   speaks A s version bound limit t r w o x bounded =
-      record { bytes = x.bytes; read = x.read; bears = x.bears; sent = x.few; bounded = bounded x.bytes x.are_bytes }
+      record {
+        bytes = x.bytes;
+        read = x.read;
+        bears = x.bears;
+        sent = x.few;
+        bounded = bounded x.bytes x.are_bytes;
+        is_few = λ fits written. let kept = bounded x.bytes x.are_bytes fits in
+            record { few = kept.few_called; short = kept.short_called };
+      }
 
   -- a session of either side over a pin of the history that was found
   pub of-pin : (A : Type 0) (s : Peer → Speaker F) (k : ℕ) (a b : Checked) (w : View) (pin : PinState) (t : Traffic)

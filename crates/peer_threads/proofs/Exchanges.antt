@@ -3,15 +3,15 @@
 -- The events handed out are the first of all events in the bytes read. What was said to them begins all that the bytes
 -- call for, so the messages written are the first of those. Where an event stops the hearing, or the stream does, or
 -- its end, the laws say that nothing more is said and what the first fault is.
-use Rattle.std.proofs.Common.{◌≡◌, ℕ, ◌+◌, ◌<◌, ◌≤◌, ◌^◌, ◌⊎◌, Bool, true, false, List, [], ◌∷◌, ◌++◌}
+use Rattle.std.proofs.Common.{◌≡◌, ℕ, ◌+◌, ◌<◌, ◌⊎◌, Bool, true, false, List, [], ◌∷◌, ◌++◌}
 use Rattle.std.proofs.Common.{length}
 use Rattle.std.proofs.Common.{flat_map, take, Option, Some, None, inl, inr, refl, sym, ap, ◌∙◌, subst, append_assoc}
 use Rattle.std.proofs.Common.{append-nil, IsTrue, arith}
-use Rattle.std.specs.Prelude.{fold, slice_get, if◌then◌else◌}
+use Rattle.std.specs.Prelude.{slice_get, if◌then◌else◌}
 use Rattle.std.proofs.lemmas.List.{length-append}
 use Rattle.std.proofs.lemmas.Grind.{flat_map-append}
 use Rattle.std.proofs.Math.Seq.{take-append_seam, take-length}
-use Rattle.std.proofs.KnownBytes.{Appends-trans, Consumes-nil, Consumes-trans}
+use Rattle.std.proofs.KnownBytes.{Appends-trans}
 use Rattle.std.specs.Io.KnownBytes.{Appends, Consumes}
 use Rattle.definitions.proofs.Lemmas.{All-append, fold-append}
 use Rattle.definitions.specs.Fingerprints.{Summary}
@@ -27,30 +27,22 @@ use Rattle.definitions.specs.Taking.{Taken, ended, nothing_taken, after_ended}
 use Rattle.definitions.specs.Hearing.{Hearing, Goes_on, Over_at, Peer_refused, Refused_for, stands_at}
 use Rattle.definitions.specs.Hearing.{ended_by, hear_now, hear, begins, hears, stop_at, with_end}
 use Rattle.definitions.specs.Hearing.{hearing_to}
-use Rattle.definitions.specs.Accounts.{Seen, IsOfTheTable}
+use Rattle.definitions.specs.Accounts.{Seen}
 use Rattle.laws.specs.Hearing.{has_stopped, HearingsGoOn, OwnBegins, SaidBut, AgreesBy, BytesAgree}
 use Rattle.wire_core.specs.Feeds.{fault_at}
 use Rattle.ends_core.specs.EndStates.{EndState}
 use Rattle.peer_threads.specs.declared.stop.Stop.{Stop}
 use Rattle.peer_threads.specs.declared.stop.Stop.TheVariants as stops
-use Rattle.outcome_core.specs.declared.outcome.Direction.TheVariants as directions
-use Rattle.peer_threads.specs.Outcomes.{Traffic, Takes, traffic_of, SaidAll}
+use Rattle.peer_threads.specs.Outcomes.{Traffic, Takes, traffic_of, SaidAll, IsTimely, IsCut}
 use Rattle.ends_core.specs.Sides.{said_to, called_by}
-use Rattle.peer_threads.specs.Inboxes.{InboxState, HasRead, IsFaulty, StopsAt, ReadOn}
+use Rattle.peer_threads.specs.Inboxes.{InboxState, HasRead, IsFaulty, StopsAt}
 use Rattle.peer_threads.specs.Outboxes.{OutboxState, HasWritten, Adds}
-use Rattle.peer_threads.specs.Underway.{heard_as, said_by, Underway, SomeOf, Unsaid, Refuses, StopsBy, WroteFirst}
-use Rattle.peer_threads.specs.Underway.{WroteUpTo, IsLong, IsFirst, BreaksOff, HasBroken, WhyStopped}
+use Rattle.peer_threads.specs.Underway.{heard_as, said_by, Underway, Unsaid, Refuses, StopsBy, WroteFirst}
+use Rattle.peer_threads.specs.Underway.{WroteUpTo, IsLong, IsFirst, HasBroken, WhyStopped}
 use Rattle.peer_threads.specs.Underway.{Stopped, Finished}
 use Rattle.peer_threads.proofs.Origins.{takes-on}
-use Rattle.peer_threads.proofs.Hearings.{heard-goes, heard-over}
-use Rattle.peer_threads.proofs.Breaks.{breaks-behind, breaks-in-message}
-
-pub on-nothing : (unread : Option (List ℕ)) → ReadOn unread unread
-on-nothing unread = ([], tt, Consumes-nil unread)
-
-pub on-further : (unread mid left : Option (List ℕ)) → ReadOn unread mid → ReadOn mid left → ReadOn unread left
-on-further unread mid left a b =
-    (a.0 ++ b.0, All-append (λ y. y < 256) a.0 b.0 a.1 b.1, Consumes-trans unread mid left a.0 b.0 a.2 b.2)
+use Rattle.peer_threads.proofs.Hearings.{heard-goes, heard-over, first-frame}
+use Rattle.peer_threads.proofs.Breaks.{breaks-behind, breaks-in-message, cut-in-message}
 
 module _ {F : Type 0} (S : Summary F) (W : Profile F) where
   -- the laws that are cited, in one place
@@ -133,31 +125,6 @@ module _ {F : Type 0} (S : Summary F) (W : Profile F) where
     count = ap (λ (l : List (Message F)). length l) is ∙ sym w.count;
   }
 
-  -- a side that still hears has heard no fault frame, so the one that comes is the first
-  stays : (h : Hearing F) (rest : List (Event F)) → has_stopped h ≡ true → fold (hear S) h rest ≡ h
-  stays h [] stopped = refl
-  stays (Goes_on e t) (x ∷ rest) stopped = absurd cc
-  stays (Over_at e) (x ∷ rest) stopped = stays (Over_at e) rest stopped
-  stays (Peer_refused code) (x ∷ rest) stopped = stays (Peer_refused code) rest stopped
-  stays (Refused_for code) (x ∷ rest) stopped = stays (Refused_for code) rest stopped
-
-  first-frame : (h : Hearing F) (es rest : List (Event F)) (e : End F) (t : Taken F) (code : ℕ) →
-      fold (hear S) h es ≡ Goes_on e t → fault_of (es ++ Failed code ∷ rest) ≡ Some code
-  first-frame h [] rest e t code at = refl
-  first-frame h (Came p ∷ es) rest e t code at = first-frame (hear S h (Came p)) es rest e t code at
-  first-frame h (Ended ∷ es) rest e t code at = first-frame (hear S h Ended) es rest e t code at
-  first-frame h (Failed n ∷ es) rest e t code at = absurd (stopped h at) where
-    goes : (h : Hearing F) → has_stopped h ≡ true → fold (hear S) h es ≡ Goes_on e t → ⊥
-    goes h stopped at =
-        let same : h ≡ Goes_on e t =
-        sym (stays h es stopped) ∙ at in let wrong = sym stopped ∙ ap has_stopped same in absurd cc
-
-    stopped : (h : Hearing F) → fold (hear S) (hear S h (Failed n)) es ≡ Goes_on e t → ⊥
-    stopped (Goes_on f x) at = goes (Peer_refused n) refl at
-    stopped (Over_at f) at = goes (Over_at f) refl at
-    stopped (Peer_refused c) at = goes (Peer_refused c) refl at
-    stopped (Refused_for c) at = goes (Refused_for c) refl at
-
   -- ---- what was written, and then more
 
   pub adds : (o p : OutboxState) (a b c : Option (List ℕ)) (Ms Ns : List (Message F)) → HasWritten W o a b Ms →
@@ -228,17 +195,6 @@ module _ {F : Type 0} (S : Summary F) (W : Profile F) where
     heard = laws.go_on.hears_next s x.es h.end h.taken e x.heard ∙ sym now;
   }
 
-  -- so it does behind so many events, and then one more was handed out
-  pub goes-on-behind : Laws → (s : Speaker F) (h g : EndState F) (c : InboxState) (o p : OutboxState) (t : Traffic)
-      (holds : Option (List ℕ)) (e : Event F) → is_live s.start.stage ≡ true →
-      (x : At s h o t e) → HasRead W c x.bytes (x.es ++ e ∷ []) → heard_as g ≡ hear_now S h.end h.taken e →
-      Adds W o p t.holds holds (said_by h e) → (n : ℕ) → n ≤ length x.es →
-      (u : Underway S W s g c p (traffic_of t.unread t.left t.held holds)) × (n + 1 ≤ length u.events)
-  unfolding goes-on
-  goes-on-behind laws s h g c o p t holds e live x came now added n few =
-      let more : n + 1 ≤ length (x.es ++ e ∷ []) = omega (arith, length-append x.es (e ∷ [])) in
-      (goes-on laws s h g c o p t holds e live x came now added, more)
-
   -- an event that is refused says nothing
   refused-says : (h : EndState F) (e : Event F) (code : ℕ) → hear_now S h.end h.taken e ≡ Refused_for code →
       said_by h e ≡ []
@@ -290,7 +246,7 @@ module _ {F : Type 0} (S : Summary F) (W : Profile F) where
       ∙ append-nil (so_far s x.es)
 
   -- the event itself stops the session
-  pub stops-refusing : (T : ℕ → Type 0) → Laws →
+  pub stops-refusing : (T : ℕ → ℕ → Type 0) → Laws →
       (s : Speaker F) (h : EndState F) (o p : OutboxState) (t : Traffic) (holds : Option (List ℕ)) (r : Seen)
       (broken : Bool) (e : Event F) (stop : Stop) →
       is_live s.start.stage ≡ true → At s h o t e → Refuses S h e stop → Adds W o p t.holds holds [] →
@@ -302,6 +258,19 @@ module _ {F : Type 0} (S : Summary F) (W : Profile F) where
 
         still : HasWritten W p t.held holds (so_far s x.es)
         still = adds-nothing o p t.held t.holds holds (so_far s x.es) x.written added
+
+        told : {code : ℕ} → hear_now S h.end h.taken e ≡ Peer_refused code →
+            hearing_to S W s r.ended x.bytes ≡ Peer_refused code
+        told now = laws.go_on.hears_no_more W s r.ended x.bytes (x.es ++ e ∷ []) x.rest x.all
+            (ap has_stopped (heard-next s h o t e x ∙ now)) ∙ (heard-next s h o t e x ∙ now)
+
+        -- a side that was refused has said all that was called for
+        called : {code : ℕ} → hear_now S h.end h.taken e ≡ Peer_refused code →
+            called_by S W s x.bytes ≡ said_to S W s x.bytes
+        called now =
+            let Ms = messages_in W x.bytes in
+            (subst (AgreesBy (session S s Ms) (says S s Ms) (own S s Ms)) (told now)
+            (laws.agree s r.ended x.bytes live)).1
 
         by : (stop : Stop) → Refuses S h e stop → WhyStopped S W T s p u2 r broken x.bytes stop
         by (stops.Refused code) is =
@@ -319,9 +288,9 @@ module _ {F : Type 0} (S : Summary F) (W : Profile F) where
             x.all ∙ append_assoc x.es (e ∷ []) x.rest ∙ ap (λ y. x.es ++ y ∷ x.rest) is in
             record {
               said = said-all s p u2 x.bytes (so_far s x.es) said still;
-              frame = ap (λ l. fault_of l) frames ∙ first-frame (begins s) x.es x.rest h.end h.taken code x.heard;
-              told = laws.go_on.hears_no_more W s r.ended x.bytes (x.es ++ e ∷ []) x.rest x.all
-                  (ap has_stopped (heard-next s h o t e x ∙ now)) ∙ (heard-next s h o t e x ∙ now);
+              frame = ap (λ l. fault_of l) frames ∙ first-frame S W (begins s) x.es x.rest h.end h.taken code x.heard;
+              told = told now;
+              called = called now;
             }
         by stops.Memory is = inl (first-kept laws s h o p t holds e x added)
         by (stops.Io side) is = absurd is
@@ -331,7 +300,7 @@ module _ {F : Type 0} (S : Summary F) (W : Profile F) where
       (s : Speaker F) (h : EndState F) (o p : OutboxState) (t : Traffic) (holds : Option (List ℕ)) (r : Seen)
       (broken : Bool) (e : Event F) (stop : Stop) →
       is_live s.start.stage ≡ true → At s h o t e → Unsaid W o p t.holds holds broken (said_by h e) stop →
-      Stopped S W IsOfTheTable s p (traffic_of t.unread t.left t.held holds) r broken stop
+      Stopped S W (IsTimely p.sent) s p (traffic_of t.unread t.left t.held holds) r broken stop
   stops-unsaid laws s h o p t holds r broken e stop live x unsaid =
       record { bytes = x.bytes; are_bytes = x.are_bytes; read = x.read; why = by stop unsaid } where
         u2 : Traffic
@@ -341,35 +310,57 @@ module _ {F : Type 0} (S : Summary F) (W : Profile F) where
         begun_next = let r = laws.begin s (x.es ++ e ∷ []) x.rest in
             (r.0, ap (λ l. own S s (messages_of [] l)) x.all ∙ r.1)
 
-        some : SomeOf W o p t.holds holds (said_by h e) → WroteFirst S W s p u2 x.bytes
-        some (inl added) = first-kept laws s h o p t holds e x added
-        some (inr added) =
+        some : Adds W o p t.holds holds (said_by h e) → WroteFirst S W s p u2 x.bytes
+        some added =
             wrote-first s p u2 x.bytes (so_far s (x.es ++ e ∷ [])) begun_next.0 begun_next.1
             (subst (HasWritten W p t.held holds) (sym (laws.go_on.says_next s x.es h.end h.taken e live x.heard))
             (adds o p t.held t.holds holds (so_far s x.es) (said_by h e) x.written added))
 
+        -- it was called for, and not said
+        fewer : Adds W o p t.holds holds [] → 0 < length (said_by h e) → p.sent < length (called_by S W s x.bytes)
+        fewer added one =
+            let next = ap (λ (l : List (Message F)). length l)
+            (laws.go_on.says_next s x.es h.end h.taken e live x.heard) in
+            omega (
+              arith,
+              added.count,
+              x.written.count,
+              next,
+              one,
+              length-append (so_far s x.es) (said_by h e),
+              ap (λ (l : List (Message F)). length l) begun_next.1,
+              length-append (so_far s (x.es ++ e ∷ [])) begun_next.0,
+            )
+
         by : (stop : Stop) → Unsaid W o p t.holds holds broken (said_by h e) stop →
-            WhyStopped S W IsOfTheTable s p u2 r broken x.bytes stop
-        by (stops.Refused code) (table, added) = (inl (some added), inr table)
+            WhyStopped S W (IsTimely p.sent) s p u2 r broken x.bytes stop
+        by (stops.Refused code) (inl (uncounted, one, added)) =
+            (inl (first-kept laws s h o p t holds e x added), inr (inr (inl (uncounted, fewer added one))))
+        by (stops.Refused code) (inr (shut, one, added)) =
+            (inl (some added), inr (inr (inr (shut, omega (arith, added.count, one)))))
         by (stops.PeerRefused code) is = absurd is
         by stops.Memory added = inl (first-kept laws s h o p t holds e x added)
         by (stops.Io side) (write, failed, part) =
             let one = laws.go_on.says_next s x.es h.end h.taken e live x.heard
             ∙ ap (λ (l : List (Message F)). so_far s x.es ++ l) part.one in
             let calls = begun_next.1 ∙ ap (λ (l : List (Message F)). l ++ begun_next.0) one
-            ∙ append_assoc (so_far s x.es) (part.message ∷ []) begun_next.0 in (
-              breaks-in-message S W s o p u2 t.holds x.bytes (so_far s x.es) begun_next.0 part.message calls x.written
-                  part.same part.front,
+            ∙ append_assoc (so_far s x.es) (part.message ∷ []) begun_next.0 in
+            let broke = breaks-in-message S W s o p u2 t.holds x.bytes (so_far s x.es) begun_next.0 part.message calls
+            x.written part.same part.front in
+            let cut = cut-in-message S W s o p u2 t.holds x.bytes (so_far s x.es) begun_next.0 part.message calls
+            x.written part.same part.front in (
+              broke,
               subst (HasBroken r broken x.bytes) (sym write) failed,
+              subst (IsCut (length broke.all) (length (session_text W (called_by S W s x.bytes)))) (sym write) cut,
             )
 
   pub stops-event : Laws →
       (s : Speaker F) (h : EndState F) (o p : OutboxState) (t : Traffic) (holds : Option (List ℕ)) (r : Seen)
       (broken : Bool) (e : Event F) (stop : Stop) →
       is_live s.start.stage ≡ true → At s h o t e → StopsBy S W h e o p t.holds holds broken stop →
-      Stopped S W IsOfTheTable s p (traffic_of t.unread t.left t.held holds) r broken stop
+      Stopped S W (IsTimely p.sent) s p (traffic_of t.unread t.left t.held holds) r broken stop
   stops-event laws s h o p t holds r broken e stop live x (inl (refuses, added)) =
-      stops-refusing IsOfTheTable laws s h o p t holds r broken e stop live x refuses added
+      stops-refusing (IsTimely p.sent) laws s h o p t holds r broken e stop live x refuses added
   stops-event laws s h o p t holds r broken e stop live x (inr unsaid) =
       stops-unsaid laws s h o p t holds r broken e stop live x unsaid
 
@@ -399,7 +390,7 @@ module _ {F : Type 0} (S : Summary F) (W : Profile F) where
             ∙ ap (λ b. if b then Refused_for truncated else Goes_on e t) end ∙ ap Refused_for (sym three)
 
   -- all events handed out were heard, and no more comes; what was written is a beginning of what all events call for
-  pub why-unheard : (T : ℕ → Type 0) → Laws →
+  pub why-unheard : (T : ℕ → ℕ → Type 0) → Laws →
       (s : Speaker F) (h : EndState F) (o : OutboxState) (t : Traffic) (r : Seen) (broken : Bool) (stop : Stop)
       (bytes : List ℕ) (es : List (Event F)) →
       is_live s.start.stage ≡ true → o.sent ≡ length (so_far s es) →
@@ -413,12 +404,14 @@ module _ {F : Type 0} (S : Summary F) (W : Profile F) where
   )
   why-unheard T laws s h o t r broken (stops.PeerRefused code) bytes es live count wrote heard is = absurd is
   why-unheard T laws s h o t r broken stops.Memory bytes es live count wrote heard is = wrote is.0 is.1
-  why-unheard T laws s h o t r broken (stops.Io side) bytes es live count wrote heard (read, why, begins) = (
-    breaks-behind S W s o t bytes (wrote begins.0 begins.1),
-    subst (HasBroken r broken bytes) (sym read) why,
-  )
+  why-unheard T laws s h o t r broken (stops.Io side) bytes es live count wrote heard (read, why, begins) =
+      let broke = breaks-behind S W s o t bytes (wrote begins.0 begins.1) in (
+        broke,
+        subst (HasBroken r broken bytes) (sym read) why,
+        subst (IsCut (length broke.all) (length (session_text W (called_by S W s bytes)))) (sym read) tt,
+      )
 
-  pub stops-unheard-by : (T : ℕ → Type 0) → Laws →
+  pub stops-unheard-by : (T : ℕ → ℕ → Type 0) → Laws →
       (s : Speaker F) (h : EndState F) (o : OutboxState) (t : Traffic) (r : Seen) (broken : Bool) (stop : Stop)
       (bytes : List ℕ) (es : List (Event F)) →
       is_live s.start.stage ≡ true →
@@ -432,7 +425,7 @@ module _ {F : Type 0} (S : Summary F) (W : Profile F) where
     why = why-unheard T laws s h o t r broken stop bytes es live count wrote heard unheard;
   }
 
-  pub stops-unheard : (T : ℕ → Type 0) → Laws →
+  pub stops-unheard : (T : ℕ → ℕ → Type 0) → Laws →
       (s : Speaker F) (h : EndState F) (o : OutboxState) (t : Traffic) (r : Seen) (broken : Bool) (stop : Stop)
       (bytes : List ℕ) (es : List (Event F)) →
       is_live s.start.stage ≡ true →
@@ -453,31 +446,13 @@ module _ {F : Type 0} (S : Summary F) (W : Profile F) where
       (u : Underway S W s h b o t) → is_over h.end.stage ≡ false →
       ((bytes : List ℕ) × IsBytes bytes × Consumes t.left left bytes
       × StopsAt W r (u.bytes ++ bytes) u.events stop) →
-      Stopped S W IsOfTheTable s o (traffic_of t.unread left t.held t.holds) r broken stop
+      Stopped S W (IsTimely o.sent) s o (traffic_of t.unread left t.held t.holds) r broken stop
   stops-underway laws s h b o t left r broken stop live u goes more =
-      stops-unheard IsOfTheTable laws s h o (traffic_of t.unread left t.held t.holds) r broken stop
+      stops-unheard (IsTimely o.sent) laws s h o (traffic_of t.unread left t.held t.holds) r broken stop
       (u.bytes ++ more.0) u.events live
       (All-append (λ y. y < 256) u.bytes more.0 u.are_bytes more.1)
       (takes-on t.unread t.left left u.bytes more.0 u.read more.2) u.written
       (u.heard ∙ heard-goes S W h goes) more.3
-
-  -- as many events were handed out as a session reads at the most, and each took a byte
-  pub stops-late : Laws → (s : Speaker F) (h : EndState F) (b : InboxState) (o : OutboxState) (t : Traffic) (r : Seen)
-      (broken : Bool) → (u : Underway S W s h b o t) → 2 ^ 32 ≤ length u.events →
-      Stopped S W IsOfTheTable s o t r broken (stops.Io directions.Read)
-  stops-late laws s h b o t r broken u many =
-      record { bytes = u.bytes; are_bytes = u.are_bytes; read = u.read; why = (broke, inr enough) } where
-        enough : 2 ^ 32 ≤ length u.bytes
-        enough =
-            let took = u.came.took in
-            let split = ap (λ (l : List ℕ). length l) u.came.split in
-            omega (arith, length-append u.came.fed b.waiting)
-
-        broke : BreaksOff S W s o.sent t u.bytes
-        broke =
-            let first = laws.begin s u.events u.came.more in
-            breaks-behind S W s o t u.bytes (inl (wrote-first s o t u.bytes (so_far s u.events) first.0
-            (ap (λ l. own S s (messages_of [] l)) u.came.events ∙ first.1) u.written))
 
   -- ---- the session is over
 
@@ -499,4 +474,5 @@ module _ {F : Type 0} (S : Summary F) (W : Profile F) where
         said = said-all s o t u.bytes (so_far s u.events) said u.written;
         end = agreed.0;
         over = over;
+        called = agreed.2;
       }

@@ -1,20 +1,20 @@
 -- What one event makes of an end, and why a session stops at it: by cases on what the end answered, each case
 -- computes.
-use Rattle.std.proofs.Common.{◌≡◌, ℕ, ◌+◌, ◌⊎◌, Bool, true, false, List, [], ◌∷◌, Option, None, IfSome}
+use Rattle.std.proofs.Common.{◌≡◌, ℕ, ◌+◌, Bool, true, false, List, [], ◌∷◌, ◌++◌, Option, Some, None, IfSome}
 use Rattle.std.proofs.Common.{Err, inl, inr, refl, sym, ap, ◌∙◌, subst, append-nil, arith}
-use Rattle.std.specs.Prelude.{if◌then◌else◌}
+use Rattle.std.specs.Prelude.{fold, if◌then◌else◌}
 use Rattle.std.proofs.KnownBytes.{Appends-nil}
 use Rattle.std.specs.Io.KnownBytes.{Appends}
 use Rattle.definitions.specs.Fingerprints.{Summary}
 use Rattle.definitions.specs.Messages.{Part, Message}
 use Rattle.definitions.specs.Placing.{next, refusal}
-use Rattle.definitions.specs.Refusals.{unknown, over_bound, table_full, serials_spent}
-use Rattle.definitions.specs.Wire.{Profile, message_text, Event, Came, Ended}
-use Rattle.definitions.specs.Ends.{Answer, is_over}
-use Rattle.definitions.specs.Engines.{replied}
+use Rattle.definitions.specs.Wire.{Profile, message_text, Event, Came, Ended, Failed}
+use Rattle.definitions.specs.Ends.{End, Answer, is_over}
+use Rattle.definitions.specs.Engines.{replied, fault_of}
 use Rattle.definitions.specs.Taking.{Taken, taken, ended}
-use Rattle.definitions.specs.Accounts.{IsOfTheTable}
-use Rattle.definitions.specs.Hearing.{Goes_on, Over_at, goes_unless, ended_by, hear_now}
+use Rattle.definitions.specs.Hearing.{Hearing, Goes_on, Over_at, Peer_refused, Refused_for, goes_unless, ended_by}
+use Rattle.definitions.specs.Hearing.{hear_now, hear}
+use Rattle.laws.specs.Hearing.{has_stopped}
 use Rattle.ends_core.specs.EndStates.{EndState}
 use Rattle.ends_core.specs.Turns.{told_in, refusal_of, answer_of, behind_part, behind_end, messages_in}
 use Rattle.ends_core.specs.declared.turn.Turn.{Turn}
@@ -25,14 +25,6 @@ use Rattle.peer_threads.specs.declared.stop.Stop.{Stop}
 use Rattle.peer_threads.specs.Stops.{of_end}
 use Rattle.peer_threads.specs.Outboxes.{OutboxState, outbox_state, Adds}
 use Rattle.peer_threads.specs.Underway.{heard_as, most_sent, Unsaid, Refuses, StopsBy}
-
-pub of-the-table : (code : ℕ) → (code ≡ unknown) ⊎ (code ≡ over_bound) → IsOfTheTable code
-of-the-table code (inl is) = (omega (arith, is), omega (arith, is))
-of-the-table code (inr is) = (omega (arith, is), omega (arith, is))
-
-pub not-opened : (code : ℕ) → (code ≡ table_full) ⊎ (code ≡ serials_spent) → IsOfTheTable code
-not-opened code (inl is) = (omega (arith, is), omega (arith, is))
-not-opened code (inr is) = (omega (arith, is), omega (arith, is))
 
 module _ {F : Type 0} (S : Summary F) (W : Profile F) where
   -- ---- where the end stands then
@@ -57,6 +49,33 @@ module _ {F : Type 0} (S : Summary F) (W : Profile F) where
       heard_as g ≡ hear_now S h.end h.taken Ended
   ended-heard h g (turns.Reply N) told is = ap heard_as is ∙ ap (ended_by h.end h.taken) told
   ended-heard h g turns.Over told is = ap heard_as is ∙ ap (ended_by h.end h.taken) told
+
+  -- ---- a fault frame
+
+  -- a side that still hears has heard no fault frame, so the one that comes is the first
+  stays : (h : Hearing F) (rest : List (Event F)) → has_stopped h ≡ true → fold (hear S) h rest ≡ h
+  stays h [] stopped = refl
+  stays (Goes_on e t) (x ∷ rest) stopped = absurd cc
+  stays (Over_at e) (x ∷ rest) stopped = stays (Over_at e) rest stopped
+  stays (Peer_refused code) (x ∷ rest) stopped = stays (Peer_refused code) rest stopped
+  stays (Refused_for code) (x ∷ rest) stopped = stays (Refused_for code) rest stopped
+
+  pub first-frame : (h : Hearing F) (es rest : List (Event F)) (e : End F) (t : Taken F) (code : ℕ) →
+      fold (hear S) h es ≡ Goes_on e t → fault_of (es ++ Failed code ∷ rest) ≡ Some code
+  first-frame h [] rest e t code at = refl
+  first-frame h (Came p ∷ es) rest e t code at = first-frame (hear S h (Came p)) es rest e t code at
+  first-frame h (Ended ∷ es) rest e t code at = first-frame (hear S h Ended) es rest e t code at
+  first-frame h (Failed n ∷ es) rest e t code at = absurd (stopped h at) where
+    goes : (h : Hearing F) → has_stopped h ≡ true → fold (hear S) h es ≡ Goes_on e t → ⊥
+    goes h stopped at =
+        let same : h ≡ Goes_on e t =
+        sym (stays h es stopped) ∙ at in let wrong = sym stopped ∙ ap has_stopped same in absurd cc
+
+    stopped : (h : Hearing F) → fold (hear S) (hear S h (Failed n)) es ≡ Goes_on e t → ⊥
+    stopped (Goes_on f x) at = goes (Peer_refused n) refl at
+    stopped (Over_at f) at = goes (Over_at f) refl at
+    stopped (Peer_refused c) at = goes (Peer_refused c) refl at
+    stopped (Refused_for c) at = goes (Refused_for c) refl at
 
   -- ---- how much it may send, and has sent
 

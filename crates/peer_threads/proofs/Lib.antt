@@ -2,6 +2,8 @@ pub mod InboxSteps
 pub mod Beginnings
 pub mod Origins
 pub mod Hellos
+pub mod Puttings
+pub mod Listenings
 pub mod Hearings
 pub mod Breaks
 pub mod Exchanges

@@ -1,13 +1,22 @@
 -- What is read of an origin, and then more.
 use Rattle.std.proofs.Common.{◌≡◌, ℕ, List, [], ◌++◌, length, take, Option, sym, ap, ◌∙◌, subst, append_assoc}
-use Rattle.std.proofs.Common.{append-nil}
+use Rattle.std.proofs.Common.{append-nil, ◌<◌}
+use Rattle.definitions.proofs.Lemmas.{All-append}
 use Rattle.std.proofs.Math.Seq.{take-append_seam, take-length}
 use Rattle.std.proofs.KnownBytes.{Consumes-trans, Consumes-nil}
 use Rattle.std.specs.Io.KnownBytes.{Consumes}
 use Rattle.std.specs.Prelude.{bytes_eq}
 use Rattle.definitions.specs.Wire.{Profile}
 use Rattle.peer_threads.specs.Choices.{begins_with_hello}
+use Rattle.peer_threads.specs.Inboxes.{ReadOn}
 use Rattle.peer_threads.specs.Outcomes.{Origin, Reader, Behind, Takes}
+
+pub on-nothing : (unread : Option (List ℕ)) → ReadOn unread unread
+on-nothing unread = ([], tt, Consumes-nil unread)
+
+pub on-further : (unread mid left : Option (List ℕ)) → ReadOn unread mid → ReadOn mid left → ReadOn unread left
+on-further unread mid left a b =
+    (a.0 ++ b.0, All-append (λ y. y < 256) a.0 b.0 a.1 b.1, Consumes-trans unread mid left a.0 b.0 a.2 b.2)
 
 pub takes-on : (o : Origin) (left last : Option (List ℕ)) (bytes more : List ℕ) → Takes o left bytes →
     Consumes left last more → Takes o last (bytes ++ more)

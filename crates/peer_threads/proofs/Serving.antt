@@ -5,13 +5,12 @@
 -- any other.
 use Rattle.std.proofs.Common.{◌≡◌, ℕ, ◌+◌, ◌<◌, ◌≤◌, Bool, true, false, List, [], ◌∷◌, ◌++◌, length, Option, Some}
 use Rattle.std.proofs.Common.{None, Result, Ok, Err, IfOk, IfErr, OnOk, inl, inr, refl, sym, ap, ◌∙◌, subst, append-nil}
-use Rattle.std.proofs.Common.{IsTrue}
-use Rattle.std.proofs.Common.{arith}
+use Rattle.std.proofs.Common.{IsTrue, ◌⊎◌, arith}
 use Rattle.std.specs.Prelude.{if◌then◌else◌}
 use Rattle.std.proofs.KnownBytes.{Appends-nil}
 use Rattle.std.specs.Io.KnownBytes.{Appends, Consumes}
 use Rattle.definitions.proofs.Lemmas.{All-append}
-use Rattle.definitions.specs.Accounts.{Seen, IsOfTheTable}
+use Rattle.definitions.specs.Accounts.{Seen}
 use Rattle.definitions.specs.Fingerprints.{Summary}
 use Rattle.definitions.specs.Histories.{History, content}
 use Rattle.definitions.specs.Items.{IsBytes, Item, whole, same_range}
@@ -20,7 +19,7 @@ use Rattle.definitions.specs.Placing.{First, Refused, next, placed, refusal}
 use Rattle.definitions.specs.Ranks.{rank_by}
 use Rattle.definitions.specs.Replies.{Peer}
 use Rattle.definitions.specs.Strategies.{Table}
-use Rattle.definitions.specs.Refusals.{misplaced}
+use Rattle.definitions.specs.Refusals.{misplaced, table_full, serials_spent}
 use Rattle.definitions.specs.Streams.{Before_hello, feed, messages_of}
 use Rattle.codec_laws.specs.Parts.{FeedsJoin}
 use Rattle.definitions.specs.Wire.{Profile, Event, Came, Ended}
@@ -39,7 +38,7 @@ use Rattle.peer_threads.specs.declared.stop.Stop.TheVariants as stops
 use Rattle.outcome_core.specs.declared.outcome.Outcome.{Outcome}
 use Rattle.peer_threads.specs.Outcomes.{Traffic, Origin, Takes, traffic_of, traffic_behind, Speaks}
 use Rattle.ends_core.specs.Sides.{KeepsBounds}
-use Rattle.peer_threads.specs.Outcomes.{Unopened}
+use Rattle.peer_threads.specs.Outcomes.{Unopened, IsTimely}
 use Rattle.peer_threads.specs.Outcomes.{CameFirst}
 use Rattle.ends_core.specs.Sides.{peer_of}
 use Rattle.peer_threads.specs.Outcomes.{peer_at}
@@ -52,7 +51,7 @@ use Rattle.peer_threads.specs.Underway.{FirstCame, EndCame, IsFirstPart, Refuses
 use Rattle.peer_threads.specs.Underway.{WhyStopped, Stopped, Leaves, Spoke}
 use Rattle.peer_threads.proofs.Origins.{takes-on, takes-front}
 use Rattle.peer_threads.proofs.Hearings.{adds-none, heard-goes}
-use Rattle.peer_threads.proofs.Breaks.{breaks-in-hello}
+use Rattle.peer_threads.proofs.Breaks.{breaks-in-hello, cut-in-hello}
 use Rattle.peer_threads.proofs.Exchanges.{Laws, More, At, all-events, wrote-first, goes-on, stops-refusing}
 use Rattle.peer_threads.proofs.Exchanges.{stops-unheard, stops-unheard-by}
 use Rattle.peer_threads.proofs.Endings.{stopped-speaks, stopped-unopened, of-pin}
@@ -227,7 +226,7 @@ module _ {F : Type 0} (S : Summary F) (W : Profile F) where
   -- ---- behind the pin
 
   -- the hello was written, and no more: memory runs out, or the table of sessions refuses
-  stops-behind : (T : ℕ → Type 0) (P : Peer) (b : InboxState) (o : OutboxState) (t : Traffic) (r : Seen) (broken : Bool)
+  stops-behind : (T : ℕ → ℕ → Type 0) (P : Peer) (b : InboxState) (o : OutboxState) (t : Traffic) (r : Seen) (broken : Bool)
       (es : List (Event F)) (stop : Stop) (x : Exchanged W b o t es) →
       (WroteUpTo S W (responding P) o t x.bytes → WhyStopped S W T (responding P) o t r broken x.bytes stop) →
       Stopped S W T (responding P) o t r broken stop
@@ -240,16 +239,17 @@ module _ {F : Type 0} (S : Summary F) (W : Profile F) where
 
   pub stops-poor : (P : Peer) (b : InboxState) (o : OutboxState) (t : Traffic) (r : Seen) (broken : Bool)
       (es : List (Event F)) →
-      Exchanged W b o t es → Stopped S W IsOfTheTable (responding P) o t r broken stops.Memory
-  stops-poor P b o t r broken es x = stops-behind IsOfTheTable P b o t r broken es stops.Memory x (λ wrote. wrote)
+      Exchanged W b o t es → Stopped S W (IsTimely o.sent) (responding P) o t r broken stops.Memory
+  stops-poor P b o t r broken es x = stops-behind (IsTimely o.sent) P b o t r broken es stops.Memory x (λ wrote. wrote)
 
   pub stops-unlisted : (P : Peer) (b : InboxState) (o : OutboxState) (t : Traffic) (r : Seen) (broken : Bool)
       (es : List (Event F))
       (code : ℕ) →
-      Exchanged W b o t es → IsOfTheTable code →
-      Stopped S W IsOfTheTable (responding P) o t r broken (stops.Refused code)
-  stops-unlisted P b o t r broken es code x table =
-      stops-behind IsOfTheTable P b o t r broken es (stops.Refused code) x (λ wrote. (wrote, inr table))
+      Exchanged W b o t es → (code ≡ table_full) ⊎ (code ≡ serials_spent) → o.sent ≡ 0 →
+      Stopped S W (IsTimely o.sent) (responding P) o t r broken (stops.Refused code)
+  stops-unlisted P b o t r broken es code x table none =
+      stops-behind (IsTimely o.sent) P b o t r broken es (stops.Refused code) x
+      (λ wrote. (wrote, inr (inl (table, none))))
 
   -- the part waits for the end that was made
   abbrev pub at-part : (P : Peer) (steps : List ℕ) (h : EndState F) (b : InboxState) (o : OutboxState) (t : Traffic)
@@ -304,7 +304,7 @@ module _ {F : Type 0} (S : Summary F) (W : Profile F) where
   -- ---- all that is said of it
 
   -- the writer failed behind the hello that was read, before the own one was written
-  pub stops-broken-behind : (T : ℕ → Type 0) (P : Peer) (o p : OutboxState) (front : List ℕ)
+  pub stops-broken-behind : (T : ℕ → ℕ → Type 0) (P : Peer) (o p : OutboxState) (front : List ℕ)
       (unread held holds : Option (List ℕ)) (r : Seen) (broken : Bool) →
       o ≡ outbox_state false 0 → p ≡ o → IsTrue broken → BreaksIn held holds (hello_due W o) → IsBytes front →
       Stopped S W T (responding P) p (traffic_behind front unread unread held holds) r broken
@@ -316,14 +316,18 @@ module _ {F : Type 0} (S : Summary F) (W : Profile F) where
     why =
         let t = traffic_behind front unread unread held holds in
         let part = subst (λ x. BreaksIn held holds (hello_due W x)) new begins in
-        (breaks-in-hello S W (responding P) p t front (ap (λ x. x.sent) (same ∙ new)) part, failed);
+        let none = ap (λ x. x.sent) (same ∙ new) in (
+          breaks-in-hello S W (responding P) p t front none part,
+          failed,
+          cut-in-hello S W (responding P) p t front none part,
+        );
   }
 
   -- a session that stopped before it said anything
   pub speaks-stopped : (P : Peer) (version bound : ℕ) (x : OutboxState) (t : Traffic) (holds : Option (List ℕ))
       (r w : Seen) (broken : Bool) (stop : Stop) (o : Outcome) →
       x.sent ≡ 0 →
-      Stopped S W IsOfTheTable (responding P) x t r broken stop → Leaves W x t.holds holds broken w.failed stop →
+      Stopped S W (IsTimely x.sent) (responding P) x t r broken stop → Leaves W x t.holds holds broken w.failed stop →
       o ≡ outcome_of x.sent stop → Spoke S W (responding P) version bound (traffic_of t.unread t.left t.held holds) r w
       o
   speaks-stopped P version bound x t holds r w broken stop o none stopped leaves is =

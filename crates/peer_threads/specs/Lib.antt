@@ -28,4 +28,5 @@ pub mod Inboxes
 pub mod Hellos
 pub mod Outboxes
 pub mod Underway
+pub mod Listening
 pub mod Workers

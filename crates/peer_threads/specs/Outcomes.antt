@@ -8,28 +8,27 @@
 --     kind_of o                how the table of sessions counts the outcome o
 --     call_of s version bytes written r w      a session as it is seen from outside
 --     failing side                             what failed, as the accounts have it
---     Bears s version t r w bytes o      what the outcome o says
+--     IsTimely k called code             the table or the gate refused, at a time when it may
+--     IsCut k all side                   where the writer failed, something that was called for is unsaid
+--     Tells c o                          what the outcome o tells of a session, as the accounts have it
+--     Bears s version t r w bytes o      the same of what was written
 --     Speaks fits s version bound limit t r w o  all of it, of the bytes that were read, bounded where it fits
 --     Unopened t r w o         what an outcome says where no history was looked at
 --     CameFirst unread left    what was read begins with a message that may stand first
-use Rattle.std.specs.Prelude.{◌≡◌, ℕ, ◌≤◌, Bool, List, [], ◌∷◌, ◌++◌, Option, Some, None, length, IsTrue, ⊤}
-use Rattle.std.specs.List.{AllByRecursion}
+use Rattle.std.specs.Prelude.{◌≡◌, ℕ, ◌≤◌, ◌<◌, ◌⊎◌, Bool, List, [], ◌∷◌, ◌++◌, Option, Some, None, length, ⊤}
 use Rattle.std.specs.Io.KnownBytes.{Appends, Consumes}
 use Rattle.definitions.specs.Fingerprints.{Summary}
-use Rattle.definitions.specs.Items.{Item}
 use Rattle.definitions.specs.Messages.{Part, Message}
 use Rattle.definitions.specs.Placing.{First, next, refusal}
 use Rattle.definitions.specs.Replies.{Peer}
 use Rattle.definitions.specs.Histories.{content}
-use Rattle.definitions.specs.Wire.{Profile}
-use Rattle.definitions.specs.Talks.{Knowledge, knows}
-use Rattle.definitions.specs.Ends.{End, Stage, Fresh, Waits, Over, Spent, is_over}
-use Rattle.definitions.specs.Engines.{Speaker, says, session, own, takes, messages_in, fault_frame, text, responding}
-use Rattle.definitions.specs.Hearing.{Peer_refused, hearing_to}
-use Rattle.definitions.specs.Accounts.{Call, Seen, IsRefused, IsFirstFault, IsMemory, IsIo, Failing, Reading, Writing}
-use Rattle.definitions.specs.Theorems.{IsShort}
+use Rattle.definitions.specs.Refusals.{table_full, unknown, over_bound, serials_spent, gate_closed}
+use Rattle.definitions.specs.Wire.{Profile, session_text}
+use Rattle.definitions.specs.Engines.{Speaker, messages_in, fault_frame, text, responding}
+use Rattle.definitions.specs.Accounts.{Call, Seen, called_for, IsEnded, IsRefused, IsFirstFault, IsMemory}
+use Rattle.definitions.specs.Accounts.{IsPeerRefused, IsIo, Failing, Reading, Writing, IsFew}
 use Rattle.strategy_check.specs.Checked.{Checked}
-use Rattle.ends_core.specs.Sides.{KeepsBounds, peer_of, said_to, session_at}
+use Rattle.ends_core.specs.Sides.{KeepsBounds, peer_of, said_to}
 use Rattle.session_table.specs.declared.totals.CloseKind.{CloseKind}
 use Rattle.session_table.specs.declared.totals.CloseKind.TheVariants as kinds
 use Rattle.version_lock.specs.declared.view.View.{View}
@@ -86,6 +85,18 @@ abbrev pub failing : Direction → Failing
 failing directions.Read = Reading
 failing directions.Write = Writing
 
+-- the table was full, or had no serial left, before a message; the session's place was lost, or its bound was reached,
+-- in place of a message that was called for; the gate closed after a message
+abbrev pub IsTimely : ℕ → ℕ → ℕ → Type 0
+IsTimely k called code =
+    (((code ≡ table_full) ⊎ (code ≡ serials_spent)) × (k ≡ 0))
+    ⊎ ((((code ≡ unknown) ⊎ (code ≡ over_bound)) × (k < called)) ⊎ ((code ≡ gate_closed) × (0 < k)))
+
+-- of so many bytes that are called for fewer were written, where the writer failed
+abbrev pub IsCut : ℕ → ℕ → Direction → Type 0
+IsCut written called directions.Read = ⊤
+IsCut written called directions.Write = written < called
+
 -- the version of a session that ended
 abbrev pub HasVersion : Outcome → ℕ → Type 0
 HasVersion (Ended learned sent version) v = version ≡ v
@@ -100,21 +111,22 @@ module _ {F : Type 0} (S : Summary F) (W : Profile F) where
     pub written : Appends t.held t.holds (text W sent (said_to S W s bytes))
     pub count : length (said_to S W s bytes) ≡ sent
 
+  -- a session that came to its end, or to a fault frame, has said all that was called for
+  abbrev pub SaysAll : Call F → Type 0
+  SaysAll c = called_for S W c ≡ said_to S W c.speaker c.read
+
+  abbrev pub Tells : Call F → Outcome → Type 0
+  Tells c (Ended learned sent n) = IsEnded S W c sent learned n × SaysAll c
+  Tells c (PeerRefused code sent) = IsPeerRefused S W c sent code × SaysAll c × (fault_frame W c.read ≡ Some code)
+  Tells c (Refused code sent) =
+      IsRefused S W c sent code × (IsFirstFault S W c sent code ⊎ IsTimely sent (length (called_for S W c)) code)
+  Tells c (Io side sent) = IsIo S W c sent (failing side)
+      × IsCut (length c.written) (length (session_text W (called_for S W c))) side
+  Tells c (Memory sent) = IsMemory S W c sent
+
   abbrev pub Bears : Speaker F → ℕ → Traffic → Seen → Seen → List ℕ → Outcome → Type 0
-  Bears s version t r w bytes (Ended learned sent n) =
-      SaidAll s t bytes sent × IsTrue (is_over (session_at S W s bytes).stage) × (learned ≡ (session_at S W s bytes).learned)
-  Bears s version t r w bytes (PeerRefused code sent) =
-      SaidAll s t bytes sent × (fault_frame W bytes ≡ Some code)
-      × (hearing_to S W s r.ended bytes ≡ Peer_refused code)
-  Bears s version t r w bytes (Refused code sent) =
-      (written : List ℕ) × Appends t.held t.holds written
-      × IsRefused S W (call_of s version bytes written r w) sent code
-  Bears s version t r w bytes (Io side sent) =
-      (written : List ℕ) × Appends t.held t.holds written
-      × IsIo S W (call_of s version bytes written r w) sent (failing side)
-  Bears s version t r w bytes (Memory sent) =
-      (written : List ℕ) × Appends t.held t.holds written
-      × IsMemory S W (call_of s version bytes written r w) sent
+  Bears s version t r w bytes o =
+      (written : List ℕ) × Appends t.held t.holds written × Tells (call_of s version bytes written r w) o
 
   -- the bytes that were read, and what the outcome says of them; the side is bounded where its set is known to fit
   pub record Speaks (fits : Type 0) (s : Speaker F) (version bound limit : ℕ) (t : Traffic) (r w : Seen)
@@ -124,20 +136,22 @@ module _ {F : Type 0} (S : Summary F) (W : Profile F) where
     pub bears : Bears s version t r w bytes o
     pub sent : sent_in o ≤ bound
     pub bounded : fits → KeepsBounds S W s bytes bound limit
+    pub is_few : fits → (written : List ℕ) → IsFew S W (call_of s version bytes written r w) bound limit
 
   -- ---- before a history is looked at
 
   -- it did not end, and where this side refused, that is for the first fault in the bytes: no table of sessions was
   -- asked
+  abbrev pub TellsUnopened : Call F → Outcome → Type 0
+  TellsUnopened c (Ended learned sent n) = ⊥
+  TellsUnopened c (PeerRefused code sent) = Tells c (PeerRefused code sent)
+  TellsUnopened c (Refused code sent) = IsRefused S W c sent code × IsFirstFault S W c sent code
+  TellsUnopened c (Io side sent) = Tells c (Io side sent)
+  TellsUnopened c (Memory sent) = Tells c (Memory sent)
+
   abbrev pub BearsUnopened : Speaker F → ℕ → Traffic → Seen → Seen → List ℕ → Outcome → Type 0
-  BearsUnopened s version t r w bytes (Ended learned sent n) = ⊥
-  BearsUnopened s version t r w bytes (PeerRefused code sent) = Bears s version t r w bytes (PeerRefused code sent)
-  BearsUnopened s version t r w bytes (Refused code sent) =
-      (written : List ℕ) × Appends t.held t.holds written
-      × IsRefused S W (call_of s version bytes written r w) sent code
-      × IsFirstFault S W (call_of s version bytes written r w) sent code
-  BearsUnopened s version t r w bytes (Io side sent) = Bears s version t r w bytes (Io side sent)
-  BearsUnopened s version t r w bytes (Memory sent) = Bears s version t r w bytes (Memory sent)
+  BearsUnopened s version t r w bytes o =
+      (written : List ℕ) × Appends t.held t.holds written × TellsUnopened (call_of s version bytes written r w) o
 
   pub record SpeaksUnopened (s : Speaker F) (version : ℕ) (t : Traffic) (r w : Seen) (o : Outcome) : Type 0 where
     pub bytes : List ℕ

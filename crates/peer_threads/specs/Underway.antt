@@ -14,7 +14,8 @@
 --     Talked s e o t r broken result     what a call leaves that goes on to the end
 --     Leaves o held holds broken failed stop      what a stop writes behind all else
 --     Spoke s version bound t r w o  what an outcome says, of the bytes that were read
-use Rattle.std.specs.Prelude.{◌≡◌, ℕ, ◌+◌, ◌≤◌, ◌^◌, ◌⊎◌, Bool, false, List, [], ◌∷◌, ◌++◌, length, Option, Some, None}
+use Rattle.std.specs.Prelude.{◌≡◌, ℕ, ◌+◌, ◌≤◌, ◌<◌, ◌^◌, ◌⊎◌, Bool, false, List, [], ◌∷◌, ◌++◌, length, Option, Some}
+use Rattle.std.specs.Prelude.{None}
 use Rattle.std.specs.Prelude.{Result, Ok, Err, IsTrue, IsFalse, if◌then◌else◌, slice_get, ⊤}
 use Rattle.std.specs.Io.KnownBytes.{Appends, Keeps}
 use Rattle.definitions.specs.Fingerprints.{Summary}
@@ -22,15 +23,15 @@ use Rattle.definitions.specs.Items.{IsBytes}
 use Rattle.definitions.specs.Messages.{Part, Message}
 use Rattle.definitions.specs.Placing.{First, next, refusal}
 use Rattle.definitions.specs.Ranks.{rank_by}
-use Rattle.definitions.specs.Refusals.{no_memory, too_many_parts}
-use Rattle.definitions.specs.Wire.{Profile, message_text, Event, Came, Ended, Failed}
+use Rattle.definitions.specs.Refusals.{no_memory, too_many_parts, unknown, over_bound, gate_closed}
+use Rattle.definitions.specs.Wire.{Profile, message_text, session_text, Event, Came, Ended, Failed}
 use Rattle.definitions.specs.Streams.{messages_of}
 use Rattle.definitions.specs.Replies.{Peer}
 use Rattle.definitions.specs.Ends.{End, responder, is_over, is_sendable}
 use Rattle.definitions.specs.Engines.{Speaker, says, fault_frame, replied, text}
 use Rattle.definitions.specs.Taking.{ended}
 use Rattle.definitions.specs.Hearing.{Hearing, Goes_on, Over_at, Peer_refused, Refused_for, hear_now, hears, hearing_to}
-use Rattle.definitions.specs.Accounts.{Seen, BrokeOff, IsOfTheTable}
+use Rattle.definitions.specs.Accounts.{Seen, BrokeOff}
 use Rattle.laws.specs.Hearing.{adds}
 use Rattle.ends_core.specs.EndStates.{EndState}
 use Rattle.ends_core.specs.Turns.{fresh, behind_parts}
@@ -39,9 +40,9 @@ use Rattle.outcome_core.specs.declared.outcome.Direction.{Direction}
 use Rattle.outcome_core.specs.declared.outcome.Direction.TheVariants as directions
 use Rattle.peer_threads.specs.declared.stop.Stop.{Stop}
 use Rattle.peer_threads.specs.declared.stop.Stop.TheVariants as stops
-use Rattle.peer_threads.specs.Outcomes.{Traffic, Takes, SaidAll, Bears, call_of}
+use Rattle.peer_threads.specs.Outcomes.{Traffic, Takes, SaidAll, Bears, call_of, IsTimely, IsCut}
 use Rattle.outcome_core.specs.Sent.{sent_in}
-use Rattle.ends_core.specs.Sides.{called_by, session_at}
+use Rattle.ends_core.specs.Sides.{called_by, said_to, session_at}
 use Rattle.peer_threads.specs.Inboxes.{InboxState, HasRead, StopsAt}
 use Rattle.peer_threads.specs.Outboxes.{OutboxState, HasWritten, Adds, BreaksIn, WroteSo, refusal_text}
 
@@ -63,11 +64,11 @@ Refuses S h e (stops.PeerRefused code) = e ≡ Failed code
 Refuses S h e stops.Memory = ⊤
 Refuses S h e (stops.Io side) = ⊥
 
-module _ {F : Type 0} (W : Profile F) where
-  -- none of these messages was written, or each
-  abbrev pub SomeOf : OutboxState → OutboxState → Option (List ℕ) → Option (List ℕ) → List (Message F) → Type 0
-  SomeOf o p held holds Ms = Adds W o p held holds [] ⊎ Adds W o p held holds Ms
+-- the table of sessions did not count a message
+abbrev pub IsUncounted : ℕ → Type 0
+IsUncounted code = (code ≡ unknown) ⊎ (code ≡ over_bound)
 
+module _ {F : Type 0} (W : Profile F) where
   -- of the one message a proper beginning was written
   pub record BreaksSaying (o p : OutboxState) (held holds : Option (List ℕ)) (Ms : List (Message F)) : Type 0 where
     pub same : p ≡ o
@@ -75,10 +76,12 @@ module _ {F : Type 0} (W : Profile F) where
     pub one : Ms ≡ message ∷ []
     pub front : BreaksIn held holds (message_text W message)
 
-  -- why a message is not said
+  -- why a message is not said: it was not counted, and nothing was written; or the gate closed after it
   abbrev pub Unsaid : OutboxState → OutboxState → Option (List ℕ) → Option (List ℕ) → Bool → List (Message F) → Stop →
       Type 0
-  Unsaid o p held holds broken Ms (stops.Refused code) = IsOfTheTable code × SomeOf o p held holds Ms
+  Unsaid o p held holds broken Ms (stops.Refused code) =
+      (IsUncounted code × (0 < length Ms) × Adds W o p held holds [])
+      ⊎ ((code ≡ gate_closed) × (0 < length Ms) × Adds W o p held holds Ms)
   Unsaid o p held holds broken Ms (stops.PeerRefused code) = ⊥
   Unsaid o p held holds broken Ms stops.Memory = Adds W o p held holds []
   Unsaid o p held holds broken Ms (stops.Io side) =
@@ -124,8 +127,8 @@ HasBroken r broken bytes directions.Read = IsTrue r.failed ⊎ (2 ^ 32 ≤ lengt
 HasBroken r broken bytes directions.Write = IsTrue broken
 
 -- no table of sessions was asked
-abbrev pub IsNone : ℕ → Type 0
-IsNone code = ⊥
+abbrev pub IsNone : ℕ → ℕ → Type 0
+IsNone called code = ⊥
 
 module _ {F : Type 0} (W : Profile F) where
   -- what a refusal writes behind all else: nothing where the connection failed, or the peer refused
@@ -196,6 +199,7 @@ module _ {F : Type 0} (S : Summary F) (W : Profile F) where
     pub said : SaidAll S W s t bytes o.sent
     pub frame : fault_frame W bytes ≡ Some code
     pub told : hearing_to S W s over bytes ≡ Peer_refused code
+    pub called : called_by S W s bytes ≡ said_to S W s bytes
 
   -- exactly so many of the messages that the bytes call for were written whole, and nothing behind the beginning of one
   -- more: whatever the version is, and whatever is seen of the reader and the writer
@@ -204,14 +208,16 @@ module _ {F : Type 0} (S : Summary F) (W : Profile F) where
     pub written : Appends t.held t.holds all
     pub broke : (version : ℕ) (r w : Seen) → BrokeOff S W (call_of s version bytes all r w) k
 
-  abbrev pub WhyStopped : (ℕ → Type 0) → Speaker F → OutboxState → Traffic → Seen → Bool → List ℕ → Stop → Type 0
+  abbrev pub WhyStopped : (ℕ → ℕ → Type 0) → Speaker F → OutboxState → Traffic → Seen → Bool → List ℕ → Stop → Type 0
   WhyStopped T s o t r broken bytes (stops.Refused code) =
-      WroteUpTo s o t bytes × (IsFirst s r.ended bytes o.sent code ⊎ T code)
+      WroteUpTo s o t bytes × (IsFirst s r.ended bytes o.sent code ⊎ T (length (called_by S W s bytes)) code)
   WhyStopped T s o t r broken bytes (stops.PeerRefused code) = IsTold s o t r.ended bytes code
   WhyStopped T s o t r broken bytes stops.Memory = WroteUpTo s o t bytes
-  WhyStopped T s o t r broken bytes (stops.Io side) = BreaksOff s o.sent t bytes × HasBroken r broken bytes side
+  WhyStopped T s o t r broken bytes (stops.Io side) =
+      (b : BreaksOff s o.sent t bytes) × HasBroken r broken bytes side
+      × IsCut (length b.all) (length (session_text W (called_by S W s bytes))) side
 
-  pub record Stopped (T : ℕ → Type 0) (s : Speaker F) (o : OutboxState) (t : Traffic) (r : Seen) (broken : Bool)
+  pub record Stopped (T : ℕ → ℕ → Type 0) (s : Speaker F) (o : OutboxState) (t : Traffic) (r : Seen) (broken : Bool)
       (stop : Stop) : Type 0 where
     pub bytes : List ℕ
     pub are_bytes : IsBytes bytes
@@ -226,10 +232,11 @@ module _ {F : Type 0} (S : Summary F) (W : Profile F) where
     pub said : SaidAll S W s t bytes o.sent
     pub end : e ≡ session_at S W s bytes
     pub over : IsTrue (is_over e.stage)
+    pub called : called_by S W s bytes ≡ said_to S W s bytes
 
   abbrev pub Talked : Speaker F → End F → OutboxState → Traffic → Seen → Bool → Result (Unit {0}) Stop → Type 0
   Talked s e o t r broken (Ok x) = Finished s e o t
-  Talked s e o t r broken (Err stop) = Stopped IsOfTheTable s o t r broken stop
+  Talked s e o t r broken (Err stop) = Stopped (IsTimely o.sent) s o t r broken stop
 
   pub record Spoke (s : Speaker F) (version bound : ℕ) (t : Traffic) (r w : Seen) (o : Outcome) : Type 0 where
     pub bytes : List ℕ

@@ -2,9 +2,23 @@
 --     Outlives v w       what a seat is after workers have used seats that were split off it: it has seen no less, and
 --                        its writer, its entries and its cap are the same
 --     MayWork cap v      a worker may begin with the seat, under a strategy for so many items
-use Rattle.std.specs.Prelude.{◌≡◌, ◌≤◌, ℕ, None}
+--     PutIn x v w                the seat has put the item into the log, or found it there
+--     PutInOrDropped x v w dropped   .. or dropped it, since there was no room
+--     PutInAll xs v w dropped    it has done so with each of these, in order, but for so many that were dropped
+--     IsSettled lets_in xs v w   it has done so with the first of these, as many as the gate lets in
+--     PutsInLearned lets_in o v w    .. of what the outcome says was learned of the peer; nothing where it did not end
+--     LookedOrNot v w            the seat was used for one `pin`, or is as before
+--     Taught spoke learned       what was learned of a session that ended; or none, of one that did not
+use Rattle.std.specs.Prelude.{◌≡◌, ◌≤◌, ◌⊎◌, ◌+◌, ℕ, List, [], ◌∷◌, length, take, Option, Some, None, ⊤}
+use Rattle.definitions.specs.Items.{Item}
+use Rattle.definitions.specs.Talks.{Knowledge}
+use Rattle.version_log.specs.declared.answer.Added.{Added}
+use Rattle.version_log.specs.declared.answer.LogFault.TheVariants.{Full, Memory}
 use Rattle.version_lock.specs.declared.view.View.{View}
 use Rattle.version_lock.specs.Beginnings.{StartsWith}
+use Rattle.version_lock.specs.Calls.{Looked, DidInsert, DidNotInsert}
+use Rattle.outcome_core.specs.declared.outcome.Outcome.{Outcome}
+use Rattle.outcome_core.specs.declared.outcome.Outcome.TheVariants as outcomes
 
 pub record Outlives (v w : View) : Type 0 where
   pub seen : StartsWith w.seen v.seen
@@ -15,3 +29,54 @@ pub record Outlives (v w : View) : Type 0 where
 pub record MayWork (cap : ℕ) (v : View) : Type 0 where
   pub fits : v.cap ≤ cap
   pub fresh : v.writer ≡ None
+
+-- ---- what a worker puts into the log
+
+abbrev pub PutIn : Item → View → View → Type 0
+PutIn x v w = (did : Added) × DidInsert x v did w
+
+-- .. or has dropped it, since there was no room
+abbrev pub PutInOrDropped : Item → View → View → ℕ → Type 0
+PutInOrDropped x v w dropped =
+    (PutIn x v w × (dropped ≡ 0)) ⊎ (DidNotInsert x v Full w × (dropped ≡ 1))
+
+-- each is put in or dropped, in order; where memory runs out, that one and all that are left are dropped
+abbrev pub PutInAll : List Item → View → View → ℕ → Type 0
+PutInAll [] v w dropped = (w ≡ v) × (dropped ≡ 0)
+PutInAll (x ∷ xs) v w dropped =
+    ((next : View) × (one others : ℕ) × PutInOrDropped x v next one × PutInAll xs next w others
+    × (dropped ≡ one + others))
+    ⊎ (DidNotInsert x v Memory w × (dropped ≡ length (x ∷ xs)))
+
+-- `lets_in` is what the gate says of a session: of so many items it lets in so many
+abbrev pub IsSettled : (ℕ → ℕ → ℕ → Type 0) → List Item → View → View → Type 0
+IsSettled lets_in xs v w = (serial count dropped : ℕ) × lets_in serial (length xs) count
+    × PutInAll (take count xs) v w dropped
+
+abbrev pub PutsInLearned : (ℕ → ℕ → ℕ → Type 0) → Outcome → View → View → Type 0
+PutsInLearned lets_in (outcomes.Ended learned sent version) v w = IsSettled lets_in learned.theirs v w
+PutsInLearned lets_in (outcomes.Refused code sent) v w = w ≡ v
+PutsInLearned lets_in (outcomes.PeerRefused code sent) v w = w ≡ v
+PutsInLearned lets_in (outcomes.Io side sent) v w = w ≡ v
+PutsInLearned lets_in (outcomes.Memory sent) v w = w ≡ v
+
+-- ---- the session before
+
+abbrev pub LookedOrNot : View → View → Type 0
+LookedOrNot v w = Looked v w ⊎ (w ≡ v)
+
+abbrev pub HasNotEnded : Outcome → Type 0
+HasNotEnded (outcomes.Ended learned sent version) = ⊥
+HasNotEnded (outcomes.Refused code sent) = ⊤
+HasNotEnded (outcomes.PeerRefused code sent) = ⊤
+HasNotEnded (outcomes.Io side sent) = ⊤
+HasNotEnded (outcomes.Memory sent) = ⊤
+
+-- `spoke` is what is said of an outcome
+abbrev pub Taught : (Outcome → Type 0) → Option Knowledge → Type 0
+Taught spoke None = (o : Outcome) × spoke o × HasNotEnded o
+Taught spoke (Some learned) = (sent version : ℕ) × spoke (outcomes.Ended learned sent version)
+
+abbrev pub learned_in : Option (ℕ × Knowledge) → Option Knowledge
+learned_in None = None
+learned_in (Some (serial, learned)) = Some learned

@@ -1,10 +1,11 @@
 //! How a session ends: the one place that makes an outcome, and that refuses on the wire.
 
-ghost use Rattle.std.specs.Prelude.{◌≡◌, ◌≤◌, ℕ, List, Option};
+ghost use Rattle.std.specs.Prelude.{◌≡◌, ◌≤◌, ℕ, Bool, List, Option};
 ghost use Rattle.definitions.specs.Accounts.{Seen};
 ghost use Rattle.definitions.specs.Engines.{Speaker};
 ghost use Rattle.peer_threads.specs.Outcomes.{Origin, traffic_of, seen, HasVersion};
 ghost use Rattle.peer_threads.specs.Stops.{outcome_of};
+ghost use Rattle.peer_threads.specs.Listening.{Fares, HasFared, StopFares};
 ghost use Rattle.peer_threads.specs.Underway.{Talked, Spoke, Leaves};
 
 use crate::outbox::Outbox;
@@ -28,6 +29,8 @@ pub(crate) fn stopped<W: Write, F: Summary>(
     ensures outcome { result ≡ outcome_of outbox.sent stop }
     ensures leaves { Leaves F.profile outbox (W.contents writer.old.inner) (W.contents writer.new.inner)
         writer.old.failed writer.new.failed stop }
+    ensures fared { (start reads : ℕ) (failed : Bool) → StopFares start failed reads stop →
+        HasFared start failed reads result }
 {
     let sent = outbox.sent();
     match stop {
@@ -59,6 +62,8 @@ pub(crate) fn concluded<P: Role, S: RangeStore, W: Write, F: Summary>(
         (traffic_of unread left held (W.contents writer.new.inner)) r
         (seen writer.new.failed writer.new.ended) result }
     ensures version { HasVersion result version }
+    ensures fared { (start reads : ℕ) (failed : Bool) → Fares start failed reads talked →
+        HasFared start failed reads result }
 {
     match talked {
         Ok(()) => Outcome::Ended {

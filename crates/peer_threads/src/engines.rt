@@ -17,6 +17,7 @@ ghost use Rattle.ends_core.specs.Roles.{most_of};
 ghost use Rattle.ends_core.specs.Turns.{fresh};
 ghost use Rattle.version_lock.specs.Calls.{Looked};
 ghost use Rattle.peer_threads.specs.Inboxes.{Counts, Reads, ReadOn};
+ghost use Rattle.peer_threads.specs.Listening.{InStep, Fares, HasFared, IsNoBreak};
 ghost use Rattle.peer_threads.specs.Choices.{ChosenSpeaks, ChosenUnopened, ChosenFirst};
 ghost use Rattle.peer_threads.specs.Hellos.{IsHello};
 ghost use Rattle.peer_threads.specs.Outcomes.{Origin, Reader, Behind, traffic, traffic_of, traffic_behind, seen};
@@ -63,6 +64,7 @@ fn part_of<F: Summary>(alloc: Global, event: Event<F>) -> Result<Part<F>, Stop>
     ensures part { IfOk result (λ p. (event_value event ≡ Came p) × IsFirstPart p) }
     ensures stopped { IfErr result (λ stop. (P : Peer) →
         Refuses F.summary (first_held F.summary P []) (event_value event) stop) }
+    ensures quiet { IfErr result IsNoBreak }
 {
     match event {
         Event::Part(part) => {
@@ -79,6 +81,7 @@ fn end_of<F: Summary>(event: Event<F>) -> Result<(), Stop>
     ensures end { OnOk result (event_value event ≡ Ended) }
     ensures stopped { IfErr result (λ stop. (P : Peer) (p : messages.Part F) → IsFirstPart p →
         Refuses F.summary (first_held F.summary P (p ∷ [])) (event_value event) stop) }
+    ensures quiet { IfErr result IsNoBreak }
 {
     match event {
         Event::Part(_) => Err(Stop::from(PlaceFault::Misplaced)),
@@ -93,10 +96,16 @@ fn first_part<R: Read, F: Summary>(
     inbox: &mut Inbox<F>,
     reader: &mut Watched<R>,
 ) -> Result<Part<F>, Stop>
+    requires listens { reader.old.failed ≡ false }
     ensures read { Reads F.profile (R.remaining reader.old.inner) (R.remaining reader.new.inner) inbox.old
         (λ bytes es. FirstCame F.summary F.profile (seen reader.new.failed reader.new.ended) inbox.new bytes es
         result) }
     ensures reads { Counts reader.old.reads reader.new.reads inbox.old inbox.new }
+    ensures listens { OnOk result (reader.new.failed ≡ false) }
+    ensures fared { (start : ℕ) → InStep start reader.old.reads inbox.old.reads →
+        Fares start reader.new.failed reader.new.reads result }
+    ensures step { (start : ℕ) → InStep start reader.old.reads inbox.old.reads →
+        OnOk result (InStep start reader.new.reads inbox.new.reads) }
 {
     let event = inbox.next(alloc, reader)?;
     part_of(alloc, event)
@@ -108,11 +117,17 @@ fn first_end<R: Read, F: Summary>(
     inbox: &mut Inbox<F>,
     reader: &mut Watched<R>,
 ) -> Result<(), Stop>
+    requires listens { reader.old.failed ≡ false }
     ensures read { (p : messages.Part F) → IsFirstPart p →
         Reads F.profile (R.remaining reader.old.inner) (R.remaining reader.new.inner) inbox.old
         (λ bytes es. EndCame F.summary F.profile p (seen reader.new.failed reader.new.ended) inbox.new bytes es
         result) }
     ensures reads { Counts reader.old.reads reader.new.reads inbox.old inbox.new }
+    ensures listens { OnOk result (reader.new.failed ≡ false) }
+    ensures fared { (start : ℕ) → InStep start reader.old.reads inbox.old.reads →
+        Fares start reader.new.failed reader.new.reads result }
+    ensures step { (start : ℕ) → InStep start reader.old.reads inbox.old.reads →
+        OnOk result (InStep start reader.new.reads inbox.new.reads) }
 {
     let event = inbox.next(alloc, reader)?;
     end_of(event)
@@ -128,6 +143,7 @@ fn first_message<R: Read, W: Write, F: Summary>(
 ) -> Result<Begun<F>, Stop>
     requires hello { IsHello hello }
     requires fine { connection.old.writer.failed ≡ false }
+    requires listens { connection.old.reader.failed ≡ false }
     requires new { outbox.old ≡ outbox_state false 0 }
     ensures met { IfOk result (λ o. IsFirstPart o.first × Exchanged F.profile o.inbox outbox.new
         (traffic_behind hello.bytes (R.remaining connection.old.reader.inner) (R.remaining connection.new.reader.inner)
@@ -145,6 +161,11 @@ fn first_message<R: Read, W: Write, F: Summary>(
         × (o.inbox.reads ≤ 2 ^ 32)) }
     ensures stopped_reads { IfErr result
         (λ _. connection.new.reader.reads + hello.reads ≤ connection.old.reader.reads + 2 ^ 32) }
+    ensures listens { IfOk result (λ _. connection.new.reader.failed ≡ false) }
+    ensures fared { (start : ℕ) → InStep start connection.old.reader.reads hello.reads →
+        Fares start connection.new.reader.failed connection.new.reader.reads result }
+    ensures step { (start : ℕ) → InStep start connection.old.reader.reads hello.reads →
+        IfOk result (λ o. InStep start connection.new.reader.reads o.inbox.reads) }
 {
     laws::hearings_go_on::<F>();
     laws::own_begins::<F>();
@@ -165,6 +186,8 @@ fn answer<T: Wait, G: Gate, P: Role, S: RangeStore, R: Read, W: Write, F: Summar
     connection: &mut Connection<R, W>,
 ) -> Result<(), Stop>
     requires fine { connection.old.writer.failed ≡ false }
+    requires listens { connection.old.reader.failed ≡ false }
+    requires booked { booking.now.booked.bound ≡ most_sent (most_of P.side) party.old }
     requires count { outbox.old.sent ≡ party.old.end.sent }
     requires goes { is_over party.old.end.stage ≡ false }
     ensures talked { (p : Peer) (steps : List ℕ) (unread : Origin) (held : Option (List ℕ)) →
@@ -182,6 +205,8 @@ fn answer<T: Wait, G: Gate, P: Role, S: RangeStore, R: Read, W: Write, F: Summar
     ensures few { outbox.new.sent ≤ most_sent (most_of P.side) party.old }
     ensures reads { begun.inbox.reads ≤ 2 ^ 32 →
         connection.new.reader.reads + begun.inbox.reads ≤ connection.old.reader.reads + 2 ^ 32 }
+    ensures fared { (start : ℕ) → InStep start connection.old.reader.reads begun.inbox.reads →
+        Fares start connection.new.reader.failed connection.new.reader.reads result }
 {
     laws::hearings_go_on::<F>();
     laws::own_begins::<F>();
@@ -203,6 +228,7 @@ fn respond<T: Wait, S: RangeStore, G: Gate, R: Read, W: Write, F: Summary>(
 ) -> Outcome
     requires fits { length pin.items ≤ (arc_value host.now.accepted.now).table.cap }
     requires fine { connection.old.writer.failed ≡ false }
+    requires listens { connection.old.reader.failed ≡ false }
     requires none { outbox.sent ≡ 0 }
     ensures bytes { (unread : Origin) (held : Option (List ℕ)) →
         Exchanged F.profile begun.inbox outbox (traffic_of unread (R.remaining connection.old.reader.inner) held
@@ -219,6 +245,8 @@ fn respond<T: Wait, S: RangeStore, G: Gate, R: Read, W: Write, F: Summary>(
     ensures version { HasVersion result pin.version }
     ensures reads { begun.inbox.reads ≤ 2 ^ 32 →
         connection.new.reader.reads + begun.inbox.reads ≤ connection.old.reader.reads + 2 ^ 32 }
+    ensures fared { (start : ℕ) → InStep start connection.old.reader.reads begun.inbox.reads →
+        HasFared start connection.new.reader.failed connection.new.reader.reads result }
 {
     let version = pin.version();
     let mut party = match new_responder(host, pin) {
@@ -244,6 +272,8 @@ fn speak<T: Wait, G: Gate, P: Role, S: RangeStore, R: Read, W: Write, F: Summary
     connection: &mut Connection<R, W>,
 ) -> Result<(), Stop>
     requires fine { connection.old.writer.failed ≡ false }
+    requires listens { connection.old.reader.failed ≡ false }
+    requires booked { booking.now.booked.bound ≡ most_sent (most_of P.side) party.old }
     requires new { outbox.old ≡ outbox_state false 0 }
     requires one { party.old.end.sent ≡ 1 }
     ensures talked { (p : Peer) (steps : List ℕ) → party.old ≡ fresh steps (ends.initiator F.summary p) →
@@ -255,6 +285,7 @@ fn speak<T: Wait, G: Gate, P: Role, S: RangeStore, R: Read, W: Write, F: Summary
         (seen connection.new.reader.failed connection.new.reader.ended) connection.new.writer.failed result }
     ensures few { outbox.new.sent ≤ most_sent (most_of P.side) party.old }
     ensures reads { connection.new.reader.reads ≤ connection.old.reader.reads + 2 ^ 32 }
+    ensures fared { Fares connection.old.reader.reads connection.new.reader.failed connection.new.reader.reads result }
 {
     let mut inbox = Inbox::new(booking.alloc())?;
     outbox.greet(&mut connection.writer)?;
@@ -271,6 +302,7 @@ fn initiate<T: Wait, S: RangeStore, G: Gate, R: Read, W: Write, F: Summary>(
 ) -> Outcome
     requires fits { length pin.items ≤ (arc_value host.now.accepted.now).table.cap }
     requires fine { connection.old.writer.failed ≡ false }
+    requires listens { connection.old.reader.failed ≡ false }
     ensures bytes { Spoke F.summary F.profile
         (initiating F.summary (peer_of (arc_value host.now.accepted.now) pin.items)) pin.version
         (rank_by (arc_value host.now.accepted.now).steps (length pin.items) + 2)
@@ -280,6 +312,8 @@ fn initiate<T: Wait, S: RangeStore, G: Gate, R: Read, W: Write, F: Summary>(
         (seen connection.new.writer.failed connection.new.writer.ended) result }
     ensures version { HasVersion result pin.version }
     ensures reads { connection.new.reader.reads ≤ connection.old.reader.reads + 2 ^ 32 }
+    ensures fared { HasFared connection.old.reader.reads connection.new.reader.failed connection.new.reader.reads
+        result }
 {
     let version = pin.version();
     let mut outbox = Outbox::<F>::new();
@@ -310,6 +344,7 @@ fn serve_behind<T: Wait, S: RangeStore, G: Gate, R: Read, W: Write, F: Summary>(
     requires fits { seat.old.view.cap ≤ (arc_value shared.now.accepted.now).table.cap }
     requires hello { IsHello hello }
     requires fine { connection.old.writer.failed ≡ false }
+    requires listens { connection.old.reader.failed ≡ false }
     ensures seat { seat.new.table_id ≡ seat.old.table_id }
     ensures view { (Looked seat.old.view seat.new.view
         × (length (content seat.new.view.base) ≤ (arc_value shared.now.accepted.now).table.cap))
@@ -334,6 +369,8 @@ fn serve_behind<T: Wait, S: RangeStore, G: Gate, R: Read, W: Write, F: Summary>(
         (seen connection.new.writer.failed connection.new.writer.ended) result }
     ensures version { HasVersion result (length seat.new.view.base) }
     ensures reads { connection.new.reader.reads + hello.reads ≤ connection.old.reader.reads + 2 ^ 32 }
+    ensures fared { (start : ℕ) → InStep start connection.old.reader.reads hello.reads →
+        HasFared start connection.new.reader.failed connection.new.reader.reads result }
 {
     codec_laws::feeds_join::<F>();
     sides_keep_bounds::<F>(shared.accepted);
@@ -388,6 +425,9 @@ pub fn serve_one<T: Wait, S: RangeStore, G: Gate, R: Read, W: Write>(
         (seen connection.new.writer.failed connection.new.writer.ended) result }
     ensures version { HasVersion result (length seat.new.view.base) }
     ensures reads { connection.new.reader.reads ≤ connection.old.reader.reads + 2 ^ 32 }
+    // The reader has failed, or was read 2^32 times, only where the outcome says so.
+    ensures fared { HasFared connection.old.reader.reads connection.new.reader.failed connection.new.reader.reads
+        result }
 {
     laws::hearings_go_on::<Fingerprint>();
     laws::own_begins::<Fingerprint>();
@@ -430,6 +470,8 @@ pub fn dial_one<T: Wait, S: RangeStore, G: Gate, R: Read, W: Write, F: Summary>(
         (seen connection.new.writer.failed connection.new.writer.ended) result }
     ensures version { HasVersion result (length seat.new.view.base) }
     ensures reads { connection.new.reader.reads ≤ connection.old.reader.reads + 2 ^ 32 }
+    ensures fared { HasFared connection.old.reader.reads connection.new.reader.failed connection.new.reader.reads
+        result }
 {
     sides_keep_bounds::<F>(shared.accepted);
     let host = Host::of(rt, alloc, shared);

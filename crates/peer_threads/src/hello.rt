@@ -1,8 +1,9 @@
 //! The four bytes with which a peer begins, read before anything else is done.
 
-ghost use Rattle.std.specs.Prelude.{◌≡◌, ◌≤◌, ◌+◌, IfOk};
+ghost use Rattle.std.specs.Prelude.{◌≡◌, ◌≤◌, ◌+◌, false, IfOk};
 ghost use Rattle.peer_threads.specs.Outcomes.{seen};
 ghost use Rattle.peer_threads.specs.Hellos.{HelloRead};
+ghost use Rattle.peer_threads.specs.Listening.{InStep, Fares};
 
 use crate::piece::are_bytes;
 use crate::stop::Stop;
@@ -23,10 +24,13 @@ pub(crate) struct Hello {
 
 /// Reads the first four bytes. Refused 3 where the input ends inside them. It takes no memory.
 pub(crate) fn read_hello<R: Read>(reader: &mut Watched<R>) -> Result<Hello, Stop>
+    requires listens { reader.old.failed ≡ false }
     ensures read { HelloRead (R.remaining reader.old.inner) (R.remaining reader.new.inner)
         (seen reader.new.failed reader.new.ended) result }
     ensures reads { IfOk result (λ h. reader.new.reads ≤ reader.old.reads + h.reads) }
     ensures stopped_reads { reader.new.reads ≤ reader.old.reads + 4 }
+    ensures fared { Fares reader.old.reads reader.new.failed reader.new.reads result }
+    ensures step { IfOk result (λ h. InStep reader.old.reads reader.new.reads h.reads) }
 {
     let mut hello = Hello {
         bytes: [0u8; 4],

@@ -1,10 +1,12 @@
 //! What comes in on a connection: the one place that reads.
 
-ghost use Rattle.std.specs.Prelude.{◌≡◌, ◌-◌, ◌<◌, ◌≤◌, ◌^◌, [], None, IfOk, IfErr, OnOk, IfNone};
+ghost use Rattle.std.specs.Prelude.{◌≡◌, ◌-◌, ◌<◌, ◌≤◌, ◌^◌, ℕ, false, [], None, length, IfOk, IfErr, OnOk};
+ghost use Rattle.std.specs.Prelude.{IfNone, IfSome};
 ghost use Rattle.definitions.specs.Accounts.{Seen};
 ghost use Rattle.wire_core.specs.Feeds.{fault_at};
 ghost use Rattle.peer_threads.specs.Hellos.{IsHello};
 ghost use Rattle.peer_threads.specs.Outcomes.{seen};
+ghost use Rattle.peer_threads.specs.Listening.{InStep, Fares, IsNoBreak, rest_of};
 ghost use Rattle.peer_threads.specs.Inboxes.{HasRead, StopsAt, Next, SoFar, Reads, Counts, Held, Fetched};
 
 use crate::hello::Hello;
@@ -61,6 +63,7 @@ impl<F: Summary> Inbox<F> {
         ensures read { IfOk result (λ b. HasRead F.profile b hello.bytes []) }
         ensures reads { IfOk result (λ b. b.reads ≡ hello.reads) }
         ensures stopped { IfErr result (λ stop. (s : Seen) → StopsAt F.profile s hello.bytes [] stop) }
+        ensures quiet { IfErr result IsNoBreak }
     {
         if hello.bytes != F::hello() {
             return Err(Stop::Refused(WireFault::BadHello.number()));
@@ -80,9 +83,16 @@ impl<F: Summary> Inbox<F> {
         alloc: Global,
         reader: &mut Watched<R>,
     ) -> Result<Event<F>, Stop>
+        requires listens { reader.old.failed ≡ false }
         ensures read { Reads F.profile (R.remaining reader.old.inner) (R.remaining reader.new.inner) self.old
             (λ bytes es. Next F.profile (seen reader.new.failed reader.new.ended) self.new bytes es result) }
         ensures reads { Counts reader.old.reads reader.new.reads self.old self.new }
+        ensures listens { OnOk result (reader.new.failed ≡ false) }
+        ensures fared { (start : ℕ) → InStep start reader.old.reads self.old.reads →
+            Fares start reader.new.failed reader.new.reads result }
+        ensures step { (start : ℕ) → InStep start reader.old.reads self.old.reads →
+            OnOk result (InStep start reader.new.reads self.new.reads) }
+        ensures less { OnOk result (rest_of self.new < rest_of self.old) }
     {
         'reads: loop {
             match self.next_held(alloc)? {
@@ -99,6 +109,8 @@ impl<F: Summary> Inbox<F> {
         ensures none { IfOk result (λ made. IfNone made ((self.new.waiting ≡ [])
             × (fault_at self.new.feed.standing ≡ None))) }
         ensures reads { (self.new.reads ≡ self.old.reads) × (self.new.reads ≤ 2 ^ 32) }
+        ensures less { IfOk result (λ made. IfSome made (λ _. length self.new.waiting < length self.old.waiting)) }
+        ensures quiet { IfErr result IsNoBreak }
     {
         let (taken, event) = self.feed.next(alloc, self.piece.rest())?;
         self.piece.skip(taken);
@@ -107,12 +119,19 @@ impl<F: Summary> Inbox<F> {
 
     /// Reads once.
     fn read_more<R: Read>(&mut self, reader: &mut Watched<R>) -> Result<(), Stop>
-        requires { self.old.waiting ≡ [] }
+        requires waiting { self.old.waiting ≡ [] }
+        requires listens { reader.old.failed ≡ false }
         ensures read { Reads F.profile (R.remaining reader.old.inner) (R.remaining reader.new.inner) self.old
             (λ bytes es. Fetched F.profile (seen reader.new.failed reader.new.ended) self.new bytes es result) }
         ensures feed { self.new.feed ≡ self.old.feed }
         ensures more { OnOk result (2 ^ 32 - self.new.reads < 2 ^ 32 - self.old.reads) }
         ensures reads { Counts reader.old.reads reader.new.reads self.old self.new }
+        ensures listens { OnOk result (reader.new.failed ≡ false) }
+        ensures fared { (start : ℕ) → InStep start reader.old.reads self.old.reads →
+            Fares start reader.new.failed reader.new.reads result }
+        ensures step { (start : ℕ) → InStep start reader.old.reads self.old.reads →
+            OnOk result (InStep start reader.new.reads self.new.reads) }
+        ensures less { OnOk result (rest_of self.new ≤ rest_of self.old) }
     {
         if self.reads >= MAX_READS {
             return Err(Stop::Io(Direction::Read));

@@ -31,6 +31,10 @@ impl<'a, G> Noting<'a, G> {
 }
 
 impl<G: Gate> Gate for Noting<'_, G> {
+    ghost answers = { λ n. G.answers n.gate.now };
+
+    ghost lets_in = { λ n. G.lets_in n.gate.now };
+
     fn pass(&self, serial: u64, sent: u32) -> bool {
         self.gate.pass(serial, sent)
     }

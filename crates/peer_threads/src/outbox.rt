@@ -4,6 +4,7 @@ ghost use Rattle.std.specs.Prelude.{◌≡◌, ◌<◌, ◌+◌, false, true, On
 ghost use Rattle.std.specs.Io.KnownBytes.{Appends};
 ghost use Rattle.peer_threads.specs.Outboxes.{outbox_state, hello_due, refusal_text, Begins, BreaksIn, WroteSo};
 
+use crate::booking::Counted;
 use digest_core::Summary;
 use io_core::{Watched, WriterFailed, write_output};
 use std::io::Write;
@@ -65,11 +66,12 @@ impl<F: Summary> Outbox<F> {
         Ok(())
     }
 
-    /// Writes the text of a message, which counts once it is written whole.
+    /// Writes the text of a message that the table has counted. It is sent once it is written whole.
     pub(crate) fn send<W: Write>(
         &mut self,
         writer: &mut Watched<W>,
         text: &[u8],
+        counted: Counted,
     ) -> Result<(), WriterFailed>
         requires fine { writer.old.failed ≡ false }
         requires room { self.old.sent < 4294967295 }
@@ -80,6 +82,7 @@ impl<F: Summary> Outbox<F> {
         ensures same { OnErr result (self.new ≡ self.old) }
         ensures failed { OnErr result (IsTrue writer.new.failed) }
     {
+        counted.use_up();
         write_output(writer, text)?;
         self.sent += 1;
         Ok(())

@@ -31,7 +31,8 @@ impl Model for Piece {
 
     ghost view = { λ p. take (p.end - p.from) (drop p.from (vec_items p.room)) };
 
-    ghost invariant = { λ p. (p.from ≤ p.end) × (p.end ≤ vec_len p.room) × (0 < vec_len p.room) };
+    ghost invariant = { λ p. (p.from ≤ p.end) × (p.end ≤ vec_len p.room) × (0 < vec_len p.room)
+        × (vec_len p.room ≤ 65536) };
 }
 
 /// Room for so many bytes.
@@ -83,6 +84,8 @@ impl Piece {
         ensures count { IfOk result (λ count. count ≡ length self.new) }
         ensures ended { IfOk result (λ count. count ≡ 0 → IsTrue reader.new.ended) }
         ensures failed { OnErr result ((self.new ≡ []) × IsTrue reader.new.failed) }
+        ensures kept { IfOk result (λ _. reader.new.failed ≡ reader.old.failed) }
+        ensures few { length self.new ≤ 65536 }
         ensures reads { reader.new.reads ≡ one_more reader.old.reads }
     {
         // where the read fails, nothing is left

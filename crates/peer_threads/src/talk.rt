@@ -11,6 +11,8 @@ ghost use Rattle.wire_core.specs.Events.{event_value};
 ghost use Rattle.peer_threads.specs.Inboxes.{Counts, ReadOn};
 ghost use Rattle.peer_threads.specs.Outcomes.{Origin, traffic_of, seen};
 ghost use Rattle.peer_threads.specs.Outboxes.{Adds};
+ghost use Rattle.peer_threads.specs.Listening.{InStep, Fares};
+ghost use Rattle.peer_threads.specs.declared.stop.Stop.TheVariants as stops;
 ghost use Rattle.peer_threads.specs.Underway.{Underway, Talked, Unsaid, Refuses, StopsBy, heard_as, most_sent, said_by};
 
 use crate::booking::Booking;
@@ -22,7 +24,6 @@ use crate::stop::Stop;
 use digest_core::Summary;
 use ends_core::{Role, SessionEnd, Turn};
 use io_core::Watched;
-use outcome_core::Direction;
 use std::io::{Read, Write};
 use std::sync::Wait;
 use store_core::RangeStore;
@@ -43,10 +44,14 @@ pub(crate) fn say<T: Wait, G: Gate, W: Write, F: Summary>(
     ensures unsaid { IfErr result (λ stop. Unsaid F.profile outbox.old outbox.new (W.contents writer.old.inner)
         (W.contents writer.new.inner) writer.new.failed (message.now ∷ []) stop) }
     ensures few { (outbox.new.sent ≡ outbox.old.sent) ⊎ (outbox.new.sent ≡ outbox.old.sent + 1) }
+    ensures passed { OnOk result
+        (G.answers booking.now.host.now.gate.now booking.now.booked.id.serial outbox.new.sent true) }
+    ensures shut { IfErr result (λ stop. stop ≡ stops.Refused 54 →
+        G.answers booking.now.host.now.gate.now booking.now.booked.id.serial outbox.new.sent false) }
 {
     let text = encode_message(booking.alloc(), message)?;
-    booking.note()?;
-    outbox.send(writer, &text)?;
+    let counted = booking.note()?;
+    outbox.send(writer, &text, counted)?;
     booking.pass(outbox.sent())
 }
 
@@ -153,6 +158,7 @@ pub(crate) fn talk<T: Wait, G: Gate, P: Role, S: RangeStore, R: Read, W: Write, 
     connection: &mut Connection<R, W>,
 ) -> Result<(), Stop>
     requires fine { connection.old.writer.failed ≡ false }
+    requires listens { connection.old.reader.failed ≡ false }
     requires count { outbox.old.sent ≡ party.old.end.sent }
     ensures talked { (s : Speaker F) (unread : Origin) (held : Option (List ℕ)) → is_live s.start.stage ≡ true →
         Underway F.summary F.profile s party.old inbox.old outbox.old
@@ -167,17 +173,18 @@ pub(crate) fn talk<T: Wait, G: Gate, P: Role, S: RangeStore, R: Read, W: Write, 
     ensures few { outbox.new.sent ≤ most_sent (most_of P.side) party.old }
     ensures reads { inbox.old.reads ≤ 2 ^ 32 →
         Counts connection.old.reader.reads connection.new.reader.reads inbox.old inbox.new }
+    ensures fared { (start : ℕ) → InStep start connection.old.reader.reads inbox.old.reads →
+        Fares start connection.new.reader.failed connection.new.reader.reads result }
 {
     laws::hearings_go_on::<F>();
     laws::own_begins::<F>();
     laws::bytes_agree::<F>();
     let _ = party.sent(); // proof only: no more messages than the bound
-    for _turn in 0..u64::MAX {
+    'turns: loop {
         if party.is_over() {
             return Ok(());
         }
         let event = inbox.next(booking.alloc(), &mut connection.reader)?;
         hear(booking, party, outbox, &mut connection.writer, &event)?;
     }
-    Err(Stop::Io(Direction::Read))
 }

@@ -1,8 +1,17 @@
 //! One worker: it takes connections from the source, serves each, and adds what their peers were first to know.
 
-ghost use Rattle.std.specs.Prelude.{◌≡◌, ◌≤◌, false, IsSome, length, take};
+ghost use Rattle.std.specs.Prelude.{◌≡◌, ◌≤◌, ◌+◌, false, IsSome, IfOk, IfErr, OnOk, OnErr, length, take};
 ghost use Rattle.std.specs.Arc.{arc_value};
-ghost use Rattle.peer_threads.specs.Workers.{MayWork};
+ghost use Rattle.definitions.specs.Histories.{content};
+ghost use Rattle.definitions.specs.Ranks.{rank_by};
+ghost use Rattle.version_lock.specs.Calls.{DidNotInsert};
+ghost use Rattle.version_lock.specs.declared.view.View.{View};
+ghost use Rattle.outcome_core.specs.declared.outcome.Outcome as outcomes;
+ghost use Rattle.peer_threads.specs.Choices.{ChosenSpeaks};
+ghost use Rattle.peer_threads.specs.Outcomes.{traffic, seen, peer_at};
+ghost use Rattle.peer_threads.specs.Workers.{MayWork, PutIn, PutInAll, IsSettled, LookedOrNot, Taught, PutsInLearned};
+ghost use Rattle.peer_threads.specs.Workers.{PutInOrDropped, learned_in};
+ghost use Rattle.version_log.specs.declared.answer.LogFault.TheVariants.{Memory};
 
 use crate::connection::Connection;
 use crate::engines::serve_one;
@@ -12,7 +21,7 @@ use crate::shared::Shared;
 use ends_core::Learned;
 use item_core::Item;
 use outcome_core::{Outcome, Source, SourceFault};
-use std::alloc::Global;
+use std::alloc::{AllocError, Global};
 use std::io::{Read, Write};
 use std::sync::{OnceLock, Wait};
 use store_core::RangeStore;
@@ -118,9 +127,20 @@ fn serve<T: Wait, S: RangeStore, G: Gate, R: Read + Drop, W: Write + Drop>(
         × (connection.writer.failed ≡ false) }
     ensures seat { seat.new.table_id ≡ seat.old.table_id }
     ensures kept { (seat.new.view.writer ≡ seat.old.view.writer) × (seat.new.view.cap ≡ seat.old.view.cap) }
+    ensures served { (between : View) × LookedOrNot seat.old.view between
+        × (o : outcomes.Outcome) × ChosenSpeaks
+        (length (content between.base) ≤ (arc_value shared.now.accepted.now).table.cap)
+        (peer_at (arc_value shared.now.accepted.now) between) (length between.base)
+        (rank_by (arc_value shared.now.accepted.now).steps
+        (length (peer_at (arc_value shared.now.accepted.now) between).items) + 1)
+        (arc_value shared.now.accepted.now).table.limit
+        (traffic (R.remaining connection.reader.inner) (R.remaining result.reader.inner)
+        (W.contents connection.writer.inner) (W.contents result.writer.inner))
+        (seen result.reader.failed result.reader.ended) (seen result.writer.failed result.writer.ended) o
+        × PutsInLearned (G.lets_in shared.now.gate.now) o between seat.new.view }
 {
     if let Some((serial, learned)) = talk_to(rt, alloc, shared, seat, &mut connection) {
-        settle(rt, alloc, shared, seat, serial, learned.theirs());
+        settle(rt, alloc, shared, seat, serial, &learned);
     }
     connection
 }
@@ -139,6 +159,17 @@ fn talk_to<T: Wait, S: RangeStore, G: Gate, R: Read, W: Write>(
         × (connection.old.writer.failed ≡ false) }
     ensures seat { seat.new.table_id ≡ seat.old.table_id }
     ensures kept { (seat.new.view.writer ≡ seat.old.view.writer) × (seat.new.view.cap ≡ seat.old.view.cap) }
+    ensures looked { LookedOrNot seat.old.view seat.new.view }
+    ensures taught { Taught (λ o. ChosenSpeaks
+        (length (content seat.new.view.base) ≤ (arc_value shared.now.accepted.now).table.cap)
+        (peer_at (arc_value shared.now.accepted.now) seat.new.view) (length seat.new.view.base)
+        (rank_by (arc_value shared.now.accepted.now).steps
+        (length (peer_at (arc_value shared.now.accepted.now) seat.new.view).items) + 1)
+        (arc_value shared.now.accepted.now).table.limit
+        (traffic (R.remaining connection.old.reader.inner) (R.remaining connection.new.reader.inner)
+        (W.contents connection.old.writer.inner) (W.contents connection.new.writer.inner))
+        (seen connection.new.reader.failed connection.new.reader.ended)
+        (seen connection.new.writer.failed connection.new.writer.ended) o) (learned_in result) }
 {
     let noting = Noting::new(shared.gate);
     let own = Shared {
@@ -148,26 +179,29 @@ fn talk_to<T: Wait, S: RangeStore, G: Gate, R: Read, W: Write>(
         gate: &noting,
     };
     match serve_one(rt, alloc, &own, seat, connection) {
-        Outcome::Ended { learned, .. } => Some((noting.serial()?, learned)),
+        // the gate was told of it, so its serial was noted; 0 is no session's
+        Outcome::Ended { learned, .. } => Some((noting.serial().unwrap_or(0), learned)),
         _ => None,
     }
 }
 
-// Puts into the log what the gate admits of the items that the session with this serial taught, and tells the gate how
-// many are left out.
+// Puts into the log what the gate admits of the items that the session with this serial learned of its peer, and tells
+// the gate how many are left out.
 fn settle<T: Wait, S: RangeStore, G: Gate>(
     rt: &T,
     alloc: Global,
     shared: &Shared<'_, S, G>,
     seat: &mut Seat<S>,
     serial: u64,
-    theirs: &[Item],
+    learned: &Learned,
 )
     requires lock { seat.old.table_id ≡ shared.now.lock.now }
     requires enrolled { IsSome seat.old.view.writer }
     ensures seat { seat.new.table_id ≡ seat.old.table_id }
     ensures kept { (seat.new.view.writer ≡ seat.old.view.writer) × (seat.new.view.cap ≡ seat.old.view.cap) }
+    ensures put { IsSettled (G.lets_in shared.now.gate.now) learned.now.theirs seat.old.view seat.new.view }
 {
+    let theirs = learned.theirs();
     let admitted = first_items(theirs, shared.gate.admits(serial, theirs.len()));
     let dropped = add_all(rt, alloc, shared, seat, admitted);
     shared
@@ -197,16 +231,13 @@ fn add_all<T: Wait, S: RangeStore, G: Gate>(
     ensures seat { seat.new.table_id ≡ seat.old.table_id }
     ensures kept { (seat.new.view.writer ≡ seat.old.view.writer) × (seat.new.view.cap ≡ seat.old.view.cap) }
     ensures dropped { result ≤ length items.now }
+    ensures put { PutInAll items.now seat.old.view seat.new.view result }
 {
     let mut dropped = 0;
     for (index, item) in items.iter().enumerate() {
-        match add(rt, alloc, shared, seat, item) {
-            Ok(()) => {}
-            Err(LogFault::Full) => {
-                shared.gate.dropped(LogFault::Full, 1);
-                dropped += 1;
-            }
-            Err(LogFault::Memory) => {
+        match add_or_drop(rt, alloc, shared, seat, item) {
+            Ok(count) => dropped += count,
+            Err(AllocError) => {
                 let left = items.len() - index;
                 shared.gate.dropped(LogFault::Memory, left);
                 return dropped + left;
@@ -214,6 +245,32 @@ fn add_all<T: Wait, S: RangeStore, G: Gate>(
         }
     }
     dropped
+}
+
+// Adds the item to the log. Where there is no room for it, it is dropped, and the gate is told. How many were dropped.
+fn add_or_drop<T: Wait, S: RangeStore, G: Gate>(
+    rt: &T,
+    alloc: Global,
+    shared: &Shared<'_, S, G>,
+    seat: &mut Seat<S>,
+    item: &Item,
+) -> Result<usize, AllocError>
+    requires lock { seat.old.table_id ≡ shared.now.lock.now }
+    requires enrolled { IsSome seat.old.view.writer }
+    ensures seat { seat.new.table_id ≡ seat.old.table_id }
+    ensures kept { (seat.new.view.writer ≡ seat.old.view.writer) × (seat.new.view.cap ≡ seat.old.view.cap) }
+    ensures few { IfOk result (λ count. count ≤ 1) }
+    ensures put { IfOk result (PutInOrDropped item.now seat.old.view seat.new.view) }
+    ensures memory { OnErr result (DidNotInsert item.now seat.old.view Memory seat.new.view) }
+{
+    match add(rt, alloc, shared, seat, item) {
+        Ok(()) => Ok(0),
+        Err(LogFault::Full) => {
+            shared.gate.dropped(LogFault::Full, 1);
+            Ok(1)
+        }
+        Err(LogFault::Memory) => Err(AllocError),
+    }
 }
 
 // Adds the item to the log, and tells the gate where the log lacked it. Else there was no room for it, or no memory.
@@ -228,6 +285,8 @@ fn add<T: Wait, S: RangeStore, G: Gate>(
     requires enrolled { IsSome seat.old.view.writer }
     ensures seat { seat.new.table_id ≡ seat.old.table_id }
     ensures kept { (seat.new.view.writer ≡ seat.old.view.writer) × (seat.new.view.cap ≡ seat.old.view.cap) }
+    ensures did { OnOk result (PutIn item.now seat.old.view seat.new.view) }
+    ensures did_not { IfErr result (λ fault. DidNotInsert item.now seat.old.view fault seat.new.view) }
 {
     if let Added::New(_) = shared.lock.insert(rt, alloc, seat, *item)? {
         shared.gate.took(item);

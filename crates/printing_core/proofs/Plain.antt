@@ -7,7 +7,7 @@ use Rattle.std.specs.Char.{is_control}
 use Rattle.std.specs.List.{list_any}
 use Rattle.std.specs.Str.{is_utf8, IsUtf8}
 use Rattle.std.proofs.lemmas.Str.{IsUtf8-from_is_utf8, is_utf8-from_IsUtf8}
-use Rattle.settings_core.specs.ItemFiles.{is_marked, has_byte_order_mark}
+use Rattle.item_files.specs.ItemFiles.{is_marked, has_byte_order_mark}
 use Rattle.printing_core.specs.ItemTexts.{plain_text}
 
 no_text : (x : List ℕ) → (IsUtf8 x → ⊥) → is_utf8 x ≡ false

@@ -18,11 +18,11 @@ use Rattle.std.proofs.lemmas.Str.{NoCharPasses-byte, IsUtf8-from_is_utf8, encode
 use Rattle.hex.specs.Hex.{encode_lower, decode_of, is_hex_digit}
 use Rattle.hex.proofs.HexLemmas.{decode_of-encode_lower, decode_of-ok}
 use Rattle.definitions.specs.Items.{Item, IsItem, IsBytes}
-use Rattle.settings_core.specs.ItemFiles.{lines, mark, is_marked, text_in, text_item, one_item, decoded, content_items}
-use Rattle.settings_core.specs.ItemFiles.{line_items, line_before, before, items_from, file_items}
-use Rattle.settings_core.specs.ItemFiles.{has_byte_order_mark}
-use Rattle.settings_core.specs.declared.words.ItemForm.{ItemForm}
-use Rattle.settings_core.specs.declared.words.ItemForm.TheVariants as forms
+use Rattle.item_files.specs.ItemFiles.{lines, mark, is_marked, text_in, text_item, one_item, decoded, content_items}
+use Rattle.item_files.specs.ItemFiles.{line_items, line_before, before, items_from, file_items}
+use Rattle.item_files.specs.ItemFiles.{has_byte_order_mark}
+use Rattle.item_files.specs.declared.form.ItemForm.{ItemForm}
+use Rattle.item_files.specs.declared.form.ItemForm.TheVariants as forms
 use Rattle.printing_core.specs.ItemTexts.{is_plain, item_text, item_line, marked_text, ReadsWhatIsPrinted}
 
 -- no line feed and no carriage return

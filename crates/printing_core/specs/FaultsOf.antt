@@ -13,8 +13,8 @@ use Rattle.answer_core.specs.declared.listing.ListReplyFault.{ListReplyFault}
 use Rattle.answer_core.specs.declared.listing.ListReplyFault.TheVariants as lists
 use Rattle.answer_core.specs.declared.answering.AnswerFault.{AnswerFault}
 use Rattle.answer_core.specs.declared.answering.AnswerFault.TheVariants as answers
-use Rattle.settings_core.specs.declared.fault.SettingsFault.{SettingsFault}
-use Rattle.settings_core.specs.declared.fault.SettingsFault.TheVariants as settings
+use Rattle.item_files.specs.declared.fault.SettingsFault.{SettingsFault}
+use Rattle.item_files.specs.declared.fault.SettingsFault.TheVariants as settings
 use Rattle.sim_core.specs.declared.scenario_fault.ScenarioFault.TheVariants as scenarios
 use Rattle.sim_core.specs.declared.scenario_fault.ScenarioError.{ScenarioError}
 use Rattle.sim_core.specs.declared.scenario_fault.ScenarioError.TheVariants as scenario_errors

@@ -11,9 +11,9 @@ use Rattle.std.specs.List.{AllByRecursion, list_any}
 use Rattle.std.specs.Str.{is_utf8}
 use Rattle.hex.specs.Hex.{encode_lower}
 use Rattle.definitions.specs.Items.{Item, IsItem}
-use Rattle.settings_core.specs.ItemFiles.{mark, is_marked, has_byte_order_mark, file_items}
-use Rattle.settings_core.specs.declared.words.ItemForm.{ItemForm}
-use Rattle.settings_core.specs.declared.words.ItemForm.TheVariants as forms
+use Rattle.item_files.specs.ItemFiles.{mark, is_marked, has_byte_order_mark, file_items}
+use Rattle.item_files.specs.declared.form.ItemForm.{ItemForm}
+use Rattle.item_files.specs.declared.form.ItemForm.TheVariants as forms
 
 abbrev pub is_plain : List ℕ → Bool
 is_plain x = is_utf8 x && not (list_any is_control (chars x)) && not (is_marked x) && not (has_byte_order_mark x)

@@ -1,6 +1,7 @@
 pub mod AddressTexts
 pub mod Blanks
 pub mod Checks
+pub mod CostLines
 pub mod Endings
 pub mod FaultsOf
 pub mod FlawTexts

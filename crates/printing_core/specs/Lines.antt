@@ -10,7 +10,7 @@ use Rattle.wire_core.specs.Refused.{fault_number}
 use Rattle.strategy_core.specs.Texts.{key_of}
 use Rattle.strategy_core.specs.declared.fault.StrategyFault.{StrategyFault}
 use Rattle.strategy_core.specs.declared.fault.StrategyFault.TheVariants.{NotToml, Missing, BadNumber, RowOrder}
-use Rattle.strategy_core.specs.declared.fault.StrategyFault.TheVariants.{RowAction, CapMismatch}
+use Rattle.strategy_core.specs.declared.fault.StrategyFault.TheVariants.{RowAction, CapMismatch, BadBounds}
 use Rattle.strategy_check.specs.declared.fault.CheckFault.{CheckFault}
 use Rattle.strategy_check.specs.declared.fault.CheckFault.TheVariants.{NoDescent, ListTooLong, TooDeep, BadCertificate}
 use Rattle.printing_core.specs.declared.fault.Fault.{Fault}
@@ -26,6 +26,7 @@ strategy_line BadNumber = codes "refused 32 BadNumber"
 strategy_line RowOrder = codes "refused 33 RowOrder"
 strategy_line RowAction = codes "refused 34 RowAction"
 strategy_line CapMismatch = codes "refused 35 CapMismatch"
+strategy_line BadBounds = codes "refused 29 BadBounds"
 
 abbrev pub check_line : CheckFault → List ℕ
 check_line (NoDescent count) = codes "refused 36 NoDescent " ++ decimal count

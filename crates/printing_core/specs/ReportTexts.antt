@@ -11,7 +11,7 @@ use Rattle.definitions.specs.Sets.{set_of}
 use Rattle.definitions.specs.Talks.{Knowledge}
 use Rattle.outcome_core.specs.declared.outcome.Outcome.{Outcome}
 use Rattle.outcome_core.specs.declared.outcome.Outcome.TheVariants.{Ended, Refused, PeerRefused, Io, Memory}
-use Rattle.settings_core.specs.declared.words.ItemForm.{ItemForm}
+use Rattle.item_files.specs.declared.form.ItemForm.{ItemForm}
 use Rattle.printing_core.specs.SessionTexts.{named_line, learned_text, of_direction}
 use Rattle.printing_core.specs.Lines.{fault_line}
 use Rattle.printing_core.specs.declared.fault.Fault.{Fault}

@@ -15,7 +15,7 @@ use Rattle.outcome_core.specs.declared.outcome.Direction.{Direction}
 use Rattle.outcome_core.specs.declared.outcome.Direction.TheVariants as directions
 use Rattle.outcome_core.specs.declared.outcome.Outcome.{Outcome}
 use Rattle.outcome_core.specs.declared.outcome.Outcome.TheVariants as outcomes
-use Rattle.settings_core.specs.declared.words.ItemForm.{ItemForm}
+use Rattle.item_files.specs.declared.form.ItemForm.{ItemForm}
 use Rattle.printing_core.specs.ItemTexts.{item_line}
 use Rattle.printing_core.specs.declared.fault.Fault.{Fault}
 use Rattle.printing_core.specs.declared.fault.Fault.TheVariants.{Session, PeerRefused, ReaderFailed, WriterFailed}

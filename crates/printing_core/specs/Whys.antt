@@ -8,7 +8,7 @@ use Rattle.std.specs.Fmt.{decimal}
 use Rattle.strategy_core.specs.Texts.{key_of}
 use Rattle.strategy_core.specs.declared.fault.StrategyFault.{StrategyFault}
 use Rattle.strategy_core.specs.declared.fault.StrategyFault.TheVariants.{NotToml, Missing, BadNumber, RowOrder}
-use Rattle.strategy_core.specs.declared.fault.StrategyFault.TheVariants.{RowAction, CapMismatch}
+use Rattle.strategy_core.specs.declared.fault.StrategyFault.TheVariants.{RowAction, CapMismatch, BadBounds}
 use Rattle.strategy_check.specs.declared.fault.CheckFault.{CheckFault}
 use Rattle.strategy_check.specs.declared.fault.CheckFault.TheVariants.{NoDescent, ListTooLong, TooDeep, BadCertificate}
 use Rattle.printing_core.specs.FlawTexts.{unread_text, input_text, server_text}
@@ -25,6 +25,7 @@ strategy_text BadNumber = codes "a number is not a whole number in its range"
 strategy_text RowOrder = codes "upto is not above that of the row before"
 strategy_text RowAction = codes "a row has one of list = true, split = [2 to 64 weights] and peel"
 strategy_text CapMismatch = codes "the upto of the last row is not the cap"
+strategy_text BadBounds = codes "bounds is not the word items or short"
 
 abbrev pub check_text : CheckFault → List ℕ
 check_text (NoDescent count) = codes "a session over " ++ (decimal count ++ codes " items would not get smaller")

@@ -7,8 +7,8 @@ ghost use Rattle.printing_core.specs.declared.fault.Fault.TheVariants as faults;
 
 use answer_core::{AnswerFault, ListReplyFault};
 use io_core::{InputFault, WriterFailed};
+use item_files::SettingsFault;
 use outcome_core::SourceFault;
-use settings_core::SettingsFault;
 use sim_core::{ScenarioError, ScenarioFault};
 use std::alloc::{AllocError, AllocFailed};
 use std::io::ErrorKind;

@@ -4,11 +4,11 @@ ghost use Rattle.std.specs.Prelude.{◌≡◌, ◌++◌, chars, option_map, IfOk
 ghost use Rattle.std.specs.Char.{is_control};
 ghost use Rattle.std.specs.List.{list_any};
 ghost use Rattle.hex.specs.Hex.{encode_lower};
-ghost use Rattle.settings_core.specs.ItemFiles.{is_marked};
+ghost use Rattle.item_files.specs.ItemFiles.{is_marked};
 ghost use Rattle.printing_core.specs.ItemTexts.{plain_text, marked_text, item_text, ReadsWhatIsPrinted};
 
 use item_core::Item;
-use settings_core::{ItemForm, has_byte_order_mark};
+use item_files::{ItemForm, has_byte_order_mark};
 use std::alloc::{AllocError, Global};
 
 /// A file of items that were printed as text, a line each, has these items.

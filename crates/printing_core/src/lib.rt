@@ -2,6 +2,7 @@
 #![tactic(auto)]
 
 mod accepted;
+mod costs;
 mod ending;
 mod fault;
 mod flaws;
@@ -16,7 +17,8 @@ mod told;
 mod unreached;
 mod why;
 
-pub use accepted::checked_text;
+pub use accepted::{accepted_text, checked_text};
+pub use costs::{push_cost, push_plan, push_sample};
 pub use ending::refusal_of;
 pub use fault::Fault;
 pub use flaws::{InputFlaw, ServerFlaw, Unread};

@@ -99,6 +99,7 @@ impl fmt::Display for StrategyLine {
             StrategyFault::RowOrder => write!(f, "refused 33 RowOrder"),
             StrategyFault::RowAction => write!(f, "refused 34 RowAction"),
             StrategyFault::CapMismatch => write!(f, "refused 35 CapMismatch"),
+            StrategyFault::BadBounds => write!(f, "refused 29 BadBounds"),
         }
     }
 }

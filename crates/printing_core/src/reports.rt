@@ -12,8 +12,8 @@ use crate::item_text::push_item;
 use crate::session_texts::{Naming, push_learned, push_lines};
 use ends_core::Learned;
 use item_core::Item;
+use item_files::ItemForm;
 use outcome_core::{Direction, Outcome};
-use settings_core::ItemForm;
 use std::alloc::{AllocError, Global};
 use store_core::spans::distinct;
 

@@ -9,9 +9,9 @@ use crate::fault::Fault;
 use crate::item_text::push_item;
 use ends_core::Learned;
 use item_core::Item;
+use item_files::ItemForm;
 use outcome_core::{Direction, Outcome};
 use session_table::Totals;
-use settings_core::ItemForm;
 use std::alloc::{AllocError, Global};
 use store_core::spans::distinct;
 

@@ -29,7 +29,7 @@ pub struct Stats {
 
 /// Thousandths of a second, which print as seconds to three places.
 #[derive(Clone, Copy)]
-struct Seconds(Option<u64>);
+pub(crate) struct Seconds(pub(crate) Option<u64>);
 
 impl fmt::Display for Seconds {
     ghost output = { λ s. Some (seconds_text s.0) };

@@ -30,6 +30,7 @@ impl fmt::Display for StrategyWant {
                 )
             }
             StrategyFault::CapMismatch => write!(f, "the upto of the last row is not the cap"),
+            StrategyFault::BadBounds => write!(f, "bounds is not the word items or short"),
         }
     }
 }

@@ -1,7 +1,7 @@
 //! Why a line of an item file is bad.
 
+use item_files::{ItemForm, SettingsFault, has_byte_order_mark, item_set};
 use printing_core::{Why, shown_line};
-use settings_core::{ItemForm, SettingsFault, has_byte_order_mark, item_set};
 use std::alloc::Global;
 
 /// Whether a line of an item file is bad.

@@ -2,15 +2,15 @@
 
 ghost use Rattle.std.specs.Prelude.{◌≡◌, ◌≤◌, length, IfOk};
 ghost use Rattle.definitions.specs.Sets.{IsSet};
-ghost use Rattle.settings_core.specs.Faults.{IsSetOf};
-ghost use Rattle.settings_core.specs.Files.{IsFromFile};
+ghost use Rattle.item_files.specs.Faults.{IsSetOf};
+ghost use Rattle.item_files.specs.Files.{IsFromFile};
 
 use crate::disk::{Opened, item_file, open_lines};
 use crate::reporting::Kept;
 use item_core::Item;
+use item_files::{ItemForm, SettingsFault, read_input_items, read_items, read_strategy};
 use printing_core::Fault;
 use range_tree::Tree;
-use settings_core::{ItemForm, SettingsFault, read_input_items, read_items, read_strategy};
 use std::alloc::Global;
 use std::fs::File;
 use std::io::{Read, Write};
@@ -123,8 +123,9 @@ fn joined(items: Vec<Item>, more: &[Item], cap: usize) -> Result<Vec<Item>, Faul
 
 /// The strategy in one file and a log of the items in the others, or in the input. Up to four threads hash the items.
 ///
-/// The strategy is judged first: 80, 30 to 35, then 37, 36 or 38. Then the items are: 80, 81, then 82 where there are
-/// more different items than the strategy's cap; and then those of the file in which the set is kept, in the same way.
+/// The strategy is judged first: 80, 30 to 35 or 29, then 37, 36 or 38. Then the items are: 80, 81, then 82 where there
+/// are more different items than the strategy's cap; and then those of the file in which the set is kept, in the same
+/// way.
 pub fn load<R: Files<File = File> + AllocGlobal + Threads + Sync, I: Read + Drop, E: Write>(
     rt: &R,
     sources: Sources<'_>,

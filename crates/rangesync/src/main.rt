@@ -3,9 +3,11 @@
 
 mod bad_line;
 mod book;
+mod checking;
 mod disk;
 mod loading;
 mod metering;
+mod planning;
 mod reporting;
 mod row;
 mod run;

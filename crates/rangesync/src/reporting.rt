@@ -4,10 +4,10 @@
 use crate::book::{Book, Name};
 use crate::disk::{Disk, ItemFile, Opened, open_lines};
 use item_core::Item;
+use item_files::ItemForm;
 use line_file::Device;
 use peer_threads::{Gate, Outcome};
 use printing_core::{Fault, Reporting, learned_line, left_out_line, report_text, tell_full};
-use settings_core::ItemForm;
 use std::alloc::Global;
 use std::fs::File;
 use std::io::Write;

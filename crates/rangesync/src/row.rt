@@ -41,7 +41,7 @@ fn is_wrong(alloc: Global, table: &mut Table, row: Value) -> Option<bool> {
     rows.push(row).ok()?;
     let _others = put_rows(alloc, table, rows)?;
     match fault_of(alloc, table) {
-        None | Some(StrategyFault::CapMismatch) => Some(false),
+        None | Some(StrategyFault::CapMismatch | StrategyFault::BadBounds) => Some(false),
         Some(_) => Some(true),
     }
 }

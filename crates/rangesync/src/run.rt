@@ -4,15 +4,18 @@ ghost use Rattle.std.specs.Prelude.{◌≤◌, length};
 ghost use Rattle.store_core.specs.Flat.{flat_items};
 ghost use Rattle.settings_core.specs.Spans.{AreInSpan};
 
+use crate::checking::{Pricing, check_table};
 use crate::loading::{Sources, load};
+use crate::planning::{Planning, plan};
 use crate::reporting::{Paths, Rules};
 use crate::serve::{Serving, serve};
 use crate::sync::{Asking, sync};
 use crate::why::explain;
 use answer_core::{answer, list_reply};
 use io_core::{Watched, read_input, write_output};
-use printing_core::{Fault, Reporting, checked_text, decode_text, encode_lines, tell, tell_words};
-use settings_core::{Call, Command, read_items, read_strategy, read_words};
+use item_files::read_items;
+use printing_core::{Fault, Reporting, decode_text, encode_lines, tell, tell_words};
+use settings_core::{Call, Command, read_words};
 use sim_core::{scenario_of, sim_text};
 use std::alloc::Global;
 use std::convert::AsStr;
@@ -69,17 +72,6 @@ fn answer_in<I: Read + Drop, O: Write + Drop>(
     }
 }
 
-/// Checks the strategy in the file, and prints the steps of its least ranks where it is accepted.
-fn check_file<R: Files + AllocGlobal, O: Write + Drop>(
-    rt: &R,
-    path: &str,
-    out: O,
-) -> Result<(), Fault> {
-    let text = checked_text(rt.alloc(), read_strategy(rt, path)?)?;
-    write_output(&mut Watched::new(out), text.as_bytes())?;
-    Ok(())
-}
-
 /// Runs the scenario of the input, and prints what is shown of its sessions.
 fn sim<I: Read + Drop, O: Write + Drop>(alloc: Global, reader: I, out: O) -> Result<(), Fault> {
     let input = read_input(alloc, &mut Watched::new(reader))?;
@@ -112,7 +104,35 @@ where
             let store = FlatStore::from_rising(rt.alloc(), &items)?;
             answer_in(rt.alloc(), hexed, &store, reader, out)
         }
-        Command::Check { file } => check_file(rt, file, out),
+        Command::Check {
+            cost,
+            items,
+            item_length,
+            file,
+        } => {
+            let pricing = Pricing {
+                is_wanted: cost,
+                items,
+                item_length,
+            };
+            check_table(rt, file, pricing, out)
+        }
+        Command::Plan {
+            items,
+            differences,
+            item_length,
+            round_trip,
+            rate,
+        } => {
+            let planning = Planning {
+                items,
+                differences,
+                item_length,
+                round_trip,
+                rate,
+            };
+            plan(rt.alloc(), planning, out)
+        }
         Command::Sim => sim(rt.alloc(), reader, out),
         Command::Serve {
             table,

@@ -5,11 +5,12 @@
 use crate::bad_line::why_bad;
 use crate::row::{BadNumber, bad_number, refused_row};
 use io_core::{MAX_INPUT, Watched, read_input};
+use item_files::{ItemForm, item_set};
 use printing_core::{
     Fault, InputFlaw, ServerFlaw, Unreached, Unread, Why, port_is_too_high, tell_why,
     unreached_connect, unreached_listen,
 };
-use settings_core::{Command, ItemForm, item_set};
+use settings_core::Command;
 use std::fs::{File, OpenOptions, TryLockError};
 use std::io::{ErrorKind, Write};
 use std::net::{Net, TcpListener, TcpStream, ToSocketAddrs};
@@ -83,6 +84,7 @@ fn given_to(command: Command<'_>) -> Given<'_> {
             table: Some(file),
             ..NOTHING
         },
+        Command::Plan { .. } => NOTHING,
         Command::Sim => Given {
             hexed: Some(false),
             ..NOTHING
@@ -278,6 +280,10 @@ fn has_too_many<R: Files + AllocGlobal>(rt: &R, form: ItemForm, file: &str, cap:
 fn why_too_many<'a, R: Files + AllocGlobal>(rt: &R, given: Given<'a>) -> Option<Why<'a>> {
     if given.items.is_none() && given.table.is_none() {
         return Some(Why::Input(InputFlaw::TooManyItems));
+    }
+    // `check` reads no items: their number is above the cap
+    if given.items.is_none() && given.hexed.is_none() && given.keep.is_none() {
+        return None;
     }
     let cap = cap_of(rt, given.table)?;
     let first = given.items.unwrap_or(STANDARD_INPUT);

@@ -1,3 +1,4 @@
 pub mod ThingBox
 pub mod Remade
 pub mod Pulled
+pub mod NoSets

@@ -1,12 +1,13 @@
 -- A call that moves due bytes to a caller's room makes their text, copies the front of it, and then takes as many bytes
 -- off. The bytes copied are the first of those that were due, and so they are the ones that are taken off: there are no
--- more of them than were due. To make the text takes nothing.
+-- more of them than were due. To make the text takes nothing. All that was due is in that text, so as many are copied
+-- as were due, or as the room holds.
 use Rattle.std.proofs.Common.{◌≡◌, ℕ, List, [], ◌++◌, length, take, min, subst, sym, ap, ◌∙◌, append-nil}
 use Rattle.std.proofs.lemmas.List.{length-take, take_min}
 use Rattle.definitions.specs.Fingerprints.{Summary, two_lanes, counted_lanes}
 use Rattle.definitions.specs.Wire.{Profile, two_lane_profile, counted_profile}
-use Rattle.session_core.specs.Sessions.{SessionState, Knows, Takes}
-use Rattle.embedded_core.specs.SessionStates.{Changes, MakesDue, TakesOff, Pulls, ready_of}
+use Rattle.session_core.specs.Sessions.{SessionState, Knows, Takes, due}
+use Rattle.embedded_core.specs.SessionStates.{Changes, MakesDue, TakesOff, Pulls, ready_of, due_of}
 use Rattle.embedded_core.specs.declared.any_session.AnySession.{AnySession}
 use Rattle.embedded_core.specs.declared.any_session.AnySession.TheVariants as any
 use Rattle.rangesync_c.specs.Meaning.{IfSession, IsSession}
@@ -24,14 +25,23 @@ front-taken most ready front is =
 one-pulled : {F : Type 0} (S : Summary F) (W : Profile F) (c d e : SessionState F) (most : ℕ) (front room : List ℕ) →
     MakesDue F S W c d → front ≡ take most d.talk.outbox.ready →
     TakesOff (min (length front) (length d.talk.outbox.ready)) F S W d e → take (length front) room ≡ front →
-    Takes S W c (take (length front) room) e
-one-pulled S W c d e most front room made is taken copied = λ s pushed before k.
-    let ready = d.talk.outbox.ready in
-    let off = take (min (length front) (length ready)) ready in
-    let all : (before ++ []) ++ off ≡ before ++ take (length front) room =
-    ap (λ (l : List ℕ). l ++ off) (append-nil before)
-    ∙ ap (λ (l : List ℕ). before ++ l) (front-taken most ready front is ∙ sym copied) in
-    subst (λ (l : List ℕ). Knows S W s e pushed l) all (taken s pushed (before ++ []) (made.0 s pushed before k))
+    Pulls (take (length front) room) F S W c e
+one-pulled S W c d e most front room made is taken copied = (moved, taken.1 ∙ made.2) where
+  moved : Takes S W c (take (length front) room) e
+  moved s pushed before k =
+      let ready = d.talk.outbox.ready in
+      let off = take (min (length front) (length ready)) ready in
+      let all : (before ++ []) ++ off ≡ before ++ take (length front) room =
+      ap (λ (l : List ℕ). l ++ off) (append-nil before)
+      ∙ ap (λ (l : List ℕ). before ++ l) (front-taken most ready front is ∙ sym copied) in
+      subst (λ (l : List ℕ). Knows S W s e pushed l) all (taken.0 s pushed (before ++ []) (made.0 s pushed before k))
+
+-- all that was due is copied, or as much as is asked
+one-copied : {F : Type 0} (S : Summary F) (W : Profile F) (c d : SessionState F) (most : ℕ) (front : List ℕ) →
+    MakesDue F S W c d → front ≡ take most d.talk.outbox.ready → length front ≡ min most (length (due W c.talk))
+one-copied S W c d most front made is =
+    ap (λ (l : List ℕ). length l) is ∙ length-take most d.talk.outbox.ready
+    ∙ ap (λ (l : List ℕ). min most (length l)) made.1
 
 session-pulled : (s t u : AnySession) (most : ℕ) (front room : List ℕ) →
     Changes s t MakesDue → front ≡ take most (ready_of t) →
@@ -76,3 +86,29 @@ pub pulled : (before ready after : Thing) (most used : ℕ) (front room : List �
 pulled before ready after most used front room all made taken copied =
     subst (λ (n : ℕ). IfSession before (λ s. IsSession after (λ t. Changes s t (Pulls (take n room))))) all
     (of-thing before ready after most front room made taken copied)
+
+session-copied : (s t : AnySession) (most : ℕ) (front : List ℕ) → Changes s t MakesDue →
+    front ≡ take most (ready_of t) → length front ≡ min most (length (due_of s))
+session-copied (any.First c) (any.First d) most front made is =
+    one-copied two_lanes two_lane_profile c d most front made is
+session-copied (any.First c) t most front made is = absurd made
+session-copied (any.Second c) (any.Second d) most front made is =
+    one-copied two_lanes two_lane_profile c d most front made is
+session-copied (any.Second c) t most front made is = absurd made
+session-copied (any.FirstCounted c) (any.FirstCounted d) most front made is =
+    one-copied counted_lanes counted_profile c d most front made is
+session-copied (any.FirstCounted c) t most front made is = absurd made
+session-copied (any.SecondCounted c) (any.SecondCounted d) most front made is =
+    one-copied counted_lanes counted_profile c d most front made is
+session-copied (any.SecondCounted c) t most front made is = absurd made
+
+-- so many bytes are moved as were due, or as the room holds
+pub all-pulled : (before ready : Thing) (most used : ℕ) (front : List ℕ) → length front ≡ used →
+    IfSession before (λ s. IsSession ready (λ t. Changes s t MakesDue × (front ≡ take most (ready_of t)))) →
+    IfSession before (λ s. used ≡ min most (length (due_of s)))
+all-pulled (things.Session s) (things.Session t) most used front all made =
+    sym all ∙ session-copied s t most front made.0 made.1
+all-pulled (things.Session s) t most used front all made = absurd made
+all-pulled (things.Strategy x) t most used front all made = tt
+all-pulled (things.Set x) t most used front all made = tt
+all-pulled (things.Version x) t most used front all made = tt

@@ -3,6 +3,12 @@
 /// Nothing was refused.
 pub(crate) const FINE: u32 = 0;
 
+/// An item has no byte.
+pub(crate) const EMPTY_ITEM: u32 = 71;
+
+/// An item has more than 64 bytes.
+pub(crate) const TOO_LONG: u32 = 72;
+
 /// Memory ran out.
 pub(crate) const MEMORY: u32 = 90;
 

@@ -1,12 +1,14 @@
 //! What a session learned.
 
-ghost use Rattle.std.specs.Prelude.{◌≡◌, ◌≢◌, true, Some, Err, IfOk, IfErr, length, take, slice_get};
+ghost use Rattle.std.specs.Prelude.{◌≡◌, ◌≢◌, ◌≤◌, ◌<◌, ◌⊎◌, true, Some, None, Err, IfOk, IfErr};
+ghost use Rattle.std.specs.Prelude.{length, take, slice_get};
 ghost use Rattle.embedded_core.specs.SessionStates.{learned_in, state_in};
 ghost use Rattle.session_core.specs.declared.state.State.TheVariants as states;
-ghost use Rattle.rangesync_c.specs.Meaning.{IfSession, no_session};
+ghost use Rattle.rangesync_c.specs.Meaning.{IfSession, no_session, IsNoPlace};
 
 use crate::codes::{FINE, NOT_THERE, OTHER_KIND};
 use crate::held::{Held, Thing};
+use crate::items::write_item;
 use core::mem::replace_with;
 use item_core::Item;
 
@@ -16,7 +18,8 @@ fn counts_of(thing: &Thing) -> Result<(usize, usize), u32>
     ensures counts { IfSession thing.now (λ s. IfOk result (λ n.
         (n.0 ≡ length (learned_in s).ours) × (n.1 ≡ length (learned_in s).theirs))) }
     ensures ended { IfOk result (λ _. IfSession thing.now (λ s. state_in s ≡ states.Ended)) }
-    ensures not_yet { IfErr result (λ _. IfSession thing.now (λ s. state_in s ≢ states.Ended)) }
+    ensures not_yet { IfErr result (λ code. IfSession thing.now (λ s.
+        (code ≡ 98) × (state_in s ≢ states.Ended))) }
     ensures kind { no_session thing.now ≡ true → result ≡ Err 99 }
 {
     let Thing::Session(session) = thing else {
@@ -39,7 +42,9 @@ pub extern "C" fn rs_session_learned(
     ensures counts { result ≡ 0 → IfSession session.old.value (λ s.
         (ours.new ≡ length (learned_in s).ours) × (theirs.new ≡ length (learned_in s).theirs)) }
     ensures ended { result ≡ 0 → IfSession session.old.value (λ s. state_in s ≡ states.Ended) }
-    ensures not_yet { result ≢ 0 → IfSession session.old.value (λ s. state_in s ≢ states.Ended) }
+    ensures not_yet { result ≢ 0 → IfSession session.old.value (λ s.
+        (result ≡ 98) × (state_in s ≢ states.Ended)) }
+    ensures unsaid { result ≢ 0 → (ours.new ≡ ours.old) × (theirs.new ≡ theirs.old) }
     ensures kind { no_session session.old.value ≡ true → result ≡ 99 }
     ensures same { session.new.value ≡ session.old.value }
 {
@@ -62,6 +67,9 @@ pub extern "C" fn rs_session_learned(
 fn own_at(thing: &Thing, place: usize) -> Result<Item, u32>
     ensures number { IfErr result (λ code. code ≢ 0) }
     ensures item { IfSession thing.now (λ s. IfOk result (λ x. slice_get (learned_in s).ours place ≡ Some x)) }
+    ensures ended { IfSession thing.now (λ s. IfOk result (λ _. state_in s ≡ states.Ended)) }
+    ensures none { IfSession thing.now (λ s. IfErr result (λ code. (code ≡ 98)
+        × (state_in s ≡ states.Ended → slice_get (learned_in s).ours place ≡ None))) }
     ensures kind { no_session thing.now ≡ true → result ≡ Err 99 }
 {
     let Thing::Session(session) = thing else {
@@ -80,6 +88,9 @@ fn own_at(thing: &Thing, place: usize) -> Result<Item, u32>
 fn other_at(thing: &Thing, place: usize) -> Result<Item, u32>
     ensures number { IfErr result (λ code. code ≢ 0) }
     ensures item { IfSession thing.now (λ s. IfOk result (λ x. slice_get (learned_in s).theirs place ≡ Some x)) }
+    ensures ended { IfSession thing.now (λ s. IfOk result (λ _. state_in s ≡ states.Ended)) }
+    ensures none { IfSession thing.now (λ s. IfErr result (λ code. (code ≡ 98)
+        × (state_in s ≡ states.Ended → slice_get (learned_in s).theirs place ≡ None))) }
     ensures kind { no_session thing.now ≡ true → result ≡ Err 99 }
 {
     let Thing::Session(session) = thing else {
@@ -94,20 +105,6 @@ fn other_at(thing: &Thing, place: usize) -> Result<Item, u32>
     }
 }
 
-/// Writes an item to the front of the room, and says its length. 98 where there is not that much room.
-pub(crate) fn write_item(item: &Item, room: &mut [u8], used: &mut usize) -> u32
-    ensures written { result ≡ 0 → (used.new ≡ length item.now) × (take used.new room.new ≡ item.now) }
-    ensures failed { result ≢ 0 → room.new ≡ room.old }
-{
-    let bytes = item.bytes();
-    *used = bytes.len();
-    if bytes.len() > room.len() {
-        return NOT_THERE;
-    }
-    room[..bytes.len()].copy_from_slice(bytes);
-    FINE
-}
-
 /// Writes the item at this place, from 0, of those that only this side has, and says its length. 98 where there is
 /// none, where the session has not ended, or where there is no room for it: 64 bytes are enough.
 #[unsafe(no_mangle)]
@@ -119,6 +116,11 @@ pub extern "C" fn rs_session_ours(
 ) -> u32
     ensures item { result ≡ 0 → IfSession session.old.value (λ s.
         slice_get (learned_in s).ours place ≡ Some (take used.new room.new)) }
+    ensures ended { result ≡ 0 → IfSession session.old.value (λ s. state_in s ≡ states.Ended) }
+    ensures refused { result ≢ 0 → IfSession session.old.value (λ s. (result ≡ 98) × (state_in s ≡ states.Ended →
+        IsNoPlace (learned_in s).ours place (length room.old) used.new result)) }
+    ensures few { result ≡ 0 → used.new ≤ length room.old }
+    ensures unsaid { result ≢ 0 → (used.new ≡ used.old) ⊎ (length room.old < used.new) }
     ensures kind { no_session session.old.value ≡ true → result ≡ 99 }
     ensures failed { result ≢ 0 → room.new ≡ room.old }
     ensures same { session.new.value ≡ session.old.value }
@@ -144,6 +146,11 @@ pub extern "C" fn rs_session_theirs(
 ) -> u32
     ensures item { result ≡ 0 → IfSession session.old.value (λ s.
         slice_get (learned_in s).theirs place ≡ Some (take used.new room.new)) }
+    ensures ended { result ≡ 0 → IfSession session.old.value (λ s. state_in s ≡ states.Ended) }
+    ensures refused { result ≢ 0 → IfSession session.old.value (λ s. (result ≡ 98) × (state_in s ≡ states.Ended →
+        IsNoPlace (learned_in s).theirs place (length room.old) used.new result)) }
+    ensures few { result ≡ 0 → used.new ≤ length room.old }
+    ensures unsaid { result ≢ 0 → (used.new ≡ used.old) ⊎ (length room.old < used.new) }
     ensures kind { no_session session.old.value ≡ true → result ≡ 99 }
     ensures failed { result ≢ 0 → room.new ≡ room.old }
     ensures same { session.new.value ≡ session.old.value }

@@ -4,6 +4,7 @@
 
 mod codes;
 mod held;
+mod items;
 mod learned;
 mod sessions;
 mod sets;

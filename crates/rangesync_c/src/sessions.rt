@@ -1,21 +1,24 @@
 //! Sessions.
 
-ghost use Rattle.std.specs.Prelude.{◌≡◌, ◌≢◌, ◌≤◌, ◌⊎◌, true, Err, IsSomeAnd, IfOk, IfErr, IfSome};
-ghost use Rattle.std.specs.Prelude.{length, take, drop, min};
+ghost use Rattle.std.specs.Prelude.{◌≡◌, ◌≢◌, ◌≤◌, ◌<◌, ◌⊎◌, true, false, Ok, Err};
+ghost use Rattle.std.specs.Prelude.{IsSomeAnd, IfOk, IfErr, IfSome, IfNone, length, take, drop, min};
 ghost use Rattle.embedded_core.specs.SessionStates.{Opens, Changes, PushesTo, Finishes, MakesDue, TakesOff, Pulls};
-ghost use Rattle.embedded_core.specs.SessionStates.{ready_of, state_in, bound_of, sent_by};
+ghost use Rattle.embedded_core.specs.SessionStates.{ready_of, due_of, state_in, bound_of, sent_by};
+ghost use Rattle.session_core.specs.Sessions.{is_open};
 ghost use Rattle.rangesync_c.specs.Meaning.{IfVersion, IfSession, IsSession, no_version, no_session};
 ghost use Rattle.rangesync_c.specs.Meaning.{opening_number, profile_number, state_number, state_code};
+ghost use Rattle.rangesync_c.specs.Meaning.{NamesBoth, NamesNone, IsUnopened};
 
 use crate::codes::{FINE, MEMORY, NOT_THERE, OTHER_KIND};
 use crate::held::{Held, Place, Thing, thing_out};
 use core::mem::replace_with;
-use embedded_core::{AnySession, Opening, Version, WireProfile};
+use embedded_core::{AnySession, Opening, WireProfile};
 use std::alloc::{AllocError, Global};
 
 /// The role of a number: 0 speaks first, 1 is spoken to first.
 fn opening_of(number: u32) -> Option<Opening>
-    ensures { IfSome result (λ opening. opening_number opening ≡ number) }
+    ensures opening { IfSome result (λ opening. (opening_number opening ≡ number) × (number ≤ 1)) }
+    ensures none { IfNone result (1 < number) }
 {
     match number {
         0 => Some(Opening::Initiator),
@@ -26,7 +29,8 @@ fn opening_of(number: u32) -> Option<Opening>
 
 /// The wire profile of a number, 1 or 2.
 fn profile_of(number: u32) -> Option<WireProfile>
-    ensures { IfSome result (λ profile. profile_number profile ≡ number) }
+    ensures profile { IfSome result (λ profile. (profile_number profile ≡ number) × (1 ≤ number) × (number ≤ 2)) }
+    ensures none { IfNone result ((number ≡ 0) ⊎ (2 < number)) }
 {
     match number {
         1 => Some(WireProfile::Plain),
@@ -35,23 +39,43 @@ fn profile_of(number: u32) -> Option<WireProfile>
     }
 }
 
-/// The version once more.
-fn version_of(alloc: Global, thing: &Thing) -> Result<Version, u32>
+/// The role and the profile of their numbers.
+fn opening_by(role: u32, profile: u32) -> Option<(Opening, WireProfile)>
+    ensures opening { IfSome result (λ o. (opening_number o.0 ≡ role) × (profile_number o.1 ≡ profile)) }
+    ensures both { IfSome result (λ _. NamesBoth role profile) }
+    ensures none { IfNone result (NamesNone role profile) }
+{
+    let opening = opening_of(role)?;
+    let profile = profile_of(profile)?;
+    Some((opening, profile))
+}
+
+/// A session over a version. 98 for a number of no role or profile, and else 90.
+fn session_over(alloc: Global, thing: &Thing, role: u32, profile: u32) -> Result<AnySession, u32>
     ensures number { IfErr result (λ code. code ≢ 0) }
-    ensures version { IfVersion thing.now (λ v. IfOk result (λ w. w ≡ v)) }
+    ensures opened { IfVersion thing.now (λ v. IfOk result (λ s. (opening : _) × (wire : _)
+        × (opening_number opening ≡ role) × (profile_number wire ≡ profile) × Opens v opening wire s)) }
+    ensures both { IfVersion thing.now (λ _. IfOk result (λ _. NamesBoth role profile)) }
+    ensures refused { IfVersion thing.now (λ _. IfErr result (λ code. IsUnopened role profile code)) }
     ensures kind { no_version thing.now ≡ true → result ≡ Err 99 }
 {
-    match thing {
-        Thing::Version(version) => match version.copy(alloc) {
-            Ok(version) => Ok(version),
-            Err(_) => Err(MEMORY),
-        },
-        _ => Err(OTHER_KIND),
+    let Thing::Version(version) = thing else {
+        return Err(OTHER_KIND);
+    };
+    let Some((opening, profile)) = opening_by(role, profile) else {
+        return Err(NOT_THERE);
+    };
+    let Ok(version) = version.copy(alloc) else {
+        return Err(MEMORY);
+    };
+    match AnySession::open(alloc, version, opening, profile) {
+        Ok(session) => Ok(session),
+        Err(AllocError) => Err(MEMORY),
     }
 }
 
 /// Opens a session over a version: the role is 0 where it speaks first, 1 where it is spoken to first, and the profile
-/// 1 or 2. 98 for another number, 90.
+/// 1 or 2. 98 for another number, and else 90.
 #[unsafe(no_mangle)]
 pub extern "C" fn rs_session_open(
     alloc: Global,
@@ -63,25 +87,19 @@ pub extern "C" fn rs_session_open(
     ensures opened { result ≡ 0 → IfVersion version.old.value (λ v. IsSomeAnd out.new.value (λ made.
         IsSession made (λ s. (opening : _) × (wire : _) × (opening_number opening ≡ role)
         × (profile_number wire ≡ profile) × Opens v opening wire s))) }
+    ensures refused { result ≢ 0 → IfVersion version.old.value (λ _. IsUnopened role profile result) }
     ensures kind { no_version version.old.value ≡ true → result ≡ 99 }
     ensures failed { result ≢ 0 → out.new.value ≡ out.old.value }
     ensures same { version.new.value ≡ version.old.value }
 {
-    let over = replace_with(version, (), |version, _nothing| {
+    let opened = replace_with(version, (role, profile), |version, (role, profile)| {
         let thing = version.into_thing();
-        let over = version_of(alloc, &thing);
-        (Held::of(thing), over)
+        let opened = session_over(alloc, &thing, role, profile);
+        (Held::of(thing), opened)
     });
-    let over = match over {
-        Ok(over) => over,
-        Err(code) => return code,
-    };
-    let (Some(opening), Some(profile)) = (opening_of(role), profile_of(profile)) else {
-        return NOT_THERE;
-    };
-    match AnySession::open(alloc, over, opening, profile) {
+    match opened {
         Ok(session) => thing_out(alloc, Thing::Session(session), out),
-        Err(AllocError) => MEMORY,
+        Err(code) => code,
     }
 }
 
@@ -91,6 +109,12 @@ fn push_to(alloc: Global, thing: &mut Thing, bytes: &[u8]) -> Result<usize, u32>
     ensures pushed { IfOk result (λ n. IfSession thing.old (λ s. IsSession thing.new (λ t.
         Changes s t (PushesTo (take n bytes.now))))) }
     ensures took { IfOk result (λ n. n ≤ length bytes.now) }
+    ensures some { IfOk result (λ n. 0 < length bytes.now → 0 < n) }
+    ensures all { IfOk result (λ n. IfSession thing.new (λ t.
+        is_open (state_in t) ≡ false → n ≡ length bytes.now)) }
+    ensures after { IfSession thing.old (λ s. is_open (state_in s) ≡ false →
+        (result ≡ Ok (length bytes.now)) × (thing.new ≡ thing.old)) }
+    ensures memory { IfErr result (λ code. IfSession thing.old (λ _. code ≡ 90)) }
     ensures kind { no_session thing.old ≡ true → result ≡ Err 99 }
     ensures failed { IfErr result (λ _. thing.new ≡ thing.old) }
 {
@@ -115,8 +139,16 @@ pub extern "C" fn rs_session_push(
     ensures pushed { result ≡ 0 → IfSession session.old.value (λ s. IsSession session.new.value (λ t.
         Changes s t (PushesTo (take taken.new bytes.now)))) }
     ensures took { result ≡ 0 → taken.new ≤ length bytes.now }
+    // Some of the bytes are taken, and all of them where the session goes no further.
+    ensures some { result ≡ 0 → 0 < length bytes.now → 0 < taken.new }
+    ensures all { result ≡ 0 → IfSession session.new.value (λ t.
+        is_open (state_in t) ≡ false → taken.new ≡ length bytes.now) }
+    ensures after { IfSession session.old.value (λ s. is_open (state_in s) ≡ false →
+        (result ≡ 0) × (session.new.value ≡ session.old.value)) }
+    ensures memory { result ≢ 0 → IfSession session.old.value (λ _. result ≡ 90) }
     ensures kind { no_session session.old.value ≡ true → result ≡ 99 }
     ensures failed { result ≢ 0 → session.new.value ≡ session.old.value }
+    ensures unsaid { result ≢ 0 → taken.new ≡ taken.old }
 {
     let pushed = replace_with(session, bytes, |session, bytes| {
         let mut thing = session.into_thing();
@@ -135,6 +167,7 @@ pub extern "C" fn rs_session_push(
 /// Says that the bytes of a session's peer have ended.
 fn finish(thing: &mut Thing) -> u32
     ensures finished { result ≡ 0 → IfSession thing.old (λ s. IsSession thing.new (λ t. Changes s t Finishes)) }
+    ensures fine { IfSession thing.old (λ _. result ≡ 0) }
     ensures kind { no_session thing.old ≡ true → (result ≡ 99) × (thing.new ≡ thing.old) }
 {
     match thing {
@@ -151,6 +184,7 @@ fn finish(thing: &mut Thing) -> u32
 pub extern "C" fn rs_session_finish(session: &mut Held) -> u32
     ensures finished { result ≡ 0 → IfSession session.old.value (λ s. IsSession session.new.value (λ t.
         Changes s t Finishes)) }
+    ensures fine { IfSession session.old.value (λ _. result ≡ 0) }
     ensures kind { no_session session.old.value ≡ true →
         (result ≡ 99) × (session.new.value ≡ session.old.value) }
 {
@@ -166,6 +200,7 @@ fn state_of(thing: &Thing) -> Result<(u32, u32), u32>
     ensures number { IfErr result (λ code. code ≢ 0) }
     ensures stands { IfSession thing.now (λ s. IfOk result (λ n.
         (n.0 ≡ state_number (state_in s)) × (n.1 ≡ state_code (state_in s)))) }
+    ensures fine { IfSession thing.now (λ _. IfErr result (λ _. ⊥)) }
     ensures kind { no_session thing.now ≡ true → result ≡ Err 99 }
 {
     let Thing::Session(session) = thing else {
@@ -185,6 +220,8 @@ fn state_of(thing: &Thing) -> Result<(u32, u32), u32>
 pub extern "C" fn rs_session_state(session: &mut Held, state: &mut u32, code: &mut u32) -> u32
     ensures stands { result ≡ 0 → IfSession session.old.value (λ s.
         (state.new ≡ state_number (state_in s)) × (code.new ≡ state_code (state_in s))) }
+    ensures fine { IfSession session.old.value (λ _. result ≡ 0) }
+    ensures unsaid { result ≢ 0 → (state.new ≡ state.old) × (code.new ≡ code.old) }
     ensures kind { no_session session.old.value ≡ true → result ≡ 99 }
     ensures same { session.new.value ≡ session.old.value }
 {
@@ -209,6 +246,7 @@ fn front_of(alloc: Global, thing: &mut Thing, most: usize) -> Result<Vec<u8>, u3
     ensures front { IfOk result (λ front. IfSession thing.old (λ s. IsSession thing.new (λ t.
         Changes s t MakesDue × (front.items ≡ take most (ready_of t))))) }
     ensures few { IfOk result (λ front. length front.items ≤ most) }
+    ensures memory { IfErr result (λ code. IfSession thing.old (λ _. code ≡ 90)) }
     ensures kind { no_session thing.old ≡ true → result ≡ Err 99 }
     ensures failed { IfErr result (λ _. (thing.new ≡ thing.old)
         ⊎ IfSession thing.old (λ s. IsSession thing.new (λ t. Changes s t MakesDue))) }
@@ -232,6 +270,7 @@ fn front_at(alloc: Global, session: &mut Held, most: usize) -> Result<Vec<u8>, u
     ensures front { IfOk result (λ front. IfSession session.old.value (λ s. IsSession session.new.value (λ t.
         Changes s t MakesDue × (front.items ≡ take most (ready_of t))))) }
     ensures few { IfOk result (λ front. length front.items ≤ most) }
+    ensures memory { IfErr result (λ code. IfSession session.old.value (λ _. code ≡ 90)) }
     ensures kind { no_session session.old.value ≡ true → result ≡ Err 99 }
     ensures failed { IfErr result (λ _. (session.new.value ≡ session.old.value)
         ⊎ IfSession session.old.value (λ s. IsSession session.new.value (λ t. Changes s t MakesDue))) }
@@ -288,9 +327,12 @@ pub extern "C" fn rs_session_pull(
     ensures pulled { result ≡ 0 → IfSession session.old.value (λ s. IsSession session.new.value (λ t.
         Changes s t (Pulls (take used.new room.new)))) }
     ensures few { result ≡ 0 → used.new ≤ length room.old }
+    ensures all { result ≡ 0 → IfSession session.old.value (λ s.
+        used.new ≡ min (length room.old) (length (due_of s))) }
+    ensures memory { result ≢ 0 → IfSession session.old.value (λ _. result ≡ 90) }
     ensures rest { drop used.new room.new ≡ drop used.new room.old }
     ensures kind { no_session session.old.value ≡ true → result ≡ 99 }
-    ensures failed { result ≢ 0 → room.new ≡ room.old }
+    ensures failed { result ≢ 0 → (room.new ≡ room.old) × (used.new ≡ used.old) }
     ensures stays { result ≢ 0 → (session.new.value ≡ session.old.value)
         ⊎ IfSession session.old.value (λ s. IsSession session.new.value (λ t. Changes s t MakesDue)) }
 {
@@ -308,6 +350,7 @@ pub extern "C" fn rs_session_pull(
 fn messages_of(thing: &Thing) -> Result<(u32, u32), u32>
     ensures number { IfErr result (λ code. code ≢ 0) }
     ensures sent { IfSession thing.now (λ s. IfOk result (λ n. (n.0 ≡ sent_by s) × (n.1 ≡ bound_of s))) }
+    ensures fine { IfSession thing.now (λ _. IfErr result (λ _. ⊥)) }
     ensures kind { no_session thing.now ≡ true → result ≡ Err 99 }
 {
     match thing {
@@ -321,6 +364,8 @@ fn messages_of(thing: &Thing) -> Result<(u32, u32), u32>
 pub extern "C" fn rs_session_messages(session: &mut Held, sent: &mut u32, bound: &mut u32) -> u32
     ensures sent { result ≡ 0 → IfSession session.old.value (λ s.
         (sent.new ≡ sent_by s) × (bound.new ≡ bound_of s)) }
+    ensures fine { IfSession session.old.value (λ _. result ≡ 0) }
+    ensures unsaid { result ≢ 0 → (sent.new ≡ sent.old) × (bound.new ≡ bound.old) }
     ensures kind { no_session session.old.value ≡ true → result ≡ 99 }
     ensures same { session.new.value ≡ session.old.value }
 {

@@ -1,28 +1,84 @@
 //! Sets of items.
 
-ghost use Rattle.std.specs.Prelude.{◌≡◌, ◌≢◌, ◌<◌, true, Ok, Err, IsSomeAnd, IfOk, IfErr, IfSome, IfNone, length};
+ghost use Rattle.std.specs.Prelude.{◌≡◌, ◌≢◌, ◌<◌, ◌≤◌, ◌⊎◌, true, Ok, Err, IsSomeAnd, IfOk, IfErr, IfSome, IfNone};
+ghost use Rattle.std.specs.Prelude.{length};
 ghost use Rattle.embedded_core.specs.SetStates.{newest, with_item, IsSetFrom, IsAnswer};
+ghost use Rattle.std.specs.Arc.{arc_value};
 ghost use Rattle.definitions.specs.Histories.{insertion};
+ghost use Rattle.embedded_core.specs.Faults.{embedded_fault_number};
 ghost use Rattle.rangesync_c.specs.Meaning.{IfStrategy, IfSet, IsSet, IsVersion, no_strategy, no_set, form_number};
+ghost use Rattle.rangesync_c.specs.Meaning.{IsNoSetIn, IsItemLength, IsNotPut};
 
 use crate::codes::{FINE, MEMORY, NOT_THERE, OTHER_KIND};
 use crate::held::{Held, Place, Thing, thing_out};
-use crate::strategies::strategy_at;
+use crate::items::item_of;
 use core::mem::replace_with;
-use embedded_core::{Set, Version};
-use item_core::Item;
-use settings_core::ItemForm;
+use embedded_core::{EmbeddedFault, Set, Version};
+use item_files::ItemForm;
 use std::alloc::Global;
+use std::sync::Arc;
+use strategy_check::Accepted;
 
 /// The form of an item file's text: 0 for hex, 1 for text lines.
 fn form_of(number: u32) -> Option<ItemForm>
-    ensures form { IfSome result (λ form. form_number form ≡ number) }
+    ensures form { IfSome result (λ form. (form_number form ≡ number) × (number ≤ 1)) }
     ensures none { IfNone result (1 < number) }
 {
     match number {
         0 => Some(ItemForm::Hex),
         1 => Some(ItemForm::Text),
         _ => None,
+    }
+}
+
+/// One more owner of a strategy, and the form of a number. 98 for a number of no form, and else 90.
+fn owner_of(thing: &Thing, number: u32) -> Result<(Arc<Accepted>, ItemForm), u32>
+    ensures number { IfErr result (λ code. code ≢ 0) }
+    ensures owner { IfStrategy thing.now (λ a. IfOk result (λ o. (arc_value o.0 ≡ a)
+        × (form_number o.1 ≡ number) × (number ≤ 1))) }
+    ensures refused { IfStrategy thing.now (λ _. IfErr result (λ code.
+        ((code ≡ 98) × (1 < number)) ⊎ ((code ≡ 90) × (number ≤ 1)))) }
+    ensures kind { no_strategy thing.now ≡ true → result ≡ Err 99 }
+{
+    let Thing::Strategy(accepted) = thing else {
+        return Err(OTHER_KIND);
+    };
+    let Some(form) = form_of(number) else {
+        return Err(NOT_THERE);
+    };
+    match Arc::try_clone(accepted) {
+        Ok(owner) => Ok((owner, form)),
+        Err(_) => Err(MEMORY),
+    }
+}
+
+/// The same of the strategy that a handle stands for.
+fn owner_at(strategy: &mut Held, number: u32) -> Result<(Arc<Accepted>, ItemForm), u32>
+    ensures number { IfErr result (λ code. code ≢ 0) }
+    ensures owner { IfStrategy strategy.old.value (λ a. IfOk result (λ o. (arc_value o.0 ≡ a)
+        × (form_number o.1 ≡ number) × (number ≤ 1))) }
+    ensures refused { IfStrategy strategy.old.value (λ _. IfErr result (λ code.
+        ((code ≡ 98) × (1 < number)) ⊎ ((code ≡ 90) × (number ≤ 1)))) }
+    ensures kind { no_strategy strategy.old.value ≡ true → result ≡ Err 99 }
+    ensures same { strategy.new.value ≡ strategy.old.value }
+{
+    replace_with(strategy, number, |strategy, number| {
+        let thing = strategy.into_thing();
+        let owner = owner_of(&thing, number);
+        (Held::of(thing), owner)
+    })
+}
+
+/// Makes a handle of a set that was read, or says why there is none.
+fn set_out(alloc: Global, set: Result<Set, EmbeddedFault>, out: &mut Place) -> u32
+    ensures made { result ≡ 0 → IsSomeAnd out.new.value (λ made. IsSet made (λ s. set ≡ Ok s)) }
+    ensures refused { IfErr set (λ f. result ≡ embedded_fault_number f) }
+    ensures memory { IfOk set (λ _. result ≢ 0 → result ≡ 90) }
+    ensures failed { result ≢ 0 → out.new.value ≡ out.old.value }
+{
+    match set {
+        Ok(set) => thing_out(alloc, Thing::Set(set), out),
+        Err(fault) => u32::from(fault.number()),
     }
 }
 
@@ -38,20 +94,14 @@ pub extern "C" fn rs_set_read(
 ) -> u32
     ensures read { result ≡ 0 → IfStrategy strategy.old.value (λ a. IsSomeAnd out.new.value (λ made.
         IsSet made (λ s. (kind : _) × (form_number kind ≡ form) × IsSetFrom kind text.now a (Ok s)))) }
+    ensures refused { result ≢ 0 → IfStrategy strategy.old.value (λ a. IsNoSetIn form text.now a result) }
     ensures kind { no_strategy strategy.old.value ≡ true → result ≡ 99 }
     ensures failed { result ≢ 0 → out.new.value ≡ out.old.value }
     ensures same { strategy.new.value ≡ strategy.old.value }
 {
-    let accepted = match strategy_at(strategy) {
-        Ok(accepted) => accepted,
-        Err(code) => return code,
-    };
-    let Some(form) = form_of(form) else {
-        return NOT_THERE;
-    };
-    match Set::from_text(alloc, accepted, form, text) {
-        Ok(set) => thing_out(alloc, Thing::Set(set), out),
-        Err(fault) => u32::from(fault.number()),
+    match owner_at(strategy, form) {
+        Ok((accepted, form)) => set_out(alloc, Set::from_text(alloc, accepted, form, text), out),
+        Err(code) => code,
     }
 }
 
@@ -61,16 +111,15 @@ fn insert_into(alloc: Global, thing: &mut Thing, bytes: &[u8]) -> Result<bool, u
     ensures new { IfOk result (λ _. IfSet thing.old (λ s. IsSet thing.new (λ t. t ≡ with_item s bytes.now))) }
     ensures answer { IfOk result (λ is_new. IfSet thing.old (λ s.
         IsAnswer (insertion s.accepted.table.cap s.history bytes.now) (Ok is_new))) }
+    ensures item { IfOk result (λ _. IfSet thing.old (λ _. IsItemLength bytes.now)) }
+    ensures refused { IfErr result (λ code. IfSet thing.old (λ s. IsNotPut s bytes.now code)) }
     ensures kind { no_set thing.old ≡ true → result ≡ Err 99 }
     ensures failed { IfErr result (λ _. thing.new ≡ thing.old) }
 {
     let Thing::Set(set) = thing else {
         return Err(OTHER_KIND);
     };
-    let item = match Item::new(bytes) {
-        Ok(item) => item,
-        Err(fault) => return Err(u32::from(fault.number())),
-    };
+    let item = item_of(bytes)?;
     match set.insert(alloc, item) {
         Ok(is_new) => Ok(is_new),
         Err(fault) => Err(u32::from(fault.number())),
@@ -89,8 +138,11 @@ pub extern "C" fn rs_set_insert(
     ensures new { result ≡ 0 → IfSet set.old.value (λ s. IsSet set.new.value (λ t. t ≡ with_item s bytes.now)) }
     ensures answer { result ≡ 0 → IfSet set.old.value (λ s.
         IsAnswer (insertion s.accepted.table.cap s.history bytes.now) (Ok is_new.new)) }
+    ensures item { result ≡ 0 → IfSet set.old.value (λ _. IsItemLength bytes.now) }
+    ensures refused { result ≢ 0 → IfSet set.old.value (λ s. IsNotPut s bytes.now result) }
     ensures kind { no_set set.old.value ≡ true → result ≡ 99 }
     ensures failed { result ≢ 0 → set.new.value ≡ set.old.value }
+    ensures unsaid { result ≢ 0 → is_new.new ≡ is_new.old }
 {
     let inserted = replace_with(set, bytes, |set, bytes| {
         let mut thing = set.into_thing();
@@ -143,6 +195,7 @@ pub extern "C" fn rs_set_count(set: &mut Held, count: &mut usize) -> u32
 fn version_of(alloc: Global, thing: &Thing) -> Result<Version, u32>
     ensures number { IfErr result (λ code. code ≢ 0) }
     ensures version { IfSet thing.now (λ s. IfOk result (λ v. v ≡ newest s)) }
+    ensures memory { IfSet thing.now (λ _. IfErr result (λ code. code ≡ 90)) }
     ensures kind { no_set thing.now ≡ true → result ≡ Err 99 }
 {
     match thing {
@@ -159,6 +212,7 @@ fn version_of(alloc: Global, thing: &Thing) -> Result<Version, u32>
 pub extern "C" fn rs_set_share(alloc: Global, set: &mut Held, out: &mut Place) -> u32
     ensures version { result ≡ 0 → IfSet set.old.value (λ s. IsSomeAnd out.new.value (λ made.
         IsVersion made (λ v. v ≡ newest s))) }
+    ensures memory { result ≢ 0 → IfSet set.old.value (λ _. result ≡ 90) }
     ensures kind { no_set set.old.value ≡ true → result ≡ 99 }
     ensures failed { result ≢ 0 → out.new.value ≡ out.old.value }
     ensures same { set.new.value ≡ set.old.value }

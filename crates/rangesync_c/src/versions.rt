@@ -1,16 +1,18 @@
 //! Versions of sets.
 
-ghost use Rattle.std.specs.Prelude.{◌≡◌, ◌≢◌, true, Ok, Err, Some, IfOk, IfErr, length, take, slice_get};
+ghost use Rattle.std.specs.Prelude.{◌≡◌, ◌≢◌, ◌≤◌, ◌<◌, ◌⊎◌, true, Ok, Err, Some, None, IfOk, IfErr};
+ghost use Rattle.std.specs.Prelude.{length, take, slice_get};
 ghost use Rattle.definitions.specs.Sets.{has, items_in};
-ghost use Rattle.embedded_core.specs.SetStates.{between};
+ghost use Rattle.embedded_core.specs.SetStates.{between, AreBounds, IsNoRange};
 ghost use Rattle.rangesync_c.specs.Meaning.{IfVersion, no_version};
+ghost use Rattle.rangesync_c.specs.Meaning.{IsItemLength, IsItemFault, IsNumberOf, IsNoPlace};
 
 use crate::codes::{FINE, NOT_THERE, OTHER_KIND};
 use crate::held::{Held, Thing};
-use crate::learned::write_item;
+use crate::items::{item_of, write_item};
 use core::mem::replace_with;
-use embedded_core::{EmbeddedFault, range_between};
-use item_core::{Item, Range};
+use embedded_core::range_between;
+use item_core::Item;
 
 /// How many items a version has.
 fn count_of(thing: &Thing) -> Result<usize, u32>
@@ -49,21 +51,24 @@ pub extern "C" fn rs_version_count(version: &mut Held, count: &mut usize) -> u32
 fn has_item(thing: &Thing, bytes: &[u8]) -> Result<bool, u32>
     ensures number { IfErr result (λ code. code ≢ 0) }
     ensures has { IfVersion thing.now (λ v. IfOk result (λ found. found ≡ has v.items bytes.now)) }
+    ensures item { IfVersion thing.now (λ _. IfOk result (λ _. IsItemLength bytes.now)) }
+    ensures refused { IfVersion thing.now (λ _. IfErr result (λ code. IsItemFault bytes.now code)) }
     ensures kind { no_version thing.now ≡ true → result ≡ Err 99 }
 {
     let Thing::Version(version) = thing else {
         return Err(OTHER_KIND);
     };
-    match Item::new(bytes) {
-        Ok(item) => Ok(version.has(&item)),
-        Err(fault) => Err(u32::from(fault.number())),
-    }
+    let item = item_of(bytes)?;
+    Ok(version.has(&item))
 }
 
 /// Says whether a version has an item. 71 for no bytes, 72 for more than 64.
 #[unsafe(no_mangle)]
 pub extern "C" fn rs_version_has(version: &mut Held, bytes: &[u8], found: &mut bool) -> u32
     ensures has { result ≡ 0 → IfVersion version.old.value (λ v. found.new ≡ has v.items bytes.now) }
+    ensures item { result ≡ 0 → IfVersion version.old.value (λ _. IsItemLength bytes.now) }
+    ensures refused { result ≢ 0 → IfVersion version.old.value (λ _. IsItemFault bytes.now result) }
+    ensures unsaid { result ≢ 0 → found.new ≡ found.old }
     ensures kind { no_version version.old.value ≡ true → result ≡ 99 }
     ensures same { version.new.value ≡ version.old.value }
 {
@@ -81,17 +86,20 @@ pub extern "C" fn rs_version_has(version: &mut Held, bytes: &[u8], found: &mut b
     }
 }
 
-/// How many items a version has in a range, unless the bounds are of none.
-fn count_between(thing: &Thing, range: Result<Range, EmbeddedFault>) -> Result<usize, u32>
+/// How many items a version has between these bounds.
+fn count_between(thing: &Thing, lower: &[u8], upper: &[u8]) -> Result<usize, u32>
     ensures number { IfErr result (λ code. code ≢ 0) }
-    ensures count { IfVersion thing.now (λ v. IfOk range (λ X. IfOk result (λ n. n ≡ length (items_in v.items X)))) }
-    ensures bounds { IfErr range (λ _. IfOk result (λ _. ⊥)) }
+    ensures count { IfVersion thing.now (λ v. IfOk result (λ n.
+        n ≡ length (items_in v.items (between lower.now upper.now)))) }
+    ensures bounds { IfVersion thing.now (λ _. IfOk result (λ _. AreBounds lower.now upper.now)) }
+    ensures refused { IfVersion thing.now (λ _. IfErr result (λ code.
+        IsNumberOf (IsNoRange lower.now upper.now) code)) }
     ensures kind { no_version thing.now ≡ true → result ≡ Err 99 }
 {
     let Thing::Version(version) = thing else {
         return Err(OTHER_KIND);
     };
-    match range {
+    match range_between(lower, upper) {
         Ok(range) => Ok(version.count_in(&range)),
         Err(fault) => Err(u32::from(fault.number())),
     }
@@ -108,13 +116,16 @@ pub extern "C" fn rs_version_count_in(
 ) -> u32
     ensures count { result ≡ 0 → IfVersion version.old.value (λ v.
         count.new ≡ length (items_in v.items (between lower.now upper.now))) }
+    ensures bounds { result ≡ 0 → IfVersion version.old.value (λ _. AreBounds lower.now upper.now) }
+    ensures refused { result ≢ 0 → IfVersion version.old.value (λ _.
+        IsNumberOf (IsNoRange lower.now upper.now) result) }
+    ensures unsaid { result ≢ 0 → count.new ≡ count.old }
     ensures kind { no_version version.old.value ≡ true → result ≡ 99 }
     ensures same { version.new.value ≡ version.old.value }
 {
-    let range = range_between(lower, upper);
-    let counted = replace_with(version, range, |version, range| {
+    let counted = replace_with(version, (lower, upper), |version, (lower, upper)| {
         let thing = version.into_thing();
-        let counted = count_between(&thing, range);
+        let counted = count_between(&thing, lower, upper);
         (Held::of(thing), counted)
     });
     match counted {
@@ -126,22 +137,21 @@ pub extern "C" fn rs_version_count_in(
     }
 }
 
-/// The item at this place among those that a version has in a range.
-fn item_between(
-    thing: &Thing,
-    range: Result<Range, EmbeddedFault>,
-    place: usize,
-) -> Result<Item, u32>
+/// The item at this place among those that a version has between these bounds.
+fn item_between(thing: &Thing, lower: &[u8], upper: &[u8], place: usize) -> Result<Item, u32>
     ensures number { IfErr result (λ code. code ≢ 0) }
-    ensures item { IfVersion thing.now (λ v. IfOk range (λ X. IfOk result (λ x.
-        slice_get (items_in v.items X) place ≡ Some x))) }
-    ensures bounds { IfErr range (λ _. IfOk result (λ _. ⊥)) }
+    ensures item { IfVersion thing.now (λ v. IfOk result (λ x.
+        slice_get (items_in v.items (between lower.now upper.now)) place ≡ Some x)) }
+    ensures bounds { IfVersion thing.now (λ _. IfOk result (λ _. AreBounds lower.now upper.now)) }
+    ensures refused { IfVersion thing.now (λ v. IfErr result (λ code.
+        IsNumberOf (IsNoRange lower.now upper.now) code ⊎ ((code ≡ 98) × AreBounds lower.now upper.now
+        × (slice_get (items_in v.items (between lower.now upper.now)) place ≡ None)))) }
     ensures kind { no_version thing.now ≡ true → result ≡ Err 99 }
 {
     let Thing::Version(version) = thing else {
         return Err(OTHER_KIND);
     };
-    let range = match range {
+    let range = match range_between(lower, upper) {
         Ok(range) => range,
         Err(fault) => return Err(u32::from(fault.number())),
     };
@@ -164,14 +174,20 @@ pub extern "C" fn rs_version_item_in(
 ) -> u32
     ensures item { result ≡ 0 → IfVersion version.old.value (λ v.
         slice_get (items_in v.items (between lower.now upper.now)) place ≡ Some (take used.new room.new)) }
+    ensures bounds { result ≡ 0 → IfVersion version.old.value (λ _. AreBounds lower.now upper.now) }
+    ensures refused { result ≢ 0 → IfVersion version.old.value (λ v.
+        IsNumberOf (IsNoRange lower.now upper.now) result ⊎ (AreBounds lower.now upper.now
+        × IsNoPlace (items_in v.items (between lower.now upper.now)) place (length room.old) used.new result)) }
+    ensures few { result ≡ 0 → used.new ≤ length room.old }
+    ensures unsaid { result ≢ 0 → (used.new ≡ used.old) ⊎ (length room.old < used.new) }
     ensures kind { no_version version.old.value ≡ true → result ≡ 99 }
     ensures failed { result ≢ 0 → room.new ≡ room.old }
     ensures same { version.new.value ≡ version.old.value }
 {
-    let range = range_between(lower, upper);
-    let found = replace_with(version, (range, place), |version, (range, place)| {
+    let wanted = (lower, upper, place);
+    let found = replace_with(version, wanted, |version, (lower, upper, place)| {
         let thing = version.into_thing();
-        let found = item_between(&thing, range, place);
+        let found = item_between(&thing, lower, upper, place);
         (Held::of(thing), found)
     });
     match found {

@@ -1,22 +1,18 @@
 -- What is heard of bytes all of whose events were heard: the session goes on unless the input has ended; a fault of the
 -- stream behind them stops it. What one event more makes of it, and that nothing counts after a stop, are laws.
-use Rattle.std.proofs.Common.{◌≡◌, ℕ, Bool, true, false, List, [], ◌∷◌, ◌++◌, None}
-use Rattle.std.proofs.Common.{refl, sym, ap, ◌∙◌, subst, append_assoc, append-nil}
-use Rattle.std.specs.Prelude.{fold}
-use Rattle.definitions.proofs.Lemmas.{fold-append}
+use Rattle.std.proofs.Common.{◌≡◌, ℕ, Bool, List, None}
+use Rattle.std.proofs.Common.{refl, ap, ◌∙◌}
 use Rattle.definitions.specs.Fingerprints.{Summary}
-use Rattle.definitions.specs.Messages.{Part, Message}
-use Rattle.definitions.specs.Wire.{Profile, Event, Came, Ended, Failed}
-use Rattle.definitions.specs.Streams.{Standing, Before_hello, In_message, Meaning_over, Faulted, Fed, feed, messages_of}
-use Rattle.definitions.specs.Ends.{End, is_live}
-use Rattle.definitions.specs.Engines.{Speaker, says, answers, replied}
-use Rattle.definitions.specs.Taking.{Taken, ended}
-use Rattle.definitions.specs.Hearing.{Hearing, Goes_on, Over_at, Peer_refused, Refused_for, hear_now, hear, begins}
+use Rattle.definitions.specs.Messages.{Message}
+use Rattle.definitions.specs.Wire.{Profile, Event}
+use Rattle.definitions.specs.Streams.{Standing, Before_hello, In_message, Meaning_over, Faulted, Fed, feed}
+use Rattle.definitions.specs.Ends.{End}
+use Rattle.definitions.specs.Engines.{Speaker}
+use Rattle.definitions.specs.Taking.{Taken}
+use Rattle.definitions.specs.Hearing.{Hearing, Goes_on, Refused_for}
 use Rattle.definitions.specs.Hearing.{hears, stop_at, with_end, hearing_to}
 use Rattle.laws.specs.Hearing.{said_to_events}
 use Rattle.wire_core.specs.Feeds.{StreamState, Holds, fault_at}
-use Rattle.ends_core.specs.EndStates.{EndState}
-use Rattle.session_core.specs.Sessions.{said_by}
 use Rattle.ends_core.specs.Sides.{said_to}
 
 module _ {F : Type 0} (S : Summary F) (W : Profile F) where

@@ -4,11 +4,11 @@
 -- all that is said to them. A piece that completes no event changes neither; an event adds its reply. Where an event or
 -- a fault of the stream stops the session, the laws say that whatever comes later counts no more. To make texts, or to
 -- take bytes of them, moves bytes between what is due and what was taken, and keeps their sum.
-use Rattle.std.proofs.Common.{◌≡◌, ◌≢◌, ℕ, ◌+◌, ◌≤◌, ◌<◌, ◌⊎◌, Bool, true, false, List, [], ◌∷◌, ◌++◌, length, take, drop}
+use Rattle.std.proofs.Common.{◌≡◌, ℕ, ◌+◌, ◌<◌, Bool, true, false, List, [], ◌∷◌, ◌++◌, length, take, drop}
 use Rattle.std.proofs.Common.{Result, Ok, Err, IfOk, OnOk}
 use Rattle.std.specs.declared.alloc.AllocError.{AllocError}
 use Rattle.std.proofs.Common.{flat_map, Option, Some, None, IsTrue, inl, inr, refl, sym, ap, ◌∙◌, subst, append_assoc}
-use Rattle.std.proofs.Common.{append-nil, arith}
+use Rattle.std.proofs.Common.{append-nil}
 use Rattle.std.specs.Prelude.{if◌then◌else◌}
 use Rattle.std.proofs.lemmas.Grind.{flat_map-append}
 use Rattle.std.proofs.lemmas.List.{take-append-drop}
@@ -17,12 +17,11 @@ use Rattle.definitions.specs.Fingerprints.{Summary}
 use Rattle.definitions.specs.Items.{IsBytes}
 use Rattle.definitions.specs.Messages.{Message}
 use Rattle.definitions.specs.Refusals.{truncated}
-use Rattle.definitions.specs.Wire.{Profile, IsProfile, message_text, session_text, fault_text, Event, Came, Ended, Failed}
-use Rattle.definitions.specs.Streams.{Standing, Before_hello, In_message, Meaning_over, Faulted, Fed, feed, messages_of}
+use Rattle.definitions.specs.Wire.{Profile, message_text, session_text, fault_text, Event}
+use Rattle.definitions.specs.Streams.{Standing, Before_hello, In_message, Meaning_over, Faulted, Fed, feed}
 use Rattle.definitions.specs.Ends.{End, is_live, is_over}
 use Rattle.definitions.specs.Engines.{Speaker, says, own, session, messages_in}
-use Rattle.definitions.specs.Taking.{nothing_taken}
-use Rattle.definitions.specs.Hearing.{Hearing, Goes_on, Over_at, Peer_refused, Refused_for, hear_now, hears, with_end}
+use Rattle.definitions.specs.Hearing.{Hearing, Goes_on, Over_at, hears}
 use Rattle.definitions.specs.Hearing.{hearing_to}
 use Rattle.laws.specs.Hearing.{has_stopped, HearingsGoOn, BytesAgree, AgreesBy}
 use Rattle.codec_laws.specs.Parts.{FeedsJoin, joined}
@@ -36,9 +35,9 @@ use Rattle.session_core.specs.Sessions.{TalkState, SessionState, is_open, frame_
 use Rattle.wire_core.specs.Events.{event_value}
 use Rattle.wire_core.specs.declared.event.Event as declared
 use Rattle.session_core.specs.Sessions.{HearsIf, IsFed}
-use Rattle.session_core.specs.Sessions.{with_outbox, with_talk, finished, cut_off, hearing_at, said_by, Hears}
+use Rattle.session_core.specs.Sessions.{with_outbox, with_talk, finished, hearing_at, said_by, Hears}
 use Rattle.ends_core.specs.Sides.{said_to}
-use Rattle.session_core.specs.Sessions.{IsEnd, Tells, Goes, Lasts, Stays, GoesOn, Knows, Pushes}
+use Rattle.session_core.specs.Sessions.{IsEnd, Goes, Lasts, Stays, GoesOn, Knows, Pushes}
 use Rattle.ends_core.specs.Sides.{session_at}
 use Rattle.session_core.specs.Sessions.{Takes}
 use Rattle.session_core.proofs.Heard.{so_far, events_in, hearing-on, hearing-fault, said-of}

@@ -8,25 +8,21 @@
 --     Tells S P s c pushed taken         the end, the refusal and the text are those of the definitions
 --     Goes, Stays                        it goes on; or what comes later counts no more
 --     Knows S P s c pushed taken         all of it
---     Begins S P a s c                   nothing was pushed
+--     Begins S P a s c                   nothing was pushed, it is open, and it listens
 --     Pushes S P c bytes d               whatever was pushed before, these bytes were pushed behind it
 --     Takes S P c bytes d                whatever was taken before, these bytes were taken behind it
 --     speaker_of S side P                the side of a role
-use Rattle.std.specs.Prelude.{◌≡◌, ℕ, ◌≤◌, ◌⊎◌, Bool, true, false, List, [], ◌∷◌, ◌++◌, length, flat_map, Option, Some, None}
+use Rattle.std.specs.Prelude.{◌≡◌, ℕ, ◌⊎◌, Bool, true, false, List, [], ◌∷◌, ◌++◌, flat_map, Option, Some, None}
 use Rattle.std.specs.Prelude.{IsTrue, if◌then◌else◌, ⊤}
-use Rattle.std.specs.List.{AllByRecursion}
 use Rattle.definitions.specs.Fingerprints.{Summary}
-use Rattle.definitions.specs.Items.{Item, IsBytes}
+use Rattle.definitions.specs.Items.{IsBytes}
 use Rattle.definitions.specs.Messages.{Message}
 use Rattle.definitions.specs.Replies.{Peer}
 use Rattle.definitions.specs.Refusals.{truncated}
-use Rattle.definitions.specs.Talks.{Knowledge, knows}
-use Rattle.definitions.specs.Theorems.{IsShort}
-use Rattle.definitions.specs.Wire.{Profile, session_text, message_text, fault_text, Event, Came, Ended, Failed}
+use Rattle.definitions.specs.Wire.{Profile, session_text, message_text, fault_text, Event}
 use Rattle.definitions.specs.Streams.{Before_hello, Fed, feed}
-use Rattle.definitions.specs.Ends.{End, Stage, Fresh, Waits, Over, Spent, is_over, is_live}
-use Rattle.definitions.specs.Engines.{Speaker, initiating, responding, says, session, own, takes, messages_in, replied}
-use Rattle.definitions.specs.Taking.{ended}
+use Rattle.definitions.specs.Ends.{End, is_over, is_live}
+use Rattle.definitions.specs.Engines.{Speaker, initiating, responding}
 use Rattle.definitions.specs.Hearing.{Hearing, Goes_on, Over_at, Peer_refused, Refused_for, hear_now, hears, hearing_to}
 use Rattle.definitions.specs.Worlds.{Side}
 use Rattle.definitions.specs.Worlds as worlds
@@ -37,7 +33,7 @@ use Rattle.wire_core.specs.Events.{event_value}
 use Rattle.wire_core.specs.declared.event.Event as declared
 use Rattle.ends_core.specs.EndStates.{EndState}
 use Rattle.ends_core.specs.Sides.{said_to, session_at}
-use Rattle.session_core.specs.Outboxes.{OutboxState, outbox_state}
+use Rattle.session_core.specs.Outboxes.{OutboxState}
 use Rattle.session_core.specs.declared.state.State.{State}
 use Rattle.session_core.specs.declared.state.State.TheVariants as states
 
@@ -184,8 +180,11 @@ module _ {F : Type 0} (S : Summary F) (W : Profile F) where
     pub tells : Tells s c pushed taken
     pub goes_on : GoesOn (is_open c.talk.state) s c pushed
 
+  -- nothing was pushed, and it listens
   pub record Begins (a : Checked) (s : Speaker F) (c : SessionState F) : Type 0 where
     pub knows : Knows s c [] []
+    pub goes : c.talk.state ≡ states.Open
+    pub listens : c.over ≡ false
     pub peer : c.talk.held.end.peer ≡ s.start.peer
     pub steps : c.talk.held.steps ≡ a.steps
 

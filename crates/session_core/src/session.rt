@@ -1,7 +1,7 @@
 //! A session of this side: the bytes that its peer sends are pushed, and the bytes that it says are taken.
 
 ghost use Rattle.std.specs.Prelude.{◌≡◌, ◌≢◌, ◌≤◌, ◌<◌, ◌+◌, true, false, [], ℕ, List, length, take, drop, min};
-ghost use Rattle.std.specs.Prelude.{Some, IfOk, IfErr, OnOk, OnErr, IfSome, IfNone};
+ghost use Rattle.std.specs.Prelude.{Ok, Some, IfOk, IfErr, OnOk, OnErr, IfSome, IfNone};
 ghost use Rattle.std.specs.List.{IsDistinct};
 ghost use Rattle.std.specs.Arc.{arc_value};
 ghost use Rattle.definitions.specs.Items.{same_item, IsBytes};
@@ -14,7 +14,7 @@ ghost use Rattle.wire_core.specs.Feeds.{fed_into, fault_at};
 ghost use Rattle.ends_core.specs.Roles.{most_of};
 ghost use Rattle.session_core.specs.Outboxes.{outbox_state};
 ghost use Rattle.session_core.specs.Sessions.{due, opened, with_talk, finished, with_outbox};
-ghost use Rattle.session_core.specs.Sessions.{feed_of, IsFed, Knows, Begins, Pushes, Takes, speaker_of};
+ghost use Rattle.session_core.specs.Sessions.{feed_of, IsFed, is_open, Knows, Begins, Pushes, Takes, speaker_of};
 ghost use Rattle.ends_core.specs.Sides.{known_at, peer_of};
 ghost use Rattle.session_core.specs.declared.state.State.TheVariants as states;
 
@@ -126,13 +126,18 @@ impl<R: Role, S: RangeStore, F: Summary> Session<R, S, F> {
     /// Takes bytes of the peer, cut in any way, and hears the events that they complete. Returns how many it took: all,
     /// unless memory ran out; then what is left is pushed again later.
     ///
-    /// Where memory runs out before it has taken any, the session is as before, and so it is where the peer's bytes have
-    /// ended. What comes after the end of the session, or after a refusal, counts no more.
+    /// Where memory runs out before it has taken any, it fails, and the session is as before. What comes after the end
+    /// of the session, after a refusal, or after the peer's bytes have ended is taken and counts no more.
     pub fn push(&mut self, alloc: Global, piece: &[u8]) -> Result<usize, AllocError>
         ensures took { IfOk result (λ n. n ≤ length piece.now) }
         ensures pushes { IfOk result (λ n. self.old.over ≡ false →
             Pushes F.summary F.profile self.old (take n piece.now) self.new) }
-        ensures over { self.old.over ≡ true → self.new ≡ self.old }
+        ensures over { self.old.over ≡ true → (result ≡ Ok (length piece.now)) × (self.new ≡ self.old) }
+        ensures after { is_open self.old.talk.state ≡ false → (result ≡ Ok (length piece.now)) × (self.new ≡ self.old) }
+        ensures listens { self.new.over ≡ self.old.over }
+        // It takes some of a piece, and all of it where the session goes no further.
+        ensures some { IfOk result (λ n. 0 < length piece.now → 0 < n) }
+        ensures all { IfOk result (λ n. is_open self.new.talk.state ≡ false → n ≡ length piece.now) }
         ensures memory { OnErr result (self.new ≡ self.old) }
     {
         codec_laws::feeds_join::<F>();
@@ -153,6 +158,8 @@ impl<R: Role, S: RangeStore, F: Summary> Session<R, S, F> {
     fn hear_all(&mut self, alloc: Global, piece: &[u8]) -> Result<usize, AllocError>
         requires { IsBytes piece.now }
         ensures took { IfOk result (λ n. n ≤ length piece.now) }
+        ensures some { IfOk result (λ n. is_open self.new.talk.state ≡ true → 0 < length piece.now → 0 < n) }
+        ensures after { is_open self.old.talk.state ≡ false → (result ≡ Ok 0) × (self.new ≡ self.old) }
         ensures pushes { IfOk result (λ n. Pushes F.summary F.profile self.old (take n piece.now) self.new) }
         ensures over { self.new.over ≡ self.old.over }
         ensures memory { OnErr result (self.new ≡ self.old) }
@@ -279,6 +286,7 @@ impl<R: Role, S: RangeStore, F: Summary> Session<R, S, F> {
         ensures made { OnOk result (self.new ≡ with_talk self.old (with_outbox self.old.talk
             (outbox_state (due F.profile self.old.talk) []) true)) }
         ensures knows { OnOk result (Takes F.summary F.profile self.old [] self.new) }
+        ensures listens { self.new.over ≡ self.old.over }
         ensures memory { OnErr result (self.new ≡ self.old) }
     {
         self.talk.make_due(alloc)
@@ -297,6 +305,7 @@ impl<R: Role, S: RangeStore, F: Summary> Session<R, S, F> {
         ensures rest { self.new ≡ with_talk self.old (with_outbox self.old.talk
             (outbox_state (drop result self.old.talk.outbox.ready) self.old.talk.outbox.later) self.old.talk.told) }
         ensures takes { Takes F.summary F.profile self.old (take result self.old.talk.outbox.ready) self.new }
+        ensures listens { self.new.over ≡ self.old.over }
     {
         self.talk.take(count)
     }

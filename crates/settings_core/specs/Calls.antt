@@ -15,11 +15,11 @@ use Rattle.settings_core.specs.Program.{program}
 use Rattle.settings_core.specs.Spans.{AreInSpan}
 use Rattle.settings_core.specs.declared.words.Call.{Call}
 use Rattle.settings_core.specs.declared.words.Command.{Command}
-use Rattle.settings_core.specs.declared.words.ItemForm.{ItemForm}
-use Rattle.settings_core.specs.declared.words.ItemForm.TheVariants as forms
+use Rattle.item_files.specs.declared.form.ItemForm.{ItemForm}
+use Rattle.item_files.specs.declared.form.ItemForm.TheVariants as forms
 use Rattle.settings_core.specs.declared.words.WireProfile.{WireProfile}
 use Rattle.settings_core.specs.declared.words.WireProfile.TheVariants as profiles
-use Rattle.settings_core.specs.declared.words.Command.TheVariants.{Answer, Check, Sim, Serve, Sync}
+use Rattle.settings_core.specs.declared.words.Command.TheVariants.{Answer, Check, Plan, Sim, Serve, Sync}
 
 -- the value of an argument
 abbrev pub IsText : Text → List Row → Text → Type 0
@@ -61,7 +61,12 @@ IsAnyText id rows text = text ≡ first_of id rows
 abbrev pub HasValues : List Row → Command → Type 0
 HasValues rows (Answer hexed form items) = IsFlag (codes "hex") rows hexed
     × IsFlag (codes "text") rows (is_text form) × IsText (codes "ITEMS") rows items.now
-HasValues rows (Check file) = IsText (codes "FILE") rows file.now
+HasValues rows (Check cost items item_length file) = IsFlag (codes "cost") rows cost
+    × IsNumber (codes "items") rows items × IsNumber (codes "length") rows item_length
+    × IsText (codes "FILE") rows file.now
+HasValues rows (Plan items differences item_length round_trip rate) = IsNumber (codes "items") rows items
+    × IsNumber (codes "differences") rows differences × IsNumber (codes "length") rows item_length
+    × IsNumber (codes "round-trip") rows round_trip × IsNumber (codes "rate") rows rate
 HasValues rows Sim = ⊤
 HasValues rows (Serve table address workers sessions patience most_bytes report learned keep durable most_learned
     read_only report_items form items) =
@@ -84,7 +89,8 @@ HasValues rows (Sync table address profile patience most_bytes stats form items)
 
 abbrev pub name_of : Command → Text
 name_of (Answer hexed form items) = codes "answer"
-name_of (Check file) = codes "check"
+name_of (Check cost items item_length file) = codes "check"
+name_of (Plan items differences item_length round_trip rate) = codes "plan"
 name_of Sim = codes "sim"
 name_of (Serve table address workers sessions patience most_bytes report learned keep durable most_learned read_only
     report_items form items) = codes "serve"

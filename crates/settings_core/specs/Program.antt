@@ -1,5 +1,5 @@
 -- The words that the program knows, as `clap` sees them.
---     program must     its commands: answer, check, sim, serve and sync; and whether the ITEMS of serve must be given
+--     program must     its commands: answer, check, plan, sim, serve and sync; and whether the ITEMS of serve must be given
 --     IsWord r a       the argument is this one, for its own command alone
 --     IsCommand a c    the command is this one, with no argument for those below it
 use Rattle.std.specs.Prelude.{◌≡◌, pos, codes, Bool, true, false, [], ◌∷◌, Some}
@@ -131,6 +131,50 @@ report_items = record (new_rule (codes "report-items")) {
 abbrev pub why : Rule
 why = record (new_rule (codes "why")) { long = Some (codes "why"); action = Some SetTrue }
 
+-- `--cost`
+abbrev pub cost : Rule
+cost = record (new_rule (codes "cost")) { long = Some (codes "cost"); action = Some SetTrue }
+
+-- `--items N`, of 1 to 65,536
+abbrev pub item_count : Rule
+item_count = record (new_rule (codes "items")) {
+  long = Some (codes "items");
+  value_names = 1;
+  parser = Some (Signed (pos 1) (pos 65536));
+}
+
+-- `--length L`, of 4 to 64
+abbrev pub item_length : Rule
+item_length = record (new_rule (codes "length")) {
+  long = Some (codes "length");
+  value_names = 1;
+  parser = Some (Signed (pos 4) (pos 64));
+}
+
+-- `--differences D`, of 0 to 65,536
+abbrev pub differences : Rule
+differences = record (new_rule (codes "differences")) {
+  long = Some (codes "differences");
+  value_names = 1;
+  parser = Some (Signed (pos 0) (pos 65536));
+}
+
+-- `--round-trip MS`, of 0 to 60,000
+abbrev pub round_trip : Rule
+round_trip = record (new_rule (codes "round-trip")) {
+  long = Some (codes "round-trip");
+  value_names = 1;
+  parser = Some (Signed (pos 0) (pos 60000));
+}
+
+-- `--rate MBIT`, of 1 to 100,000
+abbrev pub rate : Rule
+rate = record (new_rule (codes "rate")) {
+  long = Some (codes "rate");
+  value_names = 1;
+  parser = Some (Signed (pos 1) (pos 100000));
+}
+
 -- `FILE`
 abbrev pub file : Rule
 file = record (new_rule (codes "FILE")) { required = true }
@@ -145,7 +189,12 @@ abbrev pub answer : App
 answer = with_items (with_rule (new_app (codes "answer")) hex) true
 
 abbrev pub check : App
-check = with_rule (with_rule (new_app (codes "check")) why) file
+check = with_rule (with_rule (with_rule (with_rule (with_rule (new_app (codes "check")) cost) item_count) item_length)
+    why) file
+
+abbrev pub plan : App
+plan = with_rule (with_rule (with_rule (with_rule (with_rule (with_rule (new_app (codes "plan")) item_count)
+    differences) item_length) round_trip) rate) why
 
 abbrev pub sim : App
 sim = with_rule (new_app (codes "sim")) why
@@ -179,5 +228,5 @@ abbrev pub top : App
 top = on_top (λ s. record s { has_version = true; subcommand_required = true }) (new_app (codes "rangesync"))
 
 abbrev pub program : Bool → App
-program must = with_subcommand (with_subcommand (with_subcommand (with_subcommand (with_subcommand top answer.top)
-    check.top) sim.top) (serve must).top) sync.top
+program must = with_subcommand (with_subcommand (with_subcommand (with_subcommand (with_subcommand (with_subcommand top
+    answer.top) check.top) plan.top) sim.top) (serve must).top) sync.top

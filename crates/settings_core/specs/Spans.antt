@@ -5,7 +5,7 @@
 --     IsAnyGiven x y         one of the two is given, or both are
 use Rattle.std.specs.Prelude.{ℕ, ◌≤◌, IfSome, Option, Some, None, ⊤}
 use Rattle.settings_core.specs.declared.words.Command.{Command}
-use Rattle.settings_core.specs.declared.words.Command.TheVariants.{Answer, Check, Sim, Serve, Sync}
+use Rattle.settings_core.specs.declared.words.Command.TheVariants.{Answer, Check, Plan, Sim, Serve, Sync}
 
 abbrev pub IsWithin : ℕ → ℕ → ℕ → Type 0
 IsWithin least most n = (least ≤ n) × (n ≤ most)
@@ -32,6 +32,26 @@ IsLearnedCount n = (1 ≤ n) × (n ≤ 4294967295)
 abbrev pub IsReportedCount : ℕ → Type 0
 IsReportedCount n = (0 ≤ n) × (n ≤ 4294967295)
 
+-- how many items a set has
+abbrev pub IsItemCount : ℕ → Type 0
+IsItemCount n = (1 ≤ n) × (n ≤ 65536)
+
+-- in how many items two sets differ
+abbrev pub IsDifferenceCount : ℕ → Type 0
+IsDifferenceCount n = (0 ≤ n) × (n ≤ 65536)
+
+-- bytes of an item
+abbrev pub IsItemLength : ℕ → Type 0
+IsItemLength n = (4 ≤ n) × (n ≤ 64)
+
+-- milliseconds, up to a minute
+abbrev pub IsRoundTrip : ℕ → Type 0
+IsRoundTrip n = (0 ≤ n) × (n ≤ 60000)
+
+-- megabits in a second
+abbrev pub IsRate : ℕ → Type 0
+IsRate n = (1 ≤ n) × (n ≤ 100000)
+
 -- one of the two, or both
 abbrev pub IsAnyGiven : {X Y : Type 0} → Option X → Option Y → Type 0
 IsAnyGiven None None = ⊥
@@ -40,7 +60,10 @@ IsAnyGiven (Some x) y = ⊤
 
 abbrev pub AreInSpan : Command → Type 0
 AreInSpan (Answer hexed form items) = ⊤
-AreInSpan (Check file) = ⊤
+AreInSpan (Check cost items item_length file) = IfSome items IsItemCount × IfSome item_length IsItemLength
+AreInSpan (Plan items differences item_length round_trip rate) = IfSome items IsItemCount
+    × IfSome differences IsDifferenceCount × IfSome item_length IsItemLength × IfSome round_trip IsRoundTrip
+    × IfSome rate IsRate
 AreInSpan Sim = ⊤
 AreInSpan (Serve table address workers sessions patience most_bytes report learned keep durable most_learned read_only
     report_items form items) = IsWorkerCount workers × IfSome sessions IsSessionCount × IsPatience patience

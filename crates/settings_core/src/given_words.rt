@@ -5,10 +5,15 @@ ghost use Rattle.clap.specs.Words.{first_of, found_of, rows_of, subcommand_rows_
 ghost use Rattle.settings_core.specs.Calls.{AsksFor, CallsFor, Finds, IsFlag, IsNumber, is_text, profile_number};
 ghost use Rattle.settings_core.specs.Spans.{IsByteCount, IsLearnedCount, IsPatience, IsReportedCount, IsSessionCount};
 ghost use Rattle.settings_core.specs.Spans.{IsWithin, IsWorkerCount};
+ghost use Rattle.settings_core.specs.Spans.{IsItemCount, IsItemLength, IsDifferenceCount, IsRoundTrip, IsRate};
 
-use crate::known_words::{MAX_PATIENCE, MAX_SESSIONS, MAX_WORKERS, MIN_BYTES};
-use crate::words::{Call, Command, ItemForm, WireProfile};
+use crate::known_words::{
+    MAX_ITEM_LENGTH, MAX_ITEMS, MAX_PATIENCE, MAX_RATE, MAX_ROUND_TRIP, MAX_SESSIONS, MAX_WORKERS,
+    MIN_BYTES, MIN_ITEM_LENGTH,
+};
+use crate::words::{Call, Command, WireProfile};
 use clap::ArgMatches;
+use item_files::ItemForm;
 
 /// The number of workers, which `clap` has read in its span.
 fn workers_in(matches: &ArgMatches<'_>) -> Option<u8>
@@ -52,6 +57,46 @@ fn report_items_in(matches: &ArgMatches<'_>) -> Option<Option<u32>>
         × IfSome n IsReportedCount) result }
 {
     number_in(matches, "report-items", 0, u32::MAX)
+}
+
+/// How many items a set has, if it is given.
+fn item_count_in(matches: &ArgMatches<'_>) -> Option<Option<u32>>
+    ensures { Finds (λ n. IsNumber (codes "items") (rows_of (found_of matches.now)) n
+        × IfSome n IsItemCount) result }
+{
+    number_in(matches, "items", 1, MAX_ITEMS)
+}
+
+/// In how many items two sets differ, if it is given.
+fn differences_in(matches: &ArgMatches<'_>) -> Option<Option<u32>>
+    ensures { Finds (λ n. IsNumber (codes "differences") (rows_of (found_of matches.now)) n
+        × IfSome n IsDifferenceCount) result }
+{
+    number_in(matches, "differences", 0, MAX_ITEMS)
+}
+
+/// How many bytes an item has, if it is given.
+fn item_length_in(matches: &ArgMatches<'_>) -> Option<Option<u32>>
+    ensures { Finds (λ n. IsNumber (codes "length") (rows_of (found_of matches.now)) n
+        × IfSome n IsItemLength) result }
+{
+    number_in(matches, "length", MIN_ITEM_LENGTH, MAX_ITEM_LENGTH)
+}
+
+/// The milliseconds of a round trip, if they are given.
+fn round_trip_in(matches: &ArgMatches<'_>) -> Option<Option<u32>>
+    ensures { Finds (λ n. IsNumber (codes "round-trip") (rows_of (found_of matches.now)) n
+        × IfSome n IsRoundTrip) result }
+{
+    number_in(matches, "round-trip", 0, MAX_ROUND_TRIP)
+}
+
+/// The megabits in a second, if they are given.
+fn rate_in(matches: &ArgMatches<'_>) -> Option<Option<u32>>
+    ensures { Finds (λ n. IsNumber (codes "rate") (rows_of (found_of matches.now)) n
+        × IfSome n IsRate) result }
+{
+    number_in(matches, "rate", 1, MAX_RATE)
 }
 
 /// The wire profile, which `clap` has read as 1 or 2.
@@ -128,7 +173,23 @@ fn check_in<'a>(matches: &ArgMatches<'a>) -> Option<Command<'a>>
     ensures { Finds (AsksFor (codes "check") (rows_of (found_of matches.now))) result }
 {
     Some(Command::Check {
+        cost: flag_in(matches, "cost"),
+        items: item_count_in(matches)?,
+        item_length: item_length_in(matches)?,
         file: text_in(matches, "FILE")?,
+    })
+}
+
+/// What the words of `plan` ask for.
+fn plan_in<'a>(matches: &ArgMatches<'a>) -> Option<Command<'a>>
+    ensures { Finds (AsksFor (codes "plan") (rows_of (found_of matches.now))) result }
+{
+    Some(Command::Plan {
+        items: item_count_in(matches)?,
+        differences: differences_in(matches)?,
+        item_length: item_length_in(matches)?,
+        round_trip: round_trip_in(matches)?,
+        rate: rate_in(matches)?,
     })
 }
 
@@ -183,6 +244,7 @@ fn command_in<'a>(name: &str, matches: &ArgMatches<'a>) -> Option<Command<'a>>
     match name {
         "answer" => answer_in(matches),
         "check" => check_in(matches),
+        "plan" => plan_in(matches),
         "sim" => Some(Command::Sim),
         "serve" => serve_in(matches),
         "sync" => sync_in(matches),

@@ -20,6 +20,21 @@ pub(crate) const MAX_PATIENCE: u32 = 86_400;
 /// The least number of bytes that may be read of a session. The greatest is that of its type.
 pub(crate) const MIN_BYTES: u32 = 1_024;
 
+/// The greatest number of items of a set.
+pub(crate) const MAX_ITEMS: u32 = 65_536;
+
+/// The least number of bytes of an item that is made.
+pub(crate) const MIN_ITEM_LENGTH: u32 = 4;
+
+/// The greatest number of bytes of an item.
+pub(crate) const MAX_ITEM_LENGTH: u32 = 64;
+
+/// The greatest number of milliseconds of a round trip: a minute.
+pub(crate) const MAX_ROUND_TRIP: u32 = 60_000;
+
+/// The greatest number of megabits in a second.
+pub(crate) const MAX_RATE: u32 = 100_000;
+
 /// The word for an item file, and whether it must be given.
 fn items_word<'a>(alloc: Global, must: bool) -> Arg<'a>
     ensures { IsWord (program.items must) result }
@@ -100,17 +115,113 @@ fn answer_words<'a>(alloc: Global) -> Result<clap::Command<'a>, AllocError>
     with_items(alloc, command, true)
 }
 
+/// The word for what sessions cost.
+fn cost_word<'a>(alloc: Global) -> Arg<'a>
+    ensures { IsWord program.cost result }
+{
+    Arg::new(alloc, "cost")
+        .long("cost")
+        .help("Print what sessions between sets that are made cost, by differences")
+        .action(ArgAction::SetTrue)
+}
+
+/// The word for how many items a set has that is made.
+fn item_count_word<'a>(alloc: Global, help: &'a str) -> Arg<'a>
+    ensures { IsWord program.item_count result }
+{
+    Arg::new(alloc, "items")
+        .long("items")
+        .value_name("N")
+        .help(help)
+        .value_parser(value_parser!(u32).range(1..=i64::from(MAX_ITEMS)))
+}
+
+/// The word for how many bytes an item has that is made.
+fn item_length_word<'a>(alloc: Global) -> Arg<'a>
+    ensures { IsWord program.item_length result }
+{
+    Arg::new(alloc, "length")
+        .long("length")
+        .value_name("L")
+        .help("How many bytes an item has, 4 to 64 [default: 16]")
+        .value_parser(value_parser!(u32).range(
+            i64::from(MIN_ITEM_LENGTH)..=i64::from(MAX_ITEM_LENGTH),
+        ))
+}
+
+/// The word for a strategy file that is checked.
+fn file_word<'a>(alloc: Global) -> Arg<'a>
+    ensures { IsWord program.file result }
+{
+    Arg::new(alloc, "FILE")
+        .help("A strategy in TOML")
+        .required(true)
+}
+
 /// The words of `check`.
 fn check_words<'a>(alloc: Global) -> Result<clap::Command<'a>, AllocError>
     ensures { IfOk result (IsCommand program.check) }
 {
-    let file = Arg::new(alloc, "FILE")
-        .help("A strategy in TOML")
-        .required(true);
     clap::Command::new(alloc, "check")
         .about("Check a strategy and print the steps of its least ranks")
+        .arg(cost_word(alloc))?
+        .arg(item_count_word(
+            alloc,
+            "With --cost: how many items a set has, 1 to the cap [default: the cap]",
+        ))?
+        .arg(item_length_word(alloc))?
         .arg(why_word(alloc))?
-        .arg(file)
+        .arg(file_word(alloc))
+}
+
+/// The word for in how many items two sets differ.
+fn differences_word<'a>(alloc: Global) -> Arg<'a>
+    ensures { IsWord program.differences result }
+{
+    Arg::new(alloc, "differences")
+        .long("differences")
+        .value_name("D")
+        .help("In how many items the sets differ, 0 to 65,536 [default: 100]")
+        .value_parser(value_parser!(u32).range(0..=i64::from(MAX_ITEMS)))
+}
+
+/// The word for the time of a round trip.
+fn round_trip_word<'a>(alloc: Global) -> Arg<'a>
+    ensures { IsWord program.round_trip result }
+{
+    Arg::new(alloc, "round-trip")
+        .long("round-trip")
+        .value_name("MS")
+        .help("How many milliseconds a round trip takes, 0 to 60,000 [default: 100]")
+        .value_parser(value_parser!(u32).range(0..=i64::from(MAX_ROUND_TRIP)))
+}
+
+/// The word for the bandwidth.
+fn rate_word<'a>(alloc: Global) -> Arg<'a>
+    ensures { IsWord program.rate result }
+{
+    Arg::new(alloc, "rate")
+        .long("rate")
+        .value_name("MBIT")
+        .help("How many megabits a second the line carries, 1 to 100,000 [default: 10]")
+        .value_parser(value_parser!(u32).range(1..=i64::from(MAX_RATE)))
+}
+
+/// The words of `plan`.
+fn plan_words<'a>(alloc: Global) -> Result<clap::Command<'a>, AllocError>
+    ensures { IfOk result (IsCommand program.plan) }
+{
+    clap::Command::new(alloc, "plan")
+        .about("Print the quickest of the shipped strategies for two sets and a line")
+        .arg(item_count_word(
+            alloc,
+            "How many items a set has, 1 to 65,536 [default: 65536]",
+        ))?
+        .arg(differences_word(alloc))?
+        .arg(item_length_word(alloc))?
+        .arg(round_trip_word(alloc))?
+        .arg(rate_word(alloc))?
+        .arg(why_word(alloc))
 }
 
 /// The words of `sim`.
@@ -325,16 +436,24 @@ fn sync_words<'a>(alloc: Global) -> Result<clap::Command<'a>, AllocError>
     with_items(alloc, command, true)
 }
 
-/// All words of the program, and whether the ITEMS of `serve` must be given.
-pub(crate) fn program_words<'a>(alloc: Global, must: bool) -> Result<clap::Command<'a>, AllocError>
-    ensures { IfOk result (IsCommand (program.program must)) }
+/// The program itself, without its commands.
+fn top_words<'a>(alloc: Global) -> clap::Command<'a>
+    ensures { IsCommand program.top result }
 {
     clap::Command::new(alloc, "rangesync")
         .about("Find out which items each of two peers lacks")
         .version("0.1.0")
         .subcommand_required(true)
+}
+
+/// All words of the program, and whether the ITEMS of `serve` must be given.
+pub(crate) fn program_words<'a>(alloc: Global, must: bool) -> Result<clap::Command<'a>, AllocError>
+    ensures { IfOk result (IsCommand (program.program must)) }
+{
+    top_words(alloc)
         .subcommand(answer_words(alloc)?)?
         .subcommand(check_words(alloc)?)?
+        .subcommand(plan_words(alloc)?)?
         .subcommand(sim_words(alloc)?)?
         .subcommand(serve_words(alloc, must)?)?
         .subcommand(sync_words(alloc)?)

@@ -9,6 +9,7 @@ ghost use Rattle.settings_core.specs.declared.words.WordsFault.TheVariants as fa
 use crate::given_words::call_in;
 use crate::known_words::program_words;
 use clap::error::ErrorKind;
+use item_files::ItemForm;
 use std::alloc::{AllocError, AllocFailed, Global};
 use std::convert::AsStr;
 
@@ -35,8 +36,27 @@ pub enum Command<'a> {
     },
     /// The check of a strategy.
     Check {
+        /// Whether what sessions cost is printed too.
+        cost: bool,
+        /// How many items a set has in these sessions, 1 to 65,536, if it is given.
+        items: Option<u32>,
+        /// How many bytes an item has in them, 4 to 64, if it is given.
+        item_length: Option<u32>,
         /// The path of the strategy file.
         file: &'a str,
+    },
+    /// The choice of a strategy for two sets and a line.
+    Plan {
+        /// How many items a set has, 1 to 65,536, if it is given.
+        items: Option<u32>,
+        /// In how many items the sets differ, 0 to 65,536, if it is given.
+        differences: Option<u32>,
+        /// How many bytes an item has, 4 to 64, if it is given.
+        item_length: Option<u32>,
+        /// The milliseconds of a round trip, 0 to 60,000, if they are given.
+        round_trip: Option<u32>,
+        /// The megabits in a second, 1 to 100,000, if they are given.
+        rate: Option<u32>,
     },
     /// The run of a scenario.
     Sim,
@@ -94,15 +114,6 @@ pub enum Command<'a> {
         /// The path of the item file.
         items: &'a str,
     },
-}
-
-/// How items stand in a file, and how they are printed.
-#[derive(Clone, Copy, Debug, PartialEq, Eq)]
-pub enum ItemForm {
-    /// As hex digits.
-    Hex,
-    /// As they are, or as hex digits behind `0x`.
-    Text,
 }
 
 /// What a Sum carries of the items in its range.

@@ -1,7 +1,7 @@
 pub use Rattle.definitions.specs.Worlds
 pub use Rattle.world_core.specs.Nodes
 pub use Rattle.world_core.specs.Steps
-pub use Rattle.settings_core.specs.ItemFiles
+pub use Rattle.item_files.specs.ItemFiles
 pub mod NodeTexts
 pub mod Reports
 pub mod Runs

@@ -18,7 +18,7 @@ use Rattle.strategy_check.specs.Checked.{Checked}
 use Rattle.strategy_check.specs.declared.fault.CheckFault.{CheckFault}
 use Rattle.strategy_check.specs.declared.fault.CheckFault.TheVariants as checks
 use Rattle.sim_core.specs.NodeTexts.{NodeText, ScenarioText}
-use Rattle.settings_core.specs.ItemFiles.{decoded}
+use Rattle.item_files.specs.ItemFiles.{decoded}
 use Rattle.sim_core.specs.StepTexts.{step_of}
 use Rattle.sim_core.specs.declared.scenario.ScenarioStep.{ScenarioStep}
 use Rattle.sim_core.specs.declared.scenario_fault.ScenarioFault.{ScenarioFault}

@@ -8,7 +8,7 @@ use Rattle.std.specs.Char.{is_ascii_digit}
 use Rattle.std.specs.Str.Parse.{digits_value}
 use Rattle.hex.specs.Hex.{decode_of}
 use Rattle.definitions.specs.Items.{same_item}
-use Rattle.settings_core.specs.ItemFiles.{decoded}
+use Rattle.item_files.specs.ItemFiles.{decoded}
 use Rattle.world_core.specs.declared.step.Side.{Side}
 use Rattle.world_core.specs.declared.step.Side.TheVariants.{Initiator, Responder}
 use Rattle.world_core.specs.declared.step.Step.TheVariants.{Insert, Open, Deliver, Absorb}

@@ -13,7 +13,7 @@ use crate::scenario::{Scenario, ScenarioNode, ScenarioStep};
 use crate::scenario_fault::{ScenarioError, ScenarioFault};
 use crate::step_text::step_of;
 use item_core::Item;
-use settings_core::item_of;
+use item_files::item_of;
 use std::alloc::Global;
 use store_core::spans::distinct;
 use strategy_check::{Accepted, check};
@@ -240,8 +240,8 @@ fn scenario_in(alloc: Global, table: &Table) -> Result<Scenario, ScenarioError>
 /// The scenario of a TOML text.
 ///
 /// Else 30 where the bytes are no TOML; then 83 where `node` is no array of 2 to 16 tables or `steps` no array of at
-/// most 100,000 texts; then node by node the fault of its strategy, 31 to 35, of its check, 37, 36 or 38, or of its
-/// items, 83 or 82; then 84 at the first text that spells no step. Memory may run out before any of these.
+/// most 100,000 texts; then node by node the fault of its strategy, 31 to 35 or 29, of its check, 37, 36 or 38, or of
+/// its items, 83 or 82; then 84 at the first text that spells no step. Memory may run out before any of these.
 pub fn scenario_of(alloc: Global, text: &[u8]) -> Result<Scenario, ScenarioError>
     ensures { Reads result text.now }
 {

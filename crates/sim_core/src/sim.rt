@@ -1,8 +1,10 @@
 //! The run of a scenario.
 
-ghost use Rattle.std.specs.Prelude.{◌≡◌, [], ◌∷◌, ◌++◌, IfOk, OnOk, map, string_bytes};
+ghost use Rattle.std.specs.Prelude.{◌≡◌, [], ◌∷◌, ◌++◌, IfOk, IfErr, OnOk, map, string_bytes};
+ghost use Rattle.std.specs.List.{AllByRecursion};
 ghost use Rattle.definitions.specs.Fingerprints.{two_lanes};
 ghost use Rattle.definitions.specs.Worlds.{Deliver, step};
+ghost use Rattle.sim_core.specs.NodeTexts.{FitsItsCap};
 ghost use Rattle.sim_core.specs.Runs.{node_of, is_sent, delivered, after_step, after_steps, HasEnded, EndsFinished};
 ghost use Rattle.sim_core.specs.Runs.{FinishesEnd, start_of, sim_text};
 
@@ -17,7 +19,8 @@ const MAX_MESSAGES: usize = 513;
 
 /// Adds a node of a scenario.
 fn add_node(alloc: Global, setup: &mut Setup, node: ScenarioNode) -> Result<(), ScenarioError>
-    ensures { OnOk result (setup.new ≡ setup.old ++ node_of node ∷ []) }
+    ensures node { OnOk result (setup.new ≡ setup.old ++ node_of node ∷ []) }
+    ensures fits { IfErr result (λ e. FitsItsCap node → e ≡ ScenarioError.Memory) }
 {
     let ScenarioNode { accepted, items } = node;
     let Err(refused) = setup.add_node(alloc, accepted, &items) else {
@@ -32,7 +35,8 @@ fn add_node(alloc: Global, setup: &mut Setup, node: ScenarioNode) -> Result<(), 
 
 /// The nodes that the run begins with.
 fn setup_of(alloc: Global, nodes: Vec<ScenarioNode>) -> Result<Setup, ScenarioError>
-    ensures { IfOk result (λ setup. setup ≡ map node_of nodes.items) }
+    ensures nodes { IfOk result (λ setup. setup ≡ map node_of nodes.items) }
+    ensures fits { IfErr result (λ e. AllByRecursion FitsItsCap nodes.items → e ≡ ScenarioError.Memory) }
 {
     let mut setup = Setup::new(alloc);
     for node in nodes {
@@ -108,6 +112,8 @@ fn do_steps(alloc: Global, world: &mut World, steps: &[ScenarioStep]) -> Result<
 pub fn sim_text(alloc: Global, scenario: Scenario) -> Result<String, ScenarioError>
     ensures text { IfOk result (λ text. string_bytes text ≡ sim_text scenario) }
     ensures ended { OnOk result (FinishesEnd (start_of scenario) scenario.steps) }
+    // Where no node has more items than its cap, which `scenario_of` sees to, it fails for memory alone.
+    ensures fits { IfErr result (λ e. AllByRecursion FitsItsCap scenario.nodes → e ≡ ScenarioError.Memory) }
 {
     let Scenario { nodes, steps } = scenario;
     let setup = setup_of(alloc, nodes)?;

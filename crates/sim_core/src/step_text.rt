@@ -7,7 +7,7 @@ ghost use Rattle.sim_core.specs.StepTexts.{is_plain, number_of, parted, side_of,
 ghost use Rattle.sim_core.specs.StepTexts.{step_of};
 
 use crate::scenario::ScenarioStep;
-use settings_core::item_of;
+use item_files::item_of;
 use world_core::{Side, Step};
 
 /// Whether a byte is a decimal digit.

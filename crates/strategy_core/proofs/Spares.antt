@@ -1,16 +1,18 @@
 -- What a table says is never that the text is no TOML.
 use Rattle.std.proofs.Common.{ℕ, Bool, true, false, Option, Some, None, List, ◌∷◌, subst}
+use Rattle.std.specs.Prelude.{bytes_eq, if◌then◌else◌, not}
 use Rattle.std.specs.Prelude.{Result, Ok, Err, codes, ◌&&◌, nat_lt, nat_le, nat_eq, ℤ, pos, negsuc}
-use Rattle.toml.specs.Data.{Data, Items, no_items, item, Members, as_integer, as_bool, as_array, as_table, get_member}
-use Rattle.definitions.specs.Strategies.{Table, List_items, Split, Peel}
+use Rattle.toml.specs.Data.{Data, Items, no_items, item, Members, as_integer, as_bool, as_array, as_table, as_str}
+use Rattle.toml.specs.Data.{get_member}
+use Rattle.definitions.specs.Strategies.{Table, List_items, Split, Peel, Bounds, At_items, Short}
 use Rattle.strategy_core.specs.Texts.{◌>>=◌, present, provided, key_of, in_span, number_in, member_at, number_at}
 use Rattle.strategy_core.specs.Texts.{weights_in, items_count, array_in, few_in, split_in, list_in, peel_in, act_under}
 use Rattle.strategy_core.specs.Texts.{act_at, is_above, upto_in, row_at, row_in, rows_in, entries_at, last_upto}
-use Rattle.strategy_core.specs.Texts.{table_in, IsDocument}
+use Rattle.strategy_core.specs.Texts.{table_in, IsDocument, bounds_named, bounds_under, bounds_at, rows_say_bounds}
 use Rattle.strategy_core.specs.Refused.{Gives, Reads}
 use Rattle.strategy_core.specs.declared.fault.StrategyFault.{StrategyFault}
 use Rattle.strategy_core.specs.declared.fault.StrategyFault.TheVariants.{NotToml, Missing, BadNumber, RowOrder}
-use Rattle.strategy_core.specs.declared.fault.StrategyFault.TheVariants.{RowAction, CapMismatch}
+use Rattle.strategy_core.specs.declared.fault.StrategyFault.TheVariants.{RowAction, CapMismatch, BadBounds}
 use Rattle.strategy_core.specs.declared.fault.StrategyError.{StrategyError}
 use Rattle.strategy_core.specs.declared.fault.StrategyError.TheVariants as errors
 use Rattle.strategy_core.specs.declared.field.Field.{Field}
@@ -105,6 +107,18 @@ entries_spares ms =
     (λ d. then_spares (array_in d) (λ ds. provided (nat_lt 0 (items_count ds)) (Missing fields.Row) ds)
     (present_spares RowAction (as_array d) tt) (λ ds. provided_spares _ (Missing fields.Row) ds tt))
 
+named_spares : (items short : Bool) →
+    Spares {A = Bounds} (if items then Ok At_items else if short then Ok Short else Err BadBounds)
+named_spares true short = tt
+named_spares false true = tt
+named_spares false false = tt
+
+bounds_spares : (o : Option Data) → Spares (bounds_under o)
+bounds_spares None = tt
+bounds_spares (Some d) = then_spares (present BadBounds (as_str d)) bounds_named
+    (present_spares BadBounds (as_str d) tt)
+    (λ word. named_spares (bytes_eq word (codes "items")) (bytes_eq word (codes "short")))
+
 table_spares : (ms : Members) → Spares (table_in ms)
 table_spares ms =
     then_spares (number_at ms fields.Cap 1 65536) _ (field_spares ms fields.Cap 1 65536) (λ cap.
@@ -112,7 +126,11 @@ table_spares ms =
     then_spares (number_at ms fields.Rounds 0 255) _ (field_spares ms fields.Rounds 0 255) (λ rounds.
     then_spares (entries_at ms) _ (entries_spares ms) (λ entries.
     then_spares (rows_in cap None entries) _ (rows_spares cap None entries)
-    (λ rows. provided_spares (nat_eq (last_upto rows) cap) CapMismatch _ tt)))))
+    (λ rows. then_spares (provided (nat_eq (last_upto rows) cap) CapMismatch rows) _
+    (provided_spares (nat_eq (last_upto rows) cap) CapMismatch rows tt) (λ reached.
+    then_spares (bounds_at ms) _ (bounds_spares (get_member (codes "bounds") ms)) (λ bounds.
+    then_spares (provided (not (rows_say_bounds entries)) BadBounds bounds) _
+    (provided_spares (not (rows_say_bounds entries)) BadBounds bounds tt) (λ apart. tt))))))))
 
 -- the strategy of a table is that of its text
 pub read_says : (text : List ℕ) (ms : Members) (r : Result Table StrategyError) → IsDocument text ms →
@@ -125,3 +143,4 @@ read_says text ms (Err (errors.Fault BadNumber)) h said = (ms, h, said)
 read_says text ms (Err (errors.Fault RowOrder)) h said = (ms, h, said)
 read_says text ms (Err (errors.Fault RowAction)) h said = (ms, h, said)
 read_says text ms (Err (errors.Fault CapMismatch)) h said = (ms, h, said)
+read_says text ms (Err (errors.Fault BadBounds)) h said = (ms, h, said)

@@ -12,7 +12,7 @@ use Rattle.definitions.specs.Refusals as codes
 use Rattle.strategy_core.specs.Texts.{IsDocument, IsText, IsTextOf}
 use Rattle.strategy_core.specs.declared.fault.StrategyFault.{StrategyFault}
 use Rattle.strategy_core.specs.declared.fault.StrategyFault.TheVariants.{NotToml, Missing, BadNumber, RowOrder}
-use Rattle.strategy_core.specs.declared.fault.StrategyFault.TheVariants.{RowAction, CapMismatch}
+use Rattle.strategy_core.specs.declared.fault.StrategyFault.TheVariants.{RowAction, CapMismatch, BadBounds}
 use Rattle.strategy_core.specs.declared.fault.StrategyError.{StrategyError}
 use Rattle.strategy_core.specs.declared.fault.StrategyError.TheVariants as errors
 
@@ -23,6 +23,7 @@ fault_number BadNumber = codes.bad_number
 fault_number RowOrder = codes.row_order
 fault_number RowAction = codes.row_action
 fault_number CapMismatch = codes.cap_mismatch
+fault_number BadBounds = codes.bad_bounds
 
 abbrev pub GivesField : {X Y : Type 0} → (X → Y) → Result X StrategyFault → Result Y StrategyFault → Type 0
 GivesField view (Ok x) said = said ≡ Ok (view x)

@@ -1,5 +1,8 @@
--- What a row does, as the definitions have it.
+-- What a row does and what bounds a table has, as the definitions have it.
 use Rattle.definitions.specs.Strategies.{Act, List_items, Split, Peel}
+use Rattle.definitions.specs.Strategies as strategies
+use Rattle.strategy_core.specs.declared.bounds.Bounds.{Bounds}
+use Rattle.strategy_core.specs.declared.bounds.Bounds.TheVariants as bounds
 use Rattle.strategy_core.specs.declared.row.Rule.{Rule}
 use Rattle.strategy_core.specs.declared.row.Rule.TheVariants as rules
 
@@ -7,3 +10,7 @@ abbrev pub act_of : Rule → Act
 act_of rules.List = List_items
 act_of (rules.Split weights) = Split weights
 act_of (rules.Peel front) = Peel front
+
+abbrev pub bounds_of : Bounds → strategies.Bounds
+bounds_of bounds.Items = strategies.At_items
+bounds_of bounds.Short = strategies.Short

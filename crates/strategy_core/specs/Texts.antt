@@ -4,12 +4,13 @@
 --     IsTextOf text said         the text is TOML, and its table says this
 use Rattle.std.specs.Prelude.{◌≡◌, ℕ, suc, ◌-◌, ℤ, pos, negsuc, codes, Bool, true, false, ◌&&◌, nat_lt, nat_le, nat_eq}
 use Rattle.std.specs.Prelude.{List, [], ◌∷◌, length, map, slice_index, Option, Some, None, Result, Ok, Err, IsUtf8}
+use Rattle.std.specs.Prelude.{bytes_eq, if◌then◌else◌, not, ◌||◌, is_some}
 use Rattle.toml.specs.Parse.{parse_document}
-use Rattle.toml.specs.Data.{Data, Items, no_items, item, Members, get_member, as_integer, as_bool, as_array, as_table}
-use Rattle.definitions.specs.Strategies.{Table, Row, Act, List_items, Split, Peel}
+use Rattle.toml.specs.Data.{Data, Items, no_items, item, Members, get_member, as_integer, as_bool, as_str, as_array, as_table}
+use Rattle.definitions.specs.Strategies.{Table, Row, Act, List_items, Split, Peel, Bounds, At_items, Short}
 use Rattle.strategy_core.specs.declared.fault.StrategyFault.{StrategyFault}
 use Rattle.strategy_core.specs.declared.fault.StrategyFault.TheVariants.{Missing, BadNumber, RowOrder, RowAction}
-use Rattle.strategy_core.specs.declared.fault.StrategyFault.TheVariants.{CapMismatch}
+use Rattle.strategy_core.specs.declared.fault.StrategyFault.TheVariants.{CapMismatch, BadBounds}
 use Rattle.strategy_core.specs.declared.field.Field.{Field}
 use Rattle.strategy_core.specs.declared.field.Field.TheVariants as fields
 
@@ -125,6 +126,35 @@ entries_at ms =
 abbrev pub last_upto : List Row → ℕ
 last_upto rows = slice_index (map (λ row. row.upto) rows) (length rows - 1)
 
+-- ---- bounds
+
+-- the word items or short
+abbrev pub bounds_named : List ℕ → Result Bounds StrategyFault
+bounds_named word =
+    if bytes_eq word (codes "items") then Ok At_items
+    else if bytes_eq word (codes "short") then Ok Short
+    else Err BadBounds
+
+abbrev pub bounds_in : Data → Result Bounds StrategyFault
+bounds_in d = present BadBounds (as_str d) >>= bounds_named
+
+-- own items where nothing is said
+abbrev pub bounds_under : Option Data → Result Bounds StrategyFault
+bounds_under None = Ok At_items
+bounds_under (Some d) = bounds_in d
+
+abbrev pub bounds_at : Members → Result Bounds StrategyFault
+bounds_at ms = bounds_under (get_member (codes "bounds") ms)
+
+-- a row that has a key bounds, which says nothing there
+abbrev pub row_says_bounds : Option Members → Bool
+row_says_bounds None = false
+row_says_bounds (Some ms) = is_some (get_member (codes "bounds") ms)
+
+abbrev pub rows_say_bounds : Items → Bool
+rows_say_bounds no_items = false
+rows_say_bounds (item d ds) = row_says_bounds (as_table d) || rows_say_bounds ds
+
 -- ---- a strategy
 
 abbrev pub table_in : Members → Result Table StrategyFault
@@ -134,7 +164,10 @@ table_in ms = do
   rounds ← number_at ms fields.Rounds 0 255
   entries ← entries_at ms
   rows ← rows_in cap None entries
-  provided (nat_eq (last_upto rows) cap) CapMismatch (record { cap = cap; limit = limit; rounds = rounds; rows = rows })
+  reached ← provided (nat_eq (last_upto rows) cap) CapMismatch rows
+  bounds ← bounds_at ms
+  apart ← provided (not (rows_say_bounds entries)) BadBounds bounds
+  Ok (record { cap = cap; limit = limit; rounds = rounds; rows = reached; bounds = apart })
 
 -- UTF-8 in which TOML has this table
 abbrev pub IsDocument : List ℕ → Members → Type 0

@@ -20,10 +20,12 @@ pub enum StrategyFault {
     RowAction,
     /// The last `upto` is not the cap.
     CapMismatch,
+    /// What is under `bounds` is neither `"items"` nor `"short"`.
+    BadBounds,
 }
 
 impl StrategyFault {
-    /// The number of the refusal, 30 to 35.
+    /// The number of the refusal, 29 to 35.
     pub fn number(self) -> u8
         ensures { result ≡ fault_number self }
     {
@@ -34,6 +36,7 @@ impl StrategyFault {
             StrategyFault::RowOrder => 33,
             StrategyFault::RowAction => 34,
             StrategyFault::CapMismatch => 35,
+            StrategyFault::BadBounds => 29,
         }
     }
 }

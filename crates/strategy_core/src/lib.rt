@@ -2,6 +2,7 @@
 #![tactic(auto)]
 
 mod act;
+mod bounds;
 mod fault;
 mod field;
 mod peeling;
@@ -11,6 +12,7 @@ mod strategy;
 mod weights;
 
 pub use act::{Act, Cutting};
+pub use bounds::Bounds;
 pub use fault::{StrategyError, StrategyFault};
 pub use field::Field;
 pub use strategy::Strategy;

@@ -2,13 +2,15 @@
 
 ghost use Rattle.std.specs.Prelude.{◌≡◌, ◌≤◌, IfOk, None, length, option_map};
 ghost use Rattle.toml.specs.View.{table_view, view, array_view};
-ghost use Rattle.toml.specs.Data.{get_member};
+ghost use Rattle.toml.specs.Data.{get_member, as_table};
 ghost use Rattle.strategy_core.specs.Texts.{IsDocument, IsText, key_of, member_at, number_in, number_at, weights_in};
 ghost use Rattle.strategy_core.specs.Texts.{array_in, few_in, split_in, list_in, peel_in, act_at, row_in, upto_in};
-ghost use Rattle.strategy_core.specs.Texts.{rows_in, entries_at, last_upto, table_in};
+ghost use Rattle.strategy_core.specs.Texts.{rows_in, entries_at, last_upto, bounds_in, bounds_at, table_in};
+ghost use Rattle.strategy_core.specs.Texts.{row_says_bounds, rows_say_bounds};
 ghost use Rattle.strategy_core.specs.Refused.{Gives, GivesField, Opens};
-ghost use Rattle.strategy_core.specs.Rules.{act_of};
+ghost use Rattle.strategy_core.specs.Rules.{act_of, bounds_of};
 
+use crate::bounds::Bounds;
 use crate::fault::{StrategyError, StrategyFault};
 use crate::field::Field;
 use crate::row::{Row, Rule};
@@ -210,6 +212,49 @@ fn last_upto(rows: &[Row]) -> u32
     rows.last().map_or(0, Row::upto)
 }
 
+/// The bounds of this name.
+fn bounds_of(value: &Value) -> Result<Bounds, StrategyFault>
+    ensures { GivesField bounds_of result (bounds_in (view value.now)) }
+{
+    match value.as_str() {
+        Some("items") => Ok(Bounds::Items),
+        Some("short") => Ok(Bounds::Short),
+        _ => Err(StrategyFault::BadBounds),
+    }
+}
+
+/// The bounds of a table: own items where nothing is said.
+fn bounds(table: &Table) -> Result<Bounds, StrategyFault>
+    ensures { GivesField bounds_of result (bounds_at (table_view table.now)) }
+{
+    match member(table, "bounds") {
+        Some(value) => bounds_of(value),
+        None => Ok(Bounds::Items),
+    }
+}
+
+/// Whether this row has a key `bounds`, which belongs above the rows.
+fn says_bounds(entry: &Value) -> bool
+    ensures { result ≡ row_says_bounds (as_table (view entry.now)) }
+{
+    match entry.as_table() {
+        Some(row) => member(row, "bounds").is_some(),
+        None => false,
+    }
+}
+
+/// Whether a row has a key `bounds`.
+fn rows_say_bounds(entries: &Array) -> bool
+    ensures { result ≡ rows_say_bounds (array_view entries.now) }
+{
+    for entry in entries {
+        if says_bounds(entry) {
+            return true;
+        }
+    }
+    false
+}
+
 /// The strategy of a table, or the first fault.
 pub fn strategy_of(alloc: Global, table: &Table) -> Result<Strategy, StrategyError>
     ensures { Gives (λ strategy. strategy) result (table_in (table_view table.now)) }
@@ -222,10 +267,15 @@ pub fn strategy_of(alloc: Global, table: &Table) -> Result<Strategy, StrategyErr
     if last_upto(&rows) != cap {
         return Err(StrategyError::Fault(StrategyFault::CapMismatch));
     }
+    let bounds = bounds(table)?;
+    if rows_say_bounds(array) {
+        return Err(StrategyError::Fault(StrategyFault::BadBounds));
+    }
     Ok(Strategy {
         cap,
         limit,
         rounds,
         rows,
+        bounds,
     })
 }

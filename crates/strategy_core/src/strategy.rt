@@ -3,9 +3,11 @@ ghost use Rattle.toml.specs.View.{table_view};
 ghost use Rattle.definitions.specs.Strategies.{IsTable, act, shares, width};
 ghost use Rattle.strategy_core.specs.Acts.{kind_of, greatest, outline};
 ghost use Rattle.strategy_core.specs.Refused.{Gives, Reads};
+ghost use Rattle.strategy_core.specs.Rules.{bounds_of};
 ghost use Rattle.strategy_core.specs.Texts.{table_in};
 
 use crate::act::{Act, Cutting};
+use crate::bounds::Bounds;
 use crate::fault::{StrategyError, StrategyFault};
 use crate::reading::{document, strategy_of};
 use crate::row::{Row, place};
@@ -20,23 +22,25 @@ pub struct Strategy {
     pub(crate) limit: u32,
     pub(crate) rounds: u32,
     pub(crate) rows: Vec<Row>,
+    pub(crate) bounds: Bounds,
 }
 
 impl Model for Strategy {
     ghost use Rattle.definitions.specs.Strategies as strategies;
+    ghost use Rattle.strategy_core.specs.Rules.{bounds_of};
 
     ghost Value = { strategies.Table };
 
-    ghost view = { λ a. record { cap = a.cap; limit = a.limit; rounds = a.rounds; rows = a.rows.items } };
+    ghost view = { λ a. record { cap = a.cap; limit = a.limit; rounds = a.rounds; rows = a.rows.items; bounds = bounds_of a.bounds } };
 
     ghost invariant = { λ a. strategies.IsTable
-        (record { cap = a.cap; limit = a.limit; rounds = a.rounds; rows = a.rows.items }) };
+        (record { cap = a.cap; limit = a.limit; rounds = a.rounds; rows = a.rows.items; bounds = bounds_of a.bounds }) };
 }
 
 impl Strategy {
     /// The strategy of a TOML text.
     ///
-    /// Else 30 where the bytes are no TOML, or the fault of its table, 31 to 35; memory may run out before any of
+    /// Else 30 where the bytes are no TOML, or the fault of its table, 29 or 31 to 35; memory may run out before any of
     /// these.
     pub fn read(alloc: Global, text: &[u8]) -> Result<Strategy, StrategyError>
         ensures { Reads result text.now }
@@ -47,7 +51,7 @@ impl Strategy {
 
     /// The strategy of a TOML table. Keys other than the strategy's own are ignored.
     ///
-    /// Else the first fault, 31 to 35; memory may run out before any of these.
+    /// Else the first fault, 29 or 31 to 35; memory may run out before any of these.
     pub fn from_table(alloc: Global, table: &Table) -> Result<Strategy, StrategyError>
         ensures { Gives (λ strategy. strategy) result (table_in (table_view table.now)) }
     {
@@ -74,6 +78,13 @@ impl Strategy {
         ensures { result ≡ self.now.rounds }
     {
         self.rounds
+    }
+
+    /// What stands between the parts that a range is cut into.
+    pub fn bounds(&self) -> Bounds
+        ensures { bounds_of result ≡ self.now.bounds }
+    {
+        self.bounds
     }
 
     /// The greatest number of parts that a range is cut into, at least 1.

@@ -1,2 +1,3 @@
 pub use Rattle.definitions.specs.Refusals
 pub mod Faults
+pub mod Misses

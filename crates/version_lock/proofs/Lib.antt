@@ -1,5 +1,12 @@
 mod Counts
 mod Seated
+mod Totals
+mod Doubling
+mod Shares
+mod Entering
 mod Keeps
+mod Splitting
+mod Opening
+mod StepLaws
 mod Turns
 mod Prefixes

@@ -1,4 +1,5 @@
--- Beginnings of histories.
+-- Beginnings of histories. What follows a beginning of a beginning is what follows both, and a filter passes through
+-- `++`.
 use Rattle.std.proofs.Common.{ℕ, ◌++◌, ap, ◌∙◌, append_assoc, ◌==◌}
 use Rattle.std.proofs.lemmas.List.Elements.{filter-append}
 use Rattle.definitions.specs.Histories.{History}

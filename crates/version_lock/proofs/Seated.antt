@@ -1,4 +1,6 @@
--- Lists of views in which one changes.
+-- Lists of views in which one changes. What holds of the new view and of each other one holds of all, so that writers
+-- stay apart is proved by cases: two others were apart before, and the changed one keeps its writer, gets a new one,
+-- or is spent.
 use Rattle.std.proofs.Common.{◌≡◌, ◌≢◌, ℕ, zero, suc, ◌<◌, Bool, true, false, ⊎_elim, List, [], ◌∷◌, ◌++◌, length, set}
 use Rattle.std.proofs.Common.{Some, None, refl, sym, ap, subst, ◌∙◌, arith}
 use mathlib.Core.Option.{some, some-injective, some-ne-none}

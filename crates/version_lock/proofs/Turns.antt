@@ -1,12 +1,14 @@
--- What the steps of one call make of its seat's view.
-use Rattle.std.proofs.Common.{◌≡◌, ℕ, ◌<◌, [], ◌∷◌, ◌++◌, Some, refl, sym, ap, subst, ◌∙◌, arith}
+-- What the steps of one call make of its seat's view. A seat that takes the log learns that its view fits it
+-- (`Took`), and the steps after that are equations on views, so each part of what a call says is read off the two.
+use Rattle.std.proofs.Common.{◌≡◌, ℕ, ◌<◌, [], ◌∷◌, ◌++◌, List, Option, Some, None, refl, sym, ap, subst, ◌∙◌, arith}
 use Rattle.std.proofs.lemmas.List.Elements.{All-contains, Contains-push}
 use Rattle.definitions.specs.Histories.{History}
 use Rattle.version_lock.specs.declared.view.View.{View}
 use Rattle.version_lock.specs.Beginnings.{StartsWith, entries_by}
-use Rattle.version_lock.specs.Views.{waited, gave_back, enrolled, split_off, joined_with}
+use Rattle.version_lock.specs.Views.{found, waited, holding, gave_back, enrolled, note_of, noted}
+use Rattle.version_log.specs.Logs.{LogState}
 use Rattle.version_lock.specs.Steps.{Mine, Took}
-use Rattle.version_lock.specs.Calls.{Met}
+use Rattle.version_lock.specs.Calls.{TookOnce, Met, ClosedWith}
 use Rattle.version_lock.proofs.Keeps.{none_yet}
 use Rattle.version_lock.proofs.Prefixes.{starts_by}
 
@@ -26,8 +28,8 @@ module _ (m m' : Mine) (k : Took m m') where
       none_yet k.log.next_writer k.log.history k.is_log.writers in
       ap (entries_by n) base ∙ (ap (λ (x : ℕ). entries_by x k.log.history) next ∙ none)
 
--- a seat is split off the other and joined, and then the log is looked at
-pub met : (v u : View) (busy : ℕ) (m : Mine) → Took (waited busy (joined_with v (split_off u)), []) m →
+-- a note is split off the other and joined, and then the log is looked at
+pub met : (v u : View) (busy : ℕ) (m : Mine) → Took (waited busy (noted v (note_of u)), []) m →
     ((n : ℕ) → u.writer ≡ Some n → entries_by n u.seen ≡ u.mine) → Met v u (gave_back m.0)
 met v u busy m k theirs =
     let all = Contains-push v.joined u.seen in
@@ -35,7 +37,15 @@ met v u busy m k theirs =
     All-contains (λ (seen : History). StartsWith k.log.history seen)
     (v.joined ++ u.seen ∷ []) u.seen k.fits.joined all in
     subst (λ (x : Mine). Met v u (gave_back x.0)) (sym k.now) record {
-      once = record { took = refl; begins = k.fits.seen; cap = refl; fits = k.room };
+      once = record {
+        took = refl;
+        begins = k.fits.seen;
+        cap = refl;
+        share = (refl, refl);
+        opened = (refl, refl);
+        fits = k.room;
+        whole = k.whole;
+      };
       seen = refl;
       same = (refl, refl);
       other = other;
@@ -43,4 +53,35 @@ met v u busy m k theirs =
       others = λ n is. subst (λ (mine : History). StartsWith (entries_by n k.log.history) mine) (theirs n is)
           (starts_by n k.log.history u.seen other);
       joined = refl;
+      nothing = (refl, refl);
     }
+
+abbrev log_in : LogState → Option LogState → LogState
+log_in l None = l
+log_in l (Some l') = l'
+
+abbrev first_log : LogState → List (ℕ × Option LogState) → LogState
+first_log l [] = l
+first_log l (c ∷ cs) = log_in l c.1
+
+-- the log was taken for good
+pub closed : (v : View) (busy : ℕ) (m : Mine) (l : LogState) → Took (waited busy v, []) m → m.1 ≡ (0, Some l) ∷ [] →
+    ClosedWith v l
+closed v busy m l k slot =
+    let w : View = holding k.log (waited busy v) in
+    let same : k.log ≡ l = sym (ap (first_log l) (sym slot ∙ ap (λ (x : Mine). x.1) k.now)) in
+    let is : k.log ≡ found w = λ i. record {
+      cap = sym k.fits.cap i;
+      history = k.log.history;
+      next_writer = k.log.next_writer;
+    } in
+    let once : TookOnce v w = record {
+      took = refl;
+      begins = k.fits.seen;
+      cap = refl;
+      share = (refl, refl);
+      opened = (refl, refl);
+      fits = k.room;
+      whole = k.whole;
+    } in
+    subst (λ (x : LogState). ClosedWith v x) same (w, once, is)

@@ -1,7 +1,7 @@
 -- What each call of the lock makes of its seat's view.
 --     TookOnce, Looked, LookedAtOnce v w       the view w after a call that found the log once
 --     DidInsert, DidNotInsert, TriedInsert     after an insert
---     GotNumber, Met                           after an enrolling, and after a meeting
+--     GotNumber, Met, ClosedWith               after an enrolling, after a meeting, and at the end
 --     IsPinOf, NoPin                           what a pin is of, and why there is none
 use Rattle.std.specs.Prelude.{◌≡◌, ℕ, ◌+◌, ◌≤◌, ◌<◌, true, false, List, [], ◌∷◌, ◌++◌, Option, Some, length}
 use Rattle.std.specs.List.{AllByRecursion}
@@ -21,7 +21,7 @@ use Rattle.version_lock.specs.declared.fault.PinFault.TheVariants as pin_faults
 use Rattle.version_lock.specs.declared.fault.InsertFault.{InsertFault}
 use Rattle.version_lock.specs.declared.fault.InsertFault.TheVariants as insert_faults
 use Rattle.version_lock.specs.Beginnings.{StartsWith, entries_by}
-use Rattle.version_lock.specs.Views.{waited, gave_back, added}
+use Rattle.version_lock.specs.Views.{HasWhole, MadeBy, found, waited, gave_back, added}
 
 -- ---- the seat at its table
 
@@ -40,6 +40,7 @@ pub record IsReady (lock : TableId) (s : TableSeat) : Type 0 where
   pub empty : s.me.1 ≡ []
   pub idle : (view s).holding ≡ false
   pub live : (view s).spent ≡ false
+  pub some : 0 < (view s).parts
   pub mine : (n : ℕ) → (view s).writer ≡ Some n → entries_by n (view s).seen ≡ (view s).mine
 
 -- a seat of this lock that has taken the slot, in which this stands now
@@ -66,14 +67,19 @@ pub record TookOnce (v w : View) : Type 0 where
   pub took : w.took ≡ v.took + 1
   pub begins : StartsWith w.base v.seen
   pub cap : w.cap ≡ v.cap
+  pub share : (w.parts ≡ v.parts) × (w.halvings ≡ v.halvings)
+  pub opened : (w.opened ≡ v.opened) × (w.first_number ≡ v.first_number)
   -- the set that it found has no more items than the cap
   pub fits : length (content w.base) ≤ w.cap
+  -- it found what the seat made, where the seat has the whole
+  pub whole : HasWhole v → MadeBy v w.base w.next_writer
 
 -- the seat has seen what the call found, and changed nothing
 pub record Looked (v w : View) : Type 0 where
   pub once : TookOnce v w
   pub seen : w.seen ≡ w.base
   pub same : (w.writer ≡ v.writer) × (w.mine ≡ v.mine) × (w.joined ≡ v.joined)
+  pub nothing : (w.entered ≡ v.entered) × (w.numbers ≡ v.numbers)
 
 -- the same by the first try
 abbrev pub LookedAtOnce : View → View → Type 0
@@ -89,6 +95,7 @@ pub record Entered (x : Item) (v w : View) (version : ℕ) : Type 0 where
   pub mine : w.mine ≡ v.mine ++ (writer, x) ∷ []
   pub version_is : version ≡ length w.seen
   pub joined : w.joined ≡ v.joined
+  pub entered : (w.entered ≡ v.entered ++ (writer, x) ∷ []) × (w.numbers ≡ v.numbers)
 
 -- what an insert did
 abbrev pub DidInsert : Item → View → Added → View → Type 0
@@ -126,6 +133,7 @@ pub record GotNumber (v w : View) : Type 0 where
   pub mine : w.mine ≡ []
   pub seen : w.seen ≡ w.base
   pub joined : w.joined ≡ v.joined
+  pub given : (w.entered ≡ v.entered) × (w.numbers ≡ v.numbers + 1)
 
 -- the seat of the view v met that of the view u: it has seen all that both had seen
 pub record Met (v u w : View) : Type 0 where
@@ -136,6 +144,11 @@ pub record Met (v u w : View) : Type 0 where
   pub own : (n : ℕ) → v.writer ≡ Some n → entries_by n w.base ≡ v.mine
   pub others : (n : ℕ) → u.writer ≡ Some n → StartsWith (entries_by n w.base) u.mine
   pub joined : w.joined ≡ v.joined ++ u.seen ∷ []
+  pub nothing : (w.entered ≡ v.entered) × (w.numbers ≡ v.numbers)
+
+-- the seat of the view v has taken this log for good
+abbrev pub ClosedWith : View → LogState → Type 0
+ClosedWith v l = (w : View) × TookOnce v w × (l ≡ found w)
 
 -- ---- pins
 

@@ -6,6 +6,7 @@ pub use Rattle.version_log.specs.Logs
 pub mod Beginnings
 pub mod Views
 pub mod Lawful
+pub mod Tables
 pub mod Steps
 pub mod Seats
 pub mod Calls

@@ -1,16 +1,19 @@
 -- What a seat knows, its view, and how each kind of step changes it.
---     new_view h cap                                     a view that has seen this history
+--     new_view, first_view l                             a view that has seen a history, and the first seat's
 --     waited, holding, gave_back, added, enrolled        a step of the word
---     split_off, joined_with, spent                      a seat that is split, and two that are joined
-use Rattle.std.specs.Prelude.{ℕ, ◌+◌, true, false, [], ◌∷◌, ◌++◌, Some, None}
+--     split_from, split_off, joined_with, spent          a seat that is split, and two that are joined
+--     note_of, noted                                     a note that is split off a seat, and joined to one
+--     HasWhole v, MadeBy v h next_writer                 no other seat is left, and what the log has then
+use Rattle.std.specs.Prelude.{◌≡◌, ℕ, zero, suc, ◌+◌, ◌-◌, true, false, [], ◌∷◌, ◌++◌, length, Some, None, All, Contains}
 use Rattle.definitions.specs.Histories.{History}
 use Rattle.version_log.specs.Logs.{LogState, log}
 use Rattle.version_lock.specs.declared.view.View.{View}
 use Rattle.version_lock.specs.Beginnings.{Entry}
 
--- a seat that has seen this history, is not enrolled, and is at a log of this cap
-abbrev pub new_view : History → ℕ → View
-new_view h cap = record {
+-- a seat without a part that has seen the history h, is not enrolled, and is at a log of this cap; the lock was made
+-- with the history opened and this next writer number
+abbrev pub new_view : History → ℕ → History → ℕ → View
+new_view opened number h cap = record {
   spent = false;
   writer = None;
   seen = h;
@@ -20,9 +23,19 @@ new_view h cap = record {
   base = [];
   next_writer = 0;
   cap = cap;
+  opened = opened;
+  first_number = number;
+  entered = [];
+  numbers = 0;
+  parts = 0;
+  halvings = 0;
   took = 0;
   busy = 0;
 }
+
+-- the first seat's, where the lock is made with this log: it has the whole
+abbrev pub first_view : LogState → View
+first_view l = record (new_view l.history l.next_writer l.history l.cap) { parts = 1 }
 
 -- the log that a holding view found
 abbrev pub found : View → LogState
@@ -45,20 +58,71 @@ gave_back v = record v { seen = v.base; holding = false }
 
 -- it gave the log back with one entry more
 abbrev pub added : Entry → View → View
-added e v = record v { seen = v.base ++ e ∷ []; mine = v.mine ++ e ∷ []; holding = false }
+added e v = record v {
+  seen = v.base ++ e ∷ [];
+  mine = v.mine ++ e ∷ [];
+  entered = v.entered ++ e ∷ [];
+  holding = false;
+}
 
 -- it gave the log back with one writer number given out, which is the seat's
 abbrev pub enrolled : View → View
-enrolled v = record v { writer = Some v.next_writer; mine = []; seen = v.base; holding = false }
+enrolled v = record v {
+  writer = Some v.next_writer;
+  mine = [];
+  seen = v.base;
+  numbers = v.numbers + 1;
+  holding = false;
+}
+
+-- a seat was split off, which has half of each part
+abbrev pub split_from : View → View
+split_from v = record v { halvings = v.halvings + 1 }
+
+-- the view of a note of what a seat had seen; that seat's view stays as it is
+abbrev pub note_of : View → View
+note_of v = new_view v.opened v.first_number v.seen v.cap
 
 -- the view of a seat that was split off
 abbrev pub split_off : View → View
-split_off v = new_view v.seen v.cap
+split_off v = record (note_of v) { parts = v.parts; halvings = v.halvings + 1 }
 
--- another seat, of the view w, was joined to this one
+-- x is doubled n times
+abbrev pub doubled : ℕ → ℕ → ℕ
+doubled zero x = x
+doubled (suc n) x = doubled n (x + x)
+
+-- another seat, of the view w, was joined to this one: the parts of both are put together, halved equally often
 abbrev pub joined_with : View → View → View
-joined_with v w = record v { joined = v.joined ++ w.seen ∷ [] }
+joined_with v w = record v {
+  joined = v.joined ++ w.seen ∷ [];
+  entered = v.entered ++ w.entered;
+  numbers = v.numbers + w.numbers;
+  parts = doubled (w.halvings - v.halvings) v.parts + doubled (v.halvings - w.halvings) w.parts;
+  halvings = v.halvings + (w.halvings - v.halvings);
+}
 
--- the view of a seat that was joined to another
+-- a note, of the view w, was joined to this seat
+abbrev pub noted : View → View → View
+noted v w = record v { joined = v.joined ++ w.seen ∷ [] }
+
+-- the view of a seat or a note that was joined to a seat
 abbrev pub spent : View
-spent = record (new_view [] 0) { spent = true }
+spent = record (new_view [] 0 [] 0) { spent = true }
+
+-- the seat has the whole: every other seat was joined to it, or to one that was
+abbrev pub HasWhole : View → Type 0
+HasWhole v = v.parts ≡ doubled v.halvings 1
+
+-- this history and next writer number are the opened ones and what was entered and given out since
+pub record IsMade (opened : History) (number : ℕ) (entered : History) (numbers : ℕ) (h : History) (next_writer : ℕ) :
+    Type 0 where
+  pub more : History
+  pub history : h ≡ opened ++ more
+  pub count : length more ≡ length entered
+  pub each : All (λ e. Contains entered e) more
+  pub next : next_writer ≡ number + numbers
+
+-- they are what the lock was made with, and what this seat and those that were joined to it entered and were given
+abbrev pub MadeBy : View → History → ℕ → Type 0
+MadeBy v h next_writer = IsMade v.opened v.first_number v.entered v.numbers h next_writer

@@ -3,15 +3,15 @@
 ghost use Rattle.std.specs.Prelude.{◌≡◌, ℕ, Some, None, IsSome, IfOk, IfErr, MatchResult};
 ghost use Rattle.version_log.specs.Logs.{max_next_writer};
 ghost use Rattle.version_lock.specs.Beginnings.{StartsWith, entries_by};
-ghost use Rattle.version_lock.specs.Views.{new_view, split_off, joined_with};
+ghost use Rattle.version_lock.specs.Views.{first_view, split_from, split_off, joined_with};
 ghost use Rattle.version_lock.specs.Seats.{seat_state};
 ghost use Rattle.version_lock.specs.Calls.{Looked, LookedAtOnce, GotNumber, DidInsert, DidNotInsert, TriedInsert, Met};
-ghost use Rattle.version_lock.specs.Calls.{IsPinOf, NoPin};
+ghost use Rattle.version_lock.specs.Calls.{ClosedWith, IsPinOf, NoPin};
 
 use crate::fault::{InsertFault, PinFault};
 use crate::pin::Pin;
 use crate::seat::Seat;
-use crate::steps::{JoinTo, OneHistory, SplitOff};
+use crate::steps::{JoinTo, NoteOff, NoteTo, OneHistory, SplitOff};
 use crate::view::View;
 use atomic_table::Table;
 use item_core::Item;
@@ -48,7 +48,7 @@ impl<S: RangeStore> Model for VersionLock<S> {
 impl<S: RangeStore> VersionLock<S> {
     /// The lock, and its first seat, which has seen the whole history and is not enrolled. Else 90; the log is dropped.
     pub fn new(alloc: Global, log: Log<S>) -> Result<(VersionLock<S>, Seat<S>), AllocError>
-        ensures { IfOk result (λ r. r.1 ≡ seat_state r.0 (new_view log.history log.cap)) }
+        ensures { IfOk result (λ r. r.1 ≡ seat_state r.0 (first_view log)) }
     {
         let opened = Snapshot::of(&log);
         let mut slots = Vec::new(alloc);
@@ -165,7 +165,7 @@ impl<S: RangeStore> VersionLock<S> {
     /// A new seat, which is not enrolled and has seen what this one has seen.
     pub fn split_seat(&self, seat: &mut Seat<S>) -> Seat<S>
         requires { seat.old.table_id ≡ self.now }
-        ensures kept { seat.new ≡ seat.old }
+        ensures kept { seat.new ≡ seat_state self.now (split_from seat.old.view) }
         ensures given { result ≡ seat_state self.now (split_off seat.old.view) }
     {
         let place = self.table.shared.split_seat::<SplitOff>(&mut seat.place);
@@ -196,8 +196,8 @@ impl<S: RangeStore> VersionLock<S> {
         ensures other { other.new ≡ other.old }
         ensures met { Met seat.old.view other.old.view seat.new.view }
     {
-        let seen = self.table.shared.split_seat::<SplitOff>(&mut other.place);
-        self.table.shared.join_seat::<JoinTo>(&mut seat.place, seen);
+        let note = self.table.shared.split_seat::<NoteOff>(&mut other.place);
+        self.table.shared.join_seat::<NoteTo>(&mut seat.place, note);
         self.lock(rt, &mut seat.place);
         let log = self.take(&mut seat.place);
         self.give_back(&mut seat.place, log);
@@ -209,6 +209,7 @@ impl<S: RangeStore> VersionLock<S> {
         ensures seen { StartsWith result.history seat.view.seen }
         ensures mine { (n : ℕ) → seat.view.writer ≡ Some n → entries_by n result.history ≡ seat.view.mine }
         ensures cap { result.cap ≡ seat.view.cap }
+        ensures last { ClosedWith seat.view result }
     {
         self.lock(rt, &mut seat.place);
         self.take(&mut seat.place)

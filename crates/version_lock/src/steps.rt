@@ -10,11 +10,11 @@ pub struct OneHistory;
 
 impl<S: RangeStore> TableRule<Option<Log<S>>, View, Snapshot<Log<S>>> for OneHistory {
     ghost use Rattle.version_lock.specs.Lawful.{Lawful};
-    ghost use Rattle.version_lock.specs.Views.{new_view};
+    ghost use Rattle.version_lock.specs.Views.{first_view};
 
-    ghost holds = { λ _. Lawful };
+    ghost holds = { λ k. Lawful k.value };
 
-    ghost first = { λ k. new_view k.value.history k.value.cap };
+    ghost first = { λ k. first_view k.value };
 }
 
 /// The word is exchanged against HELD.
@@ -57,9 +57,9 @@ impl<S: RangeStore> Play<Option<Log<S>>, View> for Enroll {
 pub struct SplitOff;
 
 impl Split<View> for SplitOff {
-    ghost use Rattle.version_lock.specs.Views.{split_off};
+    ghost use Rattle.version_lock.specs.Views.{split_from, split_off};
 
-    ghost left = { λ v. v };
+    ghost left = { split_from };
 
     ghost right = { split_off };
 }
@@ -71,6 +71,28 @@ impl Join<View> for JoinTo {
     ghost use Rattle.version_lock.specs.Views.{joined_with, spent};
 
     ghost both = { joined_with };
+
+    ghost spent = { spent };
+}
+
+/// A note is split off.
+pub struct NoteOff;
+
+impl Split<View> for NoteOff {
+    ghost use Rattle.version_lock.specs.Views.{note_of};
+
+    ghost left = { λ v. v };
+
+    ghost right = { note_of };
+}
+
+/// A note is joined to a seat.
+pub struct NoteTo;
+
+impl Join<View> for NoteTo {
+    ghost use Rattle.version_lock.specs.Views.{noted, spent};
+
+    ghost both = { noted };
 
     ghost spent = { spent };
 }

@@ -21,6 +21,18 @@ pub struct View {
     pub next_writer: u64,
     /// The greatest number of items.
     pub cap: u64,
+    /// The history that the lock was made with.
+    pub opened: LinkedList<Entry>,
+    /// The next writer number that the lock was made with.
+    pub first_number: u64,
+    /// The entries that it added, whatever its writer was, and then those of each seat that was joined to it.
+    pub entered: LinkedList<Entry>,
+    /// How many writer numbers were given to it and to the seats that were joined to it.
+    pub numbers: u64,
+    /// How many parts of the whole share it has. A note has none.
+    pub parts: u64,
+    /// How often the whole share was halved to make one such part.
+    pub halvings: u64,
     /// How often it took the log.
     pub took: u64,
     /// How often it found the word HELD.

@@ -1,4 +1,5 @@
-ghost use Rattle.std.specs.Prelude.{◌≡◌, true, false, None, [], ◌++◌, ◌+◌, ◌<◌, length, take, IfOk, OnErr};
+ghost use Rattle.std.specs.Prelude.{◌≡◌, true, false, None, [], ◌++◌, ◌+◌, ◌<◌, ◌≤◌, length, take, IfOk, OnErr};
+ghost use Rattle.std.specs.Int.{w32, from_be_bytes};
 ghost use Rattle.definitions.specs.Wire.{max_body};
 ghost use Rattle.definitions.specs.Streams.{Before_hello, In_message, feed, Means, finish_fault};
 ghost use Rattle.wire_core.specs.Events.{event_values};
@@ -169,6 +170,12 @@ impl<F: Summary> Feed<F> {
             (feed F.profile self.old.standing (self.old.kept ++ piece.now) ≡ fed_into [] self.new)
             × (fault_at self.new.standing ≡ None)) }
         ensures same { IfOk result (λ is_kept. is_kept ≡ false → self.new ≡ self.old) }
+        // It keeps every piece that does not reach the end of the hello or frame, as far as the kept bytes tell.
+        ensures short { IfOk result (λ is_kept. is_kept ≡ false → is_over self.old.standing ≡ false →
+            length self.old.kept < 4 → 4 ≤ length self.old.kept + length piece.now) }
+        ensures frame { IfOk result (λ is_kept. is_kept ≡ false → is_over self.old.standing ≡ false →
+            4 ≤ length self.old.kept →
+            4 + from_be_bytes w32 (take 4 self.old.kept) ≤ length self.old.kept + length piece.now) }
         ensures memory { OnErr result (self.new ≡ self.old) }
     {
         if self.standing.is_over() {

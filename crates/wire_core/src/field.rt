@@ -1,7 +1,7 @@
 //! Reading the fields of a body. Each reader takes a field off the front of the bytes and gives its value, or the
 //! fault.
 
-ghost use Rattle.std.specs.Prelude.{◌≡◌, ◌≤◌, length, None, IfOk};
+ghost use Rattle.std.specs.Prelude.{◌≡◌, ◌≤◌, ◌*◌, length, None, IfOk};
 ghost use Rattle.std.specs.Option.{option_copied};
 ghost use Rattle.definitions.specs.Reading as reading;
 ghost use Rattle.definitions.specs.Faults as faults;
@@ -137,7 +137,9 @@ pub fn take_item<'a>(
 
 /// How many items the bytes can hold at most, of those counted: an item takes two bytes at least. So a count alone
 /// makes nobody take memory.
-fn room_for(bytes: &[u8], count: u32) -> usize {
+fn room_for(bytes: &[u8], count: u32) -> usize
+    ensures few { 2 * result ≤ length bytes.now }
+{
     bytes.len().min(2 * count as usize) / 2
 }
 

@@ -75,6 +75,11 @@ pub fn keep<F: Summary>(
         × (feed F.profile (standing_of standing) kept.new.items
         ≡ stays (standing_of standing) kept.new.items) × (fault_at (standing_of standing) ≡ None)) }
     ensures same { IfOk result (λ is_kept. is_kept ≡ false → kept.new.items ≡ kept.old.items) }
+    // It does not keep a piece only where that reaches the end of what is unfinished, as far as its bytes tell.
+    ensures short { IfOk result (λ is_kept. is_kept ≡ false → length kept.old.items < 4 →
+        4 ≤ length kept.old.items + length piece.now) }
+    ensures frame { IfOk result (λ is_kept. is_kept ≡ false → 4 ≤ length kept.old.items →
+        4 + from_be_bytes w32 (take 4 kept.old.items) ≤ length kept.old.items + length piece.now) }
     ensures memory { OnErr result (kept.new.items ≡ kept.old.items) }
 {
     if piece.len() >= wanted(kept) {

@@ -3,7 +3,7 @@ use Rattle.std.specs.Prelude.{ℕ, List, [], ◌∷◌, map, Some, None, codes}
 use Rattle.std.specs.Cmp.Lexicographic.{pointwise}
 use Rattle.definitions.specs.Items.{Item, Range, same_item}
 use Rattle.definitions.specs.Fingerprints.{Summary}
-use Rattle.definitions.specs.Strategies.{Table, Row, Act, List_items, Split, Peel}
+use Rattle.definitions.specs.Strategies.{Table, Row, Act, List_items, Split, Peel, At_items}
 use Rattle.definitions.specs.Replies.{Peer}
 
 -- the fingerprint of a set is the set: no two sets share one
@@ -18,7 +18,7 @@ halves = Split (1 ∷ 1 ∷ [])
 
 abbrev pub binary : ℕ → ℕ → Table
 binary cap rounds =
-    record { cap = cap; limit = 1; rounds = rounds; rows = row_upto 1 List_items ∷ row_upto cap halves ∷ [] }
+    record { cap = cap; limit = 1; rounds = rounds; rows = row_upto 1 List_items ∷ row_upto cap halves ∷ []; bounds = At_items }
 
 abbrev pub binary8 : Table
 binary8 = binary 8 3
@@ -28,7 +28,7 @@ binary16 = binary 16 4
 
 abbrev pub peeling : ℕ → ℕ → Table
 peeling rounds front =
-    record { cap = 10; limit = 3; rounds = rounds; rows = row_upto 3 List_items ∷ row_upto 10 (Peel front) ∷ [] }
+    record { cap = 10; limit = 3; rounds = rounds; rows = row_upto 3 List_items ∷ row_upto 10 (Peel front) ∷ []; bounds = At_items }
 
 -- the one-byte items of a text
 abbrev pub letters : List ℕ → List Item

@@ -1,11 +1,12 @@
 -- The laws at examples, in the words of Theorems: a wrong definition breaks one of these.
 use Rattle.std.specs.Prelude.{◌≡◌, ℕ, ◌==◌, true, false, List, [], ◌∷◌, length, map, flat_map, None, refl, codes}
 use Rattle.std.proofs.Common.{ap}
-use Rattle.definitions.specs.Items.{Item, Range, whole}
+use Rattle.definitions.specs.Items.{Item, Range, cut_range, whole}
 use Rattle.definitions.specs.Sets.{has, set_of, items_in, difference}
 use Rattle.definitions.specs.Fingerprints.{Summary}
 use Rattle.definitions.specs.Messages.{Listing, Message}
 use Rattle.definitions.specs.Replies.{Peer, cutup, reply}
+use Rattle.definitions.specs.Strategies.{At_items, Short}
 use Rattle.definitions.specs.Placing.{place_fault}
 use Rattle.definitions.specs.Talks.{talk, Knowledge, initiator_knows, responder_knows, IsClear}
 use Rattle.definitions.specs.Cost.{part_bound}
@@ -28,13 +29,26 @@ in_order k = record { ours = set_of k.ours; theirs = set_of k.theirs }
 -- ---- cuts are exact
 
 abbrev pieces : List Range
-pieces = cutup left.items whole (2 ∷ 1 ∷ [])
+pieces = cutup At_items left.items whole (2 ∷ 1 ∷ [])
+
+abbrev long_items : List Item
+long_items = codes "aaa" ∷ codes "abb" ∷ codes "bc" ∷ codes "bcab" ∷ []
+
+abbrev short_pieces : List Range
+short_pieces = cutup Short long_items whole (2 ∷ 1 ∷ 1 ∷ [])
 
 pub sizes_are_the_shares : map (λ Y. length (items_in left.items Y)) pieces ≡ 2 ∷ 1 ∷ []
 sizes_are_the_shares = refl
 
 pub parts_make_up_the_whole : flat_map (items_in left.items) pieces ≡ left.items
 parts_make_up_the_whole = refl
+
+-- the same with short bounds, and where they differ
+pub short_sizes_are_the_shares : map (λ Y. length (items_in long_items Y)) short_pieces ≡ 2 ∷ 1 ∷ 1 ∷ []
+short_sizes_are_the_shares = refl
+
+pub short_bounds : cutup Short long_items whole (2 ∷ 1 ∷ 1 ∷ []) ≡ cut_range whole (codes "b" ∷ codes "bca" ∷ [])
+short_bounds = refl
 
 -- ---- a reply is placed, and its message has few parts
 

@@ -1,6 +1,6 @@
 -- What the checker answers.
 use Rattle.std.specs.Prelude.{◌≡◌, ℕ, ◌+◌, List, [], ◌∷◌, Some, None, Ok, refl, map, sum, take, length}
-use Rattle.definitions.specs.Strategies.{Table, List_items, Split, shares, width}
+use Rattle.definitions.specs.Strategies.{Table, List_items, Split, At_items, shares, width}
 use Rattle.definitions.specs.Ranks.{check_fault, check_with_fault, List_too_long, No_descent, Too_deep, Bad_certificate}
 use Rattle.definitions.specs.Ranks.{least_ranks, first_stuck, found, rank_by, steps_fault}
 use Rattle.definitions.specs.Climbs.{find_steps, check_by_steps}
@@ -19,7 +19,7 @@ pub binary_eight_steps_by_the_loop : find_steps binary8 ≡ Ok (1 ∷ 2 ∷ 4 �
 binary_eight_steps_by_the_loop = refl
 
 abbrev pub skewed : Table
-skewed = record { cap = 8; limit = 1; rounds = 3; rows = row_upto 1 List_items ∷ row_upto 8 (Split (1 ∷ 15 ∷ [])) ∷ [] }
+skewed = record { cap = 8; limit = 1; rounds = 3; rows = row_upto 1 List_items ∷ row_upto 8 (Split (1 ∷ 15 ∷ [])) ∷ []; bounds = At_items }
 
 pub a_share_of_all : check_fault skewed ≡ Some (No_descent 2)
 a_share_of_all = refl
@@ -35,7 +35,7 @@ one_round_too_few_by_the_loop = refl
 
 abbrev pub long_lists : Table
 long_lists =
-    record { cap = 8; limit = 3; rounds = 3; rows = row_upto 4 List_items ∷ row_upto 8 (Split (1 ∷ 1024 ∷ [])) ∷ [] }
+    record { cap = 8; limit = 3; rounds = 3; rows = row_upto 4 List_items ∷ row_upto 8 (Split (1 ∷ 1024 ∷ [])) ∷ []; bounds = At_items }
 
 pub list_row_above_the_limit : check_fault long_lists ≡ Some (List_too_long 4)
 list_row_above_the_limit = refl
@@ -49,6 +49,7 @@ list_between = record {
   limit = 4;
   rounds = 3;
   rows = row_upto 1 List_items ∷ row_upto 3 halves ∷ row_upto 4 List_items ∷ row_upto 6 halves ∷ [];
+  bounds = At_items;
 }
 
 pub a_list_row_keeps_its_rank : least_ranks list_between ≡ 0 ∷ 0 ∷ 1 ∷ 2 ∷ 2 ∷ 3 ∷ 3 ∷ []
@@ -62,7 +63,7 @@ a_list_row_keeps_its_rank_steps = refl
 
 abbrev pub one_to_three : Table
 one_to_three =
-    record { cap = 8; limit = 1; rounds = 9; rows = row_upto 1 List_items ∷ row_upto 8 (Split (1 ∷ 3 ∷ [])) ∷ [] }
+    record { cap = 8; limit = 1; rounds = 9; rows = row_upto 1 List_items ∷ row_upto 8 (Split (1 ∷ 3 ∷ [])) ∷ []; bounds = At_items }
 
 pub no_descent_at_two : check_fault one_to_three ≡ Some (No_descent 2)
 no_descent_at_two = refl
@@ -70,7 +71,7 @@ no_descent_at_two = refl
 pub though_eight_has_two_shares : shares one_to_three 8 ≡ 2 ∷ 6 ∷ []
 though_eight_has_two_shares = refl
 
-pub a_split_of_nothing : check_fault (record { cap = 4; limit = 0; rounds = 9; rows = row_upto 4 halves ∷ [] })
+pub a_split_of_nothing : check_fault (record { cap = 4; limit = 0; rounds = 9; rows = row_upto 4 halves ∷ []; bounds = At_items })
     ≡ Some (No_descent 0)
 a_split_of_nothing = refl
 
@@ -103,7 +104,7 @@ steps_that_do_not_rise = refl
 -- shares
 
 abbrev pub three_one_one : Table
-three_one_one = record { cap = 8; limit = 0; rounds = 9; rows = row_upto 8 (Split (3 ∷ 1 ∷ 1 ∷ [])) ∷ [] }
+three_one_one = record { cap = 8; limit = 0; rounds = 9; rows = row_upto 8 (Split (3 ∷ 1 ∷ 1 ∷ [])) ∷ []; bounds = At_items }
 
 -- the sums of ever more shares
 abbrev pub cut_at : ℕ → ℕ → ℕ

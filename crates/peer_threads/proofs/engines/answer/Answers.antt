@@ -1,8 +1,8 @@
 use Rattle.std.proofs.Common.{◌≤◌, rules, refl, subst, ◌∙◌}
-use Rattle.definitions.specs.Accounts.{IsOfTheTable}
 use Rattle.definitions.specs.Engines.{responding}
-use Rattle.peer_threads.specs.Outcomes.{seen}
-use Rattle.peer_threads.proofs.Exchanges.{Laws, stops-refusing, stops-event, on-nothing}
+use Rattle.peer_threads.specs.Outcomes.{IsTimely, seen}
+use Rattle.peer_threads.proofs.Exchanges.{Laws, stops-refusing, stops-event}
+use Rattle.peer_threads.proofs.Origins.{on-nothing}
 use Rattle.peer_threads.proofs.Hearings.{adds-none}
 use Rattle.peer_threads.proofs.Serving.{at-part, at-end, answers-first}
 use Rattle.peer_threads.proofs.engines.answer.Goals as goal
@@ -14,7 +14,7 @@ returns-in_err-take-clause-talked g c = λ p steps unread held new x.
       begin = c.own_begins.ensures g.F.Summary.summary;
       agree = c.bytes_agree.ensures g.F.Summary.summary g.F.Summary.profile;
     } in
-    let stopped = stops-refusing g.F.Summary.summary g.F.Summary.profile IsOfTheTable laws
+    let stopped = stops-refusing g.F.Summary.summary g.F.Summary.profile (IsTimely c.args.outbox.now.sent) laws
     (responding p) _ _ _ _ _
     (seen c.args.connection.now.reader.failed c.args.connection.now.reader.ended) c.args.connection.now.writer.failed _
     c.in_err-take.field-0.0 refl

@@ -1,7 +1,6 @@
 use Rattle.std.specs.Arc.{arc_value}
-use Rattle.definitions.specs.Accounts.{IsOfTheTable}
 use Rattle.definitions.specs.Engines.{initiating}
-use Rattle.peer_threads.specs.Outcomes.{peer_at, seen}
+use Rattle.peer_threads.specs.Outcomes.{IsTimely, peer_at, seen}
 use Rattle.peer_threads.specs.declared.stop.Stop.TheVariants.{Memory}
 use Rattle.peer_threads.proofs.Dialing.{dials, found-fits, stops-silent, speaks-unsaid}
 use Rattle.peer_threads.proofs.Endings.{speaks}
@@ -32,7 +31,7 @@ returns-in-Err-clause-bytes g c =
     (speaks-unsaid g.F.Summary.summary g.F.Summary.profile s _ _ c.new.result unread held
     (g.W.Write.contents c.stopped.new.writer.inner) r w c.args.connection.now.writer.failed Memory c.stopped.result
     c.new.ensures
-    (stops-silent g.F.Summary.summary g.F.Summary.profile IsOfTheTable s c.new.result unread held r
+    (stops-silent g.F.Summary.summary g.F.Summary.profile (IsTimely c.new.result.sent) s c.new.result unread held r
     c.args.connection.now.writer.failed c.new.ensures)
     c.stopped.ensures.leaves c.stopped.ensures.outcome)
     (λ bytes are known. c.sides_keep_bounds.ensures.initiator found.base bytes are fits)

@@ -1,11 +1,13 @@
-use Rattle.std.proofs.Common.{rules, [], ◌∷◌, Err, ap, ◌∙◌}
+use Rattle.std.proofs.Common.{rules, ◌≡◌, [], ◌∷◌, Err, sym, ap, ◌∙◌, subst}
 use Rattle.std.proofs.lemmas.Result.{err_from_is_err_and}
 use Rattle.definitions.specs.Wire.{Came, Ended}
 use Rattle.peer_threads.specs.declared.stop.Stop.TheVariants as stops
 use Rattle.outcome_core.specs.declared.outcome.Direction.TheVariants as directions
 use Rattle.peer_threads.specs.Outcomes.{seen}
+use Rattle.peer_threads.specs.Listening.{InStep}
 use Rattle.peer_threads.specs.Underway.{IsNone}
 use Rattle.peer_threads.proofs.Exchanges.{Laws}
+use Rattle.peer_threads.proofs.Listenings.{fares-by, unbroken}
 use Rattle.peer_threads.proofs.Serving.{greeted, reads-on, stops-ungreeted, stops-broken-behind, stops-partless}
 use Rattle.peer_threads.proofs.Serving.{stops-endless, told}
 use Rattle.peer_threads.proofs.engines.first_message.Goals as goal
@@ -88,3 +90,23 @@ returns-clause-met g c =
     let two = c.in_ok-first_end.ensures.read p one.3.0 y.bytes (Came p ∷ []) y.are_bytes y.came in
     let z = reads-on g.F.Summary.summary g.F.Summary.profile _ _ _ _ _ (Came p ∷ []) (Came p ∷ Ended ∷ []) y two in
     (one.3.0, z)
+
+pub returns-in_err-inbox-clause-fared : goal.returns-in_err-inbox-clause-fared
+returns-in_err-inbox-clause-fared g c = λ start step.
+    let reader = c.args.connection.now.reader in
+    let is : c.from_residual.result ≡ Err c.in_err-inbox.field-0.0 = search rules in
+    fares-by start reader.reads reader.failed c.from_residual.result c.in_err-inbox.field-0.0 is
+    (unbroken start reader.reads reader.failed c.in_err-inbox.field-0.0 c.in_err-inbox.ensures.quiet c.requires.listens)
+
+pub returns-in_err-first_end-clause-fared : goal.returns-in_err-first_end-clause-fared
+returns-in_err-first_end-clause-fared g c = λ start step.
+    let begun = subst (InStep start c.args.connection.now.reader.reads) (sym c.in_ok-inbox.ensures.reads) step in
+    let is = err_from_is_err_and c.from_residual-in_err-first_end.result c.from_residual-in_err-first_end.ensures.1 in
+    fares-by start c.first_end.new.reader.reads c.first_end.new.reader.failed c.from_residual-in_err-first_end.result
+    c.in_err-first_end.field-0.0 (is.1 ∙ ap Err is.2)
+    (c.in_err-first_end.ensures.fared start (c.in_ok-first.ensures.step start begun))
+
+pub returns-clause-step : goal.returns-clause-step
+returns-clause-step g c = λ start step.
+    let begun = subst (InStep start c.args.connection.now.reader.reads) (sym c.in_ok-inbox.ensures.reads) step in
+    c.in_ok-first_end.ensures.step start (c.in_ok-first.ensures.step start begun)

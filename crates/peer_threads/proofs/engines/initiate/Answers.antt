@@ -1,16 +1,14 @@
 use Rattle.std.proofs.Common.{◌≤◌, ◌+◌, length, ap, subst, ◌∙◌}
 use Rattle.std.specs.Arc.{arc_value}
-use Rattle.definitions.specs.Accounts.{IsOfTheTable}
 use Rattle.definitions.specs.Ranks.{rank_by}
 use Rattle.definitions.specs.Engines.{initiating}
 use Rattle.session_table.specs.Faults.{table_fault_number}
 use Rattle.peer_threads.specs.declared.stop.Stop.TheVariants as stops
-use Rattle.peer_threads.specs.Outcomes.{Reader, traffic, seen}
+use Rattle.peer_threads.specs.Outcomes.{Reader, IsTimely, traffic, seen}
 use Rattle.ends_core.specs.Sides.{peer_of}
 use Rattle.peer_threads.specs.Stops.{outcome_of}
 use Rattle.peer_threads.specs.Underway.{Leaves, Spoke, most_sent}
 use Rattle.peer_threads.proofs.Dialing.{stops-silent, stops-unbooked, speaks-unsaid}
-use Rattle.peer_threads.proofs.Hearings.{not-opened}
 use Rattle.peer_threads.proofs.engines.initiate.Goals as goal
 
 pub returns-in-Err-clause-bytes : goal.returns-in-Err-clause-bytes
@@ -25,7 +23,7 @@ returns-in-Err-clause-bytes g c =
     (seen c.stopped.new.writer.failed c.stopped.new.writer.ended) c.args.connection.now.writer.failed stops.Memory
     c.stopped.result
     c.new-outbox.ensures
-    (stops-silent g.F.Summary.summary g.F.Summary.profile IsOfTheTable s o unread held r
+    (stops-silent g.F.Summary.summary g.F.Summary.profile (IsTimely o.sent) s o unread held r
     c.args.connection.now.writer.failed
     c.new-outbox.ensures) c.stopped.ensures.leaves
     c.stopped.ensures.outcome
@@ -46,7 +44,7 @@ returns-in-Err-open-clause-bytes g c =
     c.stopped-in-Err-open.result
     c.new-outbox.ensures (stops-unbooked g.F.Summary.summary g.F.Summary.profile s o unread held r broken code
     c.new-outbox.ensures
-    (not-opened code c.in-Err-open.ensures))
+    c.in-Err-open.ensures.refused)
     (subst (λ x. Leaves g.F.Summary.profile o held holds broken w.failed x) c.from.ensures
     c.stopped-in-Err-open.ensures.leaves)
     (c.stopped-in-Err-open.ensures.outcome ∙ ap (λ x. outcome_of o.sent x) c.from.ensures)
@@ -70,3 +68,8 @@ returns-clause-bytes g c =
     (c.concluded-outcome.ensures.bytes s bound (Reader unread) left held r
     (c.speak-talked.ensures.talked (peer_of a items) a.steps is opens)
     (subst (λ x. c.speak-talked.new.outbox.sent ≤ most_sent 2 x) is c.speak-talked.ensures.few))
+
+pub returns-clause-fared : goal.returns-clause-fared
+returns-clause-fared g c =
+    c.concluded-outcome.ensures.fared c.args.connection.now.reader.reads c.speak-talked.new.connection.reader.reads
+    c.speak-talked.new.connection.reader.failed c.speak-talked.ensures.fared

@@ -8,8 +8,7 @@ use Rattle.peer_threads.specs.Outcomes.{traffic_of, seen}
 use Rattle.ends_core.specs.Sides.{peer_of}
 use Rattle.peer_threads.specs.Stops.{outcome_of}
 use Rattle.peer_threads.specs.Underway.{Leaves, Spoke, most_sent}
-use Rattle.peer_threads.proofs.Exchanges.{on-nothing}
-use Rattle.peer_threads.proofs.Hearings.{not-opened}
+use Rattle.peer_threads.proofs.Origins.{on-nothing}
 use Rattle.peer_threads.proofs.Serving.{stops-poor, stops-unlisted, speaks-stopped}
 use Rattle.peer_threads.proofs.engines.respond.Goals as goal
 
@@ -45,7 +44,7 @@ returns-in-Err-open-clause-bytes g c = λ unread held x.
     speaks-stopped g.F.Summary.summary g.F.Summary.profile p c.args.pin.version _ o t holds r w broken
     (stops.Refused code) c.stopped-in-Err-open.result c.requires.none
     (stops-unlisted g.F.Summary.summary g.F.Summary.profile p _ o t r broken _ code x
-    (not-opened code c.in-Err-open.ensures))
+    c.in-Err-open.ensures.refused c.requires.none)
     (subst (λ y. Leaves g.F.Summary.profile o t.holds holds broken w.failed y) c.from.ensures
     c.stopped-in-Err-open.ensures.leaves)
     (c.stopped-in-Err-open.ensures.outcome ∙ ap (λ y. outcome_of o.sent y) c.from.ensures)
@@ -74,3 +73,8 @@ returns-clause-on g c = λ unread held x.
     let a = arc_value c.args.host.now.accepted.now in
     let is = c.in-Ok.ensures in
     c.answer-talked.ensures.on (peer_of a c.args.pin.items) a.steps unread held is x
+
+pub returns-clause-fared : goal.returns-clause-fared
+returns-clause-fared g c = λ start step.
+    c.concluded-outcome.ensures.fared start c.answer-talked.new.connection.reader.reads
+    c.answer-talked.new.connection.reader.failed (c.answer-talked.ensures.fared start step)

@@ -4,7 +4,7 @@ use Rattle.definitions.specs.Engines.{responding}
 use Rattle.peer_threads.specs.declared.stop.Stop.TheVariants as stops
 use Rattle.peer_threads.specs.Outcomes.{Behind, traffic_behind, seen, peer_at}
 use Rattle.peer_threads.proofs.Endings.{speaks, stopped-anyhow}
-use Rattle.peer_threads.proofs.Exchanges.{on-nothing}
+use Rattle.peer_threads.proofs.Origins.{on-nothing}
 use Rattle.peer_threads.proofs.Serving.{untold, unopened, serves, speaks-stopped, stops-poor, came-first}
 use Rattle.peer_threads.proofs.engines.serve_behind.Goals as goal
 

@@ -1,13 +1,13 @@
 use Rattle.std.proofs.Common.{refl, rules}
-use Rattle.definitions.specs.Accounts.{IsOfTheTable}
 use Rattle.definitions.specs.Engines.{initiating}
-use Rattle.peer_threads.specs.Outcomes.{Reader, seen}
+use Rattle.peer_threads.specs.Outcomes.{Reader, IsTimely, seen}
 use Rattle.peer_threads.proofs.Dialing.{begun-first, stops-silent, stops-broken, stops-first}
 use Rattle.peer_threads.proofs.engines.speak.Goals as goal
 
 pub returns-in_err-inbox-clause-talked : goal.returns-in_err-inbox-clause-talked
 returns-in_err-inbox-clause-talked g c = λ p steps is opens.
-    let stops = stops-silent g.F.Summary.summary g.F.Summary.profile IsOfTheTable (initiating g.F.Summary.summary p)
+    let stops = stops-silent g.F.Summary.summary g.F.Summary.profile (IsTimely c.args.outbox.now.sent)
+    (initiating g.F.Summary.summary p)
     c.args.outbox.now
     (g.R.Read.remaining c.args.connection.now.reader.inner)
     (g.W.Write.contents c.args.connection.now.writer.inner)
@@ -17,7 +17,8 @@ returns-in_err-inbox-clause-talked g c = λ p steps is opens.
 
 pub returns-in_err-greet-clause-talked : goal.returns-in_err-greet-clause-talked
 returns-in_err-greet-clause-talked g c = λ p steps is opens.
-    let stops = stops-broken g.F.Summary.summary g.F.Summary.profile IsOfTheTable (initiating g.F.Summary.summary p)
+    let stops = stops-broken g.F.Summary.summary g.F.Summary.profile (IsTimely c.greet.new.self.sent)
+    (initiating g.F.Summary.summary p)
     c.args.outbox.now c.greet.new.self
     (g.R.Read.remaining c.args.connection.now.reader.inner) (g.W.Write.contents c.args.connection.now.writer.inner)
     (g.W.Write.contents c.greet.new.writer.inner)

@@ -1,5 +1,6 @@
-use Rattle.std.proofs.Common.{◌≡◌, ◌+◌, ◌-◌, ◌≤◌, length, take}
+use Rattle.std.proofs.Common.{◌≡◌, ◌+◌, ◌-◌, ◌≤◌, length, take, false}
 use Rattle.std.specs.Io.KnownBytes.{Consumes}
+use Rattle.peer_threads.specs.Listening.{InStep}
 use Rattle.peer_threads.proofs.hello.read_hello.Given as goal
 
 -- what came so far, and how often the reader was read
@@ -11,6 +12,8 @@ invariant-reads g l = record {
       (take l.came l.hello.bytes);
   each : l.hello.reads ≤ l.came;
   counted : l.reader.reads ≤ l.fn.reader.reads + l.hello.reads;
+  listens : l.reader.failed ≡ false;
+  step : InStep l.fn.reader.reads l.reader.reads l.hello.reads;
 }
 
 abbrev pub decreases-reads : goal.decreases-reads

@@ -1,8 +1,11 @@
-use Rattle.std.proofs.Common.{◌≡◌, ◌≤◌, ◌^◌, false, true, length, rules, arith, subst, ◌∙◌}
+use Rattle.std.proofs.Common.{◌≡◌, ◌≤◌, false, true, Err, rules, arith, subst, ◌∙◌}
 use Rattle.definitions.specs.Ends.{is_over}
 use Rattle.peer_threads.specs.Outcomes.{seen}
-use Rattle.peer_threads.proofs.Exchanges.{Laws, at-event, goes-on-behind, stops-event, stops-underway, stops-late}
-use Rattle.peer_threads.proofs.Exchanges.{finished, on-further}
+use Rattle.peer_threads.proofs.Exchanges.{Laws, at-event, goes-on, stops-event, stops-underway}
+use Rattle.peer_threads.proofs.Exchanges.{finished}
+use Rattle.peer_threads.proofs.Origins.{on-further}
+use Rattle.peer_threads.proofs.Listenings.{event-fares, fares-by}
+use Rattle.wire_core.specs.Events.{event_value}
 use Rattle.peer_threads.proofs.talk.talk.Goals as goal
 
 pub returns-then-is_over-clause-talked : goal.returns-then-is_over-clause-talked
@@ -12,8 +15,8 @@ returns-then-is_over-clause-talked g c = λ s unread held live start.
       begin = c.own_begins.ensures g.F.Summary.summary;
       agree = c.bytes_agree.ensures g.F.Summary.summary g.F.Summary.profile;
     } in
-    let over : is_over c.loop-turn.party.end.stage ≡ true = search rules in
-    finished g.F.Summary.summary g.F.Summary.profile laws s _ _ _ _ live (c.loop-turn.invariant.goes s unread held live
+    let over : is_over c.turns.party.end.stage ≡ true = search rules in
+    finished g.F.Summary.summary g.F.Summary.profile laws s _ _ _ _ live (c.turns.invariant.goes s unread held live
     start).0 over
 
 pub returns-in_err-event-clause-talked : goal.returns-in_err-event-clause-talked
@@ -23,11 +26,11 @@ returns-in_err-event-clause-talked g c = λ s unread held live start.
       begin = c.own_begins.ensures g.F.Summary.summary;
       agree = c.bytes_agree.ensures g.F.Summary.summary g.F.Summary.profile;
     } in
-    let u = (c.loop-turn.invariant.goes s unread held live start).0 in
-    let goes : is_over c.loop-turn.party.end.stage ≡ false = search rules in
+    let u = (c.turns.invariant.goes s unread held live start).0 in
+    let goes : is_over c.turns.party.end.stage ≡ false = search rules in
     let stops = stops-underway g.F.Summary.summary g.F.Summary.profile laws s _ _ _ _ _
     (seen c.next.new.reader.failed c.next.new.reader.ended)
-    c.loop-turn.connection.writer.failed c.in_err-event.field-0.0 live u goes
+    c.turns.connection.writer.failed c.in_err-event.field-0.0 live u goes
     (c.in_err-event.ensures.read u.bytes u.events u.are_bytes u.came) in
     search (rules, stops)
 
@@ -38,8 +41,8 @@ returns-in_err-hear-clause-talked g c = λ s unread held live start.
       begin = c.own_begins.ensures g.F.Summary.summary;
       agree = c.bytes_agree.ensures g.F.Summary.summary g.F.Summary.profile;
     } in
-    let u = (c.loop-turn.invariant.goes s unread held live start).0 in
-    let goes : is_over c.loop-turn.party.end.stage ≡ false = search rules in
+    let u = (c.turns.invariant.goes s unread held live start).0 in
+    let goes : is_over c.turns.party.end.stage ≡ false = search rules in
     let x = at-event g.F.Summary.summary g.F.Summary.profile s _ _ _ _ _ _ _ u (c.in_ok-event.ensures.read u.bytes
     u.events u.are_bytes u.came) goes in
     let stops =
@@ -48,14 +51,16 @@ returns-in_err-hear-clause-talked g c = λ s unread held live start.
     c.in_err-hear.field-0.0 live x c.in_err-hear.ensures.stopped in
     search (rules, stops)
 
-pub loop-turn-preserved : goal.loop-turn-preserved
-loop-turn-preserved g c = record {
+pub turns-preserved : goal.turns-preserved
+turns-preserved g c = record {
   fine = c.in_ok-hear.ensures.fine;
+  listens = c.in_ok-event.ensures.listens;
+  step = λ start step. c.in_ok-event.ensures.step start (c.turns.invariant.step start step);
   count = c.in_ok-hear.ensures.count;
-  most = c.in_ok-hear.ensures.most ∙ c.loop-turn.invariant.most;
-  few = subst (λ n. c.hear.new.outbox.sent ≤ n) c.loop-turn.invariant.most c.in_ok-hear.ensures.few;
+  most = c.in_ok-hear.ensures.most ∙ c.turns.invariant.most;
+  few = subst (λ n. c.hear.new.outbox.sent ≤ n) c.turns.invariant.most c.in_ok-hear.ensures.few;
   reads = λ few.
-      let so = c.loop-turn.invariant.reads few in
+      let so = c.turns.invariant.reads few in
       let now = c.in_ok-event.ensures.reads in
       (omega (arith, so.0, now.0), now.1);
   goes = λ s unread held live start.
@@ -64,46 +69,135 @@ loop-turn-preserved g c = record {
         begin = c.own_begins.ensures g.F.Summary.summary;
         agree = c.bytes_agree.ensures g.F.Summary.summary g.F.Summary.profile;
       } in
-      let u = (c.loop-turn.invariant.goes s unread held live start).0 in
-      let goes : is_over c.loop-turn.party.end.stage ≡ false = search rules in
+      let u = (c.turns.invariant.goes s unread held live start).0 in
+      let goes : is_over c.turns.party.end.stage ≡ false = search rules in
       let more = c.in_ok-event.ensures.read u.bytes u.events u.are_bytes u.came in
       let x = at-event g.F.Summary.summary g.F.Summary.profile s _ _ _ _ _ _ _ u more goes in
-      let late = (c.loop-turn.invariant.goes s unread held live start).1 in
       let next =
-      goes-on-behind g.F.Summary.summary g.F.Summary.profile laws s _ _ _ _ _ _ _ _ live x more.3
-      c.in_ok-hear.ensures.heard c.in_ok-hear.ensures.said _ late in
-      let on = (c.loop-turn.invariant.goes s unread held live start).2 in
-      (next.0, next.1, on-further _ _ _ on (more.0, more.1, more.2));
+      goes-on g.F.Summary.summary g.F.Summary.profile laws s _ _ _ _ _ _ _ _ live x more.3
+      c.in_ok-hear.ensures.heard c.in_ok-hear.ensures.said in
+      let on = (c.turns.invariant.goes s unread held live start).1 in
+      (next, on-further _ _ _ on (more.0, more.1, more.2));
 }
 
-pub returns-clause-talked : goal.returns-clause-talked
-returns-clause-talked g c = λ s unread held live start.
-    let laws : Laws g.F.Summary.summary g.F.Summary.profile = record {
-      go_on = c.hearings_go_on.ensures g.F.Summary.summary;
-      begin = c.own_begins.ensures g.F.Summary.summary;
-      agree = c.bytes_agree.ensures g.F.Summary.summary g.F.Summary.profile;
-    } in
-    let u = (c.loop-turn.invariant.goes s unread held live start).0 in
-    let late = (c.loop-turn.invariant.goes s unread held live start).1 in
-    let many : 2 ^ 32 ≤ length u.events = omega arith in
-    stops-late g.F.Summary.summary g.F.Summary.profile laws s _ _ _ _ (seen c.loop-turn.connection.reader.failed
-    c.loop-turn.connection.reader.ended) c.loop-turn.connection.writer.failed u many
+pub turns-preserved-in_ok-hear : goal.turns-preserved-in_ok-hear
+turns-preserved-in_ok-hear g c = record {
+  fine = c.in_ok-hear.ensures.fine;
+  listens = c.in_ok-event.ensures.listens;
+  step = λ start step. c.in_ok-event.ensures.step start (c.turns.invariant.step start step);
+  count = c.in_ok-hear.ensures.count;
+  most = c.in_ok-hear.ensures.most ∙ c.turns.invariant.most;
+  few = subst (λ n. c.hear.new.outbox.sent ≤ n) c.turns.invariant.most c.in_ok-hear.ensures.few;
+  reads = λ few.
+      let so = c.turns.invariant.reads few in
+      let now = c.in_ok-event.ensures.reads in
+      (omega (arith, so.0, now.0), now.1);
+  goes = λ s unread held live start.
+      let laws : Laws g.F.Summary.summary g.F.Summary.profile = record {
+        go_on = c.hearings_go_on.ensures g.F.Summary.summary;
+        begin = c.own_begins.ensures g.F.Summary.summary;
+        agree = c.bytes_agree.ensures g.F.Summary.summary g.F.Summary.profile;
+      } in
+      let u = (c.turns.invariant.goes s unread held live start).0 in
+      let goes : is_over c.turns.party.end.stage ≡ false = search rules in
+      let more = c.in_ok-event.ensures.read u.bytes u.events u.are_bytes u.came in
+      let x = at-event g.F.Summary.summary g.F.Summary.profile s _ _ _ _ _ _ _ u more goes in
+      let next =
+      goes-on g.F.Summary.summary g.F.Summary.profile laws s _ _ _ _ _ _ _ _ live x more.3
+      c.in_ok-hear.ensures.heard c.in_ok-hear.ensures.said in
+      let on = (c.turns.invariant.goes s unread held live start).1 in
+      (next, on-further _ _ _ on (more.0, more.1, more.2));
+}
+
+pub turns-preserved-in_ok-hear-2 : goal.turns-preserved-in_ok-hear-2
+turns-preserved-in_ok-hear-2 g c = record {
+  fine = c.in_ok-hear.ensures.fine;
+  listens = c.in_ok-event.ensures.listens;
+  step = λ start step. c.in_ok-event.ensures.step start (c.turns.invariant.step start step);
+  count = c.in_ok-hear.ensures.count;
+  most = c.in_ok-hear.ensures.most ∙ c.turns.invariant.most;
+  few = subst (λ n. c.hear.new.outbox.sent ≤ n) c.turns.invariant.most c.in_ok-hear.ensures.few;
+  reads = λ few.
+      let so = c.turns.invariant.reads few in
+      let now = c.in_ok-event.ensures.reads in
+      (omega (arith, so.0, now.0), now.1);
+  goes = λ s unread held live start.
+      let laws : Laws g.F.Summary.summary g.F.Summary.profile = record {
+        go_on = c.hearings_go_on.ensures g.F.Summary.summary;
+        begin = c.own_begins.ensures g.F.Summary.summary;
+        agree = c.bytes_agree.ensures g.F.Summary.summary g.F.Summary.profile;
+      } in
+      let u = (c.turns.invariant.goes s unread held live start).0 in
+      let goes : is_over c.turns.party.end.stage ≡ false = search rules in
+      let more = c.in_ok-event.ensures.read u.bytes u.events u.are_bytes u.came in
+      let x = at-event g.F.Summary.summary g.F.Summary.profile s _ _ _ _ _ _ _ u more goes in
+      let next =
+      goes-on g.F.Summary.summary g.F.Summary.profile laws s _ _ _ _ _ _ _ _ live x more.3
+      c.in_ok-hear.ensures.heard c.in_ok-hear.ensures.said in
+      let on = (c.turns.invariant.goes s unread held live start).1 in
+      (next, on-further _ _ _ on (more.0, more.1, more.2));
+}
+
+pub turns-preserved-in_ok-hear-3 : goal.turns-preserved-in_ok-hear-3
+turns-preserved-in_ok-hear-3 g c = record {
+  fine = c.in_ok-hear.ensures.fine;
+  listens = c.in_ok-event.ensures.listens;
+  step = λ start step. c.in_ok-event.ensures.step start (c.turns.invariant.step start step);
+  count = c.in_ok-hear.ensures.count;
+  most = c.in_ok-hear.ensures.most ∙ c.turns.invariant.most;
+  few = subst (λ n. c.hear.new.outbox.sent ≤ n) c.turns.invariant.most c.in_ok-hear.ensures.few;
+  reads = λ few.
+      let so = c.turns.invariant.reads few in
+      let now = c.in_ok-event.ensures.reads in
+      (omega (arith, so.0, now.0), now.1);
+  goes = λ s unread held live start.
+      let laws : Laws g.F.Summary.summary g.F.Summary.profile = record {
+        go_on = c.hearings_go_on.ensures g.F.Summary.summary;
+        begin = c.own_begins.ensures g.F.Summary.summary;
+        agree = c.bytes_agree.ensures g.F.Summary.summary g.F.Summary.profile;
+      } in
+      let u = (c.turns.invariant.goes s unread held live start).0 in
+      let goes : is_over c.turns.party.end.stage ≡ false = search rules in
+      let more = c.in_ok-event.ensures.read u.bytes u.events u.are_bytes u.came in
+      let x = at-event g.F.Summary.summary g.F.Summary.profile s _ _ _ _ _ _ _ u more goes in
+      let next =
+      goes-on g.F.Summary.summary g.F.Summary.profile laws s _ _ _ _ _ _ _ _ live x more.3
+      c.in_ok-hear.ensures.heard c.in_ok-hear.ensures.said in
+      let on = (c.turns.invariant.goes s unread held live start).1 in
+      (next, on-further _ _ _ on (more.0, more.1, more.2));
+}
 
 pub returns-then-is_over-clause-on : goal.returns-then-is_over-clause-on
 returns-then-is_over-clause-on g c = λ s unread held live start.
-    (c.loop-turn.invariant.goes s unread held live start).2
+    (c.turns.invariant.goes s unread held live start).1
 
 pub returns-in_err-event-clause-on : goal.returns-in_err-event-clause-on
 returns-in_err-event-clause-on g c = λ s unread held live start.
-    let so = c.loop-turn.invariant.goes s unread held live start in
+    let so = c.turns.invariant.goes s unread held live start in
     let more = c.in_err-event.ensures.read so.0.bytes so.0.events so.0.are_bytes so.0.came in
-    on-further _ _ _ so.2 (more.0, more.1, more.2)
+    on-further _ _ _ so.1 (more.0, more.1, more.2)
 
 pub returns-in_err-hear-clause-on : goal.returns-in_err-hear-clause-on
 returns-in_err-hear-clause-on g c = λ s unread held live start.
-    let so = c.loop-turn.invariant.goes s unread held live start in
+    let so = c.turns.invariant.goes s unread held live start in
     let more = c.in_ok-event.ensures.read so.0.bytes so.0.events so.0.are_bytes so.0.came in
-    on-further _ _ _ so.2 (more.0, more.1, more.2)
+    on-further _ _ _ so.1 (more.0, more.1, more.2)
 
-pub returns-clause-on : goal.returns-clause-on
-returns-clause-on g c = λ s unread held live start. (c.loop-turn.invariant.goes s unread held live start).2
+pub returns-then-is_over-clause-fared : goal.returns-then-is_over-clause-fared
+returns-then-is_over-clause-fared g c = λ start step. c.turns.invariant.listens
+
+pub returns-in_err-event-clause-fared : goal.returns-in_err-event-clause-fared
+returns-in_err-event-clause-fared g c = λ start step.
+    let fared = c.in_err-event.ensures.fared start (c.turns.invariant.step start step) in
+    search (rules, fared)
+
+pub returns-in_err-hear-clause-fared : goal.returns-in_err-hear-clause-fared
+returns-in_err-hear-clause-fared g c = λ start step.
+    let fine = c.in_ok-event.ensures.listens in
+    let is : c.from_residual-in_err-hear.result ≡ Err c.in_err-hear.field-0.0 = search rules in
+    fares-by start c.next.new.reader.reads c.next.new.reader.failed c.from_residual-in_err-hear.result
+    c.in_err-hear.field-0.0 is
+    (event-fares g.F.Summary.summary g.F.Summary.profile c.turns.party (event_value c.in_ok-event.event) c.turns.outbox
+    c.hear.new.outbox (g.W.Write.contents c.turns.connection.writer.inner) (g.W.Write.contents c.hear.new.writer.inner)
+    c.hear.new.writer.failed c.in_err-hear.field-0.0 start c.next.new.reader.reads c.next.new.reader.failed
+    c.in_err-hear.ensures.stopped fine)

@@ -1,10 +1,13 @@
-use Rattle.std.proofs.Common.{rules, ◌≡◌, ◌∷◌, ◌++◌, [], Option, None, IfNone, Ok, Err, sym, ap, ◌∙◌, subst, arith}
+use Rattle.std.proofs.Common.{rules, ◌≡◌, ◌<◌, ◌≤◌, ◌∷◌, ◌++◌, [], ℕ, List, length, Option, None, IfNone, IfSome, Ok, Err}
+use Rattle.std.proofs.Common.{sym, ap, ◌∙◌, subst, arith}
 use Rattle.wire_core.specs.Events.{event_value}
 use Rattle.wire_core.specs.Feeds.{StreamState, fault_at}
 use Rattle.wire_core.specs.declared.event.Event as declared
 use Rattle.peer_threads.specs.Outcomes.{seen}
 use Rattle.peer_threads.specs.Inboxes.{HasRead, Held, FetchStops, Next}
 use Rattle.peer_threads.proofs.InboxSteps.{reads_nothing, reads_more, reads_so, fetch_stops}
+use Rattle.peer_threads.specs.Listening.{InStep, rest_of}
+use Rattle.peer_threads.proofs.Listenings.{fares-by, unbroken}
 use Rattle.peer_threads.proofs.inbox.Inbox.next.Goals as goal
 
 pub reads-init : goal.reads-init
@@ -12,6 +15,9 @@ reads-init g c =
     let unread = g.R.Read.remaining c.args.reader.now.inner in (
       reads_nothing g.F.Summary.profile g.met.F.Summary.real unread c.args.self.now (HasRead g.F.Summary.profile
           c.args.self.now) (λ bytes es fits has. has),
+      omega arith,
+      c.requires.listens,
+      λ start step. step,
       omega arith,
     )
 
@@ -60,7 +66,20 @@ reads-preserved g c =
     let before = c.reads.invariant.1 in
     let same = c.next_held.ensures.reads.0 in
     let now = c.read_more.ensures.reads.0 in
-    (all, omega arith)
+    let none = subst
+    (λ (made : Option (declared.Event g.row.F.Denot)). IfNone made ((fed.waiting ≡ []) ×
+    (fault_at fed.feed.standing ≡ None)))
+    c.in-None.is c.in_ok-event.ensures.none in
+    let less = c.in_ok-read_more-in-None.ensures.less in
+    let rest : rest_of fed ≤ rest_of c.reads.self =
+    omega (arith, same, ap (λ (l : List ℕ). length l) none.0) in (
+      all,
+      omega arith,
+      c.in_ok-read_more-in-None.ensures.listens,
+      λ start step. c.in_ok-read_more-in-None.ensures.step start
+          (subst (InStep start c.reads.reader.reads) (sym same) (c.reads.invariant.3 start step)),
+      omega (arith, less, rest, c.reads.invariant.4),
+    )
 
 pub returns-in_err-read_more-in-None-clause-read : goal.returns-in_err-read_more-in-None-clause-read
 returns-in_err-read_more-in-None-clause-read g c =
@@ -90,3 +109,42 @@ returns-in_err-read_more-in-None-clause-read g c =
     (λ bytes es fits stopped. subst (Next g.F.Summary.profile over new bytes es) (sym is)
     (fetch_stops g.F.Summary.profile g.met.F.Summary.real over new stop fine bytes es stopped))
     c.in_err-read_more-in-None.ensures.read)
+
+pub read_more-requires-clause-listens : goal.read_more-requires-clause-listens
+read_more-requires-clause-listens g c = c.reads.invariant.2
+
+pub returns-in_err-event-clause-fared : goal.returns-in_err-event-clause-fared
+returns-in_err-event-clause-fared g c = λ start step.
+    let is : c.from_residual.result ≡ Err c.in_err-event.field-0.0 = search rules in
+    fares-by start c.reads.reader.reads c.reads.reader.failed c.from_residual.result c.in_err-event.field-0.0 is
+    (unbroken start c.reads.reader.reads c.reads.reader.failed c.in_err-event.field-0.0 c.in_err-event.ensures.quiet
+    c.reads.invariant.2)
+
+pub returns-in-Some-clause-listens : goal.returns-in-Some-clause-listens
+returns-in-Some-clause-listens g c = c.reads.invariant.2
+
+pub returns-in-Some-clause-fared : goal.returns-in-Some-clause-fared
+returns-in-Some-clause-fared g c = λ start step. c.reads.invariant.2
+
+pub returns-in-Some-clause-step : goal.returns-in-Some-clause-step
+returns-in-Some-clause-step g c = λ start step.
+    subst (InStep start c.reads.reader.reads) (sym c.next_held.ensures.reads.0) (c.reads.invariant.3 start step)
+
+pub returns-in-Some-clause-less : goal.returns-in-Some-clause-less
+returns-in-Some-clause-less g c =
+    let new = c.next_held.new.self in
+    let took = subst
+    (λ (made : Option (declared.Event g.row.F.Denot)). IfSome made
+    (λ _. length new.waiting < length c.reads.self.waiting))
+    c.in-Some.is c.in_ok-event.ensures.less in
+    omega (arith, took, c.next_held.ensures.reads.0, c.reads.invariant.4)
+
+pub returns-in_err-read_more-in-None-clause-fared : goal.returns-in_err-read_more-in-None-clause-fared
+returns-in_err-read_more-in-None-clause-fared g c = λ start step.
+    let result = c.from_residual-in_err-read_more-in-None.result in
+    let stop = c.in_err-read_more-in-None.field-0.0 in
+    let is : result ≡ Err stop = search rules in
+    let on = subst (InStep start c.reads.reader.reads) (sym c.next_held.ensures.reads.0)
+    (c.reads.invariant.3 start step) in
+    fares-by start c.read_more.new.reader.reads c.read_more.new.reader.failed result stop is
+    (c.in_err-read_more-in-None.ensures.fared start on)

@@ -1,5 +1,6 @@
-use Rattle.std.proofs.Common.{◌+◌, ◌-◌, ◌≤◌, ◌^◌}
+use Rattle.std.proofs.Common.{ℕ, ◌≡◌, false, ◌+◌, ◌-◌, ◌≤◌, ◌^◌}
 use Rattle.peer_threads.specs.Inboxes.{HasRead, Reads}
+use Rattle.peer_threads.specs.Listening.{InStep, rest_of}
 use Rattle.peer_threads.proofs.inbox.Inbox.next.Given as goal
 
 -- what was read so far, and how often
@@ -8,6 +9,9 @@ invariant-reads g l =
     Reads g.F.Summary.profile (g.R.Read.remaining l.fn.reader.inner) (g.R.Read.remaining l.reader.inner) l.fn.self
     (HasRead g.F.Summary.profile l.self)
     × (l.reader.reads + l.fn.self.reads ≤ l.fn.reader.reads + l.self.reads)
+    × (l.reader.failed ≡ false)
+    × ((start : ℕ) → InStep start l.fn.reader.reads l.fn.self.reads → InStep start l.reader.reads l.self.reads)
+    × (rest_of l.self ≤ rest_of l.fn.self)
 
 abbrev pub decreases-reads : goal.decreases-reads
 decreases-reads g l = 2 ^ 32 - l.self.reads

@@ -1,5 +1,5 @@
-use Rattle.std.proofs.Common.{rules, ◌≡◌, true, ap, refl}
-use Rattle.session_core.specs.Sessions.{SessionState, HearsIf, IsFed, is_open}
+use Rattle.std.proofs.Common.{rules, ap, refl}
+use Rattle.session_core.specs.Sessions.{SessionState, HearsIf, is_open}
 use Rattle.session_core.proofs.Steps.{Laws, piece-heard}
 use Rattle.session_core.proofs.session.Session.go_on.Goals as goal
 

@@ -1,7 +1,7 @@
-use Rattle.std.proofs.Common.{◌≡◌, ◌-◌, ℕ, List, length, take, drop, sym, ap, ◌∙◌, subst, arith}
+use Rattle.std.proofs.Common.{rules, ◌≡◌, ◌-◌, ℕ, true, List, length, take, drop, sym, ap, ◌∙◌, subst, arith}
 use Rattle.std.proofs.lemmas.List.{length-drop}
 use Rattle.std.proofs.Math.Seq.{take-length}
-use Rattle.session_core.specs.Sessions.{Pushes}
+use Rattle.session_core.specs.Sessions.{SessionState, Pushes, is_open}
 use Rattle.session_core.proofs.Steps.{pushes-on, pushes-so}
 use Rattle.session_core.proofs.session.Session.hear_all.Goals as goal
 
@@ -14,6 +14,7 @@ loop-taken-preserved g c =
     let left = length-drop from piece in
     let rest : take (length piece - from) (drop from piece) ≡ drop from piece =
     ap (λ (n : ℕ). take n (drop from piece)) (sym left) ∙ take-length (drop from piece) in
+    let goes : is_open c.loop-taken.self.talk.state ≡ true = search rules in
     let heard = subst (λ (l : List ℕ). Pushes g.F.Summary.summary g.F.Summary.profile c.loop-taken.self
     (take c.in-Ok.count l) c.hear_next.new.self) rest c.in-Ok.ensures.pushes in
     record {
@@ -22,6 +23,10 @@ loop-taken-preserved g c =
           piece from c.in-Ok.count before.pushes heard;
       over = c.in-Ok.ensures.over ∙ before.over;
       none = λ is. absurd (omega (arith, is, took.0));
+      after = λ closed.
+          let same = ap (λ (x : SessionState g.row.F.Denot). is_open x.talk.state) (before.none (before.after closed))
+          in
+          let wrong = sym goes ∙ same ∙ closed in absurd cc;
     }
 
 pub returns-in-Err-clause-pushes : goal.returns-in-Err-clause-pushes

@@ -1,4 +1,4 @@
-use Rattle.std.proofs.Common.{rules, ◌≡◌, ℕ, List, ◌++◌, length, take, sym, subst}
+use Rattle.std.proofs.Common.{rules, ℕ, List, ◌++◌, sym, subst}
 use Rattle.std.proofs.Math.Seq.{take-length}
 use Rattle.session_core.specs.Sessions.{Knows}
 use Rattle.session_core.proofs.session.Session.hear_next.Goals as goal

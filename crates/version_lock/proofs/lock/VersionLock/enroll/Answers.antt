@@ -14,6 +14,7 @@ invariant_of-seat-2 g c = let is : view c.enroll_at.new.seat ≡ enrolled (view 
     empty = search rules;
     idle = search rules;
     live = search rules;
+    some = search rules;
     mine = subst
         (λ (v : View). (n : ℕ) → v.writer ≡ Some n → entries_by n v.seen ≡ v.mine)
         (sym is) (mine_enrolled _ _ c.lock.ensures.took.2);

@@ -1,0 +1,3 @@
+pub use Rattle.session_core.specs.Sessions
+pub mod Costs
+pub mod Samples

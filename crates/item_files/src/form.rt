@@ -1,0 +1,8 @@
+/// How items stand in a file, and how they are printed.
+#[derive(Clone, Copy, Debug, PartialEq, Eq)]
+pub enum ItemForm {
+    /// As hex digits.
+    Hex,
+    /// As they are, or as hex digits behind `0x`.
+    Text,
+}

@@ -1,0 +1,242 @@
+//! Item files: one item a line, in hex or as text.
+//!
+//! In hex a carriage return at a line's end, then spaces and tabs at both its ends, and blank lines are ignored. A line
+//! of text without one carriage return at its end is an item as it stands, or spells one in hex behind `0x`; empty
+//! lines are ignored. An item given twice counts once. A file that begins with a byte order mark is refused.
+
+ghost use Rattle.std.specs.Prelude.{◌≡◌, ◌≢◌, ◌<◌, ◌≤◌, ℕ, List, [], ◌∷◌, ◌++◌, length, IfOk, IfErr, IfSome, OnOk};
+ghost use Rattle.std.specs.Prelude.{option_map, Some, None, Ok, Err};
+ghost use Rattle.definitions.specs.Items.{Item as Bytes};
+ghost use Rattle.hex.specs.Hex.{decode_of};
+ghost use Rattle.definitions.specs.Sets.{IsSet};
+ghost use Rattle.item_files.specs.Faults.{IsSetOf};
+ghost use Rattle.item_files.specs.Files.{IsFromFile, IsAllOf};
+ghost use Rattle.item_files.specs.ItemFiles.{is_blank, without_front, without_end, digits_in, decoded, line_items};
+ghost use Rattle.item_files.specs.ItemFiles.{lines, lines_in, items_from, file_items, text_in, text_item};
+ghost use Rattle.item_files.specs.ItemFiles.{content_of, spelled, has_byte_order_mark};
+
+use crate::fault::SettingsFault;
+use crate::file::{read_file, read_text};
+use crate::form::ItemForm;
+use item_core::Item;
+use memchr::memchr;
+use std::alloc::Global;
+use std::io::Read;
+use std::rt::Files;
+use store_core::{laws, spans};
+
+/// Whether a byte is a blank of an item line.
+fn is_blank(byte: u8) -> bool
+    ensures { result ≡ is_blank byte }
+{
+    byte == b' ' || byte == b'\t'
+}
+
+/// The line without the blanks at its front.
+fn without_front(line: &[u8]) -> &[u8]
+    ensures { result.now ≡ without_front line.now }
+{
+    let mut rest = line;
+    while let Some((first, others)) = rest.split_first() {
+        if !is_blank(*first) {
+            break;
+        }
+        rest = others;
+    }
+    rest
+}
+
+/// The line without the blanks at its end.
+fn without_end(line: &[u8]) -> &[u8]
+    ensures { result.now ≡ without_end line.now }
+{
+    let mut rest = line;
+    while let Some((last, others)) = rest.split_last() {
+        if !is_blank(*last) {
+            break;
+        }
+        rest = others;
+    }
+    rest
+}
+
+/// The line without one carriage return at its end, and then without the blanks at both ends.
+fn digits_in(line: &[u8]) -> &[u8]
+    ensures { result.now ≡ digits_in line.now }
+{
+    without_front(without_end(line.strip_suffix(b"\r").unwrap_or(line)))
+}
+
+/// The item that hex digits spell, if they spell one.
+pub fn item_of(digits: &[u8]) -> Option<Item>
+    ensures { result ≡ decoded (decode_of digits.now) }
+{
+    if digits.len() > 128 {
+        return None;
+    }
+    let mut bytes = [0u8; 64];
+    let room = &mut bytes[..digits.len() / 2];
+    hex::decode_to_slice(digits, room).ok()?;
+    Item::new(room).ok()
+}
+
+/// The line without one carriage return at its end.
+fn text_in(line: &[u8]) -> &[u8]
+    ensures { result.now ≡ text_in line.now }
+{
+    line.strip_suffix(b"\r").unwrap_or(line)
+}
+
+/// The item of a text, if it has one: behind `0x` the one that the digits spell, else its bytes.
+fn text_item(text: &[u8]) -> Option<Item>
+    ensures { result ≡ text_item text.now }
+{
+    match text.strip_prefix(b"0x") {
+        Some(digits) => item_of(digits),
+        None => Item::new(text).ok(),
+    }
+}
+
+/// What is left of a line: its digits, or its text.
+fn content_of(form: ItemForm, line: &[u8]) -> &[u8]
+    ensures { result.now ≡ content_of form line.now }
+{
+    match form {
+        ItemForm::Hex => digits_in(line),
+        ItemForm::Text => text_in(line),
+    }
+}
+
+/// The item that what is left of a line spells, if it spells one.
+fn spelled(form: ItemForm, content: &[u8]) -> Option<Item>
+    ensures { result ≡ spelled form content.now }
+{
+    match form {
+        ItemForm::Hex => item_of(content),
+        ItemForm::Text => text_item(content),
+    }
+}
+
+/// Appends the item of a line, if anything is left of it.
+fn push_line(
+    form: ItemForm,
+    items: &mut Vec<Item>,
+    line: &[u8],
+    number: usize,
+) -> Result<(), SettingsFault>
+    ensures item { OnOk result ((xs : List Bytes) × (line_items form line.now ≡ Some xs)
+        × (items.new.items ≡ items.old.items ++ xs)) }
+    ensures bad { IfErr result (λ e. e ≢ SettingsFault.Memory → (e ≡ SettingsFault.BadItemLine number)
+        × (line_items form line.now ≡ None)) }
+{
+    let content = content_of(form, line);
+    if content.is_empty() {
+        return Ok(());
+    }
+    let Some(item) = spelled(form, content) else {
+        return Err(SettingsFault::BadItemLine { line: number });
+    };
+    items.push(item)?;
+    Ok(())
+}
+
+/// The first line of the text, and what follows its line feed, if it ends with one.
+fn first_line(text: &[u8]) -> (&[u8], Option<&[u8]>)
+    ensures lines { lines text.now ≡ result.0.now ∷ lines_in (option_map (λ rest. rest.now) result.1) }
+    ensures shorter { IfSome result.1 (λ rest. length rest.now < length text.now) }
+{
+    match memchr(b'\n', text) {
+        None => (text, None),
+        Some(end) => (&text[..end], Some(&text[end + 1..])),
+    }
+}
+
+/// The items of the lines in order.
+fn items_of_lines(alloc: Global, form: ItemForm, text: &[u8]) -> Result<Vec<Item>, SettingsFault>
+    ensures items { IfOk result (λ v. items_from form 1 (lines text.now) ≡ Ok v.items) }
+    ensures refused { IfErr result (λ e. e ≢ SettingsFault.Memory → (line : ℕ)
+        × (e ≡ SettingsFault.BadItemLine line) × (items_from form 1 (lines text.now) ≡ Err line)) }
+{
+    let mut items = Vec::new(alloc);
+    let mut rest = Some(text);
+    let mut number = 0;
+    while let Some(left) = rest {
+        let (line, after) = first_line(left);
+        number += 1;
+        push_line(form, &mut items, line, number)?;
+        rest = after;
+    }
+    Ok(items)
+}
+
+/// Whether a file's text begins with a byte order mark. Its line 1 is bad then.
+pub fn has_byte_order_mark(text: &[u8]) -> bool
+    ensures { result ≡ has_byte_order_mark text.now }
+{
+    text.starts_with(b"\xEF\xBB\xBF")
+}
+
+/// The items of a file's text in order.
+fn items_of(alloc: Global, form: ItemForm, text: &[u8]) -> Result<Vec<Item>, SettingsFault>
+    ensures items { IfOk result (λ v. file_items form text.now ≡ Ok v.items) }
+    ensures refused { IfErr result (λ e. e ≢ SettingsFault.Memory → (line : ℕ)
+        × (e ≡ SettingsFault.BadItemLine line) × (file_items form text.now ≡ Err line)) }
+{
+    if has_byte_order_mark(text) {
+        return Err(SettingsFault::BadItemLine { line: 1 });
+    }
+    items_of_lines(alloc, form, text)
+}
+
+/// The set of the items of a file's text, in rising order.
+///
+/// Refused 81 by its first bad line, and then 82 where it has more than `cap` different items.
+pub fn item_set(
+    alloc: Global,
+    form: ItemForm,
+    text: &[u8],
+    cap: usize,
+) -> Result<Vec<Item>, SettingsFault>
+    ensures set { IsSetOf (λ v. v.items) form text.now cap result }
+    ensures rises { IfOk result (λ v. IsSet v.items) }
+{
+    laws::set_of_a_list();
+    let items = spans::distinct(items_of(alloc, form, text)?);
+    if items.len() > cap {
+        return Err(SettingsFault::TooManyItems);
+    }
+    Ok(items)
+}
+
+/// The set of the items in the file, in rising order.
+///
+/// Refused 80 where the file is not read, 81 by its first bad line, and then 82 where there are more than `cap`
+/// different items.
+pub fn read_items<R: Files + AllocGlobal>(
+    rt: &R,
+    form: ItemForm,
+    path: &str,
+    cap: usize,
+) -> Result<Vec<Item>, SettingsFault>
+    ensures set { IsFromFile (λ text. IsSetOf (λ v. v.items) form text cap) result }
+    ensures rises { IfOk result (λ v. IsSet v.items) }
+    ensures few { IfOk result (λ v. length v.items ≤ cap) }
+{
+    item_set(rt.alloc(), form, &read_file(rt, path)?, cap)
+}
+
+/// The set of the items that are left to read, in rising order. What is read is refused as a file is.
+pub fn read_input_items<R: Read + Drop>(
+    alloc: Global,
+    form: ItemForm,
+    reader: R,
+    cap: usize,
+) -> Result<Vec<Item>, SettingsFault>
+    // The text is all that the reader has left.
+    ensures set { IsFromFile (λ text r. IsAllOf (R.remaining reader) text × IsSetOf (λ v. v.items) form text cap r)
+        result }
+    ensures rises { IfOk result (λ v. IsSet v.items) }
+    ensures few { IfOk result (λ v. length v.items ≤ cap) }
+{
+    item_set(alloc, form, &read_text(alloc, reader)?, cap)
+}

@@ -1,0 +1,5 @@
+use Rattle.laws.proofs.Cuts.{peer_cutup-rises}
+use Rattle.laws.proofs.cuts_have_ranges.Goals as goal
+
+pub returns : goal.returns
+returns c = peer_cutup-rises

@@ -1,0 +1,49 @@
+//! What sessions cost, as it is printed.
+
+ghost use Rattle.std.specs.Prelude.{◌≡◌, ◌++◌, OnOk, string_bytes};
+ghost use Rattle.printing_core.specs.CostLines.{cost_line, plan_lines, sample_line};
+
+use crate::stats::Seconds;
+use std::alloc::AllocError;
+
+/// Appends the line of two sets that are made: how many items they have, and how many bytes an item has.
+pub fn push_sample(text: &mut String, items: u32, item_length: u32) -> Result<(), AllocError>
+    ensures { OnOk result (string_bytes text.new ≡ string_bytes text.old ++ sample_line items item_length) }
+{
+    write!(text, "items {items} length {item_length}\n")
+}
+
+/// Appends the line of a session between two sets with so many differences: its bytes both ways, and the messages of
+/// both sides.
+pub fn push_cost(
+    text: &mut String,
+    differences: u32,
+    bytes: usize,
+    messages: u64,
+) -> Result<(), AllocError>
+    ensures { OnOk result (string_bytes text.new ≡ string_bytes text.old ++ cost_line differences bytes messages) }
+{
+    write!(
+        text,
+        "cost {differences} bytes {bytes} messages {messages}\n"
+    )
+}
+
+/// Appends the lines above a strategy that is planned: its name, and what a session under it costs on a line, in
+/// thousandths of a second.
+pub fn push_plan(
+    text: &mut String,
+    name: &str,
+    bytes: usize,
+    messages: u64,
+    millis: u64,
+) -> Result<(), AllocError>
+    ensures { OnOk result (string_bytes text.new ≡ string_bytes text.old
+        ++ plan_lines name.now bytes messages millis) }
+{
+    let seconds = Seconds(Some(millis));
+    write!(
+        text,
+        "# {name}\n# {bytes} bytes in {messages} messages, {seconds} seconds\n"
+    )
+}
