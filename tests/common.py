@@ -151,8 +151,8 @@ def run(
     Without such words it has the name `rangesync`, which usage texts show, whatever the name of its file is.
     """
     call, program = ([*before, PROGRAM, *words], None) if before else (["rangesync", *words], PROGRAM)
-    ends = {"stdin": subprocess.PIPE, "stdout": output, "stderr": subprocess.PIPE}
-    with subprocess.Popen(call, executable=program, cwd=folder, **ends) as process:
+    pipe = subprocess.PIPE
+    with subprocess.Popen(call, executable=program, cwd=folder, stdin=pipe, stdout=output, stderr=pipe) as process:
         try:
             started(process)
             said = process.communicate(text, seconds)
