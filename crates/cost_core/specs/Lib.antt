@@ -1,3 +1,4 @@
 pub use Rattle.session_core.specs.Sessions
 pub mod Costs
+pub mod Plans
 pub mod Samples

@@ -2,7 +2,7 @@
 
 /// A strategy that is shipped.
 #[derive(Clone, Copy, Debug)]
-pub struct Shipped {
+pub(crate) struct Shipped {
     /// The name of its file, without `.toml`.
     pub name: &'static str,
     /// The text of its file, without the comments above it.

@@ -7,11 +7,14 @@
 //! | `checks` | `strategy_check` |
 //! | `devices` | `io_core` |
 //! | `fingerprints` | `digest_core` |
+//! | `hubs` | `hub_core` |
 //! | `items` | `item_core` |
 //! | `line_files` | `line_file` |
+//! | `links` | `link_core` |
 //! | `logs` | `version_log` |
 //! | `ranks` | `rank_core` |
 //! | `session_tables` | `session_table` |
+//! | `sessions` | `session_core` |
 //! | `stores` | `store_core` |
 //! | `strategies` | `strategy_core` |
 //! | `trees` | `range_tree` |
@@ -24,15 +27,21 @@ mod devices;
 #[cfg(test)]
 mod fingerprints;
 #[cfg(test)]
+mod hubs;
+#[cfg(test)]
 mod items;
 #[cfg(test)]
 mod line_files;
+#[cfg(test)]
+mod links;
 #[cfg(test)]
 mod logs;
 #[cfg(test)]
 mod ranks;
 #[cfg(test)]
 mod session_tables;
+#[cfg(test)]
+mod sessions;
 #[cfg(test)]
 mod stores;
 #[cfg(test)]

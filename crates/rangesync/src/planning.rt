@@ -1,14 +1,16 @@
 //! The command `plan`.
 
-ghost use Rattle.std.specs.Prelude.{IfSome};
+ghost use Rattle.std.specs.Prelude.{◌≤◌, IfOk, IfSome};
+ghost use Rattle.cost_core.specs.Plans.{IsPlanned};
+ghost use Rattle.cost_core.specs.Samples.{IsSample};
 ghost use Rattle.settings_core.specs.Spans.{IsItemCount, IsItemLength, IsRate};
 
 use crate::checking::length_of;
-use cost_core::{Line, Sample, quickest};
+use cost_core::{Line, Planned, Sample, Task, quickest, searched};
 use io_core::{Watched, write_output};
 use printing_core::{Fault, push_plan};
-use std::alloc::Global;
 use std::io::Write;
+use std::time::Clock;
 
 /// The items of a set, where they are not given.
 const ITEMS: u32 = 65_536;
@@ -35,6 +37,8 @@ pub(crate) struct Planning {
     pub round_trip: Option<u32>,
     /// The megabits in a second, 1 to 100,000.
     pub rate: Option<u32>,
+    /// How many seconds are spent on a search for a quicker table; `None` for no search.
+    pub search: Option<u32>,
 }
 
 /// The items that are given, or 65,536.
@@ -59,11 +63,34 @@ fn rate_of(rate: Option<u32>) -> u32
     }
 }
 
-/// The quickest strategy as a text that `check` accepts, with its name and its cost in comments above it.
-fn plan_text(alloc: Global, planning: Planning) -> Result<String, Fault>
+/// The quickest of the strategies that are shipped, or what a search that starts with it has found.
+///
+/// Else 82 where a set has more items than any of them may hold, or 90.
+fn planned<R: Clock + AllocGlobal>(
+    rt: &R,
+    task: Task,
+    search: Option<u32>,
+) -> Result<Planned, Fault>
+    requires sample { IsSample task.sample }
+    requires rate { 1 ≤ task.line.rate }
+    ensures { IfOk result (IsPlanned task.sample) }
+{
+    let Some(start) = quickest(rt.alloc(), task)? else {
+        return Err(Fault::TooManyItems);
+    };
+    let Some(seconds) = search else {
+        return Ok(start);
+    };
+    Ok(searched(rt.alloc(), task, start, rt, seconds)?)
+}
+
+/// What a strategy is chosen for: what is given, and the usual numbers for the rest.
+fn task_of(planning: Planning) -> Task
     requires items { IfSome planning.items IsItemCount }
     requires item_length { IfSome planning.item_length IsItemLength }
     requires rate { IfSome planning.rate IsRate }
+    ensures sample { IsSample result.sample }
+    ensures rate { 1 ≤ result.line.rate }
 {
     let items = items_of(planning.items);
     let sample = Sample {
@@ -75,29 +102,40 @@ fn plan_text(alloc: Global, planning: Planning) -> Result<String, Fault>
         round_trip: planning.round_trip.unwrap_or(ROUND_TRIP),
         rate: rate_of(planning.rate),
     };
-    let Some(planned) = quickest(alloc, sample, line)? else {
-        return Err(Fault::TooManyItems);
-    };
-    let mut text = String::new(alloc);
-    let millis = planned.micros.saturating_add(500) / 1_000;
-    push_plan(
-        &mut text,
-        planned.shipped.name,
-        planned.bytes,
-        planned.messages,
-        millis,
-    )?;
-    text.push_str(planned.shipped.text)?;
-    Ok(text)
+    Task { sample, line }
 }
 
-/// Prints the quickest of the strategies that are shipped.
-pub(crate) fn plan<O: Write + Drop>(alloc: Global, planning: Planning, out: O) -> Result<(), Fault>
+/// The strategy that is planned as a text that `check` accepts, with its name and its cost in comments above it.
+fn plan_text<R: Clock + AllocGlobal>(rt: &R, planning: Planning) -> Result<String, Fault>
     requires items { IfSome planning.items IsItemCount }
     requires item_length { IfSome planning.item_length IsItemLength }
     requires rate { IfSome planning.rate IsRate }
 {
-    let text = plan_text(alloc, planning)?;
+    let planned = planned(rt, task_of(planning), planning.search)?;
+    let millis = planned.micros.saturating_add(500) / 1_000;
+    let mut text = String::new(rt.alloc());
+    push_plan(
+        &mut text,
+        planned.name.as_str(),
+        planned.bytes,
+        planned.messages,
+        millis,
+    )?;
+    text.push_str(planned.text.as_str())?;
+    Ok(text)
+}
+
+/// Prints the quickest of the strategies that are shipped, or what a search has found.
+pub(crate) fn plan<R: Clock + AllocGlobal, O: Write + Drop>(
+    rt: &R,
+    planning: Planning,
+    out: O,
+) -> Result<(), Fault>
+    requires items { IfSome planning.items IsItemCount }
+    requires item_length { IfSome planning.item_length IsItemLength }
+    requires rate { IfSome planning.rate IsRate }
+{
+    let text = plan_text(rt, planning)?;
     write_output(&mut Watched::new(out), text.as_bytes())?;
     Ok(())
 }

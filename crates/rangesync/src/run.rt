@@ -123,6 +123,7 @@ where
             item_length,
             round_trip,
             rate,
+            search,
         } => {
             let planning = Planning {
                 items,
@@ -130,8 +131,9 @@ where
                 item_length,
                 round_trip,
                 rate,
+                search,
             };
-            plan(rt.alloc(), planning, out)
+            plan(rt, planning, out)
         }
         Command::Sim => sim(rt.alloc(), reader, out),
         Command::Serve {

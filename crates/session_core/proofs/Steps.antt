@@ -4,25 +4,32 @@
 -- all that is said to them. A piece that completes no event changes neither; an event adds its reply. Where an event or
 -- a fault of the stream stops the session, the laws say that whatever comes later counts no more. To make texts, or to
 -- take bytes of them, moves bytes between what is due and what was taken, and keeps their sum.
+--
+-- What is counted of the peer's message goes along: a piece that completes no event adds its length, an event begins
+-- the bytes anew and adds its part, and the end of a message begins the parts anew.
 use Rattle.std.proofs.Common.{◌≡◌, ℕ, ◌+◌, ◌<◌, Bool, true, false, List, [], ◌∷◌, ◌++◌, length, take, drop}
 use Rattle.std.proofs.Common.{Result, Ok, Err, IfOk, OnOk}
 use Rattle.std.specs.declared.alloc.AllocError.{AllocError}
 use Rattle.std.proofs.Common.{flat_map, Option, Some, None, IsTrue, inl, inr, refl, sym, ap, ◌∙◌, subst, append_assoc}
 use Rattle.std.proofs.Common.{append-nil}
 use Rattle.std.specs.Prelude.{if◌then◌else◌}
-use Rattle.std.proofs.lemmas.Grind.{flat_map-append}
+use Rattle.std.proofs.Common.{length-append, arith}
+use Rattle.std.proofs.lemmas.Grind.{flat_map-append, fold-append}
 use Rattle.std.proofs.lemmas.List.{take-append-drop}
 use Rattle.std.proofs.Math.Seq.{take-add, take-length}
 use Rattle.definitions.specs.Fingerprints.{Summary}
 use Rattle.definitions.specs.Items.{IsBytes}
 use Rattle.definitions.specs.Messages.{Message}
 use Rattle.definitions.specs.Refusals.{truncated}
-use Rattle.definitions.specs.Wire.{Profile, message_text, session_text, fault_text, Event}
+use Rattle.definitions.specs.Wire.{Profile, message_text, session_text, fault_text, Event, Came, Ended, Failed}
+use Rattle.definitions.specs.Placing.{next, refusal}
+use Rattle.definitions.specs.Taking.{Taken, taken, nothing_taken}
+use Rattle.strategy_check.specs.Checked.{Checked}
 use Rattle.definitions.specs.Streams.{Standing, Before_hello, In_message, Meaning_over, Faulted, Fed, feed}
 use Rattle.definitions.specs.Ends.{End, is_live, is_over}
 use Rattle.definitions.specs.Engines.{Speaker, says, own, session, messages_in}
 use Rattle.definitions.specs.Hearing.{Hearing, Goes_on, Over_at, hears}
-use Rattle.definitions.specs.Hearing.{hearing_to}
+use Rattle.definitions.specs.Hearing.{hearing_to, goes_unless}
 use Rattle.laws.specs.Hearing.{has_stopped, HearingsGoOn, BytesAgree, AgreesBy}
 use Rattle.codec_laws.specs.Parts.{FeedsJoin, joined}
 use Rattle.codec_laws.proofs.Fields.{IsBytes-both, rest_fits}
@@ -34,7 +41,8 @@ use Rattle.session_core.specs.Outboxes.{OutboxState, outbox_state}
 use Rattle.session_core.specs.Sessions.{TalkState, SessionState, is_open, frame_of, frame_due, due, refused_by}
 use Rattle.wire_core.specs.Events.{event_value}
 use Rattle.wire_core.specs.declared.event.Event as declared
-use Rattle.session_core.specs.Sessions.{HearsIf, IsFed}
+use Rattle.session_core.specs.Sessions.{HearsIf, IsFed, IsBegun, begun_after, Begins, beginning, opened}
+use Rattle.session_core.specs.Sizes.{plus, parts_after}
 use Rattle.session_core.specs.Sessions.{with_outbox, with_talk, finished, hearing_at, said_by, Hears}
 use Rattle.ends_core.specs.Sides.{said_to}
 use Rattle.session_core.specs.Sessions.{IsEnd, Goes, Lasts, Stays, GoesOn, Knows, Pushes}
@@ -141,12 +149,14 @@ module _ {F : Type 0} (S : Summary F) (W : Profile F) where
           text = text;
         };
         goes_on = subst (λ (b : Bool). GoesOn S W b s c pushed) (sym is) goes;
+        ended = λ over. let wrong = sym is ∙ ap is_open over in absurd cc;
       }
 
   pub knows-closed : Laws → (s : Speaker F) (c : SessionState F) (pushed taken : List ℕ) →
       is_live s.start.stage ≡ true → IsBytes pushed → is_open c.talk.state ≡ false →
-      Lasts S W s c.talk pushed → Text s c pushed taken → Knows S W s c pushed taken
-  knows-closed laws s c pushed taken live fits closed lasts text =
+      Lasts S W s c.talk pushed → Text s c pushed taken → (c.talk.state ≡ states.Ended → c.talk.parts ≡ 0) →
+      Knows S W s c pushed taken
+  knows-closed laws s c pushed taken live fits closed lasts text ended =
       let heard = ap (λ (l : List ℕ). hearing_to S W s c.over l) (sym (append-nil pushed))
       ∙ (lasts [] c.over tt).0 in
       record {
@@ -157,6 +167,7 @@ module _ {F : Type 0} (S : Summary F) (W : Profile F) where
           text = text;
         };
         goes_on = subst (λ (b : Bool). GoesOn S W b s c pushed) (sym closed) (inr lasts);
+        ended = ended;
       }
 
   -- ---- what is known of it
@@ -175,14 +186,85 @@ module _ {F : Type 0} (S : Summary F) (W : Profile F) where
       k.tells.text ∙ ap (λ (l : List ℕ). session_text W (said_to S W s pushed) ++ l) (no-frame-yet c.talk.state goes)
       ∙ append-nil (session_text W (said_to S W s pushed))
 
+  -- ---- what is counted
+
+  -- nothing came
+  pub begun-nothing : IsBegun W 0 [] []
+  begun-nothing = record {
+    front = [];
+    back = [];
+    split = refl;
+    behind = record { standing = Before_hello; kept = [] };
+    whole = (refl, refl);
+    counted = omega arith;
+  }
+
+  -- a piece that completes no frame
+  begun-more : (n : ℕ) (pushed piece : List ℕ) (events : List (Event F)) → IsBegun W n pushed events →
+      IsBegun W (plus n (length piece)) (pushed ++ piece) events
+  begun-more n pushed piece events b = record {
+    front = b.front;
+    back = b.back ++ piece;
+    split = ap (λ (l : List ℕ). l ++ piece) b.split ∙ append_assoc b.front b.back piece;
+    behind = b.behind;
+    whole = b.whole;
+    counted = omega (arith, b.counted, length-append b.back piece);
+  }
+
+  -- the end of a frame
+  begun-whole : (f : StreamState) (pushed : List ℕ) (events : List (Event F)) → Holds W f pushed events →
+      f.kept ≡ [] → IsBegun W 0 pushed events
+  begun-whole f pushed events holds none = record {
+    front = pushed;
+    back = [];
+    split = sym (append-nil pushed);
+    behind = f;
+    whole = (holds, none);
+    counted = omega arith;
+  }
+
+  -- ---- the beginning
+
+  -- nothing was pushed to an end that was made
+  pub begins-opened : (a : Checked) (s : Speaker F) (h : EndState F) (o : OutboxState F) → h.end ≡ s.start →
+      h.taken ≡ nothing_taken s.start → h.steps ≡ a.steps → is_live s.start.stage ≡ true →
+      due W (beginning h o) ≡ session_text W s.first → Begins S W a s (opened h o)
+  begins-opened a s h o end taken steps live text = record {
+    knows = record {
+      are_bytes = tt;
+      tells = record {
+        heard = heard;
+        end = (end, live);
+        text = text ∙ ap (λ (l : List (Message F)). session_text W l) (sym (append-nil s.first))
+            ∙ sym (append-nil (session_text W (s.first ++ [])));
+      };
+      goes_on = record {
+        events = [];
+        holds = refl;
+        heard = heard;
+        fine = refl;
+        listens = refl;
+        parts = refl;
+        begun = begun-nothing;
+      };
+      ended = λ over. refl;
+    };
+    goes = refl;
+    listens = refl;
+    peer = ap (λ (e : End F). e.peer) end;
+    steps = steps;
+  } where
+    heard : Goes_on s.start (nothing_taken s.start) ≡ Goes_on h.end h.taken
+    heard = ap (λ (e : End F). Goes_on e (nothing_taken s.start)) (sym end) ∙ ap (Goes_on h.end) (sym taken)
+
   -- ---- a piece that completes no event
 
   pub quiet : Laws → (s : Speaker F) (c d : SessionState F) (piece pushed taken : List ℕ) →
       is_live s.start.stage ≡ true → is_open c.talk.state ≡ true → IsBytes piece →
-      d.talk ≡ c.talk → d.over ≡ c.over →
+      d.talk ≡ c.talk → d.over ≡ c.over → d.begun ≡ plus c.begun (length piece) →
       feed W c.feed.standing (c.feed.kept ++ piece) ≡ fed_into [] d.feed → fault_at d.feed.standing ≡ None →
       Knows S W s c pushed taken → Knows S W s d (pushed ++ piece) taken
-  quiet laws s c d piece pushed taken live goes more talk over step fine k =
+  quiet laws s c d piece pushed taken live goes more talk over begun step fine k =
       knows-open laws s d (pushed ++ piece) taken live (IsBytes-both pushed piece k.are_bytes more)
       (ap (λ (t : TalkState F). is_open t.state) talk ∙ goes)
       (record {
@@ -191,6 +273,9 @@ module _ {F : Type 0} (S : Summary F) (W : Profile F) where
         heard = g.heard ∙ ap (λ (t : TalkState F). Goes_on t.held.end t.held.taken) (sym talk);
         fine = fine;
         listens = over ∙ g.listens;
+        parts = ap (λ (t : TalkState F). t.parts) talk ∙ g.parts;
+        begun = subst (λ (n : ℕ). IsBegun W n (pushed ++ piece) g.events) (sym begun)
+            (begun-more c.begun pushed piece g.events g.begun);
       })
       (ap (λ (t : TalkState F). taken ++ due W t) talk
       ∙ text-of s c pushed taken goes k
@@ -211,73 +296,95 @@ module _ {F : Type 0} (S : Summary F) (W : Profile F) where
 
   -- ---- an event
 
+  not-over : (o : Option ℕ) (e : End F) (t : Taken F) (f : End F) → Over_at f ≡ goes_unless o (Goes_on e t) → ⊥
+  not-over None e t f is = absurd cc
+  not-over (Some code) e t f is = absurd cc
+
+  -- only the end of a message ends a session, and then no part counts
+  ended-none : (t u : TalkState F) (e : Event F) → Hears S W t e u → u.state ≡ states.Ended → u.parts ≡ 0
+  ended-none t u (Came p) h is =
+      let over = ap (λ (x : State). hearing_at x u.held) (sym is) ∙ h.heard in
+      absurd (not-over (refusal (next t.held.taken.place p)) t.held.end (taken S t.held.end t.held.taken p) u.held.end
+      over)
+  ended-none t u Ended h is = h.counted
+  ended-none t u (Failed code) h is =
+      let over = ap (λ (x : State). hearing_at x u.held) (sym is) ∙ h.heard in absurd cc
+
   pub one-event : Laws → (s : Speaker F) (c d : SessionState F) (e : Event F) (piece pushed taken : List ℕ) →
       is_live s.start.stage ≡ true → is_open c.talk.state ≡ true → IsBytes piece →
-      Hears S W c.talk e d.talk → d.over ≡ c.over →
+      Hears S W c.talk e d.talk → d.over ≡ c.over → d.begun ≡ 0 →
       feed W c.feed.standing (c.feed.kept ++ piece) ≡ fed_into (e ∷ []) d.feed → fault_at d.feed.standing ≡ None →
-      Knows S W s c pushed taken → Knows S W s d (pushed ++ piece) taken
-  one-event laws s c d e piece pushed taken live goes more heard over step fine k = by (is_open d.talk.state) refl where
-    g : Goes S W s c pushed
-    g = goes-of s c pushed taken goes k
+      d.feed.kept ≡ [] → Knows S W s c pushed taken → Knows S W s d (pushed ++ piece) taken
+  one-event laws s c d e piece pushed taken live goes more heard over begun step fine none k =
+      by (is_open d.talk.state) refl where
+        g : Goes S W s c pushed
+        g = goes-of s c pushed taken goes k
 
-    es : List (Event F)
-    es = g.events ++ e ∷ []
+        es : List (Event F)
+        es = g.events ++ e ∷ []
 
-    fits : IsBytes (pushed ++ piece)
-    fits = IsBytes-both pushed piece k.are_bytes more
+        fits : IsBytes (pushed ++ piece)
+        fits = IsBytes-both pushed piece k.are_bytes more
 
-    on : Holds W d.feed (pushed ++ piece) es
-    on = holds-on laws c.feed d.feed pushed piece g.events (e ∷ []) k.are_bytes more g.holds step
+        on : Holds W d.feed (pushed ++ piece) es
+        on = holds-on laws c.feed d.feed pushed piece g.events (e ∷ []) k.are_bytes more g.holds step
 
-    before : said_to S W s pushed ≡ so_far S W s g.events
-    before = said-of S W s pushed g.events (ap (λ (f : Fed F). f.events) g.holds)
+        before : said_to S W s pushed ≡ so_far S W s g.events
+        before = said-of S W s pushed g.events (ap (λ (f : Fed F). f.events) g.holds)
 
-    now : said_to S W s (pushed ++ piece) ≡ said_to S W s pushed ++ said_by c.talk.held e
-    now = said-of S W s (pushed ++ piece) es (ap (λ (f : Fed F). f.events) on)
-        ∙ laws.go_on.says_next s g.events c.talk.held.end c.talk.held.taken e live g.heard
-        ∙ ap (λ (l : List (Message F)). l ++ said_by c.talk.held e) (sym before)
+        now : said_to S W s (pushed ++ piece) ≡ said_to S W s pushed ++ said_by c.talk.held e
+        now = said-of S W s (pushed ++ piece) es (ap (λ (f : Fed F). f.events) on)
+            ∙ laws.go_on.says_next s g.events c.talk.held.end c.talk.held.taken e live g.heard
+            ∙ ap (λ (l : List (Message F)). l ++ said_by c.talk.held e) (sym before)
 
-    hears-all : hears S s es ≡ hearing_at d.talk.state d.talk.held
-    hears-all =
-        laws.go_on.hears_next s g.events c.talk.held.end c.talk.held.taken e g.heard ∙ sym heard.heard
+        hears-all : hears S s es ≡ hearing_at d.talk.state d.talk.held
+        hears-all =
+            laws.go_on.hears_next s g.events c.talk.held.end c.talk.held.taken e g.heard ∙ sym heard.heard
 
-    text : Text s d (pushed ++ piece) taken
-    text =
-        let f = message_text W in
-        let said = said_to S W s pushed in
-        let new = said_by c.talk.held e in
-        ap (λ (l : List ℕ). taken ++ l) heard.due_then
-        ∙ sym (append_assoc taken (due W c.talk) (flat_map f new ++ frame_of d.talk.state))
-        ∙ ap (λ (l : List ℕ). l ++ (flat_map f new ++ frame_of d.talk.state)) (text-of s c pushed taken goes k)
-        ∙ regroup W.hello (flat_map f said) (flat_map f new) (frame_of d.talk.state)
-        ∙ ap (λ (l : List ℕ). (W.hello ++ l) ++ frame_of d.talk.state) (sym (flat_map-append f said new))
-        ∙ ap (λ (l : List (Message F)). session_text W l ++ frame_of d.talk.state) (sym now)
+        text : Text s d (pushed ++ piece) taken
+        text =
+            let f = message_text W in
+            let said = said_to S W s pushed in
+            let new = said_by c.talk.held e in
+            ap (λ (l : List ℕ). taken ++ l) heard.due_then
+            ∙ sym (append_assoc taken (due W c.talk) (flat_map f new ++ frame_of d.talk.state))
+            ∙ ap (λ (l : List ℕ). l ++ (flat_map f new ++ frame_of d.talk.state)) (text-of s c pushed taken goes k)
+            ∙ regroup W.hello (flat_map f said) (flat_map f new) (frame_of d.talk.state)
+            ∙ ap (λ (l : List ℕ). (W.hello ++ l) ++ frame_of d.talk.state) (sym (flat_map-append f said new))
+            ∙ ap (λ (l : List (Message F)). session_text W l ++ frame_of d.talk.state) (sym now)
 
-    lasts : is_open d.talk.state ≡ false → Lasts S W s d.talk (pushed ++ piece)
-    lasts closed later end bytes =
-        let rest = (feed W d.feed.standing (d.feed.kept ++ later)).events in
-        let all : events_in S W ((pushed ++ piece) ++ later) ≡ es ++ rest =
-        ap (λ (f : Fed F). f.events) (laws.join Before_hello (pushed ++ piece) later fits bytes
-        ∙ ap (λ (a : Fed F). joined a (feed W a.to (a.kept ++ later))) on) in
-        let stop = closed-stops d.talk.state d.talk.held closed in (
-          laws.go_on.hears_no_more W s end ((pushed ++ piece) ++ later) es rest all
-              (ap has_stopped hears-all ∙ stop) ∙ hears-all,
-          said-of S W s ((pushed ++ piece) ++ later) (es ++ rest) all
-              ∙ laws.go_on.says_no_more s es rest live (ap has_stopped hears-all ∙ stop)
-              ∙ sym (said-of S W s (pushed ++ piece) es (ap (λ (f : Fed F). f.events) on)),
-        )
+        lasts : is_open d.talk.state ≡ false → Lasts S W s d.talk (pushed ++ piece)
+        lasts closed later end bytes =
+            let rest = (feed W d.feed.standing (d.feed.kept ++ later)).events in
+            let all : events_in S W ((pushed ++ piece) ++ later) ≡ es ++ rest =
+            ap (λ (f : Fed F). f.events) (laws.join Before_hello (pushed ++ piece) later fits bytes
+            ∙ ap (λ (a : Fed F). joined a (feed W a.to (a.kept ++ later))) on) in
+            let stop = closed-stops d.talk.state d.talk.held closed in (
+              laws.go_on.hears_no_more W s end ((pushed ++ piece) ++ later) es rest all
+                  (ap has_stopped hears-all ∙ stop) ∙ hears-all,
+              said-of S W s ((pushed ++ piece) ++ later) (es ++ rest) all
+                  ∙ laws.go_on.says_no_more s es rest live (ap has_stopped hears-all ∙ stop)
+                  ∙ sym (said-of S W s (pushed ++ piece) es (ap (λ (f : Fed F). f.events) on)),
+            )
 
-    by : (b : Bool) → is_open d.talk.state ≡ b → Knows S W s d (pushed ++ piece) taken
-    by true still = knows-open laws s d (pushed ++ piece) taken live fits still
-        (record {
-          events = es;
-          holds = on;
-          heard = hears-all ∙ open-hears d.talk.state d.talk.held still;
-          fine = fine;
-          listens = over ∙ g.listens;
-        })
-        text
-    by false closed = knows-closed laws s d (pushed ++ piece) taken live fits closed (lasts closed) text
+        by : (b : Bool) → is_open d.talk.state ≡ b → Knows S W s d (pushed ++ piece) taken
+        by true still = knows-open laws s d (pushed ++ piece) taken live fits still
+            (record {
+              events = es;
+              holds = on;
+              heard = hears-all ∙ open-hears d.talk.state d.talk.held still;
+              fine = fine;
+              listens = over ∙ g.listens;
+              parts = heard.counted
+                  ∙ ap (λ (b : Bool). parts_after b c.talk.parts e) still
+                  ∙ ap (λ (n : ℕ). parts_after true n e) g.parts
+                  ∙ sym (fold-append (parts_after true) 0 g.events (e ∷ []));
+              begun = subst (λ (n : ℕ). IsBegun W n (pushed ++ piece) es) (sym begun)
+                  (begun-whole d.feed (pushed ++ piece) es on none);
+            })
+            text
+        by false closed = knows-closed laws s d (pushed ++ piece) taken live fits closed (lasts closed) text
+            (ended-none c.talk d.talk e heard)
 
   -- ---- a fault of the stream
 
@@ -309,7 +416,8 @@ module _ {F : Type 0} (S : Summary F) (W : Profile F) where
       Knows S W s c pushed taken → Knows S W s d (pushed ++ piece) taken
   faulty laws s c d code piece pushed taken live goes more talk over step fault k =
       knows-closed laws s d (pushed ++ piece) taken live fits (ap (λ (t : TalkState F). is_open t.state) talk) lasts
-      (refused-text s c d code pushed (pushed ++ piece) taken goes talk same k) where
+      (refused-text s c d code pushed (pushed ++ piece) taken goes talk same k)
+      (λ over. let wrong = sym (ap (λ (t : TalkState F). t.state) talk) ∙ over in absurd cc) where
         g : Goes S W s c pushed
         g = goes-of s c pushed taken goes k
 
@@ -362,6 +470,7 @@ module _ {F : Type 0} (S : Summary F) (W : Profile F) where
             ))
             (k.tells.text
             ∙ ap (λ (l : List (Message F)). session_text W l ++ frame_of c.talk.state) (sym (lasts more false bytes).1))
+            k.ended
 
   -- ---- the end of the bytes
 
@@ -393,6 +502,7 @@ module _ {F : Type 0} (S : Summary F) (W : Profile F) where
           };
           goes_on = subst (λ (b : Bool). GoesOn S W b s d pushed)
               (sym (ap (λ (t : TalkState F). is_open t.state) talk)) (inl refl);
+          ended = λ over. let wrong = sym (ap (λ (t : TalkState F). t.state) talk) ∙ over in absurd cc;
         }
     by false closed =
         let talk = kept closed in
@@ -408,6 +518,7 @@ module _ {F : Type 0} (S : Summary F) (W : Profile F) where
                 ∙ ap (λ (x : State). session_text W (said_to S W s pushed) ++ frame_of x) (sym state);
           };
           goes_on = subst (λ (b : Bool). GoesOn S W b s d pushed) (sym (ap is_open state ∙ closed)) (inl refl);
+          ended = λ over. ap (λ (t : TalkState F). t.parts) talk ∙ k.ended (sym state ∙ over);
         } where
           still : Stays S W s c pushed → hearing_to S W s true pushed ≡ hearing_at c.talk.state c.talk.held
           still (inl over) = ap (λ (b : Bool). hearing_to S W s b pushed) (sym over) ∙ k.tells.heard
@@ -422,11 +533,19 @@ module _ {F : Type 0} (S : Summary F) (W : Profile F) where
     are_bytes = k.are_bytes;
     tells = record { heard = k.tells.heard; end = k.tells.end; text = same ∙ k.tells.text };
     goes_on = by (is_open c.talk.state) k.goes_on;
+    ended = k.ended;
   } where
     by : (b : Bool) → GoesOn S W b s c pushed →
         GoesOn S W b s (with_talk c (with_outbox c.talk o told)) pushed
-    by true g =
-        record { events = g.events; holds = g.holds; heard = g.heard; fine = g.fine; listens = g.listens }
+    by true g = record {
+      events = g.events;
+      holds = g.holds;
+      heard = g.heard;
+      fine = g.fine;
+      listens = g.listens;
+      parts = g.parts;
+      begun = g.begun;
+    }
     by false (inl over) = inl over
     by false (inr lasts) = inr lasts
 
@@ -478,21 +597,22 @@ module _ {F : Type 0} (S : Summary F) (W : Profile F) where
   -- the feed took the piece, and its event, if there is one, was heard
   pub piece-heard : Laws → (s : Speaker F) (c d : SessionState F) (event : Option (declared.Event F))
       (piece pushed taken : List ℕ) → is_live s.start.stage ≡ true → is_open c.talk.state ≡ true → IsBytes piece →
-      HearsIf S W c.talk event d.talk → d.over ≡ c.over → IsFed W c.feed piece event d.feed →
+      HearsIf S W c.talk event d.talk → d.over ≡ c.over → d.begun ≡ begun_after event c.begun (length piece) →
+      IsFed W c.feed piece event d.feed →
       Knows S W s c pushed taken → Knows S W s d (pushed ++ piece) taken
-  piece-heard laws s c d None piece pushed taken live goes bytes heard over (step, fine) k =
-      quiet laws s c d piece pushed taken live goes bytes heard over step fine k
-  piece-heard laws s c d (Some e) piece pushed taken live goes bytes heard over (step, fine) k =
-      one-event laws s c d (event_value e) piece pushed taken live goes bytes heard over step fine k
+  piece-heard laws s c d None piece pushed taken live goes bytes heard over begun (step, fine, none) k =
+      quiet laws s c d piece pushed taken live goes bytes heard over begun step fine k
+  piece-heard laws s c d (Some e) piece pushed taken live goes bytes heard over begun (step, fine, none) k =
+      one-event laws s c d (event_value e) piece pushed taken live goes bytes heard over begun step fine none k
 
-  -- it was kept, if it completes no event
-  pub piece-kept : Laws → (c d : SessionState F) (piece : List ℕ) (result : Result Bool AllocError) →
+  -- it was kept, since it completes no event
+  pub piece-kept : Laws → (c d : SessionState F) (piece : List ℕ) →
       is_open c.talk.state ≡ true → IsBytes piece → d.talk ≡ c.talk → d.over ≡ c.over →
-      IfOk result (λ kept. kept ≡ true → IsFed W c.feed piece None d.feed) →
-      IfOk result (λ kept. kept ≡ true → Pushes S W c piece d)
-  piece-kept laws c d piece (Ok kept) goes bytes talk over step = λ is s pushed taken live k.
-      quiet laws s c d piece pushed taken live goes bytes talk over (step is).0 (step is).1 k
-  piece-kept laws c d piece (Err e) goes bytes talk over step = tt
+      d.begun ≡ plus c.begun (length piece) →
+      feed W c.feed.standing (c.feed.kept ++ piece) ≡ fed_into [] d.feed → fault_at d.feed.standing ≡ None →
+      Pushes S W c piece d
+  piece-kept laws c d piece goes bytes talk over begun step fine = λ s pushed taken live k.
+      quiet laws s c d piece pushed taken live goes bytes talk over begun step fine k
 
   -- ---- one call after another
 

@@ -15,5 +15,7 @@ pub use Rattle.ends_core.specs.Turns
 pub use Rattle.ends_core.specs.Roles
 pub use Rattle.ends_core.specs.Sides
 pub use Rattle.laws.specs.Hearing as HearingLaws
+pub mod Sizes
 pub mod Outboxes
 pub mod Sessions
+pub mod Kept

@@ -38,7 +38,7 @@ RefusedEnd h g (faults.Placing f) = IfSome (refusal_of (faults.Placing f)) (λ a
 RefusedEnd h g faults.TooManyParts = IfSome (refusal_of faults.TooManyParts) (λ a. a ≡ ended h.taken)
 RefusedEnd h g faults.Spent = IfSome (refusal_of faults.Spent) (λ a. a ≡ ended h.taken)
 
-abbrev pub Answered : {F : Type 0} → EndState F → EndState F → OutboxState F → OutboxState F → Result (Unit {0}) EndFault →
+abbrev pub Answered : {F X : Type 0} → EndState F → EndState F → OutboxState F → OutboxState F → Result X EndFault →
     Type 0
 Answered h g o p (Ok x) = Took h g o p
 Answered h g o p (Err f) = RefusedEnd h g f × (p ≡ o)

@@ -4,6 +4,7 @@
 --     hearing_at state h                 how the session stands, as a stream is heard
 --     beginning, opened, noted, refused_by, with_outbox, finished     what single calls make of it
 --     feed_of W f piece, IsFed           what a feed makes of a piece, and the event that it completes, if any
+--     IsBegun W n pushed events          n bytes came after the last whole frame
 --     Hears S P t e u, HearsIf           what one event makes of it
 --     Tells S P s c pushed taken         the end, the refusal and the text are those of the definitions
 --     Goes, Stays                        it goes on; or what comes later counts no more
@@ -13,7 +14,7 @@
 --     Takes S P c bytes d                whatever was taken before, these bytes were taken behind it
 --     speaker_of S side P                the side of a role
 use Rattle.std.specs.Prelude.{◌≡◌, ℕ, ◌⊎◌, Bool, true, false, List, [], ◌∷◌, ◌++◌, flat_map, Option, Some, None}
-use Rattle.std.specs.Prelude.{IsTrue, if◌then◌else◌, ⊤}
+use Rattle.std.specs.Prelude.{IsTrue, if◌then◌else◌, ⊤, ◌-◌, ◌^◌, min, length}
 use Rattle.definitions.specs.Fingerprints.{Summary}
 use Rattle.definitions.specs.Items.{IsBytes}
 use Rattle.definitions.specs.Messages.{Message}
@@ -34,6 +35,7 @@ use Rattle.wire_core.specs.declared.event.Event as declared
 use Rattle.ends_core.specs.EndStates.{EndState}
 use Rattle.ends_core.specs.Sides.{said_to, session_at}
 use Rattle.session_core.specs.Outboxes.{OutboxState}
+use Rattle.session_core.specs.Sizes.{plus, parts_after, parts_of}
 use Rattle.session_core.specs.declared.state.State.{State}
 use Rattle.session_core.specs.declared.state.State.TheVariants as states
 
@@ -44,12 +46,16 @@ pub record TalkState (F : Type 0) : Type 0 where
   pub state : State
   -- the text of its refusal is made
   pub told : Bool
+  -- what is counted for the parts of the peer's message that has not ended
+  pub parts : ℕ
 
 pub record SessionState (F : Type 0) : Type 0 where
   pub talk : TalkState F
   pub feed : StreamState
   -- the peer's bytes have ended
   pub over : Bool
+  -- how many bytes came after the last whole frame
+  pub begun : ℕ
 
 abbrev pub is_open : State → Bool
 is_open states.Open = true
@@ -75,13 +81,14 @@ due W t = t.outbox.ready ++ (flat_map (message_text W) t.outbox.later ++ frame_d
 -- ---- what single calls make of it
 
 abbrev pub beginning : {F : Type 0} → EndState F → OutboxState F → TalkState F
-beginning h o = record { held = h; outbox = o; state = states.Open; told = false }
+beginning h o = record { held = h; outbox = o; state = states.Open; told = false; parts = 0 }
 
 abbrev pub opened : {F : Type 0} → EndState F → OutboxState F → SessionState F
 opened h o = record {
   talk = beginning h o;
   feed = record { standing = Before_hello; kept = [] };
   over = false;
+  begun = 0;
 }
 
 abbrev pub noted : {F : Type 0} → TalkState F → TalkState F
@@ -122,15 +129,36 @@ events_of (Some e) = event_value e ∷ []
 abbrev pub feed_of : {F : Type 0} → Profile F → StreamState → List ℕ → Fed F
 feed_of W f piece = feed W f.standing (f.kept ++ piece)
 
+-- nothing is kept after an event
+abbrev pub IsWhole : {F : Type 0} → Option (declared.Event F) → StreamState → Type 0
+IsWhole None g = ⊤
+IsWhole (Some e) g = g.kept ≡ []
+
 -- the feed took the piece, which completed this event or none
 abbrev pub IsFed : {F : Type 0} → Profile F → StreamState → List ℕ → Option (declared.Event F) → StreamState → Type 0
-IsFed W f piece event g = (feed_of W f piece ≡ fed_into (events_of event) g) × (fault_at g.standing ≡ None)
+IsFed W f piece event g =
+    (feed_of W f piece ≡ fed_into (events_of event) g) × (fault_at g.standing ≡ None) × IsWhole event g
+
+-- how many bytes came after the last whole frame, where so many did before a piece of this length
+abbrev pub begun_after : {F : Type 0} → Option (declared.Event F) → ℕ → ℕ → ℕ
+begun_after None n count = plus n count
+begun_after (Some e) n count = 0
+
+-- the bytes pushed are whole frames, with these events, and then so many bytes
+pub record IsBegun {F : Type 0} (W : Profile F) (n : ℕ) (pushed : List ℕ) (events : List (Event F)) : Type 0 where
+  pub front : List ℕ
+  pub back : List ℕ
+  pub split : pushed ≡ front ++ back
+  pub behind : StreamState
+  pub whole : Holds W behind front events × (behind.kept ≡ [])
+  pub counted : n ≡ min (length back) (2 ^ 64 - 1)
 
 module _ {F : Type 0} (S : Summary F) (W : Profile F) where
   -- it is heard, and what it calls for is due
   pub record Hears (t : TalkState F) (e : Event F) (u : TalkState F) : Type 0 where
     pub heard : hearing_at u.state u.held ≡ hear_now S t.held.end t.held.taken e
     pub due_then : due W u ≡ due W t ++ (flat_map (message_text W) (said_by t.held e) ++ frame_of u.state)
+    pub counted : u.parts ≡ parts_after (is_open u.state) t.parts e
 
   -- an event, if there is one
   abbrev pub HearsIf : TalkState F → Option (declared.Event F) → TalkState F → Type 0
@@ -161,6 +189,9 @@ module _ {F : Type 0} (S : Summary F) (W : Profile F) where
     pub heard : hears S s events ≡ Goes_on c.talk.held.end c.talk.held.taken
     pub fine : fault_at c.feed.standing ≡ None
     pub listens : c.over ≡ false
+    -- what is counted of the peer's message that has not ended
+    pub parts : c.talk.parts ≡ parts_of events
+    pub begun : IsBegun W c.begun pushed events
 
   -- whatever comes later, the same was heard and said
   abbrev pub Lasts : Speaker F → TalkState F → List ℕ → Type 0
@@ -179,6 +210,8 @@ module _ {F : Type 0} (S : Summary F) (W : Profile F) where
     pub are_bytes : IsBytes pushed
     pub tells : Tells s c pushed taken
     pub goes_on : GoesOn (is_open c.talk.state) s c pushed
+    -- of a session that has ended no part counts
+    pub ended : c.talk.state ≡ states.Ended → c.talk.parts ≡ 0
 
   -- nothing was pushed, and it listens
   pub record Begins (a : Checked) (s : Speaker F) (c : SessionState F) : Type 0 where

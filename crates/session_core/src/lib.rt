@@ -3,6 +3,7 @@
 
 mod outbox;
 mod session;
+mod size;
 mod state;
 mod talk;
 

@@ -1,9 +1,14 @@
 //! What a side has to say: texts that are made, and messages whose text is not made yet.
 
-ghost use Rattle.std.specs.Prelude.{◌≡◌, ◌++◌, [], length, drop, min, flat_map, IfOk, OnOk, OnErr};
+ghost use Rattle.std.specs.Prelude.{◌≡◌, ◌≢◌, ◌++◌, [], length, drop, min, flat_map, IfOk, IfErr, OnOk, OnErr};
+ghost use Rattle.ends_core.specs.declared.turn.EndFault.TheVariants as faults;
 ghost use Rattle.definitions.specs.Wire.{message_text};
+ghost use Rattle.definitions.specs.Ends.{own_of};
+ghost use Rattle.session_core.specs.Kept.{kept_to_say};
 ghost use Rattle.session_core.specs.Outboxes.{outbox_state, Answered};
+ghost use Rattle.session_core.specs.Sizes as sizes;
 
+use crate::size::{messages_size, open_size};
 use digest_core::Summary;
 use ends_core::{EndFault, Role, SessionEnd, Turn};
 use std::alloc::{AllocError, Global};
@@ -64,20 +69,26 @@ impl<F: Summary> Outbox<F> {
         }
     }
 
-    /// Ends a message that an end has taken, and says the reply, if it wants one.
+    /// Ends a message that an end has taken, and says the reply, if it wants one. Returns what is counted for our
+    /// message that waits then.
     pub(crate) fn answer<R: Role, S: RangeStore>(
         &mut self,
         alloc: Global,
         end: &mut SessionEnd<R, S, F>,
-    ) -> Result<(), EndFault>
-        ensures { Answered end.old end.new self.old self.new result }
+    ) -> Result<u64, EndFault>
+        ensures answered { Answered end.old end.new self.old self.new result }
+        ensures waits { IfOk result (λ n. n ≡ sizes.message_size (own_of end.new.end.stage)) }
+        ensures refused { IfErr result (λ f. f ≢ faults.Memory → own_of end.new.end.stage ≡ []) }
     {
         self.unsaid.reserve(1)?;
         match end.end(alloc)? {
-            Turn::Reply(reply) => self.unsaid.push_reserved(reply),
-            Turn::Over => {}
+            Turn::Reply(reply) => {
+                let waits = open_size(reply.parts());
+                self.unsaid.push_reserved(reply);
+                Ok(waits)
+            }
+            Turn::Over => Ok(0),
         }
-        Ok(())
     }
 
     /// Makes all texts, and these bytes behind them. Where memory runs out nothing has changed.
@@ -100,6 +111,13 @@ impl<F: Summary> Outbox<F> {
         &self.made[self.from..]
     }
 
+    /// What is counted for it.
+    pub(crate) fn kept(&self) -> u64
+        ensures { result ≡ kept_to_say self.now }
+    {
+        (self.ready().len() as u64).saturating_add(messages_size(&self.unsaid))
+    }
+
     /// Takes this many of these bytes off the front, or all where there are fewer, and returns how many it took.
     pub(crate) fn take(&mut self, count: usize) -> usize
         ensures count { result ≡ min count (length self.old.ready) }
@@ -111,13 +129,14 @@ impl<F: Summary> Outbox<F> {
         taken
     }
 
-    /// Forgets the bytes that were taken, once all are.
+    /// Gives back the memory of the bytes that were taken, once they are half of all.
     fn forget(&mut self)
         ensures { self.new ≡ self.old }
     {
-        if self.from == self.made.len() {
-            self.made.clear();
+        if self.from >= self.made.len() - self.from {
+            self.made.drain(..self.from);
             self.from = 0;
+            self.made.shrink_to_fit();
         }
     }
 }

@@ -8,17 +8,20 @@ ghost use Rattle.definitions.specs.Items.{same_item, IsBytes};
 ghost use Rattle.definitions.specs.Ranks.{rank_by};
 ghost use Rattle.definitions.specs.Replies.{Peer};
 ghost use Rattle.definitions.specs.Engines.{Speaker, initiating, responding};
-ghost use Rattle.definitions.specs.Ends.{is_live};
+ghost use Rattle.definitions.specs.Ends.{is_live, own_of};
 ghost use Rattle.wire_core.specs.Refused.{fault_number};
 ghost use Rattle.wire_core.specs.Feeds.{fed_into, fault_at};
 ghost use Rattle.ends_core.specs.Roles.{most_of};
+ghost use Rattle.session_core.specs.Kept.{kept_by};
 ghost use Rattle.session_core.specs.Outboxes.{outbox_state};
-ghost use Rattle.session_core.specs.Sessions.{due, opened, with_talk, finished, with_outbox};
+ghost use Rattle.session_core.specs.Sizes.{message_size};
+ghost use Rattle.session_core.specs.Sessions.{begun_after, due, opened, with_talk, finished, with_outbox};
 ghost use Rattle.session_core.specs.Sessions.{feed_of, IsFed, is_open, Knows, Begins, Pushes, Takes, speaker_of};
 ghost use Rattle.ends_core.specs.Sides.{known_at, peer_of};
 ghost use Rattle.session_core.specs.declared.state.State.TheVariants as states;
 
 use crate::outbox::{Outbox, hello_text};
+use crate::size::open_size;
 use crate::state::State;
 use crate::talk::Talk;
 use digest_core::{Fingerprint, Summary};
@@ -37,6 +40,8 @@ pub struct Session<R: Role, S: RangeStore, F: Summary = Fingerprint> {
     feed: Feed<F>,
     // The peer's bytes have ended.
     over: bool,
+    // How many bytes came after the last whole frame.
+    begun: u64,
 }
 
 impl<R: Role, S: RangeStore, F: Summary> Model for Session<R, S, F> {
@@ -44,7 +49,7 @@ impl<R: Role, S: RangeStore, F: Summary> Model for Session<R, S, F> {
 
     ghost Value = { SessionState F };
 
-    ghost view = { λ c. record { talk = c.talk; feed = c.feed; over = c.over } };
+    ghost view = { λ c. record { talk = c.talk; feed = c.feed; over = c.over; begun = c.begun } };
 }
 
 /// Tells that each number of the bytes is below 256; nothing is done.
@@ -53,6 +58,16 @@ fn are_bytes(bytes: &[u8])
 {
     codec_laws::reads_are_bytes();
     let _ = bytes;
+}
+
+/// How many bytes came after the last whole frame, where so many did before a piece of this length.
+fn begun_behind<F: Summary>(begun: u64, count: usize, event: &Option<Event<F>>) -> u64
+    ensures { result ≡ begun_after event.now begun count }
+{
+    match event {
+        Some(_) => 0,
+        None => begun.saturating_add(count as u64),
+    }
 }
 
 /// What is taken where memory ran out: what was taken before, unless that is nothing.
@@ -86,8 +101,9 @@ impl<S: RangeStore, F: Summary> Session<Initiating, S, F> {
             return Err(store);
         };
         let (end, first) = Initiator::start(alloc, accepted, store)?;
+        let waits = open_size(first.parts());
         unsaid.push_reserved(first);
-        Ok(Session::of(alloc, end, Outbox::of(made, unsaid)))
+        Ok(Session::of(alloc, end, Outbox::of(made, unsaid), waits))
     }
 }
 
@@ -107,19 +123,26 @@ impl<S: RangeStore, F: Summary> Session<Responding, S, F> {
             return Err(store);
         };
         let end = Responder::new(alloc, accepted, store);
-        Ok(Session::of(alloc, end, Outbox::of(made, Vec::new(alloc))))
+        Ok(Session::of(alloc, end, Outbox::of(made, Vec::new(alloc)), 0))
     }
 }
 
 impl<R: Role, S: RangeStore, F: Summary> Session<R, S, F> {
-    /// Nothing was pushed.
-    fn of(alloc: Global, end: SessionEnd<R, S, F>, outbox: Outbox<F>) -> Session<R, S, F>
+    /// Nothing was pushed, and so much is counted for our message that waits.
+    fn of(
+        alloc: Global,
+        end: SessionEnd<R, S, F>,
+        outbox: Outbox<F>,
+        waits: u64,
+    ) -> Session<R, S, F>
+        requires { waits ≡ message_size (own_of end.end.stage) }
         ensures { result ≡ opened end outbox }
     {
         Session {
-            talk: Talk::new(end, outbox),
+            talk: Talk::new(end, outbox, waits),
             feed: Feed::new(alloc),
             over: false,
+            begun: 0,
         }
     }
 
@@ -191,6 +214,8 @@ impl<R: Role, S: RangeStore, F: Summary> Session<R, S, F> {
         let mut feed = self.feed.copy(alloc)?;
         match feed.next(alloc, piece) {
             Ok((taken, event)) => {
+                // the copy has no room left over from the frame
+                let feed = feed.copy(alloc)?;
                 self.go_on(alloc, feed, &piece[..taken], event)?;
                 Ok(taken)
             }
@@ -215,7 +240,11 @@ impl<R: Role, S: RangeStore, F: Summary> Session<R, S, F> {
         codec_laws::feeds_join::<F>();
         laws::hearings_go_on::<F>();
         laws::bytes_agree::<F>();
-        self.feed.keep(piece)
+        if !self.feed.keep(piece)? {
+            return Ok(false);
+        }
+        self.begun = self.begun.saturating_add(piece.len() as u64);
+        Ok(true)
     }
 
     /// Goes on with the feed that took the piece, and hears the event that it completed, if there is one.
@@ -236,9 +265,10 @@ impl<R: Role, S: RangeStore, F: Summary> Session<R, S, F> {
         codec_laws::feeds_join::<F>();
         laws::hearings_go_on::<F>();
         laws::bytes_agree::<F>();
-        let _ = piece; // proof only
+        let begun = begun_behind(self.begun, piece.len(), &event);
         self.talk.hear_if(alloc, event)?;
         self.feed = feed;
+        self.begun = begun;
         Ok(())
     }
 
@@ -257,6 +287,7 @@ impl<R: Role, S: RangeStore, F: Summary> Session<R, S, F> {
         let _ = piece; // proof only
         self.talk.refuse(fault.number());
         self.feed = feed;
+        self.begun = 0;
     }
 
     /// The peer's bytes end here: where the session has not ended, it is refused 3.
@@ -310,6 +341,14 @@ impl<R: Role, S: RangeStore, F: Summary> Session<R, S, F> {
         self.talk.take(count)
     }
 
+    /// How many bytes of memory are counted for it: what came and is not answered, what is said and not taken, what
+    /// waits for the peer's answer, and what was learned. It reads no message but those whose text is not made.
+    pub fn kept(&self) -> u64
+        ensures { result ≡ kept_by self.now }
+    {
+        self.begun.saturating_add(self.talk.kept())
+    }
+
     /// How the session stands.
     pub fn state(&self) -> State
         ensures { result ≡ self.now.talk.state }
@@ -350,6 +389,18 @@ impl<R: Role, S: RangeStore, F: Summary> Session<R, S, F> {
         let learned = self.talk.end().learned();
         match self.talk.state() {
             State::Ended => Some(learned),
+            _ => None,
+        }
+    }
+
+    /// What was learned, each item once, where the session has ended: the same as `learned`, for good.
+    pub fn into_learned(self) -> Option<Learned>
+        ensures ended { IfSome result (λ _. self.talk.state ≡ states.Ended) }
+        ensures none { IfNone result (self.talk.state ≢ states.Ended) }
+        ensures learned { IfSome result (λ l. l ≡ self.talk.held.end.learned) }
+    {
+        match self.talk.state() {
+            State::Ended => Some(self.talk.into_learned()),
             _ => None,
         }
     }

@@ -1,18 +1,22 @@
 //! What a session says and hears, event by event.
 
 ghost use Rattle.std.specs.Prelude.{◌≡◌, ◌≢◌, [], true, length, drop, min, OnOk, OnErr};
+ghost use Rattle.definitions.specs.Ends.{own_of};
 ghost use Rattle.definitions.specs.Wire as wire;
 ghost use Rattle.wire_core.specs.Events.{event_value};
 ghost use Rattle.ends_core.specs.Turns.{end_fault_number};
+ghost use Rattle.session_core.specs.Kept.{kept_of};
 ghost use Rattle.session_core.specs.Outboxes.{outbox_state};
+ghost use Rattle.session_core.specs.Sizes as sizes;
 ghost use Rattle.session_core.specs.Sessions.{Hears, HearsIf, due, is_open, beginning, noted, refused_by, with_outbox};
 ghost use Rattle.ends_core.specs.declared.turn.EndFault.TheVariants as faults;
 ghost use Rattle.session_core.specs.declared.state.State.TheVariants as states;
 
 use crate::outbox::Outbox;
+use crate::size::{known_size, part_size};
 use crate::state::State;
 use digest_core::Summary;
-use ends_core::{EndFault, Role, SessionEnd};
+use ends_core::{EndFault, Learned, Role, SessionEnd};
 use std::alloc::{AllocError, Global};
 use std::marker::Model;
 use store_core::RangeStore;
@@ -26,19 +30,46 @@ pub(crate) struct Talk<R: Role, S: RangeStore, F: Summary> {
     state: State,
     // The text of its refusal is made.
     told: bool,
+    // What is counted for the parts of the peer's message that has not ended.
+    parts: u64,
+    // What is counted for the open parts of our message that waits for the peer's.
+    waits: u64,
 }
 
 impl<R: Role, S: RangeStore, F: Summary> Model for Talk<R, S, F> {
+    ghost use Rattle.std.specs.Prelude.{◌≡◌};
+    ghost use Rattle.definitions.specs.Ends.{own_of};
     ghost use Rattle.session_core.specs.Sessions.{TalkState};
+    ghost use Rattle.session_core.specs.Sizes.{message_size};
 
     ghost Value = { TalkState F };
 
-    ghost view = { λ t. record { held = t.end; outbox = t.outbox; state = t.state; told = t.told } };
+    ghost view = { λ t. record {
+      held = t.end;
+      outbox = t.outbox;
+      state = t.state;
+      told = t.told;
+      parts = t.parts;
+    } };
+
+    ghost invariant = { λ t. t.waits ≡ message_size (own_of t.end.end.stage) };
+}
+
+/// What is counted where an end refuses: as before where memory ran out, and else nothing.
+fn unless_refused(size: u64, fault: EndFault) -> u64
+    ensures memory { fault ≡ faults.Memory → result ≡ size }
+    ensures refused { fault ≢ faults.Memory → result ≡ 0 }
+{
+    if fault == EndFault::Memory {
+        return size;
+    }
+    0
 }
 
 impl<R: Role, S: RangeStore, F: Summary> Talk<R, S, F> {
-    /// Nothing has been heard.
-    pub(crate) fn new(end: SessionEnd<R, S, F>, outbox: Outbox<F>) -> Talk<R, S, F>
+    /// Nothing has been heard, and so much is counted for our message that waits.
+    pub(crate) fn new(end: SessionEnd<R, S, F>, outbox: Outbox<F>, waits: u64) -> Talk<R, S, F>
+        requires { waits ≡ sizes.message_size (own_of end.end.stage) }
         ensures { result ≡ beginning end outbox }
     {
         Talk {
@@ -46,6 +77,8 @@ impl<R: Role, S: RangeStore, F: Summary> Talk<R, S, F> {
             outbox,
             state: State::Open,
             told: false,
+            parts: 0,
+            waits,
         }
     }
 
@@ -117,8 +150,15 @@ impl<R: Role, S: RangeStore, F: Summary> Talk<R, S, F> {
         ensures memory { OnErr result (self.new ≡ self.old) }
     {
         match self.end.take(alloc, part) {
-            Ok(()) => Ok(()),
-            Err(fault) => self.stop(fault),
+            Ok(()) => {
+                self.parts = self.parts.saturating_add(part_size(part));
+                Ok(())
+            }
+            Err(fault) => {
+                self.waits = unless_refused(self.waits, fault);
+                self.parts = unless_refused(self.parts, fault);
+                self.stop(fault)
+            }
         }
     }
 
@@ -129,11 +169,17 @@ impl<R: Role, S: RangeStore, F: Summary> Talk<R, S, F> {
         ensures memory { OnErr result (self.new ≡ self.old) }
     {
         match self.outbox.answer(alloc, &mut self.end) {
-            Ok(()) => {
+            Ok(waits) => {
+                self.waits = waits;
+                self.parts = 0;
                 self.note_end();
                 Ok(())
             }
-            Err(fault) => self.stop(fault),
+            Err(fault) => {
+                self.waits = unless_refused(self.waits, fault);
+                self.parts = unless_refused(self.parts, fault);
+                self.stop(fault)
+            }
         }
     }
 
@@ -170,6 +216,23 @@ impl<R: Role, S: RangeStore, F: Summary> Talk<R, S, F> {
         }
         self.told = true;
         Ok(())
+    }
+
+    /// What is counted for it.
+    pub(crate) fn kept(&self) -> u64
+        ensures { result ≡ kept_of self.now }
+    {
+        self.parts
+            .saturating_add(self.waits)
+            .saturating_add(self.outbox.kept())
+            .saturating_add(known_size(self.end.learned()))
+    }
+
+    /// What was learned, for good.
+    pub(crate) fn into_learned(self) -> Learned
+        ensures { result ≡ self.held.end.learned }
+    {
+        self.end.into_learned()
     }
 
     /// The bytes that are due and whose text is made.

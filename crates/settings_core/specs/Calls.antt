@@ -64,9 +64,10 @@ HasValues rows (Answer hexed form items) = IsFlag (codes "hex") rows hexed
 HasValues rows (Check cost items item_length file) = IsFlag (codes "cost") rows cost
     × IsNumber (codes "items") rows items × IsNumber (codes "length") rows item_length
     × IsText (codes "FILE") rows file.now
-HasValues rows (Plan items differences item_length round_trip rate) = IsNumber (codes "items") rows items
+HasValues rows (Plan items differences item_length round_trip rate search) = IsNumber (codes "items") rows items
     × IsNumber (codes "differences") rows differences × IsNumber (codes "length") rows item_length
     × IsNumber (codes "round-trip") rows round_trip × IsNumber (codes "rate") rows rate
+    × IsNumber (codes "search") rows search
 HasValues rows Sim = ⊤
 HasValues rows (Serve table address workers sessions patience most_bytes report learned keep durable most_learned
     read_only report_items form items) =
@@ -90,7 +91,7 @@ HasValues rows (Sync table address profile patience most_bytes stats form items)
 abbrev pub name_of : Command → Text
 name_of (Answer hexed form items) = codes "answer"
 name_of (Check cost items item_length file) = codes "check"
-name_of (Plan items differences item_length round_trip rate) = codes "plan"
+name_of (Plan items differences item_length round_trip rate search) = codes "plan"
 name_of Sim = codes "sim"
 name_of (Serve table address workers sessions patience most_bytes report learned keep durable most_learned read_only
     report_items form items) = codes "serve"

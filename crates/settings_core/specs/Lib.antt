@@ -1,3 +1,4 @@
 pub mod Calls
 pub mod Program
+pub mod Rules
 pub mod Spans

@@ -1,9 +1,10 @@
 -- The words that the program knows, as `clap` sees them.
---     program must     its commands: answer, check, plan, sim, serve and sync; and whether the ITEMS of serve must be given
+--     program must     its commands: answer, check, plan, sim, serve and sync; and whether the ITEMS of serve must be
+--                      given
 --     IsWord r a       the argument is this one, for its own command alone
 --     IsCommand a c    the command is this one, with no argument for those below it
-use Rattle.std.specs.Prelude.{◌≡◌, pos, codes, Bool, true, false, [], ◌∷◌, Some}
-use Rattle.clap.specs.Words.{App, Rule, app_of, new_app, new_rule, rule_of, with_rule, with_subcommand}
+use Rattle.std.specs.Prelude.{◌≡◌, ℕ, pos, codes, Bool, true, false, List, [], ◌∷◌, ◌++◌, Some}
+use Rattle.clap.specs.Words.{App, Rule, Text, app_of, new_app, new_rule, rule_of, with_subcommand}
 use Rattle.clap.specs.Simple.{on_top}
 use Rattle.clap.specs.declared.builder.arg.Arg.{Arg}
 use Rattle.clap.specs.declared.builder.action.ArgAction.TheVariants.{SetTrue}
@@ -17,211 +18,169 @@ IsWord r a = (rule_of a ≡ r) × (a.global ≡ false)
 abbrev pub IsCommand : App → Command → Type 0
 IsCommand a c = (app_of c ≡ a) × ((out-Command c).has_globals ≡ false)
 
+-- ---- kinds of arguments
+
+-- `NAME`, and whether it must be given
+abbrev pub placed : Text → Bool → Rule
+placed id must = record (new_rule id) { required = must }
+
+-- `--name`
+abbrev pub flag : Text → Rule
+flag name = record (new_rule name) { long = Some name; action = Some SetTrue }
+
+-- `--name VALUE`
+abbrev pub valued : Text → Rule
+valued name = record (new_rule name) { long = Some name; value_names = 1 }
+
+-- `--name N`, of least to most
+abbrev pub number : Text → ℕ → ℕ → Rule
+number name least most = record (valued name) { parser = Some (Signed (pos least) (pos most)) }
+
+-- the same argument, with this value where it is not given
+abbrev pub defaulting : Rule → Text → Rule
+defaulting r value = record r { defaults = value ∷ [] }
+
 -- ---- arguments
 
 -- `ITEMS`, and whether it must be given
 abbrev pub items : Bool → Rule
-items must = record (new_rule (codes "ITEMS")) { required = must }
+items must = placed (codes "ITEMS") must
 
 -- `--table FILE`
 abbrev pub table : Rule
-table = record (new_rule (codes "table")) { long = Some (codes "table"); value_names = 1; required = true }
+table = record (valued (codes "table")) { required = true }
 
 -- `--addr A`
 abbrev pub address : Rule
-address = record (new_rule (codes "addr")) {
-  long = Some (codes "addr");
-  value_names = 1;
-  defaults = codes "127.0.0.1:7700" ∷ [];
-}
+address = defaulting (valued (codes "addr")) (codes "127.0.0.1:7700")
 
 -- `--workers N`, of 1 to 16
 abbrev pub workers : Rule
-workers = record (new_rule (codes "workers")) {
-  long = Some (codes "workers");
-  value_names = 1;
-  defaults = codes "4" ∷ [];
-  parser = Some (Signed (pos 1) (pos 16));
-}
+workers = defaulting (number (codes "workers") 1 16) (codes "4")
 
 -- `--sessions N`, of 1 to 1,000,000
 abbrev pub sessions : Rule
-sessions = record (new_rule (codes "sessions")) {
-  long = Some (codes "sessions");
-  value_names = 1;
-  parser = Some (Signed (pos 1) (pos 1000000));
-}
+sessions = number (codes "sessions") 1 1000000
 
 -- `--profile P`, of 1 or 2
 abbrev pub profile : Rule
-profile = record (new_rule (codes "profile")) {
-  long = Some (codes "profile");
-  value_names = 1;
-  defaults = codes "1" ∷ [];
-  parser = Some (Signed (pos 1) (pos 2));
-}
+profile = defaulting (number (codes "profile") 1 2) (codes "1")
 
 -- `--patience SECONDS`, of 1 to 86,400
 abbrev pub patience : Rule
-patience = record (new_rule (codes "patience")) {
-  long = Some (codes "patience");
-  value_names = 1;
-  defaults = codes "60" ∷ [];
-  parser = Some (Signed (pos 1) (pos 86400));
-}
+patience = defaulting (number (codes "patience") 1 86400) (codes "60")
 
 -- `--most-bytes N`, of 1,024 to 4,294,967,295
 abbrev pub most_bytes : Rule
-most_bytes = record (new_rule (codes "most-bytes")) {
-  long = Some (codes "most-bytes");
-  value_names = 1;
-  defaults = codes "33554432" ∷ [];
-  parser = Some (Signed (pos 1024) (pos 4294967295));
-}
+most_bytes = defaulting (number (codes "most-bytes") 1024 4294967295) (codes "33554432")
 
 -- `--hex`
 abbrev pub hex : Rule
-hex = record (new_rule (codes "hex")) { long = Some (codes "hex"); action = Some SetTrue }
+hex = flag (codes "hex")
 
 -- `--text`
 abbrev pub text : Rule
-text = record (new_rule (codes "text")) { long = Some (codes "text"); action = Some SetTrue }
+text = flag (codes "text")
 
 -- `--stats`
 abbrev pub stats : Rule
-stats = record (new_rule (codes "stats")) { long = Some (codes "stats"); action = Some SetTrue }
+stats = flag (codes "stats")
 
 -- `--report FILE`
 abbrev pub report : Rule
-report = record (new_rule (codes "report")) { long = Some (codes "report"); value_names = 1 }
+report = valued (codes "report")
 
 -- `--learned FILE`
 abbrev pub learned : Rule
-learned = record (new_rule (codes "learned")) { long = Some (codes "learned"); value_names = 1 }
+learned = valued (codes "learned")
 
 -- `--keep FILE`
 abbrev pub keep : Rule
-keep = record (new_rule (codes "keep")) { long = Some (codes "keep"); value_names = 1 }
+keep = valued (codes "keep")
 
 -- `--durable`
 abbrev pub durable : Rule
-durable = record (new_rule (codes "durable")) { long = Some (codes "durable"); action = Some SetTrue }
+durable = flag (codes "durable")
 
 -- `--most-learned N`, of 1 to 4,294,967,295
 abbrev pub most_learned : Rule
-most_learned = record (new_rule (codes "most-learned")) {
-  long = Some (codes "most-learned");
-  value_names = 1;
-  parser = Some (Signed (pos 1) (pos 4294967295));
-}
+most_learned = number (codes "most-learned") 1 4294967295
 
 -- `--read-only`
 abbrev pub read_only : Rule
-read_only = record (new_rule (codes "read-only")) { long = Some (codes "read-only"); action = Some SetTrue }
+read_only = flag (codes "read-only")
 
 -- `--report-items N`, of 0 to 4,294,967,295
 abbrev pub report_items : Rule
-report_items = record (new_rule (codes "report-items")) {
-  long = Some (codes "report-items");
-  value_names = 1;
-  parser = Some (Signed (pos 0) (pos 4294967295));
-}
+report_items = number (codes "report-items") 0 4294967295
 
 -- `--why`
 abbrev pub why : Rule
-why = record (new_rule (codes "why")) { long = Some (codes "why"); action = Some SetTrue }
+why = flag (codes "why")
 
 -- `--cost`
 abbrev pub cost : Rule
-cost = record (new_rule (codes "cost")) { long = Some (codes "cost"); action = Some SetTrue }
+cost = flag (codes "cost")
 
 -- `--items N`, of 1 to 65,536
 abbrev pub item_count : Rule
-item_count = record (new_rule (codes "items")) {
-  long = Some (codes "items");
-  value_names = 1;
-  parser = Some (Signed (pos 1) (pos 65536));
-}
+item_count = number (codes "items") 1 65536
 
 -- `--length L`, of 4 to 64
 abbrev pub item_length : Rule
-item_length = record (new_rule (codes "length")) {
-  long = Some (codes "length");
-  value_names = 1;
-  parser = Some (Signed (pos 4) (pos 64));
-}
+item_length = number (codes "length") 4 64
 
 -- `--differences D`, of 0 to 65,536
 abbrev pub differences : Rule
-differences = record (new_rule (codes "differences")) {
-  long = Some (codes "differences");
-  value_names = 1;
-  parser = Some (Signed (pos 0) (pos 65536));
-}
+differences = number (codes "differences") 0 65536
 
 -- `--round-trip MS`, of 0 to 60,000
 abbrev pub round_trip : Rule
-round_trip = record (new_rule (codes "round-trip")) {
-  long = Some (codes "round-trip");
-  value_names = 1;
-  parser = Some (Signed (pos 0) (pos 60000));
-}
+round_trip = number (codes "round-trip") 0 60000
 
 -- `--rate MBIT`, of 1 to 100,000
 abbrev pub rate : Rule
-rate = record (new_rule (codes "rate")) {
-  long = Some (codes "rate");
-  value_names = 1;
-  parser = Some (Signed (pos 1) (pos 100000));
-}
+rate = number (codes "rate") 1 100000
+
+-- `--search SECONDS`, of 1 to 3,600
+abbrev pub search_time : Rule
+search_time = number (codes "search") 1 3600
 
 -- `FILE`
 abbrev pub file : Rule
-file = record (new_rule (codes "FILE")) { required = true }
+file = placed (codes "FILE") true
 
 -- ---- commands
 
--- `--text`, `--why` and `ITEMS`, with which most commands end
-abbrev pub with_items : App → Bool → App
-with_items a must = with_rule (with_rule (with_rule a text) why) (items must)
+-- the command with these arguments after its own
+abbrev pub with_rules : App → List Rule → App
+with_rules a rules = on_top (λ s. record s { rules = s.rules ++ rules }) a
 
 abbrev pub answer : App
-answer = with_items (with_rule (new_app (codes "answer")) hex) true
+answer = with_rules (new_app (codes "answer")) (hex ∷ text ∷ why ∷ items true ∷ [])
 
 abbrev pub check : App
-check = with_rule (with_rule (with_rule (with_rule (with_rule (new_app (codes "check")) cost) item_count) item_length)
-    why) file
+check = with_rules (new_app (codes "check")) (cost ∷ item_count ∷ item_length ∷ why ∷ file ∷ [])
 
 abbrev pub plan : App
-plan = with_rule (with_rule (with_rule (with_rule (with_rule (with_rule (new_app (codes "plan")) item_count)
-    differences) item_length) round_trip) rate) why
+plan = with_rules (new_app (codes "plan"))
+    (item_count ∷ differences ∷ item_length ∷ round_trip ∷ rate ∷ search_time ∷ why ∷ [])
 
 abbrev pub sim : App
-sim = with_rule (new_app (codes "sim")) why
+sim = with_rules (new_app (codes "sim")) (why ∷ [])
 
--- `serve` with the words that say what it serves
+-- `serve` without its ITEMS
 abbrev pub served : App
-served = with_rule (with_rule (with_rule (with_rule (with_rule (with_rule (new_app (codes "serve")) table) address)
-    workers) sessions) patience) most_bytes
-
--- and with those that say which files it writes
-abbrev pub written : App
-written = with_rule (with_rule (with_rule (with_rule served report) learned) keep) durable
-
--- and with those that say how much is taken of a session
-abbrev pub bounded : App
-bounded = with_rule (with_rule (with_rule written most_learned) read_only) report_items
+served = with_rules (new_app (codes "serve"))
+    (table ∷ address ∷ workers ∷ sessions ∷ patience ∷ most_bytes ∷ report ∷ learned ∷ keep ∷ durable ∷ most_learned
+    ∷ read_only ∷ report_items ∷ text ∷ why ∷ [])
 
 abbrev pub serve : Bool → App
-serve must = with_items bounded must
-
--- `sync` with its own words
-abbrev pub asked : App
-asked = with_rule (with_rule (with_rule (with_rule (with_rule (with_rule (new_app (codes "sync")) table) address)
-    profile) patience) most_bytes) stats
+serve must = with_rules served (items must ∷ [])
 
 abbrev pub sync : App
-sync = with_items asked true
+sync = with_rules (new_app (codes "sync"))
+    (table ∷ address ∷ profile ∷ patience ∷ most_bytes ∷ stats ∷ text ∷ why ∷ items true ∷ [])
 
 -- the program itself, which has a version and asks for a command
 abbrev pub top : App

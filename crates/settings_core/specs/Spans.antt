@@ -52,6 +52,10 @@ IsRoundTrip n = (0 ≤ n) × (n ≤ 60000)
 abbrev pub IsRate : ℕ → Type 0
 IsRate n = (1 ≤ n) × (n ≤ 100000)
 
+-- seconds, up to an hour
+abbrev pub IsSearch : ℕ → Type 0
+IsSearch n = (1 ≤ n) × (n ≤ 3600)
+
 -- one of the two, or both
 abbrev pub IsAnyGiven : {X Y : Type 0} → Option X → Option Y → Type 0
 IsAnyGiven None None = ⊥
@@ -61,9 +65,9 @@ IsAnyGiven (Some x) y = ⊤
 abbrev pub AreInSpan : Command → Type 0
 AreInSpan (Answer hexed form items) = ⊤
 AreInSpan (Check cost items item_length file) = IfSome items IsItemCount × IfSome item_length IsItemLength
-AreInSpan (Plan items differences item_length round_trip rate) = IfSome items IsItemCount
+AreInSpan (Plan items differences item_length round_trip rate search) = IfSome items IsItemCount
     × IfSome differences IsDifferenceCount × IfSome item_length IsItemLength × IfSome round_trip IsRoundTrip
-    × IfSome rate IsRate
+    × IfSome rate IsRate × IfSome search IsSearch
 AreInSpan Sim = ⊤
 AreInSpan (Serve table address workers sessions patience most_bytes report learned keep durable most_learned read_only
     report_items form items) = IsWorkerCount workers × IfSome sessions IsSessionCount × IsPatience patience

@@ -6,10 +6,11 @@ ghost use Rattle.settings_core.specs.Calls.{AsksFor, CallsFor, Finds, IsFlag, Is
 ghost use Rattle.settings_core.specs.Spans.{IsByteCount, IsLearnedCount, IsPatience, IsReportedCount, IsSessionCount};
 ghost use Rattle.settings_core.specs.Spans.{IsWithin, IsWorkerCount};
 ghost use Rattle.settings_core.specs.Spans.{IsItemCount, IsItemLength, IsDifferenceCount, IsRoundTrip, IsRate};
+ghost use Rattle.settings_core.specs.Spans.{IsSearch};
 
 use crate::known_words::{
-    MAX_ITEM_LENGTH, MAX_ITEMS, MAX_PATIENCE, MAX_RATE, MAX_ROUND_TRIP, MAX_SESSIONS, MAX_WORKERS,
-    MIN_BYTES, MIN_ITEM_LENGTH,
+    MAX_ITEM_LENGTH, MAX_ITEMS, MAX_PATIENCE, MAX_RATE, MAX_ROUND_TRIP, MAX_SEARCH, MAX_SESSIONS,
+    MAX_WORKERS, MIN_BYTES, MIN_ITEM_LENGTH,
 };
 use crate::words::{Call, Command, WireProfile};
 use clap::ArgMatches;
@@ -97,6 +98,14 @@ fn rate_in(matches: &ArgMatches<'_>) -> Option<Option<u32>>
         × IfSome n IsRate) result }
 {
     number_in(matches, "rate", 1, MAX_RATE)
+}
+
+/// The seconds that are spent on a search, if they are given.
+fn search_in(matches: &ArgMatches<'_>) -> Option<Option<u32>>
+    ensures { Finds (λ n. IsNumber (codes "search") (rows_of (found_of matches.now)) n
+        × IfSome n IsSearch) result }
+{
+    number_in(matches, "search", 1, MAX_SEARCH)
 }
 
 /// The wire profile, which `clap` has read as 1 or 2.
@@ -190,6 +199,7 @@ fn plan_in<'a>(matches: &ArgMatches<'a>) -> Option<Command<'a>>
         item_length: item_length_in(matches)?,
         round_trip: round_trip_in(matches)?,
         rate: rate_in(matches)?,
+        search: search_in(matches)?,
     })
 }
 

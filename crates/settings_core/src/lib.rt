@@ -1,6 +1,7 @@
 //! The words of a call. The names of item files and strategy files are passed on.
 #![tactic(auto)]
 
+mod arguments;
 mod given_words;
 mod known_words;
 mod words;

@@ -57,6 +57,8 @@ pub enum Command<'a> {
         round_trip: Option<u32>,
         /// The megabits in a second, 1 to 100,000, if they are given.
         rate: Option<u32>,
+        /// How many seconds are spent on a search for a quicker one, 1 to 3,600; `None` where there is no search.
+        search: Option<u32>,
     },
     /// The run of a scenario.
     Sim,

@@ -1,5 +1,5 @@
-use Rattle.std.proofs.Common.{rules, ap, refl}
-use Rattle.session_core.specs.Sessions.{SessionState, HearsIf, is_open}
+use Rattle.std.proofs.Common.{rules, ◌≡◌, length, ap, refl}
+use Rattle.session_core.specs.Sessions.{SessionState, HearsIf, begun_after, is_open}
 use Rattle.session_core.proofs.Steps.{Laws, piece-heard}
 use Rattle.session_core.proofs.session.Session.go_on.Goals as goal
 
@@ -11,9 +11,17 @@ returns-clause-pushes g c = λ s pushed taken live k.
       join = c.feeds_join.ensures g.F.Summary.profile g.met.F.Summary.real;
     } in
     let d : SessionState g.row.F.Denot =
-    record { talk = c.hear_if.new.self; feed = c.args.feed; over = c.args.self.now.over } in
+    record {
+      talk = c.hear_if.new.self;
+      feed = c.args.feed;
+      over = c.args.self.now.over;
+      begun = c.begun_behind-begun.result;
+    } in
     let heard : HearsIf g.F.Summary.summary g.F.Summary.profile c.args.self.now.talk c.args.event c.hear_if.new.self =
     search rules in
+    let begun : c.begun_behind-begun.result ≡ begun_after c.args.event c.args.self.now.begun (length c.args.piece.now) =
+    search rules in
     let after = piece-heard g.F.Summary.summary g.F.Summary.profile laws s c.args.self.now d c.args.event
-    c.args.piece.now pushed taken live (ap is_open c.requires.open) c.requires.bytes heard refl c.requires.fed k in
+    c.args.piece.now pushed taken live (ap is_open c.requires.open) c.requires.bytes heard refl begun c.requires.fed k
+    in
     search (rules, after)

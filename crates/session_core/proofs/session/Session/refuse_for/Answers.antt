@@ -12,7 +12,7 @@ returns-clause-pushes g c = λ s pushed taken live k.
       join = c.feeds_join.ensures g.F.Summary.profile g.met.F.Summary.real;
     } in
     let d : SessionState g.row.F.Denot =
-    record { talk = c.refuse.new.self; feed = c.args.feed; over = c.args.self.now.over } in
+    record { talk = c.refuse.new.self; feed = c.args.feed; over = c.args.self.now.over; begun = 0 } in
     let talk : c.refuse.new.self ≡ refused_by c.args.self.now.talk (fault_number c.args.fault) = search rules in
     let after = faulty g.F.Summary.summary g.F.Summary.profile laws s c.args.self.now d (fault_number c.args.fault)
     c.args.piece.now pushed taken live (ap is_open c.requires.open) c.requires.bytes talk refl c.requires.fed

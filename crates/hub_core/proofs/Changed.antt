@@ -1,0 +1,42 @@
+-- What holds of the two values of a key before and after a call holds of whatever values the key is said to have.
+use Rattle.std.proofs.Common.{◌≡◌, ℕ, Bool, true, false, ◌-◌, ◌<◌, Option, Some, None, Result, Ok, Err, OnOk}
+use Rattle.std.proofs.Common.{inl, inr, refl, sym, ap, ◌∙◌, subst}
+use Rattle.std.specs.Prelude.{nat_lt, ◌||◌}
+use Rattle.std.proofs.lemmas.Bool.{ltb-true}
+use Rattle.slab.specs.Slab.{Slab, get}
+use Rattle.hub_core.specs.Peers.{PeerState}
+use Rattle.hub_core.specs.Hubs.{IsLate}
+use Rattle.hub_core.specs.declared.limits.HubLimits.{HubLimits}
+
+abbrev or_else : {T : Type 0} → T → Option T → T
+or_else d None = d
+or_else d (Some x) = x
+
+same-some : {T : Type 0} (p x : T) → Some p ≡ Some x → p ≡ x
+same-some p x is = ap (or_else p) is
+
+module _ {T : Type 0} (R : T → T → Type 0) where
+  pub of-both : (old new : Slab T) (key : ℕ) (p q : T) → get old key ≡ Some p → get new key ≡ Some q → R p q →
+      (x y : T) → get old key ≡ Some x → get new key ≡ Some y → R x y
+  of-both old new key p q before after holds x y was is =
+      subst (λ (z : T). R z y) (same-some p x (sym before ∙ was))
+      (subst (λ (z : T). R p z) (same-some q y (sym after ∙ is)) holds)
+
+  pub of-both-ok : {X E : Type 0} (r : Result X E) (old new : Slab T) (key : ℕ) (p q : T) → get old key ≡ Some p →
+      get new key ≡ Some q → OnOk r (R p q) →
+      OnOk r ((x y : T) → get old key ≡ Some x → get new key ≡ Some y → R x y)
+  of-both-ok (Ok n) old new key p q before after holds = of-both old new key p q before after holds
+  of-both-ok (Err e) old new key p q before after holds = tt
+
+-- a test of both times
+pub late-by : {I O : Type 0} (limits : HubLimits) (now : ℕ) (p : PeerState I O) (h a : ℕ) → h ≡ p.heard →
+    a ≡ p.arrived → (nat_lt limits.idle (now - h) || nat_lt limits.whole (now - a)) ≡ true → IsLate limits now p
+late-by limits now p h a heard arrived late =
+    by (nat_lt limits.idle (now - h)) (nat_lt limits.whole (now - a)) refl refl late
+  where
+    by : (t u : Bool) → nat_lt limits.idle (now - h) ≡ t → nat_lt limits.whole (now - a) ≡ u → (t || u) ≡ true →
+        IsLate limits now p
+    by true u is was holds = inl (subst (λ (n : ℕ). limits.idle < now - n) heard (ltb-true limits.idle (now - h) is))
+    by false true is was holds =
+        inr (subst (λ (n : ℕ). limits.whole < now - n) arrived (ltb-true limits.whole (now - a) was))
+    by false false is was holds = absurd (cc)

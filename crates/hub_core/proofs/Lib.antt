@@ -1,0 +1,7 @@
+pub mod Greeted
+pub mod Opened
+pub mod Peering
+pub mod Totals
+pub mod Held
+pub mod Walks
+pub mod Changed

@@ -1,0 +1,123 @@
+-- What is known of a peer, from what is known of its greeting or its session.
+--
+-- A greeting's call keeps what it read and writes of our hello, which is what is known of a greeting; a session's call
+-- says the same by `Moves`. So each is a record `Goes` of the stage.
+use Rattle.std.proofs.Common.{◌≡◌, ℕ, false, List, [], ◌++◌, Option, Result, Ok, Err, Box, Global}
+use Rattle.std.proofs.Common.{refl, sym, ap, ◌∙◌, subst}
+use Rattle.std.specs.Box.{with_value}
+use Rattle.std.specs.declared.io.traits.Take.{Take}
+use Rattle.definitions.specs.Fingerprints.{Lanes, two_lanes, counted_lanes}
+use Rattle.definitions.specs.Fingerprints as prints
+use Rattle.definitions.specs.Wire.{two_lane_profile, counted_profile}
+use Rattle.definitions.specs.Engines.{responding}
+use Rattle.session_core.specs.Sessions.{SessionState}
+use Rattle.link_core.specs.Links.{Moves, MovesSo}
+use Rattle.link_core.specs.Polls.{Poll}
+use Rattle.link_core.specs.declared.polled.Last.TheVariants as lasts
+use Rattle.link_core.specs.declared.fault.LinkFault.{LinkFault}
+use Rattle.link_core.specs.declared.pumped.Pumped.{Pumped}
+use Rattle.hub_core.specs.Greetings.{GreetingState, Greets}
+use Rattle.hub_core.specs.Steps.{GreetsSo, step_in}
+use Rattle.hub_core.specs.Peers.{Goes, GoesSo, PeerState, fresh}
+use Rattle.hub_core.specs.declared.step.Step.{Step}
+use Rattle.hub_core.specs.declared.stage.Stage.{Stage}
+use Rattle.hub_core.specs.declared.stage.Stage.TheVariants as stages
+
+abbrev peer_of : {I O : Type 0} → Poll (Take I) → Poll O → Stage → ℕ → ℕ → ℕ → ℕ → ℕ → PeerState I O
+peer_of r w stage version serial heard arrived long = record {
+  reader = r;
+  writer = w;
+  stage = stage;
+  version = version;
+  serial = serial;
+  heard = heard;
+  arrived = arrived;
+  long = long;
+}
+
+goes-greeting : (g h : GreetingState) (unread left held holds : Option (List ℕ)) (read said lost : List ℕ) →
+    Greets g h unread left held holds read said lost →
+    Goes (stages.Greeting g) (stages.Greeting h) unread left held holds read said lost
+goes-greeting g h unread left held holds read said lost m = record {
+  consumed = m.consumed;
+  appended = m.appended;
+  knows = λ P pushed taken k. (
+    ap (λ (l : List ℕ). l ++ read) k.0 ∙ sym m.came,
+    ap (λ (l : List ℕ). l ++ said) k.1 ∙ sym m.writes,
+  );
+}
+
+pub greeting-goes : (r : Result Step LinkFault) (old : Stage) (g h : GreetingState)
+    (unread left held holds : Option (List ℕ)) → old ≡ stages.Greeting g → GreetsSo g h unread left held holds r →
+    GoesSo old (stages.Greeting h) unread left held holds r
+greeting-goes (Ok s) old g h unread left held holds is (read, said, m, reads, writes) =
+    rw is (read, said, goes-greeting g h unread left held holds read said [] m, reads, writes)
+greeting-goes (Err f) old g h unread left held holds is (read, said, lost, m) =
+    rw is (read, said, lost, goes-greeting g h unread left held holds read said lost m)
+
+goes-plain : (c d : Box (SessionState Lanes) Global) (unread left held holds : Option (List ℕ))
+    (read said lost : List ℕ) →
+    Moves two_lanes two_lane_profile c.value d.value unread left held holds read said lost →
+    Goes (stages.Plain c) (stages.Plain d) unread left held holds read said lost
+goes-plain c d unread left held holds read said lost m = record {
+  consumed = m.consumed;
+  appended = m.appended;
+  knows = λ P pushed taken k. m.knows (responding P) pushed taken refl k;
+}
+
+goes-counted : (c d : Box (SessionState prints.Counted) Global) (unread left held holds : Option (List ℕ))
+    (read said lost : List ℕ) →
+    Moves counted_lanes counted_profile c.value d.value unread left held holds read said lost →
+    Goes (stages.Counted c) (stages.Counted d) unread left held holds read said lost
+goes-counted c d unread left held holds read said lost m = record {
+  consumed = m.consumed;
+  appended = m.appended;
+  knows = λ P pushed taken k. m.knows (responding P) pushed taken refl k;
+}
+
+plain-so : (r : Result Pumped LinkFault) (c d : Box (SessionState Lanes) Global)
+    (unread left held holds : Option (List ℕ)) →
+    MovesSo two_lanes two_lane_profile c.value d.value unread left held holds r →
+    GoesSo (stages.Plain c) (stages.Plain d) unread left held holds (step_in r)
+plain-so (Ok p) c d unread left held holds (read, said, m, reads, writes) =
+    (read, said, goes-plain c d unread left held holds read said [] m, reads, writes)
+plain-so (Err f) c d unread left held holds (read, said, lost, m) =
+    (read, said, lost, goes-plain c d unread left held holds read said lost m)
+
+counted-so : (r : Result Pumped LinkFault) (c d : Box (SessionState prints.Counted) Global)
+    (unread left held holds : Option (List ℕ)) →
+    MovesSo counted_lanes counted_profile c.value d.value unread left held holds r →
+    GoesSo (stages.Counted c) (stages.Counted d) unread left held holds (step_in r)
+counted-so (Ok p) c d unread left held holds (read, said, m, reads, writes) =
+    (read, said, goes-counted c d unread left held holds read said [] m, reads, writes)
+counted-so (Err f) c d unread left held holds (read, said, lost, m) =
+    (read, said, lost, goes-counted c d unread left held holds read said lost m)
+
+pub plain-goes : (r : Result Pumped LinkFault) (t : Result Step LinkFault) (old : Stage)
+    (b : Box (SessionState Lanes) Global) (x y : SessionState Lanes) (unread left held holds : Option (List ℕ)) →
+    old ≡ stages.Plain b → x ≡ b.value → t ≡ step_in r →
+    MovesSo two_lanes two_lane_profile x y unread left held holds r →
+    GoesSo old (stages.Plain (with_value b y)) unread left held holds t
+plain-goes r t old b x y unread left held holds is same step m =
+    subst (λ u. GoesSo old (stages.Plain (with_value b y)) unread left held holds u) (sym step)
+    (subst (λ o. GoesSo o (stages.Plain (with_value b y)) unread left held holds (step_in r)) (sym is)
+    (plain-so r b (with_value b y) unread left held holds
+    (subst (λ z. MovesSo two_lanes two_lane_profile z y unread left held holds r) same m)))
+
+pub counted-goes : (r : Result Pumped LinkFault) (t : Result Step LinkFault) (old : Stage)
+    (b : Box (SessionState prints.Counted) Global) (x y : SessionState prints.Counted)
+    (unread left held holds : Option (List ℕ)) → old ≡ stages.Counted b → x ≡ b.value → t ≡ step_in r →
+    MovesSo counted_lanes counted_profile x y unread left held holds r →
+    GoesSo old (stages.Counted (with_value b y)) unread left held holds t
+counted-goes r t old b x y unread left held holds is same step m =
+    subst (λ u. GoesSo old (stages.Counted (with_value b y)) unread left held holds u) (sym step)
+    (subst (λ o. GoesSo o (stages.Counted (with_value b y)) unread left held holds (step_in r)) (sym is)
+    (counted-so r b (with_value b y) unread left held holds
+    (subst (λ z. MovesSo counted_lanes counted_profile z y unread left held holds r) same m)))
+
+-- one that has just come
+pub fresh-made : {I O : Type 0} (way : Take I) (writer : O) (serial now : ℕ) (r : Poll (Take I)) (w : Poll O)
+    (g : GreetingState) → r ≡ record { way = way; last = lasts.Unknown } →
+    w ≡ record { way = writer; last = lasts.Unknown } → g ≡ record { came = []; said = 0; over = false } →
+    peer_of r w (stages.Greeting g) 0 serial now now 0 ≡ fresh way writer serial now
+fresh-made way writer serial now r w g reads writes greets = rw (reads, writes, greets) refl

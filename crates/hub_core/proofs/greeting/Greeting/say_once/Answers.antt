@@ -1,0 +1,37 @@
+use Rattle.std.proofs.Common.{rules, ◌≡◌, [], Err, take, drop, refl}
+use Rattle.hub_core.specs.Greetings.{own_hello}
+use Rattle.hub_core.proofs.Greeted.{greets-said, counted-take}
+use Rattle.hub_core.proofs.greeting.Greeting.say_once.Goals as goal
+
+pub returns-in_err-pause : goal.returns-in_err-pause
+returns-in_err-pause g c = record {
+  moved = λ unread.
+      let is : c.from_residual.result ≡ Err c.in_err-pause.field-0.0 = search rules in
+      let same : c.hello-hello.result ≡ own_hello c.args.self.now.came = c.hello-hello.ensures in
+      let from : c.self.inside.said ≡ c.args.self.now.said = search rules in
+      let piece : c.rest_of.result.now ≡ drop c.args.self.now.said (own_hello c.args.self.now.came) = search rules in
+      let n = c.write-count.result in
+      rw is (
+        [],
+        take n c.rest_of.result.now,
+        [],
+        greets-said c.args.self.now _ unread _ _ c.rest_of.result.now n
+            (search rules) (search rules) piece c.write-count.ensures.bytes,
+      );
+}
+
+pub returns : goal.returns
+returns g c = record {
+  moved = λ unread.
+      let same : c.hello-hello.result ≡ own_hello c.args.self.now.came = c.hello-hello.ensures in
+      let from : c.self.inside.said ≡ c.args.self.now.said = search rules in
+      let piece : c.rest_of.result.now ≡ drop c.args.self.now.said (own_hello c.args.self.now.came) = search rules in
+      let n = c.write-count.result in (
+        [],
+        take n c.rest_of.result.now,
+        greets-said c.args.self.now _ unread _ _ c.rest_of.result.now n
+            (search rules) (search rules) piece c.write-count.ensures.bytes,
+        refl,
+        counted-take n c.rest_of.result.now c.write-count.ensures.bound (search rules),
+      );
+}

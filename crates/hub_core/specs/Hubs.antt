@@ -1,0 +1,42 @@
+-- The peers of a hub.
+--     HubState                     peers, each at its key, and their limits
+--     kept, silence                what is counted for a peer; how old its last byte is, as a number
+--     held_by peers                what is counted for all peers
+--     OthersStay old new key       every other key has what it had
+--     IsLate limits now p          its time is over
+--     TakesOut old new p           the peer of which most is kept was taken out, as more was held than may be
+use Rattle.std.specs.Prelude.{◌≡◌, ◌≢◌, ◌⊎◌, ℕ, ◌-◌, ◌^◌, ◌<◌, Some, None}
+use Rattle.slab.specs.Slab.{Slab, get}
+use Rattle.hub_core.specs.Peers.{PeerState, kept_in}
+use Rattle.hub_core.specs.Totals.{IsMost, total}
+use Rattle.hub_core.specs.declared.limits.HubLimits.{HubLimits}
+
+pub record HubState (I O : Type 0) : Type 0 where
+  pub peers : Slab (PeerState I O)
+  pub limits : HubLimits
+
+abbrev pub kept : {I O : Type 0} → PeerState I O → ℕ
+kept p = kept_in p.stage
+
+abbrev pub held_by : {I O : Type 0} → Slab (PeerState I O) → ℕ
+held_by peers = total kept peers.slots
+
+-- the older its last byte, the greater
+abbrev pub silence : {I O : Type 0} → PeerState I O → ℕ
+silence p = 2 ^ 64 - 1 - p.heard
+
+abbrev pub OthersStay : {T : Type 0} → Slab T → Slab T → ℕ → Type 0
+OthersStay old new key = (other : ℕ) → other ≢ key → get new other ≡ get old other
+
+-- it was silent for longer than it may be, or it has been there for longer
+abbrev pub IsLate : {I O : Type 0} → HubLimits → ℕ → PeerState I O → Type 0
+IsLate limits now p = (limits.idle < now - p.heard) ⊎ (limits.whole < now - p.arrived)
+
+-- more was held than may be, and this peer, of which most is kept, was taken out
+pub record TakesOut {I O : Type 0} (old new : HubState I O) (p : PeerState I O) : Type 0 where
+  pub over : old.limits.memory < held_by old.peers
+  pub key : ℕ
+  pub there : get old.peers key ≡ Some p
+  pub most : IsMost kept old.peers key
+  pub gone : get new.peers key ≡ None
+  pub others : OthersStay old.peers new.peers key

@@ -1,0 +1,126 @@
+-- What is known of a peer, by all bytes that were read of it and all that were written to it.
+--     Knowing P stage pushed taken        all of it, where its session speaks of P
+--     Goes old new unread left held holds read said lost      what a call does: the bytes read are pushed and those
+--                                         written are taken, in order; lost were read and not pushed
+--     GoesSo .. result                    nothing was lost, and the bytes are counted, unless the call failed
+--     IsChosen stage came                 the session is of the profile that these bytes choose
+--     Opens P old new                     the session of a greeting was opened
+--     kept_in, sent_in, state_in, Learns  what it keeps in memory, how many messages were said to it, how its session
+--                                         stands, and what it has learned
+--     PeerState, IsFresh, woken           a peer, one that has just come, one whose stream is ready again
+use Rattle.std.specs.Prelude.{◌≡◌, ℕ, ◌-◌, ◌^◌, min, true, false, List, [], ◌++◌, length, Option, Some, None}
+use Rattle.std.specs.Prelude.{Result, Ok, Err}
+use Rattle.std.specs.Io.KnownBytes.{Consumes, Appends}
+use Rattle.std.specs.Io.Take.{take_inner, take_limit}
+use Rattle.std.specs.declared.io.traits.Take.{Take}
+use Rattle.definitions.specs.Fingerprints.{two_lanes, counted_lanes}
+use Rattle.definitions.specs.Replies.{Peer}
+use Rattle.definitions.specs.Talks.{Knowledge}
+use Rattle.definitions.specs.Wire.{two_lane_profile, counted_profile}
+use Rattle.definitions.specs.Engines.{responding}
+use Rattle.session_core.specs.Kept.{kept_by}
+use Rattle.session_core.specs.Sessions.{Knows}
+use Rattle.session_core.specs.declared.state.State.{State}
+use Rattle.session_core.specs.declared.state.State.TheVariants as states
+use Rattle.link_core.specs.Links.{count_of}
+use Rattle.link_core.specs.Polls.{Poll}
+use Rattle.link_core.specs.declared.fault.LinkFault.{LinkFault}
+use Rattle.link_core.specs.declared.polled.Last.TheVariants as lasts
+use Rattle.hub_core.specs.Greetings.{is_counted, told}
+use Rattle.hub_core.specs.declared.step.Step.{Step}
+use Rattle.hub_core.specs.declared.stage.Stage.{Stage}
+use Rattle.hub_core.specs.declared.stage.Stage.TheVariants as stages
+
+abbrev pub Knowing : Peer → Stage → List ℕ → List ℕ → Type 0
+Knowing P (stages.Greeting g) pushed taken = (pushed ≡ g.came) × (taken ≡ told g)
+Knowing P (stages.Plain c) pushed taken = Knows two_lanes two_lane_profile (responding P) c.value pushed taken
+Knowing P (stages.Counted c) pushed taken = Knows counted_lanes counted_profile (responding P) c.value pushed taken
+
+pub record Goes (old new : Stage) (unread left held holds : Option (List ℕ)) (read said lost : List ℕ) : Type 0 where
+  pub consumed : Consumes unread left (read ++ lost)
+  pub appended : Appends held holds said
+  -- whatever was read and written before, this was read and written after it
+  pub knows : (P : Peer) (pushed taken : List ℕ) → Knowing P old pushed taken →
+      Knowing P new (pushed ++ read) (taken ++ said)
+
+abbrev pub GoesSo : Stage → Stage → Option (List ℕ) → Option (List ℕ) → Option (List ℕ) → Option (List ℕ) →
+    Result Step LinkFault → Type 0
+GoesSo old new unread left held holds (Ok s) = (read said : List ℕ) × Goes old new unread left held holds read said []
+    × (s.read ≡ count_of read) × (s.written ≡ count_of said)
+GoesSo old new unread left held holds (Err f) =
+    (read said lost : List ℕ) × Goes old new unread left held holds read said lost
+
+abbrev pub IsChosen : Stage → List ℕ → Type 0
+IsChosen (stages.Greeting g) came = ⊥
+IsChosen (stages.Plain c) came = is_counted came ≡ false
+IsChosen (stages.Counted c) came = is_counted came ≡ true
+
+-- where it was open already nothing has changed
+abbrev pub Opens : Peer → Stage → Stage → Type 0
+Opens P (stages.Greeting g) new = Knowing P new g.came (told g) × IsChosen new g.came
+Opens P (stages.Plain c) new = new ≡ stages.Plain c
+Opens P (stages.Counted c) new = new ≡ stages.Counted c
+
+-- ---- what a peer has
+
+-- the bytes that came, or what the session keeps
+abbrev pub kept_in : Stage → ℕ
+kept_in (stages.Greeting g) = min (length g.came) (2 ^ 64 - 1)
+kept_in (stages.Plain c) = kept_by c.value
+kept_in (stages.Counted c) = kept_by c.value
+
+abbrev pub sent_in : Stage → ℕ
+sent_in (stages.Greeting g) = 0
+sent_in (stages.Plain c) = c.value.talk.held.end.sent
+sent_in (stages.Counted c) = c.value.talk.held.end.sent
+
+abbrev pub state_in : Stage → Option State
+state_in (stages.Greeting g) = None
+state_in (stages.Plain c) = Some c.value.talk.state
+state_in (stages.Counted c) = Some c.value.talk.state
+
+-- its session has ended, and has learned this
+abbrev pub Learns : Stage → Knowledge → Type 0
+Learns (stages.Greeting g) k = ⊥
+Learns (stages.Plain c) k = (c.value.talk.state ≡ states.Ended) × (k ≡ c.value.talk.held.end.learned)
+Learns (stages.Counted c) k = (c.value.talk.state ≡ states.Ended) × (k ≡ c.value.talk.held.end.learned)
+
+pub record PeerState (I O : Type 0) : Type 0 where
+  -- so many bytes are read of it at most
+  pub reader : Poll (Take I)
+  pub writer : Poll O
+  pub stage : Stage
+  -- the version of the set that its session speaks of
+  pub version : ℕ
+  pub serial : ℕ
+  -- when a byte of it was last read or written, and when it came, in milliseconds
+  pub heard : ℕ
+  pub arrived : ℕ
+  -- how many bytes came since our last message
+  pub long : ℕ
+
+-- one that has just come
+abbrev pub fresh : {I O : Type 0} → Take I → O → ℕ → ℕ → PeerState I O
+fresh reader writer serial now = record {
+  reader = record { way = reader; last = lasts.Unknown };
+  writer = record { way = writer; last = lasts.Unknown };
+  stage = stages.Greeting (record { came = []; said = 0; over = false });
+  version = 0;
+  serial = serial;
+  heard = now;
+  arrived = now;
+  long = 0;
+}
+
+pub record IsFresh {I O : Type 0} (reader : I) (writer : O) (most serial now : ℕ) (p : PeerState I O) : Type 0 where
+  pub way : Take I
+  pub inner : take_inner way ≡ reader
+  pub limit : take_limit way ≡ most
+  pub is : p ≡ fresh way writer serial now
+
+-- both ways of the stream are ready again
+abbrev pub woken : {I O : Type 0} → PeerState I O → PeerState I O
+woken p = record p {
+  reader = record p.reader { last = lasts.Unknown };
+  writer = record p.writer { last = lasts.Unknown };
+}

@@ -1,0 +1,14 @@
+//! The key with the greatest number, as a walk finds it.
+
+ghost use Rattle.std.specs.Prelude.{◌≡◌};
+ghost use Rattle.hub_core.specs.Totals.{better_of};
+
+/// The first of the keys so far with the greatest number, where one more has this number.
+pub(crate) fn better(best: Option<(usize, u64)>, key: usize, number: u64) -> Option<(usize, u64)>
+    ensures { result ≡ better_of best key number }
+{
+    match best {
+        Some((_, most)) if number <= most => best,
+        _ => Some((key, number)),
+    }
+}

@@ -1,0 +1,237 @@
+//! A peer before its session is opened: its bytes are kept, and our hello is written as soon as its own has come.
+
+ghost use Rattle.std.specs.Prelude.{◌≡◌, ◌≢◌, ◌<◌, ◌≤◌, ◌+◌, ◌++◌, [], false, length, take, drop, OnOk, OnErr, IfOk};
+ghost use Rattle.std.specs.Io.KnownBytes.{Consumes, Appends};
+ghost use Rattle.link_core.specs.declared.fault.LinkFault.TheVariants as faults;
+ghost use Rattle.hub_core.specs.Greetings as greetings;
+ghost use Rattle.hub_core.specs.Greetings.{Greets, own_hello};
+ghost use Rattle.hub_core.specs.Steps.{GreetsSo};
+
+use crate::step::{Step, StepPause, both, pause_of};
+use digest_core::{Counted, Fingerprint, Summary};
+use link_core::{Last, LinkFault, Polled};
+use std::alloc::{AllocError, Global};
+use std::io::{Read, Write};
+use std::marker::Model;
+
+/// The length of a hello.
+const HELLO: usize = 4;
+
+/// The bytes of the end of a message.
+const END: usize = 5;
+
+/// The session is opened at once for a frame that is longer than this, and once more than `MOST` bytes have come.
+const LONG: u32 = 512;
+
+const MOST: usize = 1_024;
+
+/// How many reads and writes one call makes at most.
+const TURNS: usize = 16;
+
+/// A peer before its session is opened.
+#[derive(Drop)]
+pub struct Greeting {
+    // All bytes that were read of it.
+    came: Vec<u8>,
+    // How many bytes of our hello were written.
+    said: usize,
+    // Its input has ended.
+    over: bool,
+}
+
+impl Model for Greeting {
+    ghost use Rattle.hub_core.specs.Greetings.{GreetingState, IsGreeting};
+
+    ghost Value = { GreetingState };
+
+    ghost view = { λ g. record { came = g.came.items; said = g.said; over = g.over } };
+
+    ghost invariant = { λ g. IsGreeting (record { came = g.came.items; said = g.said; over = g.over }) };
+}
+
+/// Whether these bytes begin with the hello of profile 2.
+fn is_counted(came: &[u8]) -> bool
+    ensures { result ≡ greetings.is_counted came.now }
+{
+    let front = &came[..came.len().min(HELLO)];
+    front == Counted::hello().as_slice()
+}
+
+/// Whether these bytes begin with a hello that no profile has.
+fn is_strange(came: &[u8]) -> bool {
+    if came.len() < HELLO {
+        return false;
+    }
+    let front = &came[..HELLO];
+    front != Counted::hello().as_slice() && front != Fingerprint::hello().as_slice()
+}
+
+/// Whether the session is to be opened for these bytes: the first message is whole, as far as the length of its first
+/// frame says, or it is too long to wait for.
+fn is_whole(came: &[u8]) -> bool {
+    if came.len() > MOST || is_strange(came) {
+        return true;
+    }
+    if came.len() < HELLO + 4 {
+        return false;
+    }
+    let long = u32::from_be_bytes([came[4], came[5], came[6], came[7]]);
+    long > LONG || came.len() >= HELLO + 4 + long as usize + END
+}
+
+/// The bytes from this place on.
+fn rest_of(bytes: &[u8], from: usize) -> &[u8]
+    requires { from ≤ length bytes.now }
+    ensures { result.now ≡ drop from bytes.now }
+{
+    &bytes[from..]
+}
+
+impl Greeting {
+    /// No byte has come.
+    pub fn new(alloc: Global) -> Greeting
+        ensures { result ≡ record { came = []; said = 0; over = false } }
+    {
+        Greeting {
+            came: Vec::new(alloc),
+            said: 0,
+            over: false,
+        }
+    }
+
+    /// All bytes that were read of it.
+    pub fn came(&self) -> &[u8]
+        ensures { result.now ≡ self.now.came }
+    {
+        &self.came
+    }
+
+    /// How many bytes of our hello were written.
+    pub fn said(&self) -> usize
+        ensures said { result ≡ self.now.said }
+        ensures few { result ≤ 4 }
+    {
+        self.said
+    }
+
+    /// Whether its input has ended.
+    pub fn is_over(&self) -> bool
+        ensures { result ≡ self.now.over }
+    {
+        self.over
+    }
+
+    /// Whether it speaks profile 2.
+    pub fn is_counted(&self) -> bool
+        ensures { result ≡ greetings.is_counted self.now.came }
+    {
+        is_counted(&self.came)
+    }
+
+    /// The hello that is written to it.
+    fn hello(&self) -> [u8; 4]
+        ensures { result ≡ own_hello self.now.came }
+    {
+        if is_counted(&self.came) {
+            return Counted::hello();
+        }
+        Fingerprint::hello()
+    }
+
+    /// Writes once of our hello.
+    fn say_once<O: Write>(&mut self, writer: &mut Polled<O>) -> Result<Step, LinkFault>
+        requires four { 4 ≤ length self.old.came }
+        ensures moved { (unread : _) → GreetsSo self.old self.new unread unread (O.contents writer.old.way)
+            (O.contents writer.new.way) result }
+    {
+        let hello = self.hello();
+        let count = writer.write(rest_of(&hello, self.said));
+        self.said += count;
+        let pause = pause_of(writer.last(), LinkFault::Write)?;
+        Ok(Step {
+            pause,
+            read: 0,
+            written: count as u64,
+        })
+    }
+
+    /// Keeps what a read gave.
+    fn keep(&mut self, piece: &[u8], over: bool) -> Result<(), AllocError>
+        ensures kept { OnOk result ((unread left held : _) → Consumes unread left piece.now →
+            Greets self.old self.new unread left held held piece.now [] []) }
+        ensures memory { OnErr result (self.new ≡ self.old) }
+    {
+        self.came.extend_from_slice(piece)?;
+        self.over = over;
+        Ok(())
+    }
+
+    /// Reads once, and keeps what came.
+    fn hear_once<I: Read>(
+        &mut self,
+        reader: &mut Polled<I>,
+        room: &mut [u8],
+    ) -> Result<Step, LinkFault>
+        requires room { 0 < length room.old }
+        ensures moved { (held : _) → GreetsSo self.old self.new (I.remaining reader.old.way)
+            (I.remaining reader.new.way) held held result }
+        ensures room { length room.new ≡ length room.old }
+    {
+        let count = reader.read(room);
+        self.keep(&room[..count], reader.last() == Last::Ended)?;
+        let pause = pause_of(reader.last(), LinkFault::Read)?;
+        Ok(Step {
+            pause,
+            read: count as u64,
+            written: 0,
+        })
+    }
+
+    /// Writes once of our hello, where the peer's has come; else it asks for the session, or reads once.
+    fn move_once<I: Read, O: Write>(
+        &mut self,
+        reader: &mut Polled<I>,
+        writer: &mut Polled<O>,
+        room: &mut [u8],
+    ) -> Result<Step, LinkFault>
+        requires room { 0 < length room.old }
+        ensures moved { GreetsSo self.old self.new (I.remaining reader.old.way) (I.remaining reader.new.way)
+            (O.contents writer.old.way) (O.contents writer.new.way) result }
+        ensures room { length room.new ≡ length room.old }
+    {
+        if self.came.len() >= HELLO && self.said < HELLO {
+            return self.say_once(writer);
+        }
+        if self.over || is_whole(&self.came) {
+            return Ok(Step {
+                pause: StepPause::Opens,
+                read: 0,
+                written: 0,
+            });
+        }
+        self.hear_once(reader, room)
+    }
+
+    /// Reads on and writes our hello, until the session is to be opened: 16 reads and writes at most.
+    pub(crate) fn pump<I: Read, O: Write>(
+        &mut self,
+        reader: &mut Polled<I>,
+        writer: &mut Polled<O>,
+        room: &mut [u8],
+    ) -> Result<Step, LinkFault>
+        requires room { 0 < length room.old }
+        ensures moved { GreetsSo self.old self.new (I.remaining reader.old.way) (I.remaining reader.new.way)
+            (O.contents writer.old.way) (O.contents writer.new.way) result }
+        ensures room { length room.new ≡ length room.old }
+    {
+        let mut step = self.move_once(reader, writer, room)?;
+        for _turn in 1..TURNS {
+            if step.pause != StepPause::More {
+                return Ok(step);
+            }
+            let next = self.move_once(reader, writer, room)?;
+            step = both(step, next);
+        }
+        Ok(step)
+    }
+}

@@ -1,0 +1,248 @@
+//! All peers at once, within limits of number, memory and time.
+
+ghost use Rattle.std.specs.Prelude.{◌≡◌, ◌<◌, ◌≤◌, ◌↔◌, ◌-◌, ◌||◌, nat_le, nat_lt, ℕ, [], Some, None, IfOk, IfErr};
+ghost use Rattle.std.specs.Prelude.{OnOk, OnErr, IfSome, IfNone, IsSome, length, option_copied};
+ghost use Rattle.std.specs.Arc.{arc_value};
+ghost use Rattle.std.specs.Io.Take.{take_remaining};
+ghost use Rattle.slab.specs.Slab.{get, slab_len};
+ghost use Rattle.ends_core.specs.Sides.{peer_of};
+ghost use Rattle.range_tree.specs.Trees.{tree_items};
+ghost use Rattle.hub_core.specs.Hubs.{OthersStay, IsLate, TakesOut, held_by, kept, silence};
+ghost use Rattle.hub_core.specs.Totals.{IsMost};
+ghost use Rattle.hub_core.specs.Peers.{GoesSo, Opens};
+
+use crate::best::better;
+use crate::limits::HubLimits;
+use crate::peer::Peer;
+use crate::step::Step;
+use link_core::LinkFault;
+use range_tree::Tree;
+use slab::Slab;
+use std::alloc::{AllocError, Global};
+use std::io::{Read, Write};
+use std::marker::Model;
+use std::sync::Arc;
+use strategy_check::Accepted;
+
+/// All peers at once, each at a key of its own.
+#[derive(Drop)]
+pub struct Hub<I, O> {
+    peers: Slab<Peer<I, O>>,
+    limits: HubLimits,
+    // What is counted for all of them.
+    held: u128,
+}
+
+impl<I, O> Model for Hub<I, O> {
+    ghost use Rattle.std.specs.Prelude.{◌≡◌};
+    ghost use Rattle.hub_core.specs.Hubs.{HubState, held_by};
+
+    ghost Value = { HubState I O };
+
+    ghost view = { λ h. record { peers = h.peers; limits = h.limits } };
+
+    ghost invariant = { λ h. h.held ≡ held_by h.peers };
+}
+
+/// Whether the time of a peer is over that was heard and came then.
+fn is_late(limits: &HubLimits, now: u64, heard: u64, arrived: u64) -> bool
+    ensures { result ≡ (nat_lt limits.now.idle (now - heard) || nat_lt limits.now.whole (now - arrived)) }
+{
+    now.saturating_sub(heard) > limits.idle || now.saturating_sub(arrived) > limits.whole
+}
+
+impl<I: Read, O: Write> Hub<I, O> {
+    /// No peer yet.
+    pub fn new(alloc: Global, limits: HubLimits) -> Hub<I, O>
+        ensures none { result.peers.slots ≡ [] }
+        ensures limits { result.limits ≡ limits }
+    {
+        Hub {
+            peers: Slab::new(alloc),
+            limits,
+            held: 0,
+        }
+    }
+
+    /// Their limits.
+    pub fn limits(&self) -> HubLimits
+        ensures { result ≡ self.now.limits }
+    {
+        self.limits
+    }
+
+    /// How many peers there are.
+    pub fn len(&self) -> usize
+        ensures { result ≡ slab_len self.now.peers }
+    {
+        self.peers.len()
+    }
+
+    /// Whether all places are taken.
+    pub fn is_full(&self) -> bool
+        ensures { result ≡ nat_le self.now.limits.places (slab_len self.now.peers) }
+    {
+        self.peers.len() >= self.limits.places
+    }
+
+    /// The key of the next peer.
+    pub fn next_key(&self) -> usize
+        ensures { get self.now.peers result ≡ None }
+    {
+        self.peers.vacant_key()
+    }
+
+    /// What is counted for all peers.
+    pub fn held(&self) -> u128
+        ensures { result ≡ held_by self.now.peers }
+    {
+        self.held
+    }
+
+    /// The peer at this key.
+    pub fn get(&self, key: usize) -> Option<&Peer<I, O>>
+        ensures { option_copied result ≡ get self.now.peers key }
+    {
+        self.peers.get(key)
+    }
+
+    /// Takes in one more peer, at a key that none had. Where memory runs out the peer is given back.
+    pub fn admit(&mut self, peer: Peer<I, O>) -> Result<usize, Peer<I, O>>
+        ensures vacant { IfOk result (λ key. get self.old.peers key ≡ None) }
+        ensures there { IfOk result (λ key. get self.new.peers key ≡ Some peer) }
+        ensures others { IfOk result (λ key. OthersStay self.old.peers self.new.peers key) }
+        ensures limits { self.new.limits ≡ self.old.limits }
+        ensures memory { IfErr result (λ p. (p ≡ peer) × (self.new.peers.slots ≡ self.old.peers.slots)) }
+    {
+        let _ = self.peers.capacity(); // proof only: there are fewer than 2^64 keys
+        let own = peer.kept();
+        match self.peers.insert(peer) {
+            Ok(key) => {
+                self.held += u128::from(own);
+                Ok(key)
+            }
+            Err(failed) => Err(failed.value),
+        }
+    }
+
+    /// Takes the peer out of this key, if there is one. The others stay as they are.
+    pub fn take(&mut self, key: usize) -> Option<Peer<I, O>>
+        ensures value { result ≡ get self.old.peers key }
+        ensures gone { get self.new.peers key ≡ None }
+        ensures others { OthersStay self.old.peers self.new.peers key }
+        ensures limits { self.new.limits ≡ self.old.limits }
+    {
+        let peer = self.peers.try_remove(key)?;
+        self.held -= u128::from(peer.kept());
+        Some(peer)
+    }
+
+    /// Goes on with the peer at this key, as far as its stream goes without waiting. Whatever it sends, the others stay
+    /// as they are. No peer, no step.
+    pub fn pump(
+        &mut self,
+        alloc: Global,
+        key: usize,
+        room: &mut [u8],
+        now: u64,
+    ) -> Option<Result<Step, LinkFault>>
+        requires room { 0 < length room.old }
+        ensures stays { IfSome result (λ did. (p q : _) → get self.old.peers key ≡ Some p →
+            get self.new.peers key ≡ Some q → GoesSo p.stage q.stage (take_remaining I.remaining p.reader.way)
+            (take_remaining I.remaining q.reader.way) (O.contents p.writer.way) (O.contents q.writer.way) did) }
+        ensures there { IsSome (get self.new.peers key) ↔ IsSome (get self.old.peers key) }
+        ensures others { OthersStay self.old.peers self.new.peers key }
+        ensures limits { self.new.limits ≡ self.old.limits }
+        ensures none { IfNone result (get self.old.peers key ≡ None) }
+        ensures room { length room.new ≡ length room.old }
+    {
+        let _ = self.peers.capacity(); // proof only: there are fewer than 2^64 keys
+        let peer = self.peers.get_mut(key)?;
+        let before = peer.kept();
+        let did = peer.pump(alloc, room, now);
+        let kept = peer.kept();
+        self.held = self.held - u128::from(before) + u128::from(kept);
+        Some(did)
+    }
+
+    /// Opens the session of the peer at this key over this version of the set. The others stay as they are.
+    pub fn open(
+        &mut self,
+        alloc: Global,
+        key: usize,
+        accepted: &Arc<Accepted>,
+        store: Tree,
+        version: usize,
+    ) -> Option<Result<(), AllocError>>
+        requires { length (tree_items store) ≤ (arc_value accepted.now).table.cap }
+        ensures opens { IfSome result (λ did. OnOk did ((p q : _) → get self.old.peers key ≡ Some p →
+            get self.new.peers key ≡ Some q →
+            Opens (peer_of (arc_value accepted.now) (tree_items store)) p.stage q.stage)) }
+        ensures memory { IfSome result (λ did. OnErr did (get self.new.peers key ≡ get self.old.peers key)) }
+        ensures there { IsSome (get self.new.peers key) ↔ IsSome (get self.old.peers key) }
+        ensures others { OthersStay self.old.peers self.new.peers key }
+        ensures limits { self.new.limits ≡ self.old.limits }
+        ensures none { IfNone result (get self.old.peers key ≡ None) }
+    {
+        let _ = self.peers.capacity(); // proof only: there are fewer than 2^64 keys
+        let peer = self.peers.get_mut(key)?;
+        let before = peer.kept();
+        let did = peer.open(alloc, accepted, store, version);
+        let after = peer.kept();
+        self.held = self.held - u128::from(before) + u128::from(after);
+        Some(did)
+    }
+
+    /// The peer of which most is kept.
+    pub fn greediest(&self) -> Option<usize>
+        ensures most { IfSome result (λ key. IsMost kept self.now.peers key) }
+        ensures none { IfNone result ((key : ℕ) → get self.now.peers key ≡ None) }
+    {
+        let mut best = None;
+        for (key, peer) in self.peers.iter() {
+            best = better(best, key, peer.kept());
+        }
+        let (key, _) = best?;
+        Some(key)
+    }
+
+    /// The peer that has been silent for longest.
+    pub fn most_silent(&self) -> Option<usize>
+        ensures most { IfSome result (λ key. IsMost silence self.now.peers key) }
+        ensures none { IfNone result ((key : ℕ) → get self.now.peers key ≡ None) }
+    {
+        let mut best = None;
+        for (key, peer) in self.peers.iter() {
+            best = better(best, key, u64::MAX - peer.heard());
+        }
+        let (key, _) = best?;
+        Some(key)
+    }
+
+    /// A peer whose time is over: it was silent for longer than it may be, or it has been there for longer.
+    pub fn late(&self, now: u64) -> Option<usize>
+        ensures late { IfSome result (λ key. (p : _) × (get self.now.peers key ≡ Some p)
+            × IsLate self.now.limits now p) }
+    {
+        for (key, peer) in self.peers.iter() {
+            if is_late(&self.limits, now, peer.heard(), peer.arrived()) {
+                return Some(key);
+            }
+        }
+        None
+    }
+
+    /// Takes the peer out of which most is kept, where more is held than may be. So `while let Some(peer) =
+    /// hub.over_budget()` ends with no more held than that.
+    pub fn over_budget(&mut self) -> Option<Peer<I, O>>
+        ensures within { IfNone result ((held_by self.new.peers ≤ self.new.limits.memory) × (self.new ≡ self.old)) }
+        ensures takes { IfSome result (λ p. TakesOut self.old self.new p) }
+        ensures limits { self.new.limits ≡ self.old.limits }
+    {
+        if self.held <= u128::from(self.limits.memory) {
+            return None;
+        }
+        let key = self.greediest()?;
+        self.take(key)
+    }
+}

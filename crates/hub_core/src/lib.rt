@@ -1,0 +1,18 @@
+//! Many peers at once, each over a stream that never waits: none can change another, and what all keep has a limit.
+#![tactic(auto)]
+
+mod best;
+mod greeting;
+mod hub;
+mod limits;
+mod opening;
+mod peer;
+mod stage;
+mod step;
+
+pub use greeting::Greeting;
+pub use hub::Hub;
+pub use limits::HubLimits;
+pub use peer::Peer;
+pub use stage::Stage;
+pub use step::{Step, StepPause};

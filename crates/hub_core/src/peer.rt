@@ -1,0 +1,233 @@
+//! One peer: both ways of its stream, how far it is, and when it was heard.
+
+ghost use Rattle.std.specs.Prelude.{◌≡◌, ◌≢◌, ◌<◌, ◌≤◌, nat_lt, length, Some, OnOk, OnErr, IfSome, IfNone};
+ghost use Rattle.session_core.specs.declared.state.State.TheVariants as states;
+ghost use Rattle.std.specs.Arc.{arc_value};
+ghost use Rattle.std.specs.Io.Take.{take_inner, take_remaining};
+ghost use Rattle.ends_core.specs.Sides.{peer_of};
+ghost use Rattle.range_tree.specs.Trees.{tree_items};
+ghost use Rattle.hub_core.specs.Peers.{GoesSo, IsFresh, Learns, Opens, kept_in, sent_in, state_in, woken};
+
+use crate::greeting::Greeting;
+use crate::opening::opened;
+use crate::stage::Stage;
+use crate::step::Step;
+use ends_core::Learned;
+use link_core::{LinkFault, Polled};
+use range_tree::Tree;
+use session_core::State;
+use std::alloc::{AllocError, Global};
+use std::io::{Read, Take, Write};
+use std::marker::Model;
+use std::sync::Arc;
+use strategy_check::Accepted;
+
+/// How many bytes a message may have that is no longer than others.
+const LONG: u64 = 65_536;
+
+/// One peer.
+#[derive(Drop)]
+pub struct Peer<I, O> {
+    reader: Polled<Take<I>>,
+    writer: Polled<O>,
+    stage: Stage,
+    version: usize,
+    serial: u64,
+    heard: u64,
+    arrived: u64,
+    long: u64,
+}
+
+impl<I, O> Model for Peer<I, O> {
+    ghost use Rattle.hub_core.specs.Peers.{PeerState};
+
+    ghost Value = { PeerState I O };
+
+    ghost view = { λ p. record {
+      reader = p.reader;
+      writer = p.writer;
+      stage = p.stage;
+      version = p.version;
+      serial = p.serial;
+      heard = p.heard;
+      arrived = p.arrived;
+      long = p.long;
+    } };
+}
+
+/// When a peer was heard last, where this step was made now.
+fn heard_at(heard: u64, step: Step, now: u64) -> u64 {
+    if step.read == 0 && step.written == 0 {
+        return heard;
+    }
+    now
+}
+
+/// How many bytes came since our last message, where `said` messages were said in this step.
+fn long_after(long: u64, step: Step, said: bool) -> u64 {
+    if said {
+        return 0;
+    }
+    long.saturating_add(step.read)
+}
+
+impl<I: Read, O: Write> Peer<I, O> {
+    /// A peer that has just come, and of which at most so many bytes are read.
+    pub fn new(
+        alloc: Global,
+        reader: I,
+        writer: O,
+        most_bytes: u64,
+        serial: u64,
+        now: u64,
+    ) -> Peer<I, O>
+        ensures { IsFresh reader writer most_bytes serial now result }
+    {
+        Peer {
+            reader: Polled::new(reader.take(most_bytes)),
+            writer: Polled::new(writer),
+            stage: Stage::Greeting(Greeting::new(alloc)),
+            version: 0,
+            serial,
+            heard: now,
+            arrived: now,
+            long: 0,
+        }
+    }
+
+    /// How far it is.
+    pub fn stage(&self) -> &Stage
+        ensures { result.now ≡ self.now.stage }
+    {
+        &self.stage
+    }
+
+    /// How many bytes of memory are counted for it: those of a greeting, or what the session keeps.
+    pub fn kept(&self) -> u64
+        ensures { result ≡ kept_in self.now.stage }
+    {
+        self.stage.kept()
+    }
+
+    /// How many messages were said to it.
+    pub fn sent(&self) -> u32
+        ensures { result ≡ sent_in self.now.stage }
+    {
+        self.stage.sent()
+    }
+
+    /// What its session has learned, where it has ended.
+    pub fn learned(&self) -> Option<&Learned>
+        ensures learned { IfSome result (λ k. Learns self.now.stage k.now) }
+        ensures none { IfNone result (state_in self.now.stage ≢ Some states.Ended) }
+    {
+        self.stage.learned()
+    }
+
+    /// How its session stands, if it is opened.
+    pub fn state(&self) -> Option<State>
+        ensures { result ≡ state_in self.now.stage }
+    {
+        self.stage.state()
+    }
+
+    /// The number of the version that its session speaks of; 0 before it is opened.
+    pub fn version(&self) -> usize
+        ensures { result ≡ self.now.version }
+    {
+        self.version
+    }
+
+    /// Its serial.
+    pub fn serial(&self) -> u64
+        ensures { result ≡ self.now.serial }
+    {
+        self.serial
+    }
+
+    /// When a byte of it was last read or written.
+    pub fn heard(&self) -> u64
+        ensures { result ≡ self.now.heard }
+    {
+        self.heard
+    }
+
+    /// When it came.
+    pub fn arrived(&self) -> u64
+        ensures { result ≡ self.now.arrived }
+    {
+        self.arrived
+    }
+
+    /// Whether more than 65,536 bytes came since our last message.
+    pub fn is_long(&self) -> bool
+        ensures { result ≡ nat_lt 65536 self.now.long }
+    {
+        self.long > LONG
+    }
+
+    /// How far it is, and both ways of its stream.
+    pub fn into_parts(self) -> (Stage, I, O)
+        ensures stage { result.0 ≡ self.stage }
+        ensures reader { result.1 ≡ take_inner self.reader.way }
+        ensures writer { result.2 ≡ self.writer.way }
+    {
+        let Peer {
+            stage,
+            reader,
+            writer,
+            ..
+        } = self;
+        (stage, reader.into_inner().into_inner(), writer.into_inner())
+    }
+
+    /// Its stream is ready again.
+    pub fn wake(&mut self)
+        ensures { self.new ≡ woken self.old }
+    {
+        self.reader.wake();
+        self.writer.wake();
+    }
+
+    /// Reads and writes what can be read and written: at most 16 reads and writes.
+    pub fn pump(&mut self, alloc: Global, room: &mut [u8], now: u64) -> Result<Step, LinkFault>
+        requires room { 0 < length room.old }
+        ensures moved { GoesSo self.old.stage self.new.stage (take_remaining I.remaining self.old.reader.way)
+            (take_remaining I.remaining self.new.reader.way) (O.contents self.old.writer.way)
+            (O.contents self.new.writer.way) result }
+        ensures same { (self.new.version ≡ self.old.version) × (self.new.serial ≡ self.old.serial)
+            × (self.new.arrived ≡ self.old.arrived) }
+        ensures room { length room.new ≡ length room.old }
+    {
+        let sent = self.stage.sent();
+        let step = self
+            .stage
+            .pump(alloc, &mut self.reader, &mut self.writer, room)?;
+        self.heard = heard_at(self.heard, step, now);
+        self.long = long_after(self.long, step, self.stage.sent() != sent);
+        Ok(step)
+    }
+
+    /// Opens its session over this version of the set. One that is open stays as it is.
+    pub fn open(
+        &mut self,
+        alloc: Global,
+        accepted: &Arc<Accepted>,
+        store: Tree,
+        version: usize,
+    ) -> Result<(), AllocError>
+        requires { length (tree_items store) ≤ (arc_value accepted.now).table.cap }
+        ensures opens { OnOk result (Opens (peer_of (arc_value accepted.now) (tree_items store)) self.old.stage
+            self.new.stage) }
+        ensures same { self.new ≡ record self.old { stage = self.new.stage; version = self.new.version } }
+        ensures memory { OnErr result (self.new ≡ self.old) }
+    {
+        let Stage::Greeting(greeting) = &self.stage else {
+            return Ok(());
+        };
+        let stage = opened(alloc, accepted, store, greeting)?;
+        self.stage = stage;
+        self.version = version;
+        Ok(())
+    }
+}

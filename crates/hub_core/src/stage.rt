@@ -1,0 +1,129 @@
+//! How far a peer is: it greets, or its session goes on in one of the two profiles.
+
+ghost use Rattle.std.specs.Prelude.{◌≡◌, ◌≢◌, ◌<◌, length, Some, IfSome, IfNone};
+ghost use Rattle.session_core.specs.declared.state.State.TheVariants as states;
+ghost use Rattle.hub_core.specs.Steps.{pause_in, step_in};
+ghost use Rattle.hub_core.specs.Peers.{GoesSo, Learns, kept_in, sent_in, state_in};
+
+use crate::greeting::Greeting;
+use crate::step::{Step, StepPause};
+use digest_core::{Counted, Fingerprint};
+use ends_core::{Learned, Responding};
+use link_core::{LinkFault, Pause, Polled, Pumped, pump};
+use range_tree::Tree;
+use session_core::{Session, State};
+use std::alloc::Global;
+use std::io::{Read, Write};
+
+/// How far a peer is.
+#[derive(Drop)]
+pub enum Stage {
+    /// Its session is not opened.
+    Greeting(Greeting),
+    /// It speaks profile 1.
+    Plain(Box<Session<Responding, Tree, Fingerprint>>),
+    /// It speaks profile 2.
+    Counted(Box<Session<Responding, Tree, Counted>>),
+}
+
+/// The same pause, of a session.
+fn pause_of(pause: Pause) -> StepPause
+    ensures { result ≡ pause_in pause }
+{
+    match pause {
+        Pause::Waits => StepPause::Waits,
+        Pause::More => StepPause::More,
+        Pause::Over => StepPause::Over,
+    }
+}
+
+/// The same step, of a session.
+fn step_of(pumped: Result<Pumped, LinkFault>) -> Result<Step, LinkFault>
+    ensures { result ≡ step_in pumped }
+{
+    let pumped = pumped?;
+    Ok(Step {
+        pause: pause_of(pumped.pause),
+        read: pumped.read,
+        written: pumped.written,
+    })
+}
+
+impl Stage {
+    /// How many bytes of memory are counted for it.
+    pub fn kept(&self) -> u64
+        ensures { result ≡ kept_in self.now }
+    {
+        match self {
+            Stage::Greeting(greeting) => greeting.came().len() as u64,
+            Stage::Plain(session) => session.kept(),
+            Stage::Counted(session) => session.kept(),
+        }
+    }
+
+    /// How many messages were said to it.
+    pub fn sent(&self) -> u32
+        ensures { result ≡ sent_in self.now }
+    {
+        match self {
+            Stage::Greeting(_) => 0,
+            Stage::Plain(session) => session.sent(),
+            Stage::Counted(session) => session.sent(),
+        }
+    }
+
+    /// How its session stands, if it is opened.
+    pub fn state(&self) -> Option<State>
+        ensures { result ≡ state_in self.now }
+    {
+        match self {
+            Stage::Greeting(_) => None,
+            Stage::Plain(session) => Some(session.state()),
+            Stage::Counted(session) => Some(session.state()),
+        }
+    }
+
+    /// What its session has learned, where it has ended.
+    pub fn learned(&self) -> Option<&Learned>
+        ensures learned { IfSome result (λ k. Learns self.now k.now) }
+        ensures none { IfNone result (state_in self.now ≢ Some states.Ended) }
+    {
+        match self {
+            Stage::Greeting(_) => None,
+            Stage::Plain(session) => session.learned(),
+            Stage::Counted(session) => session.learned(),
+        }
+    }
+
+    /// The same, for good.
+    pub fn into_learned(self) -> Option<Learned>
+        ensures learned { IfSome result (λ k. Learns self k) }
+        ensures none { IfNone result (state_in self ≢ Some states.Ended) }
+    {
+        match self {
+            Stage::Greeting(_) => None,
+            Stage::Plain(session) => Box::into_inner(session).into_learned(),
+            Stage::Counted(session) => Box::into_inner(session).into_learned(),
+        }
+    }
+
+    /// Reads and writes what can be read and written.
+    pub(crate) fn pump<I: Read, O: Write>(
+        &mut self,
+        alloc: Global,
+        reader: &mut Polled<I>,
+        writer: &mut Polled<O>,
+        room: &mut [u8],
+    ) -> Result<Step, LinkFault>
+        requires room { 0 < length room.old }
+        ensures moved { GoesSo self.old self.new (I.remaining reader.old.way) (I.remaining reader.new.way)
+            (O.contents writer.old.way) (O.contents writer.new.way) result }
+        ensures room { length room.new ≡ length room.old }
+    {
+        match self {
+            Stage::Greeting(greeting) => greeting.pump(reader, writer, room),
+            Stage::Plain(session) => step_of(pump(alloc, reader, writer, &mut **session, room)),
+            Stage::Counted(session) => step_of(pump(alloc, reader, writer, &mut **session, room)),
+        }
+    }
+}

@@ -1,0 +1,3 @@
+pub use Rattle.session_core.specs.Sessions
+pub mod Polls
+pub mod Links

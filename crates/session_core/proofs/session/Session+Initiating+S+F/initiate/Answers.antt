@@ -1,0 +1,17 @@
+use Rattle.std.proofs.Common.{rules, refl, subst, sym}
+use Rattle.std.specs.Arc.{arc_value}
+use Rattle.definitions.specs.Engines.{Speaker, initiating}
+use Rattle.ends_core.specs.Sides.{peer_of}
+use Rattle.session_core.specs.Sessions.{SessionState, Begins}
+use Rattle.session_core.proofs.Steps.{begins-opened}
+use Rattle.session_core.proofs.session.Session+Initiating+S+F.initiate.Goals as goal
+
+pub returns-clause-begins : goal.returns-clause-begins
+returns-clause-begins g c =
+    let a = arc_value c.args.accepted in
+    let s : Speaker g.row.F.Denot =
+    initiating g.F.Summary.summary (peer_of (arc_value c.args.accepted) (g.S.RangeStore.content c.args.store)) in
+    subst (λ (d : SessionState g.row.F.Denot). Begins g.F.Summary.summary g.F.Summary.profile a s d)
+    (sym c.of-2.ensures)
+    (begins-opened g.F.Summary.summary g.F.Summary.profile a s _ _ (search rules) (search rules) (search rules) refl
+    (search rules))
