@@ -238,7 +238,7 @@ static void insertions(void) {
     free_both(old, new);
 }
 
-/* The items from a lower bound on and before an upper one, one behind the other, as `|a|bc`. */
+/* The items from a lower bound on and before an upper one, one after the other, as `|a|bc`. */
 static const char *items_in(rs_handle *version, const char *lower, const char *upper) {
     static char line[256];
     const uint8_t *from = (const uint8_t *)lower, *to = (const uint8_t *)upper;

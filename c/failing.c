@@ -134,13 +134,13 @@ void __wrap_free(void *block);
 
 /* How many requests are served before one is refused; below 0 none is. */
 static long ahead = -1;
-/* One was refused since this was set back, as it is before each call; whether all behind it are refused too. */
-static bool met, all_behind;
+/* One was refused since this was set back, as it is before each call; whether all after it are refused too. */
+static bool met, all_after;
 /* The blocks that were given out and are not given back. */
 static long live;
 
 static bool is_refused(void) {
-    if (met && all_behind) return true;
+    if (met && all_after) return true;
     if (ahead < 0 || ahead-- > 0) return false;
     met = true;
     return true;
@@ -334,7 +334,7 @@ static long refuse_in_turn(uint32_t profile) {
     whole_run(profile);
     memcpy(first_said, said, first_length = said_length);
     for (ahead = 0; failed == 0; ahead = ++refused) {
-        sprintf(about, "profile %u, request %ld%s", profile, refused + 1, all_behind ? " and those behind it" : "");
+        sprintf(about, "profile %u, request %ld%s", profile, refused + 1, all_after ? " and those after it" : "");
         whole_run(profile);
         CHECK(live == 0 && said_length == first_length && memcmp(said, first_said, said_length) == 0);
         if (ahead >= 0) break;
@@ -350,8 +350,8 @@ int main(void) {
     bad_item_files(&strategy);
     rs_free(strategy);
     for (int way = 0; way < 4; way++) {
-        all_behind = way >= 2;
-        const char *how = all_behind ? ", each with those behind it in its call" : "";
+        all_after = way >= 2;
+        const char *how = all_after ? ", each with those after it in its call" : "";
         printf("profile %d: %ld requests refused in turn%s\n", 1 + way % 2, refuse_in_turn(1 + way % 2), how);
     }
     printf("%u passed, %u failed\n", passed, failed);

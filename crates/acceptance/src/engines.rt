@@ -68,7 +68,7 @@ pub(crate) struct Told {
     outcome: String,
     written: Vec<u8>,
     pub(crate) totals: Totals,
-    /// How many sessions are live behind it.
+    /// How many sessions are live after it.
     pub(crate) live: usize,
     /// How often the gate was told of an end.
     ended: u64,
@@ -324,7 +324,7 @@ fn peer_that_refuses(rt: HostRuntime) -> Result<(), Fail> {
     Ok(())
 }
 
-/// Compares how a side that serves refuses these bytes behind the hello.
+/// Compares how a side that serves refuses these bytes after the hello.
 fn refuses<T: Wait + Abort>(
     rt: &T,
     alloc: Global,

@@ -121,7 +121,7 @@ fn flooded(
 }
 
 /// What comes of a flood up to this number at a responder that has heard nothing before.
-fn length_behind_flood(
+fn length_after_flood(
     rt: &impl Abort,
     alloc: Global,
     last: u32,
@@ -134,7 +134,7 @@ fn length_behind_flood(
 #[test]
 fn a_reply_of_as_many_parts_as_fit_and_of_one_more(rt: HostRuntime) -> Result<(), Fail> {
     let alloc = rt.alloc();
-    assert_eq!(rt; length_behind_flood(&rt, alloc, 131_069)?, Ok(131_072));
-    assert_eq!(rt; length_behind_flood(&rt, alloc, 131_070)?, Err(12));
+    assert_eq!(rt; length_after_flood(&rt, alloc, 131_069)?, Ok(131_072));
+    assert_eq!(rt; length_after_flood(&rt, alloc, 131_070)?, Err(12));
     Ok(())
 }

@@ -16,7 +16,7 @@ use std::test::Fail;
 use strategy_check::Accepted;
 use wire_core::{Part, encode_part};
 
-/// The message that a side without items writes first, behind its hello.
+/// The message that a side without items writes first, after its hello.
 const FIRST_OF_EMPTY: &[&[u8]] = &[HELLO, SUM_OF_NOTHING, END];
 
 /// Appends the frame of a Sum from this bound, where no bytes are the start, up to the other, where none are the end.
@@ -33,7 +33,7 @@ fn push_sum(
 }
 
 /// Compares what a side without items that speaks first comes to, which reads and writes so many bytes a call, and all
-/// that it writes behind its first message.
+/// that it writes after its first message.
 fn dials<T: Wait + Abort>(
     rt: &T,
     alloc: Global,

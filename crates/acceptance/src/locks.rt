@@ -113,7 +113,7 @@ fn insert_all<R: Wait + Abort>(
     Worker { seat, added: 100 }
 }
 
-// A seat, and how many items the lock told it to be new: each byte below this number, behind the worker's own.
+// A seat, and how many items the lock told it to be new: each byte below this number, after the worker's own.
 #[derive(Drop)]
 struct Worker {
     seat: TreeSeat,

@@ -102,7 +102,7 @@ fn most_parts(rt: HostRuntime) -> Result<(), Fail> {
     assert_eq!(rt; text.len(), 39 * 131_072 + 5);
     assert!(rt; decode_message(alloc, &text) == Ok(most));
 
-    // One Sum more in front: the frame of the end is now behind 131,073 parts.
+    // One Sum more in front: the frame of the end is now after 131,073 parts.
     let first = encode_part(alloc, &Part::sum(Range::whole(), Fingerprint::zero()))?;
     text.extend_from_slice(&first)?;
     text.rotate_right(39);

@@ -28,7 +28,7 @@ const TEACHES_ABC: &[&[u8]] = &[HELLO, SUM_OF_ABC, END, ABC_IS_NEW, END];
 /// What a peer says that has aa, x and y, in this order, to a side with a to g.
 const TEACHES_THREE: &[&[u8]] = &[HELLO, SUM_OF_ONES, END, AA_BEFORE_D, X_AND_Y_FROM_D, END];
 
-/// Connections whose peers all say the same, 0 to 2 of them; behind them there is none, or a fault.
+/// Connections whose peers all say the same, 0 to 2 of them; after them there is none, or a fault.
 #[derive(Drop)]
 struct Peers<'a> {
     alloc: Global,

@@ -52,7 +52,7 @@ fn finish(rt: &impl Abort, alloc: Global, world: &mut World, session: usize) -> 
     0
 }
 
-/// Whether the items, one behind the other, read so.
+/// Whether the items, one after the other, read so.
 fn reads(rt: &impl Abort, alloc: Global, items: &[Item], text: &[u8]) -> bool {
     let mut bytes: Vec<u8> = Vec::new(alloc);
     for item in items {

@@ -25,25 +25,25 @@ use Rattle.definitions.proofs.Words.{Part, Sum, Listing, Answer}
 use Rattle.definitions.proofs.Lemmas.{common_steps, length-append, ltb-true, ltb-false, eqb-true, append-nil}
 use Rattle.definitions.proofs.Lemmas.{length-take-le, length-drop, take-append-drop, before-trans}
 use Rattle.definitions.specs.Reading.{◌>>=◌}
-use Rattle.codec_laws.proofs.Fields.{Tells, along, as_told, behind, bind_assoc, tested, read_ok, item_field}
+use Rattle.codec_laws.proofs.Fields.{Tells, along, as_told, after_reading, bind_assoc, tested, read_ok, item_field}
 use Rattle.codec_laws.proofs.Fields.{count_field, lower_field, upper_field, by_test_then, told_ok, told_err, rest_fits}
 use Rattle.codec_laws.proofs.Fields.{some_bytes, neq_of}
 use Rattle.codec_laws.proofs.Marks.{marks_told}
 
--- ==== Items, and the end of a body behind them
+-- ==== Items, and the end of a body after them
 
 abbrev inside : Range → Item × List ℕ → Result (Item × List ℕ) ℕ
 inside X y = unless (not (contains X y.0)) item_outside y
 
-item_behind : {B : Type 0} (X : Range) (before : Option Item) (k : Item × List ℕ → Result B ℕ)
+item_after : {B : Type 0} (X : Range) (before : Option Item) (k : Item × List ℕ → Result B ℕ)
     (Good : Item → List ℕ → B → Type 0) (Later : Item → List ℕ → ℕ → Type 0) →
     ((x : Item) (rest : List ℕ) → Tells (IsBytes rest) (k (x, rest)) (Good x rest) (Later x rest)) → (bytes : List ℕ) →
     Tells (IsBytes bytes) (item_at X before bytes >>= k) (λ y.
     Begins short_text IsItem (λ x rest. IsTrue (rises_from before x) × (IsTrue (contains X x) × Good x rest y)) bytes)
     (λ e. NoItem bytes e ⊎ Begins short_text IsItem (λ x rest. FaultyItem X before x (Later x rest e) e) bytes)
-item_behind {B} X before k Good Later goes bytes =
+item_after {B} X before k Good Later goes bytes =
     along (bind_assoc (text_at bytes) (λ x. unless (not (rises_from before x.0)) item_order x >>= inside X) k)
-    (behind item_field (λ x. (unless (not (rises_from before x.0)) item_order x >>= inside X) >>= k)
+    (after_reading item_field (λ x. (unless (not (rises_from before x.0)) item_order x >>= inside X) >>= k)
     (λ x rest y. IsTrue (rises_from before x) × (IsTrue (contains X x) × Good x rest y))
     (λ x rest e. FaultyItem X before x (Later x rest e) e)
     (λ x rest right. as_told (along (bind_assoc (unless (not (rises_from before x)) item_order (x, rest)) (inside X) k)
@@ -98,7 +98,7 @@ items_told X zero before k Good goes bytes = as_told (goes [] bytes) (λ f. f) (
 items_told X (suc n) before k Good goes bytes =
     as_told (along
     (bind_assoc (item_at X before bytes) (λ x. items_at X n (Some x.0) x.1 >>= (λ xs. read_ok (x.0 ∷ xs.0, xs.1))) k)
-    (item_behind X before (λ x. (items_at X n (Some x.0) x.1 >>= (λ xs. read_ok (x.0 ∷ xs.0, xs.1))) >>= k)
+    (item_after X before (λ x. (items_at X n (Some x.0) x.1 >>= (λ xs. read_ok (x.0 ∷ xs.0, xs.1))) >>= k)
     (λ x rest y. Run X n (Some x) (λ xs. Good (x ∷ xs)) rest y) (λ x rest e. FaultyItems X n (Some x) rest e)
     (λ x rest. along (bind_assoc (items_at X n (Some x) rest) (λ xs. read_ok (x ∷ xs.0, xs.1)) k)
     (items_told X n (Some x) (λ xs. k (x ∷ xs.0, xs.1)) (λ xs. Good (x ∷ xs)) (λ xs more. goes (x ∷ xs) more) rest))
@@ -171,7 +171,7 @@ pub list_told : {B : Type 0} (X : Range) (k : List Item × List ℕ → Result B
     (λ y. Begins items_text (AreItemsOf X) (λ xs rest. Good xs rest y) bytes) (FaultyList X bytes)
 list_told {B} X k Good goes bytes =
     as_told (along (bind_assoc (number_at bytes) (λ n. items_at X n.0 None n.1) k)
-    (behind count_field (λ n. items_at X n.0 None n.1 >>= k) (λ n rest y. Run X n None Good rest y)
+    (after_reading count_field (λ n. items_at X n.0 None n.1 >>= k) (λ n rest y. Run X n None Good rest y)
     (λ n rest. FaultyItems X n None rest)
     (λ n rest _. items_told X n None k Good goes rest) bytes))
     (λ f. f) (λ y f g. list_of_count X Good bytes y g) (count_of_list X Good bytes) (λ e b. b) (λ e b. b)
@@ -194,9 +194,9 @@ range_told {B} k Good Next goes bytes =
     let GoodUpper : List ℕ → List ℕ → B → Type 0 =
     λ x rest z. Begins upper_text IsUpper (λ y more. IsTrue (is_below x y) × Good (span x y) more z) rest in
     as_told (along (bind_assoc (lower_at bytes) (λ x. upper_at x.1 >>= bounds x) k)
-    (behind lower_field (λ x. (upper_at x.1 >>= bounds x) >>= k) GoodUpper (FaultyUpper Next)
+    (after_reading lower_field (λ x. (upper_at x.1 >>= bounds x) >>= k) GoodUpper (FaultyUpper Next)
     (λ x rest right. along (bind_assoc (upper_at rest) (bounds (x, rest)) k)
-    (behind upper_field (λ y. bounds (x, rest) y >>= k) (λ y more z. IsTrue (is_below x y) × Good (span x y) more z)
+    (after_reading upper_field (λ y. bounds (x, rest) y >>= k) (λ y more z. IsTrue (is_below x y) × Good (span x y) more z)
     (FaultyBounds Next x)
     (λ y more right2. tested (is_below x y) empty_range (span x y, more) k _ _
     (λ below. goes (span x y) more (record { lower = right; upper = right2; rises = below }))) rest))
@@ -321,11 +321,11 @@ listing_told {F} P input bytes =
     (λ xs more. end_told (Came (Listing X xs)) more) rest)) bytes))
     (λ f. f) (listing_says P input bytes) (listing_good P input bytes) (λ e b. b) (λ e b. b)
 
-abbrev items_behind : {F : Type 0} → Range → List Bool × List ℕ → Result (Part F × List ℕ) ℕ
-items_behind X marks = list_at X marks.1 >>= (λ items. read_ok (Answer X marks.0 items.0, items.1))
+abbrev items_after : {F : Type 0} → Range → List Bool × List ℕ → Result (Part F × List ℕ) ℕ
+items_after X marks = list_at X marks.1 >>= (λ items. read_ok (Answer X marks.0 items.0, items.1))
 
 abbrev answer_of : {F : Type 0} → Range × List ℕ → Result (Part F × List ℕ) ℕ
-answer_of X = marks_at X.1 >>= items_behind X.0
+answer_of X = marks_at X.1 >>= items_after X.0
 
 abbrev ItemsGood : {F : Type 0} → Range → List Bool → List ℕ → Event F → Type 0
 ItemsGood X marks rest y =
@@ -348,8 +348,8 @@ pub answer_told : {F : Type 0} (P : Profile F) (input : Input) (bytes : List ℕ
 answer_told {F} P input bytes =
     as_told (along (after_part (answer_at bytes) ∙ bind_assoc (range_at bytes) answer_of close)
     (range_told (λ X. answer_of X >>= close) AnswerGood FaultyAnswer
-    (λ X rest right. along (bind_assoc (marks_at rest) (items_behind X) close)
-    (marks_told X (λ marks. items_behind X marks >>= close) (ItemsGood X)
+    (λ X rest right. along (bind_assoc (marks_at rest) (items_after X) close)
+    (marks_told X (λ marks. items_after X marks >>= close) (ItemsGood X)
     (λ marks more. along (bind_assoc (list_at X more) (λ items. read_ok (Answer X marks items.0, items.1)) close)
     (list_told X (λ items. close (Answer X marks items.0, items.1)) (λ xs end y. (y ≡ Came (Answer X marks xs))
     × (end ≡ [])) (λ xs end. end_told (Came (Answer X marks xs)) end) more)) rest))

@@ -145,14 +145,14 @@ pub front_fits : (bytes xs ys : List ℕ) → bytes ≡ xs ++ ys → IsBytes byt
 front_fits bytes xs ys e h = IsBytes-front xs ys (subst (λ (bs : List ℕ). IsBytes bs) e h)
 
 -- a field, and then what follows
-pub behind : {A B : Type 0} {text : A → List ℕ} {IsRight : A → Type 0} {No : List ℕ → ℕ → Type 0}
+pub after_reading : {A B : Type 0} {text : A → List ℕ} {IsRight : A → Type 0} {No : List ℕ → ℕ → Type 0}
     {read : List ℕ → Result (A × List ℕ) ℕ} → Field text IsRight No read →
     (k : A × List ℕ → Result B ℕ) (Good : A → List ℕ → B → Type 0) (Bad : A → List ℕ → ℕ → Type 0) →
     ((x : A) (rest : List ℕ) → IsRight x → Tells (IsBytes rest) (k (x, rest)) (Good x rest) (Bad x rest)) →
     (bytes : List ℕ) →
     Tells (IsBytes bytes) (read bytes >>= k) (λ y. Begins text IsRight (λ x rest. Good x rest y) bytes)
     (λ e. No bytes e ⊎ Begins text IsRight (λ x rest. Bad x rest e) bytes)
-behind {text} {read} f k Good Bad goes bytes = record {
+after_reading {text} {read} f k Good Bad goes bytes = record {
   total = λ fits. elim ((f.at bytes).total fits) [
     | inl p ↦ elim ((goes p.0.0 p.0.1 p.1.0).total (rest_fits bytes (text p.0.0) p.0.1 p.1.1 fits)) [
       | inl q ↦ inl (q.0, (p.0.0, p.0.1, p.1.0, p.1.1, q.1), ap (λ r. r >>= k) p.2 ∙ q.2)

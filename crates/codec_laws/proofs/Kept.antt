@@ -87,7 +87,7 @@ nothing_more : {X : Type 0} (xs ys : List X) → xs ≡ xs ++ ys → ys ≡ []
 nothing_more xs [] h = refl
 nothing_more xs (y ∷ ys) h = absurd (let l = ap length h in let a = length-append xs (y ∷ ys) in omega arith)
 
--- what comes behind all of a is nothing
+-- what comes after all of a is nothing
 joined_none : {F : Type 0} (a b : Fed F) → a ≡ joined a b → b ≡ stays a.to a.kept
 joined_none {F} a b h =
     let none : b.events ≡ [] = nothing_more a.events b.events (ap (λ (f : Fed F). f.events) h) in

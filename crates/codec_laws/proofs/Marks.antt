@@ -20,10 +20,10 @@ use Rattle.definitions.proofs.Lemmas.{bit_at-zero, bytes_eq-Decides, div-eq_of_l
 use Rattle.definitions.proofs.Lemmas.{leb_tells, eqb-true, eqb-false, mod-pow-add, pow_pos}
 use Rattle.definitions.specs.Reading.{◌>>=◌}
 use Rattle.codec_laws.specs.Parts.{PaddingIsLast}
-use Rattle.codec_laws.proofs.Fields.{Tells, along, as_told, behind, bind_assoc, tested, true_is_false, bytes_field}
+use Rattle.codec_laws.proofs.Fields.{Tells, along, as_told, after_reading, bind_assoc, tested, true_is_false, bytes_field}
 use Rattle.codec_laws.proofs.Fields.{count_field, byte_fits}
 
--- ==== Marks, and the list behind them
+-- ==== Marks, and the list after them
 
 bit_of_mark : (bits : List Bool) (i : ℕ) → (bit_at (mark_byte bits) i == 1) ≡ get_or bits i false
 bit_of_mark [] i = ap (λ n. n == 1) (bit_at-zero i)
@@ -88,7 +88,7 @@ some_marks : {B : Type 0} (X : Range) (n : ℕ) (k : List Bool × List ℕ → R
     (λ y. Begins mark_bytes (λ marks. length marks ≡ n) (λ marks rest. Good marks rest y) bytes) (FaultyMarks X n bytes)
 some_marks {B} X n k Good goes bytes =
     as_told (along (bind_assoc (bytes_at (mark_bytes_for n) bytes) (held_marks n) k)
-    (behind (bytes_field (mark_bytes_for n)) (λ held. held_marks n held >>= k)
+    (after_reading (bytes_field (mark_bytes_for n)) (λ held. held_marks n held >>= k)
     (λ held rest y. IsTrue (Clean n held) × Good (marks_in n held) rest y)
     (λ held rest e. (IsFalse (Clean n held) × (e ≡ mark_padding)) ⊎ (IsTrue (Clean n held) × FaultyList X rest e))
     (λ held rest _. tested (Clean n held) mark_padding (marks_in n held, rest) k _ _ (λ _. goes (marks_in n held) rest))
@@ -133,7 +133,7 @@ pub marks_told : {B : Type 0} (X : Range) (k : List Bool × List ℕ → Result 
     Begins marks_text (λ marks. length marks < 2 ^ 32) (λ marks rest. Good marks rest y) bytes) (FaultyAnswer X bytes)
 marks_told {B} X k Good goes bytes =
     as_told (along (bind_assoc (number_at bytes) (λ n. bytes_at (mark_bytes_for n.0) n.1 >>= held_marks n.0) k)
-    (behind count_field (λ n. (bytes_at (mark_bytes_for n.0) n.1 >>= held_marks n.0) >>= k) (λ n rest y. Begins
+    (after_reading count_field (λ n. (bytes_at (mark_bytes_for n.0) n.1 >>= held_marks n.0) >>= k) (λ n rest y. Begins
     mark_bytes (λ marks. length marks ≡ n) (λ marks more. Good marks more y) rest) (λ n rest. FaultyMarks X n rest)
     (λ n rest _. some_marks X n k Good goes rest) bytes))
     (λ f. f)

@@ -239,7 +239,7 @@ event_at_told P real input parts bytes =
 
 -- ==== One message and nothing else
 
--- the rest of a message, behind so many parts
+-- the rest of a message, after so many parts
 pub record IsTail {F : Type 0} (P : Profile F) (parts : ℕ) (bytes : List ℕ) (M : Message F) : Type 0 where
   pub count : parts + length M ≤ max_parts
   pub each : AllByRecursion (IsPart P) M

@@ -159,7 +159,7 @@ feed_exact P real from bytes =
 
 -- ==== A stream may be cut anywhere
 
--- more bytes behind a beginning
+-- more bytes after a beginning
 then_more : (bytes front rest back : List ℕ) → bytes ≡ front ++ rest → bytes ++ back ≡ front ++ (rest ++ back)
 then_more bytes front rest back is = ap (λ (t : List ℕ). t ++ back) is ∙ append_assoc front rest back
 

@@ -46,7 +46,7 @@ PaddingIsLast = (n : ℕ) (held : List ℕ) → IsBytes held → length held ≡
 abbrev pub joined : {F : Type 0} → Fed F → Fed F → Fed F
 joined a b = record { events = a.events ++ b.events; to = b.to; kept = b.kept }
 
--- a stream may come in pieces: each is read behind what was kept
+-- a stream may come in pieces: each is read after what was kept
 abbrev pub FeedsJoin : {F : Type 0} → Profile F → Type 0
 FeedsJoin {F} P = (from : Standing) (front back : List ℕ) → IsBytes front → IsBytes back →
     feed P from (front ++ back) ≡ (let a = feed P from front in joined a (feed P a.to (a.kept ++ back)))

@@ -65,14 +65,14 @@ fn is_short(table: &Table) -> bool {
     }
 }
 
-/// The rows of a table behind the first one.
+/// The rows of a table after the first one.
 fn rows_of(table: &Table) -> Option<&[Value]> {
     let rows = table.get("row")?.as_array()?;
     let (_list, cuts) = rows.split_first()?;
     Some(cuts)
 }
 
-/// The numbers of a table; `None` where it has none, or a row behind the first one does not cut by weights.
+/// The numbers of a table; `None` where it has none, or a row after the first one does not cut by weights.
 pub(crate) fn candidate_of(alloc: Global, text: &str) -> Result<Option<Candidate>, AllocError> {
     let table = match toml::table_from_slice(alloc, text.as_bytes()) {
         Ok(table) => table,

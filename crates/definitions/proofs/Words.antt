@@ -5,7 +5,7 @@ pub use Rattle.definitions.specs.Cost.{most_parts, part_bound}
 pub use Rattle.definitions.specs.Ends.{End, Ends, Fresh, Over, Refuses, Replies, Spent, Stage, Waits, after}
 pub use Rattle.definitions.specs.Ends.{after_answer, answer, answer_unless, gained, heard, initiator, initiator_at}
 pub use Rattle.definitions.specs.Ends.{is_live, is_sendable, own_of, reply_or_refuse, responder, responder_at}
-pub use Rattle.definitions.specs.Ends.{stage_behind, stage_fault}
+pub use Rattle.definitions.specs.Ends.{stage_after_reply, stage_fault}
 pub use Rattle.definitions.specs.Engines.{Speaker, answers, initiating, replied, responding, says, session, takes}
 pub use Rattle.definitions.specs.Engines.{unless_refused}
 pub use Rattle.definitions.specs.Faults.{Begins, FaultyAnswer, FaultyBody, FaultyBounds, FaultyBytes, FaultyFields}
@@ -21,7 +21,7 @@ pub use Rattle.definitions.specs.Items.{comes_before, contains, cut_range, is_be
 pub use Rattle.definitions.specs.Items.{IsSeparator, same_item, same_range, same_upper, separator, whole}
 pub use Rattle.definitions.specs.Messages.{Answer, IsOpening, Listing, Message, Part, RangesRise, Sum, has_open}
 pub use Rattle.definitions.specs.Messages.{is_open, open_parts, open_ranges, opening, range_of}
-pub use Rattle.definitions.specs.Placing.{Answers, AreSums, Behind, CutsUp, Follows, FollowsAll, Lists, Place, Placed}
+pub use Rattle.definitions.specs.Placing.{Answers, AreSums, After, CutsUp, Follows, FollowsAll, Lists, Place, Placed}
 pub use Rattle.definitions.specs.Placing.{Refused, ends_before, finish, next, next_answer, next_inside, next_sum}
 pub use Rattle.definitions.specs.Placing.{opening_fault, place_fault, placed_to}
 pub use Rattle.definitions.specs.Ranks.{Accepted, Bad_certificate, CheckFault, Descends, IsLeastRankTable, IsRankTable}

@@ -52,7 +52,7 @@ called_for S P c = own S c.speaker (messages_in P c.read)
 abbrev pub said : {F : Type 0} → Summary F → Profile F → Call F → ℕ → List ℕ
 said S P c k = text P k (called_for S P c)
 
--- the end behind all that was read
+-- the end after all that was read
 abbrev pub session_of : {F : Type 0} → Summary F → Profile F → Call F → End F
 session_of S P c = session S c.speaker (messages_in P c.read)
 
@@ -79,7 +79,7 @@ pub record WroteAll {F : Type 0} (S : Summary F) (P : Profile F) (c : Call F) (k
   pub count : length (called_for S P c) ≡ k
   pub written : c.written ≡ said S P c k
 
--- exactly k messages are whole, and nothing is behind the beginning of one more
+-- exactly k messages are whole, and nothing is after the beginning of one more
 pub record BrokeOff {F : Type 0} (S : Summary F) (P : Profile F) (c : Call F) (k : ℕ) : Type 0 where
   pub count : k ≤ length (called_for S P c)
   pub front : IsBeginningOf c.written (said S P c (k + 1))
@@ -104,10 +104,10 @@ pub record IsTooLong {F : Type 0} (S : Summary F) (P : Profile F) (c : Call F) (
   pub last : slice_get (called_for S P c) k ≡ Some reply
   pub long : IsFalse (is_sendable reply)
 
--- the first fault in what was read, behind all that was called for and may be written
+-- the first fault in what was read, after all that was called for and may be written
 pub record IsFirstFault {F : Type 0} (S : Summary F) (P : Profile F) (c : Call F) (k code : ℕ) : Type 0 where
   pub first : heard_in S P c ≡ Refused_for code
-  pub behind : (length (called_for S P c) ≡ k) ⊎ IsTooLong S P c k code
+  pub after : (length (called_for S P c) ≡ k) ⊎ IsTooLong S P c k code
 
 -- the table of sessions or the gate refused
 abbrev pub IsOfTheTable : ℕ → Type 0
@@ -120,7 +120,7 @@ pub record IsRefused {F : Type 0} (S : Summary F) (P : Profile F) (c : Call F) (
 pub record IsMemory {F : Type 0} (S : Summary F) (P : Profile F) (c : Call F) (k : ℕ) : Type 0 where
   pub wrote : WroteFault S P c k no_memory
 
--- a fault frame stands behind all that was answered
+-- a fault frame stands after all that was answered
 pub record IsPeerRefused {F : Type 0} (S : Summary F) (P : Profile F) (c : Call F) (k code : ℕ) : Type 0 where
   pub wrote : WroteAll S P c k
   pub told : heard_in S P c ≡ Peer_refused code
@@ -129,7 +129,7 @@ pub data Failing : Type 0 where
   Reading : Failing
   Writing : Failing
 
--- each read that a session goes on behind gives a byte: behind 2 ^ 32 reads there are so many
+-- each read that a session goes on after gives a byte: after 2 ^ 32 reads there are so many
 abbrev pub HasFailed : {F : Type 0} → Call F → Failing → Type 0
 HasFailed c Reading = IsTrue c.reader.failed ⊎ (2 ^ 32 ≤ length c.read)
 HasFailed c Writing = IsTrue c.writer.failed

@@ -1,8 +1,8 @@
 -- One end of a session: what it answers to a message, whatever the peer sends, and what it is then.
 --     Stage, End                      where its session stands; who speaks, how many messages it sent, what it learned
 --     initiator S P, responder P      at the beginning: the initiator's first message is sent
---     answer S e M, after S e M       what the end answers to M, and the end behind that
---     heard S e Ms                    the end behind these messages
+--     answer S e M, after S e M       what the end answers to M, and the end after that
+--     heard S e Ms                    the end after these messages
 --     is_over s                       whether the session is over
 --     initiator_at S I R k, responder_at S I R k      the two ends of a talk, which heard their share of its first k
 --                                                     messages
@@ -73,15 +73,15 @@ answer_unless S P M None = if has_open M then reply_or_refuse (reply S P M) else
 abbrev pub answer : {F : Type 0} → Summary F → End F → Message F → Answer F
 answer S e M = answer_unless S e.peer M (stage_fault e.stage M)
 
-abbrev pub stage_behind : {F : Type 0} → Message F → Stage F
-stage_behind N = if has_open N then Waits (open_parts N) else Over
+abbrev pub stage_after_reply : {F : Type 0} → Message F → Stage F
+stage_after_reply N = if has_open N then Waits (open_parts N) else Over
 
 abbrev pub gained : {F : Type 0} → End F → Message F → Knowledge
 gained e M = and_then e.learned (learn e.peer.items (own_of e.stage) M)
 
 -- a refusal leaves nothing learned
 abbrev pub after_answer : {F : Type 0} → End F → Message F → Answer F → End F
-after_answer e M (Replies N) = record e { stage = stage_behind N; sent = e.sent + 1; learned = gained e M }
+after_answer e M (Replies N) = record e { stage = stage_after_reply N; sent = e.sent + 1; learned = gained e M }
 after_answer e M Ends = record e { stage = Over; learned = gained e M }
 after_answer e M (Refuses code) = record e { stage = Spent; learned = nothing }
 

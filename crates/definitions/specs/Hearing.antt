@@ -3,7 +3,7 @@
 --     hear S h e                   what one event makes of it
 --     hears S s events             what a side makes of these, from the beginning on
 --     hearing_in S P s bytes       what it makes of bytes, whose first frame that is none it refuses
---     hearing_to S P s over bytes  the same where the input has ended behind them, if it has
+--     hearing_to S P s over bytes  the same where the input has ended after them, if it has
 --     first_fault h                the number by which this side refuses, if it does
 -- The refusal is the one of the earliest frame: a frame is judged as bytes before the end takes what it says.
 use Rattle.std.specs.Prelude.{ℕ, Bool, List, Option, Some, None, fold, if◌then◌else◌}
@@ -31,7 +31,7 @@ abbrev pub goes_unless : {F : Type 0} → Option ℕ → Hearing F → Hearing F
 goes_unless (Some code) h = Refused_for code
 goes_unless None h = h
 
--- behind a message: the session goes on, or is over
+-- after a message: the session goes on, or is over
 abbrev pub stands_at : {F : Type 0} → End F → Hearing F
 stands_at e = if is_over e.stage then Over_at e else Goes_on e (nothing_taken e)
 
@@ -46,7 +46,7 @@ hear_now S e t (Came p) = goes_unless (refusal (next t.place p)) (Goes_on e (tak
 hear_now S e t Ended = ended_by e t (ended t)
 hear_now S e t (Failed code) = Peer_refused code
 
--- what comes behind the end of the session, or behind a refusal, is not heard
+-- what comes after the end of the session, or after a refusal, is not heard
 abbrev pub hear : {F : Type 0} → Summary F → Hearing F → Event F → Hearing F
 hear S (Goes_on e t) event = hear_now S e t event
 hear S (Over_at e) event = Over_at e

@@ -1,19 +1,19 @@
 -- A message that is taken part by part, as its frames come.
 --     Taken, nothing_taken e      what an end keeps of the parts so far
---     taken S e t p               behind one part more
---     taken_all S e M             behind these parts
+--     taken S e t p               after one part more
+--     taken_all S e M             after these parts
 --     ended t                     what the end answers where the message ends here
---     after_ended e t a           the end behind that answer
+--     after_ended e t a           the end after that answer
 --     by_parts S e t M            what it answers to these parts, taken up to the first refusal, and then their end
 use Rattle.std.specs.Prelude.{ℕ, ◌+◌, Bool, false, ◌||◌, List, [], ◌∷◌, ◌++◌, Option, Some, None, fold, if◌then◌else◌}
 use Rattle.definitions.specs.Fingerprints.{Summary}
 use Rattle.definitions.specs.Messages.{Part, Message, is_open}
 use Rattle.definitions.specs.Replies.{reply_to}
-use Rattle.definitions.specs.Placing.{Place, First, Refused, next, finish, refusal, behind}
+use Rattle.definitions.specs.Placing.{Place, First, Refused, next, finish, refusal, place_after}
 use Rattle.definitions.specs.Talks.{Knowledge, nothing, and_then, learn}
 use Rattle.definitions.specs.Refusals.{too_many_parts, spent}
 use Rattle.definitions.specs.Ends.{Stage, Fresh, Waits, Over, Spent, End, own_of, is_sendable, Answer, Replies, Ends}
-use Rattle.definitions.specs.Ends.{Refuses, stage_behind}
+use Rattle.definitions.specs.Ends.{Refuses, stage_after_reply}
 
 -- what an end keeps of the parts of a message that has not ended
 pub record Taken (F : Type 0) : Type 0 where
@@ -28,7 +28,7 @@ pub record Taken (F : Type 0) : Type 0 where
 -- before the first part of a message: an end that is spent or whose session is over takes none
 abbrev pub place_of : {F : Type 0} → Stage F → Place F
 place_of Fresh = First
-place_of (Waits own) = behind own
+place_of (Waits own) = place_after own
 place_of Over = Refused spent
 place_of Spent = Refused spent
 
@@ -40,7 +40,7 @@ abbrev pub grown : {F : Type 0} → Option (Message F) → Message F → Option 
 grown None N = None
 grown (Some M) N = if is_sendable (M ++ N) then Some (M ++ N) else None
 
--- behind one part more
+-- after one part more
 abbrev pub taken : {F : Type 0} → Summary F → End F → Taken F → Part F → Taken F
 taken S e t p = record {
   place = next t.place p;
@@ -67,7 +67,7 @@ ended t = ended_unless t (finish t.place)
 -- what was learned counts from now on; a refusal leaves nothing learned
 abbrev pub after_ended : {F : Type 0} → End F → Taken F → Answer F → End F
 after_ended e t (Replies N) =
-    record e { stage = stage_behind N; sent = e.sent + 1; learned = and_then e.learned t.learned }
+    record e { stage = stage_after_reply N; sent = e.sent + 1; learned = and_then e.learned t.learned }
 after_ended e t Ends = record e { stage = Over; learned = and_then e.learned t.learned }
 after_ended e t (Refuses code) = record e { stage = Spent; learned = nothing }
 

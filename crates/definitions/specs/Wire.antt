@@ -186,7 +186,7 @@ HasEvent P Stream (Failed code) = code < 256
 abbrev pub Says : {F : Type 0} → Profile F → Input → List ℕ → Event F → Type 0
 Says P input bytes e = HasEvent P input e × (bytes ≡ event_text P e)
 
--- behind so many parts of its message the event may come: there is room for one part more
+-- after so many parts of its message the event may come: there is room for one part more
 abbrev pub Counts : {F : Type 0} → ℕ → Event F → Type 0
 Counts parts (Came p) = parts < max_parts
 Counts parts Ended = ⊤

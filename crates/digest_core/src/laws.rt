@@ -14,7 +14,7 @@ pub fn join_is_a_sum()
     ensures unit { (f : Lanes) → IsLanes f → join_lanes (two_lanes.of []) f ≡ f }
 {}
 
-/// The fingerprint of one list behind another is the join of the two.
+/// The fingerprint of one list after another is the join of the two.
 pub fn lists_add_up()
     ensures { (A B : List Item) → two_lanes.of (A ++ B) ≡ join_lanes (two_lanes.of A) (two_lanes.of B) }
 {}

@@ -19,7 +19,7 @@ pub trait Summary: Copy + Drop {
     /// The profile in which such summaries are sent.
     ghost profile: { wire.Profile Self };
 
-    /// The summary of two lists, one behind the other, from those of the two.
+    /// The summary of two lists, one after the other, from those of the two.
     ghost joined: { Self → Self → Self };
 
     /// Holds of the values of the type.
@@ -78,7 +78,7 @@ pub trait Summary: Copy + Drop {
 
     ghost unit: { (f : Self) → is_value f → joined (summary.of []) f ≡ f };
 
-    /// The summary of one list behind another is the join of the two.
+    /// The summary of one list after another is the join of the two.
     ghost adds_up: { (A B : List items.Item) → summary.of (A ++ B) ≡ joined (summary.of A) (summary.of B) };
 
     /// The test answers whether two summaries are equal.

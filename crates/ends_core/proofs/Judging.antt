@@ -7,8 +7,8 @@ use Rattle.definitions.specs.Items.{Apart, Range, same_item, same_range, same_up
 use Rattle.definitions.specs.Sets.{has}
 use Rattle.definitions.specs.Fingerprints.{Summary}
 use Rattle.definitions.specs.Messages.{Part, Sum, Listing, Answer, Message, RangesRise, has_open, open_ranges}
-use Rattle.definitions.specs.Placing.{Place, First, Behind, Refused, placed_to, ends_before, next, next_first}
-use Rattle.definitions.specs.Placing.{next_inside, next_outside, next_sum, is_list, finish, behind}
+use Rattle.definitions.specs.Placing.{Place, First, After, Refused, placed_to, ends_before, next, next_first}
+use Rattle.definitions.specs.Placing.{next_inside, next_outside, next_sum, is_list, finish, place_after}
 use Rattle.definitions.specs.Refusals.{too_many_parts}
 use Rattle.definitions.specs.Replies.{Peer, reply}
 use Rattle.definitions.specs.Theorems.{PlacingIsExact, OpeningIsExact}
@@ -29,7 +29,7 @@ use Rattle.ends_core.specs.declared.turn.EndFault.TheVariants as faults
 -- a refusal that a place keeps
 abbrev Keeps : {F : Type 0} → Place F → Type 0
 Keeps First = ⊤
-Keeps (Behind left inside) = ⊤
+Keeps (After left inside) = ⊤
 Keeps (Refused code) = too_many_parts < code
 
 either : {F : Type 0} (b : Bool) (p q : Place F) → Keeps p → Keeps q → Keeps (if b then p else q)
@@ -72,8 +72,8 @@ first (Answer Y marks items) = omega arith
 
 step : {F : Type 0} (p : Place F) (q : Part F) → Keeps p → Keeps (next p q)
 step First q k = first q
-step (Behind left None) q k = outside left q
-step (Behind left (Some Z)) q k = inside left Z q
+step (After left None) q k = outside left q
+step (After left (Some Z)) q k = inside left Z q
 step (Refused code) q k = k
 
 steps : {F : Type 0} (M : Message F) (p : Place F) → Keeps p → Keeps (fold next p M)
@@ -89,13 +89,13 @@ where-any false code k = tt
 
 finished : {F : Type 0} (p : Place F) → Keeps p → IsOther (finish p)
 finished First k = omega arith
-finished (Behind left None) k = where-any (list_any is_list left) _ (omega arith)
-finished (Behind left (Some Z)) k = omega arith
+finished (After left None) k = where-any (list_any is_list left) _ (omega arith)
+finished (After left (Some Z)) k = omega arith
 finished (Refused code) k = k
 
 other : {F : Type 0} (s : Stage F) (M : Message F) → IsOther (stage_fault s M)
 other Fresh M = finished (fold next First M) (steps M First tt)
-other (Waits own) M = finished (fold next (behind own) M) (steps M (behind own) tt)
+other (Waits own) M = finished (fold next (place_after own) M) (steps M (place_after own) tt)
 other Over M = omega arith
 other Spent M = omega arith
 

@@ -15,7 +15,7 @@ use Rattle.laws.specs.Taking.{PartsAreTaken}
 use Rattle.definitions.specs.Taking.{Taken, taken, taken_all, ended, ended_unless, after_ended, by_parts, refuses_or}
 use Rattle.ends_core.specs.Drafts.{Drafted}
 use Rattle.ends_core.specs.EndStates.{EndState, HasNone, IsAble, stage_of, taken_of}
-use Rattle.ends_core.specs.Turns.{told_in, refusal_of, behind, behind_part, behind_parts, behind_end, behind_message}
+use Rattle.ends_core.specs.Turns.{told_in, refusal_of, end_after, after_part, after_parts, after_end, after_message}
 use Rattle.ends_core.specs.Turns.{fresh, spend}
 use Rattle.ends_core.specs.declared.turn.EndFault.{EndFault}
 use Rattle.ends_core.specs.declared.turn.EndFault.TheVariants as faults
@@ -36,7 +36,7 @@ module _ {F : Type 0} (S : Summary F) where
   -- a part more
   pub among-next : (old now new : EndState F) (parts : Message F) (i : ℕ) (p : Part F) → i < length parts →
       get_or parts i p ≡ p → IsAmong old now parts i →
-      None ≡ refusal (next now.taken.place p) → new ≡ behind_part S now p None → IsAmong old new parts (i + 1)
+      None ≡ refusal (next now.taken.place p) → new ≡ after_part S now p None → IsAmong old new parts (i + 1)
   among-next old now new parts i p low here at fine is =
       let end : now.end ≡ old.end = ap (λ h. h.end) at.same in
       let steps : now.steps ≡ old.steps = ap (λ h. h.steps) at.same in
@@ -116,12 +116,12 @@ whole-memory h new None is none = is ∙ sym (λ i. record h { taken = none i })
 whole-memory h new (Some a) is none = tt
 
 module _ {F : Type 0} (S : Summary F) where
-  -- behind a part that is refused
+  -- after a part that is refused
   pub among-stops : (old now new : EndState F) (parts : Message F) (i : ℕ) (p : Part F) (f : EndFault) →
       i < length parts →
       get_or parts i p ≡ p → IsAmong S old now parts i → is_live old.end.stage ≡ true →
       IfSome (told_in (Err f)) (λ o. o ≡ refusal (next now.taken.place p)) →
-      IfSome (told_in (Err f)) (λ o. new ≡ behind_part S now p o) →
+      IfSome (told_in (Err f)) (λ o. new ≡ after_part S now p o) →
       IfSome (refusal_of {F = F} f) (λ a. (by_parts S old.end old.taken parts ≡ a) × (new ≡ spend old))
   among-stops old now new parts i p (faults.Placing g) low here at live told is =
       (among-refused S old now new parts i p _ low here at told, spent-among old now new live at.same is)
@@ -131,19 +131,19 @@ module _ {F : Type 0} (S : Summary F) where
       (among-refused S old now new parts i p _ low here at told, spent-among old now new live at.same is)
   among-stops old now new parts i p faults.Memory low here at live told is = tt
 
-  -- behind the parts of a message and its end
+  -- after the parts of a message and its end
   pub message-end : (h : EndState F) (M : Message F) (a : Answer F) → is_live h.end.stage ≡ true →
-      behind_message S h M a ≡ behind_end (behind_parts S h M) a
+      after_message S h M a ≡ after_end (after_parts S h M) a
   message-end h M (Replies N) live = refl
   message-end h M Ends live = refl
   message-end h M (Refuses code) live =
       let gone : EndState F = fresh h.steps (record h.end { stage = Spent; learned = nothing }) in
-      ap (λ b. if b then gone else h) live ∙ sym (ap (λ b. if b then gone else behind_parts S h M) live)
+      ap (λ b. if b then gone else h) live ∙ sym (ap (λ b. if b then gone else after_parts S h M) live)
 
-  pub message-behind : (h new : EndState F) (M : Message F) (o : Option (Answer F)) → is_live h.end.stage ≡ true →
-      IfSome o (λ a. new ≡ behind_end (behind_parts S h M) a) → IfSome o (λ a. new ≡ behind_message S h M a)
-  message-behind h new M None live is = tt
-  message-behind h new M (Some a) live is = is ∙ sym (message-end h M a live)
+  pub message-after : (h new : EndState F) (M : Message F) (o : Option (Answer F)) → is_live h.end.stage ≡ true →
+      IfSome o (λ a. new ≡ after_end (after_parts S h M) a) → IfSome o (λ a. new ≡ after_message S h M a)
+  message-after h new M None live is = tt
+  message-after h new M (Some a) live is = is ∙ sym (message-end h M a live)
 
   pub dead-answers : (h : EndState F) (M : Message F) → h.taken.place ≡ Refused spent →
       Refuses spent ≡ by_parts S h.end h.taken M
@@ -156,17 +156,17 @@ module _ {F : Type 0} (S : Summary F) where
 
   -- what all parts leave, and the end of the message
   received : (h : EndState F) (M : Message F) (a : Answer F) → PartsAreTaken S → is_live h.end.stage ≡ true →
-      HasNone h → a ≡ answer S h.end M → behind_message S h M a ≡ behind S h M
+      HasNone h → a ≡ answer S h.end M → after_message S h M a ≡ end_after S h M
   received h M a law live none told =
       let e = h.end in
       let alike = law e M in
-      let all : (behind_parts S h M).taken ≡ taken_all S e M = ap (λ t. fold (taken S e) t M) none in
+      let all : (after_parts S h M).taken ≡ taken_all S e M = ap (λ t. fold (taken S e) t M) none in
       let after_is : after S e M ≡ after_answer e M (answer S e M) =
       ap (λ b. if b then after_answer e M (answer S e M) else e) live in
-      ap (behind_message S h M) told
-      ∙ by (answer S e M) (ap (λ t. after_ended e t (answer S e M)) all ∙ alike.behind_it ∙ sym after_is) where
-        by : (b : Answer F) → after_ended h.end (behind_parts S h M).taken b ≡ after S h.end M →
-            behind_message S h M b ≡ behind S h M
+      ap (after_message S h M) told
+      ∙ by (answer S e M) (ap (λ t. after_ended e t (answer S e M)) all ∙ alike.after_it ∙ sym after_is) where
+        by : (b : Answer F) → after_ended h.end (after_parts S h M).taken b ≡ after S h.end M →
+            after_message S h M b ≡ end_after S h M
         by (Replies N) is = ap (fresh h.steps) is
         by Ends is = ap (fresh h.steps) is
         by (Refuses code) is =
@@ -175,7 +175,7 @@ module _ {F : Type 0} (S : Summary F) where
 
   -- an end that takes none
   dead-received : (h : EndState F) (M : Message F) → is_live h.end.stage ≡ false → HasNone h →
-      (answer S h.end M ≡ Refuses spent) × (h ≡ behind S h M)
+      (answer S h.end M ≡ Refuses spent) × (h ≡ end_after S h M)
   dead-received h M dead none = (
     by h.end.stage dead,
     (λ i. record h { taken = none i })
@@ -192,16 +192,16 @@ module _ {F : Type 0} (S : Summary F) where
   whole-answer h M None law is none = tt
   whole-answer h M (Some a) law is none = is ∙ ap (λ t. by_parts S h.end t M) none ∙ (law h.end M).at_the_first
 
-  pub whole-behind : (h new : EndState F) (M : Message F) (o : Option (Answer F)) → PartsAreTaken S →
-      IfSome o (λ a. a ≡ by_parts S h.end h.taken M) → IfSome o (λ a. new ≡ behind_message S h M a) → HasNone h →
-      IfSome o (λ a. new ≡ behind S h M)
-  whole-behind h new M None law is at none = tt
-  whole-behind h new M (Some a) law is at none = at ∙ by (is_live h.end.stage) refl where
+  pub whole-after : (h new : EndState F) (M : Message F) (o : Option (Answer F)) → PartsAreTaken S →
+      IfSome o (λ a. a ≡ by_parts S h.end h.taken M) → IfSome o (λ a. new ≡ after_message S h M a) → HasNone h →
+      IfSome o (λ a. new ≡ end_after S h M)
+  whole-after h new M None law is at none = tt
+  whole-after h new M (Some a) law is at none = at ∙ by (is_live h.end.stage) refl where
     told : a ≡ answer S h.end M
     told = whole-answer h M (Some a) law is none
 
-    by : (b : Bool) → is_live h.end.stage ≡ b → behind_message S h M a ≡ behind S h M
+    by : (b : Bool) → is_live h.end.stage ≡ b → after_message S h M a ≡ end_after S h M
     by true live = received h M a law live none told
     by false dead =
         let gone = dead-received h M dead none in
-        ap (behind_message S h M) (told ∙ gone.0) ∙ sym (dead-spends h dead) ∙ gone.1
+        ap (after_message S h M) (told ∙ gone.0) ∙ sym (dead-spends h dead) ∙ gone.1

@@ -7,7 +7,7 @@ use Rattle.definitions.specs.Talks.{nothing}
 use Rattle.definitions.specs.Ends.{End, Fresh, Waits, Spent, is_live}
 use Rattle.place_core.specs.Placements.{Placement}
 use Rattle.ends_core.specs.EndStates.{EndState, stage_at}
-use Rattle.ends_core.specs.Turns.{told_in, fresh, spend, behind_part, refused}
+use Rattle.ends_core.specs.Turns.{told_in, fresh, spend, after_part, refused}
 use Rattle.ends_core.specs.declared.turn.EndFault.{EndFault}
 use Rattle.ends_core.specs.declared.turn.EndFault.TheVariants as faults
 
@@ -27,7 +27,7 @@ spend-same {F} old mid steps end dead = by (is_live old.end.stage) refl where
 
 pub part-refused : {F : Type 0} (S : Summary F) (old mid new : EndState F) (p : Part F) (f : EndFault) →
     mid.steps ≡ old.steps → mid.end ≡ old.end → (is_live old.end.stage ≡ false → mid ≡ old) → new ≡ refused mid f →
-    IfSome (told_in (Err f)) (λ o. new ≡ behind_part S old p o)
+    IfSome (told_in (Err f)) (λ o. new ≡ after_part S old p o)
 part-refused S old mid new p (faults.Placing g) steps end dead is = is ∙ spend-same old mid steps end dead
 part-refused S old mid new p faults.TooManyParts steps end dead is = is ∙ spend-same old mid steps end dead
 part-refused S old mid new p faults.Spent steps end dead is = is ∙ spend-same old mid steps end dead

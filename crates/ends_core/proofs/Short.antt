@@ -41,7 +41,7 @@ module _ {F : Type 0} (S : Summary F) (Q : Profile F) where
     told None same = tt
     told (Some a) same = same ∙ ap ended s.took.2 ∙ (law h.end s.took.0).at_the_end
 
-  -- of a message, behind the parts that were taken before
+  -- of a message, after the parts that were taken before
   pub message-short : (start : Peer → End F) (h : EndState F) (M : Message F) (r : Result (Turn F) EndFault) →
       RepliesAreShort S → PartsAreTaken S → Stands S Q start h →
       IfSome (answer_in r) (λ a. a ≡ by_parts S h.end h.taken M) → KeepsLimit h r

@@ -11,7 +11,7 @@ use Rattle.definitions.specs.Replies.{Peer}
 use Rattle.definitions.specs.Wire.{Profile, IsPart}
 use Rattle.definitions.specs.Ends.{End, Stage, Fresh, Waits, Over, Spent, Answer, Replies, Ends, Refuses, after}
 use Rattle.definitions.specs.Ends.{after_answer, answer, answer_unless, stage_fault, heard, is_live}
-use Rattle.definitions.specs.Placing.{Place, First, Behind, Refused, next, finish, refusal}
+use Rattle.definitions.specs.Placing.{Place, First, After, Refused, next, finish, refusal}
 use Rattle.definitions.specs.Refusals.{spent}
 use Rattle.definitions.specs.Taking.{nothing_taken, taken, taken_all, ended, ended_unless, after_ended, by_parts}
 use Rattle.definitions.specs.Talks.{nothing}
@@ -23,7 +23,7 @@ use Rattle.strategy_check.specs.Checked.{IsChecked}
 use Rattle.ends_core.specs.EndStates.{EndState, IsAble}
 use Rattle.ends_core.specs.Roles.{start_of, most_of}
 use Rattle.ends_core.specs.Standing.{Stands, Came}
-use Rattle.ends_core.specs.Turns.{behind, behind_end, behind_part, behind_parts, behind_message, fresh, spend}
+use Rattle.ends_core.specs.Turns.{end_after, after_end, after_part, after_parts, after_message, fresh, spend}
 use Rattle.ends_core.proofs.Parts_taken.{message-end, dead-spends}
 
 abbrev pub ranks_of : {F : Type 0} → EndState F → List ℕ
@@ -84,18 +84,18 @@ module _ {F : Type 0} (S : Summary F) (Q : Profile F) where
 
   -- ---- a message that ended
 
-  -- the end behind the end of a message is the end behind the message
-  behind-end : (h : EndState F) (M : Message F) → PartsAreTaken S → h.taken ≡ taken_all S h.end M →
-      is_live h.end.stage ≡ true → behind_end h (ended h.taken) ≡ behind S h M
-  behind-end h M law took live =
+  -- the end after the end of a message is the end after the message
+  after-end : (h : EndState F) (M : Message F) → PartsAreTaken S → h.taken ≡ taken_all S h.end M →
+      is_live h.end.stage ≡ true → after_end h (ended h.taken) ≡ end_after S h M
+  after-end h M law took live =
       let e = h.end in
       let alike = law e M in
       let told : ended h.taken ≡ answer S e M = ap ended took ∙ alike.at_the_end in
       let after_is : after S e M ≡ after_answer e M (answer S e M) = ap
       (λ b. if b then after_answer e M (answer S e M) else e) live in
-      ap (behind_end h) told ∙ by (answer S e M)
-      (ap (λ t. after_ended e t (answer S e M)) took ∙ alike.behind_it ∙ sym after_is) where
-        by : (a : Answer F) → after_ended h.end h.taken a ≡ after S h.end M → behind_end h a ≡ behind S h M
+      ap (after_end h) told ∙ by (answer S e M)
+      (ap (λ t. after_ended e t (answer S e M)) took ∙ alike.after_it ∙ sym after_is) where
+        by : (a : Answer F) → after_ended h.end h.taken a ≡ after S h.end M → after_end h a ≡ end_after S h M
         by (Replies N) is = ap (fresh h.steps) is
         by Ends is = ap (fresh h.steps) is
         by (Refuses code) is =
@@ -111,25 +111,25 @@ module _ {F : Type 0} (S : Summary F) (Q : Profile F) where
     by Over none = refl
     by Spent none = refl
 
-  came-behind : (start : Peer → End F) (e : End F) (M : Message F) → EndsHearOn S → (after S e M).peer ≡ e.peer →
+  came-after : (start : Peer → End F) (e : End F) (M : Message F) → EndsHearOn S → (after S e M).peer ≡ e.peer →
       AreParts Q M → Came S Q start e → Came S Q start (after S e M)
-  came-behind start e M on same m came = (
+  came-after start e M on same m came = (
     came.0 ++ M ∷ [],
     All-append (AreParts Q) came.0 (M ∷ []) came.1 (m, tt),
     ap (λ x. after S x M) came.2 ∙ sym (on (start e.peer) came.0 M)
         ∙ ap (λ P. heard S (start P) (came.0 ++ M ∷ [])) (sym same),
   )
 
-  -- behind a message nothing is taken
-  stands-behind : (start : Peer → End F) (h : EndState F) (M : Message F) → EndsHearOn S → EndsKeepPeers S →
-      AreParts Q M → Stands S Q start h → Stands S Q start (behind S h M)
-  stands-behind start h M on keep m s =
+  -- after a message nothing is taken
+  stands-after : (start : Peer → End F) (h : EndState F) (M : Message F) → EndsHearOn S → EndsKeepPeers S →
+      AreParts Q M → Stands S Q start h → Stands S Q start (end_after S h M)
+  stands-after start h M on keep m s =
       let same = keep h.end (M ∷ []) in
       record {
         checked = subst (λ P. IsChecked (record { table = P.table; steps = h.steps })) (sym same) s.checked;
         room = subst (λ P. length P.items ≤ P.table.cap) (sym same) s.room;
         set = subst (λ P. IsSet P.items) (sym same) s.set;
-        came = came-behind start h.end M on same m s.came;
+        came = came-after start h.end M on same m s.came;
         took = ([], tt, refl);
       }
 
@@ -151,40 +151,40 @@ module _ {F : Type 0} (S : Summary F) (Q : Profile F) where
   abbrev pub Lawful : Type 0
   Lawful = EndsHearOn S × EndsKeepPeers S × PartsAreTaken S
 
-  -- behind the end of a message
+  -- after the end of a message
   ended-stands : (start : Peer → End F) (h : EndState F) → Lawful → Stands S Q start h →
-      Stands S Q start (behind_end h (ended h.taken))
+      Stands S Q start (after_end h (ended h.taken))
   ended-stands start h law s = by (is_live h.end.stage) refl where
-    by : (b : Bool) → is_live h.end.stage ≡ b → Stands S Q start (behind_end h (ended h.taken))
+    by : (b : Bool) → is_live h.end.stage ≡ b → Stands S Q start (after_end h (ended h.taken))
     by true live =
-        subst (Stands S Q start) (sym (behind-end h s.took.0 law.2 s.took.2 live))
-        (stands-behind start h s.took.0 law.0 law.1 s.took.1 s)
+        subst (Stands S Q start) (sym (after-end h s.took.0 law.2 s.took.2 live))
+        (stands-after start h s.took.0 law.0 law.1 s.took.1 s)
     by false none =
         let alike = law.2 h.end s.took.0 in
         let refuses : ended h.taken ≡ Refuses spent = ap ended s.took.2 ∙ alike.at_the_end
         ∙ dead-answer h.end s.took.0 none in
-        subst (λ a. Stands S Q start (behind_end h a)) (sym refuses)
+        subst (λ a. Stands S Q start (after_end h a)) (sym refuses)
         (subst (Stands S Q start) (sym (ap (λ b. if b then fresh h.steps
         (record h.end { stage = Spent; learned = nothing }) else h) none)) s)
 
   pub stands-ended : (start : Peer → End F) (old new : EndState F) (o : Option (Answer F)) → Lawful →
-      IfSome o (λ a. a ≡ ended old.taken) → IfSome o (λ a. new ≡ behind_end old a) → IfNone o (new ≡ old) →
+      IfSome o (λ a. a ≡ ended old.taken) → IfSome o (λ a. new ≡ after_end old a) → IfNone o (new ≡ old) →
       Stands S Q start old → Stands S Q start new
-  stands-ended start old new None law some behind_it none s = subst (Stands S Q start) (sym none) s
-  stands-ended start old new (Some a) law some behind_it none s =
-      subst (Stands S Q start) (sym (behind_it ∙ ap (behind_end old) some)) (ended-stands start old law s)
+  stands-ended start old new None law some after_it none s = subst (Stands S Q start) (sym none) s
+  stands-ended start old new (Some a) law some after_it none s =
+      subst (Stands S Q start) (sym (after_it ∙ ap (after_end old) some)) (ended-stands start old law s)
 
-  -- behind a part
+  -- after a part
   refused-finish : (x : Place F) (code : ℕ) → refusal x ≡ Some code → finish x ≡ Some code
   refused-finish First code e = absurd cc
-  refused-finish (Behind left inside) code e = absurd cc
+  refused-finish (After left inside) code e = absurd cc
   refused-finish (Refused n) code e = e
 
   -- a part that is refused leaves the end as a message of these parts does
   part-spends : (h : EndState F) (M : Message F) (p : Part F) (code : ℕ) → PartsAreTaken S →
       h.taken ≡ taken_all S h.end M →
       is_live h.end.stage ≡ true →
-      refusal (next h.taken.place p) ≡ Some code → spend h ≡ behind S h (M ++ p ∷ [])
+      refusal (next h.taken.place p) ≡ Some code → spend h ≡ end_after S h (M ++ p ∷ [])
   part-spends h M p code law took live refuses =
       let e = h.end in
       let N : Message F = M ++ p ∷ [] in
@@ -193,13 +193,13 @@ module _ {F : Type 0} (S : Summary F) (Q : Profile F) where
       ∙ sym (fold-append (taken S e) (nothing_taken e) M (p ∷ [])) in
       let stops : ended g.taken ≡ Refuses code = ap (ended_unless g.taken)
       (refused-finish (next h.taken.place p) code refuses) in
-      let at : behind_end g (Refuses code) ≡ behind S h N = ap (behind_end g) (sym stops)
-      ∙ behind-end g N law took_more live in
+      let at : after_end g (Refuses code) ≡ end_after S h N = ap (after_end g) (sym stops)
+      ∙ after-end g N law took_more live in
       let spent_by : EndState F = fresh h.steps (record e { stage = Spent; learned = nothing }) in
       ap (λ b. if b then spent_by else h) live ∙ sym (ap (λ b. if b then spent_by else g) live) ∙ at
 
   part-stands : (start : Peer → End F) (h : EndState F) (p : Part F) (o : Option ℕ) → Lawful → IsPart Q p →
-      o ≡ refusal (next h.taken.place p) → Stands S Q start h → Stands S Q start (behind_part S h p o)
+      o ≡ refusal (next h.taken.place p) → Stands S Q start h → Stands S Q start (after_part S h p o)
   part-stands start h p None law part told s = record {
     checked = s.checked;
     room = s.room;
@@ -215,7 +215,7 @@ module _ {F : Type 0} (S : Summary F) (Q : Profile F) where
     by : (b : Bool) → is_live h.end.stage ≡ b → Stands S Q start (spend h)
     by true live =
         subst (Stands S Q start) (sym (part-spends h s.took.0 p code law.2 s.took.2 live (sym told)))
-        (stands-behind start h (s.took.0 ++ p ∷ []) law.0 law.1
+        (stands-after start h (s.took.0 ++ p ∷ []) law.0 law.1
         (All-append (IsPart Q) s.took.0 (p ∷ []) s.took.1 (part, tt)) s)
     by false none =
         subst (Stands S Q start) (sym (ap (λ b. if b then fresh h.steps
@@ -223,11 +223,11 @@ module _ {F : Type 0} (S : Summary F) (Q : Profile F) where
 
   pub stands-taken : (start : Peer → End F) (old new : EndState F) (p : Part F) (o : Option (Option ℕ)) → Lawful →
       IsPart Q p →
-      IfSome o (λ r. r ≡ refusal (next old.taken.place p)) → IfSome o (λ r. new ≡ behind_part S old p r) →
+      IfSome o (λ r. r ≡ refusal (next old.taken.place p)) → IfSome o (λ r. new ≡ after_part S old p r) →
       IfNone o (new ≡ old) → Stands S Q start old → Stands S Q start new
-  stands-taken start old new p None law part told behind_it none s = subst (Stands S Q start) (sym none) s
-  stands-taken start old new p (Some r) law part told behind_it none s =
-      subst (Stands S Q start) (sym behind_it) (part-stands start old p r law part told s)
+  stands-taken start old new p None law part told after_it none s = subst (Stands S Q start) (sym none) s
+  stands-taken start old new p (Some r) law part told after_it none s =
+      subst (Stands S Q start) (sym after_it) (part-stands start old p r law part told s)
 
   -- at the start
   pub stands-first : (start : Peer → End F) (h : EndState F) (steps : List ℕ) (P : Peer) → h ≡ fresh steps (start P) →
@@ -242,9 +242,9 @@ module _ {F : Type 0} (S : Summary F) (Q : Profile F) where
     took = ([], tt, refl);
   })
 
-  -- behind a message, behind the parts that were taken before
+  -- after a message, after the parts that were taken before
   parts-stand : (start : Peer → End F) (h : EndState F) (M : Message F) → AreParts Q M → Stands S Q start h →
-      Stands S Q start (behind_parts S h M)
+      Stands S Q start (after_parts S h M)
   parts-stand start h M m s = record {
     checked = s.checked;
     room = s.room;
@@ -260,12 +260,12 @@ module _ {F : Type 0} (S : Summary F) (Q : Profile F) where
 
   pub stands-received : (start : Peer → End F) (old new : EndState F) (M : Message F) (o : Option (Answer F)) → Lawful →
       AreParts Q M → IfSome o (λ a. a ≡ by_parts S old.end old.taken M) →
-      IfSome o (λ a. new ≡ behind_message S old M a) → IfNone o (new ≡ fresh old.steps old.end) → Stands S Q start old →
+      IfSome o (λ a. new ≡ after_message S old M a) → IfNone o (new ≡ fresh old.steps old.end) → Stands S Q start old →
       Stands S Q start new
   stands-received start old new M None law m some at none s = stands-dropped start old new none s
   stands-received start old new M (Some a) law m some at none s = by (is_live old.end.stage) refl where
     g : EndState F
-    g = behind_parts S old M
+    g = after_parts S old M
 
     through : Stands S Q start g
     through = parts-stand start old M m s
@@ -275,10 +275,10 @@ module _ {F : Type 0} (S : Summary F) (Q : Profile F) where
 
     by : (b : Bool) → is_live old.end.stage ≡ b → Stands S Q start new
     by true live =
-        subst (Stands S Q start) (sym (at ∙ message-end S old M a live ∙ ap (behind_end g) told))
+        subst (Stands S Q start) (sym (at ∙ message-end S old M a live ∙ ap (after_end g) told))
         (ended-stands start g law through)
     by false dead =
         let all = through.took in
         let refuses : a ≡ Refuses spent =
         told ∙ ap ended all.2 ∙ (law.2 old.end all.0).at_the_end ∙ dead-answer old.end all.0 dead in
-        subst (Stands S Q start) (sym (at ∙ ap (behind_message S old M) refuses ∙ sym (dead-spends old dead))) s
+        subst (Stands S Q start) (sym (at ∙ ap (after_message S old M) refuses ∙ sym (dead-spends old dead))) s

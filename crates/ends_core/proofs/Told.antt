@@ -83,7 +83,7 @@ found-drop sent (p ∷ ps) (suc n) h = found-drop sent ps n h.1
 
 -- ---- the list that an Answer answers
 
--- an Answer behind an open List is one of its range
+-- an Answer after an open List is one of its range
 answers-range : {F : Type 0} (left : Message F) (Y : Range) (listed : List Item) (X : Range) (marks : List Bool)
     (items : List Item) →
     refusal (next_answer left Y listed X marks items) ≡ None → same_range Y X ≡ true
@@ -113,9 +113,9 @@ pub due_answered : {F : Type 0} (own : Message F) (c : Cursor) (X : Range) (mark
     Apart (open_ranges own) →
     refusal (next (place_at own c) (Answer X marks items)) ≡ None → listed_in own X ≡ due own c
 due_answered own cursors.First X marks items apart h = absurd cc
-due_answered own (cursors.Behind at None) X marks items apart h =
+due_answered own (cursors.After at None) X marks items apart h =
     first_answered own (drop at own) X marks items (found-drop own own at (all_found own apart)) h
-due_answered own (cursors.Behind at (Some Z)) X marks items apart h = absurd cc
+due_answered own (cursors.After at (Some Z)) X marks items apart h = absurd cc
 due_answered own (cursors.Refused f) X marks items apart h = absurd cc
 
 -- ---- what is told

@@ -2,7 +2,7 @@
 --     IsDue d result          by what was drafted
 --     IsClosed h result       by what was taken
 use Rattle.std.specs.Prelude.{◌≡◌, Result, Ok, Err, IfSome, if◌then◌else◌}
-use Rattle.definitions.specs.Ends.{Stage, Over, Spent, Answer, Replies, Ends, Refuses, stage_behind}
+use Rattle.definitions.specs.Ends.{Stage, Over, Spent, Answer, Replies, Ends, Refuses, stage_after_reply}
 use Rattle.definitions.specs.Taking.{ended, replies_or_refuses}
 use Rattle.ends_core.specs.EndStates.{EndState, stage_of, taken_of, none_at}
 use Rattle.ends_core.specs.Drafts.{Drafted, nothing_drafted}
@@ -10,9 +10,9 @@ use Rattle.ends_core.specs.Turns.{refusal_of}
 use Rattle.ends_core.specs.declared.stage.Stage as own
 use Rattle.ends_core.specs.declared.turn.EndFault.{EndFault}
 
--- where the session stands behind an answer
+-- where the session stands after an answer
 abbrev pub stage_after : {F : Type 0} → Answer F → Stage F
-stage_after (Replies N) = stage_behind N
+stage_after (Replies N) = stage_after_reply N
 stage_after Ends = Over
 stage_after (Refuses code) = Spent
 
@@ -25,14 +25,14 @@ IsTaking (Refuses code) = ⊥
 abbrev pub drafted_answer : {F : Type 0} → Drafted F → Answer F
 drafted_answer d = if d.opens then replies_or_refuses d.reply else Ends
 
--- a stage behind this answer, of which no part of a message was taken
-pub record IsBehind {F : Type 0} (s : own.Stage F) (a : Answer F) : Type 0 where
+-- a stage after this answer, of which no part of a message was taken
+pub record IsAfter {F : Type 0} (s : own.Stage F) (a : Answer F) : Type 0 where
   pub taking : IsTaking a
   pub stage : stage_of s ≡ stage_after a
   pub none : taken_of s nothing_drafted ≡ none_at (stage_after a)
 
 abbrev pub IsDue : {F : Type 0} → Answer F → Result (own.Stage F) EndFault → Type 0
-IsDue a (Ok s) = IsBehind s a
+IsDue a (Ok s) = IsAfter s a
 IsDue a (Err f) = IfSome (refusal_of f) (λ r. r ≡ a)
 
 abbrev pub IsClosed : {F : Type 0} → EndState F → Result (own.Stage F) EndFault → Type 0

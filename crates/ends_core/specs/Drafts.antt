@@ -1,6 +1,6 @@
 -- What an end keeps of a message that has not ended, beside its place.
 --     Drafted, nothing_drafted
---     drafted S P d listed p      behind one part more, which answers this list if it is an Answer
+--     drafted S P d listed p      after one part more, which answers this list if it is an Answer
 --     taken_at x d                the same with its place, as the definitions have it
 --     reply_kept overlong M       the reply so far, if it is kept
 use Rattle.std.specs.Prelude.{Bool, false, ◌||◌, List, [], Option, Some, None, if◌then◌else◌}

@@ -2,9 +2,9 @@
 --     end_fault_number f     the number of a refusal
 --     told_in result         whether a part was taken, or the number of its refusal, unless memory ran out
 --     answer_in result       the answer, unless memory ran out
---     behind_part S h p o, behind_end h a   the end behind a part, and behind the end of a message
---     behind_message S h M a the end behind the parts of a message and its end
---     behind S h M           the end behind a message, of which it had taken no part
+--     after_part S h p o, after_end h a   the end after a part, and after the end of a message
+--     after_message S h M a the end after the parts of a message and its end
+--     after S h M           the end after a message, of which it had taken no part
 --     Comes s M              the message may come at this stage
 --     IsJudged h M result    what a call answers agrees with whether the message may come
 use Rattle.std.specs.Prelude.{ℕ, List, Result, Ok, Err, Option, Some, None, if◌then◌else◌, fold, ⊤}
@@ -59,12 +59,12 @@ abbrev pub answer_in : {F : Type 0} → Result (Turn F) EndFault → Option (Ans
 answer_in (Ok turn) = Some (answer_of turn)
 answer_in (Err f) = refusal_of f
 
--- the end behind a message, or a refusal, holds no part
+-- the end after a message, or a refusal, holds no part
 abbrev pub fresh : {F : Type 0} → List ℕ → End F → EndState F
 fresh steps e = record { steps = steps; end = e; taken = nothing_taken e }
 
-abbrev pub behind : {F : Type 0} → Summary F → EndState F → Message F → EndState F
-behind S h M = fresh h.steps (after S h.end M)
+abbrev pub end_after : {F : Type 0} → Summary F → EndState F → Message F → EndState F
+end_after S h M = fresh h.steps (after S h.end M)
 
 -- the message may come at this stage, by the relation
 abbrev pub Comes : {F : Type 0} → Stage F → Message F → Type 0
@@ -85,28 +85,28 @@ AgreesWith C (Err faults.Memory) = ⊤
 abbrev pub IsJudged : {F : Type 0} → EndState F → Message F → Result (Turn F) EndFault → Type 0
 IsJudged h M result = AgreesWith (Comes h.end.stage M) result
 
--- the end behind a refusal: a spent end, and one whose session is over, stays as it is
+-- the end after a refusal: a spent end, and one whose session is over, stays as it is
 abbrev pub spend : {F : Type 0} → EndState F → EndState F
 spend h = if is_live h.end.stage then fresh h.steps (record h.end { stage = Spent; learned = nothing }) else h
 
-abbrev pub behind_part : {F : Type 0} → Summary F → EndState F → Part F → Option ℕ → EndState F
-behind_part S h p None = record h { taken = taken S h.end h.taken p }
-behind_part S h p (Some code) = spend h
+abbrev pub after_part : {F : Type 0} → Summary F → EndState F → Part F → Option ℕ → EndState F
+after_part S h p None = record h { taken = taken S h.end h.taken p }
+after_part S h p (Some code) = spend h
 
--- behind parts that are taken
-abbrev pub behind_parts : {F : Type 0} → Summary F → EndState F → Message F → EndState F
-behind_parts S h M = record h { taken = fold (taken S h.end) h.taken M }
+-- after parts that are taken
+abbrev pub after_parts : {F : Type 0} → Summary F → EndState F → Message F → EndState F
+after_parts S h M = record h { taken = fold (taken S h.end) h.taken M }
 
-abbrev pub behind_end : {F : Type 0} → EndState F → Answer F → EndState F
-behind_end h (Replies N) = fresh h.steps (after_ended h.end h.taken (Replies N))
-behind_end h Ends = fresh h.steps (after_ended h.end h.taken Ends)
-behind_end h (Refuses code) = spend h
+abbrev pub after_end : {F : Type 0} → EndState F → Answer F → EndState F
+after_end h (Replies N) = fresh h.steps (after_ended h.end h.taken (Replies N))
+after_end h Ends = fresh h.steps (after_ended h.end h.taken Ends)
+after_end h (Refuses code) = spend h
 
--- the end behind the parts of a message and its end: what it had taken before counts too
-abbrev pub behind_message : {F : Type 0} → Summary F → EndState F → Message F → Answer F → EndState F
-behind_message S h M (Replies N) = behind_end (behind_parts S h M) (Replies N)
-behind_message S h M Ends = behind_end (behind_parts S h M) Ends
-behind_message S h M (Refuses code) = spend h
+-- the end after the parts of a message and its end: what it had taken before counts too
+abbrev pub after_message : {F : Type 0} → Summary F → EndState F → Message F → Answer F → EndState F
+after_message S h M (Replies N) = after_end (after_parts S h M) (Replies N)
+after_message S h M Ends = after_end (after_parts S h M) Ends
+after_message S h M (Refuses code) = spend h
 
 abbrev pub refused : {F : Type 0} → EndState F → EndFault → EndState F
 refused h faults.Memory = h

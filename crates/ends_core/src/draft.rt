@@ -115,10 +115,10 @@ fn has_open<F: Summary>(parts: &[Part<F>]) -> bool
     parts.iter().any(|part| is_open(part))
 }
 
-/// Where the session stands behind an own message of these parts, of which the open ones are kept.
-fn stage_behind<F: Summary>(alloc: Global, sent: &[Part<F>]) -> Result<Stage<F>, AllocError>
-    ensures { IfOk result (λ s. (stage_of s ≡ ends.stage_behind sent.now)
-        × (taken_of s nothing_drafted ≡ none_at (ends.stage_behind sent.now))) }
+/// Where the session stands after an own message of these parts, of which the open ones are kept.
+fn stage_after_reply<F: Summary>(alloc: Global, sent: &[Part<F>]) -> Result<Stage<F>, AllocError>
+    ensures { IfOk result (λ s. (stage_of s ≡ ends.stage_after_reply sent.now)
+        × (taken_of s nothing_drafted ≡ none_at (ends.stage_after_reply sent.now))) }
 {
     if !has_open(sent) {
         return Ok(Stage::Over);
@@ -178,7 +178,7 @@ impl<F: Summary> Draft<F> {
         learned.take_in(&mut self.learned)
     }
 
-    /// Where the session stands behind the end of the message.
+    /// Where the session stands after the end of the message.
     pub(crate) fn stage(&self, alloc: Global) -> Result<Stage<F>, EndFault>
         ensures { IsDue (drafted_answer self.now) result }
     {
@@ -188,7 +188,7 @@ impl<F: Summary> Draft<F> {
         if self.overlong {
             return Err(EndFault::TooManyParts);
         }
-        Ok(stage_behind(alloc, &self.reply)?)
+        Ok(stage_after_reply(alloc, &self.reply)?)
     }
 
     /// What is answered at the end of the message.

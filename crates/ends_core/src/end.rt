@@ -9,8 +9,8 @@ ghost use Rattle.definitions.specs.Ends.{is_live, is_over};
 ghost use Rattle.definitions.specs.Taking.{taken, ended, by_parts};
 ghost use Rattle.ends_core.specs.EndStates.{IsAble, stage_of, taken_of};
 ghost use Rattle.ends_core.specs.Drafts.{nothing_drafted};
-ghost use Rattle.ends_core.specs.Turns.{answer_in, told_in, refusal_of, fresh, behind_part, behind_parts, behind_end};
-ghost use Rattle.ends_core.specs.Turns.{behind_message, refused, spend};
+ghost use Rattle.ends_core.specs.Turns.{answer_in, told_in, refusal_of, fresh, after_part, after_parts, after_end};
+ghost use Rattle.ends_core.specs.Turns.{after_message, refused, spend};
 ghost use Rattle.ends_core.specs.Closing.{IsClosed};
 ghost use Rattle.definitions.specs.Refusals.{spent};
 ghost use Rattle.definitions.specs.Talks.{nothing};
@@ -76,14 +76,14 @@ impl<S: RangeStore, F: Summary> End<S, F> {
         }
     }
 
-    /// An end that has sent its first message, behind which this place stands.
+    /// An end that has sent its first message, after which this place stands.
     pub(crate) fn initiating(
         alloc: Global,
         accepted: Arc<Accepted>,
         store: S,
         place: Place<F>,
     ) -> End<S, F>
-        requires { place ≡ record { first = false; own = place.own; now = placing.behind place.own } }
+        requires { place ≡ record { first = false; own = place.own; now = placing.place_after place.own } }
         ensures { result ≡ fresh (arc_value accepted).steps (record {
           peer = record { table = (arc_value accepted).table; items = S.content store };
           stage = ends.Waits place.own;
@@ -189,7 +189,7 @@ impl<S: RangeStore, F: Summary> End<S, F> {
         requires { IsAble self.old }
         ensures fault { IfSome (told_in result) (λ o. o ≡ placing.refusal
             (placing.next self.old.taken.place part.now)) }
-        ensures behind { IfSome (told_in result) (λ o. self.new ≡ behind_part F.summary self.old part.now o) }
+        ensures after { IfSome (told_in result) (λ o. self.new ≡ after_part F.summary self.old part.now o) }
         ensures memory { IfNone (told_in result) (self.new ≡ self.old) }
     {
         match self.take_on(alloc, part) {
@@ -201,7 +201,7 @@ impl<S: RangeStore, F: Summary> End<S, F> {
         }
     }
 
-    /// Where the session stands behind the end of the message. All growth but that of what was learned before is made
+    /// Where the session stands after the end of the message. All growth but that of what was learned before is made
     /// here.
     fn close(&self, alloc: Global) -> Result<Stage<F>, EndFault>
         ensures { IsClosed self.now result }
@@ -217,7 +217,7 @@ impl<S: RangeStore, F: Summary> End<S, F> {
     pub(crate) fn end(&mut self, alloc: Global) -> Result<Turn<F>, EndFault>
         requires { self.old.end.sent < 4294967295 }
         ensures answer { IfSome (answer_in result) (λ a. a ≡ ended self.old.taken) }
-        ensures behind { IfSome (answer_in result) (λ a. self.new ≡ behind_end self.old a) }
+        ensures after { IfSome (answer_in result) (λ a. self.new ≡ after_end self.old a) }
         ensures memory { IfNone (answer_in result) (self.new ≡ self.old) }
     {
         let stage = match self.close(alloc) {
@@ -257,7 +257,7 @@ impl<S: RangeStore, F: Summary> End<S, F> {
     fn take_all(&mut self, alloc: Global, parts: &[Part<F>]) -> Result<(), EndFault>
         requires able { IsAble self.old }
         requires live { is_live self.old.end.stage ≡ true }
-        ensures all { OnOk result (self.new ≡ behind_parts F.summary self.old parts.now) }
+        ensures all { OnOk result (self.new ≡ after_parts F.summary self.old parts.now) }
         ensures answer { OnOk result (by_parts F.summary self.old.end self.old.taken parts.now ≡ ended self.new.taken) }
         ensures refused { IfErr result (λ f. IfSome (refusal_of f) (λ a.
             (by_parts F.summary self.old.end self.old.taken parts.now ≡ a) × (self.new ≡ spend self.old))) }
@@ -277,8 +277,8 @@ impl<S: RangeStore, F: Summary> End<S, F> {
         requires live { is_live self.old.end.stage ≡ true }
         ensures answer { IfSome (answer_in result) (λ a. a
             ≡ by_parts F.summary self.old.end self.old.taken parts.now) }
-        ensures behind { IfSome (answer_in result) (λ a. self.new
-            ≡ behind_end (behind_parts F.summary self.old parts.now) a) }
+        ensures after { IfSome (answer_in result) (λ a. self.new
+            ≡ after_end (after_parts F.summary self.old parts.now) a) }
         ensures memory { IfNone (answer_in result) ((self.new.steps ≡ self.old.steps) × (self.new.end ≡ self.old.end)) }
     {
         self.take_all(alloc, parts)?;
@@ -295,7 +295,7 @@ impl<S: RangeStore, F: Summary> End<S, F> {
         requires room { self.old.end.sent < 4294967295 }
         ensures answer { IfSome (answer_in result) (λ a. a
             ≡ by_parts F.summary self.old.end self.old.taken message.now) }
-        ensures behind { IfSome (answer_in result) (λ a. self.new ≡ behind_message F.summary self.old message.now a) }
+        ensures after { IfSome (answer_in result) (λ a. self.new ≡ after_message F.summary self.old message.now a) }
         ensures memory { IfNone (answer_in result) (self.new ≡ fresh self.old.steps self.old.end) }
     {
         if !self.is_live() {

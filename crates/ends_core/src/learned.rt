@@ -78,7 +78,7 @@ impl Learned {
         self.append(later)
     }
 
-    /// Gives up what was added behind so many items.
+    /// Gives up what was added after so many items.
     pub(crate) fn cut(&mut self, ours: usize, theirs: usize)
         ensures { self.new ≡ record { ours = take ours self.old.ours; theirs = take theirs self.old.theirs } }
     {

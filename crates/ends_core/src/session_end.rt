@@ -13,7 +13,7 @@ ghost use Rattle.definitions.specs.Taking.{ended, by_parts};
 ghost use Rattle.ends_core.specs.EndStates.{HasNone};
 ghost use Rattle.ends_core.specs.Roles.{most_of};
 ghost use Rattle.ends_core.specs.Turns.{IsJudged, KeepsLimit, answer_in, told_in, fresh};
-ghost use Rattle.ends_core.specs.Turns.{behind, behind_part, behind_end, behind_message};
+ghost use Rattle.ends_core.specs.Turns.{end_after, after_part, after_end, after_message};
 
 use crate::end::End;
 use crate::learned::Learned;
@@ -72,7 +72,7 @@ fn begin<F: Summary>(alloc: Global, sum: F) -> Result<(Place<F>, Message<F>), Al
     ensures { IfOk result (λ r. (r.0 ≡ record {
       first = false;
       own = Sum whole sum ∷ [];
-      now = placing.behind (Sum whole sum ∷ []);
+      now = placing.place_after (Sum whole sum ∷ []);
     }) × (r.1 ≡ Sum whole sum ∷ [])) }
 {
     let first = first_message(alloc, sum)?;
@@ -132,7 +132,7 @@ impl<R: Role, S: RangeStore, F: Summary> SessionEnd<R, S, F> {
     pub fn take(&mut self, alloc: Global, part: &Part<F>) -> Result<(), EndFault>
         ensures fault { IfSome (told_in result) (λ o. o ≡ placing.refusal
             (placing.next self.old.taken.place part.now)) }
-        ensures behind { IfSome (told_in result) (λ o. self.new ≡ behind_part F.summary self.old part.now o) }
+        ensures after { IfSome (told_in result) (λ o. self.new ≡ after_part F.summary self.old part.now o) }
         ensures memory { IfNone (told_in result) (self.new ≡ self.old) }
     {
         laws::ends_stand_firm::<F>();
@@ -151,7 +151,7 @@ impl<R: Role, S: RangeStore, F: Summary> SessionEnd<R, S, F> {
     /// and 90 where memory ran out: the end is as before.
     pub fn end(&mut self, alloc: Global) -> Result<Turn<F>, EndFault>
         ensures answer { IfSome (answer_in result) (λ a. a ≡ ended self.old.taken) }
-        ensures behind { IfSome (answer_in result) (λ a. self.new ≡ behind_end self.old a) }
+        ensures after { IfSome (answer_in result) (λ a. self.new ≡ after_end self.old a) }
         ensures memory { IfNone (answer_in result) (self.new ≡ self.old) }
         ensures short { KeepsLimit self.old result }
     {
@@ -182,14 +182,14 @@ impl<R: Role, S: RangeStore, F: Summary> SessionEnd<R, S, F> {
         ensures judged { HasNone self.old → IsJudged self.old message.now result }
         ensures answer { HasNone self.old →
             IfSome (answer_in result) (λ a. a ≡ ends.answer F.summary self.old.end message.now) }
-        ensures behind { HasNone self.old →
-            IfSome (answer_in result) (λ _. self.new ≡ behind F.summary self.old message.now) }
+        ensures after { HasNone self.old →
+            IfSome (answer_in result) (λ _. self.new ≡ end_after F.summary self.old message.now) }
         ensures memory { HasNone self.old → IfNone (answer_in result) (self.new ≡ self.old) }
         ensures short { KeepsLimit self.old result }
         // Where parts were taken before, they belong to the message.
         ensures parts { IfSome (answer_in result) (λ a. a
             ≡ by_parts F.summary self.old.end self.old.taken message.now) }
-        ensures ended { IfSome (answer_in result) (λ a. self.new ≡ behind_message F.summary self.old message.now a) }
+        ensures ended { IfSome (answer_in result) (λ a. self.new ≡ after_message F.summary self.old message.now a) }
         ensures dropped { IfNone (answer_in result) (self.new ≡ fresh self.old.steps self.old.end) }
     {
         laws::ends_stand_firm::<F>();

@@ -10,7 +10,7 @@ use wire_core::Message;
 /// What an end answers to a message that it takes.
 #[derive(Debug, Drop)]
 pub enum Turn<F: Summary = Fingerprint> {
-    /// The reply, which is to be sent. Where it has no open part the session is over behind it.
+    /// The reply, which is to be sent. Where it has no open part the session is over after it.
     Reply(Message<F>),
     /// The message received had no open part: the session is over.
     Over,
@@ -31,7 +31,7 @@ impl<F: Summary> Turn<F> {
 /// Why an end does not take a message.
 #[derive(Clone, Copy, Debug, PartialEq, Eq)]
 pub enum EndFault {
-    /// The message is not placed behind the own one.
+    /// The message is not placed after the own one.
     Placing(PlaceFault),
     /// The reply would have more than 131,072 parts: the peer is not honest.
     TooManyParts,

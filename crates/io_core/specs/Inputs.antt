@@ -14,11 +14,11 @@ pub record WasRead (old new : Option (List ℕ)) (failed : Bool) (input : List �
   pub short : length input ≤ max_input
   pub fine : failed ≡ false
 
--- one read gave n bytes, which stand behind what was there; none only at the end
+-- one read gave n bytes, which stand after what was there; none only at the end
 pub record ReadsMore (old new : Option (List ℕ)) (before after : List ℕ) (n : ℕ) : Type 0 where
   pub front : List ℕ
   pub read : Consumes old new front
-  pub behind : after ≡ before ++ front
+  pub follows : after ≡ before ++ front
   pub count : length front ≡ n
   pub whole : n ≡ 0 → IsAtEnd new
 

@@ -17,7 +17,7 @@ use std::marker::Model;
 /// The greatest length of an item and of a bound, in bytes.
 pub const MAX_LENGTH: usize = 64;
 
-/// A byte string of 0 to 64 bytes, kept inline: the bytes, and zeros behind them.
+/// A byte string of 0 to 64 bytes, kept inline: the bytes, and zeros after them.
 #[derive(Clone, Copy)]
 pub struct Short {
     bytes: [u8; 64],

@@ -1,9 +1,9 @@
 -- Item files: one item a line, in one of two forms.
---     lines text              what stands before, between and behind the line feeds
+--     lines text              what stands before, between and after the line feeds
 --     digits_in line          a line without one carriage return at its end, and then without the blanks at both ends
 --     text_in line            a line without one carriage return at its end
 --     is_marked text          whether the text begins with `0x`
---     text_item text          the item of a text: behind `0x` the one that the digits spell, else its bytes
+--     text_item text          the item of a text: after `0x` the one that the digits spell, else its bytes
 --     content_of form line    what is left of a line: its digits, or its text
 --     spelled form content    the item that this spells, if it spells one
 --     line_items form line    no item where nothing is left, else the item that is spelled; None where none is

@@ -3,6 +3,6 @@
 pub enum ItemForm {
     /// As hex digits.
     Hex,
-    /// As they are, or as hex digits behind `0x`.
+    /// As they are, or as hex digits after `0x`.
     Text,
 }

@@ -1,7 +1,7 @@
 //! Item files: one item a line, in hex or as text.
 //!
 //! In hex a carriage return at a line's end, then spaces and tabs at both its ends, and blank lines are ignored. A line
-//! of text without one carriage return at its end is an item as it stands, or spells one in hex behind `0x`; empty
+//! of text without one carriage return at its end is an item as it stands, or spells one in hex after `0x`; empty
 //! lines are ignored. An item given twice counts once. A file that begins with a byte order mark is refused.
 
 ghost use Rattle.std.specs.Prelude.{◌≡◌, ◌≢◌, ◌<◌, ◌≤◌, ℕ, List, [], ◌∷◌, ◌++◌, length, IfOk, IfErr, IfSome, OnOk};
@@ -87,7 +87,7 @@ fn text_in(line: &[u8]) -> &[u8]
     line.strip_suffix(b"\r").unwrap_or(line)
 }
 
-/// The item of a text, if it has one: behind `0x` the one that the digits spell, else its bytes.
+/// The item of a text, if it has one: after `0x` the one that the digits spell, else its bytes.
 fn text_item(text: &[u8]) -> Option<Item>
     ensures { result ≡ text_item text.now }
 {

@@ -172,7 +172,7 @@ pub reply-under : {F : Type 0} (S : Summary F) (P : Peer) (f : List ℕ) → Rea
 reply-under S P f r n M h = reply-own S P f r n M
     (All-map (IsOpenUnder f P.items n) (IsSumUnder f P.items n) (IsSumUnder-from_open f P.items n) M h)
 
--- what is placed behind an own message compares no ranges of higher ranks
+-- what is placed after an own message compares no ranges of higher ranks
 pub placed-OpenUnder : {F : Type 0} {P : Peer} {f : List ℕ} → Ready P f → (n : ℕ) (sent M : Message F) →
     SumsUnder f P.items n sent → RangesRise M → place_fault sent M ≡ None →
     AllByRecursion (IsOpenUnder f P.items n) M

@@ -39,8 +39,8 @@ record IsGood {F : Type 0} (S : Summary F) (w : World) : Type 0 where
 all_stay : {F : Type 0} (S : Summary F) (w : World) (e : Step) → IsGood S w →
     AllByRecursion (HasKept S (step S w e).0) w.sessions
 all_stay S w e good =
-    let behind = sessions_stay S w e in
-    All-map (HasKept S w) (HasKept S (step S w e).0) (λ s h. (h.0, behind.kept s h.0 h.1)) w.sessions good.kept
+    let after = sessions_stay S w e in
+    All-map (HasKept S w) (HasKept S (step S w e).0) (λ s h. (h.0, after.kept s h.0 h.1)) w.sessions good.kept
 
 same_sessions : {F : Type 0} (S : Summary F) (w : World) (e : Step) → (step S w e).0.sessions ≡ w.sessions →
     IsGood S w → IsGood S (step S w e).0
@@ -104,11 +104,11 @@ open_good S w i r (Some a) (Some b) e f good =
 
 -- ---- one message is delivered
 
-behind_by : {F : Type 0} (S : Summary F) (w : World) (s : Session) (k : Kept F) (b : Bool) → has_open k.last ≡ b →
+after_by : {F : Type 0} (S : Summary F) (w : World) (s : Session) (k : Kept F) (b : Bool) → has_open k.last ≡ b →
     GoesOnBy S w s k → HasKept S w (after_delivery w s)
-behind_by S w s k true e on =
+after_by S w s k true e on =
     (_, (on.replied (reply S (hearer_now w s k).peer k.last) (on.taken ∙ cond-true (has_open k.last) _ _ e)).0)
-behind_by S w s k false e on = (_, (on.ended (on.taken ∙ cond-false (has_open k.last) _ _ e)).0)
+after_by S w s k false e on = (_, (on.ended (on.taken ∙ cond-false (has_open k.last) _ _ e)).0)
 
 delivery_good : {F : Type 0} (S : Summary F) (w : World) (k : ℕ) (s : Session) → IsExact S →
     slice_get w.sessions k ≡ Some s → has_ended S w s ≡ false → IsGood S w →
@@ -118,7 +118,7 @@ delivery_good S w k s exact e going good =
     let on : GoesOnBy S w s old.0 = sessions_go_on S exact w s old.0 good.nodes old.1 going in
     with_good S w (set w.sessions k (after_delivery w s)) good.nodes
     (All-set (HasKept S w) w.sessions k (after_delivery w s) good.kept
-    (behind_by S w s old.0 (has_open old.0.last) refl on))
+    (after_by S w s old.0 (has_open old.0.last) refl on))
 
 deliver_good : {F : Type 0} (S : Summary F) (w : World) (k : ℕ) (o : Option Session) → IsExact S →
     slice_get w.sessions k ≡ o → IsGood S w → IsGood S (deliver_at S w k o).0
@@ -209,7 +209,7 @@ reaches S k (suc n) w s here =
     (subst (λ m. Reaches S k m (run S v (deliveries n k))) count later))
     (ap (deliver_at S w k) here)
 
--- a session that is there behind deliveries was there before them
+-- a session that is there after deliveries was there before them
 found_before : {F : Type 0} (S : Summary F) (w : World) (k n : ℕ) (o : Option Session) (s : Session) →
     slice_get w.sessions k ≡ o → slice_get (run S w (deliveries n k)).sessions k ≡ Some s →
     (t : Session) × (slice_get w.sessions k ≡ Some t)

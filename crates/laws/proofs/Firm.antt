@@ -69,7 +69,7 @@ firm_stands {F} S P f most e few h = by e.stage h where
 
 -- ---- one message
 
--- the end behind an answer to a message that is placed
+-- the end after an answer to a message that is placed
 answered : {F : Type 0} (S : Summary F) (f : List ℕ) (e : End F) → Ready e.peer f → (M : Message F) →
     Apart (open_ranges M) → IsSettled (gained e M) (reply S e.peer M) →
     FirmEnd S (after_answer e M (answer_unless S e.peer M None))

@@ -2,7 +2,7 @@
 --
 -- While a side goes on, one event more adds to what is said just the reply to it: that is what is claimed of all events
 -- that may still come (`FramesSay`), for one event. Once it has stopped, each later event leaves the hearing as it is,
--- and neither the end of the bytes nor a fault behind its events changes it. So the same is said and heard, wherever the
+-- and neither the end of the bytes nor a fault after its events changes it. So the same is said and heard, wherever the
 -- bytes are cut.
 -- docs/LAWS.md: What is said at each frame.
 use Rattle.std.proofs.Common.{◌≡◌, ℕ, Bool, true, List, [], ◌∷◌, ◌++◌, refl, sym, ap, ◌∙◌, subst, append_assoc}

@@ -83,10 +83,10 @@ pub spent_by : {F : Type 0} (S : Summary F) (e : End F) (M : Message F) (rest : 
     (is_over (heard S e (M ∷ rest)).stage ≡ false) × (answers S e (M ∷ rest) ≡ [])
     × (calls S e (M ∷ rest) ≡ called S e M)
 spent_by S e M rest code live is =
-    let behind = after-live S e M (Refuses code) live is in
-    let dead = ap (λ d. is_live d.stage) behind in
+    let ended = after-live S e M (Refuses code) live is in
+    let dead = ap (λ d. is_live d.stage) ended in
     let none = says_none S (after S e M) rest dead in (
-      ap (λ d. is_over d.stage) (none.1 ∙ behind),
+      ap (λ d. is_over d.stage) (none.1 ∙ ended),
       ap (λ a. replied a ++ answers S (after S e M) rest) is ∙ none.0,
       ap (λ l. called S e M ++ l) (calls_none S (after S e M) rest dead) ∙ append-nil (called S e M),
     )
@@ -209,7 +209,7 @@ still-live e M (Replies N) never over =
 still-live e M Ends never over = absurd cc
 still-live e M (Refuses code) never over = absurd (never code refl)
 
--- the end behind a message that was not refused
+-- the end after a message that was not refused
 message-taken : {F : Type 0} (S : Summary F) (e : End F) (ps : Message F) (events : List (Event F)) (f : End F) →
     after S e ps ≡ f → called S e ps ≡ replied (answer S e ps) → (is_over f.stage ≡ false → is_live f.stage ≡ true) →
     ((d : End F) → is_live d.stage ≡ true →
@@ -241,10 +241,10 @@ message-heard {F} S e ps events live later =
           ((code : ℕ) → a ≡ Refuses code → ⊥) → Agrees S e (ps ∷ messages_of [] events)
           (fold (hear S) (stands_at (after_ended e (taken_all S e ps) a)) events)
       taken_by a is never =
-          let behind : after_ended e (taken_all S e ps) a ≡ after_answer e ps a = after-all S e ps a in
-          message-taken S e ps events (after_ended e (taken_all S e ps) a) (after-live S e ps a live is ∙ sym behind)
+          let ended : after_ended e (taken_all S e ps) a ≡ after_answer e ps a = after-all S e ps a in
+          message-taken S e ps events (after_ended e (taken_all S e ps) a) (after-live S e ps a live is ∙ sym ended)
           (called-taken S e ps (λ code r. never code (sym is ∙ r)))
-          (subst (λ d. is_over d.stage ≡ false → is_live d.stage ≡ true) (sym behind) (still-live e ps a never)) later
+          (subst (λ d. is_over d.stage ≡ false → is_live d.stage ≡ true) (sym ended) (still-live e ps a never)) later
 
       by : (a : Answer F) → answer S e ps ≡ a →
           Agrees S e (ps ∷ messages_of [] events) (fold (hear S) (ended_by e (taken_all S e ps) a) events)

@@ -66,14 +66,14 @@ waits_for : {F : Type 0} (wanted : Bool) (N : Message F) →
 waits_for true N live = refl
 waits_for false N live = absurd cc
 
--- what is known behind it, and from later messages
+-- what is known after it, and from later messages
 gained_then : {F : Type 0} (e : End F) (own M : Message F) (k : Knowledge) → own_of e.stage ≡ open_parts own →
     and_then (gained e M) k ≡ and_then e.learned (and_then (learn e.peer.items own M) k)
 gained_then e own M k is = then_assoc e.learned (learn e.peer.items (own_of e.stage) M) k
     ∙ ap (λ N. and_then e.learned (and_then (learn e.peer.items N M) k)) is
     ∙ ap (λ l. and_then e.learned (and_then l k)) (learn-open e.peer.items own M)
 
--- the end d behind this answer, and what it learns from later messages
+-- the end d after this answer, and what it learns from later messages
 goes_on : {F : Type 0} (S : Summary F) (e d : End F) (own M : Message F) (a : Answer F) (Ms : List (Message F)) →
     d ≡ after_answer e M a → own_of e.stage ≡ open_parts own →
     ((N : Message F) → (is_live d.stage ≡ true → own_of d.stage ≡ open_parts N) →

@@ -187,9 +187,9 @@ lies_open-tally : {F : Type 0} (x : Item) (M : Message F) → lies_open M x ≡ 
 lies_open-tally x [] = refl
 lies_open-tally x (p ∷ ps) = grind (arith, lies_open-tally x ps, one_more)
 
--- an item of X lies in no range behind X
+-- an item of X lies in no range after X
 outside : (X Y : Range) (x : Item) → contains X x ≡ true → is_below Y.lower X.upper ≡ false → contains Y x ≡ false
-outside X Y x h behind = grind (arith, false≢true, upto-below, not-true, and_parts)
+outside X Y x h after = grind (arith, false≢true, upto-below, not-true, and_parts)
 
 none_later : {F : Type 0} (X : Range) (ps : Message F) (x : Item) → contains X x ≡ true →
     AllByRecursion (λ Y. IsFalse (is_below Y.lower X.upper)) (open_ranges ps) → tally (in_open x 1) ps ≡ 0

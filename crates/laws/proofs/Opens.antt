@@ -9,7 +9,7 @@ use Rattle.std.proofs.Common.{◌≡◌, List, [], ◌∷◌, refl, sym, ap, sub
 use Rattle.std.specs.Prelude.{if◌then◌else◌, flat_map, map, fold, None, IsFalse}
 use Rattle.std.specs.List.{AllByRecursion, list_any, items_where_true}
 use Rattle.definitions.proofs.Words.{Item, Range, contains, same_range, Apart, Part, Sum, Listing, Answer, Message}
-use Rattle.definitions.proofs.Words.{range_of, open_parts, open_ranges, Behind, next, finish, place_fault, Knowledge}
+use Rattle.definitions.proofs.Words.{range_of, open_parts, open_ranges, After, next, finish, place_fault, Knowledge}
 use Rattle.definitions.proofs.Words.{learn, knows, and_then, listed_in, IsSettled}
 use Rattle.definitions.specs.Talks.{ours_by, theirs_by}
 
@@ -26,7 +26,7 @@ pub apart-open : {F : Type 0} (M : Message F) → Apart (open_ranges M) → Apar
 apart-open M apart = subst Apart (sym (ranges_twice M)) apart
 
 pub place-open : {F : Type 0} (own M : Message F) → place_fault (open_parts own) M ≡ place_fault own M
-place-open own M = ap (λ l. finish (fold next (Behind l None) M)) (open_twice own)
+place-open own M = ap (λ l. finish (fold next (After l None) M)) (open_twice own)
 
 pub listed-open : {F : Type 0} (M : Message F) (X : Range) → listed_in (open_parts M) X ≡ listed_in M X
 listed-open [] X = refl

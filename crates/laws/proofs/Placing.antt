@@ -19,7 +19,7 @@ use Rattle.definitions.proofs.Words.{AllByRecursion, list_any, same_text, Item, 
 use Rattle.definitions.proofs.Words.{same_upper, same_item, whole, Rises, Apart, comes_before, is_below, ranges_between}
 use Rattle.definitions.proofs.Words.{has, items_in, difference, Part, Sum, Listing, Answer, Message, open_parts}
 use Rattle.definitions.proofs.Words.{IsOpening, RangesRise, range_of, is_open, open_ranges, opening, AreSums}
-use Rattle.definitions.proofs.Words.{FollowsAll, Placed, Place, Behind, Refused, next, next_sum, next_answer}
+use Rattle.definitions.proofs.Words.{FollowsAll, Placed, Place, After, Refused, next, next_sum, next_answer}
 use Rattle.definitions.proofs.Words.{next_inside, finish, ends_before, placed_to, place_fault, opening_fault, Follows}
 use Rattle.definitions.proofs.Words.{CutsUp, Lists, Answers, misplaced, stall, gap, missing_answer, mark_count}
 use Rattle.definitions.proofs.Words.{answer_repeats, OpeningIsExact, PlacingIsExact, RepliesArePlaced, RepliesAreApart}
@@ -48,10 +48,10 @@ abbrev pub Accepts : {F : Type 0} → Message F → Place F → Type 0
 Accepts M at = finish (fold next at M) ≡ None
 
 abbrev Outside : {F : Type 0} → Message F → Type 0
-Outside {F} M = (left : Message F) → Accepts M (Behind left None) → FollowsAll left M
+Outside {F} M = (left : Message F) → Accepts M (After left None) → FollowsAll left M
 
 abbrev Inside : {F : Type 0} → Message F → Type 0
-Inside {F} M = (left : Message F) (Z : Range) → Accepts M (Behind left (Some Z)) → GoesOn left Z M
+Inside {F} M = (left : Message F) (Z : Range) → Accepts M (After left (Some Z)) → GoesOn left Z M
 
 -- by cases on a test
 if-cases : {X : Type 0} (P : X → Type 0) (C : Type 0) (b : Bool) (x y : X) → (b ≡ true → P x → C) →
@@ -174,7 +174,7 @@ opening-accepted (Listing X items ∷ M) h = absurd (refused misplaced M h)
 opening-accepted (Answer X marks items ∷ M) h = absurd (refused misplaced M h)
 opening-accepted {F} (Sum X f ∷ []) h = grind (arith, if-cases, opening-whole, refused)
 opening-accepted (Sum X f ∷ p ∷ M) h =
-    if-cases (Accepts (p ∷ M)) _ (same_range X whole) (Behind [] None) (Refused misplaced)
+    if-cases (Accepts (p ∷ M)) _ (same_range X whole) (After [] None) (Refused misplaced)
     (λ _ more. absurd (refused misplaced M more)) (λ _ no. absurd (refused misplaced (p ∷ M) no)) h
 
 accepted-opening : {F : Type 0} (M : Message F) → IsOpening M → opening_fault M ≡ None
@@ -212,14 +212,14 @@ upper_differs cut (Some y) h = other_lower cut y h
 
 -- a partition of Z goes on to cut, or ends
 next_inside-more : {F : Type 0} (left : Message F) (Z : Range) (cut : List ℕ) (f : F) → is_below cut Z.upper ≡ true →
-    next (Behind left (Some Z)) (Sum (record { lower = Z.lower; upper = Some cut }) f)
-    ≡ Behind left (Some (record { lower = cut; upper = Z.upper }))
+    next (After left (Some Z)) (Sum (record { lower = Z.lower; upper = Some cut }) f)
+    ≡ After left (Some (record { lower = cut; upper = Z.upper }))
 next_inside-more left Z cut f h = grind (arith, upper_differs, cut, if-true, and_from, same_item-itself)
 
 inside_accepted : {F : Type 0} (left : Message F) (z : List ℕ) (cuts : List (List ℕ)) (y : Option (List ℕ))
     (front rest : Message F) →
-    AreSums (ranges_between z cuts y) front → RangesRise front → Accepts rest (Behind left None) →
-    Accepts (front ++ rest) (Behind left (Some (record { lower = z; upper = y })))
+    AreSums (ranges_between z cuts y) front → RangesRise front → Accepts rest (After left None) →
+    Accepts (front ++ rest) (After left (Some (record { lower = z; upper = y })))
 inside_accepted left z [] y [] rest h r a = absurd h
 inside_accepted left z [] y (Sum Y f ∷ []) rest h r a = search rules
 inside_accepted left z [] y (Sum Y f ∷ p ∷ ps) rest h r a = absurd h.1
@@ -227,7 +227,7 @@ inside_accepted left z [] y (p ∷ ps) rest h r a = grind (arith)
 inside_accepted left z (cut ∷ cuts) y [] rest h r a = absurd h
 inside_accepted left z (cut ∷ cuts) y (Sum Y f ∷ ps) rest h r a =
     let goes : is_below cut y ≡ true = chain_below cut cuts y ps h.1 r.1 in
-    subst (λ (Z : Range). Accepts (ps ++ rest) (next (Behind left (Some (record { lower = z; upper = y }))) (Sum Z f)))
+    subst (λ (Z : Range). Accepts (ps ++ rest) (next (After left (Some (record { lower = z; upper = y }))) (Sum Z f)))
     (sym h.0)
     (subst (Accepts (ps ++ rest)) (sym (next_inside-more left (record { lower = z; upper = y }) cut f goes))
     (inside_accepted left cut cuts y ps rest h.1 r.1 a))
@@ -236,8 +236,8 @@ inside_accepted left z (cut ∷ cuts) y (Answer Y marks items ∷ ps) rest h r a
 
 -- the first Sum of a partition of X
 next_sum-first : {F : Type 0} (left : Message F) (X : Range) (cut : List ℕ) (f g : F) → is_below cut X.upper ≡ true →
-    next (Behind (Sum X f ∷ left) None) (Sum (record { lower = X.lower; upper = Some cut }) g)
-    ≡ Behind left (Some (record { lower = cut; upper = X.upper }))
+    next (After (Sum X f ∷ left) None) (Sum (record { lower = X.lower; upper = Some cut }) g)
+    ≡ After left (Some (record { lower = cut; upper = X.upper }))
 next_sum-first left X cut f g h = search (rules, if-true, same_item-itself, cut, false_from, false≢true, before-irrefl)
 
 -- the message does not begin with an open part at this bound
@@ -248,7 +248,7 @@ BeginsElsewhere x (Listing Y items ∷ ps) = bytes_eq x Y.lower ≡ false
 BeginsElsewhere x (Answer Y marks items ∷ ps) = ⊤
 
 skipped : {F : Type 0} (left : Message F) (X : Range) (f : F) (M : Message F) → BeginsElsewhere X.lower M →
-    Accepts M (Behind left None) → Accepts M (Behind (Sum X f ∷ left) None)
+    Accepts M (After left None) → Accepts M (After (Sum X f ∷ left) None)
 skipped left X f M e a = grind arith
 
 elsewhere : {F : Type 0} (x : List ℕ) (left M : Message F) →
@@ -290,53 +290,53 @@ later_elsewhere X (p ∷ left) r h = (
 
 next_answer-placed : {F : Type 0} (left : Message F) (X : Range) (listed items : List Item) (marks : List Bool) →
     length marks ≡ length listed → AllByRecursion (λ x. IsFalse (has listed x)) items →
-    next (Behind (Listing X listed ∷ left) None) (Answer X marks items) ≡ Behind left None
+    next (After (Listing X listed ∷ left) None) (Answer X marks items) ≡ After left None
 next_answer-placed left X listed items marks count fresh = grind (arith, same_range-itself, eq-eqb, list_any-none)
 
 past_answer : {F : Type 0} (left M : Message F) (X : Range) (marks : List Bool) (items : List Item) →
-    Accepts M (Behind left None) → Accepts M (Behind (Answer X marks items ∷ left) None)
+    Accepts M (After left None) → Accepts M (After (Answer X marks items ∷ left) None)
 past_answer left [] X marks items a = a
 past_answer left (p ∷ M) X marks items a = a
 
 cut_accepted : {F : Type 0} (left : Message F) (X : Range) (f : F) (cuts : List (List ℕ)) (front rest : Message F) →
     0 < length cuts →
-    AreSums (cut_range X cuts) front → RangesRise front → Accepts rest (Behind left None) →
-    Accepts (front ++ rest) (Behind (Sum X f ∷ left) None)
+    AreSums (cut_range X cuts) front → RangesRise front → Accepts rest (After left None) →
+    Accepts (front ++ rest) (After (Sum X f ∷ left) None)
 cut_accepted left X f [] front rest some sums r a = absurd (omega arith)
 cut_accepted left X f (cut ∷ cuts) [] rest some sums r a = absurd sums
 cut_accepted left X f (cut ∷ cuts) (Sum Y g ∷ ps) rest some sums r a =
     let goes : is_below cut X.upper ≡ true = chain_below cut cuts X.upper ps sums.1 r.1 in
-    subst (λ (Z : Range). Accepts (ps ++ rest) (next (Behind (Sum X f ∷ left) None) (Sum Z g))) (sym sums.0)
+    subst (λ (Z : Range). Accepts (ps ++ rest) (next (After (Sum X f ∷ left) None) (Sum Z g))) (sym sums.0)
     (subst (Accepts (ps ++ rest)) (sym (next_sum-first left X cut f g goes))
     (inside_accepted left cut cuts X.upper ps rest sums.1 r.1 a))
 cut_accepted left X f (cut ∷ cuts) (Listing Y items ∷ ps) rest some sums r a = absurd sums
 cut_accepted left X f (cut ∷ cuts) (Answer Y marks items ∷ ps) rest some sums r a = absurd sums
 
--- what is placed behind parts whose ranges do not overlap is accepted
+-- what is placed after parts whose ranges do not overlap is accepted
 accepted : {F : Type 0} (left M : Message F) → Apart (map range_of left) → RangesRise M → FollowsAll left M →
-    Accepts M (Behind left None)
-accepted [] M apart r h = subst (λ ms. Accepts ms (Behind [] None)) (sym h) refl
+    Accepts M (After left None)
+accepted [] M apart r h = subst (λ ms. Accepts ms (After [] None)) (sym h) refl
 accepted (p ∷ left) M apart r (front, rest, is, follows, more) =
     let both = rises_append front rest (subst RangesRise is r) in
-    subst (λ ms. Accepts ms (Behind (p ∷ left) None)) (sym is)
-    (behind_one p left front rest apart both.0 follows more (accepted left rest apart.2 both.1 more))
+    subst (λ ms. Accepts ms (After (p ∷ left) None)) (sym is)
+    (after_one p left front rest apart both.0 follows more (accepted left rest apart.2 both.1 more))
   where
-    behind_one : {F : Type 0} (p : Part F) (left front rest : Message F) → Apart (map range_of (p ∷ left)) →
+    after_one : {F : Type 0} (p : Part F) (left front rest : Message F) → Apart (map range_of (p ∷ left)) →
         RangesRise front → Follows p front → FollowsAll left rest →
-        Accepts rest (Behind left None) → Accepts (front ++ rest) (Behind (p ∷ left) None)
-    behind_one (Sum X f) left front rest apart r (inl none) more a =
-        subst (λ ps. Accepts (ps ++ rest) (Behind (Sum X f ∷ left) None)) (sym none)
+        Accepts rest (After left None) → Accepts (front ++ rest) (After (p ∷ left) None)
+    after_one (Sum X f) left front rest apart r (inl none) more a =
+        subst (λ ps. Accepts (ps ++ rest) (After (Sum X f ∷ left) None)) (sym none)
         (skipped left X f rest (elsewhere X.lower left rest (later_elsewhere X left apart.0 apart.1) more) a)
-    behind_one (Sum X f) left front rest apart r (inr (inl (items, one))) more a =
-        subst (λ ps. Accepts (ps ++ rest) (Behind (Sum X f ∷ left) None)) (sym one)
+    after_one (Sum X f) left front rest apart r (inr (inl (items, one))) more a =
+        subst (λ ps. Accepts (ps ++ rest) (After (Sum X f ∷ left) None)) (sym one)
         (subst (Accepts rest) (sym (if-true _ _ _ (same_range-itself X))) a)
-    behind_one (Sum X f) left front rest apart r (inr (inr (cuts, some, sums))) more a =
+    after_one (Sum X f) left front rest apart r (inr (inr (cuts, some, sums))) more a =
         cut_accepted left X f cuts front rest some sums r a
-    behind_one (Listing X listed) left front rest apart r (marks, items, one, count, fresh) more a =
-        subst (λ ps. Accepts (ps ++ rest) (Behind (Listing X listed ∷ left) None)) (sym one)
+    after_one (Listing X listed) left front rest apart r (marks, items, one, count, fresh) more a =
+        subst (λ ps. Accepts (ps ++ rest) (After (Listing X listed ∷ left) None)) (sym one)
         (subst (Accepts rest) (sym (next_answer-placed left X listed items marks count fresh)) a)
-    behind_one (Answer X marks items) left front rest apart r none more a =
-        subst (λ ps. Accepts (ps ++ rest) (Behind (Answer X marks items ∷ left) None)) (sym none)
+    after_one (Answer X marks items) left front rest apart r none more a =
+        subst (λ ps. Accepts (ps ++ rest) (After (Answer X marks items ∷ left) None)) (sym none)
         (past_answer left rest X marks items a)
 
 -- the placing part by part accepts exactly what is placed
@@ -425,35 +425,35 @@ abbrev IsPiece : Range → Range → Type 0
 IsPiece X Y =
     (comes_before Y.lower X.lower ≡ false) × ((z : Item) → is_below z Y.upper ≡ true → is_below z X.upper ≡ true)
 
--- Y begins where u is, or behind it
-abbrev IsBehind : Option (List ℕ) → Range → Type 0
-IsBehind u Y = is_below Y.lower u ≡ false
+-- Y begins where u is, or after it
+abbrev IsAfter : Option (List ℕ) → Range → Type 0
+IsAfter u Y = is_below Y.lower u ≡ false
 
--- and the pieces of what is behind a bound are behind it
-piece_behind : (u : Option (List ℕ)) (X Y : Range) → IsPiece X Y → IsBehind u X → IsBehind u Y
-piece_behind u X Y p behind = false_from _ (λ e. false≢true (sym behind ∙ upto-below X.lower Y.lower u p.0 e))
+-- and the pieces of what is after a bound are after it
+piece_after : (u : Option (List ℕ)) (X Y : Range) → IsPiece X Y → IsAfter u X → IsAfter u Y
+piece_after u X Y p after = false_from _ (λ e. false≢true (sym after ∙ upto-below X.lower Y.lower u p.0 e))
 
 itself : (X : Range) → IsPiece X X
 itself X = (before-irrefl X.lower, λ z h. h)
 
 Apart-append : (Xs Ys : List Range) → Apart Xs → Apart Ys →
-    AllByRecursion (λ X. AllByRecursion (IsBehind X.upper) Ys) Xs → Apart (Xs ++ Ys)
+    AllByRecursion (λ X. AllByRecursion (IsAfter X.upper) Ys) Xs → Apart (Xs ++ Ys)
 Apart-append [] Ys a b h = b
-Apart-append (X ∷ Xs) Ys a b h = (a.0, All-append (IsBehind X.upper) Xs Ys a.1 h.0, Apart-append Xs Ys a.2 b h.1)
+Apart-append (X ∷ Xs) Ys a b h = (a.0, All-append (IsAfter X.upper) Xs Ys a.1 h.0, Apart-append Xs Ys a.2 b h.1)
 
 -- ---- the ranges of a cut
 
-ranges-behind : (u : Option (List ℕ)) (x : List ℕ) (cs : List (List ℕ)) (y : Option (List ℕ)) → CutsRise x cs y →
-    is_below x u ≡ false → AllByRecursion (IsBehind u) (ranges_between x cs y)
-ranges-behind u x [] y rise h = (h, tt)
-ranges-behind u x (c ∷ cs) y rise h =
-    (h, ranges-behind u c cs y rise.2 (false_from _ (λ e. false≢true (sym h ∙ below-trans x c u rise.0 e))))
+ranges-after : (u : Option (List ℕ)) (x : List ℕ) (cs : List (List ℕ)) (y : Option (List ℕ)) → CutsRise x cs y →
+    is_below x u ≡ false → AllByRecursion (IsAfter u) (ranges_between x cs y)
+ranges-after u x [] y rise h = (h, tt)
+ranges-after u x (c ∷ cs) y rise h =
+    (h, ranges-after u c cs y rise.2 (false_from _ (λ e. false≢true (sym h ∙ below-trans x c u rise.0 e))))
 
 ranges-Apart : (x : List ℕ) (cs : List (List ℕ)) (y : Option (List ℕ)) → is_below x y ≡ true → CutsRise x cs y →
     Apart (ranges_between x cs y)
 ranges-Apart x [] y h rise = (h, tt, tt)
 ranges-Apart x (c ∷ cs) y h rise =
-    (rise.0, ranges-behind (Some c) c cs y rise.2 (before-irrefl c), ranges-Apart c cs y rise.1 rise.2)
+    (rise.0, ranges-after (Some c) c cs y rise.2 (before-irrefl c), ranges-Apart c cs y rise.1 rise.2)
 
 ranges-pieces : (x : List ℕ) (cs : List (List ℕ)) (y : Option (List ℕ)) → CutsRise x cs y →
     AllByRecursion (IsPiece (span x y)) (ranges_between x cs y)
@@ -483,16 +483,16 @@ abbrev PiecesOf : List Range → List Range → Type 0
 PiecesOf [] Zs = Zs ≡ []
 PiecesOf (X ∷ Xs) Zs = (Ys : List Range) × (rest : List Range) × (Zs ≡ Ys ++ rest) × ArePieces X Ys × PiecesOf Xs rest
 
-pieces-behind : (u : Option (List ℕ)) (Xs Zs : List Range) → PiecesOf Xs Zs → AllByRecursion (IsBehind u) Xs →
-    AllByRecursion (IsBehind u) Zs
-pieces-behind u [] Zs h b = subst (AllByRecursion (IsBehind u)) (sym h) tt
-pieces-behind u (X ∷ Xs) Zs (Ys, rest, is, p, more) b =
-    grind (arith, pieces-behind u Xs rest more b.1, All-append, All-map, piece_behind)
+pieces-after : (u : Option (List ℕ)) (Xs Zs : List Range) → PiecesOf Xs Zs → AllByRecursion (IsAfter u) Xs →
+    AllByRecursion (IsAfter u) Zs
+pieces-after u [] Zs h b = subst (AllByRecursion (IsAfter u)) (sym h) tt
+pieces-after u (X ∷ Xs) Zs (Ys, rest, is, p, more) b =
+    grind (arith, pieces-after u Xs rest more b.1, All-append, All-map, piece_after)
 
 pieces-Apart : (Xs Zs : List Range) → PiecesOf Xs Zs → Apart Xs → Apart Zs
 pieces-Apart [] Zs h a = subst Apart (sym h) tt
 pieces-Apart (X ∷ Xs) Zs (Ys, rest, is, p, more) a =
-    grind (arith, pieces-Apart Xs rest more a.2, pieces-behind, Apart-append, All-map)
+    grind (arith, pieces-Apart Xs rest more a.2, pieces-after, Apart-append, All-map)
 
 -- ---- open ranges
 

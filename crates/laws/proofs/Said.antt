@@ -77,7 +77,7 @@ claim-part {F} S e ps p events live later = by (refusal (next (taken_all S e ps)
       λ more. says-nothing S e (ps ++ p ∷ []) code (events ++ more) live (ap refusal place ∙ h) in
       subst (Claim S e (ps ++ p ∷ []) events) (sym (stays-stopped S code events)) (λ more. none more ∙ sym (none []))
 
--- what is said behind one message more in front
+-- what is said after one message more in front
 in-front : {F : Type 0} (front : List (Message F)) (said : List (Event F) → List (Message F)) (h : Hearing F) →
     SaysOn said h → SaysOn (λ more. front ++ said more) h
 in-front front said (Goes_on e t) (part, end, fault) = (
@@ -89,12 +89,12 @@ in-front front said (Over_at e) same = λ more. ap (λ l. front ++ l) (same more
 in-front front said (Peer_refused code) same = λ more. ap (λ l. front ++ l) (same more)
 in-front front said (Refused_for code) same = λ more. ap (λ l. front ++ l) (same more)
 
--- a message ended, and f is the end behind it
-claim-behind : {F : Type 0} (S : Summary F) (e : End F) (ps : Message F) (events : List (Event F)) (f : End F) →
+-- a message ended, and f is the end after it
+claim-after : {F : Type 0} (S : Summary F) (e : End F) (ps : Message F) (events : List (Event F)) (f : End F) →
     after S e ps ≡ f → (is_over f.stage ≡ false → is_live f.stage ≡ true) →
     ((d : End F) → is_live d.stage ≡ true → Claim S d [] events (Sofar S d [] events)) →
     SaysOn (λ more. answers S e (ps ∷ messages_of [] (events ++ more))) (fold (hear S) (stands_at f) events)
-claim-behind {F} S e ps events f is live later =
+claim-after {F} S e ps events f is live later =
     in-front (replied (answer S e ps)) (λ more. answers S (after S e ps) (messages_of [] (events ++ more)))
     (fold (hear S) (stands_at f) events)
     (subst (λ d. SaysOn (λ more. answers S d (messages_of [] (events ++ more))) (fold (hear S) (stands_at f) events))
@@ -120,9 +120,9 @@ claim-ended {F} S e ps events live later =
           SaysOn (λ more. answers S e (ps ∷ messages_of [] (events ++ more)))
           (fold (hear S) (stands_at (after_ended e (taken_all S e ps) a)) events)
       taken_by a is never =
-          let behind : after_ended e (taken_all S e ps) a ≡ after_answer e ps a = after-all S e ps a in
-          claim-behind S e ps events (after_ended e (taken_all S e ps) a) (after-live S e ps a live is ∙ sym behind)
-          (subst (λ d. is_over d.stage ≡ false → is_live d.stage ≡ true) (sym behind) (still-live e ps a never)) later
+          let ended : after_ended e (taken_all S e ps) a ≡ after_answer e ps a = after-all S e ps a in
+          claim-after S e ps events (after_ended e (taken_all S e ps) a) (after-live S e ps a live is ∙ sym ended)
+          (subst (λ d. is_over d.stage ≡ false → is_live d.stage ≡ true) (sym ended) (still-live e ps a never)) later
 
       by : (a : Answer F) → answer S e ps ≡ a → SaysOn (λ more. answers S e (ps ∷ messages_of [] (events ++ more)))
           (fold (hear S) (ended_by e (taken_all S e ps) a) events)

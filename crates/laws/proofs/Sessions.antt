@@ -20,7 +20,7 @@ use Rattle.definitions.proofs.Lemmas.{All-at, append-nil, eq-eqb, eqb-true, leng
 use Rattle.std.proofs.lemmas.Option.{slice_get_within}
 use Rattle.laws.specs.Growing.{is_even}
 use Rattle.laws.specs.Turns.{TakeTurns, hearer_at}
-use Rattle.laws.specs.Sessions.{Kept, Keeps, SessionsOpen, responder_now, hearer_now, kept_behind, SessionsGoOn}
+use Rattle.laws.specs.Sessions.{Kept, Keeps, SessionsOpen, responder_now, hearer_now, kept_after, SessionsGoOn}
 use Rattle.laws.proofs.Runs.{peer_at-IsSet, length-version}
 use Rattle.laws.proofs.Saying.{ends_keep_peers}
 use Rattle.laws.proofs.Turns.{talks_go_on, ends_hear, ends_talk}
@@ -151,7 +151,7 @@ held_answer {S = S} {I = I} {R = R} {d = d} {k = k} {e = e} h turn =
     ap (λ c. answer S c k.last) hearer ∙ turn.answered k.last h.last
     ∙ ap (λ P. if has_open k.last then Replies (reply S P k.last) else Ends) who
 
--- ---- what is kept behind it
+-- ---- what is kept after it
 
 -- two ends, the message made last, and the most parts of a message
 record Is {F : Type 0} (k : Kept F) (d e : End F) (N : Message F) (n : ℕ) : Type 0 where
@@ -181,11 +181,11 @@ kept_is S false k e i r j t M N n here there begun p q = record {
   parts = refl;
 }
 
-held_behind : {F : Type 0} {S : Summary F} {I R : Peer} {d : ℕ} {k : Kept F} {e : End F} → Holds S I R d k e →
+held_after : {F : Type 0} {S : Summary F} {I R : Peer} {d : ℕ} {k : Kept F} {e : End F} → Holds S I R d k e →
     (N : Message F) (n : ℕ) →
     Is (kept_by (is_even d) k (after S (if is_even d then e else k.initiator) k.last) N n) (initiator_at S I R (d + 1))
     (responder_at S I R (d + 1)) N n
-held_behind {S = S} {I = I} {R = R} {d = d} {k = k} {e = e} h N n =
+held_after {S = S} {I = I} {R = R} {d = d} {k = k} {e = e} h N n =
     let hears = ends_hear S I R d k.last h.last in
     kept_is S (is_even d) k e (initiator_at S I R d) (responder_at S I R d) (initiator_at S I R (d + 1))
     (responder_at S I R (d + 1)) k.last N n h.initiator h.responder h.begun hears.initiator hears.responder
@@ -214,9 +214,9 @@ keeps_next S w s k l N n h is last most = record {
   parts = is.parts ∙ most;
 }
 
--- ---- the message behind it, if there is one
+-- ---- the message after it, if there is one
 
--- message number d is M, so many are there behind it
+-- message number d is M, so many are there after it
 record Comes {F : Type 0} (S : Summary F) (I R : Peer) (d : ℕ) (M : Message F) : Type 0 where
   more : has_open M ≡ true → slice_get (talk S I R (d + 1 + 1)) (d + 1) ≡ Some (reply S (sender I R (d + 1)) M)
   going : has_open M ≡ true → (length (talk S I R (d + 1 + 1)) == d + 1) ≡ false
@@ -297,8 +297,8 @@ sessions_go_on {F} S exact w s k nodes h going =
       replied = λ N e.
           let by = replies_if (has_open k.last) (reply S (sender I R (d + 1)) k.last) N
           (sym said ∙ ap (λ c. answer S c k.last) (sym hearer) ∙ e) in (
-            keeps_next S w s k (kept_behind s k (after S (hearer_now w s k) k.last) N (max k.parts (length N))) N
-                (max k.parts (length N)) h (held_behind held N (max k.parts (length N)))
+            keeps_next S w s k (kept_after s k (after S (hearer_now w s k) k.last) N (max k.parts (length N))) N
+                (max k.parts (length N)) h (held_after held N (max k.parts (length N)))
                 (λ on. next.more by.0 ∙ ap Some by.1)
                 (ap (λ n. max n (length N)) held.parts
                 ∙ sym (next.most by.0 ∙ ap (λ M. max (most_parts (talk S I R (d + 1))) (length M)) by.1)),
@@ -308,8 +308,8 @@ sessions_go_on {F} S exact w s k nodes h going =
           let by = ends_if (has_open k.last) (reply S (sender I R (d + 1)) k.last)
           (sym said ∙ ap (λ c. answer S c k.last) (sym hearer) ∙ e) in
           let over = next.over by in (
-            keeps_next S w s k (kept_behind s k (after S (hearer_now w s k) k.last) k.last k.parts) k.last k.parts h
-                (held_behind held k.last k.parts) (λ on. absurd cc)
+            keeps_next S w s k (kept_after s k (after S (hearer_now w s k) k.last) k.last k.parts) k.last k.parts h
+                (held_after held k.last k.parts) (λ on. absurd cc)
                 (held.parts ∙ sym (next.same by)),
             over,
           );

@@ -33,16 +33,16 @@ MayReply P f n (Waits own) = SumsUnder f P.items n own
 MayReply P f n Over = ⊤
 MayReply P f n Spent = ⊤
 
--- behind this answer to M it may reply so often that all in all it is no more than n
-abbrev MayReplyBehind : {F : Type 0} → List ℕ → ℕ → End F → Message F → Answer F → Type 0
-MayReplyBehind f n e M a = (k : ℕ) × (length (replied a) + k ≤ n) × MayReply e.peer f k (after_answer e M a).stage
+-- after this answer to M it may reply so often that all in all it is no more than n
+abbrev MayReplyAfter : {F : Type 0} → List ℕ → ℕ → End F → Message F → Answer F → Type 0
+MayReplyAfter f n e M a = (k : ℕ) × (length (replied a) + k ≤ n) × MayReply e.peer f k (after_answer e M a).stage
 
 answered-few : {F : Type 0} (S : Summary F) (f : List ℕ) (n : ℕ) (e : End F) (M : Message F) → Ready e.peer f →
     AllByRecursion (IsOpenUnder f e.peer.items n) M →
-    MayReplyBehind f n e M (answer_unless S e.peer M None)
+    MayReplyAfter f n e M (answer_unless S e.peer M None)
 answered-few S f n e M r under =
     let N = reply S e.peer M in
-    answer-cases S e.peer M (MayReplyBehind f n e M)
+    answer-cases S e.peer M (MayReplyAfter f n e M)
     (λ o. (
       n - 1,
       omega (arith, has_open-under f e.peer.items n M under o),
@@ -61,7 +61,7 @@ after-few {F} S f n e M r rises h = by e.stage h where
       × MayReply e.peer f k (after S (record e { stage = s }) M).stage
   by Fresh h = fault (opening_fault M) refl where
     fault : (o : Option ℕ) → opening_fault M ≡ o →
-        MayReplyBehind f n (record e { stage = Fresh }) M (answer_unless S e.peer M o)
+        MayReplyAfter f n (record e { stage = Fresh }) M (answer_unless S e.peer M o)
     fault (Some code) p = (0, omega arith, tt)
     fault None p =
         let (k, few, more) =
@@ -69,7 +69,7 @@ after-few {F} S f n e M r rises h = by e.stage h where
         (k, omega (arith, few, h), more)
   by (Waits own) h = fault (place_fault own M) refl where
     fault : (o : Option ℕ) → place_fault own M ≡ o →
-        MayReplyBehind f n (record e { stage = Waits own }) M (answer_unless S e.peer M o)
+        MayReplyAfter f n (record e { stage = Waits own }) M (answer_unless S e.peer M o)
     fault (Some code) p = (0, omega arith, tt)
     fault None p = answered-few S f n (record e { stage = Waits own }) M r (placed-OpenUnder r n own M h rises p)
   by Over h = (0, omega arith, tt)
@@ -95,13 +95,13 @@ responder_stops S P f Ms r rise = answers-few S P f (rank f P + 1) (responder P)
 
 -- ---- all that is called for: a reply that is too long, too
 
-abbrev MayCallBehind : {F : Type 0} → Summary F → List ℕ → ℕ → End F → Message F → Option ℕ → Type 0
-MayCallBehind S f n e M o = (k : ℕ) × (length (called_unless S e.peer M o) + k ≤ n)
+abbrev MayCallAfter : {F : Type 0} → Summary F → List ℕ → ℕ → End F → Message F → Option ℕ → Type 0
+MayCallAfter S f n e M o = (k : ℕ) × (length (called_unless S e.peer M o) + k ≤ n)
     × MayReply e.peer f k (after_answer e M (answer_unless S e.peer M o)).stage
 
-called-behind : {F : Type 0} (S : Summary F) (f : List ℕ) (n : ℕ) (e : End F) (M : Message F) → Ready e.peer f →
-    AllByRecursion (IsOpenUnder f e.peer.items n) M → MayCallBehind S f n e M None
-called-behind {F} S f n e M r under = by (has_open M) (is_sendable N) refl where
+called-after : {F : Type 0} (S : Summary F) (f : List ℕ) (n : ℕ) (e : End F) (M : Message F) → Ready e.peer f →
+    AllByRecursion (IsOpenUnder f e.peer.items n) M → MayCallAfter S f n e M None
+called-after {F} S f n e M r under = by (has_open M) (is_sendable N) refl where
   N : Message F
   N = reply S e.peer M
 
@@ -124,16 +124,16 @@ called-few {F} S f n e M r rises h = by e.stage h where
   by : (s : Stage F) → MayReply e.peer f n s → (k : ℕ) × (length (called S (record e { stage = s }) M) + k ≤ n)
       × MayReply e.peer f k (after S (record e { stage = s }) M).stage
   by Fresh h = fault (opening_fault M) refl where
-    fault : (o : Option ℕ) → opening_fault M ≡ o → MayCallBehind S f n (record e { stage = Fresh }) M o
+    fault : (o : Option ℕ) → opening_fault M ≡ o → MayCallAfter S f n (record e { stage = Fresh }) M o
     fault (Some code) p = (0, omega arith, tt)
     fault None p =
         let (k, few, more) =
-        called-behind S f (rank f e.peer + 1) (record e { stage = Fresh }) M r (opening-OpenUnder r M p) in
+        called-after S f (rank f e.peer + 1) (record e { stage = Fresh }) M r (opening-OpenUnder r M p) in
         (k, omega (arith, few, h), more)
   by (Waits own) h = fault (place_fault own M) refl where
-    fault : (o : Option ℕ) → place_fault own M ≡ o → MayCallBehind S f n (record e { stage = Waits own }) M o
+    fault : (o : Option ℕ) → place_fault own M ≡ o → MayCallAfter S f n (record e { stage = Waits own }) M o
     fault (Some code) p = (0, omega arith, tt)
-    fault None p = called-behind S f n (record e { stage = Waits own }) M r (placed-OpenUnder r n own M h rises p)
+    fault None p = called-after S f n (record e { stage = Waits own }) M r (placed-OpenUnder r n own M h rises p)
   by Over h = (0, omega arith, tt)
   by Spent h = (0, omega arith, tt)
 

@@ -10,10 +10,10 @@
 use Rattle.std.proofs.Common.{◌≡◌, ℕ, ◌+◌, ◌<◌, ◌∙◌, Bool, true, false, List, [], ◌∷◌, ◌++◌, length, Option, Some, None}
 use Rattle.std.proofs.Common.{refl, sym, ap, arith, append_assoc}
 use Rattle.std.specs.Prelude.{◌||◌, fold, if◌then◌else◌}
-use Rattle.definitions.proofs.Words.{Summary, Part, Message, has_open, is_open, reply, reply_to, Place, Behind, Refused}
+use Rattle.definitions.proofs.Words.{Summary, Part, Message, has_open, is_open, reply, reply_to, Place, After, Refused}
 use Rattle.definitions.proofs.Words.{next, finish, and_then, learn, max_parts, End, Ends, Fresh, Over, Refuses, Replies}
 use Rattle.definitions.proofs.Words.{Spent, Stage, Waits, after_answer, answer, answer_unless, is_sendable, own_of}
-use Rattle.definitions.proofs.Words.{reply_or_refuse, stage_behind, stage_fault, too_many_parts}
+use Rattle.definitions.proofs.Words.{reply_or_refuse, stage_after_reply, stage_fault, too_many_parts}
 use Rattle.definitions.specs.Ends.{Answer}
 use Rattle.definitions.specs.Placing.{First, refusal}
 use Rattle.definitions.specs.Talks.{ours_by, theirs_by}
@@ -88,7 +88,7 @@ stays-refused code (p ∷ M) = stays-refused code M
 
 pub refused-place : {F : Type 0} (x : Place F) (code : ℕ) → refusal x ≡ Some code → x ≡ Refused code
 refused-place First code e = absurd cc
-refused-place (Behind left inside) code e = absurd cc
+refused-place (After left inside) code e = absurd cc
 refused-place (Refused n) code e = let same : n ≡ code = cc in ap Refused same
 
 pub fault-taken : {F : Type 0} (s : Stage F) (M : Message F) → finish (fold next (place_of s) M) ≡ stage_fault s M
@@ -130,7 +130,7 @@ ended-all {F} S e M =
 pub after-all : {F : Type 0} (S : Summary F) (e : End F) (M : Message F) (a : Answer F) →
     after_ended e (taken_all S e M) a ≡ after_answer e M a
 after-all S e M (Replies N) =
-    ap (λ k. record e { stage = stage_behind N; sent = e.sent + 1; learned = and_then e.learned k }) (learned-all S e M)
+    ap (λ k. record e { stage = stage_after_reply N; sent = e.sent + 1; learned = and_then e.learned k }) (learned-all S e M)
 after-all S e M Ends = ap (λ k. record e { stage = Over; learned = and_then e.learned k }) (learned-all S e M)
 after-all S e M (Refuses code) = refl
 
@@ -154,7 +154,7 @@ in-parts {F} S e t (p ∷ M) = by (refusal (next t.place p)) refl (in-parts S e 
 pub parts_are_taken : {F : Type 0} (S : Summary F) → PartsAreTaken S
 parts_are_taken S e M = record {
   at_the_end = ended-all S e M;
-  behind_it = after-all S e M (answer S e M);
+  after_it = after-all S e M (answer S e M);
   at_the_first = in-parts S e (nothing_taken e) M ∙ ended-all S e M;
   from_any = λ t. in-parts S e t M;
 }

@@ -14,7 +14,7 @@ use Rattle.definitions.proofs.Words.{AllByRecursion, Apart, Summary, IsExact, Me
 use Rattle.definitions.proofs.Words.{Peer, reply, and_then, knows, learn, of_first, of_second, sender, talk, talk_from}
 use Rattle.definitions.proofs.Words.{max_parts, Ready, End, Ends, Replies, Waits, Over, Refuses, too_many_parts, after}
 use Rattle.definitions.proofs.Words.{after_answer, answer, answer_unless, heard, initiator, initiator_at, is_live}
-use Rattle.definitions.proofs.Words.{own_of, reply_or_refuse, responder, responder_at, stage_behind, stage_fault}
+use Rattle.definitions.proofs.Words.{own_of, reply_or_refuse, responder, responder_at, stage_after_reply, stage_fault}
 use Rattle.definitions.proofs.Lemmas.{le-leb, take_all, All-map}
 use Rattle.laws.specs.Growing.{is_even}
 use Rattle.laws.specs.Turns.{TalksBegin, TalksGoOn, EndsHear, EndsTalk}
@@ -95,7 +95,7 @@ ends_hear {F} S I R k M h =
 
 -- ==== What the ends are, when M was spoken by e and is to be heard by d
 
--- what the two have sent and learned behind the messages Ms, and what becomes of message number k, which is among more
+-- what the two have sent and learned after the messages Ms, and what becomes of message number k, which is among more
 record Turn {F : Type 0} (S : Summary F) (e d : End F) (Ms more : List (Message F)) (k : ℕ) : Type 0 where
   speaker_learned : (heard S e (of_second Ms)).learned
       ≡ and_then e.learned (knows e.peer.items (of_first Ms) (of_second Ms))
@@ -103,20 +103,20 @@ record Turn {F : Type 0} (S : Summary F) (e d : End F) (Ms more : List (Message 
       ≡ and_then d.learned (knows d.peer.items (own_of d.stage ∷ of_second Ms) (of_first Ms))
   sent : (heard S e (of_second Ms)).sent + (heard S d (of_first Ms)).sent + 1 ≡ e.sent + d.sent + length more
   spoken : (N : Message F) → slice_get more k ≡ Some N →
-      (if is_even k then heard S e (of_second Ms) else heard S d (of_first Ms)).stage ≡ stage_behind N
+      (if is_even k then heard S e (of_second Ms) else heard S d (of_first Ms)).stage ≡ stage_after_reply N
   answered : (N : Message F) → slice_get more k ≡ Some N →
       answer S (if is_even k then heard S d (of_first Ms) else heard S e (of_second Ms)) N
       ≡ (if has_open N then Replies (reply S (sender e.peer d.peer (suc k)) N) else Ends)
 
 -- nothing was heard, and M comes
 turn_first : {F : Type 0} (S : Summary F) (e d : End F) (M : Message F) (Ms : List (Message F)) → length Ms ≡ 0 →
-    e.stage ≡ stage_behind M →
+    e.stage ≡ stage_after_reply M →
     answer S d M ≡ (if has_open M then Replies (reply S d.peer M) else Ends) → Turn S e d [] (M ∷ Ms) 0
 turn_first S e d M Ms none spoken answered = record {
   speaker_learned = sym (then_nothing e.learned);
   hearer_learned = sym (then_nothing d.learned);
   sent = omega (arith, none);
-  spoken = λ N h. subst (λ N. e.stage ≡ stage_behind N) (some_is M N h) spoken;
+  spoken = λ N h. subst (λ N. e.stage ≡ stage_after_reply N) (some_is M N h) spoken;
   answered = λ N h.
       subst (λ N. answer S d N ≡ (if has_open N then Replies (reply S d.peer N) else Ends)) (some_is M N h) answered;
 }
@@ -165,7 +165,7 @@ turn_more {F} S e d M Ms more k hears own later =
 record Meets {F : Type 0} (S : Summary F) (f g : List ℕ) (e d : End F) (M : Message F) : Type 0 where
   speaker : Ready e.peer f
   hearer : Ready d.peer g
-  spoken : e.stage ≡ stage_behind M
+  spoken : e.stage ≡ stage_after_reply M
   live : is_live d.stage ≡ true
   taken : stage_fault d.stage M ≡ None
   apart : Apart (open_ranges M)

@@ -2,7 +2,7 @@
 --     Agrees S e Ms events h      h is what the events make of the end, and Ms are the messages in them
 --     FramesAgree S               of every end that takes messages
 --     BytesAgree S P              of a side and the bytes that it reads
---     FramesSay S                 what is said while frames are heard, and nothing behind a stop
+--     FramesSay S                 what is said while frames are heard, and nothing after a stop
 --     HearingsGoOn S              one event more, and what comes after a stop, of a side and the bytes that it reads
 --     OwnBegins S                 what was said begins what is called for
 --     OwnIsFew S, OwnIsShort S    whatever the messages are, few are called for, and their lists are short
@@ -29,7 +29,7 @@ abbrev pub SaidBut : {F : Type 0} → List (Message F) → List (Message F) → 
 SaidBut {F} said called code =
     (called ≡ said) ⊎ ((code ≡ too_many_parts) × (N : Message F) × IsFalse (is_sendable N) × (called ≡ said ++ N ∷ []))
 
--- e is the end behind the whole messages, what they call for is said, and o is the code of the first fault frame
+-- e is the end after the whole messages, what they call for is said, and o is the code of the first fault frame
 abbrev pub AgreesBy : {F : Type 0} → End F → List (Message F) → List (Message F) → Hearing F → Type 0
 AgreesBy e said called (Goes_on f t) = (f ≡ e) × (is_live f.stage ≡ true) × (called ≡ said)
 AgreesBy e said called (Over_at f) = (f ≡ e) × (is_over f.stage ≡ true) × (called ≡ said)
@@ -67,7 +67,7 @@ has_stopped (Peer_refused code) = true
 has_stopped (Refused_for code) = true
 
 -- said tells what is said to these events and to more of them: a part or a fault frame adds nothing, the end of a
--- message its reply; behind a stop nothing more is said
+-- message its reply; after a stop nothing more is said
 abbrev pub SaysOn : {F : Type 0} → (List (Event F) → List (Message F)) → Hearing F → Type 0
 SaysOn {F} said (Goes_on e t) = ((p : Part F) → said (Came p ∷ []) ≡ said [])
     × (said (Ended ∷ []) ≡ said [] ++ replied (ended t)) × ((code : ℕ) → said (Failed code ∷ []) ≡ said [])

@@ -1,5 +1,5 @@
 -- What an end says, one message after another.
---     Said S e Ms      of an end behind some messages: how many it sent; one message more; and any behind its session's
+--     Said S e Ms      of an end after some messages: how many it sent; one message more; and any after its session's
 --                      end
 --     EndsSay S        of every end
 use Rattle.std.specs.Prelude.{◌≡◌, ◌+◌, false, List, [], ◌∷◌, ◌++◌, length}

@@ -66,10 +66,10 @@ responder_now w s k =
 abbrev pub hearer_now : {F : Type 0} → World → Session → Kept F → End F
 hearer_now w s k = if is_even s.delivered then responder_now w s k else k.initiator
 
--- what is kept behind a delivery, whose hearer is then e, which made the message N, and behind which no message has
+-- what is kept after a delivery, whose hearer is then e, which made the message N, and after which no message has
 -- more parts than n
-abbrev pub kept_behind : {F : Type 0} → Session → Kept F → End F → Message F → ℕ → Kept F
-kept_behind s k e N n =
+abbrev pub kept_after : {F : Type 0} → Session → Kept F → End F → Message F → ℕ → Kept F
+kept_after s k e N n =
     if is_even s.delivered then record { initiator = k.initiator; responder = Some e; last = N; parts = n }
     else record { initiator = e; responder = k.responder; last = N; parts = n }
 
@@ -77,10 +77,10 @@ kept_behind s k e N n =
 pub record GoesOnBy {F : Type 0} (S : Summary F) (w : World) (s : Session) (k : Kept F) : Type 0 where
   -- it is a reply where the message has an open part
   pub replied : (N : Message F) → answer S (hearer_now w s k) k.last ≡ Replies N →
-      Keeps S w (after_delivery w s) (kept_behind s k (after S (hearer_now w s k) k.last) N (max k.parts (length N)))
+      Keeps S w (after_delivery w s) (kept_after s k (after S (hearer_now w s k) k.last) N (max k.parts (length N)))
       × (has_ended S w (after_delivery w s) ≡ false)
   pub ended : answer S (hearer_now w s k) k.last ≡ Ends →
-      Keeps S w (after_delivery w s) (kept_behind s k (after S (hearer_now w s k) k.last) k.last k.parts)
+      Keeps S w (after_delivery w s) (kept_after s k (after S (hearer_now w s k) k.last) k.last k.parts)
       × (has_ended S w (after_delivery w s) ≡ true)
   pub taken : answer S (hearer_now w s k) k.last
       ≡ (if has_open k.last then Replies (reply S (hearer_now w s k).peer k.last) else Ends)
@@ -90,13 +90,13 @@ SessionsGoOn {F} S = IsExact S → (w : World) (s : Session) (k : Kept F) → Al
     Keeps S w s k → has_ended S w s ≡ false → GoesOnBy S w s k
 
 -- no step touches what is kept of a session but its own delivery (which changes its numbers), and nodes stay nodes
-pub record StaysBehind {F : Type 0} (S : Summary F) (w : World) (e : Step) : Type 0 where
+pub record StaysAfter {F : Type 0} (S : Summary F) (w : World) (e : Step) : Type 0 where
   pub nodes : AllByRecursion IsNode w.nodes → AllByRecursion IsNode (step S w e).0.nodes
   pub count : length (step S w e).0.nodes ≡ length w.nodes
   pub kept : (s : Session) (k : Kept F) → Keeps S w s k → Keeps S (step S w e).0 s k
 
 abbrev pub SessionsStay : {F : Type 0} → Summary F → Type 0
-SessionsStay S = (w : World) (e : Step) → StaysBehind S w e
+SessionsStay S = (w : World) (e : Step) → StaysAfter S w e
 
 -- what is kept speaks of the nodes alone
 abbrev pub SessionsKeepNodes : {F : Type 0} → Summary F → Type 0

@@ -1,6 +1,6 @@
 -- How a talk goes on, and how its two ends step through it.
 --     TalksBegin S         the talk so far is how the longer one begins
---     TalksGoOn S          the number of a message, and the message behind it
+--     TalksGoOn S          the number of a message, and the message after it
 --     EndsHear S           who hears a message
 --     EndsTalk S           what each end has learned, how many messages both have sent, and what the next one is
 --                          answered
@@ -9,7 +9,7 @@ use Rattle.definitions.specs.Fingerprints.{Summary, IsExact}
 use Rattle.definitions.specs.Messages.{Message, has_open}
 use Rattle.definitions.specs.Replies.{Peer, reply}
 use Rattle.definitions.specs.Talks.{talk, sender, initiator_knows, responder_knows}
-use Rattle.definitions.specs.Ends.{End, Replies, Ends, answer, after, stage_behind, initiator_at, responder_at}
+use Rattle.definitions.specs.Ends.{End, Replies, Ends, answer, after, stage_after_reply, initiator_at, responder_at}
 use Rattle.definitions.specs.Theorems.{Ready}
 use Rattle.laws.specs.Growing.{is_even}
 
@@ -42,14 +42,14 @@ pub record Hears {F : Type 0} (S : Summary F) (I R : Peer) (k : ℕ) (M : Messag
 abbrev pub EndsHear : {F : Type 0} → Summary F → Type 0
 EndsHear {F} S = (I R : Peer) (k : ℕ) (M : Message F) → slice_get (talk S I R (k + 1)) k ≡ Some M → Hears S I R k M
 
--- the two ends behind k messages
+-- the two ends after k messages
 pub record TakeTurns {F : Type 0} (S : Summary F) (I R : Peer) (k : ℕ) : Type 0 where
   pub initiator_learned : (initiator_at S I R k).learned ≡ initiator_knows I.items (talk S I R k)
   pub responder_learned : (responder_at S I R k).learned ≡ responder_knows R.items (talk S I R k)
   -- each message that was made was sent
   pub sent : (initiator_at S I R k).sent + (responder_at S I R k).sent ≡ length (talk S I R (k + 1))
   -- the next message, if there is one, is what its speaker sent last
-  pub spoken : (M : Message F) → slice_get (talk S I R (k + 1)) k ≡ Some M → (speaker_at S I R k).stage ≡ stage_behind M
+  pub spoken : (M : Message F) → slice_get (talk S I R (k + 1)) k ≡ Some M → (speaker_at S I R k).stage ≡ stage_after_reply M
   -- and is not refused
   pub answered : (M : Message F) → slice_get (talk S I R (k + 1)) k ≡ Some M →
       answer S (hearer_at S I R k) M ≡ (if has_open M then Replies (reply S (sender I R (k + 1)) M) else Ends)

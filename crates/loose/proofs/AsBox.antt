@@ -1,7 +1,7 @@
--- A loose box owns what a box owns, part for part: the pointer, the handle of the allocator, the value behind the
+-- A loose box owns what a box owns, part for part: the pointer, the handle of the allocator, the value after the
 -- pointer and the right to give its block back. The two differ in the names of their fields alone, and a name owns
 -- nothing. So a loose box is read as a box, and what the kit proves of a box is used for both. A pair of a pointer
--- and a handle is a box as well, once the value behind the pointer lies beside it.
+-- and a handle is a box as well, once the value that its pointer points to lies beside it.
 use Prim.Native.Nat.{ℕ}
 use mathlib.Core.List.{List, [], ◌∷◌, ◌++◌}
 use mathlib.Core.Path.{◌≡◌, refl, sym, ap, subst}
@@ -67,7 +67,7 @@ module _ (E : Bx) where
         rewrite t 0 (λ (w : Val). ‵ (Owns d (w ∷ []))) back refl $
         next (subst (λ (w : Val). T (has_ty (box_ty E) w) × WT w) back (box_typed E h b o fits)))
 
-    -- a pair, and the memory behind its pointer, are a box
+    -- a pair, and the memory that its pointer points to, are a box
     pub paired : K → (r : Ptr × E.al.row.Denot) (x : X E) (vs : List Val)
         → Step K 𝓛 (‵ (Owns (record { ptr = r.0; alloc = r.1; value = x }) vs) ∷ Γ) G
         (‵ (Pair.own_val r vs) ∷ ‵ (box_owns (token E.al r.1) (R E) r.0 x) ∷ Γ) G

@@ -1,8 +1,8 @@
--- What was written where a connection breaks: so many messages whole, and nothing behind the beginning of one more.
+-- What was written where a connection breaks: so many messages whole, and nothing after the beginning of one more.
 --
 -- The text of k + 1 messages is the text of k and then that of one more, where there is one. A message ends with the
 -- end frame, so its text is not empty. Hence the text of k messages is a beginning of the longer one, and less than it;
--- so is the same text with a proper beginning of the next message behind it. Where a part of the hello was written, or
+-- so is the same text with a proper beginning of the next message after it. Where a part of the hello was written, or
 -- nothing, no message is whole, and that is less than the hello and a message.
 use Rattle.std.proofs.Common.{◌≡◌, ℕ, ◌+◌, ◌<◌, ◌≤◌, inl, inr, List, [], ◌∷◌, ◌++◌, length, flat_map, take, drop}
 use Rattle.std.proofs.Common.{Option, refl, sym, ap, ◌∙◌, subst, append_assoc, append-nil, take-append-drop, arith}
@@ -64,7 +64,7 @@ module _ {F : Type 0} (S : Summary F) (W : Profile F) where
   spelled-some [] some = absurd (omega arith)
   spelled-some (M ∷ Ms) some = omega (arith, spelling-some M, length-append (spelling M) (spelled []))
 
-  -- the first messages, and the one behind them
+  -- the first messages, and the one after them
   record Split (Ms front : Messages) (M : Message F) (k : ℕ) : Type 0 where
     before : first k Ms ≡ said front
     next : first (k + 1) Ms ≡ said front ++ spelling M
@@ -83,7 +83,7 @@ module _ {F : Type 0} (S : Summary F) (W : Profile F) where
 
   -- ---- where it breaks
 
-  -- behind whole messages
+  -- after whole messages
   broke-whole : (s : Speaker F) (k : ℕ) (bytes : List ℕ) → k ≤ length (called_by S W s bytes) →
       Broke s k bytes (first k (called_by S W s bytes))
   broke-whole s k bytes count version r w = record {
@@ -155,20 +155,20 @@ module _ {F : Type 0} (S : Summary F) (W : Profile F) where
   -- ---- what was written of a session
 
   -- whole messages, or nothing
-  pub breaks-behind : (s : Speaker F) (o : OutboxState) (t : Traffic) (bytes : List ℕ) →
+  pub breaks-after : (s : Speaker F) (o : OutboxState) (t : Traffic) (bytes : List ℕ) →
       WroteUpTo S W s o t bytes → BreaksOff S W s o.sent t bytes
-  breaks-behind s o t bytes (inl wrote) = record {
+  breaks-after s o t bytes (inl wrote) = record {
     all = first o.sent (called_by S W s bytes);
     written = wrote.written;
     broke = broke-whole s o.sent bytes wrote.count;
   }
-  breaks-behind s o t bytes (inr none) = record {
+  breaks-after s o t bytes (inr none) = record {
     all = [];
     written = none.written;
     broke = subst (λ k. Broke s k bytes []) (sym none.none) (broke-nothing s bytes);
   }
 
-  -- a part of a message, behind those that were said
+  -- a part of a message, after those that were said
   pub breaks-in-message : (s : Speaker F) (o p : OutboxState) (t : Traffic) (holds : Option (List ℕ)) (bytes : List ℕ)
       (front more : Messages) (M : Message F) →
       called_by S W s bytes ≡ front ++ M ∷ more → HasWritten W o t.held holds front → p ≡ o →

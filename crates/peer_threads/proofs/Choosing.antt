@@ -1,6 +1,6 @@
 -- The session in the profile that the first four bytes choose.
 --
--- Behind four bytes that were read, all that is read begins with them, so they choose the profile of all. Where fewer
+-- After four bytes that were read, all that is read begins with them, so they choose the profile of all. Where fewer
 -- came, they are not the hello of the counted profile.
 use Rattle.std.proofs.Common.{rules, ◌≡◌, ℕ, ◌<◌, ◌≤◌, inl, inr, Bool, true, false, List, [], length, take}
 use Rattle.std.proofs.Common.{Option, refl, sym, ap, ◌∙◌, subst, arith, nat_lt}
@@ -26,7 +26,7 @@ use Rattle.peer_threads.specs.Choices.{is_counted, ChosenSpeaks, ChosenUnopened,
 use Rattle.peer_threads.specs.Hellos.{NoHello}
 use Rattle.peer_threads.specs.Inboxes.{StopsAt}
 use Rattle.peer_threads.specs.Outboxes.{OutboxState, outbox_state}
-use Rattle.peer_threads.specs.Outcomes.{Origin, Reader, Behind, traffic, traffic_behind}
+use Rattle.peer_threads.specs.Outcomes.{Origin, Reader, After, traffic, traffic_after}
 use Rattle.peer_threads.specs.Outcomes.{Speaks, SpeaksUnopened, Unopened, CameFirst}
 use Rattle.ends_core.specs.Sides.{KeepsBounds}
 use Rattle.outcome_core.specs.Sent.{sent_in}
@@ -44,7 +44,7 @@ module _ {F : Type 0} (S : Summary F) (W : Profile F) where
   speaks-all : (fits : Type 0) (s : Speaker F) (version bound limit : ℕ) (front : List ℕ)
       (unread mid left held holds : Option (List ℕ)) (r w : Seen) (o : Outcome) → length front ≡ 4 →
       Consumes unread mid front →
-      Speaks S W fits s version bound limit (traffic_behind front mid left held holds) r w o →
+      Speaks S W fits s version bound limit (traffic_after front mid left held holds) r w o →
       (x : Speaks S W fits s version bound limit (traffic unread left held holds) r w o)
       × (is_counted x.bytes ≡ is_counted front)
   speaks-all fits s version bound limit front unread mid left held holds r w o four first x = (
@@ -61,7 +61,7 @@ module _ {F : Type 0} (S : Summary F) (W : Profile F) where
 
   speaks-unopened-all : (s : Speaker F) (version : ℕ) (front : List ℕ) (unread mid left held holds : Option (List ℕ))
       (r w : Seen) (o : Outcome) → length front ≡ 4 → Consumes unread mid front →
-      SpeaksUnopened S W s version (traffic_behind front mid left held holds) r w o →
+      SpeaksUnopened S W s version (traffic_after front mid left held holds) r w o →
       (x : SpeaksUnopened S W s version (traffic unread left held holds) r w o)
       × (is_counted x.bytes ≡ is_counted front)
   speaks-unopened-all s version front unread mid left held holds r w o four first x = (
@@ -74,7 +74,7 @@ module _ {F : Type 0} (S : Summary F) (W : Profile F) where
   )
 
   first-all : (front : List ℕ) (unread mid left : Option (List ℕ)) → length front ≡ 4 → Consumes unread mid front →
-      CameFirst W (Behind front mid) left →
+      CameFirst W (After front mid) left →
       (x : CameFirst W (Reader unread) left) × (is_counted x.bytes ≡ is_counted front)
   first-all front unread mid left four first x = (
     record {
@@ -138,7 +138,7 @@ pub counted-speaks : (fits : Type 0) (p : Peer) (version bound limit : ℕ) (fro
     (unread mid left held holds : Option (List ℕ)) (r w : Seen) (o : Outcome) → length front ≡ 4 →
     Consumes unread mid front → is_counted front ≡ true →
     Speaks counted_lanes counted_profile fits (responding p) version bound limit
-    (traffic_behind front mid left held holds) r w o →
+    (traffic_after front mid left held holds) r w o →
     ChosenSpeaks fits p version bound limit (traffic unread left held holds) r w o
 counted-speaks fits p version bound limit front unread mid left held holds r w o four first is x =
     let all = speaks-all counted_lanes counted_profile fits (responding p) version bound limit front unread mid left
@@ -149,7 +149,7 @@ pub two-lanes-speak : (fits : Type 0) (p : Peer) (version bound limit : ℕ) (fr
     (unread mid left held holds : Option (List ℕ)) (r w : Seen) (o : Outcome) → length front ≡ 4 →
     Consumes unread mid front → is_counted front ≡ false →
     Speaks two_lanes two_lane_profile fits (responding p) version bound limit
-    (traffic_behind front mid left held holds) r w o →
+    (traffic_after front mid left held holds) r w o →
     ChosenSpeaks fits p version bound limit (traffic unread left held holds) r w o
 two-lanes-speak fits p version bound limit front unread mid left held holds r w o four first is x =
     let all = speaks-all two_lanes two_lane_profile fits (responding p) version bound limit front unread mid left
@@ -158,7 +158,7 @@ two-lanes-speak fits p version bound limit front unread mid left held holds r w 
 
 pub counted-unopened : (front : List ℕ) (unread mid left held holds : Option (List ℕ)) (r w : Seen) (o : Outcome) →
     length front ≡ 4 → Consumes unread mid front → is_counted front ≡ true →
-    Unopened counted_lanes counted_profile (traffic_behind front mid left held holds) r w o →
+    Unopened counted_lanes counted_profile (traffic_after front mid left held holds) r w o →
     ChosenUnopened (traffic unread left held holds) r w o
 counted-unopened front unread mid left held holds r w o four first is x = record {
   none = x.none;
@@ -170,7 +170,7 @@ counted-unopened front unread mid left held holds r w o four first is x = record
 
 pub two-lanes-unopened : (front : List ℕ) (unread mid left held holds : Option (List ℕ)) (r w : Seen) (o : Outcome) →
     length front ≡ 4 → Consumes unread mid front → is_counted front ≡ false →
-    Unopened two_lanes two_lane_profile (traffic_behind front mid left held holds) r w o →
+    Unopened two_lanes two_lane_profile (traffic_after front mid left held holds) r w o →
     ChosenUnopened (traffic unread left held holds) r w o
 two-lanes-unopened front unread mid left held holds r w o four first is x = record {
   none = x.none;
@@ -181,13 +181,13 @@ two-lanes-unopened front unread mid left held holds r w o four first is x = reco
 }
 
 pub counted-first : (front : List ℕ) (unread mid left : Option (List ℕ)) → length front ≡ 4 →
-    Consumes unread mid front → is_counted front ≡ true → CameFirst counted_profile (Behind front mid) left →
+    Consumes unread mid front → is_counted front ≡ true → CameFirst counted_profile (After front mid) left →
     ChosenFirst (Reader unread) left
 counted-first front unread mid left four first is x =
     let all = first-all counted_lanes counted_profile front unread mid left four first x in inl (all.0, all.1 ∙ is)
 
 pub two-lanes-first : (front : List ℕ) (unread mid left : Option (List ℕ)) → length front ≡ 4 →
-    Consumes unread mid front → is_counted front ≡ false → CameFirst two_lane_profile (Behind front mid) left →
+    Consumes unread mid front → is_counted front ≡ false → CameFirst two_lane_profile (After front mid) left →
     ChosenFirst (Reader unread) left
 two-lanes-first front unread mid left four first is x =
     let all = first-all two_lanes two_lane_profile front unread mid left four first x in inr (all.0, all.1 ∙ is)

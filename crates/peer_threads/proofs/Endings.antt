@@ -1,6 +1,6 @@
--- What an outcome says, by how the session stopped and what was written behind it.
+-- What an outcome says, by how the session stopped and what was written after it.
 --
--- Behind the messages that were written stands the fault frame of the own refusal, or a beginning of it where the
+-- After the messages that were written stands the fault frame of the own refusal, or a beginning of it where the
 -- writer failed. Where nothing was written before, the hello stands in front of it.
 use Rattle.std.proofs.Common.{◌≡◌, ℕ, ◌≤◌, ◌+◌, ◌⊎◌, Bool, false, List, [], ◌++◌, length, take, drop, Option}
 use Rattle.std.proofs.Common.{Result, Ok, Err, OnOk, OnErr, inl, inr, refl, sym, ap, ◌∙◌, subst, append_assoc}
@@ -52,7 +52,7 @@ pub wrote-nothing : (a b : Option (List ℕ)) (failed : Bool) (xs : List ℕ) �
 wrote-nothing a b failed xs broke none = inr (broke, (0, none))
 
 module _ {F : Type 0} (S : Summary F) (W : Profile F) where
-  -- ---- the fault frame behind what was written
+  -- ---- the fault frame after what was written
 
   abbrev first_text : Speaker F → OutboxState → List ℕ → List ℕ
   first_text s o bytes = text W o.sent (called_by S W s bytes)
@@ -61,23 +61,23 @@ module _ {F : Type 0} (S : Summary F) (W : Profile F) where
   frame-alone : (o : OutboxState) (code : ℕ) → IsTrue o.greeted → refusal_text W o code ≡ fault_text code
   frame-alone o code greeted = ap (λ b. (if b then [] else W.hello) ++ fault_text code) greeted
 
-  record FrameBehind (s : Speaker F) (version : ℕ) (o : OutboxState) (t : Traffic) (holds : Option (List ℕ))
+  record FrameAfter (s : Speaker F) (version : ℕ) (o : OutboxState) (t : Traffic) (holds : Option (List ℕ))
       (bytes : List ℕ) (r w : Seen) (code : ℕ) : Type 0 where
     written : List ℕ
     wrote : Appends t.held holds written
     account : WroteFault S W (call_of s version bytes written r w) o.sent code
 
-  frame-behind-first : (s : Speaker F) (version : ℕ) (o : OutboxState) (t : Traffic) (holds : Option (List ℕ))
+  frame-after-first : (s : Speaker F) (version : ℕ) (o : OutboxState) (t : Traffic) (holds : Option (List ℕ))
       (bytes : List ℕ) (r w : Seen) (code : ℕ) →
       WroteFirst S W s o t bytes → WroteSo t.holds holds w.failed (refusal_text W o code) →
-      FrameBehind s version o t holds bytes r w code
-  frame-behind-first s version o t holds bytes r w code first (inl whole) = record {
+      FrameAfter s version o t holds bytes r w code
+  frame-after-first s version o t holds bytes r w code first (inl whole) = record {
     written = first_text s o bytes ++ fault_text code;
     wrote = Appends-trans t.held t.holds holds (first_text s o bytes) (fault_text code) first.written
         (subst (Appends t.holds holds) (frame-alone o code first.greeted) whole);
     account = record { count = first.count; written = inl refl };
   }
-  frame-behind-first s version o t holds bytes r w code first (inr (failed, (n, front))) =
+  frame-after-first s version o t holds bytes r w code first (inr (failed, (n, front))) =
       let part : List ℕ = take n (fault_text code) in
       record {
         written = first_text s o bytes ++ part;
@@ -105,13 +105,13 @@ module _ {F : Type 0} (S : Summary F) (W : Profile F) where
       ∙ ap (λ (l : List ℕ). l ++ fault_text code)
       (sym (ap (λ n. text W n (called_by S W s bytes)) none ∙ append-nil W.hello))
 
-  frame-behind : (s : Speaker F) (version : ℕ) (o : OutboxState) (t : Traffic) (holds : Option (List ℕ))
+  frame-after : (s : Speaker F) (version : ℕ) (o : OutboxState) (t : Traffic) (holds : Option (List ℕ))
       (bytes : List ℕ) (r w : Seen) (code : ℕ) →
       WroteUpTo S W s o t bytes → WroteSo t.holds holds w.failed (refusal_text W o code) →
-      FrameBehind s version o t holds bytes r w code
-  frame-behind s version o t holds bytes r w code (inl first) so =
-      frame-behind-first s version o t holds bytes r w code first so
-  frame-behind s version o t holds bytes r w code (inr none) (inl whole) = record {
+      FrameAfter s version o t holds bytes r w code
+  frame-after s version o t holds bytes r w code (inl first) so =
+      frame-after-first s version o t holds bytes r w code first so
+  frame-after s version o t holds bytes r w code (inr none) (inl whole) = record {
     written = refusal_text W o code;
     wrote = Appends-trans t.held t.holds holds [] (refusal_text W o code) none.written whole;
     account = record {
@@ -119,7 +119,7 @@ module _ {F : Type 0} (S : Summary F) (W : Profile F) where
       written = inl (alone-is s o bytes code none.greeted none.none);
     };
   }
-  frame-behind s version o t holds bytes r w code (inr none) (inr (failed, (n, front))) = record {
+  frame-after s version o t holds bytes r w code (inr none) (inr (failed, (n, front))) = record {
     written = take n (refusal_text W o code);
     wrote = Appends-trans t.held t.holds holds [] (take n (refusal_text W o code)) none.written front;
     account = record {
@@ -143,7 +143,7 @@ module _ {F : Type 0} (S : Summary F) (W : Profile F) where
       IsFirstFault S W (call_of s version bytes written r w) k code ⊎ T (length (called_by S W s bytes)) code
   why T s version bytes written r w k code (inr table) = inr table
   why T s version bytes written r w k code (inl first) =
-      inl (record { first = first.first; behind = by first.behind }) where
+      inl (record { first = first.first; after = by first.after }) where
         by : ((length (called_by S W s bytes) ≡ k) ⊎ IsLong (called_by S W s bytes) k code) →
             (length (called_by S W s bytes) ≡ k) ⊎ IsTooLong S W
             (call_of s version bytes written r w) k code
@@ -172,16 +172,16 @@ module _ {F : Type 0} (S : Summary F) (W : Profile F) where
   either c k code (inr table) = inr (timely k (length (called_for S W c)) code table)
 
   -- all that was called for was written
-  record AllBehind (s : Speaker F) (version : ℕ) (t : Traffic) (holds : Option (List ℕ)) (bytes : List ℕ) (r w : Seen)
+  record AllAfter (s : Speaker F) (version : ℕ) (t : Traffic) (holds : Option (List ℕ)) (bytes : List ℕ) (r w : Seen)
       (sent : ℕ) : Type 0 where
     written : List ℕ
     wrote : Appends t.held holds written
     account : WroteAll S W (call_of s version bytes written r w) sent
 
-  all-behind : (s : Speaker F) (version : ℕ) (t : Traffic) (holds : Option (List ℕ)) (bytes : List ℕ) (r w : Seen)
+  all-after : (s : Speaker F) (version : ℕ) (t : Traffic) (holds : Option (List ℕ)) (bytes : List ℕ) (r w : Seen)
       (sent : ℕ) → Keeps t.holds holds → SaidAll S W s t bytes sent →
-      called_by S W s bytes ≡ said_to S W s bytes → AllBehind s version t holds bytes r w sent
-  all-behind s version t holds bytes r w sent kept said called = record {
+      called_by S W s bytes ≡ said_to S W s bytes → AllAfter s version t holds bytes r w sent
+  all-after s version t holds bytes r w sent kept said called = record {
     written = text W sent (called_by S W s bytes);
     wrote = subst (λ (l : List (Message F)). Appends t.held holds (text W sent l)) (sym called)
         (Appends-kept t.held t.holds holds _ said.written kept);
@@ -193,15 +193,15 @@ module _ {F : Type 0} (S : Summary F) (W : Profile F) where
       WhyStopped S W (IsTimely o.sent) s o t r broken bytes stop → Leaves W o t.holds holds broken w.failed stop →
       Bears S W s version (traffic_of t.unread t.left t.held holds) r w bytes (outcome_of o.sent stop)
   bears s version o t holds r w broken bytes (stops.Refused code) x leaves =
-      let f = frame-behind s version o t holds bytes r w code x.0 leaves in
+      let f = frame-after s version o t holds bytes r w code x.0 leaves in
       let reason = why (IsTimely o.sent) s version bytes f.written r w o.sent code x.1 in
       let c = call_of s version bytes f.written r w in
       (f.written, f.wrote, (record { wrote = f.account; why = either c o.sent code reason }, reason))
   bears s version o t holds r w broken bytes (stops.PeerRefused code) x leaves =
-      let f = all-behind s version t holds bytes r w o.sent leaves x.said x.called in
+      let f = all-after s version t holds bytes r w o.sent leaves x.said x.called in
       (f.written, f.wrote, (record { wrote = f.account; told = x.told }, x.called, x.frame))
   bears s version o t holds r w broken bytes stops.Memory x leaves =
-      let f = frame-behind s version o t holds bytes r w no_memory x leaves in
+      let f = frame-after s version o t holds bytes r w no_memory x leaves in
       (f.written, f.wrote, record { wrote = f.account })
   bears s version o t holds r w broken bytes (stops.Io side) (breaks, failed, cut) leaves = (
     breaks.all,
@@ -242,7 +242,7 @@ module _ {F : Type 0} (S : Summary F) (W : Profile F) where
     are_bytes = f.are_bytes;
     read = f.read;
     bears =
-        let all = all-behind s version t t.holds f.bytes r w o.sent (Keeps-refl t.holds) f.said f.called in (
+        let all = all-after s version t t.holds f.bytes r w o.sent (Keeps-refl t.holds) f.said f.called in (
           all.written,
           all.wrote,
           (
@@ -288,7 +288,7 @@ module _ {F : Type 0} (S : Summary F) (W : Profile F) where
       WhyStopped S W IsNone s o t r broken bytes stop → Leaves W o t.holds holds broken w.failed stop →
       BearsUnopened S W s version (traffic_of t.unread t.left t.held holds) r w bytes (outcome_of o.sent stop)
   bears-unopened s version o t holds r w broken bytes (stops.Refused code) y l =
-      let f = frame-behind s version o t holds bytes r w code y.0 l in
+      let f = frame-after s version o t holds bytes r w code y.0 l in
       let first = only-first s version bytes f.written r w o.sent code y.1 in
       (f.written, f.wrote, (record { wrote = f.account; why = inl first }, first))
   bears-unopened s version o t holds r w broken bytes (stops.PeerRefused code) y l =

@@ -42,7 +42,7 @@ use Rattle.peer_threads.specs.Underway.{WroteUpTo, IsLong, IsFirst, HasBroken, W
 use Rattle.peer_threads.specs.Underway.{Stopped, Finished}
 use Rattle.peer_threads.proofs.Origins.{takes-on}
 use Rattle.peer_threads.proofs.Hearings.{heard-goes, heard-over, first-frame}
-use Rattle.peer_threads.proofs.Breaks.{breaks-behind, breaks-in-message, cut-in-message}
+use Rattle.peer_threads.proofs.Breaks.{breaks-after, breaks-in-message, cut-in-message}
 
 module _ {F : Type 0} (S : Summary F) (W : Profile F) where
   -- the laws that are cited, in one place
@@ -60,10 +60,10 @@ module _ {F : Type 0} (S : Summary F) (W : Profile F) where
   -- ---- what was read
 
   -- the events that are not handed out yet
-  abbrev pub Behind : List ℕ → List (Event F) → Type 0
-  Behind bytes es = (more : List (Event F)) × (events_in bytes ≡ es ++ more)
+  abbrev pub After : List ℕ → List (Event F) → Type 0
+  After bytes es = (more : List (Event F)) × (events_in bytes ≡ es ++ more)
 
-  pub all-events : (b : InboxState) (bytes : List ℕ) (es : List (Event F)) → HasRead W b bytes es → Behind bytes es
+  pub all-events : (b : InboxState) (bytes : List ℕ) (es : List (Event F)) → HasRead W b bytes es → After bytes es
   all-events b bytes es has = (has.more, has.events)
 
   -- ---- what is said
@@ -88,7 +88,7 @@ module _ {F : Type 0} (S : Summary F) (W : Profile F) where
       is_live s.start.stage ≡ true →
       hearing_to S W s over bytes ≡ Refused_for code →
       says S s (messages_in W bytes) ≡ said → k ≡ length said → IsFirst S W s over bytes k code
-  first-at laws s over bytes said k code live first same count = record { first = first; behind = by agreed.1 } where
+  first-at laws s over bytes said k code live first same count = record { first = first; after = by agreed.1 } where
     Ms : List (Message F)
     Ms = messages_in W bytes
 
@@ -149,7 +149,7 @@ module _ {F : Type 0} (S : Summary F) (W : Profile F) where
   More unread left c before es = (bytes : List ℕ) × IsBytes bytes × Consumes unread left bytes
       × HasRead W c (before ++ bytes) es
 
-  -- the event e came behind es, which the end h has heard; all that was said to these was written
+  -- the event e came after es, which the end h has heard; all that was said to these was written
   pub record At (s : Speaker F) (h : EndState F) (o : OutboxState) (t : Traffic) (e : Event F) : Type 0 where
     pub bytes : List ℕ
     pub are_bytes : IsBytes bytes
@@ -165,14 +165,14 @@ module _ {F : Type 0} (S : Summary F) (W : Profile F) where
       (u : Underway S W s h b o t) → More t.left left c u.bytes (u.events ++ e ∷ []) → is_over h.end.stage ≡ false →
       At s h o (traffic_of t.unread left t.held t.holds) e
   at-event s h b c o t left e u more goes =
-      let behind = all-events c (u.bytes ++ more.0) (u.events ++ e ∷ []) more.3 in
+      let after = all-events c (u.bytes ++ more.0) (u.events ++ e ∷ []) more.3 in
       record {
         bytes = u.bytes ++ more.0;
         are_bytes = All-append (λ y. y < 256) u.bytes more.0 u.are_bytes more.1;
         read = takes-on t.unread t.left left u.bytes more.0 u.read more.2;
         es = u.events;
-        rest = behind.0;
-        all = behind.1;
+        rest = after.0;
+        all = after.1;
         written = u.written;
         heard = u.heard ∙ heard-goes S W h goes;
       }
@@ -234,7 +234,7 @@ module _ {F : Type 0} (S : Summary F) (W : Profile F) where
       hears S s (x.es ++ e ∷ []) ≡ hear_now S h.end h.taken e
   heard-next s h o t e x = fold-append (hear S) (begins s) x.es (e ∷ []) ∙ ap (λ y. hear S y e) x.heard
 
-  -- behind a stop at the event nothing more is said
+  -- after a stop at the event nothing more is said
   nothing-more : Laws → (s : Speaker F) (h : EndState F) (o : OutboxState) (t : Traffic) (e : Event F) →
       is_live s.start.stage ≡ true → (x : At s h o t e) →
       has_stopped (hear_now S h.end h.taken e) ≡ true → said_by h e ≡ [] → said_to S W s x.bytes ≡ so_far s x.es
@@ -405,7 +405,7 @@ module _ {F : Type 0} (S : Summary F) (W : Profile F) where
   why-unheard T laws s h o t r broken (stops.PeerRefused code) bytes es live count wrote heard is = absurd is
   why-unheard T laws s h o t r broken stops.Memory bytes es live count wrote heard is = wrote is.0 is.1
   why-unheard T laws s h o t r broken (stops.Io side) bytes es live count wrote heard (read, why, begins) =
-      let broke = breaks-behind S W s o t bytes (wrote begins.0 begins.1) in (
+      let broke = breaks-after S W s o t bytes (wrote begins.0 begins.1) in (
         broke,
         subst (HasBroken r broken bytes) (sym read) why,
         subst (IsCut (length broke.all) (length (session_text W (called_by S W s bytes)))) (sym read) tt,
@@ -461,12 +461,12 @@ module _ {F : Type 0} (S : Summary F) (W : Profile F) where
   finished laws s h b o t live u over =
       let Ms = messages_in W u.bytes in
       let at : hears S s u.events ≡ Over_at h.end = u.heard ∙ heard-over S W h over in
-      let behind = all-events b u.bytes u.events u.came in
-      let told = laws.go_on.hears_no_more W s false u.bytes u.events behind.0 behind.1 (ap has_stopped at) ∙ at in
+      let after = all-events b u.bytes u.events u.came in
+      let told = laws.go_on.hears_no_more W s false u.bytes u.events after.0 after.1 (ap has_stopped at) ∙ at in
       let agreed = subst (AgreesBy (session S s Ms) (says S s Ms) (own S s Ms)) told
       (laws.agree s false u.bytes live) in
       let said : said_to S W s u.bytes ≡ so_far s u.events =
-      ap (λ l. so_far s l) behind.1 ∙ laws.go_on.says_no_more s u.events behind.0 live (ap has_stopped at) in
+      ap (λ l. so_far s l) after.1 ∙ laws.go_on.says_no_more s u.events after.0 live (ap has_stopped at) in
       record {
         bytes = u.bytes;
         are_bytes = u.are_bytes;

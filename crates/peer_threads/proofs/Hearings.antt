@@ -16,7 +16,7 @@ use Rattle.definitions.specs.Hearing.{Hearing, Goes_on, Over_at, Peer_refused, R
 use Rattle.definitions.specs.Hearing.{hear_now, hear}
 use Rattle.laws.specs.Hearing.{has_stopped}
 use Rattle.ends_core.specs.EndStates.{EndState}
-use Rattle.ends_core.specs.Turns.{told_in, refusal_of, answer_of, behind_part, behind_end, messages_in}
+use Rattle.ends_core.specs.Turns.{told_in, refusal_of, answer_of, after_part, after_end, messages_in}
 use Rattle.ends_core.specs.declared.turn.Turn.{Turn}
 use Rattle.ends_core.specs.declared.turn.Turn.TheVariants as turns
 use Rattle.ends_core.specs.declared.turn.EndFault.{EndFault}
@@ -36,7 +36,7 @@ module _ {F : Type 0} (S : Summary F) (W : Profile F) where
   heard-over h over = ap (λ b. if b then Over_at h.end else Goes_on h.end h.taken) over
 
   pub taken-heard : (h g : EndState F) (p : Part F) → None ≡ refusal (next h.taken.place p) →
-      g ≡ behind_part S h p None →
+      g ≡ after_part S h p None →
       is_over h.end.stage ≡ false →
       heard_as g ≡ hear_now S h.end h.taken (Came p)
   taken-heard h g p fine is goes =
@@ -45,7 +45,7 @@ module _ {F : Type 0} (S : Summary F) (W : Profile F) where
       ∙ ap (λ o. goes_unless o (Goes_on h.end t)) fine
 
   pub ended-heard : (h g : EndState F) (turn : Turn F) → answer_of turn ≡ ended h.taken →
-      g ≡ behind_end h (answer_of turn) →
+      g ≡ after_end h (answer_of turn) →
       heard_as g ≡ hear_now S h.end h.taken Ended
   ended-heard h g (turns.Reply N) told is = ap heard_as is ∙ ap (ended_by h.end h.taken) told
   ended-heard h g turns.Over told is = ap heard_as is ∙ ap (ended_by h.end h.taken) told
@@ -79,15 +79,15 @@ module _ {F : Type 0} (S : Summary F) (W : Profile F) where
 
   -- ---- how much it may send, and has sent
 
-  pub most-kept : (most : ℕ) (h g : EndState F) (turn : Turn F) → g ≡ behind_end h (answer_of turn) →
+  pub most-kept : (most : ℕ) (h g : EndState F) (turn : Turn F) → g ≡ after_end h (answer_of turn) →
       most_sent most g ≡ most_sent most h
   most-kept most h g (turns.Reply N) is = ap (most_sent most) is
   most-kept most h g turns.Over is = ap (most_sent most) is
 
-  pub sent-behind : (h g : EndState F) (turn : Turn F) → g ≡ behind_end h (answer_of turn) →
+  pub sent-after : (h g : EndState F) (turn : Turn F) → g ≡ after_end h (answer_of turn) →
       g.end.sent ≡ h.end.sent + messages_in turn
-  sent-behind h g (turns.Reply N) is = ap (λ x. x.end.sent) is
-  sent-behind h g turns.Over is = omega (arith, ap (λ x. x.end.sent) is)
+  sent-after h g (turns.Reply N) is = ap (λ x. x.end.sent) is
+  sent-after h g turns.Over is = omega (arith, ap (λ x. x.end.sent) is)
 
   -- ---- why it stops
 

@@ -1,7 +1,7 @@
 -- What an inbox has read and handed out, step by step.
 --
 -- All bytes that were read are those that were fed, and then those that wait. To feed some of the latter moves the
--- seam between the two; to read, where none wait, puts new bytes behind it. A stream may be cut anywhere, so at each
+-- seam between the two; to read, where none wait, puts new bytes after it. A stream may be cut anywhere, so at each
 -- seam the events that were handed out begin those of all bytes. Where nothing waits they are all of them.
 use Rattle.std.proofs.Common.{◌≡◌, ℕ, ◌+◌, ◌-◌, ◌<◌, ◌≤◌, inl, inr, Bool}
 use Rattle.std.proofs.Common.{List, [], ◌∷◌, ◌++◌, length, take, drop, Option, Some, None, Result, Ok, Err, IsTrue}
@@ -139,19 +139,19 @@ module _ {F : Type 0} (W : Profile F) (real : IsProfile W) where
 
   -- ---- why there is none
 
-  -- what was fed is faulty, whatever waits behind it
+  -- what was fed is faulty, whatever waits after it
   fault_stays : (s : StreamState) (bytes fed back : List ℕ) (es : Events) (code : ℕ) → bytes ≡ fed ++ back →
       IsBytes bytes → Holds W s fed es → s.standing ≡ Faulted code → (over : Bool) → IsFaulty W over bytes es code
   fault_stays s bytes fed back es code split fits holds faulted over =
       let front = front_fits bytes fed back split fits in
       let rest = rest_fits bytes fed back split fits in
       let all = ap (stream W) split ∙ feeds_joined W real Before_hello fed back front rest in
-      let behind = ap (λ (to : Standing). feed W to (s.kept ++ back)) faulted in
-      let at = ap (λ (f : Fed F). feed W f.to (f.kept ++ back)) holds ∙ behind in
+      let after = ap (λ (to : Standing). feed W to (s.kept ++ back)) faulted in
+      let at = ap (λ (f : Fed F). feed W f.to (f.kept ++ back)) holds ∙ after in
       record {
         events = ap (λ (f : Fed F). f.events) all
             ∙ ap (λ (f : Fed F). f.events ++ (feed W f.to (f.kept ++ back)).events) holds
-            ∙ ap (λ (f : Fed F). es ++ f.events) behind
+            ∙ ap (λ (f : Fed F). es ++ f.events) after
             ∙ append-nil es;
         fault = inl (ap (λ (f : Fed F). f.to) all ∙ ap (λ (f : Fed F). f.to) at);
       }
@@ -223,7 +223,7 @@ module _ {F : Type 0} (W : Profile F) (real : IsProfile W) where
   fetch_stops over c (stops.Io side) fine bytes es stopped = stopped
   fetch_stops over c stops.Memory fine bytes es stopped = absurd stopped
 
-  -- ---- one read behind another
+  -- ---- one read after another
 
   -- nothing more was read
   pub reads_nothing : (unread : Option (List ℕ)) (b : InboxState) (Q : Claim) → SoFar W b Q → Reads W unread unread b Q

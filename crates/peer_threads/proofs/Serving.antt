@@ -1,4 +1,4 @@
--- The side that is spoken to first, before and behind its pin.
+-- The side that is spoken to first, before and after its pin.
 --
 -- Before the pin no end is there: what may come is said of the end that any peer would have. Of the first message only
 -- one part and its end are handed out, and the end that the pin makes hears both, so its session is then underway as
@@ -36,7 +36,7 @@ use Rattle.outcome_core.specs.declared.outcome.Direction.TheVariants as directio
 use Rattle.peer_threads.specs.declared.stop.Stop.{Stop}
 use Rattle.peer_threads.specs.declared.stop.Stop.TheVariants as stops
 use Rattle.outcome_core.specs.declared.outcome.Outcome.{Outcome}
-use Rattle.peer_threads.specs.Outcomes.{Traffic, Origin, Takes, traffic_of, traffic_behind, Speaks}
+use Rattle.peer_threads.specs.Outcomes.{Traffic, Origin, Takes, traffic_of, traffic_after, Speaks}
 use Rattle.ends_core.specs.Sides.{KeepsBounds}
 use Rattle.peer_threads.specs.Outcomes.{Unopened, IsTimely}
 use Rattle.peer_threads.specs.Outcomes.{CameFirst}
@@ -69,7 +69,7 @@ module _ {F : Type 0} (S : Summary F) (W : Profile F) where
   -- a hello was read, and the own one written
   pub greeted : (front : List ℕ) (unread w x : Option (List ℕ)) (b : InboxState) (o p : OutboxState) →
       o ≡ outbox_state false 0 → p ≡ outbox_state true o.sent → Appends w x (hello_due W o) →
-      IsBytes front → HasRead W b front [] → Exchanged W b p (traffic_behind front unread unread w x) []
+      IsBytes front → HasRead W b front [] → Exchanged W b p (traffic_after front unread unread w x) []
   greeted front unread w x b o p new now written fits came = record {
     bytes = front;
     are_bytes = fits;
@@ -82,14 +82,14 @@ module _ {F : Type 0} (S : Summary F) (W : Profile F) where
     };
   }
 
-  -- it is another, or memory runs out behind it
+  -- it is another, or memory runs out after it
   pub stops-ungreeted : Laws S W →
       (P : Peer) (o : OutboxState) (front : List ℕ) (unread held : Option (List ℕ)) (r : Seen) (broken : Bool)
       (stop : Stop) → o ≡ outbox_state false 0 → IsBytes front → StopsAt W r front [] stop →
-      Stopped S W IsNone (responding P) o (traffic_behind front unread unread held held) r broken stop
+      Stopped S W IsNone (responding P) o (traffic_after front unread unread held held) r broken stop
   stops-ungreeted laws P o front unread held r broken stop new fits stopped =
       stops-unheard-by S W IsNone laws (responding P) (first_held S P []) o
-      (traffic_behind front unread unread held held) r broken stop front [] refl fits (takes-front front unread)
+      (traffic_after front unread unread held held) r broken stop front [] refl fits (takes-front front unread)
       (ap (λ x. x.sent) new) (λ rest all. inr
       (record { greeted = ap (λ x. x.greeted) new; none = ap (λ x. x.sent) new; written = Appends-nil held })) refl
       stopped
@@ -114,7 +114,7 @@ module _ {F : Type 0} (S : Summary F) (W : Profile F) where
   part-heard P p fits = ap (λ o. goes_unless o (Goes_on (first_held S P (p ∷ [])).end (first_held S P (p ∷ [])).taken))
       fits
 
-  -- no part may stand behind it
+  -- no part may stand after it
   second-misplaced : (p q : Part F) → IsFirstPart p → refusal (next (next First p) q) ≡ Some misplaced
   second-misplaced (Sum Y f) q fits = by (same_range Y whole) fits where
     by : (b : Bool) → refusal {F = F} (if b then placed {F = F} [] else Refused misplaced) ≡ None →
@@ -188,7 +188,7 @@ module _ {F : Type 0} (S : Summary F) (W : Profile F) where
     by (inl stopped) = stops-unheard S W IsNone laws (responding P) (first_held S P M) o
         (traffic_of t.unread left t.held t.holds) r broken stop bytes es refl are read wrote heard stopped
     by (inr there) =
-        let behind = all-events S W c bytes (es ++ there.event ∷ []) there.came in
+        let after = all-events S W c bytes (es ++ there.event ∷ []) there.came in
         stops-refusing S W IsNone laws (responding P) (first_held S P M) o o
         (traffic_of t.unread left t.held t.holds) t.holds r broken there.event stop refl
         (record {
@@ -196,8 +196,8 @@ module _ {F : Type 0} (S : Summary F) (W : Profile F) where
           are_bytes = are;
           read = read;
           es = es;
-          rest = behind.0;
-          all = behind.1;
+          rest = after.0;
+          all = after.1;
           written = wrote;
           heard = heard;
         }) (there.refuses P) (adds-none S W o t.holds)
@@ -223,14 +223,14 @@ module _ {F : Type 0} (S : Summary F) (W : Profile F) where
   stops-endless laws P p b c o t left r broken stop fits x more =
       stops-there laws P (p ∷ []) b c o t left r broken stop (Came p ∷ []) refl (part-heard P p fits) x more
 
-  -- ---- behind the pin
+  -- ---- after the pin
 
   -- the hello was written, and no more: memory runs out, or the table of sessions refuses
-  stops-behind : (T : ℕ → ℕ → Type 0) (P : Peer) (b : InboxState) (o : OutboxState) (t : Traffic) (r : Seen) (broken : Bool)
+  stops-after : (T : ℕ → ℕ → Type 0) (P : Peer) (b : InboxState) (o : OutboxState) (t : Traffic) (r : Seen) (broken : Bool)
       (es : List (Event F)) (stop : Stop) (x : Exchanged W b o t es) →
       (WroteUpTo S W (responding P) o t x.bytes → WhyStopped S W T (responding P) o t r broken x.bytes stop) →
       Stopped S W T (responding P) o t r broken stop
-  stops-behind T P b o t r broken es stop x why = record {
+  stops-after T P b o t r broken es stop x why = record {
     bytes = x.bytes;
     are_bytes = x.are_bytes;
     read = x.read;
@@ -240,7 +240,7 @@ module _ {F : Type 0} (S : Summary F) (W : Profile F) where
   pub stops-poor : (P : Peer) (b : InboxState) (o : OutboxState) (t : Traffic) (r : Seen) (broken : Bool)
       (es : List (Event F)) →
       Exchanged W b o t es → Stopped S W (IsTimely o.sent) (responding P) o t r broken stops.Memory
-  stops-poor P b o t r broken es x = stops-behind (IsTimely o.sent) P b o t r broken es stops.Memory x (λ wrote. wrote)
+  stops-poor P b o t r broken es x = stops-after (IsTimely o.sent) P b o t r broken es stops.Memory x (λ wrote. wrote)
 
   pub stops-unlisted : (P : Peer) (b : InboxState) (o : OutboxState) (t : Traffic) (r : Seen) (broken : Bool)
       (es : List (Event F))
@@ -248,7 +248,7 @@ module _ {F : Type 0} (S : Summary F) (W : Profile F) where
       Exchanged W b o t es → (code ≡ table_full) ⊎ (code ≡ serials_spent) → o.sent ≡ 0 →
       Stopped S W (IsTimely o.sent) (responding P) o t r broken (stops.Refused code)
   stops-unlisted P b o t r broken es code x table none =
-      stops-behind (IsTimely o.sent) P b o t r broken es (stops.Refused code) x
+      stops-after (IsTimely o.sent) P b o t r broken es (stops.Refused code) x
       (λ wrote. (wrote, inr (inl (table, none))))
 
   -- the part waits for the end that was made
@@ -257,14 +257,14 @@ module _ {F : Type 0} (S : Summary F) (W : Profile F) where
       h ≡ fresh steps (responder P) →
       Exchanged W b o t (Came p ∷ Ended ∷ []) → At S W (responding P) h o t (Came p)
   at-part P steps h b o t p new x =
-      let behind = all-events S W b x.bytes (Came p ∷ Ended ∷ []) x.came in
+      let after = all-events S W b x.bytes (Came p ∷ Ended ∷ []) x.came in
       record {
         bytes = x.bytes;
         are_bytes = x.are_bytes;
         read = x.read;
         es = [];
-        rest = Ended ∷ behind.0;
-        all = behind.1;
+        rest = Ended ∷ after.0;
+        all = after.1;
         written = x.written;
         heard = sym (ap (λ y. Goes_on y.end y.taken) new);
       }
@@ -276,15 +276,15 @@ module _ {F : Type 0} (S : Summary F) (W : Profile F) where
       heard_as g ≡ hear_now S h.end h.taken (Came p) → g.end ≡ h.end → Exchanged W b o t (Came p ∷ Ended ∷ []) →
       At S W (responding P) g o t Ended
   at-end P steps h g b o t p new now same x =
-      let behind = all-events S W b x.bytes (Came p ∷ Ended ∷ []) x.came in
+      let after = all-events S W b x.bytes (Came p ∷ Ended ∷ []) x.came in
       let live : is_over g.end.stage ≡ false = ap (λ e. is_over e.stage) same ∙ ap (λ y. is_over y.end.stage) new in
       record {
         bytes = x.bytes;
         are_bytes = x.are_bytes;
         read = x.read;
         es = Came p ∷ [];
-        rest = behind.0;
-        all = behind.1;
+        rest = after.0;
+        all = after.1;
         written = x.written;
         heard = sym (ap (λ y. hear_now S y.end y.taken (Came p)) new) ∙ sym now ∙ heard-goes S W g live;
       }
@@ -303,18 +303,18 @@ module _ {F : Type 0} (S : Summary F) (W : Profile F) where
 
   -- ---- all that is said of it
 
-  -- the writer failed behind the hello that was read, before the own one was written
-  pub stops-broken-behind : (T : ℕ → ℕ → Type 0) (P : Peer) (o p : OutboxState) (front : List ℕ)
+  -- the writer failed after the hello that was read, before the own one was written
+  pub stops-broken-after : (T : ℕ → ℕ → Type 0) (P : Peer) (o p : OutboxState) (front : List ℕ)
       (unread held holds : Option (List ℕ)) (r : Seen) (broken : Bool) →
       o ≡ outbox_state false 0 → p ≡ o → IsTrue broken → BreaksIn held holds (hello_due W o) → IsBytes front →
-      Stopped S W T (responding P) p (traffic_behind front unread unread held holds) r broken
+      Stopped S W T (responding P) p (traffic_after front unread unread held holds) r broken
       (stops.Io directions.Write)
-  stops-broken-behind T P o p front unread held holds r broken new same failed begins fits = record {
+  stops-broken-after T P o p front unread held holds r broken new same failed begins fits = record {
     bytes = front;
     are_bytes = fits;
     read = takes-front front unread;
     why =
-        let t = traffic_behind front unread unread held holds in
+        let t = traffic_after front unread unread held holds in
         let part = subst (λ x. BreaksIn held holds (hello_due W x)) new begins in
         let none = ap (λ x. x.sent) (same ∙ new) in (
           breaks-in-hello S W (responding P) p t front none part,
@@ -375,7 +375,7 @@ module _ {F : Type 0} (S : Summary F) (W : Profile F) where
       IsFirstPart p → Exchanged W b o (traffic_of unread left held holds) (Came p ∷ Ended ∷ []) → ReadOn left last →
       CameFirst W unread last
   came-first join b o unread left last held holds p fits x on =
-      let behind = all-events S W b x.bytes (Came p ∷ Ended ∷ []) x.came in
+      let after = all-events S W b x.bytes (Came p ∷ Ended ∷ []) x.came in
       let first = feed W Before_hello x.bytes in
       let rest = feed W first.to (first.kept ++ on.0) in
       record {
@@ -383,8 +383,8 @@ module _ {F : Type 0} (S : Summary F) (W : Profile F) where
         read = takes-on unread left last x.bytes on.0 x.read on.2;
         part = p;
         first = fits;
-        later = messages_of [] (behind.0 ++ rest.events);
+        later = messages_of [] (after.0 ++ rest.events);
         messages =
             ap (λ f. messages_of [] f.events) (join Before_hello x.bytes on.0 x.are_bytes on.1)
-            ∙ ap (λ es. messages_of [] (es ++ rest.events)) behind.1;
+            ∙ ap (λ es. messages_of [] (es ++ rest.events)) after.1;
       }

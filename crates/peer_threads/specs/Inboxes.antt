@@ -6,7 +6,7 @@
 --     StopsAt s bytes es stop          why no more events come, where the reader tells this
 --     Next s b bytes es result         what the next event is, or why there is none
 --     SoFar b Q                        what holds of whatever was read and handed out so far
---     Reads unread left b Q            what is read now, behind what was read before
+--     Reads unread left b Q            what is read now, after what was read before
 --     ReadOn unread left               some bytes were read, or none
 --     Counts before after b c          the reader was read no more often than the inbox counts, which stops at 2^32
 --     Held, Fetched                    what the bytes that wait give, and what one read gives
@@ -85,7 +85,7 @@ module _ {F : Type 0} (W : Profile F) where
   abbrev pub SoFar : InboxState → (List ℕ → List (Event F) → Type 0) → Type 0
   SoFar b Q = (bytes : List ℕ) (es : List (Event F)) → IsBytes bytes → HasRead b bytes es → Q bytes es
 
-  -- what is read now, behind whatever was read before
+  -- what is read now, after whatever was read before
   abbrev pub Reads : Option (List ℕ) → Option (List ℕ) → InboxState → (List ℕ → List (Event F) → Type 0) → Type 0
   Reads unread left b Q = SoFar b (λ before es.
       (bytes : List ℕ) × IsBytes bytes × Consumes unread left bytes × Q (before ++ bytes) es)

@@ -2,7 +2,7 @@
 --     Origin                   where the bytes that were read come from
 --     Takes o left bytes       these bytes were read of it, so that this is left
 --     Traffic                  what was to be read and is left, and what a writer held and holds
---     traffic, traffic_behind  the same of a reader, and behind bytes that were read before
+--     traffic, traffic_after  the same of a reader, and after bytes that were read before
 --     seen failed ended        what is seen of a watched reader or writer
 --     peer_at a w              who speaks: the accepted table, and the set of the history that the view w found
 --     kind_of o                how the table of sessions counts the outcome o
@@ -41,11 +41,11 @@ use Rattle.outcome_core.specs.declared.outcome.Direction.TheVariants as directio
 -- a reader that has these bytes left; or bytes that were read before, and then such a reader
 pub data Origin : Type 0 where
   Reader : (unread : Option (List ℕ)) → Origin
-  Behind : (front : List ℕ) → (unread : Option (List ℕ)) → Origin
+  After : (front : List ℕ) → (unread : Option (List ℕ)) → Origin
 
 abbrev pub Takes : Origin → Option (List ℕ) → List ℕ → Type 0
 Takes (Reader unread) left bytes = Consumes unread left bytes
-Takes (Behind front unread) left bytes = (rest : List ℕ) × (bytes ≡ front ++ rest) × Consumes unread left rest
+Takes (After front unread) left bytes = (rest : List ℕ) × (bytes ≡ front ++ rest) × Consumes unread left rest
 
 pub record Traffic : Type 0 where
   pub unread : Origin
@@ -59,8 +59,8 @@ traffic_of unread left held holds = record { unread = unread; left = left; held 
 abbrev pub traffic : Option (List ℕ) → Option (List ℕ) → Option (List ℕ) → Option (List ℕ) → Traffic
 traffic unread left held holds = traffic_of (Reader unread) left held holds
 
-abbrev pub traffic_behind : List ℕ → Option (List ℕ) → Option (List ℕ) → Option (List ℕ) → Option (List ℕ) → Traffic
-traffic_behind front unread left held holds = traffic_of (Behind front unread) left held holds
+abbrev pub traffic_after : List ℕ → Option (List ℕ) → Option (List ℕ) → Option (List ℕ) → Option (List ℕ) → Traffic
+traffic_after front unread left held holds = traffic_of (After front unread) left held holds
 
 abbrev pub seen : Bool → Bool → Seen
 seen failed ended = record { failed = failed; ended = ended }
@@ -106,7 +106,7 @@ HasVersion (Io side sent) v = ⊤
 HasVersion (Memory sent) v = ⊤
 
 module _ {F : Type 0} (S : Summary F) (W : Profile F) where
-  -- the side has written all that it says to these bytes: so many messages, behind its hello
+  -- the side has written all that it says to these bytes: so many messages, after its hello
   pub record SaidAll (s : Speaker F) (t : Traffic) (bytes : List ℕ) (sent : ℕ) : Type 0 where
     pub written : Appends t.held t.holds (text W sent (said_to S W s bytes))
     pub count : length (said_to S W s bytes) ≡ sent

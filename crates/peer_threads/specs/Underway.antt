@@ -1,18 +1,18 @@
 -- A session between two frames, and how it stops.
 --     most_sent most h               the greatest number of messages that an end sends
 --     heard_as h                     where the end h stands, as a stream is heard
---     Underway s h b o t             the end h is the side's behind the events handed out, and what it says was written
+--     Underway s h b o t             the end h is the side's after the events handed out, and what it says was written
 --     first_held P M                 the end of a responder P that took these parts of a first message
 --     Exchanged b o t es             these events were handed out of the bytes read, and the hello alone was written
---     StopsFirst M r b bytes es stop    why a first message goes on no more behind its parts M, whoever would answer
+--     StopsFirst M r b bytes es stop    why a first message goes on no more after its parts M, whoever would answer
 --     Refuses h e stop               the event itself stops the session
 --     BreaksSaying o p held holds Ms   a part of the one message was written
 --     StopsBy h e o p held holds broken stop      why this side stops at an event; `broken`: whether the writer failed
---     BreaksOff s k t bytes          what was written breaks off behind k messages, in one more, or in the hello
+--     BreaksOff s k t bytes          what was written breaks off after k messages, in one more, or in the hello
 --     Stopped T s o t r broken stop  why it goes on no more, and what was written; a refusal is of the bytes, or of T
 --     Finished s e o t               its session is over
 --     Talked s e o t r broken result     what a call leaves that goes on to the end
---     Leaves o held holds broken failed stop      what a stop writes behind all else
+--     Leaves o held holds broken failed stop      what a stop writes after all else
 --     Spoke s version bound t r w o  what an outcome says, of the bytes that were read
 use Rattle.std.specs.Prelude.{◌≡◌, ℕ, ◌+◌, ◌≤◌, ◌<◌, ◌^◌, ◌⊎◌, Bool, false, List, [], ◌∷◌, ◌++◌, length, Option, Some}
 use Rattle.std.specs.Prelude.{None}
@@ -34,7 +34,7 @@ use Rattle.definitions.specs.Hearing.{Hearing, Goes_on, Over_at, Peer_refused, R
 use Rattle.definitions.specs.Accounts.{Seen, BrokeOff}
 use Rattle.laws.specs.Hearing.{adds}
 use Rattle.ends_core.specs.EndStates.{EndState}
-use Rattle.ends_core.specs.Turns.{fresh, behind_parts}
+use Rattle.ends_core.specs.Turns.{fresh, after_parts}
 use Rattle.outcome_core.specs.declared.outcome.Outcome.{Outcome}
 use Rattle.outcome_core.specs.declared.outcome.Direction.{Direction}
 use Rattle.outcome_core.specs.declared.outcome.Direction.TheVariants as directions
@@ -91,7 +91,7 @@ module _ {F : Type 0} (W : Profile F) where
 -- ---- before a session is opened
 
 abbrev pub first_held : {F : Type 0} → Summary F → Peer → Message F → EndState F
-first_held S P M = behind_parts S (fresh [] (responder P)) M
+first_held S P M = after_parts S (fresh [] (responder P)) M
 
 -- a part that may stand first
 abbrev pub IsFirstPart : {F : Type 0} → Part F → Type 0
@@ -131,7 +131,7 @@ abbrev pub IsNone : ℕ → ℕ → Type 0
 IsNone called code = ⊥
 
 module _ {F : Type 0} (W : Profile F) where
-  -- what a refusal writes behind all else: nothing where the connection failed, or the peer refused
+  -- what a refusal writes after all else: nothing where the connection failed, or the peer refused
   abbrev pub Leaves : OutboxState → Option (List ℕ) → Option (List ℕ) → Bool → Bool → Stop → Type 0
   Leaves o held holds broken failed (stops.Refused code) = WroteSo held holds failed (refusal_text W o code)
   Leaves o held holds broken failed stops.Memory = WroteSo held holds failed (refusal_text W o no_memory)
@@ -179,7 +179,7 @@ module _ {F : Type 0} (S : Summary F) (W : Profile F) where
 
   -- ---- the end of a session
 
-  -- the first messages that the bytes call for were written, behind the hello: so many
+  -- the first messages that the bytes call for were written, after the hello: so many
   pub record WroteFirst (s : Speaker F) (o : OutboxState) (t : Traffic) (bytes : List ℕ) : Type 0 where
     pub greeted : IsTrue o.greeted
     pub count : o.sent ≤ length (called_by S W s bytes)
@@ -188,12 +188,12 @@ module _ {F : Type 0} (S : Summary F) (W : Profile F) where
   abbrev pub WroteUpTo : Speaker F → OutboxState → Traffic → List ℕ → Type 0
   WroteUpTo s o t bytes = WroteFirst s o t bytes ⊎ WroteNone o t
 
-  -- the first fault in the bytes, behind all that they call for and may be said
+  -- the first fault in the bytes, after all that they call for and may be said
   pub record IsFirst (s : Speaker F) (over : Bool) (bytes : List ℕ) (k code : ℕ) : Type 0 where
     pub first : hearing_to S W s over bytes ≡ Refused_for code
-    pub behind : (length (called_by S W s bytes) ≡ k) ⊎ IsLong (called_by S W s bytes) k code
+    pub after : (length (called_by S W s bytes) ≡ k) ⊎ IsLong (called_by S W s bytes) k code
 
-  -- a fault frame stands behind all that was answered
+  -- a fault frame stands after all that was answered
   pub record IsTold (s : Speaker F) (o : OutboxState) (t : Traffic) (over : Bool) (bytes : List ℕ)
       (code : ℕ) : Type 0 where
     pub said : SaidAll S W s t bytes o.sent
@@ -201,7 +201,7 @@ module _ {F : Type 0} (S : Summary F) (W : Profile F) where
     pub told : hearing_to S W s over bytes ≡ Peer_refused code
     pub called : called_by S W s bytes ≡ said_to S W s bytes
 
-  -- exactly so many of the messages that the bytes call for were written whole, and nothing behind the beginning of one
+  -- exactly so many of the messages that the bytes call for were written whole, and nothing after the beginning of one
   -- more: whatever the version is, and whatever is seen of the reader and the writer
   pub record BreaksOff (s : Speaker F) (k : ℕ) (t : Traffic) (bytes : List ℕ) : Type 0 where
     pub all : List ℕ

@@ -20,7 +20,7 @@ ghost use Rattle.peer_threads.specs.Inboxes.{Counts, Reads, ReadOn};
 ghost use Rattle.peer_threads.specs.Listening.{InStep, Fares, HasFared, IsNoBreak};
 ghost use Rattle.peer_threads.specs.Choices.{ChosenSpeaks, ChosenUnopened, ChosenFirst};
 ghost use Rattle.peer_threads.specs.Hellos.{IsHello};
-ghost use Rattle.peer_threads.specs.Outcomes.{Origin, Reader, Behind, traffic, traffic_of, traffic_behind, seen};
+ghost use Rattle.peer_threads.specs.Outcomes.{Origin, Reader, After, traffic, traffic_of, traffic_after, seen};
 ghost use Rattle.peer_threads.specs.Outcomes.{Speaks, Unopened, CameFirst, HasVersion, peer_at};
 ghost use Rattle.ends_core.specs.Sides.{peer_of};
 ghost use Rattle.peer_threads.specs.Outboxes.{outbox_state};
@@ -51,7 +51,7 @@ use store_core::RangeStore;
 use version_lock::{Pin, Seat};
 use wire_core::{Event, Message, Part};
 
-/// What has come of a session before it is opened: the one part of the peer's first message, and what was read behind
+/// What has come of a session before it is opened: the one part of the peer's first message, and what was read after
 /// its end.
 #[derive(Drop)]
 struct Begun<F: Summary> {
@@ -146,12 +146,12 @@ fn first_message<R: Read, W: Write, F: Summary>(
     requires listens { connection.old.reader.failed ≡ false }
     requires new { outbox.old ≡ outbox_state false 0 }
     ensures met { IfOk result (λ o. IsFirstPart o.first × Exchanged F.profile o.inbox outbox.new
-        (traffic_behind hello.bytes (R.remaining connection.old.reader.inner) (R.remaining connection.new.reader.inner)
+        (traffic_after hello.bytes (R.remaining connection.old.reader.inner) (R.remaining connection.new.reader.inner)
         (W.contents connection.old.writer.inner) (W.contents connection.new.writer.inner))
         (Came o.first ∷ Ended ∷ [])) }
     ensures fine { IfOk result (λ _. connection.new.writer.failed ≡ false) }
     ensures stopped { IfErr result (λ stop. (P : Peer) → Stopped F.summary F.profile IsNone (responding P) outbox.new
-        (traffic_behind hello.bytes (R.remaining connection.old.reader.inner) (R.remaining connection.new.reader.inner)
+        (traffic_after hello.bytes (R.remaining connection.old.reader.inner) (R.remaining connection.new.reader.inner)
         (W.contents connection.old.writer.inner) (W.contents connection.new.writer.inner))
         (seen connection.new.reader.failed connection.new.reader.ended)
         connection.new.writer.failed stop) }
@@ -170,14 +170,14 @@ fn first_message<R: Read, W: Write, F: Summary>(
     laws::hearings_go_on::<F>();
     laws::own_begins::<F>();
     laws::bytes_agree::<F>();
-    let mut inbox = Inbox::<F>::behind(alloc, hello)?;
+    let mut inbox = Inbox::<F>::after(alloc, hello)?;
     outbox.greet(&mut connection.writer)?;
     let first = first_part(alloc, &mut inbox, &mut connection.reader)?;
     first_end(alloc, &mut inbox, &mut connection.reader)?;
     Ok(Begun { inbox, first })
 }
 
-/// Answers the first message, and each one behind it.
+/// Answers the first message, and each one after it.
 fn answer<T: Wait, G: Gate, P: Role, S: RangeStore, R: Read, W: Write, F: Summary>(
     booking: &Booking<'_, T, G>,
     party: &mut SessionEnd<P, S, F>,
@@ -331,8 +331,8 @@ fn initiate<T: Wait, S: RangeStore, G: Gate, R: Read, W: Write, F: Summary>(
     outcome
 }
 
-/// Answers the peer behind its hello, in the profile of the summary, until the session ends.
-fn serve_behind<T: Wait, S: RangeStore, G: Gate, R: Read, W: Write, F: Summary>(
+/// Answers the peer after its hello, in the profile of the summary, until the session ends.
+fn serve_after<T: Wait, S: RangeStore, G: Gate, R: Read, W: Write, F: Summary>(
     rt: &T,
     alloc: Global,
     shared: &Shared<'_, S, G>,
@@ -349,19 +349,19 @@ fn serve_behind<T: Wait, S: RangeStore, G: Gate, R: Read, W: Write, F: Summary>(
     ensures view { (Looked seat.old.view seat.new.view
         × (length (content seat.new.view.base) ≤ (arc_value shared.now.accepted.now).table.cap))
         ⊎ ((seat.new.view ≡ seat.old.view)
-        × Unopened F.summary F.profile (traffic_behind hello.bytes (R.remaining connection.old.reader.inner)
+        × Unopened F.summary F.profile (traffic_after hello.bytes (R.remaining connection.old.reader.inner)
         (R.remaining connection.new.reader.inner) (W.contents connection.old.writer.inner)
         (W.contents connection.new.writer.inner))
         (seen connection.new.reader.failed connection.new.reader.ended)
         (seen connection.new.writer.failed connection.new.writer.ended) result) }
     ensures opened { (seat.new.view ≡ seat.old.view) ⊎ CameFirst F.profile
-        (Behind hello.bytes (R.remaining connection.old.reader.inner)) (R.remaining connection.new.reader.inner) }
+        (After hello.bytes (R.remaining connection.old.reader.inner)) (R.remaining connection.new.reader.inner) }
     ensures bytes { Speaks F.summary F.profile
         (length (content seat.new.view.base) ≤ (arc_value shared.now.accepted.now).table.cap)
         (responding (peer_at (arc_value shared.now.accepted.now) seat.new.view)) (length seat.new.view.base)
         (rank_by (arc_value shared.now.accepted.now).steps
         (length (peer_at (arc_value shared.now.accepted.now) seat.new.view).items) + 1)
-        (arc_value shared.now.accepted.now).table.limit (traffic_behind hello.bytes
+        (arc_value shared.now.accepted.now).table.limit (traffic_after hello.bytes
         (R.remaining connection.old.reader.inner)
         (R.remaining connection.new.reader.inner) (W.contents connection.old.writer.inner)
         (W.contents connection.new.writer.inner))
@@ -438,9 +438,9 @@ pub fn serve_one<T: Wait, S: RangeStore, G: Gate, R: Read, W: Write>(
         Err(stop) => return stopped(Outbox::<Fingerprint>::new(), &mut connection.writer, stop),
     };
     if hello.bytes == Counted::hello() {
-        serve_behind::<T, S, G, R, W, Counted>(rt, alloc, shared, seat, hello, connection)
+        serve_after::<T, S, G, R, W, Counted>(rt, alloc, shared, seat, hello, connection)
     } else {
-        serve_behind::<T, S, G, R, W, Fingerprint>(rt, alloc, shared, seat, hello, connection)
+        serve_after::<T, S, G, R, W, Fingerprint>(rt, alloc, shared, seat, hello, connection)
     }
 }
 

@@ -57,8 +57,8 @@ impl<F: Summary> Inbox<F> {
         })
     }
 
-    /// Behind the hello that came. Refused 1 where it is not that of the profile.
-    pub(crate) fn behind(alloc: Global, hello: Hello) -> Result<Inbox<F>, Stop>
+    /// After the hello that came. Refused 1 where it is not that of the profile.
+    pub(crate) fn after(alloc: Global, hello: Hello) -> Result<Inbox<F>, Stop>
         requires { IsHello hello }
         ensures read { IfOk result (λ b. HasRead F.profile b hello.bytes []) }
         ensures reads { IfOk result (λ b. b.reads ≡ hello.reads) }
@@ -77,7 +77,7 @@ impl<F: Summary> Inbox<F> {
 
     /// The next event.
     ///
-    /// Refused 1 to 12 by the first fault of the stream, behind the events before it, and 3 at the end of the input.
+    /// Refused 1 to 12 by the first fault of the stream, after the events before it, and 3 at the end of the input.
     pub(crate) fn next<R: Read>(
         &mut self,
         alloc: Global,

@@ -88,7 +88,7 @@ impl<F: Summary> Outbox<F> {
         Ok(())
     }
 
-    /// Writes one fault frame, behind the hello if that was not written, unless the writer failed before. It takes no
+    /// Writes one fault frame, after the hello if that was not written, unless the writer failed before. It takes no
     /// memory, and where the writer fails a beginning of it was written.
     pub(crate) fn refuse<W: Write>(self, writer: &mut Watched<W>, code: u8)
         ensures { WroteSo (W.contents writer.old.inner) (W.contents writer.new.inner) writer.new.failed

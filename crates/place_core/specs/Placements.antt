@@ -1,11 +1,11 @@
 -- A place: the open parts of the own message that is answered, and where the placing of the answer stands.
 --     Placement
 --     start_of p                  before the first part
---     due own cursor              the items of the first List at or behind the cursor
+--     due own cursor              the items of the first List at or after the cursor
 use Rattle.std.specs.Prelude.{Bool, List, [], ◌∷◌, drop, if◌then◌else◌}
 use Rattle.definitions.specs.Items.{Item}
 use Rattle.definitions.specs.Messages.{Sum, Listing, Answer, Message}
-use Rattle.definitions.specs.Placing.{Place, First, behind}
+use Rattle.definitions.specs.Placing.{Place, First, place_after}
 use Rattle.place_core.specs.declared.cursor.Cursor.{Cursor}
 use Rattle.place_core.specs.declared.cursor.Cursor.TheVariants as cursors
 
@@ -16,7 +16,7 @@ pub record Placement (F : Type 0) : Type 0 where
   pub now : Place F
 
 abbrev pub start_of : {F : Type 0} → Placement F → Place F
-start_of p = if p.first then First else behind p.own
+start_of p = if p.first then First else place_after p.own
 
 -- the items of the first List
 abbrev pub first_list : {F : Type 0} → Message F → List Item
@@ -27,5 +27,5 @@ first_list (Answer X marks items ∷ ps) = first_list ps
 
 abbrev pub due : {F : Type 0} → Message F → Cursor → List Item
 due own cursors.First = []
-due own (cursors.Behind at inside) = first_list (drop at own)
+due own (cursors.After at inside) = first_list (drop at own)
 due own (cursors.Refused f) = []

@@ -10,7 +10,7 @@ ghost use Rattle.place_core.specs.Placements.{due};
 ghost use Rattle.place_core.specs.Placements.{first_list as list_first};
 
 use crate::fault::PlaceFault;
-use crate::fit::{Fit, fit_of, rest_behind};
+use crate::fit::{Fit, fit_of, rest_after};
 use digest_core::Summary;
 use item_core::{Item, Range};
 use wire_core::{Part, PartKind};
@@ -22,7 +22,7 @@ pub enum Cursor {
     /// Nothing has come of the first message of all, which answers none.
     First,
     /// The own parts before a place are done, and inside a partition this of its range is still to come.
-    Behind(usize, Option<Range>),
+    After(usize, Option<Range>),
     /// The message is refused.
     Refused(PlaceFault),
 }
@@ -30,9 +30,9 @@ pub enum Cursor {
 impl Cursor {
     /// Before the first part of a message that answers an own message.
     pub fn start<F: Summary>() -> Cursor
-        ensures { (sent : Message F) → place_at sent result ≡ placing.behind sent }
+        ensures { (sent : Message F) → place_at sent result ≡ placing.place_after sent }
     {
-        Cursor::Behind(0, None)
+        Cursor::After(0, None)
     }
 
     /// Places the next part. A refusal stays.
@@ -42,8 +42,8 @@ impl Cursor {
     {
         *self = match *self {
             Cursor::First => next_first(sent, part),
-            Cursor::Behind(at, None) => next_outside(sent, at, part),
-            Cursor::Behind(at, Some(rest)) => next_inside(at, &rest, part),
+            Cursor::After(at, None) => next_outside(sent, at, part),
+            Cursor::After(at, Some(rest)) => next_inside(at, &rest, part),
             Cursor::Refused(fault) => Cursor::Refused(fault),
         };
         self.refused::<F>()
@@ -59,12 +59,12 @@ impl Cursor {
         }
     }
 
-    /// The items of the first List at or behind the cursor.
+    /// The items of the first List at or after the cursor.
     pub fn due<'a, F: Summary>(&self, sent: &'a [Part<F>]) -> &'a [Item]
         ensures { result.now ≡ due sent.now self.now }
     {
         match self {
-            Cursor::Behind(at, _) => first_list(rest_of(sent, *at)),
+            Cursor::After(at, _) => first_list(rest_of(sent, *at)),
             _ => &[],
         }
     }
@@ -75,8 +75,8 @@ impl Cursor {
     {
         match self {
             Cursor::First => Err(PlaceFault::Misplaced),
-            Cursor::Behind(_, Some(_)) => Err(PlaceFault::Gap),
-            Cursor::Behind(at, None) => finish_outside(rest_of(sent, *at)),
+            Cursor::After(_, Some(_)) => Err(PlaceFault::Gap),
+            Cursor::After(at, None) => finish_outside(rest_of(sent, *at)),
             Cursor::Refused(fault) => Err(*fault),
         }
     }
@@ -120,12 +120,12 @@ fn finish_outside<F: Summary>(left: &[Part<F>]) -> Result<(), PlaceFault>
     Ok(())
 }
 
-/// The first part of all: a Sum over everything, behind which nothing may come.
+/// The first part of all: a Sum over everything, after which nothing may come.
 fn next_first<F: Summary>(sent: &[Part<F>], part: &Part<F>) -> Cursor
     ensures { place_at sent.now result ≡ placing.next_first part.now }
 {
     if part.kind() == PartKind::Sum && *part.range() == Range::whole() {
-        Cursor::Behind(sent.len(), None)
+        Cursor::After(sent.len(), None)
     } else {
         Cursor::Refused(PlaceFault::Misplaced)
     }
@@ -140,7 +140,7 @@ fn next_outside<F: Summary>(sent: &[Part<F>], start: usize, part: &Part<F>) -> C
         at += 1;
         match fit_of(own, part) {
             Fit::NotHere => {}
-            Fit::Placed(inside) => return Cursor::Behind(at, inside),
+            Fit::Placed(inside) => return Cursor::After(at, inside),
             Fit::Refused(fault) => return Cursor::Refused(fault),
         }
     }
@@ -157,10 +157,10 @@ fn next_inside<F: Summary>(at: usize, rest: &Range, part: &Part<F>) -> Cursor
     }
     let range = part.range();
     if range == rest {
-        return Cursor::Behind(at, None);
+        return Cursor::After(at, None);
     }
-    match rest_behind(range, rest) {
-        Some(inside) if range.lower() == rest.lower() => Cursor::Behind(at, Some(inside)),
+    match rest_after(range, rest) {
+        Some(inside) if range.lower() == rest.lower() => Cursor::After(at, Some(inside)),
         _ => Cursor::Refused(PlaceFault::Gap),
     }
 }

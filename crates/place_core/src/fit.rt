@@ -24,8 +24,8 @@ pub enum Fit {
     Refused(PlaceFault),
 }
 
-/// What of the whole range comes behind a part of it, unless the part ends with it or after it.
-pub fn rest_behind(part: &Range, whole: &Range) -> Option<Range>
+/// What of the whole range comes after a part of it, unless the part ends with it or after it.
+pub fn rest_after(part: &Range, whole: &Range) -> Option<Range>
     ensures { result ≡ rest_between part.now.upper whole.now.upper }
 {
     match part.upper() {
@@ -71,7 +71,7 @@ fn cut_fit<F: Summary>(range: &Range, part: &Range) -> Fit
     if range.upper() == part.upper() {
         return Fit::Refused(PlaceFault::Stall);
     }
-    match rest_behind(part, range) {
+    match rest_after(part, range) {
         Some(rest) => Fit::Placed(Some(rest)),
         None => Fit::Refused(PlaceFault::Misplaced),
     }

@@ -78,7 +78,7 @@ impl<F: Summary> Place<F> {
         ensures { IfOk result (λ p. p ≡ record {
           first = false;
           own = open_parts sent.now;
-          now = placing.behind (open_parts sent.now);
+          now = placing.place_after (open_parts sent.now);
         }) }
     {
         Ok(Place {

@@ -12,7 +12,7 @@ use crate::fault::PlaceFault;
 use digest_core::Summary;
 use wire_core::{Message, Part};
 
-/// Places each of the parts. Of parts behind a refusal nothing is looked at.
+/// Places each of the parts. Of parts after a refusal nothing is looked at.
 fn place_parts<F: Summary>(cursor: &mut Cursor, sent: &[Part<F>], parts: &[Part<F>])
     ensures { place_at sent.now cursor.new ≡ fold placing.next (place_at sent.now cursor.old) parts.now }
 {

@@ -1,6 +1,6 @@
 -- What is printed as text is read again.
 -- The text of an item has no line feed and no carriage return: a plain one since they are control characters, and one
--- behind `0x` since its bytes are hex digits. So its line is the text, and what this spells is the item. And no text of
+-- after `0x` since its bytes are hex digits. So its line is the text, and what this spells is the item. And no text of
 -- an item begins with a byte order mark, so that the first one does not make the file's line 1 bad.
 use Rattle.std.proofs.Common.{◌≡◌, ◌∙◌, ℕ, zero, suc, ◌<◌, ◌+◌, ◌++◌, ◌==◌, ◌-◌, ◌≤◌, ◌&&◌, ◌||◌, Bool, true, false}
 use Rattle.std.proofs.Common.{List, [], ◌∷◌, length}
@@ -65,7 +65,7 @@ plain_line x none = record {
       (NoCharPasses-byte is_control x i none inside (subst (λ b. b < 128) (sym is) (omega arith)))));
 }
 
--- ---- hex behind the mark
+-- ---- hex after the mark
 
 byte_at : (xs : List ℕ) → IsBytes xs → (i : ℕ) → get_or xs i 0 < 256
 byte_at [] fit i = omega arith

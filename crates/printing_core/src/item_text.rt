@@ -52,7 +52,7 @@ fn push_hex(alloc: Global, text: &mut String, bytes: &[u8]) -> Result<(), AllocE
     text.push_str(&hex::encode(alloc, bytes)?)
 }
 
-/// Appends the bytes in hex behind `0x`.
+/// Appends the bytes in hex after `0x`.
 fn push_marked(alloc: Global, text: &mut String, bytes: &[u8]) -> Result<(), AllocError>
     ensures { OnOk result (string_bytes text.new ≡ string_bytes text.old ++ marked_text bytes.now) }
 {
@@ -60,7 +60,7 @@ fn push_marked(alloc: Global, text: &mut String, bytes: &[u8]) -> Result<(), All
     push_hex(alloc, text, bytes)
 }
 
-/// Appends the item: in hex; or as it stands where it is a text that stands for itself, else in hex behind `0x`.
+/// Appends the item: in hex; or as it stands where it is a text that stands for itself, else in hex after `0x`.
 pub fn push_item(
     alloc: Global,
     text: &mut String,

@@ -19,7 +19,7 @@ pub span_none : {X : Type 0} (s e : ℕ) → span {X = X} s e [] ≡ []
 span_none {X} s zero = drop_none s
 span_none {X} s (suc e) = drop_none s
 
--- what stands between two places of two lists, one behind the other
+-- what stands between two places of two lists, one after the other
 pub span_append : {X : Type 0} (s e : ℕ) (xs ys : List X) →
     span s e (xs ++ ys) ≡ span s e xs ++ span (s - length xs) (e - length xs) ys
 span_append s e [] ys =
@@ -53,7 +53,7 @@ pub flat_of_map : {X Y A : Type 0} (f : Y → List A) (g : X → Y) (xs : List X
 flat_of_map f g [] = refl
 flat_of_map f g (x ∷ xs) = ap (λ ys. f (g x) ++ ys) (flat_of_map f g xs)
 
--- what the parts hold, cut before and behind one of them
+-- what the parts hold, cut before and after one of them
 pub flat_cut : {P A : Type 0} (f : P → List A) (ps : List P) (k : ℕ) (d : P) → k < length ps →
     flat_map f ps ≡ flat_map f (take k ps) ++ (f (get_or ps k d) ++ flat_map f (drop (k + 1) ps))
 flat_cut f ps k d low = ap (flat_map f) (sym (take-append-drop k ps)) ∙ flat_map-append f (take k ps) (drop k ps)

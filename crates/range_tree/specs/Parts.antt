@@ -13,7 +13,7 @@ use Rattle.definitions.specs.Items.{Item, comes_before}
 abbrev pub span : {X : Type 0} → ℕ → ℕ → List X → List X
 span from to xs = drop from (take to xs)
 
--- the items of shared parts, one behind the other
+-- the items of shared parts, one after the other
 abbrev pub items_of : {P Z : Type 0} → (P → List Item) → List (Arc P Z) → List Item
 items_of content parts = flat_map content (map arc_value parts)
 

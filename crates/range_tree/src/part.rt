@@ -52,7 +52,7 @@ pub trait Part: Drop + Sized {
     fn sum_between(&self, from: usize, to: usize) -> Fingerprint
         ensures { result ≡ two_lanes.of (span from to (content self.now)) };
 
-    /// Puts the items from one place on and before another behind what is held.
+    /// Puts the items from one place on and before another after what is held.
     fn push_between(&self, held: &mut Vec<Item>, from: usize, to: usize) -> Result<(), AllocError>
         ensures { OnOk result (held.new.items
             ≡ held.old.items ++ span from to (content self.now)) };

@@ -109,7 +109,7 @@ pub fn item_at<P: Part>(parts: &[Arc<P>], place: usize) -> Item
     parts[index].item_at(own)
 }
 
-/// Puts the items from one place on and before another behind what is held.
+/// Puts the items from one place on and before another after what is held.
 pub fn push_between<P: Part>(
     parts: &[Arc<P>],
     held: &mut Vec<Item>,
@@ -145,7 +145,7 @@ pub fn rank<P: Part>(parts: &[Arc<P>], item: &Item) -> (usize, usize)
     (count(&parts[..begun - 1]) + own, steps.saturating_add(more))
 }
 
-/// Puts parts behind others. They are shared.
+/// Puts parts after others. They are shared.
 pub fn share<P: Drop>(held: &mut Vec<Arc<P>>, parts: &[Arc<P>]) -> Result<(), AllocError>
     ensures { OnOk result (map arc_value held.new.items
         ≡ map arc_value held.old.items ++ map arc_value parts.now) }
@@ -156,7 +156,7 @@ pub fn share<P: Drop>(held: &mut Vec<Arc<P>>, parts: &[Arc<P>]) -> Result<(), Al
     Ok(())
 }
 
-/// Puts what a part became behind others.
+/// Puts what a part became after others.
 fn push_grown<P: Drop>(
     alloc: Global,
     held: &mut Vec<Arc<P>>,

@@ -16,7 +16,7 @@ pub fn between(entries: &[Entry], from: usize, to: usize) -> &[Entry]
     &entries[start..end]
 }
 
-/// Puts the items of the entries behind what is held.
+/// Puts the items of the entries after what is held.
 pub fn push_items(held: &mut Vec<Item>, entries: &[Entry]) -> Result<(), AllocError>
     ensures { OnOk result (held.new.items ≡ held.old.items ++ entries.now) }
 {

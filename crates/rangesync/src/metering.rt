@@ -27,7 +27,7 @@ struct Meter {
     tally: Tally,
 }
 
-/// The place behind a whole frame, or behind the hello.
+/// The place after a whole frame, or after the hello.
 const NEXT: Place = Place::Length { left: 4, length: 0 };
 
 impl Meter {
@@ -52,7 +52,7 @@ impl Meter {
         }
     }
 
-    /// The place behind this byte, at which a frame may be whole.
+    /// The place after this byte, at which a frame may be whole.
     fn step(&mut self, byte: u8) {
         self.place = match self.place {
             Place::Hello(left) if left > 1 => Place::Hello(left - 1),
@@ -68,13 +68,13 @@ impl Meter {
                     Place::Kind { length }
                 }
             }
-            Place::Kind { length } => self.behind(length.saturating_sub(1), byte),
-            Place::Body { left, kind } => self.behind(left.saturating_sub(1), kind),
+            Place::Kind { length } => self.after(length.saturating_sub(1), byte),
+            Place::Body { left, kind } => self.after(left.saturating_sub(1), kind),
         };
     }
 
     /// The place in a frame of this kind that has so many bytes to come.
-    fn behind(&mut self, left: u32, kind: u8) -> Place {
+    fn after(&mut self, left: u32, kind: u8) -> Place {
         if left > 0 {
             return Place::Body { left, kind };
         }

@@ -1,5 +1,5 @@
 -- What is heard of bytes all of whose events were heard: the session goes on unless the input has ended; a fault of the
--- stream behind them stops it. What one event more makes of it, and that nothing counts after a stop, are laws.
+-- stream after them stops it. What one event more makes of it, and that nothing counts after a stop, are laws.
 use Rattle.std.proofs.Common.{◌≡◌, ℕ, Bool, List, None}
 use Rattle.std.proofs.Common.{refl, ap, ◌∙◌}
 use Rattle.definitions.specs.Fingerprints.{Summary}

@@ -82,7 +82,7 @@ fault-is (In_message parts) code is = absurd cc
 fault-is Meaning_over code is = absurd cc
 fault-is (Faulted fault) code is = let same : code ≡ fault = cc in ap Faulted (sym same)
 
--- three texts behind one another
+-- three texts after one another
 regroup : (a b c d : List ℕ) → (a ++ b) ++ (c ++ d) ≡ (a ++ (b ++ c)) ++ d
 regroup a b c d =
     append_assoc a b (c ++ d) ∙ ap (λ (l : List ℕ). a ++ l) (sym (append_assoc b c d))
@@ -194,7 +194,7 @@ module _ {F : Type 0} (S : Summary F) (W : Profile F) where
     front = [];
     back = [];
     split = refl;
-    behind = record { standing = Before_hello; kept = [] };
+    after = record { standing = Before_hello; kept = [] };
     whole = (refl, refl);
     counted = omega arith;
   }
@@ -206,7 +206,7 @@ module _ {F : Type 0} (S : Summary F) (W : Profile F) where
     front = b.front;
     back = b.back ++ piece;
     split = ap (λ (l : List ℕ). l ++ piece) b.split ∙ append_assoc b.front b.back piece;
-    behind = b.behind;
+    after = b.after;
     whole = b.whole;
     counted = omega (arith, b.counted, length-append b.back piece);
   }
@@ -218,7 +218,7 @@ module _ {F : Type 0} (S : Summary F) (W : Profile F) where
     front = pushed;
     back = [];
     split = sym (append-nil pushed);
-    behind = f;
+    after = f;
     whole = (holds, none);
     counted = omega arith;
   }
@@ -437,10 +437,10 @@ module _ {F : Type 0} (S : Summary F) (W : Profile F) where
 
         lasts : Lasts S W s d.talk (pushed ++ piece)
         lasts later end bytes =
-            let behind = ap (λ (to : Standing). feed W to (d.feed.kept ++ later)) at in
+            let after = ap (λ (to : Standing). feed W to (d.feed.kept ++ later)) at in
             let whole = laws.join Before_hello (pushed ++ piece) later fits bytes
             ∙ ap (λ (a : Fed F). joined a (feed W a.to (a.kept ++ later))) on
-            ∙ ap (λ (b : Fed F). joined (fed_into g.events d.feed) b) behind in
+            ∙ ap (λ (b : Fed F). joined (fed_into g.events d.feed) b) after in
             let all : events_in S W ((pushed ++ piece) ++ later) ≡ g.events =
             ap (λ (f : Fed F). f.events) whole ∙ append-nil g.events in (
               hearing-fault S W s end ((pushed ++ piece) ++ later) g.events c.talk.held.end c.talk.held.taken code all
@@ -628,7 +628,7 @@ module _ {F : Type 0} (S : Summary F) (W : Profile F) where
   pub pushes-nothing : (c : SessionState F) → Pushes S W c [] c
   pushes-nothing c s pushed taken live k = subst (λ (l : List ℕ). Knows S W s c l taken) (sym (append-nil pushed)) k
 
-  -- where memory ran out behind so many bytes
+  -- where memory ran out after so many bytes
   pub pushes-so : (c d e : SessionState F) (piece : List ℕ) (m : ℕ) (result : Result ℕ AllocError) →
       IfOk result (λ n. (n ≡ m) × (0 < m)) → e ≡ d → Pushes S W c (take m piece) d →
       IfOk result (λ n. Pushes S W c (take n piece) e)

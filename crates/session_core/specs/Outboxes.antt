@@ -7,7 +7,7 @@ use Rattle.definitions.specs.Ends.{Answer, Replies, Ends, Refuses}
 use Rattle.definitions.specs.Engines.{replied}
 use Rattle.definitions.specs.Taking.{ended}
 use Rattle.ends_core.specs.EndStates.{EndState}
-use Rattle.ends_core.specs.Turns.{behind_end, refusal_of}
+use Rattle.ends_core.specs.Turns.{after_end, refusal_of}
 use Rattle.ends_core.specs.declared.turn.EndFault.{EndFault}
 use Rattle.ends_core.specs.declared.turn.EndFault.TheVariants as faults
 
@@ -28,7 +28,7 @@ IsTaken (Refuses code) = ⊥
 
 pub record Took {F : Type 0} (h g : EndState F) (o p : OutboxState F) : Type 0 where
   pub taken : IsTaken (ended h.taken)
-  pub end : g ≡ behind_end h (ended h.taken)
+  pub end : g ≡ after_end h (ended h.taken)
   pub said : p ≡ outbox_state o.ready (o.later ++ replied (ended h.taken))
 
 -- the end refuses it; or memory ran out, and nothing has changed

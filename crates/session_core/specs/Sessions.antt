@@ -10,8 +10,8 @@
 --     Goes, Stays                        it goes on; or what comes later counts no more
 --     Knows S P s c pushed taken         all of it
 --     Begins S P a s c                   nothing was pushed, it is open, and it listens
---     Pushes S P c bytes d               whatever was pushed before, these bytes were pushed behind it
---     Takes S P c bytes d                whatever was taken before, these bytes were taken behind it
+--     Pushes S P c bytes d               whatever was pushed before, these bytes were pushed after it
+--     Takes S P c bytes d                whatever was taken before, these bytes were taken after it
 --     speaker_of S side P                the side of a role
 use Rattle.std.specs.Prelude.{◌≡◌, ℕ, ◌⊎◌, Bool, true, false, List, [], ◌∷◌, ◌++◌, flat_map, Option, Some, None}
 use Rattle.std.specs.Prelude.{IsTrue, if◌then◌else◌, ⊤, ◌-◌, ◌^◌, min, length}
@@ -149,8 +149,8 @@ pub record IsBegun {F : Type 0} (W : Profile F) (n : ℕ) (pushed : List ℕ) (e
   pub front : List ℕ
   pub back : List ℕ
   pub split : pushed ≡ front ++ back
-  pub behind : StreamState
-  pub whole : Holds W behind front events × (behind.kept ≡ [])
+  pub after : StreamState
+  pub whole : Holds W after front events × (after.kept ≡ [])
   pub counted : n ≡ min (length back) (2 ^ 64 - 1)
 
 module _ {F : Type 0} (S : Summary F) (W : Profile F) where
@@ -221,12 +221,12 @@ module _ {F : Type 0} (S : Summary F) (W : Profile F) where
     pub peer : c.talk.held.end.peer ≡ s.start.peer
     pub steps : c.talk.held.steps ≡ a.steps
 
-  -- whatever was pushed and taken before, these bytes were pushed behind it
+  -- whatever was pushed and taken before, these bytes were pushed after it
   abbrev pub Pushes : SessionState F → List ℕ → SessionState F → Type 0
   Pushes c bytes d = (s : Speaker F) (pushed taken : List ℕ) → is_live s.start.stage ≡ true →
       Knows s c pushed taken → Knows s d (pushed ++ bytes) taken
 
-  -- whatever was pushed and taken before, these bytes were taken behind it
+  -- whatever was pushed and taken before, these bytes were taken after it
   abbrev pub Takes : SessionState F → List ℕ → SessionState F → Type 0
   Takes c bytes d = (s : Speaker F) (pushed taken : List ℕ) → Knows s c pushed taken →
       Knows s d pushed (taken ++ bytes)

@@ -91,7 +91,7 @@ impl<F: Summary> Outbox<F> {
         }
     }
 
-    /// Makes all texts, and these bytes behind them. Where memory runs out nothing has changed.
+    /// Makes all texts, and these bytes after them. Where memory runs out nothing has changed.
     pub(crate) fn make(&mut self, alloc: Global, last: &[u8]) -> Result<(), AllocError>
         ensures made { OnOk result (self.new ≡ outbox_state (self.old.ready
             ++ (flat_map (message_text F.profile) self.old.later ++ last.now)) []) }

@@ -61,7 +61,7 @@ fn are_bytes(bytes: &[u8])
 }
 
 /// How many bytes came after the last whole frame, where so many did before a piece of this length.
-fn begun_behind<F: Summary>(begun: u64, count: usize, event: &Option<Event<F>>) -> u64
+fn bytes_begun<F: Summary>(begun: u64, count: usize, event: &Option<Event<F>>) -> u64
     ensures { result ≡ begun_after event.now begun count }
 {
     match event {
@@ -265,7 +265,7 @@ impl<R: Role, S: RangeStore, F: Summary> Session<R, S, F> {
         codec_laws::feeds_join::<F>();
         laws::hearings_go_on::<F>();
         laws::bytes_agree::<F>();
-        let begun = begun_behind(self.begun, piece.len(), &event);
+        let begun = bytes_begun(self.begun, piece.len(), &event);
         self.talk.hear_if(alloc, event)?;
         self.feed = feed;
         self.begun = begun;

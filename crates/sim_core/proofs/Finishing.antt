@@ -26,8 +26,8 @@ idle_run w k zero idle = refl
 idle_run w k (suc n) idle = ap (λ v. run two_lanes v (deliveries n k)) idle ∙ idle_run w k n idle
 
 -- what a delivery makes of the world, and what it answers
-abbrev IdleBehind : World → ℕ → World × Did → Type 0
-IdleBehind w k p = is_sent p.1 ≡ false → IsIdle p.0 k
+abbrev IdleAfter : World → ℕ → World × Did → Type 0
+IdleAfter w k p = is_sent p.1 ≡ false → IsIdle p.0 k
 
 none_idle : (w : World) (k : ℕ) → slice_get w.sessions k ≡ None → IsIdle w k
 none_idle w k e = ap (λ p. p.0) (ap (deliver_at two_lanes w k) e)
@@ -37,7 +37,7 @@ over_idle : (w : World) (k : ℕ) (s : Session) → slice_get w.sessions k ≡ S
 over_idle w k s e over =
     ap (λ p. p.0) (ap (deliver_at two_lanes w k) e ∙ cond-true (has_ended two_lanes w s) _ _ over)
 
--- behind a delivery that is not answered none follows
+-- after a delivery that is not answered none follows
 abbrev with_sessions : World → List Session → World
 with_sessions w ss = record w { sessions = ss }
 
@@ -45,11 +45,11 @@ is_over : (b : Bool) → is_sent (if b then Over else Sent) ≡ false → b ≡ 
 is_over true e = refl
 is_over false e = absurd cc
 
-idle_behind : (w : World) (k : ℕ) (o : Option Session) → slice_get w.sessions k ≡ o →
-    IdleBehind w k (deliver_at two_lanes w k o)
-idle_behind w k None e = λ unsent. none_idle w k e
-idle_behind w k (Some s) e =
-    cond_both (has_ended two_lanes w s) _ _ (IdleBehind w k) (λ over unsent. over_idle w k s e over)
+idle_after : (w : World) (k : ℕ) (o : Option Session) → slice_get w.sessions k ≡ o →
+    IdleAfter w k (deliver_at two_lanes w k o)
+idle_after w k None e = λ unsent. none_idle w k e
+idle_after w k (Some s) e =
+    cond_both (has_ended two_lanes w s) _ _ (IdleAfter w k) (λ over unsent. over_idle w k s e over)
     (λ going unsent.
     let t : Session = after_delivery w s in
     over_idle (with_sessions w (set w.sessions k t)) k t (set_there w.sessions k s t e)
@@ -61,7 +61,7 @@ delivered_all (suc n) w k =
     let v : World = (step two_lanes w (Deliver k)).0 in
     cond_both (is_sent (step two_lanes w (Deliver k)).1) (delivered n v k) v (λ u. u ≡ run two_lanes v (deliveries n k))
     (λ sent. delivered_all n v k)
-    (λ unsent. sym (idle_run v k n (idle_behind w k (slice_get w.sessions k) refl unsent)))
+    (λ unsent. sym (idle_run v k n (idle_after w k (slice_get w.sessions k) refl unsent)))
 
 -- ==== So a finish ends its session
 
@@ -78,7 +78,7 @@ pub finishes_more : (w : World) (es : List ScenarioStep) (e : ScenarioStep) → 
 finishes_more w [] e before ended = (ended, tt)
 finishes_more w (d ∷ es) e before ended = (before.0, finishes_more (after_step w d) es e before.1 ended)
 
--- the world behind the first of the steps, and what was finished by then
+-- the world after the first of the steps, and what was finished by then
 pub record HasDone (w v : World) (es : List ScenarioStep) : Type 0 where
   pub world : v ≡ after_steps w es
   pub ended : FinishesEnd w es

@@ -30,41 +30,41 @@ all_items test (x ∷ xs) = ap (λ b. test (view x) && b) (all_items test xs)
 
 -- ---- each in order
 
-abbrev pub behind : {A : Type 0} → List A → Result (List A) ScenarioFault → Result (List A) ScenarioFault
-behind xs (Ok ys) = Ok (xs ++ ys)
-behind xs (Err f) = Err f
+abbrev pub after : {A : Type 0} → List A → Result (List A) ScenarioFault → Result (List A) ScenarioFault
+after xs (Ok ys) = Ok (xs ++ ys)
+after xs (Err f) = Err f
 
 -- those that were read, and those that are still to be read, are all
 abbrev pub ReadTo : {A : Type 0} → (ℕ → Data → Result A ScenarioFault) → List Value → ℕ → List A → Type 0
-ReadTo read vs i xs = behind xs (each_from read i (items_view (drop i vs))) ≡ each_from read 0 (items_view vs)
+ReadTo read vs i xs = after xs (each_from read i (items_view (drop i vs))) ≡ each_from read 0 (items_view vs)
 
-behind_nothing : {A : Type 0} (r : Result (List A) ScenarioFault) → behind [] r ≡ r
-behind_nothing (Ok xs) = refl
-behind_nothing (Err f) = refl
+after_nothing : {A : Type 0} (r : Result (List A) ScenarioFault) → after [] r ≡ r
+after_nothing (Ok xs) = refl
+after_nothing (Err f) = refl
 
 pub read_start : {A : Type 0} (read : ℕ → Data → Result A ScenarioFault) (vs : List Value) → ReadTo read vs 0 []
-read_start read vs = behind_nothing (each_from read 0 (items_view vs))
+read_start read vs = after_nothing (each_from read 0 (items_view vs))
 
-behind_one : {A : Type 0} (xs : List A) (x : A) (r : Result (List A) ScenarioFault) →
-    behind (xs ++ x ∷ []) r ≡ behind xs (r >>= λ ys. Ok (x ∷ ys))
-behind_one xs x (Ok ys) = ap Ok (append_assoc xs (x ∷ []) ys)
-behind_one xs x (Err f) = refl
+after_one : {A : Type 0} (xs : List A) (x : A) (r : Result (List A) ScenarioFault) →
+    after (xs ++ x ∷ []) r ≡ after xs (r >>= λ ys. Ok (x ∷ ys))
+after_one xs x (Ok ys) = ap Ok (append_assoc xs (x ∷ []) ys)
+after_one xs x (Err f) = refl
 
 -- what the next one says of all
 next_says : {A : Type 0} (read : ℕ → Data → Result A ScenarioFault) (vs : List Value) (i : ℕ) (v : Value) (xs : List A)
     (said : Result A ScenarioFault) → i < length vs → v ≡ slice_index_or vs i v → read i (view v) ≡ said →
     ReadTo read vs i xs →
-    behind xs (said >>= λ x. each_from read (i + 1) (items_view (drop (i + 1) vs)) >>= λ ys. Ok (x ∷ ys))
+    after xs (said >>= λ x. each_from read (i + 1) (items_view (drop (i + 1) vs)) >>= λ ys. Ok (x ∷ ys))
     ≡ each_from read 0 (items_view vs)
 next_says read vs i v xs said here is e h =
-    ap (λ r. behind xs (r >>= λ x. each_from read (i + 1) (items_view (drop (i + 1) vs)) >>= λ ys. Ok (x ∷ ys))) (sym e)
-    ∙ sym (ap (λ (ds : Items). behind xs (each_from read i ds)) (items_next vs i v here is)) ∙ h
+    ap (λ r. after xs (r >>= λ x. each_from read (i + 1) (items_view (drop (i + 1) vs)) >>= λ ys. Ok (x ∷ ys))) (sym e)
+    ∙ sym (ap (λ (ds : Items). after xs (each_from read i ds)) (items_next vs i v here is)) ∙ h
 
 pub read_on : {A : Type 0} (read : ℕ → Data → Result A ScenarioFault) (vs us : List Value) (i : ℕ) (v : Value)
     (xs : List A) (x : A) → us ≡ vs → i < length us → v ≡ slice_index_or us i v → read i (view v) ≡ Ok x →
     ReadTo read vs i xs → ReadTo read vs (i + 1) (xs ++ x ∷ [])
 read_on read vs us i v xs x same here is e h =
-    behind_one xs x (each_from read (i + 1) (items_view (drop (i + 1) vs)))
+    after_one xs x (each_from read (i + 1) (items_view (drop (i + 1) vs)))
     ∙ next_says read vs i v xs (Ok x) (omega (arith, ap length same))
     (is ∙ ap (λ (ys : List Value). slice_index_or ys i v) same) e h
 
@@ -78,4 +78,4 @@ read_fails read vs i v xs (errors.Fault f) here is said h = sym (next_says read 
 pub read_all : {A : Type 0} (read : ℕ → Data → Result A ScenarioFault) (vs : List Value) (i : ℕ) (xs : List A) →
     length vs ≤ i → ReadTo read vs i xs → each_from read 0 (items_view vs) ≡ Ok xs
 read_all read vs i xs past h = sym h
-    ∙ ap (λ (ds : Items). behind xs (each_from read i ds)) (ap items_view (drop_all i vs past)) ∙ ap Ok (append-nil xs)
+    ∙ ap (λ (ds : Items). after xs (each_from read i ds)) (ap items_view (drop_all i vs past)) ∙ ap Ok (append-nil xs)

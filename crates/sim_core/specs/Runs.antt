@@ -1,5 +1,5 @@
 -- The run of a scenario.
---     after_steps w steps      the world behind the steps of a scenario
+--     after_steps w steps      the world after the steps of a scenario
 --     FinishesEnd w steps      each session that was finished by them has ended
 --     sim_text s               what is printed of a scenario that was run
 use Rattle.std.specs.Prelude.{◌≡◌, ℕ, zero, suc, Bool, true, false, if◌then◌else◌, List, [], ◌∷◌, map, fold, slice_get}
@@ -45,7 +45,7 @@ abbrev pub EndsFinished : ScenarioStep → World → Type 0
 EndsFinished (Do e) w = ⊤
 EndsFinished (Finish k) w = HasEnded k w
 
--- behind each Finish among the steps
+-- after each Finish among the steps
 abbrev pub FinishesEnd : World → List ScenarioStep → Type 0
 FinishesEnd w [] = ⊤
 FinishesEnd w (e ∷ es) = EndsFinished e (after_step w e) × FinishesEnd (after_step w e) es

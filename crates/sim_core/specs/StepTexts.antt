@@ -35,7 +35,7 @@ number_of digits =
 abbrev pub is_space : ℕ → Bool
 is_space b = b == 32
 
--- what stands before the first space, and behind it, if there is one
+-- what stands before the first space, and after it, if there is one
 abbrev pub parted : List ℕ → Option (List ℕ × List ℕ)
 parted text = if nat_lt (position_or_len is_space text) (length text)
     then Some (before_first is_space text, after_first is_space text) else None
@@ -78,7 +78,7 @@ absorb_in rest = do
   side ← side_of words.1
   Some (Do (Absorb session side))
 
--- by the name, what stands behind it
+-- by the name, what stands after it
 abbrev pub step_by : List ℕ → List ℕ → Option ScenarioStep
 step_by name rest =
     if same_item name (codes "insert") then insert_in rest

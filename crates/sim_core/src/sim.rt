@@ -84,7 +84,7 @@ fn finish(alloc: Global, world: &mut World, session: usize) -> Result<(), AllocE
     deliver_often(alloc, world, session, MAX_MESSAGES)
 }
 
-/// Does a step of a scenario. Behind a `finish` the session has ended.
+/// Does a step of a scenario. After a `finish` the session has ended.
 fn do_step(alloc: Global, world: &mut World, step: &ScenarioStep) -> Result<(), AllocError>
     ensures world { OnOk result (world.new ≡ after_step world.old step.now) }
     ensures ended { OnOk result (EndsFinished step.now world.new) }
@@ -108,7 +108,7 @@ fn do_steps(alloc: Global, world: &mut World, steps: &[ScenarioStep]) -> Result<
     Ok(())
 }
 
-/// The lines of the sessions of a scenario that was run. Behind each `finish` of it the session has ended.
+/// The lines of the sessions of a scenario that was run. After each `finish` of it the session has ended.
 pub fn sim_text(alloc: Global, scenario: Scenario) -> Result<String, ScenarioError>
     ensures text { IfOk result (λ text. string_bytes text ≡ sim_text scenario) }
     ensures ended { OnOk result (FinishesEnd (start_of scenario) scenario.steps) }

@@ -50,7 +50,7 @@ fn number_of(digits: &str) -> Option<usize>
     }
 }
 
-/// What stands before the first space, and behind it, if there is one.
+/// What stands before the first space, and after it, if there is one.
 fn parted(text: &str) -> Option<(&str, &str)>
     ensures { option_map (λ p. (p.0.now, p.1.now)) result ≡ parted text.now }
 {
@@ -68,7 +68,7 @@ fn side_of(word: &str) -> Option<Side>
     }
 }
 
-/// What stands behind `insert`: a node and an item.
+/// What stands after `insert`: a node and an item.
 fn insert_in(rest: &str) -> Option<ScenarioStep>
     ensures { result ≡ insert_in rest.now }
 {
@@ -77,7 +77,7 @@ fn insert_in(rest: &str) -> Option<ScenarioStep>
     Some(ScenarioStep::Do(step))
 }
 
-/// What stands behind `open`: two nodes.
+/// What stands after `open`: two nodes.
 fn open_in(rest: &str) -> Option<ScenarioStep>
     ensures { result ≡ open_in rest.now }
 {
@@ -86,7 +86,7 @@ fn open_in(rest: &str) -> Option<ScenarioStep>
     Some(ScenarioStep::Do(step))
 }
 
-/// What stands behind `absorb`: a session and a side.
+/// What stands after `absorb`: a session and a side.
 fn absorb_in(rest: &str) -> Option<ScenarioStep>
     ensures { result ≡ absorb_in rest.now }
 {

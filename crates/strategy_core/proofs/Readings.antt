@@ -75,10 +75,10 @@ WeightsTo xs i ws = before_weights ws (weights_in (items_view (drop i xs))) ≡ 
 pub weights_start : (xs : List Value) → WeightsTo xs 0 []
 weights_start xs = elim (weights_in (items_view xs)) as (λ r. before_weights [] r ≡ r) [ Ok vs ↦ refl | Err f ↦ refl ]
 
-weights_behind : (ws : List ℕ) (w : ℕ) (r : Result (List ℕ) StrategyFault) →
+weights_after : (ws : List ℕ) (w : ℕ) (r : Result (List ℕ) StrategyFault) →
     before_weights (ws ++ w ∷ []) r ≡ before_weights ws (r >>= λ vs. Ok (w ∷ vs))
-weights_behind ws w (Ok vs) = ap Ok (append_assoc ws (w ∷ []) vs)
-weights_behind ws w (Err f) = refl
+weights_after ws w (Ok vs) = ap Ok (append_assoc ws (w ∷ []) vs)
+weights_after ws w (Err f) = refl
 
 -- what the next one says of all
 weight_says : (xs vs : List Value) (i : ℕ) (v : Value) (ws : List ℕ) (said : Result ℕ StrategyFault) → vs ≡ xs →
@@ -93,7 +93,7 @@ pub weights_go_on : (xs vs : List Value) (i : ℕ) (v : Value) (ws : List ℕ) (
     i < length vs → v ≡ slice_index_or vs i v → Ok w ≡ number_in 1 1024 (view v) → WeightsTo xs i ws →
     WeightsTo xs (i + 1) (ws ++ w ∷ [])
 weights_go_on xs vs i v ws w same here is e h =
-    weights_behind ws w (weights_in (items_view (drop (i + 1) xs))) ∙ weight_says xs vs i v ws (Ok w) same here is e h
+    weights_after ws w (weights_in (items_view (drop (i + 1) xs))) ∙ weight_says xs vs i v ws (Ok w) same here is e h
 
 pub weights_fail : (xs vs : List Value) (i : ℕ) (v : Value) (ws : List ℕ) (f : StrategyFault) → vs ≡ xs →
     i < length vs → v ≡ slice_index_or vs i v → Err f ≡ number_in 1 1024 (view v) → WeightsTo xs i ws →
@@ -111,7 +111,7 @@ abbrev pub before_rows : List Row → Result (List Row) StrategyFault → Result
 before_rows rows (Ok more) = Ok (rows ++ more)
 before_rows rows (Err f) = Err f
 
--- the rows so far, and those that are still to be read behind one of this upto, are all
+-- the rows so far, and those that are still to be read after one of this upto, are all
 abbrev pub RowsTo : ℕ → List Value → ℕ → Option ℕ → List Row → Type 0
 RowsTo cap xs i before rows =
     before_rows rows (rows_in cap before (items_view (drop i xs))) ≡ rows_in cap None (items_view xs)
@@ -120,10 +120,10 @@ pub rows_start : (cap : ℕ) (xs : List Value) → RowsTo cap xs 0 None []
 rows_start cap xs =
     elim (rows_in cap None (items_view xs)) as (λ r. before_rows [] r ≡ r) [ Ok vs ↦ refl | Err f ↦ refl ]
 
-rows_behind : (rows : List Row) (row : Row) (r : Result (List Row) StrategyFault) →
+rows_after : (rows : List Row) (row : Row) (r : Result (List Row) StrategyFault) →
     before_rows (rows ++ row ∷ []) r ≡ before_rows rows (r >>= λ more. Ok (row ∷ more))
-rows_behind rows row (Ok more) = ap Ok (append_assoc rows (row ∷ []) more)
-rows_behind rows row (Err f) = refl
+rows_after rows row (Ok more) = ap Ok (append_assoc rows (row ∷ []) more)
+rows_after rows row (Err f) = refl
 
 row_says : (cap : ℕ) (xs vs : List Value) (i : ℕ) (v : Value) (before : Option ℕ) (rows : List Row)
     (said : Result Row StrategyFault) → vs ≡ xs → i < length vs → v ≡ slice_index_or vs i v →
@@ -139,7 +139,7 @@ pub rows_go_on : (cap : ℕ) (xs vs : List Value) (i : ℕ) (v : Value) (before 
     vs ≡ xs → i < length vs → v ≡ slice_index_or vs i v → row_in cap before (view v) ≡ Ok row →
     RowsTo cap xs i before rows → RowsTo cap xs (i + 1) (Some row.upto) (rows ++ row ∷ [])
 rows_go_on cap xs vs i v before rows row same here is e h =
-    rows_behind rows row (rows_in cap (Some row.upto) (items_view (drop (i + 1) xs)))
+    rows_after rows row (rows_in cap (Some row.upto) (items_view (drop (i + 1) xs)))
     ∙ row_says cap xs vs i v before rows (Ok row) same here is e h
 
 -- an error, where memory did not run out, is the fault of the next row

@@ -1,4 +1,4 @@
--- The shares of what is left of the weights, behind some of them.
+-- The shares of what is left of the weights, after some of them.
 use Rattle.std.proofs.Common.{◌≡◌, ℕ, zero, suc, ◌+◌, ◌-◌, ◌*◌, ◌/◌, ◌<◌, ◌≤◌, Bool, true, false, List, [], ◌∷◌, length}
 use Rattle.std.proofs.Common.{take, drop, refl, sym, ap, subst, ◌∙◌, arith, sum, cond, max, inl, inr}
 use Rattle.std.specs.Prelude.{nat_lt, slice_index_or}
@@ -57,7 +57,7 @@ weights-few (w ∷ ws) h = omega (arith, h.0.1, weights-few ws h.1, sum-cons w w
 div-le-div : (a b k : ℕ) → 0 < k → a ≤ b → a / k ≤ b / k
 div-le-div a b k some h = le-div (a / k) b k some (omega (arith, div-mul-le_self a k))
 
--- behind weights of the sum reached the last cut is at cut, and these weights are still to come
+-- after weights of the sum reached the last cut is at cut, and these weights are still to come
 pub record IsAt (weights : List ℕ) (n reached cut : ℕ) (ws : List ℕ) : Type 0 where
   pub some : 0 < sum weights
   pub reached_is : reached + sum ws ≡ sum weights
@@ -70,7 +70,7 @@ at_start weights n total weighed = record {
   cut_is = let none : 0 ≡ n * 0 = omega arith in sym (zero-div (sum weights)) ∙ ap (λ m. m / sum weights) none;
 }
 
--- the cut behind the next weight
+-- the cut after the next weight
 pub record IsNext (weights : List ℕ) (n reached w next : ℕ) : Type 0 where
   pub next_is : next ≡ n * (reached + w) / sum weights
 
@@ -94,7 +94,7 @@ pub reached_within : (weights : List ℕ) (n reached cut w total : ℕ) (ws : Li
 reached_within weights n reached cut w total ws weighed at =
     omega (arith, sum-cons w ws, at.reached_is, weighed.total_is)
 
--- the shares behind it
+-- the shares after it
 abbrev pub shares_left : List ℕ → ℕ → ℕ → ℕ → List ℕ → List ℕ
 shares_left weights n reached cut ws = without_zeros (differences cut (cuts_by weights n (running_sums reached ws)))
 

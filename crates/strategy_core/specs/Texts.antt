@@ -95,7 +95,7 @@ abbrev pub is_above : ℕ → Option ℕ → Bool
 is_above n None = true
 is_above n (Some before) = nat_lt before n
 
--- the upto of a row behind one of this upto
+-- the upto of a row after one of this upto
 abbrev pub upto_in : ℕ → Option ℕ → Members → Result ℕ StrategyFault
 upto_in cap before ms = number_at ms fields.Upto 0 cap >>= λ upto. provided (is_above upto before) RowOrder upto
 
@@ -108,11 +108,11 @@ row_at cap before ms = do
   act ← act_at ms
   Ok (record { upto = upto; act = act })
 
--- a table that is a row behind one of this upto
+-- a table that is a row after one of this upto
 abbrev pub row_in : ℕ → Option ℕ → Data → Result Row StrategyFault
 row_in cap before d = present RowAction (as_table d) >>= row_at cap before
 
--- the rows behind one of this upto
+-- the rows after one of this upto
 abbrev pub rows_in : ℕ → Option ℕ → Items → Result (List Row) StrategyFault
 rows_in cap before no_items = Ok []
 rows_in cap before (item d ds) =

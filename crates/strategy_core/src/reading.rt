@@ -158,7 +158,7 @@ fn rule_of(alloc: Global, entry: &Table) -> Result<Rule, StrategyError>
     }
 }
 
-/// The `upto` of a row behind one of this `upto`.
+/// The `upto` of a row after one of this `upto`.
 fn upto_of(entry: &Table, cap: u32, before: Option<u32>) -> Result<u32, StrategyFault>
     ensures { result ≡ upto_in cap before (table_view entry.now) }
 {
@@ -169,7 +169,7 @@ fn upto_of(entry: &Table, cap: u32, before: Option<u32>) -> Result<u32, Strategy
     Ok(upto)
 }
 
-/// A row behind one of this `upto`.
+/// A row after one of this `upto`.
 fn row_of(alloc: Global, entry: &Value, cap: u32, before: Option<u32>) -> Result<Row, StrategyError>
     ensures { Gives (λ row. row) result (row_in cap before (view entry.now)) }
 {

@@ -1,6 +1,6 @@
 -- The laws of the kinds of step. The word says whether the log is at home or with a seat, a holding seat found the
 -- one log, and the steps themselves keep the rule (Keeps and Splitting). An entry of the one history stands in the
--- opened one or behind it, and there each is one that a view entered.
+-- opened one or after it, and there each is one that a view entered.
 use Rattle.std.proofs.Common.{◌≡◌, ◌≢◌, ℕ, ◌+◌, ◌<◌, true, false, ⊎_elim, ◌⊎◌, inl, inr, List, [], ◌∷◌, Some, Contains}
 use Rattle.std.proofs.Common.{sym, ap, subst, ◌∙◌, arith, get_or}
 use Rattle.std.proofs.lemmas.List.Elements.{All-contains, Contains-push, Contains-append_cases}

@@ -10,7 +10,7 @@ use Rattle.definitions.specs.Streams as streams
 use Rattle.definitions.specs.Streams.{Fed, fed_by, feed_frames, feed, stays}
 use Rattle.codec_laws.specs.Parts.{FeedsJoin, FeedsRest, IsEndOf}
 use Rattle.wire_core.specs.Events.{event_values}
-use Rattle.wire_core.specs.Standings.{standing_of, left_at, behind, goes_on, fed_as}
+use Rattle.wire_core.specs.Standings.{standing_of, left_at, put_after, goes_on, fed_as}
 use Rattle.wire_core.specs.declared.event.Event as declared
 use Rattle.wire_core.specs.declared.standing.Standing.{Standing}
 use Rattle.wire_core.specs.declared.standing.Progress.{Progress}
@@ -21,20 +21,20 @@ abbrev pub IsReached : {F : Type 0} → Profile F → List (wire.Event F) → �
     List ℕ → Type 0
 IsReached P events parts rest before first bytes = (fuel : ℕ) → length bytes ≤ fuel →
     (left : ℕ) × (length rest ≤ left)
-    × (behind events (feed_frames P left parts rest) ≡ behind before (feed_frames P fuel first bytes))
+    × (put_after events (feed_frames P left parts rest) ≡ put_after before (feed_frames P fuel first bytes))
 
--- one frame, whatever comes behind it
+-- one frame, whatever comes after it
 abbrev pub IsStep : {F : Type 0} → Profile F → List (wire.Event F) → ℕ → List ℕ → List (wire.Event F) → Progress →
     List ℕ → Type 0
 IsStep {F} P events parts rest more_events step after = (more : ℕ → List ℕ → Fed F) →
-    behind events (fed_by (event_at P Stream parts rest) parts rest more) ≡ behind more_events (goes_on step after more)
+    put_after events (fed_by (event_at P Stream parts rest) parts rest more) ≡ put_after more_events (goes_on step after more)
 
 a_step : {F : Type 0} (P : Profile F) (events : List (wire.Event F)) (parts : ℕ) (rest : List ℕ)
     (more_events : List (wire.Event F)) (step : Progress) (after : List ℕ) →
     IsStep P events parts rest more_events step after →
     (fuel : ℕ) → length rest ≤ fuel →
     (left : ℕ) × (length rest ≤ left + 1)
-    × (behind events (feed_frames P fuel parts rest) ≡ behind more_events (goes_on step after (feed_frames P left)))
+    × (put_after events (feed_frames P fuel parts rest) ≡ put_after more_events (goes_on step after (feed_frames P left)))
 a_step P events parts [] more_events step after h zero le = (0, omega arith, h (feed_frames P 0))
 a_step P events parts (b ∷ rest) more_events step after h zero le = absurd (omega arith)
 a_step P events parts rest more_events step after h (suc fuel) le = (fuel, omega arith, h (feed_frames P fuel))
@@ -61,7 +61,7 @@ pub frames_rest : {F : Type 0} (P : Profile F) (events : List (wire.Event F)) (p
     IsReached P events parts rest before first bytes →
     IsStep P events parts rest (event_values out) (steps.Rest standing) after →
     (fuel : ℕ) → length bytes ≤ fuel →
-    behind before (feed_frames P fuel first bytes) ≡ fed_as out standing (left_at standing after)
+    put_after before (feed_frames P fuel first bytes) ≡ fed_as out standing (left_at standing after)
 frames_rest P events parts rest before first bytes out standing after so_far h fuel le =
     let r = so_far fuel le in
     let s = a_step P events parts rest (event_values out) (steps.Rest standing) after h r.0 r.1 in
@@ -86,7 +86,7 @@ before_both {X} (x ∷ a) (y ∷ b) (z ∷ c) h k =
 -- ---- in pieces
 
 fed_parts : {F : Type 0} (before : List (wire.Event F)) (fed : Fed F) (out : List (declared.Event F)) (s : Standing)
-    (kept : List ℕ) → behind before fed ≡ fed_as out s kept →
+    (kept : List ℕ) → put_after before fed ≡ fed_as out s kept →
     (before ++ fed.events ≡ event_values out) × (fed.to ≡ standing_of s) × (fed.kept ≡ kept)
 fed_parts {F} before fed out s kept h =
     (ap (λ (f : Fed F). f.events) h, ap (λ (f : Fed F). f.to) h, ap (λ (f : Fed F). f.kept) h)
@@ -94,21 +94,21 @@ fed_parts {F} before fed out s kept h =
 pub piece_joined : {F : Type 0} (P : Profile F) → FeedsJoin P →
     (before : List (wire.Event F)) (from : streams.Standing) (front : List ℕ) (out : List (declared.Event F))
     (s : Standing) (kept : List ℕ) → IsBytes front →
-    behind before (feed P from front) ≡ fed_as out s kept →
+    put_after before (feed P from front) ≡ fed_as out s kept →
     (back : List ℕ) → IsBytes back →
-    behind before (feed P from (front ++ back)) ≡ behind (event_values out) (feed P (standing_of s) (kept ++ back))
+    put_after before (feed P from (front ++ back)) ≡ put_after (event_values out) (feed P (standing_of s) (kept ++ back))
 piece_joined {F} P join before from front out s kept fits h back more =
     let a : Fed F = feed P from front in
     let p = fed_parts before a out s kept h in
     let b : Fed F = feed P a.to (a.kept ++ back) in
-    ap (behind before) (join from front back fits more)
+    ap (put_after before) (join from front back fits more)
     ∙ (λ i. record { events = sym (append_assoc before a.events b.events) i; to = b.to; kept = b.kept })
-    ∙ (λ i. behind (p.0 i) (feed P (p.1 i) (p.2 i ++ back)))
+    ∙ (λ i. put_after (p.0 i) (feed P (p.1 i) (p.2 i ++ back)))
 
 pub piece_rests : {F : Type 0} (P : Profile F) → FeedsRest P →
     (before : List (wire.Event F)) (from : streams.Standing) (front : List ℕ) (out : List (declared.Event F))
     (s : Standing) (kept : List ℕ) → IsBytes front →
-    behind before (feed P from front) ≡ fed_as out s kept →
+    put_after before (feed P from front) ≡ fed_as out s kept →
     (feed P (standing_of s) kept ≡ stays (standing_of s) kept) × IsEndOf front kept
 piece_rests {F} P rests before from front out s kept fits h =
     let a : Fed F = feed P from front in

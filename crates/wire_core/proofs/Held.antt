@@ -7,7 +7,7 @@ use Rattle.definitions.specs.Streams.{Standing, Before_hello, Fed, feed, stays, 
 use Rattle.codec_laws.specs.Codec.{FeedIsExact}
 use Rattle.codec_laws.specs.Parts.{FeedsJoin, FeedsRest, joined}
 use Rattle.wire_core.specs.Events.{event_values}
-use Rattle.wire_core.specs.Standings.{behind}
+use Rattle.wire_core.specs.Standings.{put_after}
 use Rattle.wire_core.specs.Feeds.{StreamState, fed_into, events_since, Continues, UnlessMemory}
 use Rattle.wire_core.specs.declared.event.Event as declared
 use Rattle.wire_core.specs.declared.fault.DecodeError.{DecodeError}
@@ -15,7 +15,7 @@ use Rattle.wire_core.specs.declared.fault.DecodeError.TheVariants as errors
 
 pub held_joined : {F : Type 0} (P : Profile F) → FeedsJoin P → (old : StreamState) (piece : List ℕ) → IsBytes piece →
     (before after : List (Event F)) (new : StreamState) →
-    behind before (feed P old.standing (old.kept ++ piece)) ≡ fed_into after new →
+    put_after before (feed P old.standing (old.kept ++ piece)) ≡ fed_into after new →
     Continues P old piece new
 held_joined {F} P join old piece right before after new fed bytes events fits holds =
     let b : Fed F = feed P old.standing (old.kept ++ piece) in
@@ -28,11 +28,11 @@ held_joined {F} P join old piece right before after new fed bytes events fits ho
 -- bytes that are only kept
 pub kept_alone : {F : Type 0} (P : Profile F) (events : List (Event F)) (old : StreamState) (piece kept : List ℕ) →
     kept ≡ old.kept ++ piece → feed P old.standing kept ≡ stays old.standing kept →
-    behind events (feed P old.standing (old.kept ++ piece))
+    put_after events (feed P old.standing (old.kept ++ piece))
     ≡ fed_into events (record { standing = old.standing; kept = kept })
 kept_alone P events old piece kept is waits =
-    ap (λ (bytes : List ℕ). behind events (feed P old.standing bytes)) (sym is)
-    ∙ ap (behind events) waits
+    ap (λ (bytes : List ℕ). put_after events (feed P old.standing bytes)) (sym is)
+    ∙ ap (put_after events) waits
     ∙ (λ i. record { events = append-nil events i; to = old.standing; kept = kept })
 
 pub kept_few : {F : Type 0} (P : Profile F) → FeedsRest P → (standing : Standing) (kept : List ℕ) → IsBytes kept →
@@ -48,21 +48,21 @@ unless_so (Err errors.Memory) A B goes a = tt
 
 -- ---- what is held means these events
 
-events_behind : {F : Type 0} (old new : List (declared.Event F)) (events : List (Event F)) →
+events_after : {F : Type 0} (old new : List (declared.Event F)) (events : List (Event F)) →
     event_values old ++ events ≡ event_values new → events ≡ events_since old new
-events_behind [] new events h = h
-events_behind (x ∷ old) [] events h = absurd cc
-events_behind (x ∷ old) (y ∷ new) events h =
+events_after [] new events h = h
+events_after (x ∷ old) [] events h = absurd cc
+events_after (x ∷ old) (y ∷ new) events h =
     let rest : event_values old ++ events ≡ event_values new = cc in
-    events_behind old new events rest
+    events_after old new events rest
 
 pub held_means : {F : Type 0} (P : Profile F) → FeedIsExact P → (from : Standing) (bytes : List ℕ) → IsBytes bytes →
     (old new : List (declared.Event F)) (state : StreamState) →
-    behind (event_values old) (feed P from bytes) ≡ fed_into (event_values new) state →
+    put_after (event_values old) (feed P from bytes) ≡ fed_into (event_values new) state →
     Means P from (events_since old new) bytes state.standing state.kept
 held_means {F} P exact from bytes fits old new state fed =
     let a : Fed F = feed P from bytes in
-    let events = events_behind old new a.events (ap (λ (f : Fed F). f.events) fed) in
+    let events = events_after old new a.events (ap (λ (f : Fed F). f.events) fed) in
     let to = ap (λ (f : Fed F). f.to) fed in
     let kept = ap (λ (f : Fed F). f.kept) fed in
     let same : a ≡ fed_into (events_since old new) state =

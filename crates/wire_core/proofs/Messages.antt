@@ -61,10 +61,10 @@ parts_fail P (errors.Fault f) (suc fuel) front bytes total some h so_far =
     let one = by_fault (event_at P One_message (length front) bytes) more (fault_number f) h in
     sym so_far ∙ ap (with_parts front) one
 
--- what was read behind so many parts, by the name that it has now
-pub read_behind : {F : Type 0} (P : Profile F) (n m : ℕ) (bytes after : List ℕ) (o p : Option (Part F)) → n ≡ m →
+-- what was read after so many parts, by the name that it has now
+pub read_after : {F : Type 0} (P : Profile F) (n m : ℕ) (bytes after : List ℕ) (o p : Option (Part F)) → n ≡ m →
     next_at P n bytes ≡ Ok (event_of o, after) → o ≡ p → next_at P m bytes ≡ Ok (event_of p, after)
-read_behind P n m bytes after o p count read is = ap (λ k. next_at P k bytes) (sym count) ∙ read
+read_after P n m bytes after o p count read is = ap (λ k. next_at P k bytes) (sym count) ∙ read
     ∙ ap (λ q. Ok (event_of q, after)) is
 
 ended : {F : Type 0} (P : Profile F) (fuel : ℕ) (front : Message F) (bytes rest : List ℕ)

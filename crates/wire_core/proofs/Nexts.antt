@@ -22,7 +22,7 @@ use Rattle.definitions.proofs.Lemmas.{bytes_eq-Decides}
 use Rattle.codec_laws.proofs.Fields.{IsBytes-both, rest_fits, front_fits}
 use Rattle.codec_laws.specs.Codec.{NextIsExact}
 use Rattle.codec_laws.specs.Parts.{FeedsJoin, joined}
-use Rattle.wire_core.specs.Standings.{is_over, behind}
+use Rattle.wire_core.specs.Standings.{is_over, put_after}
 use Rattle.wire_core.specs.Events.{event_value, event_values}
 use Rattle.wire_core.specs.Feeds.{StreamState, fed_into, Continues, fault_at, refusal_in, UnlessMemory, IfMemory}
 use Rattle.wire_core.specs.Nexts.{hello_due, hello_length, frame_end, IsReach, TakesNext, taken_by}
@@ -48,10 +48,10 @@ no_bytes : (bytes : List ℕ) → length bytes ≡ 0 → bytes ≡ []
 no_bytes [] none = refl
 no_bytes (b ∷ bytes) none = absurd (omega arith)
 
--- behind a frame that ends no earlier than the bytes stands nothing
-none_behind : (bytes text rest : List ℕ) → bytes ≡ frame text ++ rest → length text ≤ max_body →
+-- after a frame that ends no earlier than the bytes stands nothing
+none_after : (bytes text rest : List ℕ) → bytes ≡ frame text ++ rest → length text ≤ max_body →
     length bytes ≤ 4 + number bytes → rest ≡ []
-none_behind bytes text rest is small most =
+none_after bytes text rest is small most =
     let n = ap number is ∙ text_is text rest small in
     let l = ap length is in
     let a = length-append (frame text) rest in
@@ -103,7 +103,7 @@ by_event P exact fuel parts bytes fits most (Ok None) is =
 by_event P exact fuel parts bytes fits most (Ok (Some (e, rest))) is =
     let stands = ((exact Stream parts bytes).2 fits).0 (Some (e, rest)) is in
     let text = event_text P e in
-    let none = none_behind bytes text rest stands.3 stands.1 most in
+    let none = none_after bytes text rest stands.3 stands.1 most in
     let one = alone P e fuel parts rest none in
     inr (inr (e, one.0, one.1, one.2, stands.3 ∙ ap (λ (t : List ℕ). frame text ++ t) none ∙ append-nil (frame text)))
 
@@ -115,7 +115,7 @@ frames_outcome P exact zero parts (b ∷ bytes) fits enough most = absurd (omega
 frames_outcome P exact (suc fuel) parts bytes fits enough most =
     by_event P exact fuel parts bytes fits most (event_at P Stream parts bytes) refl
 
--- ---- behind the hello, where it is due
+-- ---- after the hello, where it is due
 
 -- the frame ends where it does in the bytes that come first, if these tell its length
 end_same : (s : Standing) (front back : List ℕ) → hello_length s + 4 ≤ length front →
@@ -128,12 +128,12 @@ end_same s front back enough =
     take-append-le 4 (drop start front) back (omega arith) in
     ap (λ (bytes : List ℕ). start + 4 + from_be_bytes w32 bytes) (ap (take 4) tail ∙ four)
 
-behind_hello : {F : Type 0} (P : Profile F) (bytes : List ℕ) (fed : Fed F) → 4 ≤ length bytes → take 4 bytes ≡ P.hello →
+after_hello : {F : Type 0} (P : Profile F) (bytes : List ℕ) (fed : Fed F) → 4 ≤ length bytes → take 4 bytes ≡ P.hello →
     Outcome P (In_message 0) (drop 4 bytes) fed → Outcome P Before_hello bytes fed
-behind_hello P bytes fed four same (inl fault) = inl fault
-behind_hello P bytes fed four same (inr (inl (none, few))) = let l = length-drop 4 bytes in
+after_hello P bytes fed four same (inl fault) = inl fault
+after_hello P bytes fed four same (inr (inl (none, few))) = let l = length-drop 4 bytes in
     inr (inl (none, omega arith))
-behind_hello P bytes fed four same (inr (inr (e, to, is, faultless, text))) =
+after_hello P bytes fed four same (inr (inr (e, to, is, faultless, text))) =
     let parts : bytes ≡ P.hello ++ drop 4 bytes =
     sym (take-append-drop 4 bytes) ∙ ap (λ (t : List ℕ). t ++ drop 4 bytes) same in
     inr (inr (e, to, is, faultless, parts ∙ ap (λ (t : List ℕ). P.hello ++ t) text))
@@ -151,7 +151,7 @@ start_outcome P exact bytes fits rest most false true few is =
     let four : 4 ≤ length bytes = ltb-false _ _ few in
     let l = length-drop 4 bytes in
     let text : take 4 bytes ≡ P.hello = (bytes_eq-Decides (take 4 bytes) P.hello).0 is in
-    behind_hello P bytes _ four text
+    after_hello P bytes _ four text
     (frames_outcome P exact (length bytes) 0 (drop 4 bytes) rest (omega arith) (omega arith))
 
 pub outcome : {F : Type 0} (P : Profile F) → NextIsExact P → (s : Standing) (bytes : List ℕ) → is_over s ≡ false →
@@ -220,7 +220,7 @@ kept_ends P exact (Faulted code) kept goes_on fits read = absurd cc
 
 -- ---- so many bytes of a piece
 
--- the bytes up to there are one frame at most, and no less where the piece goes on behind them
+-- the bytes up to there are one frame at most, and no less where the piece goes on after them
 abbrev IsCut : Standing → List ℕ → List ℕ → ℕ → Type 0
 IsCut s kept piece count = (length (kept ++ take count piece) ≤ frame_end s (kept ++ take count piece))
     × (length (kept ++ take count piece) < frame_end s (kept ++ take count piece) → count ≡ length piece)
@@ -369,7 +369,7 @@ pub next_taken : {F : Type 0} (P : Profile F) (old new : StreamState) (piece : L
     (popped : Option (declared.Event F)) → feed P old.standing old.kept ≡ stays old.standing old.kept →
     count ≤ length piece →
     Next P old.standing old.kept piece count (feed P old.standing (old.kept ++ take count piece)) →
-    behind [] (feed P old.standing (old.kept ++ take count piece)) ≡ fed_into (event_values events) new →
+    put_after [] (feed P old.standing (old.kept ++ take count piece)) ≡ fed_into (event_values events) new →
     None ≡ fault_at new.standing →
     events ≡ left ++ option_to_list popped → left ≡ take (length events - 1) events →
     TakesNext P old piece (Ok (count, popped)) new
@@ -403,7 +403,7 @@ next_taken {F} P old new piece count events left popped held within (inr (inr (e
 next_fault : {F : Type 0} (P : Profile F) → FeedsJoin P → (old new : StreamState) (piece : List ℕ) (count : ℕ)
     (events : List (declared.Event F)) (code : ℕ) → IsBytes old.kept → IsBytes piece →
     Next P old.standing old.kept piece count (feed P old.standing (old.kept ++ take count piece)) →
-    behind [] (feed P old.standing (old.kept ++ take count piece)) ≡ fed_into (event_values events) new →
+    put_after [] (feed P old.standing (old.kept ++ take count piece)) ≡ fed_into (event_values events) new →
     Some code ≡ fault_at new.standing → feed P old.standing (old.kept ++ piece) ≡ fed_into [] new
 next_fault {F} P join old new piece count events code fits more (inl (other, is)) fed at =
     let back = drop count piece in
@@ -438,7 +438,7 @@ pub next_refused : {F : Type 0} (P : Profile F) (X : Type 0) → FeedsJoin P →
     (events : List (declared.Event F)) (e : DecodeError) → IsBytes old.kept → IsBytes piece →
     Next P old.standing old.kept piece count (feed P old.standing (old.kept ++ take count piece)) →
     (let r : Result X DecodeError = Err e in
-    UnlessMemory r (behind [] (feed P old.standing (old.kept ++ take count piece))
+    UnlessMemory r (put_after [] (feed P old.standing (old.kept ++ take count piece))
     ≡ fed_into (event_values events) new) →
     UnlessMemory r (refusal_in r ≡ fault_at new.standing) → IfMemory r (new ≡ old) →
     (is_over old.standing ≡ true → IfMemory r ⊥) → TakesNext P old piece (Err e) new)

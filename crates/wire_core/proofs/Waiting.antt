@@ -1,4 +1,4 @@
--- Bytes behind the beginning of a hello or a frame, fewer than it wants.
+-- Bytes after the beginning of a hello or a frame, fewer than it wants.
 use Rattle.std.proofs.Common.{rules, ◌≡◌, ℕ, zero, suc, ◌+◌, ◌-◌, ◌<◌, ◌≤◌, ◌==◌, ◌||◌, Bool, true, false, Result, Ok}
 use Rattle.std.proofs.Common.{Err, Option, Some, None, List, [], ◌∷◌, ◌++◌, length, take, drop, nat_lt, if◌then◌else◌}
 use Rattle.std.proofs.Common.{bytes_eq, refl, sym, ap, subst, ◌∙◌, arith}
@@ -20,28 +20,28 @@ is_hello (In_message parts) = false
 is_hello Meaning_over = false
 is_hello (Faulted code) = false
 
--- ---- frames are behind the hello
+-- ---- frames are after the hello
 
-behind_by : {F : Type 0} (r : Result (Option (Event F × List ℕ)) ℕ) (parts : ℕ) (bytes : List ℕ)
+after_by : {F : Type 0} (r : Result (Option (Event F × List ℕ)) ℕ) (parts : ℕ) (bytes : List ℕ)
     (more : ℕ → List ℕ → Fed F) → ((n : ℕ) (rest : List ℕ) → is_hello (more n rest).to ≡ false) →
     is_hello (fed_by r parts bytes more).to ≡ false
-behind_by (Err code) parts bytes more goes = refl
-behind_by (Ok None) parts bytes more goes = refl
-behind_by (Ok (Some (Came p, rest))) parts bytes more goes = goes (parts + 1) rest
-behind_by (Ok (Some (Ended, rest))) parts bytes more goes = goes 0 rest
-behind_by (Ok (Some (Failed code, rest))) parts bytes more goes = refl
+after_by (Err code) parts bytes more goes = refl
+after_by (Ok None) parts bytes more goes = refl
+after_by (Ok (Some (Came p, rest))) parts bytes more goes = goes (parts + 1) rest
+after_by (Ok (Some (Ended, rest))) parts bytes more goes = goes 0 rest
+after_by (Ok (Some (Failed code, rest))) parts bytes more goes = refl
 
-behind_hello : {F : Type 0} (P : Profile F) (fuel parts : ℕ) (bytes : List ℕ) →
+after_hello : {F : Type 0} (P : Profile F) (fuel parts : ℕ) (bytes : List ℕ) →
     is_hello (feed_frames P fuel parts bytes).to ≡ false
-behind_hello P zero parts bytes = refl
-behind_hello P (suc fuel) parts bytes =
-    behind_by (event_at P Stream parts bytes) parts bytes (feed_frames P fuel) (behind_hello P fuel)
+after_hello P zero parts bytes = refl
+after_hello P (suc fuel) parts bytes =
+    after_by (event_at P Stream parts bytes) parts bytes (feed_frames P fuel) (after_hello P fuel)
 
 start_hello : {F : Type 0} (P : Profile F) (bytes : List ℕ) (few same : Bool) →
     is_hello (if few then stays {F = F} Before_hello bytes else if same
     then feed_frames P (length bytes) 0 (drop 4 bytes) else stays (Faulted bad_hello) []).to ≡ few
 start_hello P bytes true same = refl
-start_hello P bytes false true = behind_hello P (length bytes) 0 (drop 4 bytes)
+start_hello P bytes false true = after_hello P (length bytes) 0 (drop 4 bytes)
 start_hello P bytes false false = refl
 
 -- the hello is due where fewer than four bytes have come
@@ -108,9 +108,9 @@ frame_waits P parts kept more read wants fuel = by_length (nat_lt (length kept) 
       let l = length-append kept more in
       let same : number (kept ++ more) ≡ number kept = ap (from_be_bytes w32) (take_front 4 kept more four) in
       let right = right_length P (length kept) parts kept four (omega arith) read in
-      let right_behind : (number (kept ++ more) == 0 || nat_lt max_body (number (kept ++ more))) ≡ false =
+      let right_after : (number (kept ++ more) == 0 || nat_lt max_body (number (kept ++ more))) ≡ false =
       ap (λ (n : ℕ). n == 0 || nat_lt max_body n) same ∙ right in
-      part_waits P fuel parts (kept ++ more) (omega arith) right_behind (omega arith)
+      part_waits P fuel parts (kept ++ more) (omega arith) right_after (omega arith)
 
 hello_waits : {F : Type 0} (P : Profile F) (bytes : List ℕ) → length bytes < 4 →
     feed_start P bytes ≡ stays Before_hello bytes

@@ -1,9 +1,9 @@
 -- A feed, and what a call of it answers.
 --     StreamState                    where a stream stands, and the bytes that are kept of it
---     fed_into events state          what is fed: events, and the state behind them
+--     fed_into events state          what is fed: events, and the state after them
 --     Holds P state bytes events     all that came so far: its bytes, from the hello on, and its events
---     events_since old new           the events that came behind the old ones
---     Continues P old piece new      what a state holds, the next one holds with the piece and its events behind it
+--     events_since old new           the events that came after the old ones
+--     Continues P old piece new      what a state holds, the next one holds with the piece and its events after it
 --     is_before_hello standing       whether the hello is due
 --     fault_at standing              the fault that a stream has, if any
 --     refusal_in, fault_in           the number of a refusal

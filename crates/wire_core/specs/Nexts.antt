@@ -1,7 +1,7 @@
 -- The next event of a stream, taken off a piece.
 --     hello_due P standing               the hello, where it is due
 --     hello_length standing              4 where it is due, and else 0
---     frame_end standing bytes           where the first frame ends, by its length, behind the hello where it is due
+--     frame_end standing bytes           where the first frame ends, by its length, after the hello where it is due
 --     taken_by result piece              what was taken of the piece
 --     IsReach standing kept piece count  so many bytes of the piece are all, or reach to that end
 --     TakesNext P old piece result new   so many bytes of the piece are taken, and the event that they end, if they do
@@ -46,7 +46,7 @@ TakesNext P old piece (Err (errors.Fault f)) new =
     feed P old.standing (old.kept ++ piece) ≡ fed_into [] new
 TakesNext P old piece (Err errors.Memory) new = (new ≡ old) × (is_over old.standing ≡ false)
 
--- what was taken of the piece: all of it behind a fault
+-- what was taken of the piece: all of it after a fault
 abbrev pub taken_by : {F : Type 0} → Result (ℕ × Option (declared.Event F)) DecodeError → List ℕ → List ℕ
 taken_by (Ok x) piece = take x.0 piece
 taken_by (Err e) piece = piece

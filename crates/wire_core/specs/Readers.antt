@@ -3,7 +3,7 @@
 --     fingerprint_at P bytes      a fingerprint and the bytes after it
 --     code_at bytes               one byte and nothing after it
 --     event_of part               what a frame says: a part, or the end of the message
---     next_at P parts bytes       the event of a message that stands next, behind so many parts, and the bytes after it
+--     next_at P parts bytes       the event of a message that stands next, after so many parts, and the bytes after it
 use Rattle.std.specs.Prelude.{ℕ, List, [], ◌∷◌, Option, Some, None, Result, Ok, Err}
 use Rattle.definitions.specs.Messages.{Part}
 use Rattle.definitions.specs.Refusals.{frame_length, truncated}

@@ -2,8 +2,8 @@
 --     standing_of standing           as the definitions have it
 --     is_over standing               whether what follows counts no more
 --     left_at standing bytes         what is kept there of bytes that are not read yet
---     behind before fed              events that came before, and what is fed then
---     goes_on step bytes more        what is fed behind a step: more frames, or nothing
+--     after before fed              events that came before, and what is fed then
+--     goes_on step bytes more        what is fed after a step: more frames, or nothing
 --     IfMore step Q                  something of the number of parts, where more frames come
 --     fed_as events standing bytes   events that were given, where the stream stands then, and what is kept
 use Rattle.std.specs.Prelude.{ℕ, Bool, true, false, List, [], ◌++◌, ⊤}
@@ -36,8 +36,8 @@ left_at (standings.InMessage parts) bytes = bytes
 left_at standings.MeaningOver bytes = []
 left_at (standings.Faulted f) bytes = []
 
-abbrev pub behind : {F : Type 0} → List (Event F) → Fed F → Fed F
-behind before fed = record { events = before ++ fed.events; to = fed.to; kept = fed.kept }
+abbrev pub put_after : {F : Type 0} → List (Event F) → Fed F → Fed F
+put_after before fed = record { events = before ++ fed.events; to = fed.to; kept = fed.kept }
 
 abbrev pub goes_on : {F : Type 0} → Progress → List ℕ → (ℕ → List ℕ → Fed F) → Fed F
 goes_on (steps.More parts) bytes more = more parts bytes

@@ -40,7 +40,7 @@ pub fn take_frame<'a>(bytes: &mut &'a [u8]) -> Result<Option<&'a [u8]>, WireFaul
     Ok(Some(body))
 }
 
-/// Takes the next frame of a message off the front, behind so many parts of it: a part, or none at the message's end.
+/// Takes the next frame of a message off the front, after so many parts of it: a part, or none at the message's end.
 fn take_part<F: Summary>(
     alloc: Global,
     bytes: &mut &[u8],

@@ -3,14 +3,14 @@ ghost use Rattle.std.specs.Int.{w32, from_be_bytes};
 ghost use Rattle.definitions.specs.Wire.{max_body};
 ghost use Rattle.definitions.specs.Streams.{Before_hello, In_message, feed, Means, finish_fault};
 ghost use Rattle.wire_core.specs.Events.{event_values};
-ghost use Rattle.wire_core.specs.Standings.{is_over, behind};
+ghost use Rattle.wire_core.specs.Standings.{is_over, put_after};
 ghost use Rattle.wire_core.specs.Feeds.{fed_into, Holds, events_since, Continues, fault_at, fault_in, refusal_in};
 ghost use Rattle.wire_core.specs.Feeds.{UnlessMemory, IfMemory, is_before_hello};
 ghost use Rattle.wire_core.specs.Nexts.{TakesNext, taken_by};
 
 use crate::event::Event;
 use crate::fault::{DecodeError, WireFault};
-use crate::pieces::{are_few, keep, next_length, read_behind};
+use crate::pieces::{are_few, keep, next_length, read_after};
 use crate::standing::Standing;
 use crate::stream::are_bytes;
 use digest_core::{Fingerprint, Summary};
@@ -53,7 +53,7 @@ impl<F: Summary> Feed<F> {
         }
     }
 
-    /// Behind the hello: as the new feed is once the hello was fed to it, and nothing else.
+    /// After the hello: as the new feed is once the hello was fed to it, and nothing else.
     pub fn after_hello(alloc: Global) -> Feed<F>
         ensures state { result ≡ record { standing = In_message 0; kept = [] } }
         ensures hello { Holds F.profile result F.profile.hello [] }
@@ -68,9 +68,9 @@ impl<F: Summary> Feed<F> {
     /// Reads on in the stream, and appends the events that the piece completes.
     ///
     /// Which events these are is the relation `Means`: the kept bytes and the piece, from where the stream stood, are
-    /// their texts, and then what is kept. The first fault, 1 to 12, is answered at the byte that tells it, behind the
+    /// their texts, and then what is kept. The first fault, 1 to 12, is answered at the byte that tells it, after the
     /// events before it, and at every later call. Where memory runs out, the feed and the events are as before the
-    /// call. Behind a fault or a fault frame no memory is wanted.
+    /// call. After a fault or a fault frame no memory is wanted.
     pub fn feed(
         &mut self,
         alloc: Global,
@@ -81,7 +81,7 @@ impl<F: Summary> Feed<F> {
         ensures means { UnlessMemory result (Means F.profile self.old.standing
             (events_since out.old.items out.new.items) (self.old.kept ++ piece.now) self.new.standing self.new.kept) }
         // The same by computation.
-        ensures fed { UnlessMemory result (behind (event_values out.old.items)
+        ensures fed { UnlessMemory result (put_after (event_values out.old.items)
             (feed F.profile self.old.standing (self.old.kept ++ piece.now))
             ≡ fed_into (event_values out.new.items) self.new) }
         ensures before { take (length out.old.items) out.new.items ≡ out.old.items }
@@ -107,7 +107,7 @@ impl<F: Summary> Feed<F> {
         piece: &[u8],
         out: &mut Vec<Event<F>>,
     ) -> Result<(), DecodeError>
-        ensures fed { UnlessMemory result (behind (event_values out.old.items)
+        ensures fed { UnlessMemory result (put_after (event_values out.old.items)
             (feed F.profile self.old.standing (self.old.kept ++ piece.now))
             ≡ fed_into (event_values out.new.items) self.new) }
         ensures before { take (length out.old.items) out.new.items ≡ out.old.items }
@@ -124,7 +124,7 @@ impl<F: Summary> Feed<F> {
         }
         let kept = self.kept.len();
         let events = out.len();
-        match read_behind(alloc, &mut self.kept, piece, self.standing, out) {
+        match read_after(alloc, &mut self.kept, piece, self.standing, out) {
             Ok(standing) => {
                 self.standing = standing;
                 Ok(standing.fault()?)
@@ -139,7 +139,7 @@ impl<F: Summary> Feed<F> {
 
     /// Takes the next event off the front of a piece: gives the number of bytes that it took, and the event.
     ///
-    /// It takes at least one byte, and none behind the event's frame. Where the piece ends inside the hello or a frame,
+    /// It takes at least one byte, and none after the event's frame. Where the piece ends inside the hello or a frame,
     /// or the stream is over by a fault frame, it takes all of it and gives no event. A fault is answered at the byte
     /// that tells it, and at every later call. Where memory runs out, the feed is as before the call.
     pub fn next(

@@ -142,7 +142,7 @@ fn packed(alloc: Global, marks: &[bool]) -> Result<Vec<u8>, AllocError>
     Ok(bytes)
 }
 
-/// Whether a bit behind the last of so many marks is set.
+/// Whether a bit after the last of so many marks is set.
 pub fn has_padding(bytes: &[u8], count: u32) -> bool
     requires { length bytes.now ≡ mark_bytes_for count }
     ensures { result ≡ not (bytes_eq bytes.now (mark_bytes (marks_in count bytes.now))) }

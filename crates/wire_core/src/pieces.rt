@@ -1,4 +1,4 @@
-//! A stream that comes in pieces: the bytes that are kept of an unfinished hello or frame, and a piece behind them.
+//! A stream that comes in pieces: the bytes that are kept of an unfinished hello or frame, and a piece after them.
 
 ghost use Rattle.std.specs.Prelude.{◌≡◌, ℕ, ◌+◌, ◌-◌, ◌^◌, ◌<◌, ◌≤◌, true, false, None, List, ◌++◌, length, take, drop};
 ghost use Rattle.std.specs.Prelude.{IfOk, OnOk, OnErr, slice_index};
@@ -7,7 +7,7 @@ ghost use Rattle.definitions.specs.Items.{IsBytes};
 ghost use Rattle.definitions.specs.Wire.{max_body};
 ghost use Rattle.definitions.specs.Streams.{feed, stays};
 ghost use Rattle.wire_core.specs.Events.{event_values};
-ghost use Rattle.wire_core.specs.Standings.{standing_of, is_over, behind, fed_as};
+ghost use Rattle.wire_core.specs.Standings.{standing_of, is_over, put_after, fed_as};
 ghost use Rattle.wire_core.specs.Feeds.{fault_at};
 ghost use Rattle.wire_core.specs.Nexts.{IsReach};
 
@@ -89,7 +89,7 @@ pub fn keep<F: Summary>(
     Ok(true)
 }
 
-/// Reads the kept bytes behind those that are taken, and the front of a piece, and tells which are taken then.
+/// Reads the kept bytes after those that are taken, and the front of a piece, and tells which are taken then.
 fn read_kept<F: Summary>(
     alloc: Global,
     kept: &mut Vec<u8>,
@@ -100,9 +100,9 @@ fn read_kept<F: Summary>(
 ) -> Result<Standing, AllocError>
     requires { taken.old ≤ length kept.old.items }
     ensures joined { IfOk result (λ s. (back : List ℕ) → IsBytes back →
-        behind (event_values out.old.items) (feed F.profile (standing_of standing)
+        put_after (event_values out.old.items) (feed F.profile (standing_of standing)
         ((drop taken.old kept.old.items ++ front.now) ++ back))
-        ≡ behind (event_values out.new.items) (feed F.profile (standing_of s)
+        ≡ put_after (event_values out.new.items) (feed F.profile (standing_of s)
         (drop taken.new kept.new.items ++ back))) }
     ensures rest { IfOk result (λ s. feed F.profile (standing_of s) (drop taken.new kept.new.items)
         ≡ stays (standing_of s) (drop taken.new kept.new.items)) }
@@ -130,7 +130,7 @@ fn read_rest<F: Summary>(
     requires done { taken < length kept.old.items → length rest.now ≡ 0 }
     requires read { feed F.profile (standing_of standing) (drop taken kept.old.items)
         ≡ stays (standing_of standing) (drop taken kept.old.items) }
-    ensures fed { IfOk result (λ s. behind (event_values out.old.items)
+    ensures fed { IfOk result (λ s. put_after (event_values out.old.items)
         (feed F.profile (standing_of standing) (drop taken kept.old.items ++ rest.now))
         ≡ fed_as out.new.items s kept.new.items) }
     ensures rest { IfOk result (λ s. feed F.profile (standing_of s) kept.new.items
@@ -149,10 +149,10 @@ fn read_rest<F: Summary>(
     Ok(there)
 }
 
-/// Reads a piece behind the bytes that are kept of the stream, and keeps what is left.
+/// Reads a piece after the bytes that are kept of the stream, and keeps what is left.
 ///
 /// Where memory runs out the kept bytes and the events begin as before.
-pub fn read_behind<F: Summary>(
+pub fn read_after<F: Summary>(
     alloc: Global,
     kept: &mut Vec<u8>,
     piece: &[u8],
@@ -161,7 +161,7 @@ pub fn read_behind<F: Summary>(
 ) -> Result<Standing, AllocError>
     requires { feed F.profile (standing_of standing) kept.old.items
         ≡ stays (standing_of standing) kept.old.items }
-    ensures fed { IfOk result (λ s. behind (event_values out.old.items)
+    ensures fed { IfOk result (λ s. put_after (event_values out.old.items)
         (feed F.profile (standing_of standing) (kept.old.items ++ piece.now))
         ≡ fed_as out.new.items s kept.new.items) }
     ensures rest { IfOk result (λ s. feed F.profile (standing_of s) kept.new.items
@@ -182,7 +182,7 @@ pub fn read_behind<F: Summary>(
     read_rest(alloc, kept, taken, rest, there, out)
 }
 
-/// The byte at a place of the kept bytes and the piece behind them.
+/// The byte at a place of the kept bytes and the piece after them.
 fn byte_at(kept: &[u8], piece: &[u8], index: usize) -> u8
     requires { index < length kept.now + length piece.now }
     ensures { result ≡ slice_index (kept.now ++ piece.now) index }
@@ -194,7 +194,7 @@ fn byte_at(kept: &[u8], piece: &[u8], index: usize) -> u8
     }
 }
 
-/// The length that stands at a place of the kept bytes and the piece behind them.
+/// The length that stands at a place of the kept bytes and the piece after them.
 fn length_at(kept: &[u8], piece: &[u8], start: usize) -> usize
     requires { start + 4 ≤ length kept.now + length piece.now }
     ensures number { result ≡ from_be_bytes w32 (take 4 (drop start (kept.now ++ piece.now))) }

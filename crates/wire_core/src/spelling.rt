@@ -84,7 +84,7 @@ fn push_marks(out: &mut Vec<u8>, marks: &Marks) -> Result<(), AllocError>
     Ok(())
 }
 
-/// Appends the fields of a body behind its range.
+/// Appends the fields of a body after its range.
 fn push_fields<F: Summary>(out: &mut Vec<u8>, body: &Body<F>) -> Result<(), AllocError>
     requires { length (items_in body.now) < 2 ^ 32 }
     ensures { OnOk result (out.new.items ≡ out.old.items ++ fields_text F.profile body.now) }

@@ -21,7 +21,7 @@ pub enum Standing {
 /// Where reading goes on.
 #[derive(Clone, Copy, Debug, PartialEq, Eq)]
 pub enum Progress {
-    /// At the next frame, behind so many parts of the message.
+    /// At the next frame, after so many parts of the message.
     More(usize),
     /// Nowhere, until more bytes come.
     Rest(Standing),

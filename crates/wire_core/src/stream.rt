@@ -8,7 +8,7 @@ ghost use Rattle.definitions.specs.Streams.{Fed, go_on, with_event, fed_by, feed
 ghost use Rattle.codec_laws.specs.Parts.{IsEndOf};
 ghost use Rattle.wire_core.specs.Refused.{Gives};
 ghost use Rattle.wire_core.specs.Events.{event_value, event_values};
-ghost use Rattle.wire_core.specs.Standings.{standing_of, left_at, behind, goes_on, IfMore, fed_as};
+ghost use Rattle.wire_core.specs.Standings.{standing_of, left_at, put_after, goes_on, IfMore, fed_as};
 
 use crate::decoding::take_frame;
 use crate::event::Event;
@@ -19,7 +19,7 @@ use crate::standing::{Progress, Standing};
 use digest_core::Summary;
 use std::alloc::{AllocError, Global};
 
-/// Takes the next frame off the front, behind so many parts of its message, and gives its event, if a whole one has
+/// Takes the next frame off the front, after so many parts of its message, and gives its event, if a whole one has
 /// come.
 fn take_event<F: Summary>(
     alloc: Global,
@@ -42,8 +42,8 @@ fn take_event<F: Summary>(
     Ok(Some(event))
 }
 
-/// Where reading goes on behind an event that came behind so many parts of its message.
-fn step_behind<F: Summary>(event: &Event<F>, parts: usize) -> Progress
+/// Where reading goes on after an event that came after so many parts of its message.
+fn step_after<F: Summary>(event: &Event<F>, parts: usize) -> Progress
     requires { Counts parts (event_value event.now) }
     ensures { (rest : List ℕ) (more : ℕ → List ℕ → Fed F) →
         go_on (event_value event.now) parts (λ n. more n rest)
@@ -64,14 +64,14 @@ fn take_one<F: Summary>(
     out: &mut Vec<Event<F>>,
 ) -> Result<Progress, AllocError>
     ensures step { IfOk result (λ step. (more : ℕ → List ℕ → Fed F) →
-        behind (event_values out.old.items) (fed_by (reading.event_at F.profile Stream parts bytes.old.now)
-        parts bytes.old.now more) ≡ behind (event_values out.new.items) (goes_on step bytes.new.now more)) }
+        put_after (event_values out.old.items) (fed_by (reading.event_at F.profile Stream parts bytes.old.now)
+        parts bytes.old.now more) ≡ put_after (event_values out.new.items) (goes_on step bytes.new.now more)) }
     ensures before { take (length out.old.items) out.new.items ≡ out.old.items }
     ensures shorter { IfOk result (λ step. IfMore step (λ _. length bytes.new.now < length bytes.old.now)) }
 {
     match take_event(alloc, bytes, parts) {
         Ok(Some(event)) => {
-            let step = step_behind(&event, parts);
+            let step = step_after(&event, parts);
             out.push(event)?;
             Ok(step)
         }
@@ -81,7 +81,7 @@ fn take_one<F: Summary>(
     }
 }
 
-/// Takes all frames off the front that have come whole, behind so many parts of a message, and appends their events.
+/// Takes all frames off the front that have come whole, after so many parts of a message, and appends their events.
 fn take_frames<F: Summary>(
     alloc: Global,
     bytes: &mut &[u8],
@@ -89,7 +89,7 @@ fn take_frames<F: Summary>(
     out: &mut Vec<Event<F>>,
 ) -> Result<Standing, AllocError>
     ensures fed { IfOk result (λ s. (fuel : ℕ) → length bytes.old.now ≤ fuel →
-        behind (event_values out.old.items) (feed_frames F.profile fuel parts bytes.old.now)
+        put_after (event_values out.old.items) (feed_frames F.profile fuel parts bytes.old.now)
         ≡ fed_as out.new.items s (left_at s bytes.new.now)) }
     ensures before { take (length out.old.items) out.new.items ≡ out.old.items }
 {
@@ -139,7 +139,7 @@ pub fn read_on<F: Summary>(
     standing: Standing,
     out: &mut Vec<Event<F>>,
 ) -> Result<Standing, AllocError>
-    ensures fed { IfOk result (λ s. behind (event_values out.old.items)
+    ensures fed { IfOk result (λ s. put_after (event_values out.old.items)
         (feed F.profile (standing_of standing) bytes.old.now) ≡ fed_as out.new.items s bytes.new.now) }
     ensures before { take (length out.old.items) out.new.items ≡ out.old.items }
 {
@@ -159,19 +159,19 @@ pub fn are_bytes(bytes: &[u8])
     let _ = bytes;
 }
 
-/// The same, and what comes behind the bytes may be read later.
+/// The same, and what comes after the bytes may be read later.
 pub fn read_piece<F: Summary>(
     alloc: Global,
     bytes: &mut &[u8],
     standing: Standing,
     out: &mut Vec<Event<F>>,
 ) -> Result<Standing, AllocError>
-    ensures fed { IfOk result (λ s. behind (event_values out.old.items)
+    ensures fed { IfOk result (λ s. put_after (event_values out.old.items)
         (feed F.profile (standing_of standing) bytes.old.now) ≡ fed_as out.new.items s bytes.new.now) }
     // Reading goes on from here as from there.
     ensures joined { IfOk result (λ s. (back : List ℕ) → IsBytes back →
-        behind (event_values out.old.items) (feed F.profile (standing_of standing) (bytes.old.now ++ back))
-        ≡ behind (event_values out.new.items) (feed F.profile (standing_of s) (bytes.new.now ++ back))) }
+        put_after (event_values out.old.items) (feed F.profile (standing_of standing) (bytes.old.now ++ back))
+        ≡ put_after (event_values out.new.items) (feed F.profile (standing_of s) (bytes.new.now ++ back))) }
     // What is left has been read, and is the end of the bytes.
     ensures rest { IfOk result (λ s. feed F.profile (standing_of s) bytes.new.now
         ≡ stays (standing_of s) bytes.new.now) }

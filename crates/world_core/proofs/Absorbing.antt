@@ -28,10 +28,10 @@ abbrev with_nodes : World → List Node → World
 with_nodes w ns = record w { nodes = ns }
 
 -- an insert into the node, in a world where its history has changed
-insert_behind : (w : World) (n : ℕ) (node : Node) (h : History) (x : Item) → n < length w.nodes →
+insert_after : (w : World) (n : ℕ) (node : Node) (h : History) (x : Item) → n < length w.nodes →
     insert_at (with_history w n node h) n x (slice_get (with_history w n node h).nodes n)
     ≡ (with_history w n node (history_after h 0 x (insertion node.table.cap h x)), told (insertion node.table.cap h x))
-insert_behind w n node h x there =
+insert_after w n node h x there =
     ap (insert_at (with_history w n node h) n x) (set_read w.nodes n (put_in node h) there)
     ∙ ap (λ ns. (with_nodes w ns, told (insertion node.table.cap h x)))
     (set_set w.nodes n (put_in node h) (put_in node (history_after h 0 x (insertion node.table.cap h x))))
@@ -87,7 +87,7 @@ put_next : (w v : World) (n : ℕ) (items : List Item) (index count : ℕ) (x : 
     )
 put_next w v n items index count x there so =
     let a : Absorbing = absorbed_at w n (take index items) in
-    ap (λ u. insert_at u n x (slice_get u.nodes n)) so.world ∙ insert_behind w n (node_at w n) a.history x there
+    ap (λ u. insert_at u n x (slice_get u.nodes n)) so.world ∙ insert_after w n (node_at w n) a.history x there
 
 pub absorb_goes_on : (w v v' : World) (n : ℕ) (items : List Item) (index count new : ℕ) (x : Item) (d : worlds.Did) →
     n < length w.nodes → index < length items → x ≡ get_or items index x →
@@ -131,7 +131,7 @@ stays_full cap a (x ∷ xs) e =
     ap (λ b. absorb_by a x (if b then Full else insertion cap a.history x)) e ∙ ap (kept_full a) (sym e) in
     ap (λ b. fold (absorb_one cap) b xs) same ∙ stays_full cap a xs e
 
--- the items behind some of them, where there was no room for the last of these
+-- the items after some of them, where there was no room for the last of these
 absorbed_full : (w : World) (n : ℕ) (items : List Item) (index : ℕ) → (absorbed_at w n (take index items)).full ≡ true →
     absorbed_at w n items ≡ absorbed_at w n (take index items)
 absorbed_full w n items index e =

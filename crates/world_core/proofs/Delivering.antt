@@ -15,7 +15,7 @@ use Rattle.definitions.specs.Worlds as worlds
 use Rattle.definitions.specs.Fingerprints.{Summary}
 use Rattle.laws.specs.Growing.{is_even}
 use Rattle.laws.specs.Sessions.{Kept, Keeps, GoesOnBy, Tells, SessionsGoOn, SessionsKeepNodes, SessionsTell, hearer_now}
-use Rattle.laws.specs.Sessions.{kept_behind}
+use Rattle.laws.specs.Sessions.{kept_after}
 use Rattle.ends_core.specs.EndStates.{EndState, HasNone}
 use Rattle.world_core.specs.declared.session.Session.{Session}
 use Rattle.world_core.specs.Nodes.{newest}
@@ -52,7 +52,7 @@ module _ {F : Type 0} (S : Summary F) where
     pub go_on : SessionsGoOn S
     pub keep : SessionsKeepNodes S
 
-  -- ==== The session behind a delivery
+  -- ==== The session after a delivery
 
   from_same : (node : Node) (o : Option (EndState F)) →
       (responder_from node o).end ≡ unwrap_or (option_map (λ h. h.end) o) (responder (newest node))
@@ -72,7 +72,7 @@ module _ {F : Type 0} (S : Summary F) where
   pub record IsHeard (w : World) (l : Session F) (node : Node) : Type 0 where
     pub hears : (hearer l node).end ≡ hearer_now w (session_of l) (kept_of l)
     pub session : session_of (heard_by S l node) ≡ after_delivery w (session_of l)
-    pub kept : kept_of (heard_by S l node) ≡ kept_behind (session_of l) (kept_of l)
+    pub kept : kept_of (heard_by S l node) ≡ kept_after (session_of l) (kept_of l)
         (after S (hearer_now w (session_of l) (kept_of l)) l.last)
         (last_by l.last (answer S (hearer l node).end l.last)) (parts_by l.parts (answer S (hearer l node).end l.last))
     pub first : (heard_by S l node).first.steps ≡ l.first.steps
@@ -121,7 +121,7 @@ module _ {F : Type 0} (S : Summary F) where
   pub record Goes (w : World) (s : worlds.Session) (k : Kept F) (a : Answer F) : Type 0 where
     pub taken : IsTaken a
     pub keeps : Keeps S w (after_delivery w s)
-        (kept_behind s k (after S (hearer_now w s k) k.last) (last_by k.last a) (parts_by k.parts a))
+        (kept_after s k (after S (hearer_now w s k) k.last) (last_by k.last a) (parts_by k.parts a))
     pub did : did_by a ≡ (if has_ended S w (after_delivery w s) then worlds.Over else worlds.Sent)
 
   goes : (w : World) (s : worlds.Session) (k : Kept F) (a : Answer F) → GoesOnBy S w s k →
@@ -204,7 +204,7 @@ module _ {F : Type 0} (S : Summary F) where
       (subst (IsHeard (world_of nodes lives) l) at.it
       (heard (world_of nodes lives) l (is_even l.delivered) refl)).hearer_none kept.first_none kept.second_none
 
-  -- ==== The world behind it
+  -- ==== The world after it
 
   abbrev delivered_to : World → ℕ → worlds.Session → World
   delivered_to w k s = record w { sessions = slice_set w.sessions k (after_delivery w s) }

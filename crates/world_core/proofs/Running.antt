@@ -1,4 +1,4 @@
--- That what holds of each world holds behind each step.
+-- That what holds of each world holds after each step.
 use Rattle.std.proofs.Common.{◌≡◌, refl, sym, ap, ◌∙◌, subst, arith, ℕ, ◌<◌, List, [], ◌∷◌, ◌++◌, length, map, set}
 use Rattle.std.proofs.Common.{get_or, Option, Some, None}
 use Rattle.std.specs.Prelude.{slice_get, slice_index_or, IfSome, ◌==◌, Result, Ok, Err, IfOk, OnOk, OnErr}
@@ -85,18 +85,18 @@ module _ {F : Type 0} (S : Summary F) where
   insert_keeps stay keep nodes after lives n x e h =
       let w : World = world_of nodes lives in
       let v : World = world_of after lives in
-      let behind = stay w (Insert n x) in
+      let stayed = stay w (Insert n x) in
       record {
-        ready = subst (AllByRecursion IsNode) (sym e) (behind.nodes h.ready);
+        ready = subst (AllByRecursion IsNode) (sym e) (stayed.nodes h.ready);
         kept = All-kept w v (λ l k. IsKept-stays w v l
-            (λ s h. keep (step S w (Insert n x)).0 v s (kept_of l) e (behind.kept s (kept_of l) h))
+            (λ s h. keep (step S w (Insert n x)).0 v s (kept_of l) e (stayed.kept s (kept_of l) h))
             (λ m. ap (λ ns. (slice_index_or ns m no_node).steps) e
             ∙ insert_at-steps w n x (slice_get nodes n) refl m) k) lives h.kept;
         came = came_on w v (Insert n x)
             (ap (λ ns. the_world ns w.sessions) e ∙ insert_at-nodes w n x (slice_get nodes n)) h.came;
       }
 
-  -- the node behind an insert
+  -- the node after an insert
   abbrev with_item : Node → Item → Node
   with_item node x = record node { history = history_after node.history 0 x (insertion node.table.cap node.history x) }
 

@@ -15,7 +15,7 @@ use Rattle.definitions.specs.Worlds.{World, Node, node_at}
 use Rattle.laws.specs.Growing.{is_even}
 use Rattle.laws.specs.Sessions.{Kept, Keeps}
 use Rattle.ends_core.specs.EndStates.{EndState, HasNone}
-use Rattle.ends_core.specs.Turns.{behind, fresh}
+use Rattle.ends_core.specs.Turns.{end_after, fresh}
 use Rattle.world_core.specs.Nodes.{newest}
 use Rattle.world_core.specs.Runs.{Came}
 use Rattle.world_core.specs.declared.session.Session.{Session}
@@ -86,7 +86,7 @@ IsTaken (Replies N) = ⊤
 IsTaken Ends = ⊤
 IsTaken (Refuses code) = ⊥
 
--- the message made last, behind this answer
+-- the message made last, after this answer
 abbrev pub last_by : {F : Type 0} → Message F → Answer F → Message F
 last_by last (Replies N) = N
 last_by last Ends = last
@@ -113,12 +113,12 @@ advanced l newest a = record l {
 }
 
 abbrev pub heard_by_responder : {F : Type 0} → Summary F → Session F → Node → Session F
-heard_by_responder S l node = record l { second = Some (behind S (responder_from node l.second) l.last) }
+heard_by_responder S l node = record l { second = Some (end_after S (responder_from node l.second) l.last) }
 
 abbrev pub heard_by_initiator : {F : Type 0} → Summary F → Session F → Session F
-heard_by_initiator S l = record l { first = behind S l.first l.last }
+heard_by_initiator S l = record l { first = end_after S l.first l.last }
 
--- the session behind the delivery of the message made last
+-- the session after the delivery of the message made last
 abbrev pub heard_by : {F : Type 0} → Summary F → Session F → Node → Session F
 heard_by S l node =
     advanced (if is_even l.delivered then heard_by_responder S l node else heard_by_initiator S l) (length node.history)

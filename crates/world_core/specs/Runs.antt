@@ -83,7 +83,7 @@ abbrev pub EndsByDeliveries : {F : Type 0} → Summary F → World → Type 0
 EndsByDeliveries S w = (k n : ℕ) (s : Session) → 513 ≤ n →
     let v = run S w (deliveries n k) in slice_get v.sessions k ≡ Some s → IsTrue (has_ended S v s)
 
--- behind the Absorb of an ended session, where there is still room, the node has both versions
+-- after the Absorb of an ended session, where there is still room, the node has both versions
 abbrev pub AbsorbsAll : {F : Type 0} → Summary F → World → worlds.Step → World → Type 0
 AbsorbsAll S w (worlds.Insert n x) v = ⊤
 AbsorbsAll S w (worlds.Open i r) v = ⊤

@@ -1,8 +1,8 @@
 -- Steps and answers, as the definitions have them.
 --     side_of s, step_of e, did_of d
 --     added_in d                       how many items an insert put in
---     absorbing w n node items         the world behind items that are put into a node
---     IsCutShort S w e v               the world v behind a step that memory cut short
+--     absorbing w n node items         the world after items that are put into a node
+--     IsCutShort S w e v               the world v after a step that memory cut short
 use Rattle.std.specs.Prelude.{◌≡◌, ℕ, List, take, slice_get, Option, Some, None, IsTrue}
 use Rattle.definitions.specs.Items.{Item}
 use Rattle.definitions.specs.Fingerprints.{Summary}
@@ -58,7 +58,7 @@ theirs_of S w s worlds.Responder = set_of (responder_knowledge S w s).theirs
 abbrev pub absorbed_at : World → ℕ → List Item → Absorbing
 absorbed_at w n items = absorb_all (node_at w n).table.cap (node_at w n).history items
 
--- the world behind these items
+-- the world after these items
 abbrev pub absorbing : World → ℕ → Node → List Item → World
 absorbing w n node items = with_history w n node (absorb_all node.table.cap node.history items).history
 

@@ -4,7 +4,7 @@ ghost use Rattle.std.specs.Prelude.{◌≡◌, ◌<◌, ◌^◌, length, IfOk, I
 ghost use Rattle.definitions.specs.Ends.{answer};
 ghost use Rattle.laws.specs.Growing as growing;
 ghost use Rattle.ends_core.specs.EndStates.{HasNone};
-ghost use Rattle.ends_core.specs.Turns.{answer_in, answer_of, behind};
+ghost use Rattle.ends_core.specs.Turns.{answer_in, answer_of, end_after};
 ghost use Rattle.world_core.specs.Live.{session_of, made, beginning, responder_from, hearer, IsTaken, did_by, advanced};
 ghost use Rattle.world_core.specs.Live.{heard_by, heard_by_responder, heard_by_initiator};
 ghost use Rattle.world_core.specs.Steps.{did_of, side_of};
@@ -57,7 +57,7 @@ fn hear<R: Role, F: Summary>(
     requires none { HasNone end.old }
     requires taken { IsTaken (answer F.summary end.old.end message.now) }
     ensures turn { IfOk result (λ turn. answer_of turn ≡ answer F.summary end.old.end message.now) }
-    ensures end { OnOk result (end.new ≡ behind F.summary end.old message.now) }
+    ensures end { OnOk result (end.new ≡ end_after F.summary end.old message.now) }
     ensures memory { OnErr result (end.new ≡ end.old) }
 {
     taken(end.receive(alloc, message))
@@ -74,7 +74,7 @@ fn hear_at<F: Summary>(
     requires taken { IsTaken (answer F.summary (responder_from node.now second.old).end message.now) }
     ensures turn { IfOk result (λ turn. answer_of turn ≡ answer F.summary (responder_from node.now second.old).end
         message.now) }
-    ensures end { OnOk result (second.new ≡ Some (behind F.summary (responder_from node.now second.old) message.now)) }
+    ensures end { OnOk result (second.new ≡ Some (end_after F.summary (responder_from node.now second.old) message.now)) }
     ensures memory { OnErr result (second.new ≡ second.old) }
 {
     if let Some(end) = second {

@@ -262,7 +262,7 @@ fn rising(alloc: Global, items: &[Item]) -> Result<Vec<Item>, AllocError>
     Ok(distinct(Vec::from_slice(alloc, items)?))
 }
 
-/// The world behind these steps, from the setup on.
+/// The world after these steps, from the setup on.
 fn run_steps<F: Summary>(
     alloc: Global,
     setup: &Setup,
@@ -277,7 +277,7 @@ fn run_steps<F: Summary>(
     Ok(world)
 }
 
-/// The world behind these steps, from the setup on.
+/// The world after these steps, from the setup on.
 ///
 /// Each session of it has few messages, by the ranks of both tables and by the bound that its report shows; no list in
 /// it is longer than its sender's limit; nothing wrong is learned, and once it has ended, where no unequal compared

@@ -60,7 +60,7 @@ pub(crate) const fn fault(code: u8) -> [u8; 6] {
     [0, 0, 0, 2, 5, code]
 }
 
-/// These bytes one behind the other.
+/// These bytes one after the other.
 pub(crate) fn joined(alloc: Global, pieces: &[&[u8]]) -> Result<Vec<u8>, AllocError> {
     let mut bytes = Vec::new(alloc);
     for piece in pieces {

@@ -70,7 +70,7 @@ refuses : (c : Call Lanes) (k code : ℕ) → calls_for c ≡ k →
     heard_in two_lanes two_lane_profile c ≡ Refused_for code → Refuses c k code
 refuses c k code count written first = record {
   wrote = record { count = omega (arith, count); written = inl written };
-  why = inl (record { first = first; behind = inl count });
+  why = inl (record { first = first; after = inl count });
 }
 
 -- by the table of sessions or the gate
@@ -127,7 +127,7 @@ list_as_first_message = refuses (serve fine initiator_reads (hello ++ fault 20))
 pub another_hello : Refuses (serve fine (0x52 ∷ 0x52 ∷ 0x53 ∷ 0x30 ∷ []) (hello ++ fault 1)) 0 1
 another_hello = refuses (serve fine (0x52 ∷ 0x52 ∷ 0x53 ∷ 0x30 ∷ []) (hello ++ fault 1)) 0 1 refl refl refl
 
--- each proper beginning of what an initiator sends, before its message is whole and behind it
+-- each proper beginning of what an initiator sends, before its message is whole and after it
 abbrev prefix : ℕ → List ℕ
 prefix n = take n initiator_writes
 
@@ -175,7 +175,7 @@ unfolding sha256 digest_bytes hash_after compress rounds schedule first_words
 gate_is_shut = refuses_own (serve fine initiator_writes (hello ++ list_of_abc ++ fault 54)) 1 1 54 refl
     (omega arith) refl (omega arith) (omega arith)
 
--- ---- memory runs out, before the reply and behind it
+-- ---- memory runs out, before the reply and after it
 
 pub memory_before_anything_is_read : IsMemory two_lanes two_lane_profile (serve fine [] (hello ++ fault 90)) 0
 memory_before_anything_is_read = record { wrote = record { count = omega arith; written = inl refl } }
@@ -184,10 +184,10 @@ pub memory_before_the_reply : IsMemory two_lanes two_lane_profile (serve fine (p
 unfolding sha256 digest_bytes hash_after compress rounds schedule first_words
 memory_before_the_reply = record { wrote = record { count = omega arith; written = inl refl } }
 
-pub memory_behind_the_reply :
+pub memory_after_the_reply :
     IsMemory two_lanes two_lane_profile (serve fine initiator_writes (hello ++ list_of_abc ++ fault 90)) 1
 unfolding sha256 digest_bytes hash_after compress rounds schedule first_words
-memory_behind_the_reply = record {
+memory_after_the_reply = record {
   wrote =
       record { count = within 1 (calls_for (serve fine initiator_writes [])) 1 refl (omega arith); written = inl refl };
 }

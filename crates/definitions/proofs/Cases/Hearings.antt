@@ -42,8 +42,8 @@ pub gap_before_a_bad_kind : dials (hello ++ sum_below_b ++ sum_from_c ++ no_kind
 gap_before_a_bad_kind = refl
 
 -- of whole messages only the stream's fault is seen there
-pub bad_kind_behind_a_gap : (feed two_lane_profile (In_message 2) no_kind).to ≡ Faulted 4
-bad_kind_behind_a_gap = refl
+pub bad_kind_after_a_gap : (feed two_lane_profile (In_message 2) no_kind).to ≡ Faulted 4
+bad_kind_after_a_gap = refl
 
 pub no_whole_message_there : messages_in two_lane_profile (hello ++ sum_below_b ++ sum_from_c ++ no_kind) ≡ []
 no_whole_message_there = refl
@@ -51,7 +51,7 @@ no_whole_message_there = refl
 pub bad_kind_before_a_gap : dials (hello ++ sum_below_b ++ no_kind ++ sum_from_c) ≡ Refused_for 4
 bad_kind_before_a_gap = refl
 
--- a misplaced part goes before the fault frame behind it, though that stands in the stream
+-- a misplaced part goes before the fault frame after it, though that stands in the stream
 pub misplaced_before_a_fault_frame : dials (hello ++ sum_from_c ++ number 2 ++ 5 ∷ 0x63 ∷ []) ≡ Refused_for 20
 misplaced_before_a_fault_frame = refl
 
@@ -71,12 +71,12 @@ one_part_too_many = refl
 pub waits_for_the_frame : first_fault (dials (hello ++ sum_below_b ++ take 39 sum_from_c)) ≡ None
 waits_for_the_frame = refl
 
--- behind the end of the session nothing is heard
-pub nothing_behind_the_end : dials (initiator_reads ++ no_kind) ≡ dials initiator_reads
-nothing_behind_the_end = refl
+-- after the end of the session nothing is heard
+pub nothing_after_the_end : dials (initiator_reads ++ no_kind) ≡ dials initiator_reads
+nothing_after_the_end = refl
 
-pub no_message_behind_the_end : dials (initiator_reads ++ list_of_abc) ≡ dials initiator_reads
-no_message_behind_the_end = refl
+pub no_message_after_the_end : dials (initiator_reads ++ list_of_abc) ≡ dials initiator_reads
+no_message_after_the_end = refl
 
 -- ---- part by part
 
@@ -103,7 +103,7 @@ pub refused_at_the_end : by_parts itself waiting (nothing_taken waiting) (sum (b
     ≡ Refuses 22
 refused_at_the_end = refl
 
--- what was taught counts behind the end of the message
+-- what was taught counts after the end of the message
 abbrev listed : Taken (List Item)
 listed = taken_all itself waiting (list whole (codes "ab") ∷ [])
 
@@ -116,7 +116,7 @@ pub spent_takes_none : by_parts itself (record waiting { stage = Spent })
     (nothing_taken (record waiting { stage = Spent })) (first (codes "a")) ≡ Refuses 26
 spent_takes_none = refl
 
--- ---- a peer that never agrees: it cuts each range behind its lower bound, and has nothing in any list
+-- ---- a peer that never agrees: it cuts each range after its lower bound, and has nothing in any list
 
 -- no set of the initiator has this fingerprint
 abbrev other : List Item
@@ -132,7 +132,7 @@ disagrees (Sum X f) = cut_again X
 disagrees (Listing X items) = Answer X (map (λ x. false) items) [] ∷ []
 disagrees (Answer X marks items) = []
 
--- an end and its own message, behind what this peer answers to it
+-- an end and its own message, after what this peer answers to it
 abbrev answered : End (List Item) × Message (List Item) → End (List Item) × Message (List Item)
 answered p = (after itself p.0 (flat_map disagrees p.1), reply itself p.0.peer (flat_map disagrees p.1))
 
@@ -143,15 +143,15 @@ against (suc k) p = against k (answered p)
 abbrev eight : Peer
 eight = peer binary8 (codes "abcdefgh")
 
-abbrev behind : ℕ → End (List Item) × Message (List Item)
-behind k = against k (initiator itself eight, opening itself eight.items)
+abbrev end_after : ℕ → End (List Item) × Message (List Item)
+end_after k = against k (initiator itself eight, opening itself eight.items)
 
 -- it sends as many messages as its bound allows, and is over then
-pub five_messages : map (λ k. (behind k).0.sent) (0 ∷ 1 ∷ 2 ∷ 3 ∷ 4 ∷ 5 ∷ []) ≡ 1 ∷ 2 ∷ 3 ∷ 4 ∷ 5 ∷ 5 ∷ []
+pub five_messages : map (λ k. (end_after k).0.sent) (0 ∷ 1 ∷ 2 ∷ 3 ∷ 4 ∷ 5 ∷ []) ≡ 1 ∷ 2 ∷ 3 ∷ 4 ∷ 5 ∷ 5 ∷ []
 five_messages = refl
 
-pub over_behind_them : (behind 5).0.stage ≡ Over
-over_behind_them = refl
+pub over_after_them : (end_after 5).0.stage ≡ Over
+over_after_them = refl
 
 -- the lists that it opens, by their lengths
 abbrev list_lengths : Message (List Item) → List ℕ
@@ -159,5 +159,5 @@ list_lengths [] = []
 list_lengths (Listing X items ∷ M) = length items ∷ list_lengths M
 list_lengths (p ∷ M) = list_lengths M
 
-pub short_lists : list_all (λ n. nat_le n 1) (flat_map (λ k. list_lengths (behind k).1) (0 ∷ 1 ∷ 2 ∷ 3 ∷ 4 ∷ [])) ≡ true
+pub short_lists : list_all (λ n. nat_le n 1) (flat_map (λ k. list_lengths (end_after k).1) (0 ∷ 1 ∷ 2 ∷ 3 ∷ 4 ∷ [])) ≡ true
 short_lists = refl

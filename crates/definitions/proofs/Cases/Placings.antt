@@ -2,7 +2,7 @@
 use Rattle.std.specs.Prelude.{◌≡◌, true, false, List, [], ◌∷◌, Some, None, refl, codes}
 use Rattle.definitions.specs.Items.{Range, Item, whole}
 use Rattle.definitions.specs.Messages.{Part, Sum, Listing, Answer, Message}
-use Rattle.definitions.specs.Placing.{Refused, next, behind, place_fault, opening_fault}
+use Rattle.definitions.specs.Placing.{Refused, next, place_after, place_fault, opening_fault}
 use Rattle.definitions.proofs.Cases.Examples.{letters, from_to, below, from}
 
 abbrev pub sum : Range → Part (List Item)
@@ -16,7 +16,7 @@ first = sum whole ∷ []
 pub gap_between : place_fault first (sum (below (codes "b")) ∷ sum (from (codes "c")) ∷ []) ≡ Some 22
 gap_between = refl
 
-pub gap_between_at_the_second : next (next (behind first) (sum (below (codes "b")))) (sum (from (codes "c")))
+pub gap_between_at_the_second : next (next (place_after first) (sum (below (codes "b")))) (sum (from (codes "c")))
     ≡ Refused 22
 gap_between_at_the_second = refl
 
@@ -52,7 +52,7 @@ two_parts_first = refl
 pub one_sum_first : opening_fault first ≡ None
 one_sum_first = refl
 
--- behind a list of a and b
+-- after a list of a and b
 
 abbrev pub listed : Message (List Item)
 listed = Listing whole (letters (codes "ab")) ∷ []
@@ -79,7 +79,7 @@ pub an_answer_too_many :
     place_fault listed (Answer whole (true ∷ true ∷ []) [] ∷ Answer whole (true ∷ true ∷ []) [] ∷ []) ≡ Some 20
 an_answer_too_many = refl
 
--- behind two Sums
+-- after two Sums
 
 abbrev pub two_sums : Message (List Item)
 two_sums = sum (below (codes "b")) ∷ sum (from (codes "b")) ∷ []

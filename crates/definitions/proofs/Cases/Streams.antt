@@ -44,11 +44,11 @@ cut_inside_a_frame_finish = refl
 pub nothing_read_finish : finish_fault Before_hello [] ≡ Some 3
 nothing_read_finish = refl
 
-pub behind_a_part_finish : finish_fault (In_message 1) [] ≡ Some 3
-behind_a_part_finish = refl
+pub after_a_part_finish : finish_fault (In_message 1) [] ≡ Some 3
+after_a_part_finish = refl
 
-pub behind_a_message_finish : finish_fault (In_message 0) [] ≡ None
-behind_a_message_finish = refl
+pub after_a_message_finish : finish_fault (In_message 0) [] ≡ None
+after_a_message_finish = refl
 
 -- edges of the frame length
 
@@ -61,7 +61,7 @@ frame_too_long = refl
 pub longest_frame : fed (hello ++ 0 ∷ 0x80 ∷ 0 ∷ 0 ∷ []) ≡ comes_to (In_message 0) (0 ∷ 0x80 ∷ 0 ∷ 0 ∷ [])
 longest_frame = refl
 
--- faults of items, behind an event that counts
+-- faults of items, after an event that counts
 pub items_that_fall :
     fed (hello ++ list_of_abc ++ number 0x0B ++ 2 ∷ everything ++ number 2 ++ 1 ∷ 0x62 ∷ 1 ∷ 0x61 ∷ []) ≡
     record { events = Came (Listing whole abc) ∷ Ended ∷ []; to = Faulted 8; kept = [] }
@@ -96,10 +96,10 @@ pub empty_meets_abc_initiator_ends : is_over
     (session two_lanes (initiating two_lanes no_items) (messages_in two_lane_profile initiator_reads)).stage ≡ true
 empty_meets_abc_initiator_ends = refl
 
--- what comes behind the end of the session counts no more
-pub nothing_behind_the_end : (session two_lanes (initiating two_lanes no_items)
+-- what comes after the end of the session counts no more
+pub nothing_after_the_end : (session two_lanes (initiating two_lanes no_items)
     (messages_in two_lane_profile (initiator_reads ++ list_of_abc))).learned ≡ record { ours = []; theirs = abc }
-nothing_behind_the_end = refl
+nothing_after_the_end = refl
 
 pub empty_meets_abc_responder_writes : text two_lane_profile 1
     (says two_lanes (responding has_abc) (messages_in two_lane_profile initiator_writes)) ≡ hello ++ list_of_abc

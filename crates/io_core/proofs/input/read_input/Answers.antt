@@ -19,7 +19,7 @@ returns-then-len-gt-MAX_INPUT-clause-unread g c =
     more.read in
     λ _. inr (
       c.read_more.new.input.items,
-      rw more.behind all,
+      rw more.follows all,
       (let n : c.len.result ≡ length c.read_more.new.input.items = search rules in omega arith),
     )
 
@@ -30,7 +30,7 @@ chunks-preserved g c =
     (g.R.Read.remaining c.read_more.new.reader.inner) c.chunks.input.items more.front c.chunks.invariant.read
     more.read in
     record {
-      read = rw more.behind all;
+      read = rw more.follows all;
       short = let n : c.len.result ≡ length c.read_more.new.input.items = search rules in omega arith;
       fine = c.in_ok-read_more.ensures.fine;
       room = c.chunks.invariant.room;
@@ -43,9 +43,9 @@ returns-clause-input g c =
     (g.R.Read.remaining c.read_more.new.reader.inner) c.chunks.input.items more.front c.chunks.invariant.read
     more.read in
     record {
-      read = rw more.behind all;
+      read = rw more.follows all;
       whole = more.whole (omega arith);
-      short = let n = ap length more.behind in let short = c.chunks.invariant.short in let count = more.count in
+      short = let n = ap length more.follows in let short = c.chunks.invariant.short in let count = more.count in
           omega (arith, length-append c.chunks.input.items more.front);
       fine = c.in_ok-read_more.ensures.fine;
     }

@@ -1,4 +1,4 @@
--- `into_box` takes the two fields out and hands them to `Box::from_raw`, which asks for the memory behind the pointer.
+-- `into_box` takes the two fields out and hands them to `Box::from_raw`, which asks for the memory of the pointer.
 -- A loose box owns just that beside its handle, since it is read as a box with the same parts. The box that comes back
 -- has the value that the call was promised. The walk is in four steps: `asked` makes what the call requires,
 -- `given` reads what it returns as one machine word, `moved` goes through the statements, and `left` ends.

@@ -1,5 +1,5 @@
 -- `of` is one call, of `Box::into_raw_with_allocator`, and a move of its two results into the fields.
--- The call gives up the box and returns a pair of a pointer and a handle, and beside the pair lies the memory behind
+-- The call gives up the box and returns a pair of a pointer and a handle, and beside the pair lies the memory after
 -- the pointer. Pair and memory together are a box again (`paired`), of the same value; and what a box owns is what
 -- the loose box owns that is made of the two words. The walk is in four steps: `asked` hands the box over, `given`
 -- reads what came back as such a box, `moved` goes through the statements, and `left` ends with the loose box.
@@ -96,7 +96,7 @@ module _ (E : Bx) (dx : Dict) where
             ⊛ (raw (fact 𝓤 (r.1 ≡ v.alloc)) ⊛ ‵ (box_owns (token E.al v.alloc) (R E) r.0 v.value)))))) (id⊢ 𝓤 _) $
             await t z $ pick t (λ r. split t $ move t (1 ∷ []) $ pick t (λ ws. split3 t $ drop t $
             heard t (r.1 ≡ v.alloc) (λ same.
-            -- [the memory behind the pointer; the tokens and the pair]
+            -- [the memory of the pointer; the tokens and the pair]
             rewrite t 0 (λ (a : E.al.row.Denot). ‵ (box_owns (token E.al a) (R E) r.0 v.value)) (sym same) refl $
             move t (1 ∷ []) $ split t $ move t (1 ∷ 2 ∷ []) $ paired E t r v.value (u ∷ []) $
             in_one_word E t (record { ptr = r.0; alloc = r.1; value = v.value }) (u ∷ []) (λ b o h is fits.

@@ -8,7 +8,7 @@ use Rattle.peer_threads.specs.Listening.{InStep}
 use Rattle.peer_threads.specs.Underway.{IsNone}
 use Rattle.peer_threads.proofs.Exchanges.{Laws}
 use Rattle.peer_threads.proofs.Listenings.{fares-by, unbroken}
-use Rattle.peer_threads.proofs.Serving.{greeted, reads-on, stops-ungreeted, stops-broken-behind, stops-partless}
+use Rattle.peer_threads.proofs.Serving.{greeted, reads-on, stops-ungreeted, stops-broken-after, stops-partless}
 use Rattle.peer_threads.proofs.Serving.{stops-endless, told}
 use Rattle.peer_threads.proofs.engines.first_message.Goals as goal
 
@@ -31,7 +31,7 @@ returns-in_err-inbox-clause-stopped g c =
 pub returns-in_err-greet-clause-stopped : goal.returns-in_err-greet-clause-stopped
 returns-in_err-greet-clause-stopped g c =
     told c.from_residual-in_err-greet.result (stops.Io directions.Write) _ (search rules) (λ P.
-    let stopped = stops-broken-behind g.F.Summary.summary g.F.Summary.profile IsNone P c.args.outbox.now
+    let stopped = stops-broken-after g.F.Summary.summary g.F.Summary.profile IsNone P c.args.outbox.now
     c.greet.new.self c.args.hello.bytes
     (g.R.Read.remaining c.args.connection.now.reader.inner) (g.W.Write.contents c.args.connection.now.writer.inner)
     (g.W.Write.contents c.greet.new.writer.inner)

@@ -53,7 +53,7 @@ returns-then-eq-clause-view g c =
     let h = c.in-Ok.hello in
     let same : h.bytes ≡ counted_profile.hello = search rules in
     let mid = g.R.Read.remaining c.read_hello.new.reader.inner in
-    elim c.serve_behind.ensures.view [
+    elim c.serve_after.ensures.view [
       | inl x ↦ inl x
       | inr x ↦ inr (
         x.0,
@@ -67,7 +67,7 @@ returns-then-eq-clause-opened g c =
     let h = c.in-Ok.hello in
     let same : h.bytes ≡ counted_profile.hello = search rules in
     let mid = g.R.Read.remaining c.read_hello.new.reader.inner in
-    elim c.serve_behind.ensures.opened [
+    elim c.serve_after.ensures.opened [
       | inl x ↦ inl x
       | inr x ↦ inr (counted-first h.bytes (g.R.Read.remaining c.args.connection.now.reader.inner) mid _
           c.in-Ok.ensures.read.0.four c.in-Ok.ensures.read.1 (chooses-counted h.bytes same) x)
@@ -78,16 +78,16 @@ returns-then-eq-clause-bytes g c =
     let h = c.in-Ok.hello in
     let same : h.bytes ≡ counted_profile.hello = search rules in
     let mid = g.R.Read.remaining c.read_hello.new.reader.inner in
-    counted-speaks _ (peer_at (arc_value c.args.shared.now.accepted.now) c.serve_behind.new.seat.view) _ _ _ h.bytes
+    counted-speaks _ (peer_at (arc_value c.args.shared.now.accepted.now) c.serve_after.new.seat.view) _ _ _ h.bytes
     (g.R.Read.remaining c.args.connection.now.reader.inner) mid _ _ _ _ _ _
-    c.in-Ok.ensures.read.0.four c.in-Ok.ensures.read.1 (chooses-counted h.bytes same) c.serve_behind.ensures.bytes
+    c.in-Ok.ensures.read.0.four c.in-Ok.ensures.read.1 (chooses-counted h.bytes same) c.serve_after.ensures.bytes
 
 pub returns-else-eq-clause-view : goal.returns-else-eq-clause-view
 returns-else-eq-clause-view g c =
     let h = c.in-Ok.hello in
     let other : bytes_eq h.bytes counted_profile.hello ≡ false = search rules in
     let mid = g.R.Read.remaining c.read_hello.new.reader.inner in
-    elim c.serve_behind-else-eq.ensures.view [
+    elim c.serve_after-else-eq.ensures.view [
       | inl x ↦ inl x
       | inr x ↦ inr (
         x.0,
@@ -102,7 +102,7 @@ returns-else-eq-clause-opened g c =
     let h = c.in-Ok.hello in
     let other : bytes_eq h.bytes counted_profile.hello ≡ false = search rules in
     let mid = g.R.Read.remaining c.read_hello.new.reader.inner in
-    elim c.serve_behind-else-eq.ensures.opened [
+    elim c.serve_after-else-eq.ensures.opened [
       | inl x ↦ inl x
       | inr x ↦ inr (two-lanes-first h.bytes (g.R.Read.remaining c.args.connection.now.reader.inner) mid _
           c.in-Ok.ensures.read.0.four c.in-Ok.ensures.read.1
@@ -114,8 +114,8 @@ returns-else-eq-clause-bytes g c =
     let h = c.in-Ok.hello in
     let other : bytes_eq h.bytes counted_profile.hello ≡ false = search rules in
     let mid = g.R.Read.remaining c.read_hello.new.reader.inner in
-    two-lanes-speak _ (peer_at (arc_value c.args.shared.now.accepted.now) c.serve_behind-else-eq.new.seat.view) _ _ _
+    two-lanes-speak _ (peer_at (arc_value c.args.shared.now.accepted.now) c.serve_after-else-eq.new.seat.view) _ _ _
     h.bytes
     (g.R.Read.remaining c.args.connection.now.reader.inner) mid _ _ _ _ _ _
     c.in-Ok.ensures.read.0.four c.in-Ok.ensures.read.1
-    (chooses-two-lanes h.bytes c.in-Ok.ensures.read.0.four other) c.serve_behind-else-eq.ensures.bytes
+    (chooses-two-lanes h.bytes c.in-Ok.ensures.read.0.four other) c.serve_after-else-eq.ensures.bytes

@@ -31,7 +31,7 @@ loop-low-preserved g c =
             low = omega arith;
             high = held.high;
             before = passes_up_to before c.args.list.now c.requires middle x within c.index-list-middle.is test;
-            behind = held.behind;
+            after = held.after;
           })
       | else-is_lt w ↦
           let test : before x ≡ false = search rules in
@@ -42,6 +42,6 @@ loop-low-preserved g c =
             low = omega arith;
             high = omega arith;
             before = held.before;
-            behind = fails_from before c.args.list.now c.requires middle x within c.index-list-middle.is test;
+            after = fails_from before c.args.list.now c.requires middle x within c.index-list-middle.is test;
           })
     ]

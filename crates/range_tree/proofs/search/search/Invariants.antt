@@ -14,6 +14,6 @@ invariant-loop-low g l = record {
   low : l.low ≤ l.high;
   high : l.high ≤ length l.list;
   before : (k : ℕ) (d : _) → k < l.low → comes_before (g.T.HasFirstItem.lead (get_or l.list k d)) l.item ≡ true;
-  behind : (k : ℕ) (d : _) → l.high ≤ k → k < length l.list →
+  after : (k : ℕ) (d : _) → l.high ≤ k → k < length l.list →
       comes_before (g.T.HasFirstItem.lead (get_or l.list k d)) l.item ≡ false;
 }

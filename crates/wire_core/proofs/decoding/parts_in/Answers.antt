@@ -4,7 +4,7 @@ use Rattle.std.proofs.lemmas.Result.{err_from_is_err_and}
 use Rattle.definitions.specs.Streams.{message_from}
 use Rattle.wire_core.specs.Readers.{next_at}
 use Rattle.wire_core.specs.Refused.{Fails}
-use Rattle.wire_core.proofs.Messages.{with_parts, parts_go_on, parts_fail, parts_end, parts_trail, read_behind}
+use Rattle.wire_core.proofs.Messages.{with_parts, parts_go_on, parts_fail, parts_end, parts_trail, read_after}
 use Rattle.wire_core.proofs.decoding.parts_in.Goals as goal
 
 pub returns-in_err-part-clause-exact : goal.returns-in_err-part-clause-exact
@@ -29,7 +29,7 @@ frames-preserved g c =
     omega (arith, length-append c.frames.parts.items (part ∷ [])) in
     let next : length c.args.bytes.now + 1 - length (c.frames.parts.items ++ part ∷ []) ≡ fuel - 1 = omega arith in
     let read =
-    read_behind g.F.Summary.profile c.len.result (length c.frames.parts.items) c.frames.rest.now
+    read_after g.F.Summary.profile c.len.result (length c.frames.parts.items) c.frames.rest.now
     c.take_part.new.bytes.now _ (Some part) count_is c.in_ok-part.ensures.read c.in-Some.is in
     let so_far =
     parts_go_on g.F.Summary.profile fuel c.frames.parts.items c.frames.rest.now part c.take_part.new.bytes.now _
@@ -50,7 +50,7 @@ returns-then-not-is_empty-clause-exact g c =
     let left = c.frames.invariant.left in
     parts_trail g.F.Summary.profile fuel c.frames.parts.items c.frames.rest.now c.take_part.new.bytes.now _
     (omega arith)
-    (read_behind g.F.Summary.profile c.len.result (length c.frames.parts.items) c.frames.rest.now
+    (read_after g.F.Summary.profile c.len.result (length c.frames.parts.items) c.frames.rest.now
     c.take_part.new.bytes.now _ None count_is c.in_ok-part.ensures.read c.in_default.is) (search rules)
     c.frames.invariant.so_far
 
@@ -60,6 +60,6 @@ returns-clause-exact g c =
     let count_is : c.len.result ≡ length c.frames.parts.items = search rules in
     let left = c.frames.invariant.left in
     parts_end g.F.Summary.profile fuel c.frames.parts.items c.frames.rest.now c.take_part.new.bytes.now _ (omega arith)
-    (read_behind g.F.Summary.profile c.len.result (length c.frames.parts.items) c.frames.rest.now
+    (read_after g.F.Summary.profile c.len.result (length c.frames.parts.items) c.frames.rest.now
     c.take_part.new.bytes.now _ None count_is c.in_ok-part.ensures.read c.in_default.is) (search rules)
     c.frames.invariant.so_far

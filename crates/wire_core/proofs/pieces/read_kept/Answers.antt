@@ -2,7 +2,7 @@ use Rattle.std.proofs.Common.{rules, ◌≡◌, ◌++◌, ◌-◌, length, drop,
 use Rattle.definitions.specs.Streams.{feed, stays}
 use Rattle.codec_laws.specs.Parts.{IsEndOf}
 use Rattle.wire_core.specs.Events.{event_values}
-use Rattle.wire_core.specs.Standings.{standing_of, behind}
+use Rattle.wire_core.specs.Standings.{standing_of, put_after}
 use Rattle.wire_core.proofs.Feeding.{slice_back, drop_kept, end_of_dropped, end_dropped}
 use Rattle.wire_core.proofs.pieces.read_kept.Goals as goal
 
@@ -18,10 +18,10 @@ returns-clause-joined g c =
     end_of_dropped grown left c.args.taken.now (subst (λ bytes. IsEndOf bytes left) slice c.in_ok-there.ensures.end) in
     let dropped = ap (λ n. drop (n - length left) grown) count ∙ end_dropped grown left end in
     λ back fits. ap
-    (λ bytes. behind (event_values c.args.out.now.items)
+    (λ bytes. put_after (event_values c.args.out.now.items)
     (feed g.F.Summary.profile (standing_of c.args.standing) (bytes ++ back))) (sym same)
     ∙ c.in_ok-there.ensures.joined back fits
-    ∙ ap (λ bytes. behind (event_values c.read_piece.new.out.items)
+    ∙ ap (λ bytes. put_after (event_values c.read_piece.new.out.items)
     (feed g.F.Summary.profile (standing_of c.in_ok-there.there) (bytes ++ back))) (sym dropped)
 
 pub returns-clause-rest : goal.returns-clause-rest

@@ -10,4 +10,4 @@ returns-in_err-take-clause-refused g c =
     (among-stops g.F.Summary.summary c.args.self.now c.loop-part.self c.take.new.self c.args.parts.now
     c.loop-part.part-index c.part-item.result f
     c.loop-part-test.true (sym c.part-item.is) c.loop-part.invariant c.requires.live
-    c.in_err-take.ensures.fault c.in_err-take.ensures.behind)
+    c.in_err-take.ensures.fault c.in_err-take.ensures.after)

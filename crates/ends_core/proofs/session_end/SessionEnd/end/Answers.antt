@@ -29,4 +29,4 @@ invariant_of-self g c =
       c.ends_keep_peers.ensures g.F.Summary.summary,
       c.parts_are_taken.ensures g.F.Summary.summary,
     )
-    c.end.ensures.answer c.end.ensures.behind c.end.ensures.memory c.self.invariant
+    c.end.ensures.answer c.end.ensures.after c.end.ensures.memory c.self.invariant

@@ -1,11 +1,11 @@
 use Rattle.std.proofs.Common.{◌≡◌, IfSome, IfNone, subst, rules}
 use Rattle.definitions.specs.Ends.{answer}
 use Rattle.ends_core.specs.EndStates.{HasNone}
-use Rattle.ends_core.specs.Turns.{IsJudged, answer_in, behind}
+use Rattle.ends_core.specs.Turns.{IsJudged, answer_in, end_after}
 use Rattle.ends_core.proofs.Short.{message-short}
 use Rattle.ends_core.proofs.Judging.{judged}
 use Rattle.ends_core.proofs.Standing.{able, countable, stands-received, keeps_firm, sends_few}
-use Rattle.ends_core.proofs.Parts_taken.{whole-answer, whole-behind, whole-memory}
+use Rattle.ends_core.proofs.Parts_taken.{whole-answer, whole-after, whole-memory}
 use Rattle.ends_core.specs.Roles.{start_of, most_of}
 use Rattle.ends_core.proofs.session_end.SessionEnd.receive.Goals as goal
 
@@ -40,14 +40,14 @@ returns-clause-answer g c =
     (c.parts_are_taken.ensures g.F.Summary.summary)
     c.receive.ensures.answer)
 
-pub returns-clause-behind : goal.returns-clause-behind
-returns-clause-behind g c =
+pub returns-clause-after : goal.returns-clause-after
+returns-clause-after g c =
     subst (λ h. HasNone h → IfSome (answer_in c.receive.result)
-    (λ a. c.receive.new.self ≡ behind g.F.Summary.summary h c.args.message.now))
+    (λ a. c.receive.new.self ≡ end_after g.F.Summary.summary h c.args.message.now))
     c.self.view_is
-    (whole-behind g.F.Summary.summary c.self.inside.end c.receive.new.self c.args.message.now
+    (whole-after g.F.Summary.summary c.self.inside.end c.receive.new.self c.args.message.now
     (answer_in c.receive.result)
-    (c.parts_are_taken.ensures g.F.Summary.summary) c.receive.ensures.answer c.receive.ensures.behind)
+    (c.parts_are_taken.ensures g.F.Summary.summary) c.receive.ensures.answer c.receive.ensures.after)
 
 pub returns-clause-memory : goal.returns-clause-memory
 returns-clause-memory g c =
@@ -63,7 +63,7 @@ invariant_of-self g c =
       c.ends_keep_peers.ensures g.F.Summary.summary,
       c.parts_are_taken.ensures g.F.Summary.summary,
     )
-    c.parts.ensures.message.parts c.receive.ensures.answer c.receive.ensures.behind c.receive.ensures.memory
+    c.parts.ensures.message.parts c.receive.ensures.answer c.receive.ensures.after c.receive.ensures.memory
     c.self.invariant
 
 pub returns-clause-judged : goal.returns-clause-judged

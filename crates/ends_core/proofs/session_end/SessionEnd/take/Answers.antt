@@ -19,4 +19,4 @@ invariant_of-self g c =
       c.ends_keep_peers.ensures g.F.Summary.summary,
       c.parts_are_taken.ensures g.F.Summary.summary,
     )
-    c.range.ensures.part c.take.ensures.fault c.take.ensures.behind c.take.ensures.memory c.self.invariant
+    c.range.ensures.part c.take.ensures.fault c.take.ensures.after c.take.ensures.memory c.self.invariant

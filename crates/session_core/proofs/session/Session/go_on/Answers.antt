@@ -15,11 +15,11 @@ returns-clause-pushes g c = λ s pushed taken live k.
       talk = c.hear_if.new.self;
       feed = c.args.feed;
       over = c.args.self.now.over;
-      begun = c.begun_behind-begun.result;
+      begun = c.bytes_begun-begun.result;
     } in
     let heard : HearsIf g.F.Summary.summary g.F.Summary.profile c.args.self.now.talk c.args.event c.hear_if.new.self =
     search rules in
-    let begun : c.begun_behind-begun.result ≡ begun_after c.args.event c.args.self.now.begun (length c.args.piece.now) =
+    let begun : c.bytes_begun-begun.result ≡ begun_after c.args.event c.args.self.now.begun (length c.args.piece.now) =
     search rules in
     let after = piece-heard g.F.Summary.summary g.F.Summary.profile laws s c.args.self.now d c.args.event
     c.args.piece.now pushed taken live (ap is_open c.requires.open) c.requires.bytes heard refl begun c.requires.fed k

@@ -2,7 +2,7 @@ use Rattle.std.proofs.Common.{rules, ◌≡◌, [], ◌++◌, Ok, Err, take, ref
 use Rattle.definitions.specs.Items.{IsBytes}
 use Rattle.definitions.specs.Streams.{feed, stays}
 use Rattle.wire_core.specs.Events.{event_values}
-use Rattle.wire_core.specs.Standings.{is_over, behind}
+use Rattle.wire_core.specs.Standings.{is_over, put_after}
 use Rattle.wire_core.specs.Feeds.{fed_into}
 use Rattle.wire_core.specs.Nexts.{TakesNext}
 use Rattle.wire_core.proofs.Nexts.{IsShare, shared, next_is, next_taken, next_refused, joined_next}
@@ -44,7 +44,7 @@ returns-clause-next g c =
     let next =
     next_is g.F.Summary.profile (c.next_is_exact.ensures g.F.Summary.profile g.met.F.Summary.real) old.standing old.kept
     c.args.piece.now taken kept c.are_bytes-2.ensures read share (is_over old.standing) refl in
-    let fed : behind [] (feed g.F.Summary.profile old.standing (old.kept ++ take taken c.args.piece.now))
+    let fed : put_after [] (feed g.F.Summary.profile old.standing (old.kept ++ take taken c.args.piece.now))
     ≡ fed_into (event_values c.read.new.out.items) c.read.new.self = search (rules, c.in_ok-read.ensures.fed) in
     next_taken g.F.Summary.profile old c.read.new.self c.args.piece.now taken c.read.new.out.items
     c.pop.new.self.items c.pop.result

@@ -2,15 +2,15 @@ use Rattle.std.proofs.Common.{refl, inr}
 use Rattle.std.specs.Arc.{arc_value}
 use Rattle.definitions.specs.Engines.{responding}
 use Rattle.peer_threads.specs.declared.stop.Stop.TheVariants as stops
-use Rattle.peer_threads.specs.Outcomes.{Behind, traffic_behind, seen, peer_at}
+use Rattle.peer_threads.specs.Outcomes.{After, traffic_after, seen, peer_at}
 use Rattle.peer_threads.proofs.Endings.{speaks, stopped-anyhow}
 use Rattle.peer_threads.proofs.Origins.{on-nothing}
 use Rattle.peer_threads.proofs.Serving.{untold, unopened, serves, speaks-stopped, stops-poor, came-first}
-use Rattle.peer_threads.proofs.engines.serve_behind.Goals as goal
+use Rattle.peer_threads.proofs.engines.serve_after.Goals as goal
 
 pub returns-in-Err-clause-view : goal.returns-in-Err-clause-view
 returns-in-Err-clause-view g c =
-    let t = traffic_behind c.args.hello.bytes (g.R.Read.remaining c.args.connection.now.reader.inner)
+    let t = traffic_after c.args.hello.bytes (g.R.Read.remaining c.args.connection.now.reader.inner)
     (g.R.Read.remaining c.first_message.new.connection.reader.inner)
     (g.W.Write.contents c.args.connection.now.writer.inner)
     (g.W.Write.contents c.first_message.new.connection.writer.inner) in
@@ -31,7 +31,7 @@ pub returns-in-Err-clause-bytes : goal.returns-in-Err-clause-bytes
 returns-in-Err-clause-bytes g c =
     let v = c.args.seat.now.view in
     let p = peer_at (arc_value c.args.shared.now.accepted.now) v in
-    let t = traffic_behind c.args.hello.bytes (g.R.Read.remaining c.args.connection.now.reader.inner)
+    let t = traffic_after c.args.hello.bytes (g.R.Read.remaining c.args.connection.now.reader.inner)
     (g.R.Read.remaining c.first_message.new.connection.reader.inner)
     (g.W.Write.contents c.args.connection.now.writer.inner)
     (g.W.Write.contents c.first_message.new.connection.writer.inner) in
@@ -54,14 +54,14 @@ returns-in-Ok-pin-clause-bytes g c =
     c.in-Ok-pin.pin
     _ _ _ c.respond.result
     c.in-Ok-pin.ensures.pin c.of-host.ensures
-    (c.respond.ensures.bytes (Behind c.args.hello.bytes (g.R.Read.remaining c.args.connection.now.reader.inner))
+    (c.respond.ensures.bytes (After c.args.hello.bytes (g.R.Read.remaining c.args.connection.now.reader.inner))
     (g.W.Write.contents c.args.connection.now.writer.inner) met.1) c.sides_keep_bounds.ensures.responder
 
 pub returns-in-Err-pin-clause-bytes : goal.returns-in-Err-pin-clause-bytes
 returns-in-Err-pin-clause-bytes g c =
     let found = c.pin.new.seat.view in
     let p = peer_at (arc_value c.args.shared.now.accepted.now) found in
-    let t = traffic_behind c.args.hello.bytes (g.R.Read.remaining c.args.connection.now.reader.inner)
+    let t = traffic_after c.args.hello.bytes (g.R.Read.remaining c.args.connection.now.reader.inner)
     (g.R.Read.remaining c.first_message.new.connection.reader.inner)
     (g.W.Write.contents c.args.connection.now.writer.inner)
     (g.W.Write.contents c.first_message.new.connection.writer.inner) in

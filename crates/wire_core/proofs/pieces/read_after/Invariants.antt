@@ -1,15 +1,15 @@
 use Rattle.std.proofs.Common.{◌≡◌, ◌≤◌, ◌++◌, length, take, drop}
 use Rattle.definitions.specs.Streams.{feed, stays}
 use Rattle.wire_core.specs.Events.{event_values}
-use Rattle.wire_core.specs.Standings.{standing_of, behind}
-use Rattle.wire_core.proofs.pieces.read_behind.Given as goal
+use Rattle.wire_core.specs.Standings.{standing_of, put_after}
+use Rattle.wire_core.proofs.pieces.read_after.Given as goal
 
 -- the events so far, in front of those of the kept bytes and the rest of the piece, are all
 abbrev pub invariant-pieces : goal.invariant-pieces
 invariant-pieces g l = record {
-  so_far : behind (event_values l.out.items)
+  so_far : put_after (event_values l.out.items)
       (feed g.F.Summary.profile (standing_of l.there) (drop l.taken l.kept.items ++ l.rest))
-      ≡ behind (event_values l.initial.out.items)
+      ≡ put_after (event_values l.initial.out.items)
       (feed g.F.Summary.profile (standing_of l.fn.standing) (l.initial.kept.items ++ l.piece));
   read : feed g.F.Summary.profile (standing_of l.there) (drop l.taken l.kept.items)
       ≡ stays (standing_of l.there) (drop l.taken l.kept.items);

@@ -2,9 +2,9 @@ use Rattle.std.proofs.Common.{◌≡◌, ◌++◌, drop, sym, ap, ◌∙◌, app
 use Rattle.std.proofs.lemmas.List.{take-append-drop}
 use Rattle.definitions.specs.Streams.{feed}
 use Rattle.wire_core.specs.Events.{event_values}
-use Rattle.wire_core.specs.Standings.{standing_of, behind}
+use Rattle.wire_core.specs.Standings.{standing_of, put_after}
 use Rattle.wire_core.proofs.Feeding.{before_both}
-use Rattle.wire_core.proofs.pieces.read_behind.Goals as goal
+use Rattle.wire_core.proofs.pieces.read_after.Goals as goal
 
 pub pieces-preserved : goal.pieces-preserved
 pieces-preserved g c =
@@ -16,7 +16,7 @@ pieces-preserved g c =
     record {
       so_far = sym (c.in_ok-there.ensures.joined back c.are_bytes.ensures)
           ∙ ap
-          (λ bytes. behind (event_values c.pieces.out.items)
+          (λ bytes. put_after (event_values c.pieces.out.items)
           (feed g.F.Summary.profile (standing_of c.pieces.there) bytes)) (append_assoc live front back
           ∙ ap (λ bytes. live ++ bytes) rest)
           ∙ c.pieces.invariant.so_far;
