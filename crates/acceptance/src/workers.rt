@@ -145,8 +145,8 @@ struct Kept {
     left_out: u64,
 }
 
-/// Compares what became of learned items. As many connections are to be closed as there were, and none before its session
-/// was settled.
+/// Compares what became of learned items. As many connections are to be closed as there were, and none before its
+/// session was settled.
 fn keeps(rt: &impl Abort, peers: &Peers<'_>, wanted: Kept) {
     let gate = peers.gate;
     let told = Kept {

@@ -196,8 +196,8 @@ range_told {B} k Good Next goes bytes =
     as_told (along (bind_assoc (lower_at bytes) (λ x. upper_at x.1 >>= bounds x) k)
     (after_reading lower_field (λ x. (upper_at x.1 >>= bounds x) >>= k) GoodUpper (FaultyUpper Next)
     (λ x rest right. along (bind_assoc (upper_at rest) (bounds (x, rest)) k)
-    (after_reading upper_field (λ y. bounds (x, rest) y >>= k) (λ y more z. IsTrue (is_below x y) × Good (span x y) more z)
-    (FaultyBounds Next x)
+    (after_reading upper_field (λ y. bounds (x, rest) y >>= k)
+    (λ y more z. IsTrue (is_below x y) × Good (span x y) more z) (FaultyBounds Next x)
     (λ y more right2. tested (is_below x y) empty_range (span x y, more) k _ _
     (λ below. goes (span x y) more (record { lower = right; upper = right2; rises = below }))) rest))
     bytes))

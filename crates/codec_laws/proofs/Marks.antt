@@ -20,8 +20,8 @@ use Rattle.definitions.proofs.Lemmas.{bit_at-zero, bytes_eq-Decides, div-eq_of_l
 use Rattle.definitions.proofs.Lemmas.{leb_tells, eqb-true, eqb-false, mod-pow-add, pow_pos}
 use Rattle.definitions.specs.Reading.{◌>>=◌}
 use Rattle.codec_laws.specs.Parts.{PaddingIsLast}
-use Rattle.codec_laws.proofs.Fields.{Tells, along, as_told, after_reading, bind_assoc, tested, true_is_false, bytes_field}
-use Rattle.codec_laws.proofs.Fields.{count_field, byte_fits}
+use Rattle.codec_laws.proofs.Fields.{Tells, along, as_told, after_reading, bind_assoc, tested, true_is_false}
+use Rattle.codec_laws.proofs.Fields.{bytes_field, count_field, byte_fits}
 
 -- ==== Marks, and the list after them
 

@@ -1,7 +1,7 @@
 -- What is learned takes bytes.
--- An item is a byte or more, and its text has its length before it: two bytes or more. What a List teaches of the other
--- side are some of its items, and what an Answer teaches are its items. So no part teaches more than half its bytes, and
--- no messages more than half of theirs.
+-- An item is a byte or more, and its text has its length before it: two bytes or more. What a List teaches of the
+-- other side are some of its items, and what an Answer teaches are its items. So no part teaches more than half its
+-- bytes, and no messages more than half of theirs.
 -- docs/LAWS.md: What is learned takes bytes.
 use Rattle.std.proofs.Common.{List, length, arith, ◌≤◌, not, [], ◌∷◌, ◌*◌, length-append}
 use Rattle.std.specs.Prelude.{flat_map}
@@ -59,7 +59,8 @@ message_paid P A M h = omega (
 )
 
 texts_paid : {F : Type 0} (P : Profile F) (A : List Item) (owns Ms : List (Message F)) →
-    AllByRecursion (IsMessage P) Ms → 2 * length (Knowledge.theirs (knows A owns Ms)) ≤ length (flat_map (message_text P) Ms)
+    AllByRecursion (IsMessage P) Ms →
+    2 * length (Knowledge.theirs (knows A owns Ms)) ≤ length (flat_map (message_text P) Ms)
 texts_paid P A [] Ms h = omega arith
 texts_paid P A (own ∷ owns) [] h = omega arith
 texts_paid P A (own ∷ owns) (M ∷ Ms) h = omega (

@@ -5,8 +5,8 @@
 --     FeedsJoin P, FeedsRest P                   readings of streams in steps, and what is kept between them
 --     HeardAreMessages P, SessionsAreHeard P     what a stream spells
 --     LearnedIsPaid P                            items that are learned, and the bytes that they came in
-use Rattle.std.specs.Prelude.{◌≡◌, ◌↔◌, ℕ, ◌+◌, ◌*◌, ◌/◌, ◌%◌, ◌^◌, ◌<◌, ◌≤◌, ◌==◌, ◌||◌, Bool, List, ◌++◌, length, None}
-use Rattle.std.specs.Prelude.{bytes_eq, slice_index}
+use Rattle.std.specs.Prelude.{◌≡◌, ◌↔◌, ℕ, ◌+◌, ◌*◌, ◌/◌, ◌%◌, ◌^◌, ◌<◌, ◌≤◌, ◌==◌, ◌||◌, Bool, List, ◌++◌, length}
+use Rattle.std.specs.Prelude.{None, bytes_eq, slice_index}
 use Rattle.std.specs.List.{AllByRecursion}
 use Rattle.definitions.specs.Items.{IsBytes, Item, IsItem, Range, IsRange}
 use Rattle.definitions.specs.Sets.{IsSet, items_in}

@@ -1,6 +1,6 @@
 -- What is said in turn: all that is due is taken of one side and pushed to the other.
-use Rattle.std.proofs.Common.{◌≡◌, ℕ, ◌+◌, ◌≤◌, ◌∙◌, true, List, [], ◌++◌, length, length-append, refl, sum, take, sym, subst, ap, arith}
-use Rattle.std.proofs.Common.{append_assoc, append-nil}
+use Rattle.std.proofs.Common.{◌≡◌, ℕ, ◌+◌, ◌≤◌, ◌∙◌, true, List, [], ◌++◌, length, length-append, refl, sum, take, sym}
+use Rattle.std.proofs.Common.{subst, ap, arith, append_assoc, append-nil}
 use Rattle.std.proofs.Math.Seq.{take-length}
 use Rattle.definitions.specs.Fingerprints.{Summary}
 use Rattle.definitions.specs.Items.{Item}

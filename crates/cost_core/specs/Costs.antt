@@ -1,6 +1,7 @@
 -- What a session costs.
 --     Trades S W c pushed taken d    whatever was pushed and taken before, these bytes were pushed and taken after it
---     Talks S W c d e f bytes        two sides speak: what is taken of one is pushed to the other, and bytes is all of it
+--     Talks S W c d e f bytes        two sides speak: what is taken of one is pushed to the other, and bytes is all of
+--                                    it
 --     Costs S W a theirs ours turns messages     the cost of a session between two sides of an accepted strategy
 --     CostsSample S W a sample turns messages    the same, for two sets of at most as many items as the sample's
 use Rattle.std.specs.Prelude.{◌≡◌, ℕ, ◌+◌, ◌≤◌, true, List, ◌++◌, length, sum}

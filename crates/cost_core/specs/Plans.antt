@@ -1,8 +1,8 @@
 -- A strategy that is planned.
 --     IsAcceptedText text a      the text of a strategy that is accepted
 --     AreOf sample theirs ours   two sets of at most as many items as the sample's
---     IsPlanned sample p         its text is accepted, and its bytes and messages are those of a session under it between
---                                two such sets
+--     IsPlanned sample p         its text is accepted, and its bytes and messages are those of a session under it
+--                                between two such sets
 use Rattle.std.specs.Prelude.{◌≡◌, ℕ, ◌≤◌, List, length, sum, Ok, string_bytes}
 use Rattle.definitions.specs.Fingerprints.{two_lanes}
 use Rattle.definitions.specs.Items.{Item}

@@ -37,7 +37,8 @@ pub use Rattle.definitions.specs.Reading.{number_at, range_at, sum_at, text_at, 
 pub use Rattle.definitions.specs.Refusals.{answer_repeats, bad_kind, empty_range, frame_length, gap, item_order}
 pub use Rattle.definitions.specs.Refusals.{item_outside, mark_count, mark_padding, misplaced, missing_answer, stall}
 pub use Rattle.definitions.specs.Refusals.{too_many_parts, trailing, truncated}
-pub use Rattle.definitions.specs.Replies.{Peer, answer_to, bound_at, cutup, differing, inner_cuts, reply, reply_to, sum_of}
+pub use Rattle.definitions.specs.Replies.{Peer, answer_to, bound_at, cutup, differing, inner_cuts, reply, reply_to}
+pub use Rattle.definitions.specs.Replies.{sum_of}
 pub use Rattle.definitions.specs.Sets.{IsSet, add_item, difference, has, items_in, set_of, symmetric_difference, union}
 pub use Rattle.definitions.specs.Strategies.{At_items, Bounds, Short}
 pub use Rattle.definitions.specs.Strategies.{Act, IsAct, IsTable, List_items, Peel, Row, Split, Table, act, act_in}

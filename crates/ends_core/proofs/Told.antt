@@ -157,7 +157,8 @@ pub part-taken : {F : Type 0} (S : Summary F) (P : Peer) (x y : Placement F) (c 
     taken_at y e ≡ taken S (record { peer = P; stage = stage_at x; sent = 0; learned = nothing }) (taken_at x d) p
 part-taken S P x y c d e listed p none apart at answered placed_at fine added =
     let learns : told P.items listed p ≡ learn P.items (own_of (stage_at x)) (p ∷ []) =
-    told-alike P.items listed (due x.own c) p answered ∙ told-learned P.items x.own c p (subst (λ o. Apart (open_ranges o)) (own-at x none) apart)
+    told-alike P.items listed (due x.own c) p answered
+    ∙ told-learned P.items x.own c p (subst (λ o. Apart (open_ranges o)) (own-at x none) apart)
     (ap (λ z. refusal (next z p)) (sym at) ∙ fine) ∙ ap (λ o. learn P.items o (p ∷ [])) (sym (own-at x none)) in
     let t = taken S (record { peer = P; stage = stage_at x; sent = 0; learned = nothing }) (taken_at x d) p in
     (λ i. taken_at (placed_at i) (added i)) ∙

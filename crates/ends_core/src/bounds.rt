@@ -10,8 +10,8 @@ ghost use Rattle.ends_core.specs.Sides.{KeepsBounds, peer_of};
 use digest_core::Summary;
 use strategy_check::Accepted;
 
-/// A side that goes by an accepted strategy sends few messages and short lists, and learns just what the messages that it
-/// takes say, whatever the bytes are that it gets.
+/// A side that goes by an accepted strategy sends few messages and short lists, and learns just what the messages that
+/// it takes say, whatever the bytes are that it gets.
 pub fn sides_keep_bounds<F: Summary>(accepted: &Accepted)
     ensures initiator { (items : List Item) (bytes : List ℕ) → IsSet items → IsBytes bytes →
         length items ≤ accepted.now.table.cap →

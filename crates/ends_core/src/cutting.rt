@@ -1,6 +1,7 @@
 //! Cutting a range.
 
-ghost use Rattle.std.specs.Prelude.{◌≡◌, ◌+◌, ◌-◌, ◌∷◌, ◌<◌, ◌≤◌, ℕ, List, length, map, take, drop, [], IfOk, IsTrue, IsFalse};
+ghost use Rattle.std.specs.Prelude.{◌≡◌, ◌+◌, ◌-◌, ◌∷◌, ◌<◌, ◌≤◌, ℕ, List, length, map, take, drop, [], IfOk, IsTrue};
+ghost use Rattle.std.specs.Prelude.{IsFalse};
 ghost use Rattle.std.specs.List.{AllByRecursion};
 ghost use Rattle.definitions.specs.Items.{cut_range as cut, Rises, is_below, separator};
 ghost use Rattle.definitions.specs.Replies.{bound_at};

@@ -23,8 +23,8 @@ use store_core::RangeStore;
 use strategy_core::Strategy;
 use wire_core::Part;
 
-/// The list that an Answer answers, which was placed from where the cursor stood. Nothing is looked for where the part is
-/// another one.
+/// The list that an Answer answers, which was placed from where the cursor stood. Nothing is looked for where the part
+/// is another one.
 fn answered<'a, F: Summary>(place: &'a Place<F>, before: &Cursor, part: &Part<F>) -> &'a [Item]
     ensures { messages.is_open part.now ≡ false → result.now ≡ due place.now.own before.now }
 {

@@ -24,15 +24,16 @@ use Rattle.definitions.proofs.Lemmas.{cond_both, false≢true, and_parts, or_cas
 use Rattle.definitions.proofs.Lemmas.{All-every, All-append}
 use Rattle.laws.specs.Cutting.{CutsAreExact, TalksHaveRanges}
 use Rattle.rank_laws.proofs.Tables.{covers}
-use Rattle.laws.proofs.Placing.{rises_append, sums-cuts, Placed-from_accepted, opening_exact}
+use Rattle.laws.proofs.Placing.{rises_append, Placed-from_accepted, opening_exact}
+use Rattle.laws.proofs.OpenRanges.{sums-cuts}
 use Rattle.laws.proofs.Saying.{answers-All, after-peer}
 use Rattle.definitions.specs.Ends.{after, stage_fault}
 use Rattle.definitions.specs.Engines.{called, called_unless, calls}
 use Rattle.laws.specs.Hearing.{OwnIsShort}
-use Rattle.laws.proofs.Cuts.{ranges-IsWithin, IsWithin, length-items_in-le, ranges-rise, flat_map-ranges, peer_cuts}
-use Rattle.laws.proofs.Cuts.{peer_cutup, peer_cutup-AreCuts, peer_cutup-IsWithin, reply-each, reply-rises}
-use Rattle.laws.proofs.Cuts.{talk_from-All, length-items_in-le_all, slice_index-le, IsUnder, SumsUnder, reply-own}
-use Rattle.laws.proofs.Cuts.{reply-other, reply-no_sums, within-IsUnder, IsSumUnder}
+use Rattle.laws.proofs.Cuts.{ranges-IsWithin, IsWithin, length-items_in-le, ranges-rise, flat_map-ranges}
+use Rattle.laws.proofs.PeerCuts.{peer_cuts, peer_cutup, peer_cutup-AreCuts, peer_cutup-IsWithin, reply-each}
+use Rattle.laws.proofs.PeerCuts.{reply-rises, talk_from-All, length-items_in-le_all, slice_index-le, IsUnder, SumsUnder}
+use Rattle.laws.proofs.PeerCuts.{reply-own, reply-other, reply-no_sums, within-IsUnder, IsSumUnder}
 
 -- ==== What a cut is, and that honest ranges rise
 

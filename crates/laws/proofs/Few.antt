@@ -27,10 +27,11 @@ use Rattle.definitions.proofs.Lemmas.{All-append, All-every}
 use Rattle.rank_laws.proofs.Tables.{length-shares, widest-positive, length-le-sum, sum-shares_by, shares_by-positive}
 use Rattle.laws.proofs.Times.{when, times, times-append, times-filter, has-times, has-filter, times_le_one, times_below}
 use Rattle.laws.proofs.Times.{all_above}
-use Rattle.laws.proofs.Knowledge.{tally, in_open, tally-in_open, replies_are_honest, reply-in_open_le, contains-whole}
-use Rattle.laws.proofs.Knowledge.{items_in-whole}
+use Rattle.laws.proofs.Knowledge.{reply-in_open_le, contains-whole, items_in-whole}
+use Rattle.laws.proofs.Tallies.{tally, in_open, tally-in_open, replies_are_honest}
 use Rattle.laws.proofs.Runs.{peer_at-IsSet}
-use Rattle.laws.proofs.Cuts.{length-ranges_between, peer_cutup, reply_to_sum}
+use Rattle.laws.proofs.Cuts.{length-ranges_between}
+use Rattle.laws.proofs.PeerCuts.{peer_cutup, reply_to_sum}
 
 -- ---- sets are equal where their items are
 
@@ -259,7 +260,8 @@ by_items : (D : List Item) (Q : Peer) → ((X : Range) → length (items_in Q.it
     CutsFew D 1 Q
 by_items D Q holds = record {
   one = omega arith;
-  cuts = λ X some. omega (arith, length-cutup-items Q.table.bounds Q.items X Q.table (length (items_in Q.items X)), holds X);
+  cuts = λ X some. omega
+      (arith, length-cutup-items Q.table.bounds Q.items X Q.table (length (items_in Q.items X)), holds X);
 }
 
 HasDifference-both : (A B : List Item) → HasDifference (A ++ B) A B

@@ -16,8 +16,10 @@ use Rattle.definitions.proofs.Words.{and_then, learn, IsHonest, IsSettled, Ready
 use Rattle.definitions.proofs.Words.{StandsFirm, End, Fresh, Over, Spent, Stage, Waits, after, after_answer}
 use Rattle.definitions.proofs.Words.{answer_unless, gained, heard, initiator, responder}
 use Rattle.definitions.proofs.Lemmas.{cond_both, All-map}
-use Rattle.laws.proofs.Placing.{Placed-from_accepted, placed_are_apart, replies_are_apart, opening_exact}
-use Rattle.laws.proofs.Knowledge.{items_in-whole, replies_are_honest}
+use Rattle.laws.proofs.Placing.{Placed-from_accepted, opening_exact}
+use Rattle.laws.proofs.OpenRanges.{placed_are_apart, replies_are_apart}
+use Rattle.laws.proofs.Knowledge.{items_in-whole}
+use Rattle.laws.proofs.Tallies.{replies_are_honest}
 use Rattle.laws.proofs.Once.{learns_once}
 use Rattle.laws.proofs.Saying.{answer-cases, after-peer, answers-counted}
 use Rattle.laws.proofs.Ends.{parts_have_ranges}

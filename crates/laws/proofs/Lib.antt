@@ -1,6 +1,8 @@
 pub mod Times
 pub mod Cuts
+pub mod PeerCuts
 pub mod Placing
+pub mod OpenRanges
 pub mod Saying
 pub mod Learned
 pub mod Opens
@@ -10,6 +12,7 @@ pub mod Said
 pub mod GoingOn
 pub mod Ends
 pub mod Stops
+pub mod Tallies
 pub mod Knowledge
 pub mod Once
 pub mod Firm

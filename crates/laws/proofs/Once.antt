@@ -21,8 +21,10 @@ use Rattle.definitions.proofs.Lemmas.{false≢true, lt-ltb, ltb-true, ltb-false,
 use Rattle.definitions.proofs.Lemmas.{or_cases, same_item-eq, same_item-itself, same_range-eq, upto-below}
 use Rattle.laws.proofs.Times.{when, times, times-append, times-filter, has-times, times_le_one, IsDistinct-from_times}
 use Rattle.laws.proofs.Cuts.{spread, spread-ranges_between}
-use Rattle.laws.proofs.Knowledge.{tally, tally-append, in_sum, in_open, reply-in_open_le}
-use Rattle.laws.proofs.Placing.{sums-cuts, rises_append}
+use Rattle.laws.proofs.Knowledge.{reply-in_open_le}
+use Rattle.laws.proofs.Tallies.{tally, tally-append, in_sum, in_open}
+use Rattle.laws.proofs.Placing.{rises_append}
+use Rattle.laws.proofs.OpenRanges.{sums-cuts}
 use Rattle.laws.proofs.Ends.{parts_have_ranges}
 
 -- ---- items of a list

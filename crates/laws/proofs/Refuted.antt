@@ -10,8 +10,8 @@ use Rattle.std.proofs.Common.{◌≡◌, true, ap, ℕ, ◌≤◌, false, List, 
 use Rattle.std.specs.Prelude.{◌==◌}
 use Rattle.std.specs.List.Sorted.{IsStrictlySortedBy}
 use Rattle.definitions.proofs.Words.{IsNonDecreasing, IsExact, Lanes, same_lanes, two_lanes, counted_lanes, whole}
-use Rattle.definitions.proofs.Words.{IsSet, Sum, Message, Table, List_items, Split, At_items, list_only, Descends, Accepted, Peer}
-use Rattle.definitions.proofs.Words.{Ready}
+use Rattle.definitions.proofs.Words.{IsSet, Sum, Message, Table, List_items, Split, At_items, list_only, Descends}
+use Rattle.definitions.proofs.Words.{Accepted, Peer, Ready}
 use Rattle.definitions.proofs.Lemmas.{eq-eqb, and_from, false≢true}
 use Rattle.laws.specs.Weaker.{InitiatorStopsAnyhow, ResponderStopsAnyhow, ListsAreShortAnyhow, KnowledgeIsExactAnyhow}
 use Rattle.laws.specs.Weaker.{PartsAreFewAnyhow, count_summary, blind, wary}

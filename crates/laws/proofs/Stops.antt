@@ -19,7 +19,7 @@ use Rattle.definitions.specs.Engines.{called, called_unless, calls}
 use Rattle.definitions.specs.Refusals.{too_many_parts}
 use Rattle.laws.specs.Hearing.{OwnIsFew}
 use Rattle.definitions.proofs.Lemmas.{cond_both, length-append}
-use Rattle.laws.proofs.Cuts.{SumsUnder, IsSumUnder}
+use Rattle.laws.proofs.PeerCuts.{SumsUnder, IsSumUnder}
 use Rattle.laws.proofs.Opens.{All-open}
 use Rattle.definitions.specs.Messages.{open_parts}
 use Rattle.laws.proofs.Saying.{answer-cases, after-peer}

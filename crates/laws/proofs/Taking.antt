@@ -130,7 +130,8 @@ ended-all {F} S e M =
 pub after-all : {F : Type 0} (S : Summary F) (e : End F) (M : Message F) (a : Answer F) →
     after_ended e (taken_all S e M) a ≡ after_answer e M a
 after-all S e M (Replies N) =
-    ap (λ k. record e { stage = stage_after_reply N; sent = e.sent + 1; learned = and_then e.learned k }) (learned-all S e M)
+    ap (λ k. record e { stage = stage_after_reply N; sent = e.sent + 1; learned = and_then e.learned k })
+    (learned-all S e M)
 after-all S e M Ends = ap (λ k. record e { stage = Over; learned = and_then e.learned k }) (learned-all S e M)
 after-all S e M (Refuses code) = refl
 

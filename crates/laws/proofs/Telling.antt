@@ -12,8 +12,8 @@ use Rattle.std.proofs.Common.{Option, Some, None, unwrap_or, if◌then◌else◌
 use Rattle.std.specs.Prelude.{IfSome, option_map, ◌==◌}
 use Rattle.definitions.proofs.Words.{Summary, Message, has_open, Peer, reply, sender, talk, nothing, initiator_knows}
 use Rattle.definitions.proofs.Words.{responder_knows, End, Ends, Fresh, Over, Replies, Spent, Stage, Waits, after}
-use Rattle.definitions.proofs.Words.{after_answer, answer, is_live, stage_after_reply, initiator_at, responder_at, World}
-use Rattle.definitions.proofs.Words.{Session, peer_at, initiator_of, responder_of}
+use Rattle.definitions.proofs.Words.{after_answer, answer, is_live, stage_after_reply, initiator_at, responder_at}
+use Rattle.definitions.proofs.Words.{World, Session, peer_at, initiator_of, responder_of}
 use Rattle.definitions.proofs.Lemmas.{eqb-true, length-take-le}
 use Rattle.std.proofs.lemmas.Option.{slice_get_cases, slice_get_past, slice_get_within}
 use Rattle.laws.specs.Growing.{is_even}
@@ -61,7 +61,8 @@ both_ended : {F : Type 0} (S : Summary F) (b : Bool) (d e j t : End F) (M : Mess
 both_ended S true d e j t M spoke heard p q = grind (arith, ap over p, ap over q, spoke, heard)
 both_ended S false d e j t M spoke heard p q = grind (arith, ap over p, ap over q, spoke, heard)
 
-stage_over : {F : Type 0} (e : End F) (M : Message F) → e.stage ≡ stage_after_reply M → has_open M ≡ false → over e ≡ true
+stage_over : {F : Type 0} (e : End F) (M : Message F) → e.stage ≡ stage_after_reply M → has_open M ≡ false →
+    over e ≡ true
 stage_over e M h o = ap is_over h ∙ ap (λ b. is_over (if b then Waits (open_parts M) else Over)) o
 
 -- ---- while there is a next message, its hearer is not over

@@ -18,8 +18,9 @@ use Rattle.definitions.proofs.Words.{own_of, reply_or_refuse, responder, respond
 use Rattle.definitions.proofs.Lemmas.{le-leb, take_all, All-map}
 use Rattle.laws.specs.Growing.{is_even}
 use Rattle.laws.specs.Turns.{TalksBegin, TalksGoOn, EndsHear, EndsTalk}
-use Rattle.laws.proofs.Cuts.{reply-rises}
-use Rattle.laws.proofs.Placing.{placing_is_exact, replies_are_placed, replies_are_apart, open-rise}
+use Rattle.laws.proofs.PeerCuts.{reply-rises}
+use Rattle.laws.proofs.Placing.{placing_is_exact}
+use Rattle.laws.proofs.OpenRanges.{replies_are_placed, replies_are_apart, open-rise}
 use Rattle.laws.proofs.Knowledge.{some_is, then_nothing, then_then, of_first-cons, begun-cons, heard-cons, turned}
 use Rattle.laws.proofs.Few.{messages_fit}
 use Rattle.laws.proofs.Saying.{ends_hear_on}

@@ -49,7 +49,8 @@ pub record TakeTurns {F : Type 0} (S : Summary F) (I R : Peer) (k : ℕ) : Type 
   -- each message that was made was sent
   pub sent : (initiator_at S I R k).sent + (responder_at S I R k).sent ≡ length (talk S I R (k + 1))
   -- the next message, if there is one, is what its speaker sent last
-  pub spoken : (M : Message F) → slice_get (talk S I R (k + 1)) k ≡ Some M → (speaker_at S I R k).stage ≡ stage_after_reply M
+  pub spoken : (M : Message F) → slice_get (talk S I R (k + 1)) k ≡ Some M →
+      (speaker_at S I R k).stage ≡ stage_after_reply M
   -- and is not refused
   pub answered : (M : Message F) → slice_get (talk S I R (k + 1)) k ≡ Some M →
       answer S (hearer_at S I R k) M ≡ (if has_open M then Replies (reply S (sender I R (k + 1)) M) else Ends)

@@ -221,8 +221,8 @@ pub fn frames_say<F>()
     ensures { (S : Summary F) → FramesSay S }
 {}
 
-/// While a side goes on, one event more is heard and its reply is said; after a stop nothing more is, wherever the bytes
-/// are cut.
+/// While a side goes on, one event more is heard and its reply is said; after a stop nothing more is, wherever the
+/// bytes are cut.
 /// docs/LAWS.md: *What is said at each frame*.
 pub fn hearings_go_on<F>()
     ensures { (S : Summary F) → HearingsGoOn S }
@@ -295,7 +295,7 @@ pub fn talks_have_ranges<F>()
 
 /// What each message of a talk opens does not overlap.
 /// docs/LAWS.md: *Open ranges do not overlap*.
-#[tactic(auto, using(crate::proofs::Placing::talks_are_apart))]
+#[tactic(auto, using(crate::proofs::OpenRanges::talks_are_apart))]
 pub fn talks_are_apart<F>()
     ensures { (S : Summary F) → TalksAreApart S }
 {}

@@ -184,7 +184,8 @@ impl<D: Device> LineFile<D> {
         Ok(())
     }
 
-    /// Cuts off what may follow the whole lines, as `write` does before it writes: after a failure nothing torn is left.
+    /// Cuts off what may follow the whole lines, as `write` does before it writes: after a failure nothing torn is
+    /// left.
     pub fn heal(&mut self) -> Result<(), Unwritten>
         ensures kept { (base told : List ℕ) → IsKept D.held base told self.old → IsKept D.held base told self.new }
         ensures waits { self.new.waiting ≡ self.old.waiting }

@@ -226,8 +226,8 @@ module _ {F : Type 0} (S : Summary F) (W : Profile F) where
   -- ---- after the pin
 
   -- the hello was written, and no more: memory runs out, or the table of sessions refuses
-  stops-after : (T : ℕ → ℕ → Type 0) (P : Peer) (b : InboxState) (o : OutboxState) (t : Traffic) (r : Seen) (broken : Bool)
-      (es : List (Event F)) (stop : Stop) (x : Exchanged W b o t es) →
+  stops-after : (T : ℕ → ℕ → Type 0) (P : Peer) (b : InboxState) (o : OutboxState) (t : Traffic) (r : Seen)
+      (broken : Bool) (es : List (Event F)) (stop : Stop) (x : Exchanged W b o t es) →
       (WroteUpTo S W (responding P) o t x.bytes → WhyStopped S W T (responding P) o t r broken x.bytes stop) →
       Stopped S W T (responding P) o t r broken stop
   stops-after T P b o t r broken es stop x why = record {

@@ -1,6 +1,6 @@
 -- The port of an address, and whether it is too high, by what the code finds.
-use Rattle.std.proofs.Common.{◌≡◌, ◌∙◌, ◌<◌, ◌^◌, ℕ, suc, List, [], ◌∷◌, ◌++◌, length, take, drop, get_or, refl, sym, ap}
-use Rattle.std.proofs.Common.{Bool, true, false, Some, None, Result, Ok, Err, take-append-drop, subst, arith}
+use Rattle.std.proofs.Common.{◌≡◌, ◌∙◌, ◌<◌, ◌^◌, ℕ, suc, List, [], ◌∷◌, ◌++◌, length, take, drop, get_or, refl, sym}
+use Rattle.std.proofs.Common.{ap, Bool, true, false, Some, None, Result, Ok, Err, take-append-drop, subst, arith}
 use Rattle.std.specs.Prelude.{◌≢◌, nat_lt, is_err}
 use Rattle.std.specs.Char.{is_ascii_digit, digit_value}
 use Rattle.std.specs.List.{list_all}

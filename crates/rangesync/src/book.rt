@@ -72,8 +72,8 @@ impl<'a, D: Device> Book<'a, D> {
         }
     }
 
-    /// Puts a text of whole lines after those that wait, and writes them all. Where that failed before, it is tried once
-    /// more, and after that only by `write`.
+    /// Puts a text of whole lines after those that wait, and writes them all. Where that failed before, it is tried
+    /// once more, and after that only by `write`.
     pub fn put<E: Write>(&mut self, err: &mut E, text: Result<String, AllocError>) {
         if self.tell(text).is_err() {
             self.left_out = self.left_out.saturating_add(1);

@@ -118,7 +118,8 @@ where
     report
 }
 
-/// Serves by workers until the source has no more, and sees that what is written to files is tried again, if anything is.
+/// Serves by workers until the source has no more, and sees that what is written to files is tried again, if anything
+/// is.
 fn work_and_write<R, E: Write + Drop + Send>(
     rt: &R,
     shared: &Shared<'_, Tree, Desk<'_, '_, R, E>>,

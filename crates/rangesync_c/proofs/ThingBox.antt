@@ -1,6 +1,6 @@
 -- A handle owns what a loose box of a `Thing` owns, and both own what a box of it does: the pointer, the handle of the
--- allocator, the value that the pointer points to and the right to free it. What the pointer's type names is no part of that,
--- since the machine has one type of pointer. So a handle is read as a box too, by the steps of the crate `loose`.
+-- allocator, the value that the pointer points to and the right to free it. What the pointer's type names is no part of
+-- that, since the machine has one type of pointer. So a handle is read as a box too, by the steps of the crate `loose`.
 use mathlib.Core.List.{[]}
 use mir.Syntax.{Sym, impl, tnil, dnil}
 use denote.RattleType.{RattleType}

@@ -162,7 +162,8 @@ fn item_between(thing: &Thing, lower: &[u8], upper: &[u8], place: usize) -> Resu
 }
 
 /// Writes the item at this place, from 0, of those that a version has from the lower bound on and before the upper one,
-/// and says its length. 98 where there is none, or no room for it: 64 bytes are enough; 72 and 73 as `rs_version_count_in`.
+/// and says its length. 98 where there is none, or no room for it: 64 bytes are enough; 72 and 73 as
+/// `rs_version_count_in`.
 #[unsafe(no_mangle)]
 pub extern "C" fn rs_version_item_in(
     version: &mut Held,

@@ -1,3 +1,4 @@
 pub mod Tables
 pub mod Checks
 pub mod Staircases
+pub mod StepsAlone

@@ -108,7 +108,7 @@ pub fn check_with_accepts()
 
 /// A loop that keeps the steps alone finds the staircase too, or the least count that is stuck.
 /// docs/LAWS.md: *By the steps alone*.
-#[tactic(auto, using(crate::proofs::Staircases::loop_finds))]
+#[tactic(auto, using(crate::proofs::StepsAlone::loop_finds))]
 pub fn loop_finds()
     ensures { (T : Table) → find_steps T ≡ found T }
 {}
@@ -122,7 +122,7 @@ pub fn rows_cover()
 
 /// Ranks and their staircase come back from one another.
 /// docs/LAWS.md: *Ranks as a staircase*.
-#[tactic(auto, using(crate::proofs::Staircases::ranks_by_staircase, crate::proofs::Staircases::staircase_ranks_by))]
+#[tactic(auto, using(crate::proofs::StepsAlone::ranks_by_staircase, crate::proofs::StepsAlone::staircase_ranks_by))]
 pub fn staircase_and_back()
     ensures ranks { (f : List ℕ) (cap : ℕ) → IsGradual f → length f ≡ cap + 1 → ranks_by (staircase f) cap ≡ f }
     ensures steps { (steps : List ℕ) (cap : ℕ) → IsStaircase steps → slice_index steps (length steps - 1) ≡ cap →
@@ -137,14 +137,14 @@ pub fn ranks_are_read()
 
 /// A list of numbers without a fault is a staircase.
 /// docs/LAWS.md: *Ranks as a staircase*.
-#[tactic(auto, using(crate::proofs::Staircases::no_steps_fault, crate::proofs::Staircases::staircase_no_fault))]
+#[tactic(auto, using(crate::proofs::StepsAlone::no_steps_fault, crate::proofs::StepsAlone::staircase_no_fault))]
 pub fn steps_are_tested()
     ensures { (steps : List ℕ) → (steps_fault steps ≡ None) ↔ IsStaircase steps }
 {}
 
 /// The first count that is too deep is the one after an entry of the staircase.
 /// docs/LAWS.md: *By the steps alone*.
-#[tactic(auto, using(crate::proofs::Staircases::too_deep_by_steps, crate::proofs::Staircases::least_too_deep))]
+#[tactic(auto, using(crate::proofs::StepsAlone::too_deep_by_steps, crate::proofs::StepsAlone::least_too_deep))]
 pub fn deep_by_the_steps()
     ensures brought { (T : Table) (steps : List ℕ) → IsStrictlyIncreasing steps →
         deep_fault T (ranks_by steps T.cap) ≡ deep_by_steps T.cap T.rounds steps }
@@ -154,7 +154,7 @@ pub fn deep_by_the_steps()
 
 /// The check needs the loop's steps alone.
 /// docs/LAWS.md: *By the steps alone*.
-#[tactic(auto, using(crate::proofs::Staircases::check_by_the_steps))]
+#[tactic(auto, using(crate::proofs::StepsAlone::check_by_the_steps))]
 pub fn check_by_the_steps()
     ensures { (T : Table) → check_fault T ≡ check_by_steps T }
 {}

@@ -1,3 +1,4 @@
 pub mod Heard
 pub mod Steps
+pub mod Calls
 pub mod Waiting

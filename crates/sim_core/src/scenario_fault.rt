@@ -21,8 +21,8 @@ pub enum ScenarioFault {
     /// A node has more different items than its cap.
     #[error("there are more different items than the cap")]
     TooManyItems,
-    /// `node` is no array of 2 to 16 tables, `steps` no array of at most 100,000 texts, or `items` no array of texts that
-    /// are each 1 to 64 bytes in hex.
+    /// `node` is no array of 2 to 16 tables, `steps` no array of at most 100,000 texts, or `items` no array of texts
+    /// that are each 1 to 64 bytes in hex.
     #[error("the nodes, the steps or the items are none")]
     BadScenario,
     /// A text spells no step.

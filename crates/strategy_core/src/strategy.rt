@@ -31,10 +31,21 @@ impl Model for Strategy {
 
     ghost Value = { strategies.Table };
 
-    ghost view = { λ a. record { cap = a.cap; limit = a.limit; rounds = a.rounds; rows = a.rows.items; bounds = bounds_of a.bounds } };
+    ghost view = { λ a. record {
+      cap = a.cap;
+      limit = a.limit;
+      rounds = a.rounds;
+      rows = a.rows.items;
+      bounds = bounds_of a.bounds;
+    } };
 
-    ghost invariant = { λ a. strategies.IsTable
-        (record { cap = a.cap; limit = a.limit; rounds = a.rounds; rows = a.rows.items; bounds = bounds_of a.bounds }) };
+    ghost invariant = { λ a. strategies.IsTable (record {
+      cap = a.cap;
+      limit = a.limit;
+      rounds = a.rounds;
+      rows = a.rows.items;
+      bounds = bounds_of a.bounds;
+    }) };
 }
 
 impl Strategy {

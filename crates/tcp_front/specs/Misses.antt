@@ -1,7 +1,8 @@
 -- Why an accept made no connection, by the number that Linux gives.
 --     scarce, gone       no descriptor or no memory for one more; the connection or its network is gone
 --     miss_for code
-use Rattle.std.specs.Prelude.{ℕ, ℤ, pos, negsuc, Bool, false, ◌||◌, nat_eq, if◌then◌else◌, List, [], ◌∷◌, Option, Some, None}
+use Rattle.std.specs.Prelude.{ℕ, ℤ, pos, negsuc, Bool, false, ◌||◌, nat_eq, if◌then◌else◌, List, [], ◌∷◌, Option, Some}
+use Rattle.std.specs.Prelude.{None}
 use Rattle.tcp_front.specs.declared.trying.Miss.{Miss}
 use Rattle.tcp_front.specs.declared.trying.Miss.TheVariants.{Gone, NoRoom, Failed}
 

@@ -7,7 +7,8 @@ use Rattle.std.proofs.Common.{refl, sym, ap, subst, ◌∙◌, arith, length-set
 use Rattle.std.proofs.Common.{cond, ◌==◌, eq-eqb, ne_eqb}
 use Rattle.std.specs.List.{AllByRecursion}
 use Rattle.std.proofs.lemmas.List.{append_cancel_left, length-append}
-use Rattle.std.proofs.lemmas.List.Elements.{filter-append, All-nil, All-cons, All-append, Contains-push, Contains-append_left}
+use Rattle.std.proofs.lemmas.List.Elements.{filter-append, All-nil, All-cons, All-append, Contains-push}
+use Rattle.std.proofs.lemmas.List.Elements.{Contains-append_left}
 use mathlib.Core.Option as maybe
 use mathlib.Core.Option.{some, none}
 use lib.ListN.{get_elem?}
@@ -18,7 +19,8 @@ use Rattle.definitions.specs.Histories.{History}
 use Rattle.version_log.specs.Logs.{LogState, IsLog, with_writer_given}
 use Rattle.version_lock.specs.declared.view.View.{View}
 use Rattle.version_lock.specs.Beginnings.{Entry, StartsWith, entries_by}
-use Rattle.version_lock.specs.Lawful.{Table, Free, Held, Fits, Apart, OneLog, Blank, Shared, HasLog, Lawful, EnteredBy, total}
+use Rattle.version_lock.specs.Lawful.{Table, Free, Held, Fits, Apart, OneLog, Blank, Shared, HasLog, Lawful, EnteredBy}
+use Rattle.version_lock.specs.Lawful.{total}
 use Rattle.version_lock.specs.Views.{HasWhole, MadeBy, found, with_entry, waited, holding, gave_back, added, enrolled}
 use Rattle.version_lock.specs.Steps.{Mine, Tried, GaveBack, Added, Enrolled}
 use Rattle.version_lock.proofs.Counts.{content_fits}

@@ -1,6 +1,7 @@
 -- The rule holds when a lock is made, and no seat but a note can come from nothing: the first has the whole, so that
 -- none is left for a second one.
-use Rattle.std.proofs.Common.{◌≡◌, ℕ, ◌-◌, ◌<◌, ◌≤◌, false, inl, suc, zero, [], ◌∷◌, Some, refl, sym, subst, append-nil, arith}
+use Rattle.std.proofs.Common.{◌≡◌, ℕ, ◌-◌, ◌<◌, ◌≤◌, false, inl, suc, zero, [], ◌∷◌, Some, refl, sym, subst, append-nil}
+use Rattle.std.proofs.Common.{arith}
 use Rattle.std.proofs.lemmas.List.Elements.{All-nil}
 use mathlib.Core.Option as maybe
 use Rattle.atomic_table.specs.Table.{Enters, Arrives}

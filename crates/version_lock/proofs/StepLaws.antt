@@ -9,7 +9,8 @@ use Rattle.version_log.specs.Logs.{LogState, IsLog, with_writer_given}
 use Rattle.version_lock.specs.declared.view.View.{View}
 use Rattle.version_lock.specs.Beginnings.{Entry}
 use Rattle.version_lock.specs.Lawful.{Table, Free, Held, HasLog, EnteredBy}
-use Rattle.version_lock.specs.Tables.{IsSeat, taken, missed, given_back, one_longer, numbered, split_table, joined_table}
+use Rattle.version_lock.specs.Tables.{IsSeat, taken, missed, given_back, one_longer, numbered, split_table}
+use Rattle.version_lock.specs.Tables.{joined_table}
 use Rattle.version_lock.specs.Views.{found, with_entry, added, split_from, split_off, joined_with, spent, note_of}
 use Rattle.version_lock.specs.Views.{noted}
 use Rattle.version_lock.proofs.Keeps.{found_log, has_taken, has_missed, has_back, has_added, has_numbered}

@@ -4,7 +4,8 @@
 --     split_from, split_off, joined_with, spent          a seat that is split, and two that are joined
 --     note_of, noted                                     a note that is split off a seat, and joined to one
 --     HasWhole v, MadeBy v h next_writer                 no other seat is left, and what the log has then
-use Rattle.std.specs.Prelude.{◌≡◌, ℕ, zero, suc, ◌+◌, ◌-◌, true, false, [], ◌∷◌, ◌++◌, length, Some, None, All, Contains}
+use Rattle.std.specs.Prelude.{◌≡◌, ℕ, zero, suc, ◌+◌, ◌-◌, true, false, [], ◌∷◌, ◌++◌, length, Some, None, All}
+use Rattle.std.specs.Prelude.{Contains}
 use Rattle.definitions.specs.Histories.{History}
 use Rattle.version_log.specs.Logs.{LogState, log}
 use Rattle.version_lock.specs.declared.view.View.{View}

@@ -27,14 +27,16 @@ IsReached P events parts rest before first bytes = (fuel : ℕ) → length bytes
 abbrev pub IsStep : {F : Type 0} → Profile F → List (wire.Event F) → ℕ → List ℕ → List (wire.Event F) → Progress →
     List ℕ → Type 0
 IsStep {F} P events parts rest more_events step after = (more : ℕ → List ℕ → Fed F) →
-    put_after events (fed_by (event_at P Stream parts rest) parts rest more) ≡ put_after more_events (goes_on step after more)
+    put_after events (fed_by (event_at P Stream parts rest) parts rest more)
+    ≡ put_after more_events (goes_on step after more)
 
 a_step : {F : Type 0} (P : Profile F) (events : List (wire.Event F)) (parts : ℕ) (rest : List ℕ)
     (more_events : List (wire.Event F)) (step : Progress) (after : List ℕ) →
     IsStep P events parts rest more_events step after →
     (fuel : ℕ) → length rest ≤ fuel →
     (left : ℕ) × (length rest ≤ left + 1)
-    × (put_after events (feed_frames P fuel parts rest) ≡ put_after more_events (goes_on step after (feed_frames P left)))
+    × (put_after events (feed_frames P fuel parts rest)
+    ≡ put_after more_events (goes_on step after (feed_frames P left)))
 a_step P events parts [] more_events step after h zero le = (0, omega arith, h (feed_frames P 0))
 a_step P events parts (b ∷ rest) more_events step after h zero le = absurd (omega arith)
 a_step P events parts rest more_events step after h (suc fuel) le = (fuel, omega arith, h (feed_frames P fuel))
@@ -96,7 +98,8 @@ pub piece_joined : {F : Type 0} (P : Profile F) → FeedsJoin P →
     (s : Standing) (kept : List ℕ) → IsBytes front →
     put_after before (feed P from front) ≡ fed_as out s kept →
     (back : List ℕ) → IsBytes back →
-    put_after before (feed P from (front ++ back)) ≡ put_after (event_values out) (feed P (standing_of s) (kept ++ back))
+    put_after before (feed P from (front ++ back))
+    ≡ put_after (event_values out) (feed P (standing_of s) (kept ++ back))
 piece_joined {F} P join before from front out s kept fits h back more =
     let a : Fed F = feed P from front in
     let p = fed_parts before a out s kept h in

@@ -74,7 +74,8 @@ fn hear_at<F: Summary>(
     requires taken { IsTaken (answer F.summary (responder_from node.now second.old).end message.now) }
     ensures turn { IfOk result (λ turn. answer_of turn ≡ answer F.summary (responder_from node.now second.old).end
         message.now) }
-    ensures end { OnOk result (second.new ≡ Some (end_after F.summary (responder_from node.now second.old) message.now)) }
+    ensures end { OnOk result
+        (second.new ≡ Some (end_after F.summary (responder_from node.now second.old) message.now)) }
     ensures memory { OnErr result (second.new ≡ second.old) }
 {
     if let Some(end) = second {

@@ -17,8 +17,13 @@ abbrev pub halves : Act
 halves = Split (1 ∷ 1 ∷ [])
 
 abbrev pub binary : ℕ → ℕ → Table
-binary cap rounds =
-    record { cap = cap; limit = 1; rounds = rounds; rows = row_upto 1 List_items ∷ row_upto cap halves ∷ []; bounds = At_items }
+binary cap rounds = record {
+  cap = cap;
+  limit = 1;
+  rounds = rounds;
+  rows = row_upto 1 List_items ∷ row_upto cap halves ∷ [];
+  bounds = At_items;
+}
 
 abbrev pub binary8 : Table
 binary8 = binary 8 3
@@ -27,8 +32,13 @@ abbrev pub binary16 : Table
 binary16 = binary 16 4
 
 abbrev pub peeling : ℕ → ℕ → Table
-peeling rounds front =
-    record { cap = 10; limit = 3; rounds = rounds; rows = row_upto 3 List_items ∷ row_upto 10 (Peel front) ∷ []; bounds = At_items }
+peeling rounds front = record {
+  cap = 10;
+  limit = 3;
+  rounds = rounds;
+  rows = row_upto 3 List_items ∷ row_upto 10 (Peel front) ∷ [];
+  bounds = At_items;
+}
 
 -- the one-byte items of a text
 abbrev pub letters : List ℕ → List Item

@@ -159,5 +159,6 @@ list_lengths [] = []
 list_lengths (Listing X items ∷ M) = length items ∷ list_lengths M
 list_lengths (p ∷ M) = list_lengths M
 
-pub short_lists : list_all (λ n. nat_le n 1) (flat_map (λ k. list_lengths (end_after k).1) (0 ∷ 1 ∷ 2 ∷ 3 ∷ 4 ∷ [])) ≡ true
+pub short_lists : list_all (λ n. nat_le n 1) (flat_map (λ k. list_lengths (end_after k).1) (0 ∷ 1 ∷ 2 ∷ 3 ∷ 4 ∷ []))
+    ≡ true
 short_lists = refl

@@ -19,7 +19,13 @@ pub binary_eight_steps_by_the_loop : find_steps binary8 ≡ Ok (1 ∷ 2 ∷ 4 �
 binary_eight_steps_by_the_loop = refl
 
 abbrev pub skewed : Table
-skewed = record { cap = 8; limit = 1; rounds = 3; rows = row_upto 1 List_items ∷ row_upto 8 (Split (1 ∷ 15 ∷ [])) ∷ []; bounds = At_items }
+skewed = record {
+  cap = 8;
+  limit = 1;
+  rounds = 3;
+  rows = row_upto 1 List_items ∷ row_upto 8 (Split (1 ∷ 15 ∷ [])) ∷ [];
+  bounds = At_items;
+}
 
 pub a_share_of_all : check_fault skewed ≡ Some (No_descent 2)
 a_share_of_all = refl
@@ -34,8 +40,13 @@ pub one_round_too_few_by_the_loop : check_by_steps (binary 8 2) ≡ Some (Too_de
 one_round_too_few_by_the_loop = refl
 
 abbrev pub long_lists : Table
-long_lists =
-    record { cap = 8; limit = 3; rounds = 3; rows = row_upto 4 List_items ∷ row_upto 8 (Split (1 ∷ 1024 ∷ [])) ∷ []; bounds = At_items }
+long_lists = record {
+  cap = 8;
+  limit = 3;
+  rounds = 3;
+  rows = row_upto 4 List_items ∷ row_upto 8 (Split (1 ∷ 1024 ∷ [])) ∷ [];
+  bounds = At_items;
+}
 
 pub list_row_above_the_limit : check_fault long_lists ≡ Some (List_too_long 4)
 list_row_above_the_limit = refl
@@ -62,8 +73,13 @@ pub a_list_row_keeps_its_rank_steps : found list_between ≡ Ok (1 ∷ 2 ∷ 4 �
 a_list_row_keeps_its_rank_steps = refl
 
 abbrev pub one_to_three : Table
-one_to_three =
-    record { cap = 8; limit = 1; rounds = 9; rows = row_upto 1 List_items ∷ row_upto 8 (Split (1 ∷ 3 ∷ [])) ∷ []; bounds = At_items }
+one_to_three = record {
+  cap = 8;
+  limit = 1;
+  rounds = 9;
+  rows = row_upto 1 List_items ∷ row_upto 8 (Split (1 ∷ 3 ∷ [])) ∷ [];
+  bounds = At_items;
+}
 
 pub no_descent_at_two : check_fault one_to_three ≡ Some (No_descent 2)
 no_descent_at_two = refl
@@ -71,7 +87,8 @@ no_descent_at_two = refl
 pub though_eight_has_two_shares : shares one_to_three 8 ≡ 2 ∷ 6 ∷ []
 though_eight_has_two_shares = refl
 
-pub a_split_of_nothing : check_fault (record { cap = 4; limit = 0; rounds = 9; rows = row_upto 4 halves ∷ []; bounds = At_items })
+pub a_split_of_nothing :
+    check_fault (record { cap = 4; limit = 0; rounds = 9; rows = row_upto 4 halves ∷ []; bounds = At_items })
     ≡ Some (No_descent 0)
 a_split_of_nothing = refl
 
@@ -104,7 +121,8 @@ steps_that_do_not_rise = refl
 -- shares
 
 abbrev pub three_one_one : Table
-three_one_one = record { cap = 8; limit = 0; rounds = 9; rows = row_upto 8 (Split (3 ∷ 1 ∷ 1 ∷ [])) ∷ []; bounds = At_items }
+three_one_one =
+    record { cap = 8; limit = 0; rounds = 9; rows = row_upto 8 (Split (3 ∷ 1 ∷ 1 ∷ [])) ∷ []; bounds = At_items }
 
 -- the sums of ever more shares
 abbrev pub cut_at : ℕ → ℕ → ℕ

@@ -1,4 +1,4 @@
-use Rattle.laws.proofs.Cuts.{peer_cutup-rises}
+use Rattle.laws.proofs.PeerCuts.{peer_cutup-rises}
 use Rattle.laws.proofs.cuts_have_ranges.Goals as goal
 
 pub returns : goal.returns

@@ -1,4 +1,4 @@
-use Rattle.laws.proofs.Placing.{placed_are_apart}
+use Rattle.laws.proofs.OpenRanges.{placed_are_apart}
 use Rattle.laws.proofs.placed_are_apart.Goals as goal
 
 pub returns : goal.returns

@@ -1,4 +1,4 @@
-use Rattle.laws.proofs.Placing.{replies_are_apart}
+use Rattle.laws.proofs.OpenRanges.{replies_are_apart}
 use Rattle.laws.proofs.replies_are_apart.Goals as goal
 
 pub returns : goal.returns

@@ -1,4 +1,4 @@
-use Rattle.laws.proofs.Knowledge.{replies_are_honest}
+use Rattle.laws.proofs.Tallies.{replies_are_honest}
 use Rattle.laws.proofs.replies_are_honest.Goals as goal
 
 pub returns : goal.returns

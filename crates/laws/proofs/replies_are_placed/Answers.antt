@@ -1,4 +1,4 @@
-use Rattle.laws.proofs.Placing.{replies_are_placed}
+use Rattle.laws.proofs.OpenRanges.{replies_are_placed}
 use Rattle.laws.proofs.replies_are_placed.Goals as goal
 
 pub returns : goal.returns

@@ -1,4 +1,4 @@
-use Rattle.rank_laws.proofs.Staircases.{least_ranks_are_gradual}
+use Rattle.rank_laws.proofs.StepsAlone.{least_ranks_are_gradual}
 use Rattle.rank_laws.proofs.least_ranks_are_gradual.Goals as goal
 
 pub returns : goal.returns

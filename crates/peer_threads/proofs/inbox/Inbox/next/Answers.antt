@@ -1,5 +1,5 @@
-use Rattle.std.proofs.Common.{rules, ◌≡◌, ◌<◌, ◌≤◌, ◌∷◌, ◌++◌, [], ℕ, List, length, Option, None, IfNone, IfSome, Ok, Err}
-use Rattle.std.proofs.Common.{sym, ap, ◌∙◌, subst, arith}
+use Rattle.std.proofs.Common.{rules, ◌≡◌, ◌<◌, ◌≤◌, ◌∷◌, ◌++◌, [], ℕ, List, length, Option, None, IfNone, IfSome, Ok}
+use Rattle.std.proofs.Common.{Err, sym, ap, ◌∙◌, subst, arith}
 use Rattle.wire_core.specs.Events.{event_value}
 use Rattle.wire_core.specs.Feeds.{StreamState, fault_at}
 use Rattle.wire_core.specs.declared.event.Event as declared

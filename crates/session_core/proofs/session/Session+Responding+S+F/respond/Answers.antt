@@ -3,7 +3,7 @@ use Rattle.std.specs.Arc.{arc_value}
 use Rattle.definitions.specs.Engines.{Speaker, responding}
 use Rattle.ends_core.specs.Sides.{peer_of}
 use Rattle.session_core.specs.Sessions.{SessionState, Begins}
-use Rattle.session_core.proofs.Steps.{begins-opened}
+use Rattle.session_core.proofs.Calls.{begins-opened}
 use Rattle.session_core.proofs.session.Session+Responding+S+F.respond.Goals as goal
 
 pub returns-clause-begins : goal.returns-clause-begins

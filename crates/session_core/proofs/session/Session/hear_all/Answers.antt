@@ -2,7 +2,7 @@ use Rattle.std.proofs.Common.{rules, ◌≡◌, ◌-◌, ℕ, true, List, length
 use Rattle.std.proofs.lemmas.List.{length-drop}
 use Rattle.std.proofs.Math.Seq.{take-length}
 use Rattle.session_core.specs.Sessions.{SessionState, Pushes, is_open}
-use Rattle.session_core.proofs.Steps.{pushes-on, pushes-so}
+use Rattle.session_core.proofs.Calls.{pushes-on, pushes-so}
 use Rattle.session_core.proofs.session.Session.hear_all.Goals as goal
 
 pub loop-taken-preserved : goal.loop-taken-preserved

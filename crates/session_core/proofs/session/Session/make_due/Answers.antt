@@ -1,7 +1,7 @@
 use Rattle.std.proofs.Common.{rules, ◌≡◌, [], true, OnOk, subst, sym}
 use Rattle.session_core.specs.Outboxes.{outbox_state}
 use Rattle.session_core.specs.Sessions.{SessionState, Takes, due, with_outbox, with_talk}
-use Rattle.session_core.proofs.Steps.{all-made}
+use Rattle.session_core.proofs.Calls.{all-made}
 use Rattle.session_core.proofs.session.Session.make_due.Goals as goal
 
 pub returns-clause-knows : goal.returns-clause-knows

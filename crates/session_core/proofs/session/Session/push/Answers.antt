@@ -1,6 +1,7 @@
 use Rattle.std.proofs.Common.{rules, ◌≡◌, false, ◌∙◌}
 use Rattle.session_core.specs.Sessions.{is_open}
-use Rattle.session_core.proofs.Steps.{Laws, push-ends}
+use Rattle.session_core.proofs.Steps.{Laws}
+use Rattle.session_core.proofs.Calls.{push-ends}
 use Rattle.session_core.proofs.session.Session.push.Goals as goal
 
 pub returns-clause-pushes : goal.returns-clause-pushes

@@ -1,5 +1,5 @@
 use Rattle.std.proofs.Common.{rules}
-use Rattle.session_core.proofs.Steps.{takes-some}
+use Rattle.session_core.proofs.Calls.{takes-some}
 use Rattle.session_core.proofs.session.Session.take.Goals as goal
 
 pub returns-clause-takes : goal.returns-clause-takes
