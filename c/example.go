@@ -1,5 +1,6 @@
 // A session with `rangesync serve`: example-go STRATEGY ITEMS ADDRESS, by the paths of a strategy file and of an item
-// file in hex. Prints the items that `sync` prints, in the order learned.
+// file in hex. Prints the items that `sync` prints, in the order learned. It calls the library itself, and no more of
+// it than it needs; the package in the folder go has all of it, with Go's types.
 package main
 
 /*

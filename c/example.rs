@@ -1,5 +1,6 @@
 //! A session with `rangesync serve`: example-rust STRATEGY ITEMS ADDRESS, by the paths of a strategy file and of an
-//! item file in hex. Prints the items that `sync` prints, in the order learned.
+//! item file in hex. Prints the items that `sync` prints, in the order learned. It calls the library itself, and
+//! no more of it than it needs; the crate in the folder rust/rangesync has all of it, with safe types.
 
 use std::io::{Read, Write};
 use std::net::TcpStream;

@@ -1,10 +1,11 @@
 """Builds the Python package of rangesync for pip (PEP 517), with no other package.
 
     pip install ./python
+    pip wheel ./python
 
 A wheel has the package rangesync and the library librangesync.so side by side. The library is what the repository's
 c/build makes: the released one if it is of these sources, or else one that is proved and built here, which takes about
-as long as ./build.
+as long as ./build. The variable RANGESYNC_LIBRARY names another file.
 """
 
 from __future__ import annotations
@@ -12,6 +13,7 @@ from __future__ import annotations
 import base64
 import hashlib
 import io
+import os
 import re
 import subprocess
 import tarfile
@@ -22,8 +24,9 @@ from pathlib import Path
 HERE = Path(__file__).resolve().parent
 TOP = HERE.parent
 LIBRARY = TOP / "c" / "out" / "librangesync.so"
-# The library is built for this platform alone, and needs nothing of one Python.
-TAG = "py3-none-linux_x86_64"
+# The library needs nothing of one Python. Of the system it needs memmove, memcpy, memset, malloc, realloc and free, as
+# glibc has had them since 2.14; 2.17 is the first one that tools for wheels know by its number.
+TAG = "py3-none-manylinux_2_17_x86_64"
 SOURCES = ["README.md", "backend.py", "checks.py", "more_checks.py", "pyproject.toml"]
 LICENSES = ["LICENSE-APACHE", "LICENSE-MIT"]
 
@@ -54,7 +57,10 @@ def need_repository() -> None:
 
 
 def library() -> bytes:
-    """The library's bytes."""
+    """The bytes of the library that RANGESYNC_LIBRARY names, or of the one that c/build makes."""
+    named = os.environ.get("RANGESYNC_LIBRARY")
+    if named:
+        return Path(named).read_bytes()
     ended = subprocess.run([str(TOP / "c" / "build"), "--no-examples"], check=False).returncode
     if ended != 0:
         raise SystemExit(f"c/build ended with status {ended}; the lines above say why")

@@ -1,0 +1,3 @@
+module rangesync
+
+go 1.19
