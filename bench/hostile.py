@@ -18,14 +18,6 @@ import wire
 SILENT, FLOODS, CUTS = 4, 2, 2
 
 
-def inside(lower, upper, number):
-    """Items of 7 bytes in the range, rising: 5 of its middle, and a number."""
-    low = int.from_bytes(lower[:8].ljust(8, b"\0"), "big")
-    high = 2**64 if upper is None else int.from_bytes(upper[:8].ljust(8, b"\0"), "big")
-    front = ((low + high) // 2).to_bytes(8, "big")[:5]
-    return [front + each.to_bytes(2, "big") for each in range(number)]
-
-
 def silent(address, items, source):
     peer = wire.Peer(address)
     peer.input.read(1)
@@ -40,7 +32,7 @@ def floods(address, items, source):
         peer.bytes(4)
         for body in peer.message():
             lower, upper = wire.bounds(body)
-            peer.send(wire.list_frame(lower, upper, inside(lower, upper, 60_000)))
+            peer.send(wire.list_frame(lower, upper, wire.inside(lower, upper, 60_000)))
         peer.send(wire.END)
         peer.message()
     finally:

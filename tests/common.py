@@ -189,13 +189,18 @@ def wait_until(is_so: Callable[[], bool], seconds: float = SECONDS) -> bool:
 NUMBERS = itertools.count(1)
 
 
-class Server:
-    """`serve` as it runs, at a port that the system chooses."""
+ANY_PORT = "127.0.0.1:0"
 
-    def __init__(self, folder: Path, words: Sequence[str], table: Path, before: Sequence[str] = ()) -> None:
+
+class Server:
+    """`serve` as it runs, at this address, whose port 0 is one that the system chooses."""
+
+    def __init__(
+        self, folder: Path, words: Sequence[str], table: Path, before: Sequence[str] = (), address: str = ANY_PORT
+    ) -> None:
         number = next(NUMBERS)
         self.out, self.err = folder / f"{number}.out", folder / f"{number}.err"
-        call = [*before, PROGRAM, "serve", "--table", str(table), "--addr", "127.0.0.1:0", *words]
+        call = [*before, PROGRAM, "serve", "--table", str(table), "--addr", address, *words]
         with self.out.open("wb") as out, self.err.open("wb") as err:
             self.process = subprocess.Popen(call, cwd=folder, stdin=subprocess.DEVNULL, stdout=out, stderr=err)
 
@@ -236,9 +241,11 @@ class Server:
 
 
 @contextlib.contextmanager
-def serve(folder: Path, *words: str, table: Path = EIGHT, before: Sequence[str] = ()) -> Iterator[Server]:
+def serve(
+    folder: Path, *words: str, table: Path = EIGHT, before: Sequence[str] = (), address: str = ANY_PORT
+) -> Iterator[Server]:
     """A server that is ended in any case."""
-    server = Server(folder, words, table, before)
+    server = Server(folder, words, table, before, address)
     try:
         yield server
     finally:

@@ -1,11 +1,10 @@
 -- What holds of the two values of a key before and after a call holds of whatever values the key is said to have.
-use Rattle.std.proofs.Common.{◌≡◌, ℕ, Bool, true, false, ◌-◌, ◌<◌, Option, Some, None, Result, Ok, Err, OnOk}
-use Rattle.std.proofs.Common.{inl, inr, refl, sym, ap, ◌∙◌, subst}
+use Rattle.std.proofs.Common.{◌≡◌, ℕ, Bool, ◌-◌, Option, Some, None, Result, Ok, Err, OnOk}
+use Rattle.std.proofs.Common.{sym, ap, ◌∙◌, subst}
 use Rattle.std.specs.Prelude.{nat_lt, ◌||◌}
-use Rattle.std.proofs.lemmas.Bool.{ltb-true}
 use Rattle.slab.specs.Slab.{Slab, get}
 use Rattle.hub_core.specs.Peers.{PeerState}
-use Rattle.hub_core.specs.Hubs.{IsLate}
+use Rattle.hub_core.specs.Hubs.{is_late}
 use Rattle.hub_core.specs.declared.limits.HubLimits.{HubLimits}
 
 abbrev or_else : {T : Type 0} → T → Option T → T
@@ -28,15 +27,14 @@ module _ {T : Type 0} (R : T → T → Type 0) where
   of-both-ok (Ok n) old new key p q before after holds = of-both old new key p q before after holds
   of-both-ok (Err e) old new key p q before after holds = tt
 
+module _ {T : Type 0} (R : T → Type 0) where
+  pub of-one : (slab : Slab T) (key : ℕ) (q : T) → get slab key ≡ Some q → R q → (y : T) → get slab key ≡ Some y → R y
+  of-one slab key q there holds y is = subst (λ (z : T). R z) (same-some q y (sym there ∙ is)) holds
+
 -- a test of both times
-pub late-by : {I O : Type 0} (limits : HubLimits) (now : ℕ) (p : PeerState I O) (h a : ℕ) → h ≡ p.heard →
-    a ≡ p.arrived → (nat_lt limits.idle (now - h) || nat_lt limits.whole (now - a)) ≡ true → IsLate limits now p
-late-by limits now p h a heard arrived late =
-    by (nat_lt limits.idle (now - h)) (nat_lt limits.whole (now - a)) refl refl late
-  where
-    by : (t u : Bool) → nat_lt limits.idle (now - h) ≡ t → nat_lt limits.whole (now - a) ≡ u → (t || u) ≡ true →
-        IsLate limits now p
-    by true u is was holds = inl (subst (λ (n : ℕ). limits.idle < now - n) heard (ltb-true limits.idle (now - h) is))
-    by false true is was holds =
-        inr (subst (λ (n : ℕ). limits.whole < now - n) arrived (ltb-true limits.whole (now - a) was))
-    by false false is was holds = absurd (cc)
+pub late-is : {I O : Type 0} (limits : HubLimits) (now : ℕ) (p : PeerState I O) (h a : ℕ) (b : Bool) → h ≡ p.heard →
+    a ≡ p.arrived → b ≡ (nat_lt limits.idle (now - h) || nat_lt limits.whole (now - a)) → is_late limits now p ≡ b
+late-is limits now p h a b heard arrived is =
+    sym (is
+    ∙ ap (λ (n : ℕ). nat_lt limits.idle (now - n) || nat_lt limits.whole (now - a)) heard
+    ∙ ap (λ (n : ℕ). nat_lt limits.idle (now - p.heard) || nat_lt limits.whole (now - n)) arrived)

@@ -73,6 +73,17 @@ greets-said g h unread held holds piece n came said is appended = record {
 pub counted-take : (n : ℕ) (piece : List ℕ) → n ≤ length piece → n < 2 ^ 64 → n ≡ count_of (take n piece)
 counted-take n piece within small = omega (arith, length-take-le n piece within)
 
+-- and so many bytes more have come
+pub came-long : (n : ℕ) (piece before after : List ℕ) → n ≤ length piece → after ≡ before ++ take n piece →
+    length after ≡ length before + n
+came-long n piece before after within is =
+    omega (
+      arith,
+      ap (λ (l : List ℕ). length l) is,
+      length-append before (take n piece),
+      length-take-le n piece within,
+    )
+
 -- ---- one call after another
 
 pub greets-trans : (g h i : GreetingState) (unread mid left held half holds : Option (List ℕ))

@@ -4,6 +4,7 @@
 -- number of 64 bits, and there are fewer keys than 2^64, so the sum is below 2^128.
 use Rattle.std.proofs.Common.{◌≡◌, ℕ, ◌+◌, ◌-◌, ◌*◌, ◌^◌, ◌≤◌, ◌<◌, length, Option, Some, None}
 use Rattle.std.proofs.Common.{sym, ap, ◌∙◌, arith}
+use Rattle.std.specs.Prelude.{IfNone}
 use Rattle.slab.specs.Slab.{Slab, get, Updates}
 use Rattle.hub_core.specs.Totals.{in_slot}
 use Rattle.hub_core.specs.Peers.{PeerState, kept_in}
@@ -52,6 +53,12 @@ module _ {I O : Type 0} where
 
   pub held-none : (s : Slab (PeerState I O)) → ((key : ℕ) → get s key ≡ None) → held_by s ≡ 0
   held-none s none = total-none kept s.slots none
+
+  -- where a walk finds no peer, nothing is held
+  pub none-within : (r : Option ℕ) (s : Slab (PeerState I O)) (most : ℕ) → IfNone r ((key : ℕ) → get s key ≡ None) →
+      IfNone r (held_by s ≤ most)
+  none-within None s most none = omega (arith, held-none s none)
+  none-within (Some key) s most none = tt
 
   pub held-fits : (s : Slab (PeerState I O)) (n : ℕ) → length s.slots ≤ n → n < 2 ^ 64 →
       held_by s ≤ (2 ^ 64 - 1) * (2 ^ 64 - 1)

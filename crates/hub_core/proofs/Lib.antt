@@ -1,6 +1,7 @@
 pub mod Greeted
 pub mod Opened
 pub mod Peering
+pub mod Leaving
 pub mod Totals
 pub mod Held
 pub mod Walks

@@ -2,14 +2,17 @@
 --
 -- A greeting's call keeps what it read and writes of our hello, which is what is known of a greeting; a session's call
 -- says the same by `Moves`. So each is a record `Goes` of the stage.
-use Rattle.std.proofs.Common.{◌≡◌, ℕ, false, List, [], ◌++◌, Option, Result, Ok, Err, Box, Global}
+use Rattle.std.proofs.Common.{◌≡◌, ℕ, ◌+◌, false, List, [], ◌++◌, length, Option, Result, Ok, Err, Box, Global}
 use Rattle.std.proofs.Common.{refl, sym, ap, ◌∙◌, subst}
 use Rattle.std.specs.Box.{with_value}
 use Rattle.std.specs.declared.io.traits.Take.{Take}
 use Rattle.definitions.specs.Fingerprints.{Lanes, two_lanes, counted_lanes}
 use Rattle.definitions.specs.Fingerprints as prints
+use Rattle.definitions.specs.Ranks.{rank_by}
 use Rattle.definitions.specs.Wire.{two_lane_profile, counted_profile}
 use Rattle.definitions.specs.Engines.{responding}
+use Rattle.definitions.specs.Worlds.{Responder}
+use Rattle.ends_core.specs.Roles.{most_of}
 use Rattle.session_core.specs.Sessions.{SessionState}
 use Rattle.link_core.specs.Links.{Moves, MovesSo}
 use Rattle.link_core.specs.Polls.{Poll}
@@ -18,7 +21,7 @@ use Rattle.link_core.specs.declared.fault.LinkFault.{LinkFault}
 use Rattle.link_core.specs.declared.pumped.Pumped.{Pumped}
 use Rattle.hub_core.specs.Greetings.{GreetingState, Greets}
 use Rattle.hub_core.specs.Steps.{GreetsSo, step_in}
-use Rattle.hub_core.specs.Peers.{Goes, GoesSo, PeerState, fresh}
+use Rattle.hub_core.specs.Peers.{Goes, GoesSo, PeerState, bound_in, fresh}
 use Rattle.hub_core.specs.declared.step.Step.{Step}
 use Rattle.hub_core.specs.declared.stage.Stage.{Stage}
 use Rattle.hub_core.specs.declared.stage.Stage.TheVariants as stages
@@ -121,3 +124,19 @@ pub fresh-made : {I O : Type 0} (way : Take I) (writer : O) (serial now : ℕ) (
     w ≡ record { way = writer; last = lasts.Unknown } → g ≡ record { came = []; said = 0; over = false } →
     peer_of r w (stages.Greeting g) 0 serial now now 0 ≡ fresh way writer serial now
 fresh-made way writer serial now r w g reads writes greets = rw (reads, writes, greets) refl
+
+-- ---- how many messages a session says at most
+
+pub plain-bound : (n : ℕ) (stage : Stage) (b : Box (SessionState Lanes) Global) (x : SessionState Lanes) →
+    stage ≡ stages.Plain b → x ≡ b.value →
+    n ≡ rank_by x.talk.held.steps (length x.talk.held.end.peer.items) + most_of Responder → n ≡ bound_in stage
+plain-bound n stage b x is same bound =
+    rw is (subst (λ (y : SessionState Lanes). n ≡ rank_by y.talk.held.steps (length y.talk.held.end.peer.items)
+    + most_of Responder) same bound)
+
+pub counted-bound : (n : ℕ) (stage : Stage) (b : Box (SessionState prints.Counted) Global)
+    (x : SessionState prints.Counted) → stage ≡ stages.Counted b → x ≡ b.value →
+    n ≡ rank_by x.talk.held.steps (length x.talk.held.end.peer.items) + most_of Responder → n ≡ bound_in stage
+counted-bound n stage b x is same bound =
+    rw is (subst (λ (y : SessionState prints.Counted). n ≡ rank_by y.talk.held.steps
+    (length y.talk.held.end.peer.items) + most_of Responder) same bound)

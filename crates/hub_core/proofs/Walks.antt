@@ -126,3 +126,30 @@ pub all-listed : {T : Type 0} (slab : Slab T) (all : List (ℕ × T)) → all �
     (k : ℕ) (y : T) → Contains all (k, y) → get slab k ≡ Some y
 all-listed {T} slab all is k y there =
     (Contains-entries slab k y).0 (subst (λ (l : List (ℕ × T)). Contains l (k, y)) is there)
+
+-- a walk that looks for a value of which a test holds: of all that are not left it does not
+module _ {T : Type 0} (test : T → Bool) where
+  abbrev pub IsLeft : Slab T → List (ℕ × T) → Type 0
+  IsLeft slab rest = (key : ℕ) (x : T) → get slab key ≡ Some x → Contains rest (key, x) ⊎ (test x ≡ false)
+
+  pub left-start : (slab : Slab T) (all : List (ℕ × T)) → all ≡ entries slab → IsLeft slab all
+  left-start slab all is key x there =
+      inl (subst (λ (l : List (ℕ × T)). Contains l (key, x)) (sym is) ((Contains-entries slab key x).1 there))
+
+  pub left-step : (slab : Slab T) (all rest : List (ℕ × T)) (key : ℕ) (x : T) → all ≡ (key, x) ∷ rest →
+      test x ≡ false → IsLeft slab all → IsLeft slab rest
+  left-step slab all rest key x is not_so left k y there = elim (left k y there) [
+    | inl later ↦ elim (Contains-cons_cases (key, x) (k, y) rest
+        (subst (λ (l : List (ℕ × T)). Contains l (k, y)) is later)) [
+          | inl same ↦ inr (subst (λ (z : T). test z ≡ false) (ap (λ (p : ℕ × T). p.1) same) not_so)
+          | inr more ↦ inl more
+        ]
+    | inr no_more ↦ inr no_more
+  ]
+
+  pub left-none : (slab : Slab T) (rest : List (ℕ × T)) → rest ≡ [] → IsLeft slab rest → (key : ℕ) (x : T) →
+      get slab key ≡ Some x → test x ≡ false
+  left-none slab rest none left key x there = elim (left key x there) [
+    | inl later ↦ absurd (omega (arith, (subst (λ (l : List (ℕ × T)). Contains l (key, x)) none later).1))
+    | inr not_so ↦ not_so
+  ]

@@ -3,12 +3,11 @@
 --     kept, silence                what is counted for a peer; how old its last byte is, as a number
 --     held_by peers                what is counted for all peers
 --     OthersStay old new key       every other key has what it had
---     IsLate limits now p          its time is over
---     TakesOut old new p           the peer of which most is kept was taken out, as more was held than may be
-use Rattle.std.specs.Prelude.{◌≡◌, ◌≢◌, ◌⊎◌, ℕ, ◌-◌, ◌^◌, ◌<◌, Some, None}
+--     is_late limits now p         whether its time is over
+use Rattle.std.specs.Prelude.{◌≡◌, ◌≢◌, ◌||◌, ℕ, ◌-◌, ◌^◌, Bool, nat_lt}
 use Rattle.slab.specs.Slab.{Slab, get}
 use Rattle.hub_core.specs.Peers.{PeerState, kept_in}
-use Rattle.hub_core.specs.Totals.{IsMost, total}
+use Rattle.hub_core.specs.Totals.{total}
 use Rattle.hub_core.specs.declared.limits.HubLimits.{HubLimits}
 
 pub record HubState (I O : Type 0) : Type 0 where
@@ -29,14 +28,5 @@ abbrev pub OthersStay : {T : Type 0} → Slab T → Slab T → ℕ → Type 0
 OthersStay old new key = (other : ℕ) → other ≢ key → get new other ≡ get old other
 
 -- it was silent for longer than it may be, or it has been there for longer
-abbrev pub IsLate : {I O : Type 0} → HubLimits → ℕ → PeerState I O → Type 0
-IsLate limits now p = (limits.idle < now - p.heard) ⊎ (limits.whole < now - p.arrived)
-
--- more was held than may be, and this peer, of which most is kept, was taken out
-pub record TakesOut {I O : Type 0} (old new : HubState I O) (p : PeerState I O) : Type 0 where
-  pub over : old.limits.memory < held_by old.peers
-  pub key : ℕ
-  pub there : get old.peers key ≡ Some p
-  pub most : IsMost kept old.peers key
-  pub gone : get new.peers key ≡ None
-  pub others : OthersStay old.peers new.peers key
+abbrev pub is_late : {I O : Type 0} → HubLimits → ℕ → PeerState I O → Bool
+is_late limits now p = nat_lt limits.idle (now - p.heard) || nat_lt limits.whole (now - p.arrived)

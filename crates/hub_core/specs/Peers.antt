@@ -3,31 +3,41 @@
 --     Goes old new unread left held holds read said lost      what a call does: the bytes read are pushed and those
 --                                         written are taken, in order; lost were read and not pushed
 --     GoesSo .. result                    nothing was lost, and the bytes are counted, unless the call failed
+--     LeavesOff stage r w result          why a call left off, and which way failed where one did
+--     CountsSo p q now result             when it was heard, and how many bytes came since our last message
 --     IsChosen stage came                 the session is of the profile that these bytes choose
 --     Opens P old new                     the session of a greeting was opened
---     kept_in, sent_in, state_in, Learns  what it keeps in memory, how many messages were said to it, how its session
---                                         stands, and what it has learned
+--     kept_in, sent_in, bound_in          what it keeps in memory, how many messages were said to it, and may be
+--     owes, state_in, goes_on, Learns     whether text is made and not written, how its session stands, whether it goes
+--                                         on, and what it has learned
 --     PeerState, IsFresh, woken           a peer, one that has just come, one whose stream is ready again
-use Rattle.std.specs.Prelude.{◌≡◌, ℕ, ◌-◌, ◌^◌, min, true, false, List, [], ◌++◌, length, Option, Some, None}
-use Rattle.std.specs.Prelude.{Result, Ok, Err}
+use Rattle.std.specs.Prelude.{◌≡◌, ℕ, ◌+◌, ◌-◌, ◌^◌, ◌&&◌, min, nat_eq, nat_lt, Bool, true, false, List, [], ◌++◌}
+use Rattle.std.specs.Prelude.{length, if◌then◌else◌, Option, Some, None, Result, Ok, Err}
 use Rattle.std.specs.Io.KnownBytes.{Consumes, Appends}
 use Rattle.std.specs.Io.Take.{take_inner, take_limit}
 use Rattle.std.specs.declared.io.traits.Take.{Take}
 use Rattle.definitions.specs.Fingerprints.{two_lanes, counted_lanes}
+use Rattle.definitions.specs.Ranks.{rank_by}
 use Rattle.definitions.specs.Replies.{Peer}
 use Rattle.definitions.specs.Talks.{Knowledge}
-use Rattle.definitions.specs.Wire.{two_lane_profile, counted_profile}
+use Rattle.definitions.specs.Wire.{Profile, two_lane_profile, counted_profile}
 use Rattle.definitions.specs.Engines.{responding}
+use Rattle.definitions.specs.Worlds.{Responder}
+use Rattle.ends_core.specs.Roles.{most_of}
 use Rattle.session_core.specs.Kept.{kept_by}
-use Rattle.session_core.specs.Sessions.{Knows}
+use Rattle.session_core.specs.Sessions.{SessionState, Knows, is_open}
 use Rattle.session_core.specs.declared.state.State.{State}
 use Rattle.session_core.specs.declared.state.State.TheVariants as states
-use Rattle.link_core.specs.Links.{count_of}
+use Rattle.link_core.specs.Links.{count_of, Fails, IsWaiting, IsOver, IsMore}
 use Rattle.link_core.specs.Polls.{Poll}
 use Rattle.link_core.specs.declared.fault.LinkFault.{LinkFault}
+use Rattle.link_core.specs.declared.polled.Last.{Last}
 use Rattle.link_core.specs.declared.polled.Last.TheVariants as lasts
 use Rattle.hub_core.specs.Greetings.{is_counted, told}
+use Rattle.hub_core.specs.Steps.{LeavesGreeting}
 use Rattle.hub_core.specs.declared.step.Step.{Step}
+use Rattle.hub_core.specs.declared.step.StepPause.{StepPause}
+use Rattle.hub_core.specs.declared.step.StepPause.TheVariants as pauses
 use Rattle.hub_core.specs.declared.stage.Stage.{Stage}
 use Rattle.hub_core.specs.declared.stage.Stage.TheVariants as stages
 
@@ -49,6 +59,23 @@ GoesSo old new unread left held holds (Ok s) = (read said : List ℕ) × Goes ol
     × (s.read ≡ count_of read) × (s.written ≡ count_of said)
 GoesSo old new unread left held holds (Err f) =
     (read said lost : List ℕ) × Goes old new unread left held holds read said lost
+
+-- ---- why a call left off
+
+abbrev pub LeavesSession : {F : Type 0} → Profile F → StepPause → SessionState F → Last → Last → ℕ → ℕ → Type 0
+LeavesSession W pauses.Waits d r w read written = IsWaiting W d r w
+LeavesSession W pauses.More d r w read written = IsMore W d r w read written
+LeavesSession W pauses.Over d r w read written = IsOver W d
+LeavesSession W pauses.Opens d r w read written = ⊥
+
+abbrev pub LeavesOff : Stage → Last → Last → Result Step LinkFault → Type 0
+LeavesOff (stages.Greeting g) r w result = LeavesGreeting g r w result
+LeavesOff (stages.Plain c) r w (Ok s) = LeavesSession two_lane_profile s.pause c.value r w s.read s.written
+LeavesOff (stages.Counted c) r w (Ok s) = LeavesSession counted_profile s.pause c.value r w s.read s.written
+LeavesOff (stages.Plain c) r w (Err f) = Fails {X = Step} (Err f) r w
+LeavesOff (stages.Counted c) r w (Err f) = Fails {X = Step} (Err f) r w
+
+-- ---- the profile
 
 abbrev pub IsChosen : Stage → List ℕ → Type 0
 IsChosen (stages.Greeting g) came = ⊥
@@ -74,10 +101,30 @@ sent_in (stages.Greeting g) = 0
 sent_in (stages.Plain c) = c.value.talk.held.end.sent
 sent_in (stages.Counted c) = c.value.talk.held.end.sent
 
+-- how many messages its session says at most
+abbrev pub bound_in : Stage → ℕ
+bound_in (stages.Greeting g) = 0
+bound_in (stages.Plain c) =
+    rank_by c.value.talk.held.steps (length c.value.talk.held.end.peer.items) + most_of Responder
+bound_in (stages.Counted c) =
+    rank_by c.value.talk.held.steps (length c.value.talk.held.end.peer.items) + most_of Responder
+
+-- text of its session is made and not written
+abbrev pub owes : Stage → Bool
+owes (stages.Greeting g) = false
+owes (stages.Plain c) = nat_lt 0 (length c.value.talk.outbox.ready)
+owes (stages.Counted c) = nat_lt 0 (length c.value.talk.outbox.ready)
+
 abbrev pub state_in : Stage → Option State
 state_in (stages.Greeting g) = None
 state_in (stages.Plain c) = Some c.value.talk.state
 state_in (stages.Counted c) = Some c.value.talk.state
+
+-- its session is opened and goes on
+abbrev pub goes_on : Stage → Bool
+goes_on (stages.Greeting g) = false
+goes_on (stages.Plain c) = is_open c.value.talk.state
+goes_on (stages.Counted c) = is_open c.value.talk.state
 
 -- its session has ended, and has learned this
 abbrev pub Learns : Stage → Knowledge → Type 0
@@ -98,6 +145,18 @@ pub record PeerState (I O : Type 0) : Type 0 where
   pub arrived : ℕ
   -- how many bytes came since our last message
   pub long : ℕ
+
+-- when it was heard, and how many bytes came since our last message, after a step made now
+abbrev pub heard_by : ℕ → Step → ℕ → ℕ
+heard_by heard s now = if nat_eq s.read 0 && nat_eq s.written 0 then heard else now
+
+abbrev pub long_by : ℕ → Step → Bool → ℕ
+long_by long s is_same = if is_same then min (long + s.read) (2 ^ 64 - 1) else 0
+
+abbrev pub CountsSo : {I O : Type 0} → PeerState I O → PeerState I O → ℕ → Result Step LinkFault → Type 0
+CountsSo p q now (Ok s) = (q.heard ≡ heard_by p.heard s now)
+    × (q.long ≡ long_by p.long s (nat_eq (sent_in q.stage) (sent_in p.stage)))
+CountsSo p q now (Err f) = (q.heard ≡ p.heard) × (q.long ≡ p.long)
 
 -- one that has just come
 abbrev pub fresh : {I O : Type 0} → Take I → O → ℕ → ℕ → PeerState I O

@@ -2,9 +2,12 @@
 --     both_of s t              two calls, one after the other
 --     pause_at last fault      how a read or a write leaves off
 --     pause_in, step_in        those of a session
+--     IsIdle, IsBusy, IsDone   a greeting that waits, that goes on soon, that asks for its session
+--     LeavesGreeting .. result why a greeting's call left off, and which way failed where one did
 --     GreetsSo .. result       nothing was lost, and the bytes are counted, unless the call failed
-use Rattle.std.specs.Prelude.{◌≡◌, ℕ, ◌+◌, ◌-◌, ◌^◌, min, List, [], Option, Result, Ok, Err}
-use Rattle.link_core.specs.Links.{count_of}
+use Rattle.std.specs.Prelude.{◌≡◌, ◌⊎◌, ◌<◌, ◌≤◌, ℕ, ◌+◌, ◌-◌, ◌^◌, min, true, List, [], length, Option, Result}
+use Rattle.std.specs.Prelude.{Ok, Err}
+use Rattle.link_core.specs.Links.{count_of, Fails}
 use Rattle.link_core.specs.declared.fault.LinkFault.{LinkFault}
 use Rattle.link_core.specs.declared.polled.Last.{Last}
 use Rattle.link_core.specs.declared.polled.Last.TheVariants as lasts
@@ -37,6 +40,30 @@ GreetsSo g h unread left held holds (Ok s) = (read said : List ℕ) × Greets g 
     × (s.read ≡ count_of read) × (s.written ≡ count_of said)
 GreetsSo g h unread left held holds (Err f) =
     (read said lost : List ℕ) × Greets g h unread left held holds read said lost
+
+-- our hello is due, and there was no room to write it; or no byte of it is due, and nothing was there to read
+abbrev pub IsIdle : GreetingState → Last → Last → Type 0
+IsIdle g r w = ((4 ≤ length g.came) × (g.said < 4) × (w ≡ lasts.Waits))
+    ⊎ ((4 ≤ length g.came → g.said ≡ 4) × (r ≡ lasts.Waits))
+
+-- bytes were read or written, the last call was interrupted, or the end of the input was read
+abbrev pub IsBusy : GreetingState → Last → Last → ℕ → ℕ → Type 0
+IsBusy g r w read written =
+    (0 < read + written) ⊎ (r ≡ lasts.Interrupted) ⊎ (w ≡ lasts.Interrupted) ⊎ ((r ≡ lasts.Ended) × (g.over ≡ true))
+
+-- the peer's hello has come and all of ours is written, or the input has ended before that
+abbrev pub IsDone : GreetingState → Type 0
+IsDone g = ((4 ≤ length g.came) × (g.said ≡ 4)) ⊎ ((length g.came < 4) × (g.over ≡ true))
+
+abbrev pub LeavesAt : StepPause → GreetingState → Last → Last → ℕ → ℕ → Type 0
+LeavesAt pauses.Waits g r w read written = IsIdle g r w
+LeavesAt pauses.More g r w read written = IsBusy g r w read written
+LeavesAt pauses.Opens g r w read written = IsDone g
+LeavesAt pauses.Over g r w read written = ⊥
+
+abbrev pub LeavesGreeting : GreetingState → Last → Last → Result Step LinkFault → Type 0
+LeavesGreeting g r w (Ok s) = LeavesAt s.pause g r w s.read s.written
+LeavesGreeting g r w (Err f) = Fails {X = Step} (Err f) r w
 
 -- the step of a session
 abbrev pub pause_in : Pause → StepPause

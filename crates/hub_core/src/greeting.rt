@@ -1,11 +1,12 @@
 //! A peer before its session is opened: its bytes are kept, and our hello is written as soon as its own has come.
 
-ghost use Rattle.std.specs.Prelude.{◌≡◌, ◌≢◌, ◌<◌, ◌≤◌, ◌+◌, ◌++◌, [], false, length, take, drop, OnOk, OnErr, IfOk};
+ghost use Rattle.std.specs.Prelude.{◌≡◌, ◌≢◌, ◌<◌, ◌≤◌, ◌+◌, ◌++◌, [], true, false, length, take, drop, OnOk};
+ghost use Rattle.std.specs.Prelude.{OnErr, IfOk};
 ghost use Rattle.std.specs.Io.KnownBytes.{Consumes, Appends};
 ghost use Rattle.link_core.specs.declared.fault.LinkFault.TheVariants as faults;
 ghost use Rattle.hub_core.specs.Greetings as greetings;
 ghost use Rattle.hub_core.specs.Greetings.{Greets, own_hello};
-ghost use Rattle.hub_core.specs.Steps.{GreetsSo};
+ghost use Rattle.hub_core.specs.Steps.{GreetsSo, LeavesGreeting};
 
 use crate::step::{Step, StepPause, both, pause_of};
 use digest_core::{Counted, Fingerprint, Summary};
@@ -58,7 +59,9 @@ fn is_counted(came: &[u8]) -> bool
 }
 
 /// Whether these bytes begin with a hello that no profile has.
-fn is_strange(came: &[u8]) -> bool {
+fn is_strange(came: &[u8]) -> bool
+    ensures { result ≡ true → 4 ≤ length came.now }
+{
     if came.len() < HELLO {
         return false;
     }
@@ -68,7 +71,9 @@ fn is_strange(came: &[u8]) -> bool {
 
 /// Whether the session is to be opened for these bytes: the first message is whole, as far as the length of its first
 /// frame says, or it is too long to wait for.
-fn is_whole(came: &[u8]) -> bool {
+fn is_whole(came: &[u8]) -> bool
+    ensures { result ≡ true → 4 ≤ length came.now }
+{
     if came.len() > MOST || is_strange(came) {
         return true;
     }
@@ -141,6 +146,8 @@ impl Greeting {
     /// Writes once of our hello.
     fn say_once<O: Write>(&mut self, writer: &mut Polled<O>) -> Result<Step, LinkFault>
         requires four { 4 ≤ length self.old.came }
+        requires some { self.old.said < 4 }
+        ensures leaves { (r : _) → LeavesGreeting self.new r writer.new.last result }
         ensures moved { (unread : _) → GreetsSo self.old self.new unread unread (O.contents writer.old.way)
             (O.contents writer.new.way) result }
     {
@@ -159,6 +166,8 @@ impl Greeting {
     fn keep(&mut self, piece: &[u8], over: bool) -> Result<(), AllocError>
         ensures kept { OnOk result ((unread left held : _) → Consumes unread left piece.now →
             Greets self.old self.new unread left held held piece.now [] []) }
+        ensures over { OnOk result (self.new.over ≡ over) }
+        ensures said { self.new.said ≡ self.old.said }
         ensures memory { OnErr result (self.new ≡ self.old) }
     {
         self.came.extend_from_slice(piece)?;
@@ -166,15 +175,17 @@ impl Greeting {
         Ok(())
     }
 
-    /// Reads once, and keeps what came.
+    /// Reads once, and keeps what came. No byte of our hello is due.
     fn hear_once<I: Read>(
         &mut self,
         reader: &mut Polled<I>,
         room: &mut [u8],
     ) -> Result<Step, LinkFault>
         requires room { 0 < length room.old }
+        requires written { 4 ≤ length self.old.came → self.old.said ≡ 4 }
         ensures moved { (held : _) → GreetsSo self.old self.new (I.remaining reader.old.way)
             (I.remaining reader.new.way) held held result }
+        ensures leaves { (w : _) → LeavesGreeting self.new reader.new.last w result }
         ensures room { length room.new ≡ length room.old }
     {
         let count = reader.read(room);
@@ -197,6 +208,7 @@ impl Greeting {
         requires room { 0 < length room.old }
         ensures moved { GreetsSo self.old self.new (I.remaining reader.old.way) (I.remaining reader.new.way)
             (O.contents writer.old.way) (O.contents writer.new.way) result }
+        ensures leaves { LeavesGreeting self.new reader.new.last writer.new.last result }
         ensures room { length room.new ≡ length room.old }
     {
         if self.came.len() >= HELLO && self.said < HELLO {
@@ -222,6 +234,7 @@ impl Greeting {
         requires room { 0 < length room.old }
         ensures moved { GreetsSo self.old self.new (I.remaining reader.old.way) (I.remaining reader.new.way)
             (O.contents writer.old.way) (O.contents writer.new.way) result }
+        ensures leaves { LeavesGreeting self.new reader.new.last writer.new.last result }
         ensures room { length room.new ≡ length room.old }
     {
         let mut step = self.move_once(reader, writer, room)?;

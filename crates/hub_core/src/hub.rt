@@ -1,15 +1,16 @@
 //! All peers at once, within limits of number, memory and time.
 
-ghost use Rattle.std.specs.Prelude.{◌≡◌, ◌<◌, ◌≤◌, ◌↔◌, ◌-◌, ◌||◌, nat_le, nat_lt, ℕ, [], Some, None, IfOk, IfErr};
-ghost use Rattle.std.specs.Prelude.{OnOk, OnErr, IfSome, IfNone, IsSome, length, option_copied};
+ghost use Rattle.std.specs.Prelude.{◌≡◌, ◌<◌, ◌≤◌, ◌↔◌, ◌-◌, ◌||◌, nat_le, nat_lt, ℕ, true, false, [], Some, None};
+ghost use Rattle.std.specs.Prelude.{IfOk, IfErr, OnOk, OnErr, IfSome, IfNone, IsSome, length, option_copied};
 ghost use Rattle.std.specs.Arc.{arc_value};
 ghost use Rattle.std.specs.Io.Take.{take_remaining};
 ghost use Rattle.slab.specs.Slab.{get, slab_len};
 ghost use Rattle.ends_core.specs.Sides.{peer_of};
 ghost use Rattle.range_tree.specs.Trees.{tree_items};
-ghost use Rattle.hub_core.specs.Hubs.{OthersStay, IsLate, TakesOut, held_by, kept, silence};
+ghost use Rattle.hub_core.specs.Hubs as hubs;
+ghost use Rattle.hub_core.specs.Hubs.{OthersStay, held_by, kept, silence};
 ghost use Rattle.hub_core.specs.Totals.{IsMost};
-ghost use Rattle.hub_core.specs.Peers.{GoesSo, Opens};
+ghost use Rattle.hub_core.specs.Peers.{CountsSo, GoesSo, LeavesOff, Opens};
 
 use crate::best::better;
 use crate::limits::HubLimits;
@@ -150,6 +151,10 @@ impl<I: Read, O: Write> Hub<I, O> {
         ensures stays { IfSome result (λ did. (p q : _) → get self.old.peers key ≡ Some p →
             get self.new.peers key ≡ Some q → GoesSo p.stage q.stage (take_remaining I.remaining p.reader.way)
             (take_remaining I.remaining q.reader.way) (O.contents p.writer.way) (O.contents q.writer.way) did) }
+        ensures leaves { IfSome result (λ did. (q : _) → get self.new.peers key ≡ Some q →
+            LeavesOff q.stage q.reader.last q.writer.last did) }
+        ensures counts { IfSome result (λ did. (p q : _) → get self.old.peers key ≡ Some p →
+            get self.new.peers key ≡ Some q → CountsSo p q now did) }
         ensures there { IsSome (get self.new.peers key) ↔ IsSome (get self.old.peers key) }
         ensures others { OthersStay self.old.peers self.new.peers key }
         ensures limits { self.new.limits ≡ self.old.limits }
@@ -222,7 +227,9 @@ impl<I: Read, O: Write> Hub<I, O> {
     /// A peer whose time is over: it was silent for longer than it may be, or it has been there for longer.
     pub fn late(&self, now: u64) -> Option<usize>
         ensures late { IfSome result (λ key. (p : _) × (get self.now.peers key ≡ Some p)
-            × IsLate self.now.limits now p) }
+            × (hubs.is_late self.now.limits now p ≡ true)) }
+        ensures none { IfNone result ((key : ℕ) (p : _) → get self.now.peers key ≡ Some p →
+            hubs.is_late self.now.limits now p ≡ false) }
     {
         for (key, peer) in self.peers.iter() {
             if is_late(&self.limits, now, peer.heard(), peer.arrived()) {
@@ -232,17 +239,16 @@ impl<I: Read, O: Write> Hub<I, O> {
         None
     }
 
-    /// Takes the peer out of which most is kept, where more is held than may be. So `while let Some(peer) =
-    /// hub.over_budget()` ends with no more held than that.
-    pub fn over_budget(&mut self) -> Option<Peer<I, O>>
-        ensures within { IfNone result ((held_by self.new.peers ≤ self.new.limits.memory) × (self.new ≡ self.old)) }
-        ensures takes { IfSome result (λ p. TakesOut self.old self.new p) }
-        ensures limits { self.new.limits ≡ self.old.limits }
+    /// The peer of which most is kept, where more is held than may be: it is to be taken out. Where it answers none, no
+    /// more is held than may be.
+    pub fn over_budget(&self) -> Option<usize>
+        ensures within { IfNone result (held_by self.now.peers ≤ self.now.limits.memory) }
+        ensures over { IfSome result (λ key. (self.now.limits.memory < held_by self.now.peers)
+            × IsMost kept self.now.peers key) }
     {
         if self.held <= u128::from(self.limits.memory) {
             return None;
         }
-        let key = self.greediest()?;
-        self.take(key)
+        self.greediest()
     }
 }

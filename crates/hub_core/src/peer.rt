@@ -3,10 +3,11 @@
 ghost use Rattle.std.specs.Prelude.{◌≡◌, ◌≢◌, ◌<◌, ◌≤◌, nat_lt, length, Some, OnOk, OnErr, IfSome, IfNone};
 ghost use Rattle.session_core.specs.declared.state.State.TheVariants as states;
 ghost use Rattle.std.specs.Arc.{arc_value};
-ghost use Rattle.std.specs.Io.Take.{take_inner, take_remaining};
+ghost use Rattle.std.specs.Io.Take.{take_inner, take_limit, take_remaining};
 ghost use Rattle.ends_core.specs.Sides.{peer_of};
 ghost use Rattle.range_tree.specs.Trees.{tree_items};
-ghost use Rattle.hub_core.specs.Peers.{GoesSo, IsFresh, Learns, Opens, kept_in, sent_in, state_in, woken};
+ghost use Rattle.hub_core.specs.Peers.{CountsSo, GoesSo, IsFresh, LeavesOff, Learns, Opens, heard_by, kept_in};
+ghost use Rattle.hub_core.specs.Peers.{long_by, sent_in, state_in, woken};
 
 use crate::greeting::Greeting;
 use crate::opening::opened;
@@ -56,16 +57,20 @@ impl<I, O> Model for Peer<I, O> {
 }
 
 /// When a peer was heard last, where this step was made now.
-fn heard_at(heard: u64, step: Step, now: u64) -> u64 {
+fn heard_at(heard: u64, step: Step, now: u64) -> u64
+    ensures { result ≡ heard_by heard step now }
+{
     if step.read == 0 && step.written == 0 {
         return heard;
     }
     now
 }
 
-/// How many bytes came since our last message, where `said` messages were said in this step.
-fn long_after(long: u64, step: Step, said: bool) -> u64 {
-    if said {
+/// How many bytes came since our last message, where none was said in this step, or one was.
+fn long_after(long: u64, step: Step, is_same: bool) -> u64
+    ensures { result ≡ long_by long step is_same }
+{
+    if !is_same {
         return 0;
     }
     long.saturating_add(step.read)
@@ -114,6 +119,20 @@ impl<I: Read, O: Write> Peer<I, O> {
         ensures { result ≡ sent_in self.now.stage }
     {
         self.stage.sent()
+    }
+
+    /// What is read of it.
+    pub fn reader(&self) -> &I
+        ensures { result.now ≡ take_inner self.now.reader.way }
+    {
+        self.reader.way().get_ref()
+    }
+
+    /// How many bytes more are read of it at most.
+    pub fn left(&self) -> u64
+        ensures { result ≡ take_limit self.now.reader.way }
+    {
+        self.reader.way().limit()
     }
 
     /// What its session has learned, where it has ended.
@@ -189,22 +208,25 @@ impl<I: Read, O: Write> Peer<I, O> {
         self.writer.wake();
     }
 
-    /// Reads and writes what can be read and written: at most 16 reads and writes.
+    /// Reads and writes what can be read and written: at most 16 reads and writes. Its stream may be ready again.
     pub fn pump(&mut self, alloc: Global, room: &mut [u8], now: u64) -> Result<Step, LinkFault>
         requires room { 0 < length room.old }
         ensures moved { GoesSo self.old.stage self.new.stage (take_remaining I.remaining self.old.reader.way)
             (take_remaining I.remaining self.new.reader.way) (O.contents self.old.writer.way)
             (O.contents self.new.writer.way) result }
+        ensures leaves { LeavesOff self.new.stage self.new.reader.last self.new.writer.last result }
+        ensures counts { CountsSo self.old self.new now result }
         ensures same { (self.new.version ≡ self.old.version) × (self.new.serial ≡ self.old.serial)
             × (self.new.arrived ≡ self.old.arrived) }
         ensures room { length room.new ≡ length room.old }
     {
+        self.wake();
         let sent = self.stage.sent();
         let step = self
             .stage
             .pump(alloc, &mut self.reader, &mut self.writer, room)?;
         self.heard = heard_at(self.heard, step, now);
-        self.long = long_after(self.long, step, self.stage.sent() != sent);
+        self.long = long_after(self.long, step, self.stage.sent() == sent);
         Ok(step)
     }
 

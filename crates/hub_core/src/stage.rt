@@ -3,7 +3,8 @@
 ghost use Rattle.std.specs.Prelude.{◌≡◌, ◌≢◌, ◌<◌, length, Some, IfSome, IfNone};
 ghost use Rattle.session_core.specs.declared.state.State.TheVariants as states;
 ghost use Rattle.hub_core.specs.Steps.{pause_in, step_in};
-ghost use Rattle.hub_core.specs.Peers.{GoesSo, Learns, kept_in, sent_in, state_in};
+ghost use Rattle.hub_core.specs.Peers as peers;
+ghost use Rattle.hub_core.specs.Peers.{GoesSo, LeavesOff, Learns, bound_in, goes_on, kept_in, sent_in, state_in};
 
 use crate::greeting::Greeting;
 use crate::step::{Step, StepPause};
@@ -72,6 +73,28 @@ impl Stage {
         }
     }
 
+    /// How many messages its session says at most; 0 before it is opened.
+    pub fn bound(&self) -> u32
+        ensures { result ≡ bound_in self.now }
+    {
+        match self {
+            Stage::Greeting(_) => 0,
+            Stage::Plain(session) => session.bound(),
+            Stage::Counted(session) => session.bound(),
+        }
+    }
+
+    /// Whether text of its session is made and not written.
+    pub fn owes(&self) -> bool
+        ensures { result ≡ peers.owes self.now }
+    {
+        match self {
+            Stage::Greeting(_) => false,
+            Stage::Plain(session) => !session.due().is_empty(),
+            Stage::Counted(session) => !session.due().is_empty(),
+        }
+    }
+
     /// How its session stands, if it is opened.
     pub fn state(&self) -> Option<State>
         ensures { result ≡ state_in self.now }
@@ -81,6 +104,13 @@ impl Stage {
             Stage::Plain(session) => Some(session.state()),
             Stage::Counted(session) => Some(session.state()),
         }
+    }
+
+    /// Whether its session is opened and goes on.
+    pub fn is_open(&self) -> bool
+        ensures { result ≡ goes_on self.now }
+    {
+        matches!(self.state(), Some(State::Open))
     }
 
     /// What its session has learned, where it has ended.
@@ -118,6 +148,7 @@ impl Stage {
         requires room { 0 < length room.old }
         ensures moved { GoesSo self.old self.new (I.remaining reader.old.way) (I.remaining reader.new.way)
             (O.contents writer.old.way) (O.contents writer.new.way) result }
+        ensures leaves { LeavesOff self.new reader.new.last writer.new.last result }
         ensures room { length room.new ≡ length room.old }
     {
         match self {

@@ -163,7 +163,8 @@ fn a_flood_goes_and_another_goes_on(rt: HostRuntime) -> Result<(), Fail> {
     let greedy = admitted(&rt, alloc, &mut hub, Fed::of(flood(alloc)?, 4_096), 2);
     assert!(rt; hub.is_full());
     pump_both(&rt, alloc, &mut hub, (calm, greedy), &accepted)?;
-    let gone = hub.over_budget().expect(&rt, "too much is held");
+    assert!(rt; hub.over_budget() == Some(greedy));
+    let gone = hub.take(greedy).expect(&rt, "a peer");
     assert!(rt; gone.serial() == 2);
     assert!(rt; hub.over_budget().is_none() && hub.len() == 1);
     let peer = ended(&rt, alloc, &mut hub, calm, &accepted)?;

@@ -79,6 +79,13 @@ impl<T> Polled<T> {
     }
 
     /// The reader or writer itself.
+    pub fn way(&self) -> &T
+        ensures { result.now ≡ self.now.way }
+    {
+        &self.way
+    }
+
+    /// The same, for good.
     pub fn into_inner(self) -> T
         ensures { result ≡ self.way }
     {

@@ -7,7 +7,7 @@ use outcome_core::Outcome;
 use session_table::CloseKind;
 
 /// How the table of sessions counts an outcome. A session that the peer refused is refused.
-pub(crate) fn kind_of(outcome: &Outcome) -> CloseKind
+pub fn kind_of(outcome: &Outcome) -> CloseKind
     ensures { result ≡ kind_of outcome.now }
 {
     match outcome {

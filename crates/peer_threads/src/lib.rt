@@ -23,6 +23,8 @@ mod workers;
 pub use connection::Connection;
 pub use engines::{dial_one, serve_one};
 pub use gate::{Gate, OpenGate};
+pub use kind::kind_of;
 pub use outcome_core::{Direction, Outcome, Report, Source, SourceFault};
 pub use shared::Shared;
+pub use worker::settle;
 pub use workers::run_workers;

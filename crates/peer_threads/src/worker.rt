@@ -185,9 +185,10 @@ fn talk_to<T: Wait, S: RangeStore, G: Gate, R: Read, W: Write>(
     }
 }
 
-// Puts into the log what the gate admits of the items that the session with this serial learned of its peer, and tells
-// the gate how many are left out.
-fn settle<T: Wait, S: RangeStore, G: Gate>(
+/// Puts into the log what the gate admits of the items that the session with this serial learned of its peer, in the
+/// order learned, and tells the gate how many are left out. An item for which there is no room is dropped; where memory
+/// runs out, so are all that are left.
+pub fn settle<T: Wait, S: RangeStore, G: Gate>(
     rt: &T,
     alloc: Global,
     shared: &Shared<'_, S, G>,

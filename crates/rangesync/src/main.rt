@@ -5,6 +5,7 @@ mod bad_line;
 mod book;
 mod checking;
 mod disk;
+mod limits;
 mod loading;
 mod metering;
 mod planning;

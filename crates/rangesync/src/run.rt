@@ -5,6 +5,7 @@ ghost use Rattle.store_core.specs.Flat.{flat_items};
 ghost use Rattle.settings_core.specs.Spans.{AreInSpan};
 
 use crate::checking::{Pricing, check_table};
+use crate::limits::{PeerWords, limits_of};
 use crate::loading::{Sources, load};
 use crate::planning::{Planning, plan};
 use crate::reporting::{Paths, Rules};
@@ -143,6 +144,9 @@ where
             sessions,
             patience,
             most_bytes,
+            peers,
+            session_seconds,
+            memory,
             report,
             learned,
             keep,
@@ -157,10 +161,13 @@ where
                 address,
                 workers,
                 sessions,
-                limits: Limits {
+                limits: limits_of(PeerWords {
                     patience,
                     most_bytes,
-                },
+                    peers,
+                    session_seconds,
+                    memory,
+                }),
                 paths: Paths {
                     report,
                     learned,

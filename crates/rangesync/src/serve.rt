@@ -5,10 +5,12 @@ ghost use Rattle.std.specs.Arc.{arc_value};
 ghost use Rattle.settings_core.specs.Spans.{IsWorkerCount};
 
 use crate::disk::Disk;
+use crate::limits::places;
 use crate::loading::Loaded;
 use crate::reporting::{Closed, Paths, Reporter, Rules, open_books};
 use io_core::{Watched, WriterFailed, write_output};
-use peer_threads::{Report, Shared, run_workers};
+use peer_loops::{PeerLimits, serve_peers};
+use peer_threads::{Report, Shared};
 use printing_core::{Fault, listening_line, refusal_of, served_text, tell_address, tell_dropped};
 use range_tree::Tree;
 use session_table::SessionTable;
@@ -28,12 +30,12 @@ use version_lock::{Seat, VersionLock};
 pub struct Serving<'a> {
     /// The address to listen at.
     pub address: &'a str,
-    /// How many sessions there are at once, 1 to 16.
+    /// How many loops serve, 1 to 16, and as many more for those whose messages are long.
     pub workers: u8,
     /// After how many connections it ends, if it does.
     pub sessions: Option<u32>,
-    /// What each connection may cost.
-    pub limits: Limits,
+    /// What peers may cost.
+    pub limits: PeerLimits,
     /// The files that are written of the sessions.
     pub paths: Paths<'a>,
     /// What is written to them, and how much of a session is put into the log.
@@ -61,13 +63,13 @@ fn announce<O: Write, E: Write>(
 /// The gate of a server: it writes to the files of a disk.
 type Desk<'r, 'a, R, E> = Reporter<'r, 'a, R, Disk<File>, E>;
 
-/// Serves by workers, who are lent this seat, until the source has no more.
+/// Serves by loops, who are lent this seat, until the source has no more.
 fn work<R, E: Write + Drop + Send>(
     rt: &R,
     shared: &Shared<'_, Tree, Desk<'_, '_, R, E>>,
     seat: Seat<Tree>,
     listener: &Listener<'_, R>,
-    workers: u8,
+    serving: (u8, PeerLimits),
 ) -> Report
 where
     R: Net<Listener = TcpListener, Stream = TcpStream>
@@ -78,21 +80,21 @@ where
         + Sync,
     requires lock { seat.table_id ≡ shared.now.lock.now }
     requires fits { seat.view.cap ≤ (arc_value shared.now.accepted.now).table.cap }
-    requires workers { IsWorkerCount workers }
+    requires workers { IsWorkerCount serving.0 }
 {
     let mut seat = seat;
-    let report = run_workers(rt, rt.alloc(), shared, &mut seat, listener, workers);
+    let report = serve_peers(rt, shared, &mut seat, listener, serving);
     shared.gate.end();
     report
 }
 
-/// Serves by workers until the source has no more; beside them what could not be written is tried again each second.
+/// Serves by loops until the source has no more; beside them what could not be written is tried again each second.
 fn work_beside<R, E: Write + Drop + Send>(
     rt: &R,
     shared: &Shared<'_, Tree, Desk<'_, '_, R, E>>,
     seat: Seat<Tree>,
     listener: &Listener<'_, R>,
-    workers: u8,
+    serving: (u8, PeerLimits),
 ) -> Report
 where
     R: Net<Listener = TcpListener, Stream = TcpStream>
@@ -103,7 +105,7 @@ where
         + Sync,
     requires lock { seat.table_id ≡ shared.now.lock.now }
     requires fits { seat.view.cap ≤ (arc_value shared.now.accepted.now).table.cap }
-    requires workers { IsWorkerCount workers }
+    requires workers { IsWorkerCount serving.0 }
 {
     let gate = shared.gate;
     // If no thread can be made for the first, it runs after the second, and returns at once.
@@ -112,20 +114,19 @@ where
         move || gate.keep_trying(),
         move || -> Report
             requires { (seat.table_id ≡ shared.now.lock.now)
-                × (seat.view.cap ≤ (arc_value shared.now.accepted.now).table.cap) × IsWorkerCount workers }
-        { work(rt, shared, seat, listener, workers) },
+                × (seat.view.cap ≤ (arc_value shared.now.accepted.now).table.cap) × IsWorkerCount serving.0 }
+        { work(rt, shared, seat, listener, serving) },
     );
     report
 }
 
-/// Serves by workers until the source has no more, and sees that what is written to files is tried again, if anything
-/// is.
+/// Serves by loops until the source has no more, and sees that what is written to files is tried again, if anything is.
 fn work_and_write<R, E: Write + Drop + Send>(
     rt: &R,
     shared: &Shared<'_, Tree, Desk<'_, '_, R, E>>,
     seat: Seat<Tree>,
     listener: &Listener<'_, R>,
-    workers: u8,
+    serving: (u8, PeerLimits),
 ) -> Report
 where
     R: Net<Listener = TcpListener, Stream = TcpStream>
@@ -136,12 +137,12 @@ where
         + Sync,
     requires lock { seat.table_id ≡ shared.now.lock.now }
     requires fits { seat.view.cap ≤ (arc_value shared.now.accepted.now).table.cap }
-    requires workers { IsWorkerCount workers }
+    requires workers { IsWorkerCount serving.0 }
 {
     if shared.gate.may_wait() {
-        work_beside(rt, shared, seat, listener, workers)
+        work_beside(rt, shared, seat, listener, serving)
     } else {
-        work(rt, shared, seat, listener, workers)
+        work(rt, shared, seat, listener, serving)
     }
 }
 
@@ -189,9 +190,13 @@ where
     let cap = accepted.cap() as usize;
     let accepted = Arc::new(alloc, accepted)?;
     let (lock, mut seat) = VersionLock::new(alloc, log)?;
-    let sessions = Mutex::new(SessionTable::new(alloc, usize::from(serving.workers))?);
+    let sessions = Mutex::new(SessionTable::new(alloc, places(serving.limits.peers))?);
     let books = open_books(rt, serving.paths, kept, err)?;
-    let listener = listen(rt, serving.address, serving.sessions, serving.limits)?;
+    let limits = Limits {
+        patience: serving.limits.patience,
+        most_bytes: serving.limits.most_bytes,
+    };
+    let listener = listen(rt, serving.address, serving.sessions, limits)?;
     announce(alloc, serving.address, listener.local_addr(), &mut out, err)?;
     let reporter = Reporter::new(rt, alloc, serving.rules, cap, books, &mut *err);
     let shared = Shared {
@@ -201,7 +206,13 @@ where
         gate: &reporter,
     };
     let own = lock.split_seat(&mut seat);
-    let report = work_and_write(rt, &shared, own, &listener, serving.workers);
+    let report = work_and_write(
+        rt,
+        &shared,
+        own,
+        &listener,
+        (serving.workers, serving.limits),
+    );
     let closed = reporter.close();
     tell_dropped(err, closed.dropped);
     let totals = sessions.into_inner().totals();

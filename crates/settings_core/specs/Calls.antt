@@ -69,11 +69,13 @@ HasValues rows (Plan items differences item_length round_trip rate search) = IsN
     × IsNumber (codes "round-trip") rows round_trip × IsNumber (codes "rate") rows rate
     × IsNumber (codes "search") rows search
 HasValues rows Sim = ⊤
-HasValues rows (Serve table address workers sessions patience most_bytes report learned keep durable most_learned
-    read_only report_items form items) =
+HasValues rows (Serve table address workers sessions patience most_bytes peers session_seconds memory report learned
+    keep durable most_learned read_only report_items form items) =
     IsText (codes "table") rows table.now × IsText (codes "addr") rows address.now
     × IsNumber (codes "workers") rows (Some workers) × IsNumber (codes "sessions") rows sessions
     × IsNumber (codes "patience") rows (Some patience) × IsNumber (codes "most-bytes") rows (Some most_bytes)
+    × IsNumber (codes "peers") rows peers × IsNumber (codes "session-seconds") rows session_seconds
+    × IsNumber (codes "memory") rows memory
     × IsAnyText (codes "report") rows (option_map (λ text. text.now) report)
     × IsAnyText (codes "learned") rows (option_map (λ text. text.now) learned)
     × IsAnyText (codes "keep") rows (option_map (λ text. text.now) keep)
@@ -93,8 +95,8 @@ name_of (Answer hexed form items) = codes "answer"
 name_of (Check cost items item_length file) = codes "check"
 name_of (Plan items differences item_length round_trip rate search) = codes "plan"
 name_of Sim = codes "sim"
-name_of (Serve table address workers sessions patience most_bytes report learned keep durable most_learned read_only
-    report_items form items) = codes "serve"
+name_of (Serve table address workers sessions patience most_bytes peers session_seconds memory report learned keep
+    durable most_learned read_only report_items form items) = codes "serve"
 name_of (Sync table address profile patience most_bytes stats form items) = codes "sync"
 
 abbrev pub AsksFor : Text → List Row → Command → Type 0

@@ -74,6 +74,18 @@ patience = defaulting (number (codes "patience") 1 86400) (codes "60")
 abbrev pub most_bytes : Rule
 most_bytes = defaulting (number (codes "most-bytes") 1024 4294967295) (codes "33554432")
 
+-- `--peers N`, of 1 to 65,535
+abbrev pub peers : Rule
+peers = number (codes "peers") 1 65535
+
+-- `--session-seconds SECONDS`, of 1 to 604,800
+abbrev pub session_seconds : Rule
+session_seconds = number (codes "session-seconds") 1 604800
+
+-- `--memory MIB`, of 1 to 1,048,576
+abbrev pub memory : Rule
+memory = number (codes "memory") 1 1048576
+
 -- `--hex`
 abbrev pub hex : Rule
 hex = flag (codes "hex")
@@ -172,8 +184,8 @@ sim = with_rules (new_app (codes "sim")) (why ∷ [])
 -- `serve` without its ITEMS
 abbrev pub served : App
 served = with_rules (new_app (codes "serve"))
-    (table ∷ address ∷ workers ∷ sessions ∷ patience ∷ most_bytes ∷ report ∷ learned ∷ keep ∷ durable ∷ most_learned
-    ∷ read_only ∷ report_items ∷ text ∷ why ∷ [])
+    (table ∷ address ∷ workers ∷ sessions ∷ patience ∷ most_bytes ∷ peers ∷ session_seconds ∷ memory ∷ report ∷ learned
+    ∷ keep ∷ durable ∷ most_learned ∷ read_only ∷ report_items ∷ text ∷ why ∷ [])
 
 abbrev pub serve : Bool → App
 serve must = with_rules served (items must ∷ [])

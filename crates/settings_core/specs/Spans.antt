@@ -24,6 +24,18 @@ IsPatience n = (1 ≤ n) × (n ≤ 86400)
 abbrev pub IsByteCount : ℕ → Type 0
 IsByteCount n = (1024 ≤ n) × (n ≤ 4294967295)
 
+-- how many peers there are at once
+abbrev pub IsPeerCount : ℕ → Type 0
+IsPeerCount n = (1 ≤ n) × (n ≤ 65535)
+
+-- seconds, up to a week
+abbrev pub IsSessionTime : ℕ → Type 0
+IsSessionTime n = (1 ≤ n) × (n ≤ 604800)
+
+-- MiB, up to a TiB
+abbrev pub IsMemory : ℕ → Type 0
+IsMemory n = (1 ≤ n) × (n ≤ 1048576)
+
 -- how many items of one session are put into the set at most
 abbrev pub IsLearnedCount : ℕ → Type 0
 IsLearnedCount n = (1 ≤ n) × (n ≤ 4294967295)
@@ -69,9 +81,10 @@ AreInSpan (Plan items differences item_length round_trip rate search) = IfSome i
     × IfSome differences IsDifferenceCount × IfSome item_length IsItemLength × IfSome round_trip IsRoundTrip
     × IfSome rate IsRate × IfSome search IsSearch
 AreInSpan Sim = ⊤
-AreInSpan (Serve table address workers sessions patience most_bytes report learned keep durable most_learned read_only
-    report_items form items) = IsWorkerCount workers × IfSome sessions IsSessionCount × IsPatience patience
-    × IsByteCount most_bytes × IfSome most_learned IsLearnedCount × IfSome report_items IsReportedCount
+AreInSpan (Serve table address workers sessions patience most_bytes peers session_seconds memory report learned keep
+    durable most_learned read_only report_items form items) = IsWorkerCount workers × IfSome sessions IsSessionCount
+    × IsPatience patience × IsByteCount most_bytes × IfSome peers IsPeerCount × IfSome session_seconds IsSessionTime
+    × IfSome memory IsMemory × IfSome most_learned IsLearnedCount × IfSome report_items IsReportedCount
     × IsAnyGiven keep items
 AreInSpan (Sync table address profile patience most_bytes stats form items) = IsPatience patience
     × IsByteCount most_bytes

@@ -6,11 +6,11 @@ ghost use Rattle.settings_core.specs.Calls.{AsksFor, CallsFor, Finds, IsFlag, Is
 ghost use Rattle.settings_core.specs.Spans.{IsByteCount, IsLearnedCount, IsPatience, IsReportedCount, IsSessionCount};
 ghost use Rattle.settings_core.specs.Spans.{IsWithin, IsWorkerCount};
 ghost use Rattle.settings_core.specs.Spans.{IsItemCount, IsItemLength, IsDifferenceCount, IsRoundTrip, IsRate};
-ghost use Rattle.settings_core.specs.Spans.{IsSearch};
+ghost use Rattle.settings_core.specs.Spans.{IsSearch, IsPeerCount, IsSessionTime, IsMemory};
 
 use crate::known_words::{
-    MAX_ITEM_LENGTH, MAX_ITEMS, MAX_PATIENCE, MAX_RATE, MAX_ROUND_TRIP, MAX_SEARCH, MAX_SESSIONS,
-    MAX_WORKERS, MIN_BYTES, MIN_ITEM_LENGTH,
+    MAX_ITEM_LENGTH, MAX_ITEMS, MAX_MEMORY, MAX_PATIENCE, MAX_PEERS, MAX_RATE, MAX_ROUND_TRIP,
+    MAX_SEARCH, MAX_SESSION_SECONDS, MAX_SESSIONS, MAX_WORKERS, MIN_BYTES, MIN_ITEM_LENGTH,
 };
 use crate::words::{Call, Command, WireProfile};
 use clap::ArgMatches;
@@ -42,6 +42,30 @@ fn sessions_in(matches: &ArgMatches<'_>) -> Option<Option<u32>>
         × IfSome n IsSessionCount) result }
 {
     number_in(matches, "sessions", 1, MAX_SESSIONS)
+}
+
+/// How many peers there are at once, if it is given.
+fn peers_in(matches: &ArgMatches<'_>) -> Option<Option<u32>>
+    ensures { Finds (λ n. IsNumber (codes "peers") (rows_of (found_of matches.now)) n
+        × IfSome n IsPeerCount) result }
+{
+    number_in(matches, "peers", 1, MAX_PEERS)
+}
+
+/// The seconds that a session may go on, if they are given.
+fn session_seconds_in(matches: &ArgMatches<'_>) -> Option<Option<u32>>
+    ensures { Finds (λ n. IsNumber (codes "session-seconds") (rows_of (found_of matches.now)) n
+        × IfSome n IsSessionTime) result }
+{
+    number_in(matches, "session-seconds", 1, MAX_SESSION_SECONDS)
+}
+
+/// The MiB of memory that are counted for all peers at most, if they are given.
+fn memory_in(matches: &ArgMatches<'_>) -> Option<Option<u32>>
+    ensures { Finds (λ n. IsNumber (codes "memory") (rows_of (found_of matches.now)) n
+        × IfSome n IsMemory) result }
+{
+    number_in(matches, "memory", 1, MAX_MEMORY)
 }
 
 /// How many items of one session are put into the set, if it is given.
@@ -219,6 +243,9 @@ fn serve_in<'a>(matches: &ArgMatches<'a>) -> Option<Command<'a>>
         sessions: sessions_in(matches)?,
         patience: patience_in(matches)?,
         most_bytes: most_bytes_in(matches)?,
+        peers: peers_in(matches)?,
+        session_seconds: session_seconds_in(matches)?,
+        memory: memory_in(matches)?,
         report: text_in(matches, "report"),
         learned: text_in(matches, "learned"),
         keep,

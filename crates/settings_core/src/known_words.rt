@@ -20,6 +20,15 @@ pub(crate) const MAX_PATIENCE: u32 = 86_400;
 /// The least number of bytes that may be read of a session. The greatest is that of its type.
 pub(crate) const MIN_BYTES: u32 = 1_024;
 
+/// The greatest number of peers at once.
+pub(crate) const MAX_PEERS: u32 = 65_535;
+
+/// The greatest number of seconds that a session may go on: a week.
+pub(crate) const MAX_SESSION_SECONDS: u32 = 604_800;
+
+/// The greatest number of MiB of memory for all peers: a TiB.
+pub(crate) const MAX_MEMORY: u32 = 1_048_576;
+
 /// The greatest number of items of a set.
 pub(crate) const MAX_ITEMS: u32 = 65_536;
 
@@ -211,7 +220,7 @@ fn sim_words<'a>(alloc: Global) -> Result<clap::Command<'a>, AllocError>
 }
 
 /// The arguments of `serve`, but for its ITEMS.
-const SERVE: [Argument<'static>; 15] = [
+const SERVE: [Argument<'static>; 18] = [
     TABLE,
     Argument::ValuedOr {
         name: "addr",
@@ -225,7 +234,7 @@ const SERVE: [Argument<'static>; 15] = [
         least: 1,
         most: MAX_WORKERS as u32,
         default: "4",
-        help: "How many sessions there are at once, 1 to 16",
+        help: "Serve by so many threads, 1 to 16, and as many for those who send much",
     },
     Argument::Number {
         name: "sessions",
@@ -240,7 +249,7 @@ const SERVE: [Argument<'static>; 15] = [
         least: 1,
         most: MAX_PATIENCE,
         default: PATIENCE,
-        help: "End a session whose read or write takes longer, 1 to 86,400",
+        help: "End a session whose peer is silent for longer, 1 to 86,400",
     },
     Argument::NumberOr {
         name: "most-bytes",
@@ -249,6 +258,27 @@ const SERVE: [Argument<'static>; 15] = [
         most: u32::MAX,
         default: MOST_BYTES,
         help: "Refuse a session that sends more bytes, 1,024 to 4,294,967,295",
+    },
+    Argument::Number {
+        name: "peers",
+        value: "N",
+        least: 1,
+        most: MAX_PEERS,
+        help: "Hold so many peers at once, 1 to 65,535 [default: 1024]",
+    },
+    Argument::Number {
+        name: "session-seconds",
+        value: "SECONDS",
+        least: 1,
+        most: MAX_SESSION_SECONDS,
+        help: "End a session that goes on for longer, 1 to 604,800 [default: 3600]",
+    },
+    Argument::Number {
+        name: "memory",
+        value: "MIB",
+        least: 1,
+        most: MAX_MEMORY,
+        help: "Keep at most so many MiB for all peers, 1 to 1,048,576 [default: 1024]",
     },
     Argument::Valued {
         name: "report",

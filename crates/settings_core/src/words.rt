@@ -68,14 +68,20 @@ pub enum Command<'a> {
         table: &'a str,
         /// The address to listen at.
         address: &'a str,
-        /// How many sessions there are at once, 1 to 16.
+        /// How many loops serve them, 1 to 16, and as many more for those whose messages are long.
         workers: u8,
         /// After how many connections it ends, 1 to 1,000,000; `None` where it has no end.
         sessions: Option<u32>,
-        /// How many seconds a read or a write of a connection may take, 1 to 86,400.
+        /// How many seconds a peer may be silent, 1 to 86,400.
         patience: u32,
         /// How many bytes of a session are read, from 1,024 on.
         most_bytes: u32,
+        /// How many peers there are at once, 1 to 65,535, if it is given.
+        peers: Option<u32>,
+        /// How many seconds a session may go on, 1 to 604,800, if they are given.
+        session_seconds: Option<u32>,
+        /// How many MiB of memory are counted for all peers at most, 1 to 1,048,576, if they are given.
+        memory: Option<u32>,
         /// The path of the file for what each session found, if one is given.
         report: Option<&'a str>,
         /// The path of the file for what is learned of peers, if one is given.

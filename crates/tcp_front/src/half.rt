@@ -3,7 +3,8 @@
 use std::alloc::Global;
 use std::io;
 use std::io::{Read, Write};
-use std::net::TcpStream;
+use std::net::{Shutdown, TcpStream};
+use std::os::fd::{AsRawFd, RawFd};
 use std::sync::Arc;
 
 /// One half of a connection: what is read of it, or what is written to it.
@@ -17,6 +18,17 @@ impl Half {
     /// The connection.
     pub(crate) fn stream(&self) -> &TcpStream {
         &self.0
+    }
+
+    /// Nothing more is written to the connection.
+    pub fn end_output(&self) -> io::Result<()> {
+        self.0.shutdown(Shutdown::Write)
+    }
+}
+
+impl AsRawFd for Half {
+    fn as_raw_fd(&self) -> RawFd {
+        self.0.as_raw_fd()
     }
 }
 

@@ -8,6 +8,7 @@ mod half;
 mod limits;
 mod listener;
 mod patience;
+mod ready;
 #[cfg(test)]
 mod tests;
 mod trying;
@@ -18,3 +19,4 @@ pub use fault::{ConnectFault, ListenFault};
 pub use half::Half;
 pub use limits::{Limits, limited};
 pub use listener::{Listener, listen};
+pub use ready::Arrival;

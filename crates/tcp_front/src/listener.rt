@@ -14,6 +14,7 @@ use std::alloc::Global;
 use std::io;
 use std::io::{ErrorKind, Take};
 use std::net::{Net, SocketAddr, TcpListener, TcpStream};
+use std::os::fd::{AsRawFd, RawFd};
 use std::sync::atomic::{AtomicU64, Ordering};
 use std::time::Clock;
 
@@ -24,11 +25,11 @@ use std::time::Clock;
 /// after a pause, a bounded number of times. After an accept that failed no connection is left.
 #[derive(Drop)]
 pub struct Listener<'a, C> {
-    socket: TcpListener,
+    pub(crate) socket: TcpListener,
     left: AtomicU64,
     // What each connection may cost.
     limits: Limits,
-    alloc: Global,
+    pub(crate) alloc: Global,
     clock: &'a C,
 }
 
@@ -45,7 +46,7 @@ fn listen_fault(error: &io::Error) -> ListenFault
 }
 
 /// Why a connection was not accepted.
-fn accept_fault(error: &io::Error) -> SourceFault
+pub(crate) fn accept_fault(error: &io::Error) -> SourceFault
     ensures memory { error_kind error.now ≡ ErrorKind.OutOfMemory → result ≡ SourceFault.Memory }
     ensures accept { error_kind error.now ≢ ErrorKind.OutOfMemory → result ≡ SourceFault.Accept }
 {
@@ -99,12 +100,26 @@ impl<C> Listener<'_, C> {
     }
 
     /// Counts one connection more, if one is left.
-    fn count(&self) -> bool {
+    pub(crate) fn count(&self) -> bool {
         self.left
             .fetch_update(Ordering::SeqCst, Ordering::SeqCst, |left| {
                 left.checked_sub(1)
             })
             .is_ok()
+    }
+
+    /// Counts one connection less.
+    pub(crate) fn uncount(&self) {
+        let _ = self
+            .left
+            .fetch_update(Ordering::SeqCst, Ordering::SeqCst, |left| {
+                left.checked_add(1)
+            });
+    }
+
+    /// No connection is left.
+    pub(crate) fn end(&self) {
+        self.left.store(0, Ordering::SeqCst);
     }
 }
 
@@ -135,7 +150,7 @@ impl<C: Clock> Source for Listener<'_, C> {
         }
         let next = self.next();
         if next.is_err() {
-            self.left.store(0, Ordering::SeqCst);
+            self.end();
         }
         Ok(Some(next?))
     }
@@ -145,10 +160,8 @@ impl<C: Clock> Source for Listener<'_, C> {
     }
 }
 
-#[cfg(test)]
-impl<C> Listener<'_, C> {
-    // From now on an accept with no connection there fails, and does not wait.
-    pub(crate) fn never_wait(&self) -> io::Result<()> {
-        self.socket.set_nonblocking(true)
+impl<C> AsRawFd for Listener<'_, C> {
+    fn as_raw_fd(&self) -> RawFd {
+        self.socket.as_raw_fd()
     }
 }

@@ -1,6 +1,8 @@
-use Rattle.std.proofs.Common.{rules, ◌≡◌, [], Err, take, refl}
+use Rattle.std.proofs.Common.{rules, ◌≡◌, ◌≤◌, [], None, Ok, Err, take, length, refl}
 use Rattle.link_core.specs.declared.fault.LinkFault.TheVariants as faults
-use Rattle.hub_core.proofs.Greeted.{greets-lost, counted-take}
+use Rattle.hub_core.specs.Steps.{pause_at}
+use Rattle.hub_core.proofs.Greeted.{greets-lost, counted-take, came-long}
+use Rattle.hub_core.proofs.Leaving.{heard-leaves, heard-fails}
 use Rattle.hub_core.proofs.greeting.Greeting.hear_once.Goals as goal
 
 pub returns-in_err-keep-clause-moved : goal.returns-in_err-keep-clause-moved
@@ -24,3 +26,22 @@ returns-clause-moved g c = λ held.
       counted-take c.read-count.result c.read-count.new.room c.read-count.ensures.bound (search rules),
       refl,
     )
+
+pub returns-in_err-pause-clause-leaves : goal.returns-in_err-pause-clause-leaves
+returns-in_err-pause-clause-leaves g c = λ w.
+    let is : c.from_residual-in_err-pause.result ≡ Err c.in_err-pause.field-0.0 = search rules in
+    let at : pause_at c.read-count.new.self.last faults.Read ≡ Err c.in_err-pause.field-0.0 = search rules in
+    rw is (heard-fails c.read-count.new.self.last w c.in_err-pause.field-0.0 at)
+
+pub returns-clause-leaves : goal.returns-clause-leaves
+returns-clause-leaves g c = λ w.
+    let n = c.read-count.result in
+    let read = take n c.read-count.new.room in
+    let at : pause_at c.read-count.new.self.last faults.Read ≡ Ok c.in_ok-pause.pause = search rules in
+    let came = (c.in_ok-keep.ensures.kept _ _ None c.read-count.ensures.bytes).came in
+    let long = came-long n c.read-count.new.room c.args.self.now.came c.keep.new.self.came c.read-count.ensures.bound
+    came in
+    let written : 4 ≤ length c.args.self.now.came → c.keep.new.self.said ≡ 4 = λ four.
+    search (rules, c.requires.written four) in
+    heard-leaves n (length c.args.self.now.came) c.read-count.new.self.last w c.keep.new.self c.in_ok-pause.pause
+    c.read-count.ensures.last long written (λ ended. search (rules, ended)) at

@@ -1,5 +1,6 @@
 use Rattle.std.proofs.Common.{rules, ◌≡◌, Err}
 use Rattle.hub_core.proofs.Greeted.{GreetsSo-both, GreetsSo-failed}
+use Rattle.hub_core.proofs.Leaving.{leaves-both}
 use Rattle.hub_core.proofs.greeting.Greeting.pump.Goals as goal
 
 pub returns-in_err-next-clause-moved : goal.returns-in_err-next-clause-moved
@@ -12,5 +13,6 @@ pub loop-turn-preserved : goal.loop-turn-preserved
 loop-turn-preserved g c = record {
   moved = rw c.both-step.ensures (GreetsSo-both c.loop-turn.step c.in_ok-next.next _ _ _ _ _ _ _ _ _
       c.loop-turn.invariant.moved c.in_ok-next.ensures.moved);
+  leaves = rw c.both-step.ensures (leaves-both c.loop-turn.step c.in_ok-next.next _ _ _ c.in_ok-next.ensures.leaves);
   room = search rules;
 }

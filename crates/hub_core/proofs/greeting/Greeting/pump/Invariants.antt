@@ -1,10 +1,11 @@
 use Rattle.std.proofs.Common.{◌≡◌, Ok, length}
-use Rattle.hub_core.specs.Steps.{GreetsSo}
+use Rattle.hub_core.specs.Steps.{GreetsSo, LeavesGreeting}
 use Rattle.hub_core.proofs.greeting.Greeting.pump.Given as goal
 
 abbrev pub invariant-loop-turn : goal.invariant-loop-turn
 invariant-loop-turn g l = record {
   moved : GreetsSo l.fn.self l.self (g.I.Read.remaining l.fn.reader.way) (g.I.Read.remaining l.reader.way)
       (g.O.Write.contents l.fn.writer.way) (g.O.Write.contents l.writer.way) (Ok l.step);
+  leaves : LeavesGreeting l.self l.reader.last l.writer.last (Ok l.step);
   room : length l.room ≡ length l.fn.room;
 }

@@ -1,9 +1,6 @@
-use Rattle.std.proofs.Common.{rules, ◌≡◌, None, refl, arith}
-use Rattle.hub_core.proofs.Held.{held-none}
+use Rattle.hub_core.proofs.Held.{none-within}
 use Rattle.hub_core.proofs.hub.Hub.over_budget.Goals as goal
 
-pub returns-in_err-key-clause-within : goal.returns-in_err-key-clause-within
-returns-in_err-key-clause-within g c =
-    let is : c.from_residual.result ≡ None = search rules in
-    let nothing = held-none c.args.self.now.peers c.in_err-key.ensures.none in
-    rw is (omega (arith, nothing), refl)
+pub returns-clause-within : goal.returns-clause-within
+returns-clause-within g c =
+    none-within c.greediest.result c.args.self.now.peers c.args.self.now.limits.memory c.greediest.ensures.none

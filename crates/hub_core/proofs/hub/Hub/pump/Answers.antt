@@ -3,10 +3,10 @@ use Rattle.std.specs.Prelude.{is_some}
 use Rattle.std.specs.Io.Take.{take_remaining}
 use Rattle.slab.specs.Slab.{get, with_value}
 use Rattle.slab.proofs.SlabLemmas.{Updates-with_value}
-use Rattle.hub_core.specs.Peers.{kept_in, GoesSo}
+use Rattle.hub_core.specs.Peers.{kept_in, GoesSo, LeavesOff}
 use Rattle.hub_core.specs.Hubs.{HubState}
 use Rattle.hub_core.proofs.Held.{kept-fits, room-for, held-enough, held-changed}
-use Rattle.hub_core.proofs.Changed.{of-both}
+use Rattle.hub_core.proofs.Changed.{of-both, of-one}
 use Rattle.hub_core.proofs.hub.Hub.pump.Goals as goal
 
 pub overflow_sub-self : goal.overflow_sub-self
@@ -49,3 +49,11 @@ returns-clause-stays g c =
     (W p.writer.way) (W q.writer.way) c.pump-did.result) c.args.self.now.peers
     (with_value c.self.inside.peers c.args.key c.pump-did.new.self) c.args.key c.in_ok-peer.peer.now c.pump-did.new.self
     was updates.changed c.pump-did.ensures.moved
+
+pub returns-clause-leaves : goal.returns-clause-leaves
+returns-clause-leaves g c =
+    let there : get c.self.inside.peers c.args.key ≡ Some c.in_ok-peer.peer.now = search rules in
+    let updates = Updates-with_value c.self.inside.peers c.args.key c.pump-did.new.self (ap is_some there) in
+    of-one (λ q. LeavesOff q.stage q.reader.last q.writer.last c.pump-did.result)
+    (with_value c.self.inside.peers c.args.key c.pump-did.new.self) c.args.key c.pump-did.new.self updates.changed
+    c.pump-did.ensures.leaves

@@ -1,6 +1,7 @@
 use Rattle.std.proofs.Common.{rules, ◌≡◌}
 use Rattle.hub_core.specs.declared.stage.Stage.TheVariants as stages
 use Rattle.hub_core.proofs.Peering.{plain-goes, counted-goes}
+use Rattle.hub_core.proofs.Leaving.{plain-leaves, counted-leaves}
 use Rattle.hub_core.proofs.stage.Stage.pump.Goals as goal
 
 pub returns-in-Plain-clause-moved : goal.returns-in-Plain-clause-moved
@@ -17,3 +18,14 @@ returns-in-Counted-clause-moved g c =
     counted-goes c.pump-in-Counted.result c.step_of-in-Counted.result c.args.self.now c.in-Counted.session
     c.deref_mut-in-Counted.result.now c.pump-in-Counted.new.session _ _ _ _ is same c.step_of-in-Counted.ensures
     c.pump-in-Counted.ensures.moved
+
+pub returns-in-Plain-clause-leaves : goal.returns-in-Plain-clause-leaves
+returns-in-Plain-clause-leaves g c =
+    plain-leaves c.pump-in-Plain.result c.step_of.result c.in-Plain.session c.pump-in-Plain.new.session _ _
+    c.step_of.ensures c.pump-in-Plain.ensures.stands c.pump-in-Plain.ensures.fails
+
+pub returns-in-Counted-clause-leaves : goal.returns-in-Counted-clause-leaves
+returns-in-Counted-clause-leaves g c =
+    counted-leaves c.pump-in-Counted.result c.step_of-in-Counted.result c.in-Counted.session
+    c.pump-in-Counted.new.session _ _ c.step_of-in-Counted.ensures c.pump-in-Counted.ensures.stands
+    c.pump-in-Counted.ensures.fails

@@ -1,0 +1,241 @@
+//! Peers who come to a loop: connections that it accepts, and peers that another loop hands over.
+
+ghost use Rattle.std.specs.Prelude.{◌≡◌};
+
+use crate::desk::Desk;
+use crate::ending::Parting;
+use crate::looping::{Kind, Loop};
+use crate::note::Guest;
+use crate::site::Site;
+use hub_core::Peer;
+use link_core::LinkFault;
+use mio::unix::SourceFd;
+use mio::{Interest, Token};
+use outcome_core::SourceFault;
+use peer_threads::Gate;
+use session_table::SessionId;
+use std::os::fd::{AsRawFd, RawFd};
+use std::sync::Wait;
+use tcp_front::{Arrival, Half};
+
+/// How many connections are taken in a row.
+const IN_A_ROW: usize = 64;
+
+/// How often in a row it is tried again while there is no descriptor for one more: for ten minutes and more.
+const MOST_MISSES: u32 = 60_000;
+
+/// For how many milliseconds a peer has to be silent that goes because there is no descriptor for another.
+const SILENT: u64 = 100;
+
+/// How the accepting left off.
+#[derive(Clone, Copy, Debug, PartialEq, Eq)]
+pub(crate) enum Accepting {
+    /// Nobody is there.
+    Waits,
+    /// Somebody may be there.
+    More,
+    /// There was no descriptor, or no memory, for one more.
+    NoRoom,
+    /// Nobody will come.
+    Done,
+}
+
+impl Accepting {
+    /// As a loop of this kind begins.
+    pub(crate) fn of(kind: Kind) -> Accepting {
+        match kind {
+            Kind::Accepts => Accepting::More,
+            Kind::Takes => Accepting::Done,
+        }
+    }
+
+    /// Somebody may be there.
+    pub(crate) fn again(self) -> Accepting {
+        match self {
+            Accepting::Done => Accepting::Done,
+            _ => Accepting::More,
+        }
+    }
+}
+
+impl Loop {
+    /// Takes in whoever has come: those who connect, or those whom other loops hand over.
+    pub(crate) fn take_in<R: Wait, G: Gate>(
+        &mut self,
+        site: &Site<'_, R, G>,
+        desk: &mut Desk<'_, G>,
+    )
+        ensures shared { desk.new.shared ≡ desk.old.shared }
+    {
+        match self.kind {
+            Kind::Accepts => self.accept_all(site, desk),
+            Kind::Takes => self.take_guests(site, desk),
+        }
+    }
+
+    /// Accepts connections: a bounded number in a row. Where nobody will come, the other loops are told.
+    fn accept_all<R: Wait, G: Gate>(&mut self, site: &Site<'_, R, G>, desk: &mut Desk<'_, G>)
+        ensures shared { desk.new.shared ≡ desk.old.shared }
+    {
+        if self.accepting == Accepting::NoRoom {
+            self.accepting = Accepting::More;
+        }
+        for _ in 0..IN_A_ROW {
+            if self.accepting != Accepting::More {
+                return;
+            }
+            self.accepting = self.accept_next(site, desk);
+            if self.accepting == Accepting::Done {
+                site.crowd.wake_all();
+            }
+        }
+    }
+
+    /// Accepts one connection, if somebody is there; how the accepting goes on.
+    fn accept_next<R: Wait, G: Gate>(
+        &mut self,
+        site: &Site<'_, R, G>,
+        desk: &mut Desk<'_, G>,
+    ) -> Accepting
+        ensures shared { desk.new.shared ≡ desk.old.shared }
+    {
+        match site.listener.arrival() {
+            Ok(arrival) => self.accept(site, desk, arrival),
+            Err(fault) => {
+                site.crowd.fail(site.rt, fault);
+                Accepting::Done
+            }
+        }
+    }
+
+    /// Takes in a connection, if one came; how the accepting goes on.
+    fn accept<R: Wait, G: Gate>(
+        &mut self,
+        site: &Site<'_, R, G>,
+        desk: &mut Desk<'_, G>,
+        arrival: Arrival,
+    ) -> Accepting
+        ensures shared { desk.new.shared ≡ desk.old.shared }
+    {
+        match arrival {
+            Arrival::Came(reader, writer) => {
+                self.misses = 0;
+                self.admit_new(site, desk, reader, writer);
+                Accepting::More
+            }
+            Arrival::Gone => Accepting::More,
+            Arrival::Nobody => Accepting::Waits,
+            Arrival::NoMore => Accepting::Done,
+            Arrival::NoRoom => self.miss(site, desk),
+        }
+    }
+
+    /// Makes room where there is no descriptor for one more. After so many times in a row the source has failed.
+    fn miss<R: Wait, G: Gate>(&mut self, site: &Site<'_, R, G>, desk: &mut Desk<'_, G>) -> Accepting
+        ensures shared { desk.new.shared ≡ desk.old.shared }
+    {
+        self.misses = self.misses.saturating_add(1);
+        if self.misses > MOST_MISSES {
+            site.crowd.fail(site.rt, SourceFault::Accept);
+            return Accepting::Done;
+        }
+        if self.leavers.is_empty() {
+            self.let_a_silent_one_go(site, desk);
+        }
+        self.leavers.close_all();
+        Accepting::NoRoom
+    }
+
+    /// Lets the peer go that has been silent for longest, if it has been so for a while: the system may say that there
+    /// is no descriptor though nobody waits.
+    fn let_a_silent_one_go<R: Wait, G: Gate>(
+        &mut self,
+        site: &Site<'_, R, G>,
+        desk: &mut Desk<'_, G>,
+    )
+        ensures shared { desk.new.shared ≡ desk.old.shared }
+    {
+        let Some(key) = self.hub.most_silent() else {
+            return;
+        };
+        let heard = self.hub.get(key).map_or(self.now, |peer| peer.heard());
+        if self.now.saturating_sub(heard) >= SILENT {
+            self.let_go(site, desk, key, Parting::TimeIsOver);
+        }
+    }
+
+    /// Lets the peer go that has been silent for longest.
+    fn make_room<R: Wait, G: Gate>(&mut self, site: &Site<'_, R, G>, desk: &mut Desk<'_, G>)
+        ensures shared { desk.new.shared ≡ desk.old.shared }
+    {
+        if let Some(key) = self.hub.most_silent() {
+            self.let_go(site, desk, key, Parting::TimeIsOver);
+        }
+    }
+
+    /// Takes in a connection that has just come. Where all places are taken, the peer of this loop that has been silent
+    /// for longest makes room; one more comes in where this loop has none.
+    fn admit_new<R: Wait, G: Gate>(
+        &mut self,
+        site: &Site<'_, R, G>,
+        desk: &mut Desk<'_, G>,
+        reader: Half,
+        writer: Half,
+    )
+        ensures shared { desk.new.shared ≡ desk.old.shared }
+    {
+        if site.crowd.is_full() {
+            self.make_room(site, desk);
+        }
+        site.crowd.count_one_more();
+        let most_bytes = u64::from(site.crowd.limits.most_bytes);
+        let serial = self.serial;
+        self.serial = serial.saturating_add(1);
+        let peer = Peer::new(site.alloc, reader, writer, most_bytes, serial, self.now);
+        self.admit(site, desk, Guest { peer, id: None });
+    }
+
+    /// Takes in all whom other loops hand over.
+    fn take_guests<R: Wait, G: Gate>(&mut self, site: &Site<'_, R, G>, desk: &mut Desk<'_, G>)
+        ensures shared { desk.new.shared ≡ desk.old.shared }
+    {
+        for guest in site.crowd.guests(site.rt, site.alloc, self.index) {
+            self.admit(site, desk, guest);
+        }
+    }
+
+    /// Notes the session of the peer that is to have this key, and registers its connection. Whether it could.
+    fn register(&mut self, key: usize, fd: RawFd, id: Option<SessionId>) -> bool {
+        if self.notes.add(key, id).is_err() {
+            return false;
+        }
+        let both = Interest::READABLE | Interest::WRITABLE;
+        self.poll
+            .registry()
+            .register(&mut SourceFd(&fd), Token(key), both)
+            .is_ok()
+    }
+
+    /// Takes in a peer.
+    fn admit<R: Wait, G: Gate>(
+        &mut self,
+        site: &Site<'_, R, G>,
+        desk: &mut Desk<'_, G>,
+        guest: Guest,
+    )
+        ensures shared { desk.new.shared ≡ desk.old.shared }
+    {
+        let no_memory = Parting::Failed(LinkFault::Memory);
+        let key = self.hub.next_key();
+        let fd = guest.peer.reader().as_raw_fd();
+        if !self.register(key, fd, guest.id) {
+            self.part(site, desk, guest, no_memory);
+            return;
+        }
+        let Guest { peer, id } = guest;
+        match self.hub.admit(peer) {
+            Ok(key) => self.soon(site, desk, key),
+            Err(peer) => self.part(site, desk, Guest { peer, id }, no_memory),
+        }
+    }
+}

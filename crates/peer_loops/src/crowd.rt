@@ -1,0 +1,248 @@
+//! What all loops share beside the log.
+
+ghost use Rattle.std.specs.Prelude.{◌≤◌};
+
+use crate::looping::Kind;
+use crate::note::Guest;
+use mio::{Poll, Waker};
+use outcome_core::SourceFault;
+use std::alloc::{AllocError, Global};
+use std::net::Net;
+use std::sync::atomic::{AtomicUsize, Ordering};
+use std::sync::{Mutex, OnceLock, Wait};
+
+/// What peers may cost.
+#[derive(Clone, Copy, Debug, PartialEq, Eq)]
+pub struct PeerLimits {
+    /// How many peers there are at once, at most.
+    pub peers: u32,
+    /// For how many seconds a peer may be silent.
+    pub patience: u32,
+    /// For how many seconds a session may go on.
+    pub session_seconds: u32,
+    /// How many bytes are read of one peer.
+    pub most_bytes: u32,
+    /// How many bytes of memory are counted for all peers, at most.
+    pub memory: u64,
+    /// How many sessions there are at once, at most: as many as the table has places.
+    pub sessions: usize,
+}
+
+/// Where peers wait for a loop, and how it is woken.
+#[derive(Drop)]
+pub(crate) struct Inlet {
+    guests: Mutex<Vec<Guest>>,
+    // Where the loop runs.
+    waker: OnceLock<Waker>,
+}
+
+/// What all loops share beside the log.
+#[derive(Drop)]
+pub(crate) struct Crowd {
+    pub(crate) alloc: Global,
+    /// What peers may cost.
+    pub(crate) limits: PeerLimits,
+    /// Of how many loops each kind has.
+    pub(crate) loops: usize,
+    inlets: Vec<Inlet>,
+    // What loops wait with that do not run yet.
+    polls: Mutex<Vec<Poll>>,
+    // How many peers there are.
+    peers: AtomicUsize,
+    // How many more sessions may be opened.
+    places: AtomicUsize,
+    // How many loops that accept are not done.
+    accepting: AtomicUsize,
+    fault: OnceLock<SourceFault>,
+}
+
+/// What so many loops wait with, or as many as the system gives.
+fn polls<R: Net>(rt: &R, alloc: Global, count: usize) -> Result<Vec<Poll>, AllocError> {
+    let mut polls = Vec::with_capacity(alloc, count)?;
+    for _ in 0..count {
+        let Ok(poll) = Poll::new(rt) else {
+            return Ok(polls);
+        };
+        polls.push(poll)?;
+    }
+    Ok(polls)
+}
+
+/// So many inlets.
+fn inlets(alloc: Global, count: usize) -> Result<Vec<Inlet>, AllocError> {
+    let mut inlets = Vec::with_capacity(alloc, count)?;
+    for _ in 0..count {
+        inlets.push(Inlet {
+            guests: Mutex::new(Vec::new(alloc)),
+            waker: OnceLock::new(),
+        })?;
+    }
+    Ok(inlets)
+}
+
+impl Crowd {
+    /// So many loops of each kind, of which none runs.
+    pub(crate) fn new<R: Net>(
+        rt: &R,
+        alloc: Global,
+        loops: u8,
+        limits: PeerLimits,
+    ) -> Result<Crowd, AllocError> {
+        let loops = usize::from(loops);
+        let both_kinds = loops.saturating_mul(2);
+        Ok(Crowd {
+            alloc,
+            limits,
+            loops,
+            inlets: inlets(alloc, both_kinds)?,
+            polls: Mutex::new(polls(rt, alloc, both_kinds)?),
+            peers: AtomicUsize::new(0),
+            places: AtomicUsize::new(limits.sessions),
+            accepting: AtomicUsize::new(loops),
+            fault: OnceLock::new(),
+        })
+    }
+
+    /// What the loop of this number does: those that take peers from others come first.
+    pub(crate) fn kind_of(&self, index: usize) -> Kind {
+        if index < self.loops {
+            return Kind::Takes;
+        }
+        Kind::Accepts
+    }
+
+    /// One peer more has come.
+    pub(crate) fn count_one_more(&self) {
+        let _ = self
+            .peers
+            .fetch_update(Ordering::SeqCst, Ordering::SeqCst, |count| {
+                count.checked_add(1)
+            });
+    }
+
+    /// One peer is gone.
+    pub(crate) fn count_one_less(&self) {
+        let _ = self
+            .peers
+            .fetch_update(Ordering::SeqCst, Ordering::SeqCst, |count| {
+                count.checked_sub(1)
+            });
+    }
+
+    /// Whether there are as many peers as there may be.
+    pub(crate) fn is_full(&self) -> bool {
+        self.peers.load(Ordering::SeqCst) >= self.limits.peers as usize
+    }
+
+    /// What one loop more waits with, if the system gave enough.
+    pub(crate) fn take_poll<T: Wait>(&self, rt: &T) -> Option<Poll> {
+        self.polls.lock(rt).pop()
+    }
+
+    /// Takes a place for one session more, if there is one.
+    pub(crate) fn take_place(&self) -> bool {
+        self.places
+            .fetch_update(Ordering::SeqCst, Ordering::SeqCst, |left| {
+                left.checked_sub(1)
+            })
+            .is_ok()
+    }
+
+    /// Gives a place back.
+    pub(crate) fn give_place_back(&self) {
+        let _ = self
+            .places
+            .fetch_update(Ordering::SeqCst, Ordering::SeqCst, |left| {
+                left.checked_add(1)
+            });
+    }
+
+    /// A loop that accepts is done. The last wakes those that take peers from others.
+    pub(crate) fn leave(&self) {
+        let _ = self
+            .accepting
+            .fetch_update(Ordering::SeqCst, Ordering::SeqCst, |left| {
+                left.checked_sub(1)
+            });
+        if !self.is_accepting() {
+            self.wake_all();
+        }
+    }
+
+    /// Whether some loop that accepts is not done.
+    pub(crate) fn is_accepting(&self) -> bool {
+        self.accepting.load(Ordering::SeqCst) > 0
+    }
+
+    /// Wakes all loops that run.
+    pub(crate) fn wake_all(&self) {
+        for inlet in &self.inlets {
+            if let Some(waker) = inlet.waker.get() {
+                let _told = waker.wake();
+            }
+        }
+    }
+
+    /// The loop of this number runs, and is woken so.
+    pub(crate) fn open_inlet<T: Wait>(&self, rt: &T, index: usize, waker: Waker) {
+        if let Some(inlet) = self.inlets.get(index) {
+            let _earlier = inlet.waker.set(rt, waker);
+        }
+    }
+
+    /// Whether the loop of this number runs.
+    pub(crate) fn has_inlet(&self, index: usize) -> bool {
+        self.inlets
+            .get(index)
+            .is_some_and(|inlet| inlet.waker.get().is_some())
+    }
+
+    /// Hands a peer to the loop of this number. It comes back where that does not run, or where memory runs out.
+    pub(crate) fn hand_over<T: Wait>(
+        &self,
+        rt: &T,
+        index: usize,
+        guest: Guest,
+    ) -> Result<(), Guest> {
+        let Some(inlet) = self.inlets.get(index) else {
+            return Err(guest);
+        };
+        let Some(waker) = inlet.waker.get() else {
+            return Err(guest);
+        };
+        let mut guests = inlet.guests.lock(rt);
+        if guests.try_reserve(1).is_err() {
+            return Err(guest);
+        }
+        guests.push_reserved(guest);
+        drop(guests);
+        let _told = waker.wake();
+        Ok(())
+    }
+
+    /// Whether somebody waits for the loop of this number.
+    pub(crate) fn has_guests<T: Wait>(&self, rt: &T, index: usize) -> bool {
+        self.inlets
+            .get(index)
+            .is_some_and(|inlet| !inlet.guests.lock(rt).is_empty())
+    }
+
+    /// Takes all who wait for the loop of this number.
+    pub(crate) fn guests<T: Wait>(&self, rt: &T, alloc: Global, index: usize) -> Vec<Guest> {
+        let mut taken = Vec::new(alloc);
+        if let Some(inlet) = self.inlets.get(index) {
+            std::mem::swap(&mut taken, &mut *inlet.guests.lock(rt));
+        }
+        taken
+    }
+
+    /// The source failed so.
+    pub(crate) fn fail<T: Wait>(&self, rt: &T, fault: SourceFault) {
+        let _earlier = self.fault.set(rt, fault);
+    }
+
+    /// The source's first fault, if it had one.
+    pub(crate) fn into_fault(self) -> Option<SourceFault> {
+        self.fault.into_inner()
+    }
+}

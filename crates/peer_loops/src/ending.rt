@@ -1,0 +1,81 @@
+//! How the session of a peer ended, by how far it was and why the peer is let go.
+
+ghost use Rattle.std.specs.Prelude.{ℕ};
+ghost use Rattle.peer_loops.specs.Partings.{Teaches};
+
+use hub_core::Stage;
+use link_core::LinkFault;
+use peer_threads::{Direction, Outcome};
+use session_core::State;
+
+/// Why a peer is let go.
+#[derive(Clone, Copy, Debug, PartialEq, Eq)]
+pub(crate) enum Parting {
+    /// Its session is over.
+    Over,
+    /// Its stream failed, or there was no memory for it.
+    Failed(LinkFault),
+    /// Its time is over, or it makes room for another.
+    TimeIsOver,
+}
+
+/// What failed of a session that was cut off: the writing, where it waited for that.
+fn waiting_side(owes: bool) -> Direction {
+    if owes {
+        return Direction::Write;
+    }
+    Direction::Read
+}
+
+/// The outcome of a session that did not come to its end.
+fn broken(parting: Parting, owes: bool, sent: u32) -> Outcome
+    ensures { (stage : _) (version : ℕ) → Teaches stage version result }
+{
+    match parting {
+        Parting::Failed(LinkFault::Read) => Outcome::Io {
+            side: Direction::Read,
+            sent,
+        },
+        Parting::Failed(LinkFault::Write) => Outcome::Io {
+            side: Direction::Write,
+            sent,
+        },
+        Parting::Failed(LinkFault::Memory) => Outcome::Memory { sent },
+        Parting::Over | Parting::TimeIsOver => Outcome::Io {
+            side: waiting_side(owes),
+            sent,
+        },
+    }
+}
+
+/// The outcome of a session that came to its end.
+fn ended(stage: Stage, sent: u32, version: usize) -> Outcome
+    ensures { Teaches stage version result }
+{
+    match stage.into_learned() {
+        Some(learned) => Outcome::Ended {
+            learned,
+            sent,
+            version,
+        },
+        None => broken(Parting::Over, false, sent),
+    }
+}
+
+/// How many messages were written whole: one at most is said and not written.
+fn whole(stage: &Stage) -> u32 {
+    stage.sent().saturating_sub(u32::from(stage.owes()))
+}
+
+/// How the session ended of a peer that is let go.
+pub(crate) fn outcome_of(stage: Stage, version: usize, parting: Parting) -> Outcome
+    ensures { Teaches stage version result }
+{
+    let sent = stage.sent();
+    match stage.state() {
+        Some(State::Refused(code)) => Outcome::Refused { code, sent },
+        Some(State::PeerRefused(code)) => Outcome::PeerRefused { code, sent },
+        Some(State::Ended) if parting == Parting::Over => ended(stage, sent, version),
+        _ => broken(parting, stage.owes(), whole(&stage)),
+    }
+}

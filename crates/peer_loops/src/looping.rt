@@ -1,0 +1,242 @@
+//! One loop: it waits until streams are ready, and goes on with those.
+
+ghost use Rattle.std.specs.Prelude.{◌≡◌};
+
+use crate::arriving::Accepting;
+use crate::desk::Desk;
+use crate::ending::Parting;
+use crate::leaving::Leavers;
+use crate::note::Notes;
+use crate::site::Site;
+use hub_core::{Hub, HubLimits};
+use mio::unix::SourceFd;
+use mio::{Events, Interest, Poll, Token, Waker};
+use peer_threads::Gate;
+use std::io;
+use std::io::ErrorKind;
+use std::os::fd::AsRawFd;
+use std::sync::Wait;
+use std::time::{Clock, Duration};
+use tcp_front::Half;
+
+/// The token of the listener, and that of the waker.
+pub(crate) const LISTENER: Token = Token(usize::MAX);
+
+pub(crate) const WAKER: Token = Token(usize::MAX - 1);
+
+/// How many events are taken at once.
+const EVENTS: usize = 1_024;
+
+/// How many milliseconds a loop waits at most, and while something is to be tried again.
+const TICK: u64 = 250;
+
+const PAUSE: u64 = 10;
+
+/// How many peers are let go in a row whose time is over.
+const IN_A_ROW: usize = 256;
+
+/// What a loop does: it accepts, or it takes those from others whose messages are long.
+#[derive(Clone, Copy, Debug, PartialEq, Eq)]
+pub(crate) enum Kind {
+    /// It accepts.
+    Accepts,
+    /// It takes peers from others.
+    Takes,
+}
+
+/// One loop.
+#[derive(Drop)]
+pub(crate) struct Loop {
+    pub(crate) poll: Poll,
+    pub(crate) kind: Kind,
+    /// Its number among all loops.
+    pub(crate) index: usize,
+    pub(crate) hub: Hub<Half, Half>,
+    pub(crate) notes: Notes,
+    /// Those with whom it goes on without waiting.
+    pub(crate) soon: Vec<usize>,
+    /// Those who wait for a place in the table of sessions.
+    pub(crate) waiting: Vec<usize>,
+    pub(crate) leavers: Leavers,
+    pub(crate) accepting: Accepting,
+    /// How often in a row there was no descriptor for one more.
+    pub(crate) misses: u32,
+    /// The number of the next peer.
+    pub(crate) serial: u64,
+    /// The time, in milliseconds from some fixed moment.
+    pub(crate) now: u64,
+    /// When it last looked for those whose time is over.
+    swept: u64,
+}
+
+/// A number of seconds, in milliseconds.
+fn milliseconds(seconds: u32) -> u64 {
+    u64::from(seconds).saturating_mul(1_000)
+}
+
+/// The limits of one loop: its part of the memory that all peers may take, and the others as they are.
+fn limits_of<R, G>(site: &Site<'_, R, G>) -> HubLimits {
+    let limits = &site.crowd.limits;
+    let loops = (site.crowd.loops as u64).saturating_mul(2).max(1);
+    HubLimits {
+        places: limits.peers as usize,
+        memory: limits.memory / loops,
+        idle: milliseconds(limits.patience),
+        whole: milliseconds(limits.session_seconds),
+    }
+}
+
+impl Loop {
+    /// The loop of this number, without peers. The others can wake it, and hand peers to it.
+    pub(crate) fn new<R: Wait, G>(site: &Site<'_, R, G>, index: usize) -> io::Result<Loop> {
+        let kind = site.crowd.kind_of(index);
+        let Some(poll) = site.crowd.take_poll(site.rt) else {
+            return Err(io::Error::from(ErrorKind::OutOfMemory));
+        };
+        let waker = Waker::new(poll.registry(), WAKER)?;
+        if kind == Kind::Accepts {
+            let fd = site.listener.as_raw_fd();
+            poll.registry()
+                .register(&mut SourceFd(&fd), LISTENER, Interest::READABLE)?;
+        }
+        site.crowd.open_inlet(site.rt, index, waker);
+        Ok(Loop {
+            poll,
+            kind,
+            index,
+            hub: Hub::new(site.alloc, limits_of(site)),
+            notes: Notes(Vec::new(site.alloc)),
+            soon: Vec::new(site.alloc),
+            waiting: Vec::new(site.alloc),
+            leavers: Leavers::new(site.alloc),
+            accepting: Accepting::of(kind),
+            misses: 0,
+            serial: 1,
+            now: 0,
+            swept: 0,
+        })
+    }
+
+    /// How many milliseconds it may wait.
+    fn wait(&self) -> u64 {
+        if !self.soon.is_empty() || self.accepting == Accepting::More {
+            return 0;
+        }
+        if !self.waiting.is_empty()
+            || !self.leavers.is_empty()
+            || self.accepting == Accepting::NoRoom
+        {
+            return PAUSE;
+        }
+        TICK
+    }
+
+    /// Whether all is done: nobody is there, and nobody will come.
+    fn is_done<R: Wait, G>(&self, site: &Site<'_, R, G>) -> bool {
+        let may_come = match self.kind {
+            Kind::Accepts => self.accepting != Accepting::Done,
+            // Whoever is handed over is there before the last loop that accepts is done.
+            Kind::Takes => {
+                site.crowd.is_accepting() || site.crowd.has_guests(site.rt, self.index)
+            }
+        };
+        !may_come && self.hub.len() == 0 && self.leavers.is_empty()
+    }
+
+    /// Goes on with those that were left off.
+    fn go_on_soon<R: Wait, G: Gate>(&mut self, site: &Site<'_, R, G>, desk: &mut Desk<'_, G>)
+        ensures shared { desk.new.shared ≡ desk.old.shared }
+    {
+        let mut soon = Vec::new(site.alloc);
+        std::mem::swap(&mut soon, &mut self.soon);
+        for key in soon {
+            self.notes.set_listed(key, false);
+            self.go_on(site, desk, key);
+        }
+    }
+
+    /// Tries again to open the sessions for which there was no place.
+    fn open_waiting<R: Wait, G: Gate>(&mut self, site: &Site<'_, R, G>, desk: &mut Desk<'_, G>)
+        ensures shared { desk.new.shared ≡ desk.old.shared }
+    {
+        let mut waiting = Vec::new(site.alloc);
+        std::mem::swap(&mut waiting, &mut self.waiting);
+        for key in waiting {
+            self.notes.set_listed(key, false);
+            self.go_on(site, desk, key);
+        }
+    }
+
+    /// Lets those go whose time is over.
+    fn sweep<R: Wait, G: Gate>(&mut self, site: &Site<'_, R, G>, desk: &mut Desk<'_, G>)
+        ensures shared { desk.new.shared ≡ desk.old.shared }
+    {
+        self.leavers.close_late(self.now);
+        if self.now.saturating_sub(self.swept) < TICK {
+            return;
+        }
+        self.swept = self.now;
+        for _late in 0..IN_A_ROW {
+            let Some(key) = self.hub.late(self.now) else {
+                return;
+            };
+            self.let_go(site, desk, key, Parting::TimeIsOver);
+        }
+    }
+
+    /// Goes on with whoever is ready.
+    fn meet<R: Wait, G: Gate>(
+        &mut self,
+        site: &Site<'_, R, G>,
+        desk: &mut Desk<'_, G>,
+        token: Token,
+    )
+        ensures shared { desk.new.shared ≡ desk.old.shared }
+    {
+        if token == LISTENER || token == WAKER {
+            self.accepting = self.accepting.again();
+        } else if !self.leavers.read_on(self.poll.registry(), token) {
+            self.go_on(site, desk, token.0);
+        }
+    }
+
+    /// What it does after a wait.
+    fn turn<R: Wait, G: Gate>(
+        &mut self,
+        site: &Site<'_, R, G>,
+        desk: &mut Desk<'_, G>,
+        events: &Events,
+    )
+        ensures shared { desk.new.shared ≡ desk.old.shared }
+    {
+        self.go_on_soon(site, desk);
+        for event in events {
+            self.meet(site, desk, event.token());
+        }
+        self.open_waiting(site, desk);
+        self.take_in(site, desk);
+        self.sweep(site, desk);
+    }
+
+    /// Serves those who come, until nobody is there and nobody will come.
+    pub(crate) fn run<R: Wait + Clock, G: Gate>(
+        &mut self,
+        site: &Site<'_, R, G>,
+        desk: &mut Desk<'_, G>,
+    ) -> io::Result<()>
+        ensures shared { desk.new.shared ≡ desk.old.shared }
+    {
+        let mut events = Events::with_capacity(site.alloc, EVENTS)?;
+        for _ in site.rt.forever() {
+            if self.is_done(site) {
+                return Ok(());
+            }
+            let wait = Duration::from_millis(self.wait());
+            self.poll.poll(&mut events, Some(wait))?;
+            let passed = site.rt.monotonic()?;
+            self.now = u64::try_from(passed.as_millis()).unwrap_or(u64::MAX);
+            self.turn(site, desk, &events);
+        }
+        unreachable!()
+    }
+}

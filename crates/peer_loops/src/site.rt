@@ -1,0 +1,17 @@
+//! Where a loop runs.
+
+use crate::crowd::Crowd;
+use peer_threads::Shared;
+use range_tree::Tree;
+use std::alloc::Global;
+use tcp_front::Listener;
+
+/// Where a loop runs: what it shares with the others, and where its peers come from.
+#[derive(Drop)]
+pub(crate) struct Site<'a, R, G> {
+    pub(crate) rt: &'a R,
+    pub(crate) alloc: Global,
+    pub(crate) shared: &'a Shared<'a, Tree, G>,
+    pub(crate) crowd: &'a Crowd,
+    pub(crate) listener: &'a Listener<'a, R>,
+}

@@ -1,0 +1,197 @@
+//! One peer's session, from its first message to its end.
+
+ghost use Rattle.std.specs.Prelude.{◌≡◌};
+
+use crate::desk::Desk;
+use crate::ending::Parting;
+use crate::looping::{Kind, Loop};
+use crate::note::Guest;
+use crate::site::Site;
+use hub_core::StepPause;
+use link_core::LinkFault;
+use mio::unix::SourceFd;
+use peer_threads::Gate;
+use std::os::fd::AsRawFd;
+use std::sync::Wait;
+
+/// How many bytes are read at a time.
+const ROOM: usize = 16_384;
+
+impl Loop {
+    /// Goes on with this peer, as far as its stream goes without waiting; then lets those go that keep more than all
+    /// may.
+    pub(crate) fn go_on<R: Wait, G: Gate>(
+        &mut self,
+        site: &Site<'_, R, G>,
+        desk: &mut Desk<'_, G>,
+        key: usize,
+    )
+        ensures shared { desk.new.shared ≡ desk.old.shared }
+    {
+        let mut room = [0u8; ROOM];
+        let before = self.sent(key);
+        let did = self.hub.pump(site.alloc, key, &mut room, self.now);
+        self.count(site, key, before);
+        match did {
+            Some(Ok(step)) => self.follow(site, desk, key, step.pause),
+            Some(Err(fault)) => self.let_go(site, desk, key, Parting::Failed(fault)),
+            None => {}
+        }
+        self.keep_within(site, desk);
+    }
+
+    /// How many messages were said to this peer.
+    fn sent(&self, key: usize) -> u32 {
+        self.hub.get(key).map_or(0, |peer| peer.sent())
+    }
+
+    /// Counts in the table what was said to this peer since so many messages.
+    fn count<R: Wait, G>(&mut self, site: &Site<'_, R, G>, key: usize, before: u32) {
+        let Some(id) = self.notes.id(key) else {
+            return;
+        };
+        let sent = self.sent(key);
+        if sent == before {
+            return;
+        }
+        let mut sessions = site.shared.sessions.lock(site.rt);
+        for _message in before..sent {
+            let _counted = sessions.note_sent(id);
+        }
+    }
+
+    /// Does what a step of this peer asks for.
+    fn follow<R: Wait, G: Gate>(
+        &mut self,
+        site: &Site<'_, R, G>,
+        desk: &mut Desk<'_, G>,
+        key: usize,
+        pause: StepPause,
+    )
+        ensures shared { desk.new.shared ≡ desk.old.shared }
+    {
+        match pause {
+            StepPause::Opens => self.open(site, desk, key),
+            StepPause::Over => self.let_go(site, desk, key, Parting::Over),
+            StepPause::More if self.is_long(key) => self.hand_over(site, desk, key),
+            StepPause::More => self.soon(site, desk, key),
+            StepPause::Waits if self.is_long(key) => self.hand_over(site, desk, key),
+            StepPause::Waits => {}
+        }
+    }
+
+    /// Whether another loop is to go on with this peer.
+    fn is_long(&self, key: usize) -> bool {
+        self.kind == Kind::Accepts && self.hub.get(key).is_some_and(|peer| peer.is_long())
+    }
+
+    /// Notes that it goes on with this peer without waiting. Where memory runs out, the peer is let go.
+    pub(crate) fn soon<R: Wait, G: Gate>(
+        &mut self,
+        site: &Site<'_, R, G>,
+        desk: &mut Desk<'_, G>,
+        key: usize,
+    )
+        ensures shared { desk.new.shared ≡ desk.old.shared }
+    {
+        if !self.notes.set_listed(key, true) && self.soon.push(key).is_err() {
+            self.let_go(site, desk, key, Parting::Failed(LinkFault::Memory));
+        }
+    }
+
+    /// The same once there may be a place for its session.
+    fn wait_for_place<R: Wait, G: Gate>(
+        &mut self,
+        site: &Site<'_, R, G>,
+        desk: &mut Desk<'_, G>,
+        key: usize,
+    )
+        ensures shared { desk.new.shared ≡ desk.old.shared }
+    {
+        if !self.notes.set_listed(key, true) && self.waiting.push(key).is_err() {
+            self.let_go(site, desk, key, Parting::Failed(LinkFault::Memory));
+        }
+    }
+
+    /// Opens the session of this peer, if the table has a place for it; else the peer waits.
+    fn open<R: Wait, G: Gate>(&mut self, site: &Site<'_, R, G>, desk: &mut Desk<'_, G>, key: usize)
+        ensures shared { desk.new.shared ≡ desk.old.shared }
+    {
+        if !site.crowd.take_place() {
+            self.wait_for_place(site, desk, key);
+            return;
+        }
+        let opened = desk.open(site.rt, site.alloc, &mut self.hub, key);
+        self.book(site, key);
+        if opened.is_err() {
+            self.let_go(site, desk, key, Parting::Failed(LinkFault::Memory));
+            return;
+        }
+        self.soon(site, desk, key);
+    }
+
+    /// Enters the session of this peer into the table, if its first message was answered; else its place is given back.
+    fn book<R: Wait, G>(&mut self, site: &Site<'_, R, G>, key: usize) {
+        if !self.enter(site, key) {
+            site.crowd.give_place_back();
+        }
+    }
+
+    /// Enters the session of this peer into the table, if its first message was answered. Whether it did.
+    fn enter<R: Wait, G>(&mut self, site: &Site<'_, R, G>, key: usize) -> bool {
+        let Some(peer) = self.hub.get(key) else {
+            return false;
+        };
+        if peer.sent() == 0 {
+            return false;
+        }
+        let opened = site
+            .shared
+            .sessions
+            .lock(site.rt)
+            .open(peer.stage().bound());
+        let Ok(id) = opened else {
+            return false;
+        };
+        self.notes.book(key, id);
+        self.count(site, key, 0);
+        true
+    }
+
+    /// Hands this peer to a loop for those whose messages are long, if one runs.
+    fn hand_over<R: Wait, G: Gate>(
+        &mut self,
+        site: &Site<'_, R, G>,
+        desk: &mut Desk<'_, G>,
+        key: usize,
+    )
+        ensures shared { desk.new.shared ≡ desk.old.shared }
+    {
+        let index = key.checked_rem(site.crowd.loops).unwrap_or(0);
+        if !site.crowd.has_inlet(index) {
+            self.soon(site, desk, key);
+            return;
+        }
+        let id = self.notes.id(key);
+        let Some(peer) = self.hub.take(key) else {
+            return;
+        };
+        let fd = peer.reader().as_raw_fd();
+        let _gone = self.poll.registry().deregister(&mut SourceFd(&fd));
+        if let Err(guest) = site.crowd.hand_over(site.rt, index, Guest { peer, id }) {
+            self.part(site, desk, guest, Parting::Failed(LinkFault::Memory));
+        }
+    }
+
+    /// Lets the peers go of which most is kept, until all keep no more than they may.
+    fn keep_within<R: Wait, G: Gate>(&mut self, site: &Site<'_, R, G>, desk: &mut Desk<'_, G>)
+        ensures shared { desk.new.shared ≡ desk.old.shared }
+    {
+        for _peer in 0..self.hub.len() {
+            let Some(key) = self.hub.over_budget() else {
+                return;
+            };
+            self.let_go(site, desk, key, Parting::Failed(LinkFault::Memory));
+        }
+    }
+}

@@ -1,0 +1,86 @@
+//! Connections that are taken without waiting, and of which no call waits.
+
+ghost use Rattle.std.specs.Prelude.{◌≡◌};
+ghost use Rattle.tcp_front.specs.Misses.{miss_for};
+
+use crate::half::{Half, halves};
+use crate::listener::{Listener, accept_fault};
+use crate::trying::{Miss, miss_of};
+use outcome_core::SourceFault;
+use std::io;
+use std::io::ErrorKind;
+use std::net::TcpStream;
+
+/// What a listener has for someone who does not wait.
+#[derive(Drop)]
+pub enum Arrival {
+    /// A connection: the half that is read, and the half that is written.
+    Came(Half, Half),
+    /// Nobody is there now.
+    Nobody,
+    /// Somebody was there, and is gone.
+    Gone,
+    /// There is no descriptor, or no memory, for one more.
+    NoRoom,
+    /// As many were taken as were to be.
+    NoMore,
+}
+
+/// What an accept gave that made no connection. Else the source fails.
+fn missed(error: &io::Error) -> Result<Arrival, SourceFault> {
+    match error.kind() {
+        ErrorKind::WouldBlock => return Ok(Arrival::Nobody),
+        ErrorKind::Interrupted => return Ok(Arrival::Gone),
+        _ => {}
+    }
+    match miss_of(error.raw_os_error()) {
+        Miss::Gone => Ok(Arrival::Gone),
+        Miss::NoRoom => Ok(Arrival::NoRoom),
+        Miss::Failed => Err(accept_fault(error)),
+    }
+}
+
+/// A connection of which no call waits, and of which small messages are sent at once where the system takes that
+/// setting.
+fn prompt(stream: TcpStream) -> io::Result<TcpStream> {
+    let _set = stream.set_nodelay(true);
+    stream.set_nonblocking(true)?;
+    Ok(stream)
+}
+
+impl<C> Listener<'_, C> {
+    /// From now on an accept with nobody there does not wait.
+    pub fn never_wait(&self) -> io::Result<()> {
+        self.socket.set_nonblocking(true)
+    }
+
+    /// The two halves of a connection that was accepted. One that is gone meanwhile is passed over.
+    fn arrived(&self, stream: TcpStream) -> Arrival {
+        match prompt(stream) {
+            Ok(stream) => match halves(self.alloc, stream) {
+                Some((reader, writer)) => Arrival::Came(reader, writer),
+                None => Arrival::NoRoom,
+            },
+            Err(_) => Arrival::Gone,
+        }
+    }
+
+    /// Takes one connection, if somebody is there, and does not wait. It counts only those that came. After a failure
+    /// no connection is left.
+    pub fn arrival(&self) -> Result<Arrival, SourceFault> {
+        if !self.count() {
+            return Ok(Arrival::NoMore);
+        }
+        match self.socket.accept() {
+            Ok((stream, _peer)) => Ok(self.arrived(stream)),
+            Err(error) => {
+                self.uncount();
+                let missed = missed(&error);
+                if missed.is_err() {
+                    self.end();
+                }
+                missed
+            }
+        }
+    }
+}
