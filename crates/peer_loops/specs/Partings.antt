@@ -1,21 +1,56 @@
 -- What comes of a peer that is let go.
---     Teaches stage version o            an outcome that ended says what the session has learned, and of which version
+--     broken_by parting owes sent        the outcome of a session that did not come to its end
+--     TellsOf state parting stage v o    the outcome of a session that stands so
+--     Tells parting stage version o      a session that refused, or whose peer did, says so, whatever came after it; one
+--                                        that ended and was said whole says what it has learned, and of which version;
+--                                        any other is broken, and says as sent what was written whole
 --     PutsInOf id lets_in o v w          what was learned is put into the log, where the session is in the table
-use Rattle.std.specs.Prelude.{◌≡◌, ℕ, Option, Some, None, ⊤}
+use Rattle.std.specs.Prelude.{◌≡◌, ℕ, ◌-◌, Bool, true, false, Option, Some, None, if◌then◌else◌}
 use Rattle.session_table.specs.declared.session.SessionId.{SessionId}
+use Rattle.definitions.specs.Talks.{Knowledge}
+use Rattle.outcome_core.specs.declared.outcome.Direction.TheVariants as directions
 use Rattle.outcome_core.specs.declared.outcome.Outcome.{Outcome}
 use Rattle.outcome_core.specs.declared.outcome.Outcome.TheVariants as outcomes
 use Rattle.version_lock.specs.declared.view.View.{View}
 use Rattle.peer_threads.specs.Workers.{PutsInLearned}
-use Rattle.hub_core.specs.Peers.{Learns}
+use Rattle.session_core.specs.declared.state.State.{State}
+use Rattle.session_core.specs.declared.state.State.TheVariants as states
+use Rattle.link_core.specs.declared.fault.LinkFault.TheVariants as faults
+use Rattle.hub_core.specs.Peers.{Learns, owes, sent_in, state_in}
 use Rattle.hub_core.specs.declared.stage.Stage.{Stage}
+use Rattle.peer_loops.specs.declared.ending.Parting.{Parting}
+use Rattle.peer_loops.specs.declared.ending.Parting.TheVariants as partings
 
-abbrev pub Teaches : Stage → ℕ → Outcome → Type 0
-Teaches stage version (outcomes.Ended learned sent spoken) = Learns stage learned × (spoken ≡ version)
-Teaches stage version (outcomes.Refused code sent) = ⊤
-Teaches stage version (outcomes.PeerRefused code sent) = ⊤
-Teaches stage version (outcomes.Io side sent) = ⊤
-Teaches stage version (outcomes.Memory sent) = ⊤
+-- the first bit: it waited for a write
+abbrev pub broken_by : Parting → Bool → ℕ → Outcome
+broken_by (partings.Failed faults.Read) b sent = outcomes.Io directions.Read sent
+broken_by (partings.Failed faults.Write) b sent = outcomes.Io directions.Write sent
+broken_by (partings.Failed faults.Memory) b sent = outcomes.Memory sent
+broken_by partings.Over b sent = outcomes.Io (if b then directions.Write else directions.Read) sent
+broken_by partings.TimeIsOver b sent = outcomes.Io (if b then directions.Write else directions.Read) sent
+
+-- one message at most is said and not written whole
+abbrev pub whole_in : Stage → ℕ
+whole_in stage = sent_in stage - (if owes stage then 1 else 0)
+
+abbrev pub broken_at : Parting → Stage → Outcome
+broken_at parting stage = broken_by parting (owes stage) (whole_in stage)
+
+abbrev pub TellsEnded : Parting → Stage → ℕ → Outcome → Type 0
+TellsEnded partings.Over stage version o =
+    (k : Knowledge) × Learns stage k × (o ≡ outcomes.Ended k (sent_in stage) version)
+TellsEnded (partings.Failed f) stage version o = o ≡ broken_at (partings.Failed f) stage
+TellsEnded partings.TimeIsOver stage version o = o ≡ broken_at partings.TimeIsOver stage
+
+abbrev pub TellsOf : Option State → Parting → Stage → ℕ → Outcome → Type 0
+TellsOf (Some (states.Refused code)) parting stage version o = o ≡ outcomes.Refused code (sent_in stage)
+TellsOf (Some (states.PeerRefused code)) parting stage version o = o ≡ outcomes.PeerRefused code (sent_in stage)
+TellsOf (Some states.Ended) parting stage version o = TellsEnded parting stage version o
+TellsOf (Some states.Open) parting stage version o = o ≡ broken_at parting stage
+TellsOf None parting stage version o = o ≡ broken_at parting stage
+
+abbrev pub Tells : Parting → Stage → ℕ → Outcome → Type 0
+Tells parting stage version o = TellsOf (state_in stage) parting stage version o
 
 abbrev pub PutsInOf : Option SessionId → (ℕ → ℕ → ℕ → Type 0) → Outcome → View → View → Type 0
 PutsInOf None lets_in o v w = w ≡ v

@@ -18,9 +18,6 @@ use std::os::fd::{AsRawFd, RawFd};
 use std::sync::Wait;
 use tcp_front::{Arrival, Half};
 
-/// How many connections are taken in a row.
-const IN_A_ROW: usize = 64;
-
 /// How often in a row it is tried again while there is no descriptor for one more: for ten minutes and more.
 const MOST_MISSES: u32 = 60_000;
 
@@ -68,26 +65,22 @@ impl Loop {
         ensures shared { desk.new.shared ≡ desk.old.shared }
     {
         match self.kind {
-            Kind::Accepts => self.accept_all(site, desk),
+            Kind::Accepts => self.accept_once(site, desk),
             Kind::Takes => self.take_guests(site, desk),
         }
     }
 
-    /// Accepts connections: a bounded number in a row. Where nobody will come, the other loops are told.
-    fn accept_all<R: Wait, G: Gate>(&mut self, site: &Site<'_, R, G>, desk: &mut Desk<'_, G>)
+    /// Accepts one connection, if somebody may be there: so it is served before this loop takes another, and the other
+    /// loops, which were woken too, take those. Where nobody will come, they are told.
+    fn accept_once<R: Wait, G: Gate>(&mut self, site: &Site<'_, R, G>, desk: &mut Desk<'_, G>)
         ensures shared { desk.new.shared ≡ desk.old.shared }
     {
-        if self.accepting == Accepting::NoRoom {
-            self.accepting = Accepting::More;
+        if self.accepting != Accepting::More && self.accepting != Accepting::NoRoom {
+            return;
         }
-        for _ in 0..IN_A_ROW {
-            if self.accepting != Accepting::More {
-                return;
-            }
-            self.accepting = self.accept_next(site, desk);
-            if self.accepting == Accepting::Done {
-                site.crowd.wake_all();
-            }
+        self.accepting = self.accept_next(site, desk);
+        if self.accepting == Accepting::Done {
+            site.crowd.wake_all();
         }
     }
 
@@ -234,7 +227,8 @@ impl Loop {
         }
         let Guest { peer, id } = guest;
         match self.hub.admit(peer) {
-            Ok(key) => self.soon(site, desk, key),
+            // the system reports at once that it can be written to
+            Ok(_key) => {}
             Err(peer) => self.part(site, desk, Guest { peer, id }, no_memory),
         }
     }

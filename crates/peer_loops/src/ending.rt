@@ -1,7 +1,11 @@
 //! How the session of a peer ended, by how far it was and why the peer is let go.
 
-ghost use Rattle.std.specs.Prelude.{ℕ};
-ghost use Rattle.peer_loops.specs.Partings.{Teaches};
+ghost use Rattle.std.specs.Prelude.{◌≡◌, Some, if◌then◌else◌};
+ghost use Rattle.hub_core.specs.Peers.{sent_in, state_in};
+ghost use Rattle.outcome_core.specs.declared.outcome.Direction.TheVariants as directions;
+ghost use Rattle.session_core.specs.declared.state.State.TheVariants as states;
+ghost use Rattle.peer_loops.specs.Partings.{Tells, TellsEnded, broken_by, whole_in};
+ghost use Rattle.peer_loops.specs.declared.ending.Parting.TheVariants as partings;
 
 use hub_core::Stage;
 use link_core::LinkFault;
@@ -20,7 +24,9 @@ pub(crate) enum Parting {
 }
 
 /// What failed of a session that was cut off: the writing, where it waited for that.
-fn waiting_side(owes: bool) -> Direction {
+fn waiting_side(owes: bool) -> Direction
+    ensures { result ≡ (if owes then directions.Write else directions.Read) }
+{
     if owes {
         return Direction::Write;
     }
@@ -29,7 +35,7 @@ fn waiting_side(owes: bool) -> Direction {
 
 /// The outcome of a session that did not come to its end.
 fn broken(parting: Parting, owes: bool, sent: u32) -> Outcome
-    ensures { (stage : _) (version : ℕ) → Teaches stage version result }
+    ensures { result ≡ broken_by parting owes sent }
 {
     match parting {
         Parting::Failed(LinkFault::Read) => Outcome::Io {
@@ -48,10 +54,12 @@ fn broken(parting: Parting, owes: bool, sent: u32) -> Outcome
     }
 }
 
-/// The outcome of a session that came to its end.
-fn ended(stage: Stage, sent: u32, version: usize) -> Outcome
-    ensures { Teaches stage version result }
+/// The outcome of a session that came to its end, and was said whole.
+fn ended(stage: Stage, version: usize) -> Outcome
+    requires { state_in stage ≡ Some states.Ended }
+    ensures { TellsEnded partings.Over stage version result }
 {
+    let sent = stage.sent();
     match stage.into_learned() {
         Some(learned) => Outcome::Ended {
             learned,
@@ -63,19 +71,21 @@ fn ended(stage: Stage, sent: u32, version: usize) -> Outcome
 }
 
 /// How many messages were written whole: one at most is said and not written.
-fn whole(stage: &Stage) -> u32 {
+fn whole(stage: &Stage) -> u32
+    ensures { result ≡ whole_in stage.now }
+{
     stage.sent().saturating_sub(u32::from(stage.owes()))
 }
 
 /// How the session ended of a peer that is let go.
 pub(crate) fn outcome_of(stage: Stage, version: usize, parting: Parting) -> Outcome
-    ensures { Teaches stage version result }
+    ensures { Tells parting stage version result }
 {
     let sent = stage.sent();
     match stage.state() {
         Some(State::Refused(code)) => Outcome::Refused { code, sent },
         Some(State::PeerRefused(code)) => Outcome::PeerRefused { code, sent },
-        Some(State::Ended) if parting == Parting::Over => ended(stage, sent, version),
+        Some(State::Ended) if parting == Parting::Over => ended(stage, version),
         _ => broken(parting, stage.owes(), whole(&stage)),
     }
 }

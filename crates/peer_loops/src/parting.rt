@@ -2,7 +2,7 @@
 
 ghost use Rattle.std.specs.Prelude.{◌≡◌};
 ghost use Rattle.outcome_core.specs.declared.outcome.Outcome as outcomes;
-ghost use Rattle.peer_loops.specs.Partings.{PutsInOf, Teaches};
+ghost use Rattle.peer_loops.specs.Partings.{PutsInOf, Tells};
 
 use crate::desk::Desk;
 use crate::ending::{Parting, outcome_of};
@@ -85,7 +85,7 @@ impl Loop {
         parting: Parting,
     )
         ensures shared { desk.new.shared ≡ desk.old.shared }
-        ensures put { (o : outcomes.Outcome) × Teaches guest.peer.stage guest.peer.version o
+        ensures put { (o : outcomes.Outcome) × Tells parting guest.peer.stage guest.peer.version o
             × PutsInOf guest.id (G.lets_in desk.old.shared.now.gate.now) o desk.old.seat.view desk.new.seat.view }
     {
         site.crowd.count_one_less();
