@@ -1,12 +1,25 @@
-# What the scripts of this folder share; each of them reads this file and works in bench/out.
+# shellcheck shell=bash
+# What the scripts of this folder and of tests/long share. Each of them works in its own folder, and makes all in out/.
 
-flags=(--edition 2024 -C opt-level=3 -C codegen-units=1 -C lto=fat -C panic=abort -C target-cpu=x86-64-v2)
+top=$(cd "$(dirname "${BASH_SOURCE[0]}")/.." && pwd)
 
-# Builds the plain program, and makes the files that both programs read.
+# ---- programs
+
+# Says that a test is not run, and ends it with 77, if one of these commands is not there.
+needs() {
+  local test=$1 name
+  shift
+  for name in "$@"; do
+    command -v "$name" > /dev/null || { echo "not run: $test, since there is no $name" && exit 77; }
+  done
+}
+
+# Builds what is timed in plain Rust, the Cargo package plain: out/plain, and out/target/release/embedded.
 build_plain() {
   mkdir -p out
-  rustc "${flags[@]}" -o out/plain plain.rs
-  out/plain make out
+  RUSTFLAGS='-C target-cpu=x86-64-v2' cargo build --quiet --release --offline --locked \
+    --manifest-path "$top/bench/plain/Cargo.toml" --target-dir out/target
+  ln -sf target/release/plain out/plain
 }
 
 # Copies a folder, by hard links where the file system has them: what rt keeps of the crates takes gigabytes.
@@ -14,57 +27,55 @@ copy() {
   cp -al "$1" "$2" 2> /dev/null || { rm -rf "$2" && cp -a "$1" "$2"; }
 }
 
-# Makes an empty folder for a copy of the repository, and out/NAME a link to it: in .git, since rt ci reads every other
-# folder, and takes no crates.txt below the top.
-new_repository() {
-  local name=$1 room
-  room=$(git rev-parse --absolute-git-dir)/bench/$name
-  rm -rf "$room" "out/$name"
-  mkdir -p "$room" out
-  ln -s "$room" "out/$name"
-}
-
-# A copy of the repository, in which the proved programs that are timed are crates too.
-copy_repository() {
-  new_repository repo
-  copy ../crates out/repo/crates
-  cp ../crates.txt out/repo/crates.txt
-}
-
-# Adds a crate of this name over these crates to the copy, from NAME.rt.in.
-add_program() {
-  local name=$1
-  shift
-  mkdir -p "out/repo/crates/$name/src"
-  cp "$name.rt.in" "out/repo/crates/$name/src/main.rt"
-  echo "$name: $*" >> out/repo/crates.txt
-}
-
-# Adds a crate of this name over these crates to the copy, from the files of the folder NAME.
-add_program_of() {
-  local name=$1 file
-  shift
-  mkdir -p "out/repo/crates/$name/src"
+# A copy of the repository in an empty folder, in which the program of the folder NAME is a crate over these crates.
+# Each module of it is a file NAME/*.rt.in.
+copy_with_program() {
+  local room=$1 name=$2 file
+  shift 2
+  rm -rf "$room"
+  mkdir -p "$room"
+  copy "$top/crates" "$room/crates"
+  mkdir -p "$room/crates/$name/src"
   for file in "$name"/*.rt.in; do
-    cp "$file" "out/repo/crates/$name/src/$(basename "$file" .in)"
+    cp "$file" "$room/crates/$name/src/$(basename "$file" .in)"
   done
-  echo "$name: $*" >> out/repo/crates.txt
+  cp "$top/crates.txt" "$top/HANDLES" "$room"
+  echo "$name: $*" >> "$room/crates.txt"
 }
 
-# Proves and builds the program of this name, and runs it in bench/out; it prints its times.
+# Proves and builds the program of the folder NAME over these crates, as out/NAME, unless it was built of the same
+# sources before. Its repository is in .git: rt ci reads every other folder, and takes no crates.txt below the top. What
+# rt prints is in out/NAME.log.
+build_program() {
+  local name=$1 room sources
+  room=$(git rev-parse --absolute-git-dir)/bench/$name
+  sources=$("$top/release" --sources && sha256sum "$name"/*.rt.in && echo "$@")
+  mkdir -p out
+  if [ "$(cat "$room/sources" 2> /dev/null)" != "$sources" ]; then
+    copy_with_program "$room" "$@"
+    # Without words the program does nothing.
+    if ! (cd "$room/crates/$name" && rt run > /dev/null) 2> "out/$name.log"; then
+      echo "$0: $name was not proved or not built; out/$name.log says why" >&2
+      return 1
+    fi
+    echo "$sources" > "$room/sources"
+  fi
+  ln -sf "$room/crates/$name/out/$name" "out/$name"
+}
+
+# Proves and builds the program of the folder proved, out/proved, once for all scripts.
+build_proved() {
+  build_program proved definitions codec_laws rank_laws laws item_core digest_core store_core range_tree io_core \
+    wire_core place_core answer_core strategy_core rank_core strategy_check ends_core version_log atomic_table \
+    version_lock item_files settings_core
+}
+
+# Runs the proved program on these words in out/, from which it reads its files.
 run_proved() {
-  local name=$1
-  (cd "out/repo/crates/$name" && rt run > /dev/null) 2> "out/$name.log" || true
-  (cd out && "repo/crates/$name/out/$name")
+  (cd out && ./proved "$@")
 }
 
-# Prints the steps of both files, and how many times the plain program's time the proved one takes.
-side_by_side() {
-  awk 'BEGIN { printf "%-14s %12s %12s %8s\n", "step", "plain (us)", "proved (us)", "ratio" }
-    NR == FNR { plain[$1] = $2; next }
-    $1 in plain { printf "%-14s %12.1f %12.1f %8.2f\n", $1, plain[$1], $2, $2 / (plain[$1] > 0 ? plain[$1] : 1) }' \
-    "$1" "$2"
-}
+# ---- times
 
 # Of what several runs of a program printed, lines `STEP TIME`: the least time of each step. A process may find that
 # each large vector takes new pages, or that it gets those of the one before, so one run alone says little.
@@ -74,15 +85,49 @@ least() {
     END { for (i = 1; i <= count; i++) print steps[i], time[steps[i]] }'
 }
 
-# Runs a plain program and the proved one of this name so many times in turn, each run in a process of its own, and
-# leaves the least times in out/plain.times and out/proved.times.
+# Runs a subcommand of the plain program, with these words, and that of the proved one, so many times in turn, each run
+# in a process of its own, and leaves the least times in out/plain.times and out/proved.times.
 in_turn() {
-  local times=$1 plain=$2 proved=$3
+  local times=$1 name=$2
+  shift 2
   rm -f out/plain.all out/proved.all
   for ((run = 0; run < times; run++)); do
-    $plain >> out/plain.all
-    (cd out && "repo/crates/$proved/out/$proved") >> out/proved.all
+    out/plain "$name" "$@" >> out/plain.all
+    run_proved "$name" >> out/proved.all
   done
   least < out/plain.all > out/plain.times
   least < out/proved.all > out/proved.times
+}
+
+# Prints the steps of both files, under a heading of their column and as wide as this, and how many times the plain
+# program's time the proved one takes.
+side_by_side() {
+  awk -v heading="${3:-step}" -v width="${4:-14}" '
+    BEGIN { printf "%-*s %12s %12s %8s\n", width, heading, "plain (us)", "proved (us)", "ratio" }
+    NR == FNR { plain[$1] = $2; next }
+    $1 in plain {
+      printf "%-*s %12.1f %12.1f %8.2f\n", width, $1, plain[$1], $2, $2 / (plain[$1] > 0 ? plain[$1] : 1)
+    }' "$1" "$2"
+}
+
+# How often a command is run whose seconds are asked for: once before, and then as often as it is timed.
+timed_runs=10
+hyperfine_runs=0
+if command -v hyperfine > /dev/null; then hyperfine_runs=$((1 + timed_runs)); fi
+
+# The median seconds of a whole command, as hyperfine has them, or a dash where it is not installed. The words before
+# the command are options of hyperfine.
+seconds_of() {
+  if [ "$hyperfine_runs" = 0 ]; then
+    echo -
+    return
+  fi
+  hyperfine --ignore-failure --warmup 1 --runs "$timed_runs" --command-name timed --export-csv out/seconds.csv "$@" \
+    > out/hyperfine.log 2>&1
+  awk -F , 'NR == 2 { printf "%.2f\n", $4 }' out/seconds.csv
+}
+
+# Says so where no whole command was timed.
+note_untimed() {
+  [ "$hyperfine_runs" != 0 ] || echo 'not timed: whole commands, since there is no hyperfine'
 }

@@ -20,7 +20,6 @@ from dataclasses import dataclass
 from pathlib import Path
 
 TOP = Path(__file__).resolve().parent.parent
-sys.path.append(str(TOP / "bench"))  # It has the wire format in Python.
 PROGRAM = os.environ.get("RANGESYNC") or str(TOP / "crates/rangesync/out/rangesync")
 EIGHT = TOP / "examples/eight.toml"
 ALL_ROUND = TOP / "examples/all-round.toml"
