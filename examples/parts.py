@@ -140,11 +140,17 @@ def split(view: View, parts: int) -> list[Set]:
 
 
 def address_of(text: str) -> tuple[str, int]:
-    """Of HOST:PORT."""
+    """Of HOST:PORT, where an address of IPv6 stands in brackets."""
     host, colon, port = text.rpartition(":")
     if not colon or not port.isdecimal() or int(port) > 65_535:
         raise Stopped(f"{text} is not HOST:PORT")
-    return host, int(port)
+    is_six = host.startswith("[") and host.endswith("]")
+    return host[1:-1] if is_six else host, int(port)
+
+
+def address_text(host: str, port: int) -> str:
+    """HOST:PORT, as `address_of` reads it."""
+    return f"[{host}]:{port}" if ":" in host else f"{host}:{port}"
 
 
 async def together(*works: Awaitable[Any]) -> list[Any]:
@@ -296,8 +302,7 @@ async def serve(name: str, address: tuple[str, int], look: Callable[[], View]) -
             await line.close()
 
     server = await asyncio.start_server(connected, *address, limit=LONGEST)
-    host, port = server.sockets[0].getsockname()[:2]
-    print(f"listening {host}:{port}", flush=True)
+    print(f"listening {address_text(*server.sockets[0].getsockname()[:2])}", flush=True)
     async with server:
         await server.serve_forever()
 

@@ -28,6 +28,13 @@ unreached_text address (causes.NoAnswer seconds) =
     address ++ (codes ": no answer in " ++ (decimal seconds ++ codes " seconds"))
 unreached_text address causes.NoWay = address ++ codes " cannot be reached"
 unreached_text address causes.NoRoom = codes "the system has no room for one more connection"
+unreached_text address causes.NoPath = address ++ codes " has no path"
+unreached_text address causes.PathTooLong = codes "the path of " ++ (address ++ codes " has more than 107 bytes")
+unreached_text address causes.Folder = address ++ codes " is a folder"
+unreached_text address causes.NotASocket = address ++ codes " is no socket"
+unreached_text address causes.NoFolder = codes "the folder of " ++ (address ++ codes " is not there")
+unreached_text address causes.NoSocket = codes "no socket can be made at " ++ address
+unreached_text address causes.NoEntry = codes "this user may not connect to " ++ address
 
 abbrev pub unreached_listen : ErrorKind → Unreached
 unreached_listen kinds.AddrInUse = causes.InUse

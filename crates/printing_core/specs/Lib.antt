@@ -13,4 +13,6 @@ pub mod ReportTexts
 pub mod SessionTexts
 pub mod ShownLines
 pub mod StatsTexts
+pub mod StdioTexts
+pub mod UnixCauses
 pub mod Whys

@@ -13,6 +13,7 @@ use Rattle.strategy_check.specs.declared.fault.CheckFault.{CheckFault}
 use Rattle.strategy_check.specs.declared.fault.CheckFault.TheVariants.{NoDescent, ListTooLong, TooDeep, BadCertificate}
 use Rattle.printing_core.specs.FlawTexts.{unread_text, input_text, server_text}
 use Rattle.printing_core.specs.AddressTexts.{unreached_text}
+use Rattle.printing_core.specs.StdioTexts.{peer_text}
 use Rattle.printing_core.specs.declared.why.Key.{Key}
 use Rattle.printing_core.specs.declared.why.Key.TheVariants as keys
 use Rattle.printing_core.specs.declared.why.Why.{Why}
@@ -77,3 +78,4 @@ why_text (whys.Address address cause) = unreached_text address.now cause
 why_text (whys.Input flaw) = input_text flaw
 why_text whys.Output = codes "standard output is closed or full"
 why_text (whys.Server flaw) = server_text flaw
+why_text (whys.Peer flaw) = peer_text flaw

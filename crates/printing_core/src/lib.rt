@@ -13,7 +13,9 @@ mod reports;
 mod session_texts;
 mod shown;
 mod stats;
+mod stdio;
 mod told;
+mod unix_causes;
 mod unreached;
 mod why;
 
@@ -31,9 +33,11 @@ pub use reports::{Reporting, learned_line, left_out_line, report_text};
 pub use session_texts::{listening_line, outcome_text, served_text};
 pub use shown::shown_line;
 pub use stats::{Stats, Tally};
+pub use stdio::{PeerFlaw, peer_flaw, refusal_of_session, tell_stdio_flaw};
 pub use told::{
     Cause, tell_full, tell_left_out, tell_left_waiting, tell_torn, tell_unwritten_cause,
     tell_written_again,
 };
+pub use unix_causes::{AtPath, unreached_unix_connect, unreached_unix_listen};
 pub use unreached::{Unreached, port_is_too_high, unreached_connect, unreached_listen};
 pub use why::{Key, Why, tell_why};

@@ -34,6 +34,20 @@ pub enum Unreached {
     NoWay,
     /// A connection there was not accepted.
     NoRoom,
+    /// It is a Unix socket without a path.
+    NoPath,
+    /// The path of the socket is too long.
+    PathTooLong,
+    /// A folder stands at the path of the socket.
+    Folder,
+    /// A file that is no socket stands at its path.
+    NotASocket,
+    /// The folder of the socket is not there.
+    NoFolder,
+    /// No socket can be made there, for any other reason.
+    NoSocket,
+    /// This user may not connect there.
+    NoEntry,
 }
 
 /// An address, and why it is not listened at or not reached.
@@ -64,6 +78,13 @@ impl fmt::Display for AddressLine<'_> {
             }
             Unreached::NoWay => write!(f, "{address} cannot be reached"),
             Unreached::NoRoom => write!(f, "the system has no room for one more connection"),
+            Unreached::NoPath => write!(f, "{address} has no path"),
+            Unreached::PathTooLong => { write!(f, "the path of {address} has more than 107 bytes") }
+            Unreached::Folder => write!(f, "{address} is a folder"),
+            Unreached::NotASocket => write!(f, "{address} is no socket"),
+            Unreached::NoFolder => write!(f, "the folder of {address} is not there"),
+            Unreached::NoSocket => write!(f, "no socket can be made at {address}"),
+            Unreached::NoEntry => write!(f, "this user may not connect to {address}"),
         }
     }
 }

@@ -4,6 +4,7 @@ ghost use Rattle.std.specs.Prelude.{◌≡◌, Some};
 ghost use Rattle.printing_core.specs.Whys.{key_name, strategy_text, check_text, range_text, row_in, why_text};
 
 use crate::flaws::{InputFlaw, ServerFlaw, Unread};
+use crate::stdio::PeerFlaw;
 use crate::unreached::{AddressLine, Unreached};
 use std::fmt;
 use std::io::Write;
@@ -193,6 +194,8 @@ pub enum Why<'a> {
     Output,
     /// A server did not do what a session needs.
     Server(ServerFlaw),
+    /// The peer of a session over standard input and output did not, or these fail.
+    Peer(PeerFlaw),
 }
 
 impl fmt::Display for Why<'_> {
@@ -236,6 +239,7 @@ impl fmt::Display for Why<'_> {
             Why::Input(flaw) => write!(f, "{flaw}"),
             Why::Output => write!(f, "standard output is closed or full"),
             Why::Server(flaw) => write!(f, "{flaw}"),
+            Why::Peer(flaw) => write!(f, "{flaw}"),
         }
     }
 }

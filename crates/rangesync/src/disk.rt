@@ -68,6 +68,20 @@ fn fault_of(error: &io::Error) -> Fault {
     }
 }
 
+/// Makes a file, or empties it if it is there, if a path is given. Else 80 or 90.
+pub fn create_file<R: Files<File = File>>(
+    rt: &R,
+    path: Option<&str>,
+) -> Result<Option<File>, Fault> {
+    let Some(path) = path else {
+        return Ok(None);
+    };
+    match fs::create(rt, path) {
+        Ok(file) => Ok(Some(file)),
+        Err(error) => Err(fault_of(&error)),
+    }
+}
+
 /// The bytes at the end of an open file of this length, as many as are looked at.
 fn tail_of(alloc: Global, file: &mut File, length: u64) -> io::Result<Vec<u8>> {
     let mut tail = Vec::new(alloc);

@@ -9,15 +9,18 @@ mod limits;
 mod loading;
 mod metering;
 mod planning;
+mod reaching;
 mod reporting;
 mod row;
 mod run;
 mod serve;
+mod stdio;
 mod sync;
 mod why;
+mod why_address;
 
 use printing_core::{Fault, tell, tell_no_text};
-use run::StandardError;
+use run::{StandardError, StandardInput};
 use std::env::Env;
 use std::fs::File;
 use std::io::{IsTerminal, Read, Write};
@@ -30,7 +33,7 @@ use std::time::Clock;
 use std::{env, io};
 
 /// The status of the run on the environment's words.
-fn status<R, I: Read + Drop, O: Write + Drop, E: Write + IsTerminal + Drop + Send>(
+fn status<R, I: Read + IsTerminal + Drop, O: Write + Drop, E: Write + IsTerminal + Drop + Send>(
     rt: &R,
     reader: I,
     out: O,
@@ -55,6 +58,10 @@ where
     };
     match words.collect::<Vec<String>>(rt.alloc()) {
         Ok(words) => {
+            let reader = StandardInput {
+                is_terminal: reader.is_terminal(),
+                reader,
+            };
             let is_terminal = err.is_terminal();
             let err = StandardError {
                 writer: err,

@@ -10,17 +10,21 @@ use crate::loading::{Sources, load};
 use crate::planning::{Planning, plan};
 use crate::reporting::{Paths, Rules};
 use crate::serve::{Serving, serve};
+use crate::stdio::{flaw_of, serve_stdio, sync_stdio};
 use crate::sync::{Asking, sync};
 use crate::why::explain;
 use answer_core::{answer, list_reply};
 use io_core::{Watched, read_input, write_output};
 use item_files::read_items;
-use printing_core::{Fault, Reporting, decode_text, encode_lines, tell, tell_words};
+use printing_core::{
+    Fault, Reporting, decode_text, encode_lines, tell, tell_stdio_flaw, tell_words,
+};
 use settings_core::{Call, Command, read_words};
 use sim_core::{scenario_of, sim_text};
 use std::alloc::Global;
 use std::convert::AsStr;
 use std::fs::File;
+use std::io;
 use std::io::{Read, Write};
 use std::net::{Net, TcpListener, TcpStream};
 use std::rt::Files;
@@ -140,6 +144,7 @@ where
         Command::Serve {
             table,
             address,
+            stdio,
             workers,
             sessions,
             patience,
@@ -188,11 +193,18 @@ where
                 items,
                 keep,
             };
-            serve(rt, load(rt, sources, reader, err)?, serving, out, err)
+            if stdio {
+                let loaded = load(rt, sources, io::empty(), err)?;
+                serve_stdio(rt, loaded, serving, (reader, out), err)
+            } else {
+                serve(rt, load(rt, sources, reader, err)?, serving, out, err)
+            }
         }
         Command::Sync {
             table,
             address,
+            stdio,
+            out: file,
             profile,
             patience,
             most_bytes,
@@ -209,6 +221,7 @@ where
                     most_bytes,
                 },
                 stats,
+                out: file,
             };
             let sources = Sources {
                 table,
@@ -216,7 +229,12 @@ where
                 items: Some(items),
                 keep: None,
             };
-            sync(rt, load(rt, sources, reader, err)?, asking, out, err)
+            if stdio {
+                let loaded = load(rt, sources, io::empty(), err)?;
+                sync_stdio(rt, loaded, asking, (reader, out), err)
+            } else {
+                sync(rt, load(rt, sources, reader, err)?, asking, out, err)
+            }
         }
     }
 }
@@ -231,6 +249,15 @@ pub struct StandardError<E> {
     pub is_terminal: bool,
 }
 
+/// What is read as standard input, and whether it is a terminal: over one no session is spoken.
+#[derive(Drop)]
+pub struct StandardInput<I> {
+    /// What is read.
+    pub reader: I,
+    /// Whether it is a terminal.
+    pub is_terminal: bool,
+}
+
 /// Runs the program on these words, of which the first is its own name, and gives the status: 0 done, 1 refused, 2 for
 /// words that it does not know, 3 for a file, an input, an output, the network or memory.
 ///
@@ -239,7 +266,7 @@ pub struct StandardError<E> {
 pub fn run<R, W: AsStr, I: Read + Drop, O: Write + Drop, E: Write + Drop + Send>(
     rt: &R,
     words: &[W],
-    reader: I,
+    input: StandardInput<I>,
     out: O,
     err: StandardError<E>,
 ) -> u8
@@ -261,7 +288,10 @@ where
         Ok(call) => call,
         Err(fault) => return tell_words(out, err, fault),
     };
-    match obey(rt, command, reader, out, &mut err) {
+    if let Some(flaw) = flaw_of(command, input.is_terminal) {
+        return tell_stdio_flaw(err, flaw);
+    }
+    match obey(rt, command, input.reader, out, &mut err) {
         Ok(()) => 0,
         Err(fault) => {
             let status = tell(&mut err, fault);

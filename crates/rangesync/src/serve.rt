@@ -7,6 +7,7 @@ ghost use Rattle.settings_core.specs.Spans.{IsWorkerCount};
 use crate::disk::Disk;
 use crate::limits::places;
 use crate::loading::Loaded;
+use crate::reaching::listen_at;
 use crate::reporting::{Closed, Paths, Reporter, Rules, open_books};
 use io_core::{Watched, WriterFailed, write_output};
 use peer_loops::{PeerLimits, serve_peers};
@@ -22,7 +23,7 @@ use std::rt::Files;
 use std::sync::{Arc, Mutex, Wait};
 use std::thread::{Threads, join};
 use std::time::Clock;
-use tcp_front::{Limits, Listener, listen};
+use tcp_front::{Limits, Listener};
 use version_lock::{Seat, VersionLock};
 
 /// How sessions are served.
@@ -196,8 +197,12 @@ where
         patience: serving.limits.patience,
         most_bytes: serving.limits.most_bytes,
     };
-    let listener = listen(rt, serving.address, serving.sessions, limits)?;
-    announce(alloc, serving.address, listener.local_addr(), &mut out, err)?;
+    let listener = listen_at(rt, serving.address, serving.sessions, limits)?;
+    let announced = announce(alloc, serving.address, listener.local_addr(), &mut out, err);
+    if announced.is_err() {
+        listener.remove_file(rt);
+        return announced;
+    }
     let reporter = Reporter::new(rt, alloc, serving.rules, cap, books, &mut *err);
     let shared = Shared {
         lock: &lock,
@@ -213,6 +218,7 @@ where
         &listener,
         (serving.workers, serving.limits),
     );
+    listener.remove_file(rt);
     let closed = reporter.close();
     tell_dropped(err, closed.dropped);
     let totals = sessions.into_inner().totals();

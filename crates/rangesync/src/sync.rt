@@ -3,8 +3,10 @@
 ghost use Rattle.std.specs.Prelude.{◌≡◌, ◌≤◌};
 ghost use Rattle.std.specs.Arc.{arc_value};
 
+use crate::disk::create_file;
 use crate::loading::Loaded;
 use crate::metering::Metered;
+use crate::reaching::connect_to;
 use digest_core::{Counted, Fingerprint, Summary};
 use io_core::{Watched, write_output};
 use item_files::ItemForm;
@@ -14,11 +16,13 @@ use range_tree::Tree;
 use session_table::SessionTable;
 use settings_core::WireProfile;
 use std::alloc::Global;
-use std::io::Write;
+use std::fs::File;
+use std::io::{Read, Write};
 use std::net::{Net, TcpStream};
+use std::rt::Files;
 use std::sync::{Arc, Mutex, Wait};
 use std::time::{Clock, Instant};
-use tcp_front::{Limits, connect, finish, limited};
+use tcp_front::{Limits, finish, limited};
 use version_lock::{Seat, VersionLock};
 
 /// With whom a session is run.
@@ -34,6 +38,8 @@ pub struct Asking<'a> {
     pub limits: Limits,
     /// Whether standard error is told what the session cost.
     pub stats: bool,
+    /// The path of the file for what is printed, if one is given.
+    pub out: Option<&'a str>,
 }
 
 /// The milliseconds since then, where the clock tells.
@@ -42,22 +48,21 @@ fn millis_since<R: Clock>(rt: &R, start: Option<Instant>) -> Option<u64> {
     u64::try_from(elapsed.as_millis()).ok()
 }
 
-/// Speaks first in the profile of the summary, over this connection. What comes of it, and what it cost.
-fn dial<R: Wait + Clock, F: Summary>(
+/// Speaks first in the profile of the summary, over this reader and this writer. What comes of it, and what it cost.
+fn dial<R: Wait + Clock, I: Read + Drop, O: Write + Drop, F: Summary>(
     rt: &R,
     alloc: Global,
     shared: &Shared<'_, Tree, OpenGate>,
     seat: &mut Seat<Tree>,
-    stream: &TcpStream,
-    most_bytes: u32,
+    ends: (I, O),
 ) -> (Outcome, Stats)
     requires lock { seat.old.table_id ≡ shared.now.lock.now }
     requires fits { seat.old.view.cap ≤ (arc_value shared.now.accepted.now).table.cap }
     ensures { seat.new.table_id ≡ seat.old.table_id }
 {
+    let (reader, writer) = ends;
     let start = Instant::now(rt).ok();
-    let reader = Metered::new(limited(stream, most_bytes));
-    let mut connection = Connection::new(reader, Metered::new(stream));
+    let mut connection = Connection::new(Metered::new(reader), Metered::new(writer));
     let outcome = dial_one::<_, _, _, _, _, F>(rt, alloc, shared, seat, &mut connection);
     let Connection { reader, writer } = connection;
     let stats = Stats {
@@ -68,17 +73,13 @@ fn dial<R: Wait + Clock, F: Summary>(
     (outcome, stats)
 }
 
-/// Runs one session as the initiator, and prints what was learned. If it is asked for, standard error is told what the
-/// session cost, however it ended.
-///
-/// Else 90, 61, the number of the refusal of this side or of the peer, or `io read` or `io write`.
-pub fn sync<R: Net<Stream = TcpStream> + Wait + Clock + AllocGlobal, O: Write + Drop, E: Write>(
+/// Runs one session as the initiator, over this reader and this writer. What comes of it, and what it cost. Else 90.
+pub fn ask<R: Wait + Clock + AllocGlobal, I: Read + Drop, O: Write + Drop>(
     rt: &R,
     loaded: Loaded,
     asking: Asking<'_>,
-    out: O,
-    err: &mut E,
-) -> Result<(), Fault>
+    ends: (I, O),
+) -> Result<(Outcome, Stats), Fault>
     requires cap { loaded.log.cap ≡ loaded.accepted.table.cap }
 {
     let alloc = rt.alloc();
@@ -90,29 +91,57 @@ pub fn sync<R: Net<Stream = TcpStream> + Wait + Clock + AllocGlobal, O: Write + 
     let accepted = Arc::new(alloc, accepted)?;
     let (lock, mut seat) = VersionLock::new(alloc, log)?;
     let sessions = Mutex::new(SessionTable::new(alloc, 1)?);
-    let Limits {
-        patience,
-        most_bytes,
-    } = asking.limits;
-    let stream = connect(rt, asking.address, patience)?;
     let shared = Shared {
         lock: &lock,
         accepted: &accepted,
         sessions: &sessions,
         gate: &OpenGate,
     };
-    let (outcome, stats) = match asking.profile {
-        WireProfile::One => {
-            dial::<_, Fingerprint>(rt, alloc, &shared, &mut seat, &stream, most_bytes)
-        }
-        WireProfile::Two => dial::<_, Counted>(rt, alloc, &shared, &mut seat, &stream, most_bytes),
-    };
+    let (reader, writer) = ends;
+    let ends = (limited(reader, asking.limits.most_bytes), writer);
+    Ok(match asking.profile {
+        WireProfile::One => dial::<_, _, _, Fingerprint>(rt, alloc, &shared, &mut seat, ends),
+        WireProfile::Two => dial::<_, _, _, Counted>(rt, alloc, &shared, &mut seat, ends),
+    })
+}
+
+/// Writes this to the file, if there is one, and else to the output.
+pub fn print<O: Write + Drop>(text: &[u8], file: Option<File>, out: O) -> Result<(), Fault> {
+    match file {
+        Some(file) => write_output(&mut Watched::new(file), text)?,
+        None => write_output(&mut Watched::new(out), text)?,
+    }
+    Ok(())
+}
+
+/// Runs one session as the initiator, and prints what was learned, to the file if one is asked for. If it is asked for,
+/// standard error is told what the session cost, however it ended.
+///
+/// Else 80 if the file cannot be made, 61, 90, the number of the refusal of this side or of the peer, or `io read` or
+/// `io write`.
+pub fn sync<R, O: Write + Drop, E: Write>(
+    rt: &R,
+    loaded: Loaded,
+    asking: Asking<'_>,
+    out: O,
+    err: &mut E,
+) -> Result<(), Fault>
+where
+    R: Files<File = File> + Net<Stream = TcpStream> + Wait + Clock + AllocGlobal,
+    requires cap { loaded.log.cap ≡ loaded.accepted.table.cap }
+{
+    let Limits {
+        patience,
+        most_bytes,
+    } = asking.limits;
+    let file = create_file(rt, asking.out)?;
+    let stream = connect_to(rt, asking.address, patience)?;
+    let (outcome, stats) = ask(rt, loaded, asking, (&stream, &stream))?;
     let left = u64::from(most_bytes).saturating_sub(stats.received.bytes);
     finish(rt, &stream, left);
     if asking.stats {
         tell_stats(err, stats);
     }
-    let text = outcome_text(alloc, asking.form, &outcome)?;
-    write_output(&mut Watched::new(out), text.as_bytes())?;
-    Ok(())
+    let text = outcome_text(rt.alloc(), asking.form, &outcome)?;
+    print(text.as_bytes(), file, out)
 }

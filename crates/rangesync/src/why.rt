@@ -4,16 +4,14 @@
 
 use crate::bad_line::why_bad;
 use crate::row::{BadNumber, bad_number, refused_row};
+use crate::why_address::{why_not_listened, why_not_reached};
 use io_core::{MAX_INPUT, Watched, read_input};
 use item_files::{ItemForm, item_set};
-use printing_core::{
-    Fault, InputFlaw, ServerFlaw, Unreached, Unread, Why, port_is_too_high, tell_why,
-    unreached_connect, unreached_listen,
-};
+use printing_core::{Fault, InputFlaw, ServerFlaw, Unreached, Unread, Why, peer_flaw, tell_why};
 use settings_core::Command;
 use std::fs::{File, OpenOptions, TryLockError};
 use std::io::{ErrorKind, Write};
-use std::net::{Net, TcpListener, TcpStream, ToSocketAddrs};
+use std::net::{Net, TcpListener, TcpStream};
 use std::rt::Files;
 use std::{fs, io};
 use strategy_core::{Strategy, StrategyFault};
@@ -42,6 +40,8 @@ struct Given<'a> {
     hexed: Option<bool>,
     /// The address to listen at or to connect to.
     address: &'a str,
+    /// Whether the session is spoken over standard input and output.
+    is_stdio: bool,
     /// How many seconds a call on the connection may take.
     patience: u32,
     /// How many bytes of a session are read.
@@ -57,6 +57,7 @@ const NOTHING: Given<'static> = Given {
     written: [None, None, None],
     hexed: None,
     address: "",
+    is_stdio: false,
     patience: 0,
     most_bytes: 0,
 };
@@ -92,6 +93,8 @@ fn given_to(command: Command<'_>) -> Given<'_> {
         Command::Serve {
             table,
             address,
+            stdio,
+            most_bytes,
             report,
             learned,
             keep,
@@ -106,11 +109,15 @@ fn given_to(command: Command<'_>) -> Given<'_> {
             written: [keep, report, learned],
             hexed: items.and_then(|items| input_of(items)),
             address,
+            is_stdio: stdio,
+            most_bytes,
             ..NOTHING
         },
         Command::Sync {
             table,
             address,
+            stdio,
+            out,
             patience,
             most_bytes,
             form,
@@ -120,8 +127,10 @@ fn given_to(command: Command<'_>) -> Given<'_> {
             table: Some(table),
             items: file_of(items),
             form,
+            written: [out, None, None],
             hexed: input_of(items),
             address,
+            is_stdio: stdio,
             patience,
             most_bytes,
             ..NOTHING
@@ -337,23 +346,6 @@ fn why_no_strategy<'a, R: Files + AllocGlobal>(
     }
 }
 
-/// Why a listener or a connection was not made; `otherwise` where the address is well.
-fn why_unreached<'a, R: Net>(rt: &R, address: &'a str, otherwise: Unreached) -> Option<Why<'a>> {
-    if port_is_too_high(address) {
-        let cause = Unreached::PortTooHigh;
-        return Some(Why::Address { address, cause });
-    }
-    let cause = match address.to_socket_addrs(rt) {
-        Ok(_) => otherwise,
-        Err(error) => match error.kind() {
-            ErrorKind::OutOfMemory => return None,
-            ErrorKind::InvalidInput => Unreached::NoPort,
-            _ => Unreached::NoHost,
-        },
-    };
-    Some(Why::Address { address, cause })
-}
-
 /// Why the input is no message.
 fn message_flaw(given: Given<'_>, fault: WireFault) -> InputFlaw {
     match fault {
@@ -391,6 +383,11 @@ fn why_of<'a, R>(rt: &R, given: Given<'a>, fault: Fault) -> Option<Why<'a>>
 where
     R: Files<File = File> + Net<Listener = TcpListener, Stream = TcpStream> + AllocGlobal,
 {
+    if given.is_stdio {
+        if let Some(flaw) = peer_flaw(fault, given.most_bytes) {
+            return Some(Why::Peer(flaw));
+        }
+    }
     match fault {
         Fault::CannotRead => why_unread(rt, given),
         Fault::BadItemLine { line } => why_bad_line(rt, given, line),
@@ -400,11 +397,8 @@ where
             place: given.table.unwrap_or(STANDARD_INPUT),
             fault,
         }),
-        Fault::Bind(kind) => why_unreached(rt, given.address, unreached_listen(kind)),
-        Fault::Connect(kind) => {
-            let otherwise = unreached_connect(kind, given.patience);
-            why_unreached(rt, given.address, otherwise)
-        }
+        Fault::Bind(kind) => why_not_listened(rt, given.address, kind),
+        Fault::Connect(kind) => why_not_reached(rt, given.address, kind, given.patience),
         Fault::WriterFailed => Some(why_not_written(given)),
         _ => why_said(given, fault),
     }

@@ -69,10 +69,11 @@ HasValues rows (Plan items differences item_length round_trip rate search) = IsN
     × IsNumber (codes "round-trip") rows round_trip × IsNumber (codes "rate") rows rate
     × IsNumber (codes "search") rows search
 HasValues rows Sim = ⊤
-HasValues rows (Serve table address workers sessions patience most_bytes peers session_seconds memory report learned
-    keep durable most_learned read_only report_items form items) =
+HasValues rows (Serve table address stdio workers sessions patience most_bytes peers session_seconds memory report
+    learned keep durable most_learned read_only report_items form items) =
     IsText (codes "table") rows table.now × IsText (codes "addr") rows address.now
-    × IsNumber (codes "workers") rows (Some workers) × IsNumber (codes "sessions") rows sessions
+    × IsFlag (codes "stdio") rows stdio × IsNumber (codes "workers") rows (Some workers)
+    × IsNumber (codes "sessions") rows sessions
     × IsNumber (codes "patience") rows (Some patience) × IsNumber (codes "most-bytes") rows (Some most_bytes)
     × IsNumber (codes "peers") rows peers × IsNumber (codes "session-seconds") rows session_seconds
     × IsNumber (codes "memory") rows memory
@@ -83,8 +84,9 @@ HasValues rows (Serve table address workers sessions patience most_bytes peers s
     × IsFlag (codes "read-only") rows read_only × IsNumber (codes "report-items") rows report_items
     × IsFlag (codes "text") rows (is_text form)
     × IsAnyText (codes "ITEMS") rows (option_map (λ text. text.now) items)
-HasValues rows (Sync table address profile patience most_bytes stats form items) =
+HasValues rows (Sync table address stdio out profile patience most_bytes stats form items) =
     IsText (codes "table") rows table.now × IsText (codes "addr") rows address.now
+    × IsFlag (codes "stdio") rows stdio × IsAnyText (codes "out") rows (option_map (λ text. text.now) out)
     × IsNumber (codes "profile") rows (Some (profile_number profile))
     × IsNumber (codes "patience") rows (Some patience) × IsNumber (codes "most-bytes") rows (Some most_bytes)
     × IsFlag (codes "stats") rows stats × IsFlag (codes "text") rows (is_text form)
@@ -95,9 +97,9 @@ name_of (Answer hexed form items) = codes "answer"
 name_of (Check cost items item_length file) = codes "check"
 name_of (Plan items differences item_length round_trip rate search) = codes "plan"
 name_of Sim = codes "sim"
-name_of (Serve table address workers sessions patience most_bytes peers session_seconds memory report learned keep
-    durable most_learned read_only report_items form items) = codes "serve"
-name_of (Sync table address profile patience most_bytes stats form items) = codes "sync"
+name_of (Serve table address stdio workers sessions patience most_bytes peers session_seconds memory report learned
+    keep durable most_learned read_only report_items form items) = codes "serve"
+name_of (Sync table address stdio out profile patience most_bytes stats form items) = codes "sync"
 
 abbrev pub AsksFor : Text → List Row → Command → Type 0
 AsksFor name rows c = (name_of c ≡ name) × HasValues rows c × AreInSpan c

@@ -1,4 +1,6 @@
+pub mod Addresses
 pub mod Calls
 pub mod Program
 pub mod Rules
 pub mod Spans
+pub mod StdioWords

@@ -11,6 +11,7 @@ use Rattle.clap.specs.declared.builder.action.ArgAction.TheVariants.{SetTrue}
 use Rattle.clap.specs.declared.builder.command.Command.{Command}
 use Rattle.clap.specs.declared.builder.command.Command.TheViews.{out-Command}
 use Rattle.clap.specs.declared.builder.value_parser.ValueParser.TheVariants.{Signed}
+use Rattle.settings_core.specs.Addresses.{default_address}
 
 abbrev pub IsWord : Rule → Arg → Type 0
 IsWord r a = (rule_of a ≡ r) × (a.global ≡ false)
@@ -52,7 +53,15 @@ table = record (valued (codes "table")) { required = true }
 
 -- `--addr A`
 abbrev pub address : Rule
-address = defaulting (valued (codes "addr")) (codes "127.0.0.1:7700")
+address = defaulting (valued (codes "addr")) default_address
+
+-- `--stdio`
+abbrev pub stdio : Rule
+stdio = flag (codes "stdio")
+
+-- `--out FILE`
+abbrev pub out : Rule
+out = valued (codes "out")
 
 -- `--workers N`, of 1 to 16
 abbrev pub workers : Rule
@@ -184,15 +193,15 @@ sim = with_rules (new_app (codes "sim")) (why ∷ [])
 -- `serve` without its ITEMS
 abbrev pub served : App
 served = with_rules (new_app (codes "serve"))
-    (table ∷ address ∷ workers ∷ sessions ∷ patience ∷ most_bytes ∷ peers ∷ session_seconds ∷ memory ∷ report ∷ learned
-    ∷ keep ∷ durable ∷ most_learned ∷ read_only ∷ report_items ∷ text ∷ why ∷ [])
+    (table ∷ address ∷ stdio ∷ workers ∷ sessions ∷ patience ∷ most_bytes ∷ peers ∷ session_seconds ∷ memory ∷ report
+    ∷ learned ∷ keep ∷ durable ∷ most_learned ∷ read_only ∷ report_items ∷ text ∷ why ∷ [])
 
 abbrev pub serve : Bool → App
 serve must = with_rules served (items must ∷ [])
 
 abbrev pub sync : App
 sync = with_rules (new_app (codes "sync"))
-    (table ∷ address ∷ profile ∷ patience ∷ most_bytes ∷ stats ∷ text ∷ why ∷ items true ∷ [])
+    (table ∷ address ∷ stdio ∷ out ∷ profile ∷ patience ∷ most_bytes ∷ stats ∷ text ∷ why ∷ items true ∷ [])
 
 -- the program itself, which has a version and asks for a command
 abbrev pub top : App

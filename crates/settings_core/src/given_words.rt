@@ -239,6 +239,7 @@ fn serve_in<'a>(matches: &ArgMatches<'a>) -> Option<Command<'a>>
     Some(Command::Serve {
         table: text_in(matches, "table")?,
         address: text_in(matches, "addr")?,
+        stdio: flag_in(matches, "stdio"),
         workers: workers_in(matches)?,
         sessions: sessions_in(matches)?,
         patience: patience_in(matches)?,
@@ -265,6 +266,8 @@ fn sync_in<'a>(matches: &ArgMatches<'a>) -> Option<Command<'a>>
     Some(Command::Sync {
         table: text_in(matches, "table")?,
         address: text_in(matches, "addr")?,
+        stdio: flag_in(matches, "stdio"),
+        out: text_in(matches, "out"),
         profile: profile_in(matches)?,
         patience: patience_in(matches)?,
         most_bytes: most_bytes_in(matches)?,

@@ -5,6 +5,7 @@ ghost use Rattle.clap.specs.Words.{App, with_subcommand};
 ghost use Rattle.settings_core.specs.Program.{IsCommand};
 ghost use Rattle.settings_core.specs.Program as program;
 
+use crate::addresses::DEFAULT_ADDRESS;
 use crate::arguments::{Argument, command_of, with_arguments};
 use std::alloc::{AllocError, Global};
 
@@ -53,9 +54,6 @@ const FILE_HELP: &str = "A strategy in TOML";
 /// How help speaks of ITEMS.
 const ITEMS_HELP: &str = "A file of items, one a line in hex";
 
-/// The address, if none is given.
-const ADDRESS: &str = "127.0.0.1:7700";
-
 /// The seconds that are waited, if none are given.
 const PATIENCE: &str = "60";
 
@@ -88,6 +86,12 @@ const TABLE: Argument<'static> = Argument::Needed {
     name: "table",
     value: "FILE",
     help: FILE_HELP,
+};
+
+/// No address, but standard input and output.
+const STDIO: Argument<'static> = Argument::Flag {
+    name: "stdio",
+    help: "Speak one session over standard input and output",
 };
 
 /// The arguments of `answer`.
@@ -220,14 +224,15 @@ fn sim_words<'a>(alloc: Global) -> Result<clap::Command<'a>, AllocError>
 }
 
 /// The arguments of `serve`, but for its ITEMS.
-const SERVE: [Argument<'static>; 18] = [
+const SERVE: [Argument<'static>; 19] = [
     TABLE,
     Argument::ValuedOr {
         name: "addr",
         value: "A",
-        default: ADDRESS,
-        help: "The address to listen at",
+        default: DEFAULT_ADDRESS,
+        help: "The address to listen at, or unix:PATH",
     },
+    STDIO,
     Argument::NumberOr {
         name: "workers",
         value: "N",
@@ -340,13 +345,19 @@ fn serve_words<'a>(alloc: Global, must: bool) -> Result<clap::Command<'a>, Alloc
 }
 
 /// The arguments of `sync`.
-const SYNC: [Argument<'static>; 9] = [
+const SYNC: [Argument<'static>; 11] = [
     TABLE,
     Argument::ValuedOr {
         name: "addr",
         value: "A",
-        default: ADDRESS,
-        help: "The address to connect to",
+        default: DEFAULT_ADDRESS,
+        help: "The address to connect to, or unix:PATH",
+    },
+    STDIO,
+    Argument::Valued {
+        name: "out",
+        value: "FILE",
+        help: "Write what is printed to this file",
     },
     Argument::NumberOr {
         name: "profile",

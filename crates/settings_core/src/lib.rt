@@ -1,13 +1,17 @@
 //! The words of a call. The names of item files and strategy files are passed on.
 #![tactic(auto)]
 
+mod addresses;
 mod arguments;
 mod given_words;
 mod known_words;
+mod stdio_words;
 mod words;
 
+pub use addresses::{Address, DEFAULT_ADDRESS, address_of};
 pub use item_files::{
     ItemForm, SettingsFault, has_byte_order_mark, item_of, item_set, read_input_items, read_items,
     read_strategy,
 };
+pub use stdio_words::{StdioFlaw, StdioWords, stdio_flaw};
 pub use words::{Call, Command, WireProfile, WordsFault, read_words};

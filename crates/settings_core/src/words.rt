@@ -68,6 +68,8 @@ pub enum Command<'a> {
         table: &'a str,
         /// The address to listen at.
         address: &'a str,
+        /// Whether one session is spoken over standard input and output, and nothing is listened at.
+        stdio: bool,
         /// How many loops serve them, 1 to 16, and as many more for those whose messages are long.
         workers: u8,
         /// After how many connections it ends, 1 to 1,000,000; `None` where it has no end.
@@ -109,6 +111,10 @@ pub enum Command<'a> {
         table: &'a str,
         /// The address to connect to.
         address: &'a str,
+        /// Whether the session is spoken over standard input and output, and nothing is connected to.
+        stdio: bool,
+        /// The path of the file for the lines of the session, if one is given.
+        out: Option<&'a str>,
         /// The wire profile that is spoken.
         profile: WireProfile,
         /// How many seconds the connect, a read or a write may take, 1 to 86,400.

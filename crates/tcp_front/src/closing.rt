@@ -5,9 +5,10 @@ ghost use Rattle.std.specs.Prelude.{◌≡◌, ◌+◌, ◌<◌, ◌≤◌, max,
 ghost use Rattle.std.specs.Duration.{as_nanos};
 
 use crate::patience::seconds;
+use crate::stream::Stream;
 use std::io;
 use std::io::Read;
-use std::net::{Shutdown, TcpStream};
+use std::net::Shutdown;
 use std::time::{Clock, Duration, Instant};
 
 /// For how many seconds a connection is read on, at most.
@@ -36,7 +37,7 @@ fn rest_of_second(over: Duration) -> Option<Duration>
 }
 
 /// Reads what comes and drops it, until the input ends, so many bytes have come, or a second is over.
-fn read_on<C: Clock>(clock: &C, stream: &TcpStream, most_bytes: u64) -> io::Result<()> {
+fn read_on<C: Clock>(clock: &C, stream: &Stream, most_bytes: u64) -> io::Result<()> {
     let start = Instant::now(clock)?;
     let mut input = stream.take(most_bytes);
     let mut piece = [0u8; 8_192];
@@ -58,7 +59,7 @@ fn read_on<C: Clock>(clock: &C, stream: &TcpStream, most_bytes: u64) -> io::Resu
 ///
 /// At most 65,536 bytes are read on, or those that are left of what the session may read, if these are more. A call
 /// that fails ends it.
-pub fn finish<C: Clock>(clock: &C, stream: &TcpStream, left: u64) {
+pub fn finish<C: Clock>(clock: &C, stream: &Stream, left: u64) {
     if stream.shutdown(Shutdown::Write).is_ok() {
         let _failed = read_on(clock, stream, bound(left));
     }

@@ -5,12 +5,13 @@ ghost use Rattle.std.specs.IoError.{error_kind};
 
 use crate::fault::ConnectFault;
 use crate::patience::{bounded, seconds};
+use crate::stream::Stream;
 use std::io;
 use std::io::ErrorKind;
 use std::net::{Net, SocketAddr, TcpStream, ToSocketAddrs};
 
 /// Why a connection was not made.
-fn fault_of(error: &io::Error) -> ConnectFault
+pub(crate) fn fault_of(error: &io::Error) -> ConnectFault
     ensures memory { error_kind error.now ≡ ErrorKind.OutOfMemory → result ≡ ConnectFault.Memory }
     ensures connect { error_kind error.now ≢ ErrorKind.OutOfMemory →
         result ≡ ConnectFault.Connect (error_kind error.now) }
@@ -26,11 +27,9 @@ fn reach<R: Net<Stream = TcpStream>>(
     rt: &R,
     address: &SocketAddr,
     patience: u32,
-) -> io::Result<TcpStream> {
-    bounded(
-        TcpStream::connect_timeout(rt, address, seconds(patience))?,
-        patience,
-    )
+) -> io::Result<Stream> {
+    let stream = TcpStream::connect_timeout(rt, address, seconds(patience))?;
+    bounded(Stream::Tcp(stream), patience)
 }
 
 /// A connection to the first address of the text that answers in time.
@@ -38,7 +37,7 @@ fn reach_any<R: Net<Stream = TcpStream>>(
     rt: &R,
     address: &str,
     patience: u32,
-) -> io::Result<TcpStream> {
+) -> io::Result<Stream> {
     let mut last = io::Error::from(ErrorKind::InvalidInput);
     for place in address.to_socket_addrs(rt)? {
         match reach(rt, &place, patience) {
@@ -58,10 +57,10 @@ pub fn connect<R: Net<Stream = TcpStream>>(
     rt: &R,
     address: &str,
     patience: u32,
-) -> Result<TcpStream, ConnectFault> {
+) -> Result<Stream, ConnectFault> {
     match reach_any(rt, address, patience) {
         Ok(stream) => {
-            let _set = stream.set_nodelay(true);
+            stream.send_at_once();
             Ok(stream)
         }
         Err(error) => Err(fault_of(&error)),

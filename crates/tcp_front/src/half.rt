@@ -1,9 +1,10 @@
 //! The two halves of a connection.
 
+use crate::stream::Stream;
 use std::alloc::Global;
 use std::io;
 use std::io::{Read, Write};
-use std::net::{Shutdown, TcpStream};
+use std::net::Shutdown;
 use std::os::fd::{AsRawFd, RawFd};
 use std::sync::Arc;
 
@@ -12,11 +13,11 @@ use std::sync::Arc;
 /// Both halves share the connection's one descriptor, so a session takes no second one. The connection is closed when
 /// both are dropped.
 #[derive(Drop)]
-pub struct Half(Arc<TcpStream>);
+pub struct Half(Arc<Stream>);
 
 impl Half {
     /// The connection.
-    pub(crate) fn stream(&self) -> &TcpStream {
+    pub(crate) fn stream(&self) -> &Stream {
         &self.0
     }
 
@@ -34,25 +35,22 @@ impl AsRawFd for Half {
 
 impl Read for Half {
     fn read(&mut self, buf: &mut [u8]) -> io::Result<usize> {
-        let mut stream: &TcpStream = &self.0;
-        stream.read(buf)
+        self.0.receive(buf)
     }
 }
 
 impl Write for Half {
     fn write(&mut self, buf: &[u8]) -> io::Result<usize> {
-        let mut stream: &TcpStream = &self.0;
-        stream.write(buf)
+        self.0.send(buf)
     }
 
     fn flush(&mut self) -> io::Result<()> {
-        let mut stream: &TcpStream = &self.0;
-        stream.flush()
+        Ok(())
     }
 }
 
 /// The half that is read and the half that is written; without memory there are none, and the connection is closed.
-pub(crate) fn halves(alloc: Global, stream: TcpStream) -> Option<(Half, Half)> {
+pub(crate) fn halves(alloc: Global, stream: Stream) -> Option<(Half, Half)> {
     let reader = Arc::new(alloc, stream).ok()?;
     let writer = Arc::try_clone(&reader).ok()?;
     Some((Half(reader), Half(writer)))

@@ -1,4 +1,4 @@
-//! Connections over TCP: a listener that workers share, and a connection that is made.
+//! Connections over TCP and Unix sockets: a listener that workers share, and a connection that is made.
 #![tactic(auto)]
 
 mod closing;
@@ -9,9 +9,12 @@ mod limits;
 mod listener;
 mod patience;
 mod ready;
+mod socket;
+mod stream;
 #[cfg(test)]
 mod tests;
 mod trying;
+mod unix_socket;
 
 pub use closing::finish;
 pub use connecting::connect;
@@ -20,3 +23,5 @@ pub use half::Half;
 pub use limits::{Limits, limited};
 pub use listener::{Listener, listen};
 pub use ready::Arrival;
+pub use stream::Stream;
+pub use unix_socket::{connect_unix, listen_unix};

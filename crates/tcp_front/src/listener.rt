@@ -8,13 +8,17 @@ use crate::fault::ListenFault;
 use crate::half::{Half, halves};
 use crate::limits::{Limits, limited};
 use crate::patience::bounded;
+use crate::socket::Socket;
+use crate::stream::Stream;
 use crate::trying::{Attempt, present};
+use crate::unix_socket::SocketFile;
 use outcome_core::{Source, SourceFault};
 use std::alloc::Global;
 use std::io;
 use std::io::{ErrorKind, Take};
 use std::net::{Net, SocketAddr, TcpListener, TcpStream};
 use std::os::fd::{AsRawFd, RawFd};
+use std::rt::Files;
 use std::sync::atomic::{AtomicU64, Ordering};
 use std::time::Clock;
 
@@ -25,7 +29,9 @@ use std::time::Clock;
 /// after a pause, a bounded number of times. After an accept that failed no connection is left.
 #[derive(Drop)]
 pub struct Listener<'a, C> {
-    pub(crate) socket: TcpListener,
+    pub(crate) socket: Socket,
+    // That of a Unix socket.
+    file: Option<SocketFile<'a>>,
     left: AtomicU64,
     // What each connection may cost.
     limits: Limits,
@@ -34,7 +40,7 @@ pub struct Listener<'a, C> {
 }
 
 /// Why a listener was not made.
-fn listen_fault(error: &io::Error) -> ListenFault
+pub(crate) fn listen_fault(error: &io::Error) -> ListenFault
     ensures memory { error_kind error.now ≡ ErrorKind.OutOfMemory → result ≡ ListenFault.Memory }
     ensures bind { error_kind error.now ≢ ErrorKind.OutOfMemory →
         result ≡ ListenFault.Bind (error_kind error.now) }
@@ -69,34 +75,62 @@ pub fn listen<'a, R: Net<Listener = TcpListener, Stream = TcpStream> + Clock + A
     limits: Limits,
 ) -> Result<Listener<'a, R>, ListenFault> {
     match TcpListener::bind(rt, address) {
-        Ok(socket) => Ok(Listener {
-            socket,
-            left: AtomicU64::new(connections.map_or(u64::MAX, u64::from)),
-            limits,
-            alloc: rt.alloc(),
-            clock: rt,
-        }),
+        Ok(socket) => Ok(Listener::new(rt, Socket::Tcp(socket), connections, limits)),
         Err(error) => Err(listen_fault(&error)),
     }
 }
 
 /// The next connection of a socket.
 #[derive(Drop)]
-struct Next<'a>(&'a TcpListener);
+struct Next<'a>(&'a Socket);
 
 impl Attempt for Next<'_> {
-    type Made = TcpStream;
+    type Made = Stream;
 
-    fn attempt(&self) -> io::Result<TcpStream> {
-        let (stream, _peer) = self.0.accept()?;
-        Ok(stream)
+    fn attempt(&self) -> io::Result<Stream> {
+        self.0.accept()
+    }
+}
+
+impl<'a, R: AllocGlobal> Listener<'a, R> {
+    /// Listens at this socket for so many connections.
+    pub(crate) fn new(
+        rt: &'a R,
+        socket: Socket,
+        connections: Option<u32>,
+        limits: Limits,
+    ) -> Listener<'a, R> {
+        Listener {
+            socket,
+            file: None,
+            left: AtomicU64::new(connections.map_or(u64::MAX, u64::from)),
+            limits,
+            alloc: rt.alloc(),
+            clock: rt,
+        }
+    }
+
+    /// The same listener, whose socket has this file.
+    pub(crate) fn with_file(self, file: SocketFile<'a>) -> Listener<'a, R> {
+        Listener {
+            file: Some(file),
+            ..self
+        }
     }
 }
 
 impl<C> Listener<'_, C> {
-    /// The address that is listened at, with its real port, if the system tells it.
+    /// The address of TCP that is listened at, with its real port, if it is one and the system tells it.
     pub fn local_addr(&self) -> Option<SocketAddr> {
-        self.socket.local_addr().ok()
+        self.socket.local_addr()
+    }
+
+    /// Removes the file of the Unix socket, if it is one and the file is still the one that was made: from then on
+    /// nobody finds it. Without this call it is stale once the listener is dropped.
+    pub fn remove_file<R: Files>(&self, rt: &R) {
+        if let Some(file) = self.file {
+            file.remove(rt);
+        }
     }
 
     /// Counts one connection more, if one is left.
@@ -125,9 +159,9 @@ impl<C> Listener<'_, C> {
 
 impl<C: Clock> Listener<'_, C> {
     /// Waits for a connection, of which small messages are sent at once where the system takes that setting.
-    fn accept(&self) -> io::Result<TcpStream> {
+    fn accept(&self) -> io::Result<Stream> {
         let stream = present(self.clock, &Next(&self.socket))?;
-        let _set = stream.set_nodelay(true);
+        stream.send_at_once();
         bounded(stream, self.limits.patience)
     }
 

@@ -3,8 +3,8 @@
 ghost use Rattle.std.specs.Prelude.{◌≡◌, ◌*◌};
 ghost use Rattle.std.specs.Duration.{as_nanos};
 
+use crate::stream::Stream;
 use std::io;
-use std::net::TcpStream;
 use std::time::Duration;
 
 /// This many seconds.
@@ -15,7 +15,7 @@ pub(crate) fn seconds(patience: u32) -> Duration
 }
 
 /// The connection, of which from now on a read or a write that takes longer than this many seconds fails.
-pub(crate) fn bounded(stream: TcpStream, patience: u32) -> io::Result<TcpStream> {
+pub(crate) fn bounded(stream: Stream, patience: u32) -> io::Result<Stream> {
     stream.set_read_timeout(Some(seconds(patience)))?;
     stream.set_write_timeout(Some(seconds(patience)))?;
     Ok(stream)

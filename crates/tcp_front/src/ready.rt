@@ -5,11 +5,11 @@ ghost use Rattle.tcp_front.specs.Misses.{miss_for};
 
 use crate::half::{Half, halves};
 use crate::listener::{Listener, accept_fault};
+use crate::stream::Stream;
 use crate::trying::{Miss, miss_of};
 use outcome_core::SourceFault;
 use std::io;
 use std::io::ErrorKind;
-use std::net::TcpStream;
 
 /// What a listener has for someone who does not wait.
 #[derive(Drop)]
@@ -42,20 +42,20 @@ fn missed(error: &io::Error) -> Result<Arrival, SourceFault> {
 
 /// A connection of which no call waits, and of which small messages are sent at once where the system takes that
 /// setting.
-fn prompt(stream: TcpStream) -> io::Result<TcpStream> {
-    let _set = stream.set_nodelay(true);
-    stream.set_nonblocking(true)?;
+fn prompt(stream: Stream) -> io::Result<Stream> {
+    stream.send_at_once();
+    stream.never_wait()?;
     Ok(stream)
 }
 
 impl<C> Listener<'_, C> {
     /// From now on an accept with nobody there does not wait.
     pub fn never_wait(&self) -> io::Result<()> {
-        self.socket.set_nonblocking(true)
+        self.socket.never_wait()
     }
 
     /// The two halves of a connection that was accepted. One that is gone meanwhile is passed over.
-    fn arrived(&self, stream: TcpStream) -> Arrival {
+    fn arrived(&self, stream: Stream) -> Arrival {
         match prompt(stream) {
             Ok(stream) => match halves(self.alloc, stream) {
                 Some((reader, writer)) => Arrival::Came(reader, writer),
@@ -72,7 +72,7 @@ impl<C> Listener<'_, C> {
             return Ok(Arrival::NoMore);
         }
         match self.socket.accept() {
-            Ok((stream, _peer)) => Ok(self.arrived(stream)),
+            Ok(stream) => Ok(self.arrived(stream)),
             Err(error) => {
                 self.uncount();
                 let missed = missed(&error);

@@ -1,0 +1,71 @@
+//! Words that ask for a session over standard input and output.
+
+ghost use Rattle.std.specs.Prelude.{◌≡◌, Some, option_map};
+ghost use Rattle.settings_core.specs.StdioWords.{flaw_text, are_piped, stdio_flaw};
+
+use crate::addresses::DEFAULT_ADDRESS;
+use std::fmt;
+
+/// Why a command does not speak over standard input and output, though its words ask for it.
+///
+/// It prints as the text for standard error.
+#[derive(Clone, Copy, Debug, PartialEq, Eq)]
+pub enum StdioFlaw {
+    /// There is an address too.
+    Address,
+    /// The items are to be read from standard input.
+    Items,
+    /// Standard input is a terminal.
+    Terminal,
+}
+
+impl fmt::Display for StdioFlaw {
+    ghost output = { λ flaw. Some (flaw_text flaw) };
+
+    fn fmt<W: fmt::Write>(&self, f: &mut fmt::Formatter<W>) -> fmt::Result {
+        match self {
+            StdioFlaw::Address => write!(f, "error: --stdio cannot be used with --addr"),
+            StdioFlaw::Items => write!(
+                f,
+                "error: with --stdio the items cannot be read from standard input"
+            ),
+            StdioFlaw::Terminal => write!(
+                f,
+                "error: --stdio speaks with a program, and standard input is a terminal"
+            ),
+        }
+    }
+}
+
+/// The words of a call that is to speak over standard input and output.
+#[derive(Clone, Copy, Debug, PartialEq, Eq)]
+pub struct StdioWords<'a> {
+    /// The address, which is the default one if none is given.
+    pub address: &'a str,
+    /// The path of the item file, or `-`, if either is given.
+    pub items: Option<&'a str>,
+}
+
+/// Whether the items are to be read from standard input.
+fn are_piped(items: Option<&str>) -> bool
+    ensures { result ≡ are_piped (option_map (λ text. text.now) items.entry) }
+{
+    match items {
+        Some("-") => true,
+        _ => false,
+    }
+}
+
+/// Why such a call does not speak over standard input and output, the first of these that holds: it has another address
+/// than the default one, its items are to be read from standard input, or that is a terminal.
+pub fn stdio_flaw(words: StdioWords<'_>, is_terminal: bool) -> Option<StdioFlaw>
+    ensures { result ≡ stdio_flaw words.entry.address.now (option_map (λ text. text.now) words.entry.items) is_terminal }
+{
+    if words.address != DEFAULT_ADDRESS {
+        return Some(StdioFlaw::Address);
+    }
+    if are_piped(words.items) {
+        return Some(StdioFlaw::Items);
+    }
+    is_terminal.then_some(StdioFlaw::Terminal)
+}
