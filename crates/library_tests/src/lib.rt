@@ -15,6 +15,7 @@
 //! | `ranks` | `rank_core` |
 //! | `session_tables` | `session_table` |
 //! | `sessions` | `session_core` |
+//! | `shards` | `shard_core` |
 //! | `stores` | `store_core` |
 //! | `strategies` | `strategy_core` |
 //! | `trees` | `range_tree` |
@@ -42,6 +43,8 @@ mod ranks;
 mod session_tables;
 #[cfg(test)]
 mod sessions;
+#[cfg(test)]
+mod shards;
 #[cfg(test)]
 mod stores;
 #[cfg(test)]

@@ -1,0 +1,9 @@
+pub use Rattle.definitions.specs.Items
+pub use Rattle.definitions.specs.Sets
+pub use Rattle.definitions.specs.Fingerprints
+pub use Rattle.definitions.specs.Theorems
+pub mod Shards
+pub mod Directories
+pub mod Parts
+pub mod Splits
+pub mod Selectors
