@@ -1,6 +1,8 @@
 pub mod Fits
 pub mod Groups
 pub mod Growing
+pub mod Joins
+pub mod Pieces
 pub mod Places
 pub mod Ranks
 pub mod Searches

@@ -2,15 +2,15 @@
 use Rattle.std.proofs.Common.{◌≡◌, ℕ, zero, suc, ◌+◌, ◌<◌, ◌≤◌, Bool, true, false, List, [], ◌∷◌, ◌++◌, take, drop, map}
 use Rattle.std.proofs.Common.{length, get_or, refl, sym, ap, subst, ◌∙◌, arith}
 use Rattle.std.specs.List.{flat_map, AllByRecursion}
-use Rattle.std.specs.List.Sorted.{IsStrictlySortedBy, IsPartitionedBy}
+use Rattle.std.specs.List.Sorted.{IsStrictlySortedBy}
 use Rattle.std.specs.Ordering.{is_lt}
 use Rattle.std.specs.declared.cmp.Ordering.TheVariants.{Less}
 use Rattle.std.proofs.lemmas.Cmp.{nat_list_cmp_total}
-use Rattle.std.proofs.lemmas.List.{length-append, length-take-le}
+use Rattle.std.proofs.lemmas.List.{length-append, length-map, length-take-le}
 use Rattle.std.proofs.lemmas.Map.Keys.{sorted_head, sorted_tail, Less-from_sorted}
 use Rattle.definitions.specs.Items.{Item, item_cmp, comes_before}
 use Rattle.definitions.specs.Sets.{IsSet}
-use Rattle.definitions.proofs.Partitions.{PassFirst, later, less_of, parted_below, filter_is_front}
+use Rattle.definitions.proofs.Partitions.{PassFirst, later, less_of, filter_is_front}
 use Rattle.range_tree.specs.Parts.{first_item, count_before}
 use Rattle.range_tree.proofs.Places.{map_get, flat_cut}
 
@@ -138,19 +138,6 @@ module _ {P : Type 0} (f : P → List Item) (some : (p : P) → 0 < length (f p)
   leads_set [] set = tt
   leads_set (p ∷ ps) set = (lead_rises p ps (f p) (some p) set, leads_set ps (set_back (f p) (flat_map f ps) set))
 
-  pub leads_parted : (ps : List P) (x : Item) → IsSet (flat_map f ps) →
-      IsPartitionedBy (λ p. comes_before (first_item (f p)) x) ps
-  leads_parted ps x set i j d le lt e =
-      let lead : P → Item = λ p. first_item (f p) in
-      let within : j < length (map lead ps) = rw (length_map_is ps lead) lt in
-      let later_one : comes_before (get_or (map lead ps) j (lead d)) x ≡ true = rw (map_get lead ps j d) e in
-      ap (λ z. comes_before z x) (sym (map_get lead ps i d))
-      ∙ parted_below (map lead ps) x (leads_set ps set) i j (lead d) le within later_one
-    where
-      length_map_is : {X Y : Type 0} (xs : List X) (g : X → Y) → length (map g xs) ≡ length xs
-      length_map_is [] g = refl
-      length_map_is (y ∷ ys) g = ap suc (length_map_is ys g)
-
   module _ (x : Item) where
     abbrev pub is_before : P → Bool
     is_before p = comes_before (first_item (f p)) x
@@ -179,6 +166,15 @@ module _ {P : Type 0} (f : P → List Item) (some : (p : P) → 0 < length (f p)
         (omega arith) (set_back (f p) (flat_map f (q ∷ ps)) set) (later is_before p (q ∷ ps) (suc k) parted) in
         rw (count_append x (f p) (flat_map f (q ∷ ps)), first, rest, length-append (f p) (flat_map f (take k (q ∷ ps))))
         (omega arith)
+
+-- the first elements whose images pass
+pub pass_map : {X Y : Type 0} (g : X → Y) (p : Y → Bool) (xs : List X) (i : ℕ) → PassFirst p (map g xs) i →
+    PassFirst (λ x. p (g x)) xs i
+pass_map g p xs i parted =
+    let same = length-map xs g in (
+      (λ k d low high. ap p (sym (map_get g xs k d)) ∙ parted.0 k (g d) low high),
+      (λ k d low high. ap p (sym (map_get g xs k d)) ∙ parted.1 k (g d) low (omega arith)),
+    )
 
 -- ---- sets that stand in one
 

@@ -4,7 +4,7 @@ use Rattle.definitions.specs.Items.{Item}
 use Rattle.range_tree.specs.declared.leaf.Leaf.{Leaf}
 
 abbrev pub leaf_items : Leaf → List Item
-leaf_items l = l.entries.items
+leaf_items l = l.packed
 
 abbrev pub leaf_width : Leaf → ℕ
-leaf_width l = length l.entries.items
+leaf_width l = length l.packed

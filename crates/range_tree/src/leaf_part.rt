@@ -2,23 +2,28 @@ ghost use Rattle.std.specs.Prelude.{◌≡◌, ◌≤◌, ◌<◌, length};
 ghost use Rattle.range_tree.specs.Leaves.{leaf_items, leaf_width};
 
 use crate::leaf::Leaf;
+use crate::packed::Packed;
 use crate::part::{Grown, Part};
 use crate::search::search;
-use crate::spans::{between, push_items};
 use digest_core::Fingerprint;
 use item_core::Item;
 use std::alloc::{AllocError, Global};
-use store_core::{Entry, spans};
+use store_core::Entry;
 
 impl Leaf {
-    /// The leaf of these entries.
-    pub fn of(entries: Vec<Entry>) -> Leaf
-        requires some { 0 < length entries.items }
-        requires small { length entries.items ≤ 64 }
-        ensures { leaf_items result ≡ entries.items }
+    /// The leaf of these items.
+    pub(crate) fn of(packed: Packed) -> Leaf
+        requires some { 0 < length packed }
+        requires small { length packed ≤ 64 }
+        ensures { leaf_items result ≡ packed }
     {
-        let total = spans::total(&entries);
-        Leaf { entries, total }
+        let first = packed.item(0);
+        let total = packed.sum_between(0, packed.len());
+        Leaf {
+            first,
+            packed,
+            total,
+        }
     }
 }
 
@@ -32,7 +37,7 @@ impl Part for Leaf {
     ghost has_some = { λ l. l.some };
 
     fn len(&self) -> usize {
-        self.entries.len()
+        self.packed.len()
     }
 
     fn total(&self) -> Fingerprint {
@@ -40,26 +45,26 @@ impl Part for Leaf {
     }
 
     fn first(&self) -> &Item {
-        self.entries[0].item()
+        &self.first
     }
 
     fn item_at(&self, place: usize) -> Item {
-        *self.entries[place].item()
+        self.packed.item(place)
     }
 
     fn sum_between(&self, from: usize, to: usize) -> Fingerprint {
-        if from == 0 && to >= self.entries.len() {
+        if from == 0 && to >= self.packed.len() {
             return self.total;
         }
-        spans::total(between(&self.entries, from, to))
+        self.packed.sum_between(from, to)
     }
 
     fn push_between(&self, held: &mut Vec<Item>, from: usize, to: usize) -> Result<(), AllocError> {
-        push_items(held, between(&self.entries, from, to))
+        self.packed.push_between(held, from, to)
     }
 
     fn rank(&self, item: &Item) -> (usize, usize) {
-        search(&self.entries, item)
+        search(&self.packed, item)
     }
 
     fn with_at(
@@ -68,11 +73,12 @@ impl Part for Leaf {
         place: usize,
         entry: Entry,
     ) -> Result<Grown<Leaf>, AllocError> {
-        let mut entries = spans::with_entry(alloc, &self.entries, place, entry)?;
-        if entries.len() <= 64 {
-            return Ok(Grown::One(Leaf::of(entries)));
+        let packed = self.packed.with(alloc, place, &entry)?;
+        if packed.len() <= 64 {
+            return Ok(Grown::One(Leaf::of(packed)));
         }
-        let back = entries.split_off(32)?;
-        Ok(Grown::Two(Leaf::of(entries), Leaf::of(back)))
+        let front = packed.part(alloc, 0, 32)?;
+        let back = packed.part(alloc, 32, packed.len())?;
+        Ok(Grown::Two(Leaf::of(front), Leaf::of(back)))
     }
 }

@@ -7,6 +7,8 @@ mod edge;
 mod leaf;
 mod leaf_part;
 mod loading;
+mod packed;
+mod packing;
 mod part;
 mod parts;
 mod search;

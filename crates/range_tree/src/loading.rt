@@ -12,12 +12,12 @@ ghost use Rattle.range_tree.specs.Loads.{AreLeavesOf};
 
 use crate::branch::Branch;
 use crate::leaf::Leaf;
+use crate::packed::Packed;
 use crate::parts;
 use item_core::Item;
 use std::alloc::{AllocError, Global};
 use std::sync::Arc;
 use std::thread::{Threads, join};
-use store_core::spans;
 
 /// Fewer items than this are hashed by one thread.
 const FEW: usize = 1_024;
@@ -38,7 +38,7 @@ fn leaf_of(alloc: Global, items: &[Item]) -> Result<Arc<Leaf>, AllocError>
     ensures items { IfOk result (λ leaf. leaf_items (arc_value leaf) ≡ items.now) }
     ensures are_items { IfOk result (λ _. AllByRecursion IsItem items.now) }
 {
-    Ok(Arc::new(alloc, Leaf::of(spans::digested(alloc, items)?))?)
+    Ok(Arc::new(alloc, Leaf::of(Packed::digested(alloc, items)?))?)
 }
 
 /// The leaves of these items, each hashed, one leaf after another.

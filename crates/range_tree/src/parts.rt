@@ -10,18 +10,23 @@ ghost use Rattle.range_tree.specs.Parts.{items_of, span, first_item, count_befor
 ghost use Rattle.range_tree.specs.Grown.{grown_parts};
 
 use crate::part::{Grown, Part};
-use crate::search::{HasFirstItem, search};
+use crate::search::{HasItems, search};
 use digest_core::{Fingerprint, Summary, laws};
 use item_core::Item;
 use std::alloc::{AllocError, Global};
 use std::sync::Arc;
 use store_core::Entry;
 
-impl<P: Part> HasFirstItem for Arc<P> {
-    ghost lead = { λ p. first_item (P.content (arc_value p)) };
+/// The first item of each part.
+impl<P: Part> HasItems for &[Arc<P>] {
+    ghost leads = { λ ps. map (λ p. first_item (P.content (arc_value p))) ps.now };
 
-    fn lead(&self) -> &Item {
-        (**self).first()
+    fn count(&self) -> usize {
+        self.len()
+    }
+
+    fn is_before(&self, place: usize, item: &Item) -> bool {
+        self[place].first().cmp(item).is_lt()
     }
 }
 
@@ -137,7 +142,7 @@ pub fn rank<P: Part>(parts: &[Arc<P>], item: &Item) -> (usize, usize)
     ensures place { result.0 ≡ count_before item.now (items_of P.content parts.now) }
     ensures steps { length parts.now ≤ 64 → result.1 ≤ 7 + P.most_steps }
 {
-    let (begun, steps) = search(parts, item);
+    let (begun, steps) = search(&parts, item);
     if begun == 0 {
         return (0, steps);
     }

@@ -1,44 +1,41 @@
 //! A binary search that counts its comparisons.
 
-ghost use Rattle.std.specs.Prelude.{◌≡◌, ◌≤◌, true, false, length};
-ghost use Rattle.std.specs.List.Sorted.{IsPartitionedBy, IsPartitionPoint};
+ghost use Rattle.std.specs.Prelude.{◌≡◌, ◌≤◌, ◌<◌, List, [], length, get_or};
+ghost use Rattle.std.specs.List.Sorted.{IsPartitionedBy};
 ghost use Rattle.definitions.specs.Items as items;
 ghost use Rattle.definitions.specs.Items.{comes_before};
+ghost use Rattle.range_tree.specs.Parts.{PassFirst};
 
 use item_core::Item;
-use store_core::Entry;
 
-/// What begins with an item.
-pub trait HasFirstItem {
-    /// The item.
-    ghost lead: { Self → items.Item };
+/// What has items at places.
+pub trait HasItems {
+    /// The items.
+    ghost leads: { Self → List items.Item };
 
-    fn lead(&self) -> &Item
-        ensures { result.now ≡ lead self.now };
+    /// How many there are.
+    fn count(&self) -> usize
+        ensures { result ≡ length (leads self.now) };
+
+    /// Whether the item at a place comes before this one.
+    fn is_before(&self, place: usize, item: &Item) -> bool
+        requires { place < length (leads self.now) }
+        ensures { result ≡ comes_before (get_or (leads self.now) place []) item.now };
 }
 
-impl HasFirstItem for Entry {
-    ghost lead = { λ x. x };
-
-    fn lead(&self) -> &Item {
-        self.item()
-    }
-}
-
-/// How many elements begin before the item, and how many comparisons with it were made.
-pub fn search<T: HasFirstItem>(list: &[T], item: &Item) -> (usize, usize)
-    requires { IsPartitionedBy (λ t. comes_before (T.lead t) item.now) list.now }
-    ensures parted { IsPartitionPoint (λ t. comes_before (T.lead t) item.now ≡ true)
-        (λ t. comes_before (T.lead t) item.now ≡ false) list.now result.0 }
-    ensures within { result.0 ≤ length list.now }
-    ensures steps { length list.now ≤ 64 → result.1 ≤ 7 }
+/// How many of the items come before this one, and how many comparisons with it were made.
+pub fn search<L: HasItems>(list: &L, item: &Item) -> (usize, usize)
+    requires { IsPartitionedBy (λ z. comes_before z item.now) (L.leads list.now) }
+    ensures parted { PassFirst (λ z. comes_before z item.now) (L.leads list.now) result.0 }
+    ensures within { result.0 ≤ length (L.leads list.now) }
+    ensures steps { length (L.leads list.now) ≤ 64 → result.1 ≤ 7 }
 {
     let mut low = 0;
-    let mut high = list.len();
+    let mut high = list.count();
     let mut steps = 0;
     while low < high {
         let middle = low + (high - low) / 2;
-        if list[middle].lead().cmp(item).is_lt() {
+        if list.is_before(middle, item) {
             low = middle + 1;
         } else {
             high = middle;

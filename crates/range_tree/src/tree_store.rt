@@ -11,6 +11,7 @@ use crate::branch::Branch;
 use crate::edge::Edge;
 use crate::leaf::Leaf;
 use crate::loading::{branches_of, branches_on};
+use crate::packed::Packed;
 use crate::parts;
 use crate::tree::Tree;
 use digest_core::{Fingerprint, Summary, laws};
@@ -25,10 +26,9 @@ fn branches_of_one(alloc: Global, entry: Entry) -> Result<Vec<Arc<Branch>>, Allo
     ensures items { IfOk result (λ held. items_of branch_items held.items ≡ entry ∷ []) }
     ensures one { IfOk result (λ held. length held.items ≡ 1) }
 {
-    let mut entries = Vec::new(alloc);
-    entries.push(entry)?;
+    let packed = Packed::empty(alloc).with(alloc, 0, &entry)?;
     let mut leaves = Vec::new(alloc);
-    leaves.push(Arc::new(alloc, Leaf::of(entries))?)?;
+    leaves.push(Arc::new(alloc, Leaf::of(packed))?)?;
     let mut branches = Vec::new(alloc);
     branches.push(Arc::new(alloc, Branch::of(leaves))?)?;
     Ok(branches)

@@ -1,7 +1,8 @@
-use Rattle.std.proofs.Common.{◌≡◌, ◌+◌, ◌-◌, ◌/◌, ◌<◌, Bool, true, false, length, rules, arith}
-use Rattle.definitions.specs.Items.{comes_before}
+use Rattle.std.proofs.Common.{◌≡◌, ◌+◌, ◌-◌, ◌/◌, ◌<◌, Bool, true, false, length, get_or, [], rules, arith}
+use Rattle.std.proofs.lemmas.List.{get_or_default}
+use Rattle.definitions.specs.Items.{Item, comes_before}
 use Rattle.range_tree.proofs.Searches.{passes_up_to, fails_from, halved}
-use Rattle.range_tree.proofs.search.search.Goals.{then-is_lt, else-is_lt}
+use Rattle.range_tree.proofs.search.search.Goals.{then-is_before, else-is_before}
 use Rattle.range_tree.proofs.search.search.Goals as goal
 
 pub overflow_add-steps : goal.overflow_add-steps
@@ -15,14 +16,16 @@ loop-low-preserved g c =
     let low = c.loop-low.low in
     let high = c.loop-low.high in
     let middle = low + (high - low) / 2 in
-    let x = c.index-list-middle.result in
+    let xs = g.L.HasItems.leads c.args.list.now in
+    let x = get_or xs middle [] in
     let held = c.loop-low.invariant in
-    let before : (t : _) → Bool = λ t. comes_before (g.T.HasFirstItem.lead t) c.args.item.now in
+    let before : Item → Bool = λ z. comes_before z c.args.item.now in
     let open_yet : low < high = omega arith in
     let below : middle < high = omega arith in
-    let within : middle < length c.args.list.now = let top = held.high in omega arith in
-    elim c.if-is_lt.branch [
-      | then-is_lt w ↦
+    let within : middle < length xs = let top = held.high in omega arith in
+    let read : x ≡ get_or xs middle x = get_or_default xs middle [] x within in
+    elim c.if-is_before.branch [
+      | then-is_before w ↦
           let test : before x ≡ true = search rules in
           rw (w.low-is, w.high-is) (record {
             steps = let kept = held.steps in omega arith;
@@ -30,10 +33,10 @@ loop-low-preserved g c =
                 halved c.loop-low.steps (high - low) (high - (middle + 1)) (held.few small) (omega arith) (omega arith);
             low = omega arith;
             high = held.high;
-            before = passes_up_to before c.args.list.now c.requires middle x within c.index-list-middle.is test;
+            before = passes_up_to before xs c.requires middle x within read test;
             after = held.after;
           })
-      | else-is_lt w ↦
+      | else-is_before w ↦
           let test : before x ≡ false = search rules in
           rw (w.low-is, w.high-is) (record {
             steps = let kept = held.steps in omega arith;
@@ -42,6 +45,6 @@ loop-low-preserved g c =
             low = omega arith;
             high = omega arith;
             before = held.before;
-            after = fails_from before c.args.list.now c.requires middle x within c.index-list-middle.is test;
+            after = fails_from before xs c.requires middle x within read test;
           })
     ]

@@ -2,5 +2,5 @@ use Rattle.range_tree.proofs.Places.{span_clamped}
 use Rattle.range_tree.proofs.spans.between.Goals as goal
 
 pub returns : goal.returns
-returns c = span_clamped c.args.from c.args.to c.args.entries.now c.min-start.result c.min-end.result c.min-end.ensures
+returns g c = span_clamped c.args.from c.args.to c.args.list.now c.min-start.result c.min-end.result c.min-end.ensures
     c.min-start.ensures

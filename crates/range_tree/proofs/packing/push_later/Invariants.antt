@@ -1,0 +1,5 @@
+use Rattle.std.proofs.Common.{◌≡◌, ◌+◌, ◌++◌, map, take}
+use Rattle.range_tree.proofs.packing.push_later.Given as goal
+
+abbrev pub invariant-loop-end : goal.invariant-loop-end
+invariant-loop-end l = l.held.items ≡ l.fn.held.items ++ map (λ e. e + l.bytes) (take l.end-index l.ends)

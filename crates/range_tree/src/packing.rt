@@ -1,0 +1,153 @@
+//! Packed items are made: of items, of packed ones with one more, and of some of them.
+
+ghost use Rattle.std.specs.Prelude.{◌≡◌, ◌≤◌, ◌<◌, ◌+◌, ◌-◌, ◌^◌, ◌∷◌, ◌++◌, [], length, take, drop, map, IfOk, OnOk};
+ghost use Rattle.std.specs.List.{AllByRecursion};
+ghost use Rattle.definitions.specs.Items.{IsItem};
+ghost use Rattle.range_tree.specs.Parts.{span};
+
+use crate::packed::Packed;
+use digest_core::{Fingerprint, Summary};
+use item_core::Item;
+use std::alloc::{AllocError, Global};
+use store_core::Entry;
+
+/// How many bytes the items have.
+fn bytes_of(items: &[Item]) -> usize {
+    let mut bytes = 0usize;
+    for item in items {
+        bytes = bytes.saturating_add(item.bytes().len());
+    }
+    bytes
+}
+
+/// The list with a run of elements at a place.
+fn with_run<T: Copy + Drop>(
+    alloc: Global,
+    list: &[T],
+    place: usize,
+    run: &[T],
+) -> Result<Vec<T>, AllocError>
+    requires { place ≤ length list.now }
+    ensures { IfOk result (λ held. held.items ≡ take place list.now ++ run.now ++ drop place list.now) }
+{
+    let (front, back) = list.split_at(place);
+    let mut held = Vec::with_capacity(alloc, list.len().saturating_add(run.len()))?;
+    held.extend_from_slice(front)?;
+    held.extend_from_slice(run)?;
+    held.extend_from_slice(back)?;
+    Ok(held)
+}
+
+/// Puts places after others, each so many bytes later.
+fn push_later(held: &mut Vec<u16>, ends: &[u16], bytes: u16) -> Result<(), AllocError>
+    requires { AllByRecursion (λ end. end + bytes < 2 ^ 16) ends.now }
+    ensures { OnOk result (held.new.items ≡ held.old.items ++ map (λ end. end + bytes) ends.now) }
+{
+    for end in ends {
+        held.push(*end + bytes)?;
+    }
+    Ok(())
+}
+
+/// The places, each so many bytes earlier.
+fn earlier(alloc: Global, ends: &[u16], bytes: u16) -> Result<Vec<u16>, AllocError>
+    requires { AllByRecursion (λ end. bytes ≤ end) ends.now }
+    ensures { IfOk result (λ held. held.items ≡ map (λ end. end - bytes) ends.now) }
+{
+    let mut held = Vec::with_capacity(alloc, ends.len())?;
+    for end in ends {
+        held.push(*end - bytes)?;
+    }
+    Ok(held)
+}
+
+/// Where items end, where one of so many bytes is put between them: it begins at `start`, and stands at `place`.
+fn ends_with(
+    alloc: Global,
+    ends: &[u16],
+    place: usize,
+    start: u16,
+    bytes: u16,
+) -> Result<Vec<u16>, AllocError>
+    requires place { place ≤ length ends.now }
+    requires start { start + bytes < 2 ^ 16 }
+    requires later { AllByRecursion (λ end. end + bytes < 2 ^ 16) ends.now }
+    ensures { IfOk result (λ held. held.items
+        ≡ take place ends.now ++ (start + bytes) ∷ map (λ end. end + bytes) (drop place ends.now)) }
+{
+    let (front, back) = ends.split_at(place);
+    let mut held = Vec::with_capacity(alloc, ends.len() + 1)?;
+    held.extend_from_slice(front)?;
+    held.push(start + bytes)?;
+    push_later(&mut held, back, bytes)?;
+    Ok(held)
+}
+
+impl Packed {
+    /// No items.
+    pub(crate) fn empty(alloc: Global) -> Packed
+        ensures { result ≡ [] }
+    {
+        Packed {
+            bytes: Vec::new(alloc),
+            ends: Vec::new(alloc),
+            fingerprints: Vec::new(alloc),
+        }
+    }
+
+    /// The items, each hashed.
+    pub(crate) fn digested(alloc: Global, items: &[Item]) -> Result<Packed, AllocError>
+        requires { length items.now < 1024 }
+        ensures items { IfOk result (λ packed. packed ≡ items.now) }
+        ensures are_items { IfOk result (λ _. AllByRecursion IsItem items.now) }
+    {
+        let mut bytes = Vec::with_capacity(alloc, bytes_of(items))?;
+        let mut ends = Vec::with_capacity(alloc, items.len())?;
+        let mut fingerprints = Vec::with_capacity(alloc, items.len())?;
+        for item in items {
+            bytes.extend_from_slice(item.bytes())?;
+            ends.push(bytes.len() as u16)?;
+            fingerprints.push(Fingerprint::of_item(item))?;
+        }
+        Ok(Packed {
+            bytes,
+            ends,
+            fingerprints,
+        })
+    }
+
+    /// The items with an entry at a place.
+    pub(crate) fn with(
+        &self,
+        alloc: Global,
+        place: usize,
+        entry: &Entry,
+    ) -> Result<Packed, AllocError>
+        requires place { place ≤ length self.now }
+        requires few { length self.now < 1023 }
+        ensures { IfOk result (λ packed. packed ≡ take place self.now ++ entry.now ∷ drop place self.now) }
+    {
+        let start = self.start(place);
+        let bytes = entry.item().bytes();
+        Ok(Packed {
+            bytes: with_run(alloc, &self.bytes, start, bytes)?,
+            ends: ends_with(alloc, &self.ends, place, start as u16, bytes.len() as u16)?,
+            fingerprints: with_run(alloc, &self.fingerprints, place, &[entry.fingerprint()])?,
+        })
+    }
+
+    /// The items from one place on and before another.
+    pub(crate) fn part(&self, alloc: Global, from: usize, to: usize) -> Result<Packed, AllocError>
+        requires from { from ≤ to }
+        requires to { to ≤ length self.now }
+        ensures { IfOk result (λ packed. packed ≡ span from to self.now) }
+    {
+        let start = self.start(from);
+        let end = self.start(to);
+        Ok(Packed {
+            bytes: Vec::from_slice(alloc, &self.bytes[start..end])?,
+            ends: earlier(alloc, &self.ends[from..to], start as u16)?,
+            fingerprints: Vec::from_slice(alloc, &self.fingerprints[from..to])?,
+        })
+    }
+}
