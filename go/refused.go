@@ -74,6 +74,8 @@ var names = map[int]string{
 	52: "OverBound",
 	53: "SerialsSpent",
 	54: "GateClosed",
+	55: "WrongSet",
+	57: "BadEntry",
 	60: "Bind",
 	61: "Connect",
 	62: "Accept",

@@ -27,7 +27,8 @@ LIBRARY = TOP / "c" / "out" / "librangesync.so"
 # The library needs nothing of one Python. Of the system it needs memmove, memcpy, memset, malloc, realloc and free, as
 # glibc has had them since 2.14; 2.17 is the first one that tools for wheels know by its number.
 TAG = "py3-none-manylinux_2_17_x86_64"
-SOURCES = ["README.md", "backend.py", "checks.py", "more_checks.py", "pyproject.toml"]
+CHECKS = ["checks.py", "more_checks.py", "shard_checks.py", "shard_peers.py"]
+SOURCES = ["README.md", "backend.py", *CHECKS, "pyproject.toml"]
 LICENSES = ["LICENSE-APACHE", "LICENSE-MIT"]
 
 Settings = Mapping[str, object]

@@ -204,17 +204,21 @@ class Server:
             self.process = subprocess.Popen(call, cwd=folder, stdin=subprocess.DEVNULL, stdout=out, stderr=err)
 
     def error(self) -> str:
-        """What is on standard error, but for the line with the real address."""
+        """What is on standard error, but for the lines with the real addresses."""
         lines = self.err.read_text(errors="backslashreplace").splitlines(keepends=True)
-        return "".join(line for line in lines if not line.startswith("listening "))
+        return "".join(line for line in lines if not line.startswith(("listening ", "metrics ")))
 
     def address(self) -> str:
         """The real address, once it listens."""
+        return self.told("listening")
+
+    def told(self, word: str) -> str:
+        """The real address that is told after this word, once it listens there."""
         found: list[str] = []
 
         def is_known() -> bool:
             lines = self.err.read_text().splitlines(keepends=True)
-            found.extend(line.split()[1] for line in lines if line.startswith("listening ") and line.endswith("\n"))
+            found.extend(line.split()[1] for line in lines if line.startswith(f"{word} ") and line.endswith("\n"))
             return bool(found) or self.process.poll() is not None
 
         wait_until(is_known)

@@ -413,14 +413,15 @@ class PeerRefused(Exception):
 def serve(_profile, table, items, peer):
     """The session of a responder, in the profile of the peer's hello."""
     side = Side(table, items, peer)
+    return side.run(lambda: read_hello(side))
 
-    def begin():
-        hello = side.source.take(4)
-        profiles = [profile for profile, own in HELLOS.items() if own == hello]
-        require(profiles, 1)
-        side.own_hello(profiles[0])
 
-    return side.run(begin)
+def read_hello(side):
+    """Reads the hello of an initiator, and writes that of the responder."""
+    hello = side.source.take(4)
+    profiles = [profile for profile, own in HELLOS.items() if own == hello]
+    require(profiles, 1)
+    side.own_hello(profiles[0])
 
 
 def dial(profile, table, items, peer):

@@ -14,6 +14,7 @@ A set is kept here; a session over it takes the bytes that came from its peer, a
 
 `run` moves the bytes over a socket, and `arun` over the streams of asyncio. Without them, send what `Session.pulls`
 gives, and give `Session.push` what comes. An item is 1 to 64 bytes; a `TypedSet` has values of another type by a codec.
+A `Set` has at most 65,536 items; `Shards` are a set of any size.
 
 Each object is freed by its `close`, at the end of a `with`, or when nothing names it any more; in any order, since a
 session keeps what it needs of its version, its set and its strategy. Calls of a closed object raise `ValueError`.
@@ -23,22 +24,28 @@ Threads may share an object: calls of one object wait for each other.
 from __future__ import annotations
 
 from ._codecs import BadItem, Codec, Integers, LearnedValues, Texts, TypedSet, Uuids
+from ._cuts import shard_of
 from ._refused import Refused
 from ._running import Connection, Reader, Writer, arun, run
 from ._sessions import Learned, Session, State
 from ._sets import Set, Strategy, Version
+from ._shards import Answered, Incomplete, Reconciled, Shards
 
 __all__ = [
+    "Answered",
     "BadItem",
     "Codec",
     "Connection",
+    "Incomplete",
     "Integers",
     "Learned",
     "LearnedValues",
     "Reader",
+    "Reconciled",
     "Refused",
     "Session",
     "Set",
+    "Shards",
     "State",
     "Strategy",
     "Texts",
@@ -48,4 +55,5 @@ __all__ = [
     "Writer",
     "arun",
     "run",
+    "shard_of",
 ]

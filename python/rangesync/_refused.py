@@ -42,6 +42,8 @@ _KNOWN = {
     52: ("OverBound", "the session has sent as many messages as it may"),
     53: ("SerialsSpent", "no number for one more session is left"),
     54: ("GateClosed", "the peer does not let the session go on"),
+    55: ("WrongSet", "there is no such set: it has another name, or other bits, or the shard is not kept there"),
+    57: ("BadEntry", "an item of the peer's directory is no entry of a shard"),
     60: ("Bind", "the address is none, or is in use, or may not be listened at"),
     61: ("Connect", "nobody listens at the address, or nobody answered in time"),
     62: ("Accept", "a connection was not accepted, after all tries"),
@@ -64,6 +66,7 @@ class Refused(Exception):
 
     `number` is that of docs/PROTOCOL.md, and `name` its name, `cause` a sentence that says what was wrong, without a
     full stop. Both are empty for a number that has none, as a peer may send. `by_peer` says that the peer refused.
+    `shard` is the number of the shard that has no room, where one of `Shards` has none, and None otherwise.
 
         >>> fault = Refused(40)
         >>> fault.number, fault.name, fault.by_peer
@@ -80,13 +83,16 @@ class Refused(Exception):
     name: str
     cause: str
     by_peer: bool
+    shard: int | None
 
-    def __init__(self, number: int, by_peer: bool = False) -> None:
-        super().__init__(number, by_peer)
+    def __init__(self, number: int, by_peer: bool = False, shard: int | None = None) -> None:
+        super().__init__(number, by_peer, shard)
         self.number = number
         self.name, self.cause = _KNOWN.get(number, ("", ""))
         self.by_peer = by_peer
+        self.shard = shard
 
     def __str__(self) -> str:
         who = "peer refused" if self.by_peer else "refused"
-        return f"{who} {self.number} {self.name}".rstrip()
+        where = "" if self.shard is None else f" in shard {self.shard}"
+        return f"{who} {self.number} {self.name}".rstrip() + where

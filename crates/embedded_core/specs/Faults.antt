@@ -1,20 +1,17 @@
 -- Why a call is refused.
 --     embedded_fault_number f                the number of a refusal
---     of_strategy, of_check, of_settings, of_log     the faults of other crates
+--     of_settings, of_log                    the faults of other crates
 --     IsUnfit text f                     the text holds no accepted strategy, for this reason
 --     IsStrategy of text result          what a text gives: its strategy, accepted; or why not
-use Rattle.std.specs.Prelude.{ℕ, List, Result, Ok, Err, ⊤}
-use Rattle.definitions.specs.Strategies.{Table}
+use Rattle.std.specs.Prelude.{◌≡◌, ℕ, List, Result, Ok, Err, ⊤}
 use Rattle.definitions.specs.Refusals as codes
 use Rattle.item_core.specs.declared.item.LengthFault.{LengthFault}
 use Rattle.item_core.specs.declared.item.LengthFault.TheVariants as lengths
 use Rattle.strategy_core.specs.Refused as strategy
-use Rattle.strategy_core.specs.declared.fault.StrategyError.{StrategyError}
-use Rattle.strategy_core.specs.declared.fault.StrategyError.TheVariants as strategy_errors
 use Rattle.strategy_check.specs.Checked.{Checked}
 use Rattle.strategy_check.specs.Refused as check
-use Rattle.strategy_check.specs.declared.fault.CheckError.{CheckError}
-use Rattle.strategy_check.specs.declared.fault.CheckError.TheVariants as check_errors
+use Rattle.item_files.specs.Accepts.{IsAcceptedOf}
+use Rattle.item_files.specs.declared.strategy_flaw.StrategyFlaw.{StrategyFlaw}
 use Rattle.item_files.specs.declared.fault.SettingsFault.{SettingsFault}
 use Rattle.item_files.specs.declared.fault.SettingsFault.TheVariants as settings
 use Rattle.version_log.specs.declared.answer.LogFault.{LogFault}
@@ -36,19 +33,12 @@ embedded_fault_number faults.BadItemLine = 81
 embedded_fault_number faults.TooManyItems = 82
 embedded_fault_number faults.Memory = 90
 
-abbrev pub of_strategy : StrategyError → EmbeddedFault
-of_strategy (strategy_errors.Fault f) = faults.Strategy f
-of_strategy strategy_errors.Memory = faults.Memory
-
-abbrev pub of_check : CheckError → EmbeddedFault
-of_check (check_errors.Fault f) = faults.Check f
-of_check check_errors.Memory = faults.Memory
-
 abbrev pub of_settings : SettingsFault → EmbeddedFault
-of_settings settings.CannotRead = faults.Memory
-of_settings (settings.BadItemLine line) = faults.BadItemLine
-of_settings settings.TooManyItems = faults.TooManyItems
-of_settings (settings.Strategy f) = faults.Strategy f
+of_settings (settings.CannotRead f) = faults.Memory
+of_settings (settings.BadItemLine bad) = faults.BadItemLine
+of_settings (settings.TooManyItems cap) = faults.TooManyItems
+of_settings (settings.Strategy flaw) = faults.Strategy flaw.fault
+of_settings (settings.Check f) = faults.Check f
 of_settings settings.Memory = faults.Memory
 
 abbrev pub of_log : LogFault → EmbeddedFault
@@ -57,8 +47,9 @@ of_log logs.Memory = faults.Memory
 
 -- the text holds no strategy, or one that is not accepted, for this reason; or memory ran out
 abbrev pub IsUnfit : List ℕ → EmbeddedFault → Type 0
-IsUnfit text (faults.Strategy f) = strategy.Reads (Err (strategy_errors.Fault f)) text
-IsUnfit text (faults.Check f) = (T : Table) × strategy.Reads (Ok T) text × check.Refuses (check_errors.Fault f) T
+IsUnfit text (faults.Strategy f) = (flaw : StrategyFlaw) × (flaw.fault ≡ f)
+    × IsAcceptedOf text (Err (settings.Strategy flaw))
+IsUnfit text (faults.Check f) = IsAcceptedOf text (Err (settings.Check f))
 IsUnfit text faults.Full = ⊥
 IsUnfit text (faults.Length f) = ⊥
 IsUnfit text faults.EmptyRange = ⊥
@@ -68,5 +59,5 @@ IsUnfit text faults.Memory = ⊤
 
 -- what a text gives: its strategy, accepted; or why not
 abbrev pub IsStrategy : {X : Type 0} → (X → Checked) → List ℕ → Result X EmbeddedFault → Type 0
-IsStrategy of text (Ok x) = strategy.Reads (Ok (of x).table) text × check.Checks (Ok (of x)) (of x).table
+IsStrategy of text (Ok x) = IsAcceptedOf text (Ok (of x))
 IsStrategy of text (Err f) = IsUnfit text f

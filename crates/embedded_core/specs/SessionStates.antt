@@ -21,8 +21,8 @@ use Rattle.embedded_core.specs.declared.any_session.AnySession.{AnySession}
 use Rattle.embedded_core.specs.declared.any_session.AnySession.TheVariants as any
 use Rattle.embedded_core.specs.declared.any_session.Opening.{Opening}
 use Rattle.embedded_core.specs.declared.any_session.Opening.TheVariants as openings
-use Rattle.embedded_core.specs.declared.any_session.WireProfile.{WireProfile}
-use Rattle.embedded_core.specs.declared.any_session.WireProfile.TheVariants as profiles
+use Rattle.item_files.specs.declared.profile.WireProfile.{WireProfile}
+use Rattle.item_files.specs.declared.profile.WireProfile.TheVariants as profiles
 
 -- what two sessions of one profile have to do with each other
 abbrev pub Relation : Type 1
@@ -83,13 +83,13 @@ abbrev pub Pulls : List ℕ → Relation
 Pulls bytes F S W c d = Takes S W c bytes d × Listens c d
 
 abbrev pub Opens : VersionState → Opening → WireProfile → AnySession → Type 0
-Opens v openings.Initiator profiles.Plain s = IsFirst s (λ c.
+Opens v openings.Initiator profiles.One s = IsFirst s (λ c.
     Begins two_lanes two_lane_profile v.accepted (initiating two_lanes (peer_of v.accepted v.items)) c)
-Opens v openings.Responder profiles.Plain s = IsSecond s (λ c.
+Opens v openings.Responder profiles.One s = IsSecond s (λ c.
     Begins two_lanes two_lane_profile v.accepted (responding (peer_of v.accepted v.items)) c)
-Opens v openings.Initiator profiles.Counted s = IsFirstCounted s (λ c.
+Opens v openings.Initiator profiles.Two s = IsFirstCounted s (λ c.
     Begins counted_lanes counted_profile v.accepted (initiating counted_lanes (peer_of v.accepted v.items)) c)
-Opens v openings.Responder profiles.Counted s = IsSecondCounted s (λ c.
+Opens v openings.Responder profiles.Two s = IsSecondCounted s (λ c.
     Begins counted_lanes counted_profile v.accepted (responding (peer_of v.accepted v.items)) c)
 
 abbrev pub ready_of : AnySession → List ℕ

@@ -17,6 +17,7 @@ use Rattle.definitions.specs.Histories.{History, content, opening_history, inser
 use Rattle.definitions.specs.Histories.{Insertion, New, Already, Full}
 use Rattle.strategy_check.specs.Checked.{Checked}
 use Rattle.item_files.specs.ItemFiles.{file_items}
+use Rattle.item_files.specs.declared.bad_line.BadLine.{BadLine}
 use Rattle.item_files.specs.declared.form.ItemForm.{ItemForm}
 use Rattle.embedded_core.specs.declared.fault.EmbeddedFault.{EmbeddedFault}
 use Rattle.embedded_core.specs.declared.fault.EmbeddedFault.TheVariants as faults
@@ -83,7 +84,7 @@ Inserts s x t (Err f) = IsAnswer (insertion s.accepted.table.cap s.history x) (E
 
 -- a line of the text is no item, or there are more items than the cap; or memory ran out
 abbrev pub IsNoSet : ItemForm → List ℕ → Checked → EmbeddedFault → Type 0
-IsNoSet form text a faults.BadItemLine = (line : ℕ) × (file_items form text ≡ Err line)
+IsNoSet form text a faults.BadItemLine = (bad : BadLine) × (file_items form text ≡ Err bad)
 IsNoSet form text a faults.TooManyItems = (items : List Item) × (file_items form text ≡ Ok items)
     × (a.table.cap < length (set_of items))
 IsNoSet form text a faults.Memory = ⊤

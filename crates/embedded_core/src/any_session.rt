@@ -12,6 +12,7 @@ ghost use Rattle.session_core.specs.declared.state.State.TheVariants as states;
 use crate::set::Version;
 use digest_core::{Counted, Fingerprint, Summary};
 use ends_core::{Initiating, Learned, Responding};
+use item_files::WireProfile;
 use range_tree::Tree;
 use session_core::{Session, State};
 use std::alloc::{AllocError, Global};
@@ -23,15 +24,6 @@ pub enum Opening {
     Initiator,
     /// The other one.
     Responder,
-}
-
-/// The wire profile of a session.
-#[derive(Clone, Copy, Debug, PartialEq, Eq)]
-pub enum WireProfile {
-    /// Profile 1: fingerprints alone.
-    Plain,
-    /// Profile 2: the count of items beside each.
-    Counted,
 }
 
 /// A session in either role and in either profile.
@@ -89,12 +81,12 @@ impl AnySession {
     {
         Ok(match opening {
             Opening::Initiator => match profile {
-                WireProfile::Plain => AnySession::First(first(alloc, version)?),
-                WireProfile::Counted => AnySession::FirstCounted(first(alloc, version)?),
+                WireProfile::One => AnySession::First(first(alloc, version)?),
+                WireProfile::Two => AnySession::FirstCounted(first(alloc, version)?),
             },
             Opening::Responder => match profile {
-                WireProfile::Plain => AnySession::Second(second(alloc, version)?),
-                WireProfile::Counted => AnySession::SecondCounted(second(alloc, version)?),
+                WireProfile::One => AnySession::Second(second(alloc, version)?),
+                WireProfile::Two => AnySession::SecondCounted(second(alloc, version)?),
             },
         })
     }

@@ -1,14 +1,14 @@
 //! Why a call is refused.
 
 ghost use Rattle.std.specs.Prelude.{◌≡◌, ◌<◌};
-ghost use Rattle.embedded_core.specs.Faults.{embedded_fault_number, of_strategy, of_check, of_settings, of_log};
+ghost use Rattle.embedded_core.specs.Faults.{embedded_fault_number, of_settings, of_log};
 ghost use Rattle.embedded_core.specs.declared.fault.EmbeddedFault.TheVariants as faults;
 
 use item_core::{EmptyRange, LengthFault};
 use item_files::SettingsFault;
 use std::alloc::{AllocError, AllocFailed};
-use strategy_check::{CheckError, CheckFault};
-use strategy_core::{StrategyError, StrategyFault};
+use strategy_check::CheckFault;
+use strategy_core::StrategyFault;
 use version_log::LogFault;
 
 /// Why a call is refused.
@@ -51,28 +51,6 @@ impl EmbeddedFault {
     }
 }
 
-impl From<StrategyError> for EmbeddedFault {
-    ghost from_gives = { λ f e. e ≡ of_strategy f };
-
-    fn from(error: StrategyError) -> EmbeddedFault {
-        match error {
-            StrategyError::Fault(fault) => EmbeddedFault::Strategy(fault),
-            StrategyError::Memory => EmbeddedFault::Memory,
-        }
-    }
-}
-
-impl From<CheckError> for EmbeddedFault {
-    ghost from_gives = { λ f e. e ≡ of_check f };
-
-    fn from(error: CheckError) -> EmbeddedFault {
-        match error {
-            CheckError::Fault(fault) => EmbeddedFault::Check(fault),
-            CheckError::Memory => EmbeddedFault::Memory,
-        }
-    }
-}
-
 impl From<LogFault> for EmbeddedFault {
     ghost from_gives = { λ f e. e ≡ of_log f };
 
@@ -105,10 +83,11 @@ impl From<SettingsFault> for EmbeddedFault {
 
     fn from(fault: SettingsFault) -> EmbeddedFault {
         match fault {
-            SettingsFault::BadItemLine { line: _ } => EmbeddedFault::BadItemLine,
-            SettingsFault::TooManyItems => EmbeddedFault::TooManyItems,
-            SettingsFault::Strategy(fault) => EmbeddedFault::Strategy(fault),
-            SettingsFault::CannotRead | SettingsFault::Memory => EmbeddedFault::Memory,
+            SettingsFault::BadItemLine(_) => EmbeddedFault::BadItemLine,
+            SettingsFault::TooManyItems { cap: _ } => EmbeddedFault::TooManyItems,
+            SettingsFault::Strategy(flaw) => EmbeddedFault::Strategy(flaw.fault),
+            SettingsFault::Check(fault) => EmbeddedFault::Check(fault),
+            SettingsFault::CannotRead(_) | SettingsFault::Memory => EmbeddedFault::Memory,
         }
     }
 }

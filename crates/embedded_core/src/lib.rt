@@ -7,8 +7,9 @@ mod fault;
 mod set;
 mod strategy;
 
-pub use any_session::{AnySession, Opening, WireProfile};
+pub use any_session::{AnySession, Opening};
 pub use between::range_between;
 pub use fault::EmbeddedFault;
+pub use item_files::WireProfile;
 pub use set::{Set, Version};
 pub use strategy::read_strategy;

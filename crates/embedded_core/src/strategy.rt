@@ -4,19 +4,20 @@ ghost use Rattle.std.specs.Arc.{arc_value};
 ghost use Rattle.embedded_core.specs.Faults.{IsStrategy};
 
 use crate::fault::EmbeddedFault;
+use item_files::{SettingsFault, accepted_of};
 use std::alloc::Global;
 use std::sync::Arc;
-use strategy_check::{Accepted, check};
-use strategy_core::Strategy;
+use strategy_check::Accepted;
 
 /// The strategy of a text, with its ranks, where it is accepted: else 37, 36 or 38.
 fn accepted(alloc: Global, text: &[u8]) -> Result<Accepted, EmbeddedFault>
     ensures { IsStrategy (λ a. a) text.now result }
 {
-    let strategy = Strategy::read(alloc, text)?;
-    match check(alloc, strategy) {
+    match accepted_of(alloc, text) {
         Ok(accepted) => Ok(accepted),
-        Err((_strategy, error)) => Err(EmbeddedFault::from(error)),
+        Err(SettingsFault::Strategy(flaw)) => Err(EmbeddedFault::Strategy(flaw.fault)),
+        Err(SettingsFault::Check(fault)) => Err(EmbeddedFault::Check(fault)),
+        Err(_) => Err(EmbeddedFault::Memory),
     }
 }
 

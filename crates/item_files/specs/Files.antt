@@ -1,19 +1,14 @@
 -- What the files of settings give.
 --     IsFileText text            bytes that a file of settings may hold
 --     IsAllOf unread text        these bytes are all that was left to read
---     IsStrategyOf text result   what a strategy file gives: the strategy of its text, or that text's fault; or memory
---                                ran out
 --     IsFromFile gives result    the result of some such text; or the file was not read; or memory ran out
 -- What a file holds, no contract can name.
-use Rattle.std.specs.Prelude.{◌≡◌, ◌⊎◌, ◌≤◌, ℕ, List, length, Option, Result, Ok, Err, ⊤}
+use Rattle.std.specs.Prelude.{◌≡◌, ◌⊎◌, ◌≤◌, ℕ, List, length, Option, Result, Ok, Err}
 use Rattle.std.specs.Io.KnownBytes.{Consumes, IsAtEnd}
 use Rattle.definitions.specs.Items.{IsBytes}
-use Rattle.definitions.specs.Strategies.{Table}
-use Rattle.strategy_core.specs.Refused.{Reads}
-use Rattle.strategy_core.specs.declared.fault.StrategyError.TheVariants as strategies
+use Rattle.item_files.specs.declared.read_fault.ReadFault.{ReadFault}
 use Rattle.item_files.specs.declared.fault.SettingsFault.{SettingsFault}
-use Rattle.item_files.specs.declared.fault.SettingsFault.TheVariants.{CannotRead, BadItemLine, TooManyItems}
-use Rattle.item_files.specs.declared.fault.SettingsFault.TheVariants.{Strategy, Memory}
+use Rattle.item_files.specs.declared.fault.SettingsFault.TheVariants.{CannotRead, Memory}
 
 abbrev pub IsFileText : List ℕ → Type 0
 IsFileText text = IsBytes text × (length text ≤ 16777216)
@@ -22,17 +17,9 @@ IsFileText text = IsBytes text × (length text ≤ 16777216)
 abbrev pub IsAllOf : Option (List ℕ) → List ℕ → Type 0
 IsAllOf unread text = (left : Option (List ℕ)) × Consumes unread left text × IsAtEnd left
 
-abbrev pub IsStrategyOf : List ℕ → Result Table SettingsFault → Type 0
-IsStrategyOf text (Ok T) = Reads (Ok T) text
-IsStrategyOf text (Err CannotRead) = ⊥
-IsStrategyOf text (Err (BadItemLine line)) = ⊥
-IsStrategyOf text (Err TooManyItems) = ⊥
-IsStrategyOf text (Err (Strategy f)) = Reads (Err (strategies.Fault f)) text
-IsStrategyOf text (Err Memory) = ⊤
-
 -- the file was not read, or memory ran out
 abbrev pub IsUnread : SettingsFault → Type 0
-IsUnread fault = (fault ≡ CannotRead) ⊎ (fault ≡ Memory)
+IsUnread fault = ((f : ReadFault) × (fault ≡ CannotRead f)) ⊎ (fault ≡ Memory)
 
 abbrev pub IsUnreadFile : {X : Type 0} → Result X SettingsFault → Type 0
 IsUnreadFile (Ok x) = ⊥

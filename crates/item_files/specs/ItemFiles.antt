@@ -7,21 +7,26 @@
 --     content_of form line    what is left of a line: its digits, or its text
 --     spelled form content    the item that this spells, if it spells one
 --     line_items form line    no item where nothing is left, else the item that is spelled; None where none is
---     items_from form n ls    the items of these lines, of which the first has the number n, or the number of the first
---                             bad line
+--     line_flaw form line     what is wrong with a line that spells no item
+--     bad_line flaw n line    a bad line as it is told: its number, its first 164 bytes, and what is wrong with it
+--     items_from form n ls    the items of these lines, of which the first has the number n, or the first bad line
 --     has_byte_order_mark text  whether a text begins with the byte order mark of UTF-8
---     file_items form text    the items of a file, or the number of its first bad line, from 1; a file that begins with
---                             a byte order mark is refused by its line 1, so that the mark is part of no item
+--     file_items form text    the items of a file, or its first bad line, from 1; a file that begins with a byte order
+--                             mark is refused by its line 1, so that the mark is part of no item
 use Rattle.std.specs.Prelude.{ℕ, ◌+◌, ◌==◌, Bool, ◌&&◌, ◌||◌, List, [], ◌∷◌, ◌++◌, reverse, length, nat_le}
 use Rattle.std.specs.Prelude.{if◌then◌else◌, Option, Some, None, option_map, Result, Ok, Err, bytes_eq, codes, take}
-use Rattle.std.specs.Prelude.{drop}
-use Rattle.std.specs.List.{slice_split}
+use Rattle.std.specs.Prelude.{drop, false, nat_lt}
+use Rattle.std.specs.Char.{is_ascii_hexdigit}
+use Rattle.std.specs.List.{slice_split, list_all}
 use Rattle.std.specs.Io.BufRead.{strip_last}
 use Rattle.hex.specs.Hex.{decode_of}
 use Rattle.hex.specs.declared.error.FromHexError.{FromHexError}
 use Rattle.definitions.specs.Items.{Item}
 use Rattle.item_files.specs.declared.form.ItemForm.{ItemForm}
 use Rattle.item_files.specs.declared.form.ItemForm.TheVariants as forms
+use Rattle.item_files.specs.declared.bad_line.BadLine.{BadLine}
+use Rattle.item_files.specs.declared.bad_line.LineFlaw.{LineFlaw}
+use Rattle.item_files.specs.declared.bad_line.LineFlaw.TheVariants as flaws
 
 abbrev pub lines : List ℕ → List (List ℕ)
 lines text = slice_split (λ b. b == 10) text
@@ -82,19 +87,36 @@ content_items form (b ∷ bs) = option_map (λ x. x ∷ []) (spelled form (b ∷
 abbrev pub line_items : ItemForm → List ℕ → Option (List Item)
 line_items form line = content_items form (content_of form line)
 
+-- hex digits of more than 64 bytes
+abbrev pub are_long_digits : List ℕ → Bool
+are_long_digits digits = if nat_le (length digits) 128 then false else list_all is_ascii_hexdigit digits
+
+-- what is left of a line spells more than 64 bytes
+abbrev pub is_long : ItemForm → List ℕ → Bool
+is_long forms.Hex content = are_long_digits content
+is_long forms.Text content =
+    if is_marked content then are_long_digits (drop 2 content) else nat_lt 64 (length content)
+
+abbrev pub line_flaw : ItemForm → List ℕ → LineFlaw
+line_flaw form line = if is_long form (content_of form line) then flaws.TooLong else flaws.NoItem
+
+abbrev pub bad_line : LineFlaw → ℕ → List ℕ → BadLine
+bad_line flaw n line = record { number = n; front = take 164 (text_in line); flaw = flaw }
+
 -- the items before those that follow
-abbrev pub before : List Item → Result (List Item) ℕ → Result (List Item) ℕ
+abbrev pub before : List Item → Result (List Item) BadLine → Result (List Item) BadLine
 before xs (Ok ys) = Ok (xs ++ ys)
-before xs (Err n) = Err n
+before xs (Err bad) = Err bad
 
--- the items of the line number n before those of the next lines, unless it is bad
-abbrev pub line_before : ℕ → Option (List Item) → Result (List Item) ℕ → Result (List Item) ℕ
-line_before n None next = Err n
-line_before n (Some xs) next = before xs next
+-- the items of the line before those of the next lines, unless it is this bad one
+abbrev pub line_before : BadLine → Option (List Item) → Result (List Item) BadLine → Result (List Item) BadLine
+line_before bad None next = Err bad
+line_before bad (Some xs) next = before xs next
 
-abbrev pub items_from : ItemForm → ℕ → List (List ℕ) → Result (List Item) ℕ
+abbrev pub items_from : ItemForm → ℕ → List (List ℕ) → Result (List Item) BadLine
 items_from form n [] = Ok []
-items_from form n (line ∷ lines) = line_before n (line_items form line) (items_from form (n + 1) lines)
+items_from form n (line ∷ lines) =
+    line_before (bad_line (line_flaw form line) n line) (line_items form line) (items_from form (n + 1) lines)
 
 -- what some editors put in front of a file
 abbrev pub byte_order_mark : List ℕ
@@ -103,6 +125,12 @@ byte_order_mark = 239 ∷ 187 ∷ 191 ∷ []
 abbrev pub has_byte_order_mark : List ℕ → Bool
 has_byte_order_mark text = bytes_eq (take 3 text) byte_order_mark
 
+abbrev pub first_of : List (List ℕ) → List ℕ
+first_of [] = []
+first_of (line ∷ lines) = line
+
 -- in hex its line 1 is bad anyhow
-abbrev pub file_items : ItemForm → List ℕ → Result (List Item) ℕ
-file_items form text = if has_byte_order_mark text then Err 1 else items_from form 1 (lines text)
+abbrev pub file_items : ItemForm → List ℕ → Result (List Item) BadLine
+file_items form text =
+    if has_byte_order_mark text then Err (bad_line flaws.ByteOrderMark 1 (first_of (lines text)))
+    else items_from form 1 (lines text)

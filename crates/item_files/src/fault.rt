@@ -1,55 +1,49 @@
-//! Why a file of settings is refused.
+//! Why a file of settings is refused, and where.
 
 ghost use Rattle.std.specs.Prelude.{◌≡◌};
-ghost use Rattle.item_files.specs.Faults.{of_input, of_strategy};
+ghost use Rattle.item_files.specs.Faults.{of_check};
 ghost use Rattle.item_files.specs.declared.fault.SettingsFault.TheVariants as faults;
 
-use io_core::InputFault;
+use crate::bad_line::BadLine;
+use crate::read_fault::ReadFault;
+use crate::strategy_flaw::StrategyFlaw;
 use std::alloc::{AllocError, AllocFailed};
-use strategy_core::{StrategyError, StrategyFault};
+use strategy_check::{CheckError, CheckFault};
 use thiserror::Error;
 
-/// Why a file is refused.
-#[derive(Clone, Copy, Debug, PartialEq, Eq, Error)]
+/// Why a file, or a text, is refused, and where.
+#[derive(Clone, Copy, Debug, Error)]
 pub enum SettingsFault {
     /// The file was not opened or not read, or is above 16,777,216 bytes.
     #[error("the file cannot be read, or is above 16,777,216 bytes")]
-    CannotRead,
-    /// A line of an item file, from 1, spells no item in the form of the file.
-    #[error("line {line} is not 1 to 64 bytes in hex")]
-    BadItemLine {
-        /// The number of the first such line, from 1.
-        line: usize,
-    },
+    CannotRead(ReadFault),
+    /// This is the first line of an item file that spells no item in the form of the file.
+    #[error("line {} is not 1 to 64 bytes in hex", .0.number)]
+    BadItemLine(BadLine),
     /// An item file has more different items than the cap.
-    #[error("there are more different items than the cap")]
-    TooManyItems,
+    #[error("there are more different items than the cap, {cap}")]
+    TooManyItems {
+        /// The cap.
+        cap: usize,
+    },
     /// A strategy file holds no strategy: the first test that fails.
-    #[error("the file holds no strategy (refusal {})", .0.number())]
-    Strategy(StrategyFault),
+    #[error("the file holds no strategy (refusal {})", .0.fault.number())]
+    Strategy(StrategyFlaw),
+    /// A strategy is not accepted.
+    #[error("the strategy is not accepted (refusal {})", .0.number())]
+    Check(CheckFault),
     /// Memory ran out.
     #[error("memory ran out")]
     Memory,
 }
 
-impl From<StrategyError> for SettingsFault {
-    ghost from_gives = { λ f e. e ≡ of_strategy f };
+impl From<CheckError> for SettingsFault {
+    ghost from_gives = { λ f e. e ≡ of_check f };
 
-    fn from(error: StrategyError) -> SettingsFault {
+    fn from(error: CheckError) -> SettingsFault {
         match error {
-            StrategyError::Fault(fault) => SettingsFault::Strategy(fault),
-            StrategyError::Memory => SettingsFault::Memory,
-        }
-    }
-}
-
-impl From<InputFault> for SettingsFault {
-    ghost from_gives = { λ f e. e ≡ of_input f };
-
-    fn from(fault: InputFault) -> SettingsFault {
-        match fault {
-            InputFault::CannotRead => SettingsFault::CannotRead,
-            InputFault::Memory => SettingsFault::Memory,
+            CheckError::Fault(fault) => SettingsFault::Check(fault),
+            CheckError::Memory => SettingsFault::Memory,
         }
     }
 }

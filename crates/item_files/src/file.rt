@@ -5,7 +5,8 @@ ghost use Rattle.definitions.specs.Items.{IsBytes};
 ghost use Rattle.item_files.specs.Files.{IsFileText, IsAllOf, IsUnread};
 
 use crate::fault::SettingsFault;
-use io_core::{Watched, read_input};
+use crate::read_fault::{Explained, ReadFault};
+use io_core::{InputFault, Watched, read_input};
 use std::alloc::Global;
 use std::io::Read;
 use std::rt::Files;
@@ -19,6 +20,16 @@ fn are_bytes(bytes: &[u8])
     let _ = bytes;
 }
 
+/// Why an input was not read: what its reader said, or that it is too long.
+fn unread(fault: InputFault, said: Option<ReadFault>) -> SettingsFault
+    ensures { IsUnread result }
+{
+    match fault {
+        InputFault::CannotRead => SettingsFault::CannotRead(said.unwrap_or(ReadFault::TooLong)),
+        InputFault::Memory => SettingsFault::Memory,
+    }
+}
+
 /// What is left to read, up to 16,777,216 bytes. Refused 80 where it is not read.
 pub fn read_text<R: Read + Drop>(alloc: Global, reader: R) -> Result<Vec<u8>, SettingsFault>
     ensures text { IfOk result (λ v. IsFileText v.items) }
@@ -26,9 +37,17 @@ pub fn read_text<R: Read + Drop>(alloc: Global, reader: R) -> Result<Vec<u8>, Se
     ensures whole { IfOk result (λ v. IsAllOf (R.remaining reader) v.items) }
     ensures unread { IfErr result IsUnread }
 {
-    let text = read_input(alloc, &mut Watched::new(reader))?;
-    are_bytes(&text);
-    Ok(text)
+    let mut reader = Watched::new(Explained {
+        inner: reader,
+        fault: None,
+    });
+    match read_input(alloc, &mut reader) {
+        Ok(text) => {
+            are_bytes(&text);
+            Ok(text)
+        }
+        Err(fault) => Err(unread(fault, reader.into_inner().fault)),
+    }
 }
 
 /// The text of the file, up to 16,777,216 bytes. Refused 80 where it is not read.
@@ -39,6 +58,6 @@ pub fn read_file<R: Files + AllocGlobal>(rt: &R, path: &str) -> Result<Vec<u8>, 
     match fs::open(rt, path) {
         Ok(file) => read_text(rt.alloc(), file),
         Err(error) if error.kind() == io::ErrorKind::OutOfMemory => Err(SettingsFault::Memory),
-        Err(_) => Err(SettingsFault::CannotRead),
+        Err(error) => Err(SettingsFault::CannotRead(ReadFault::of(&error))),
     }
 }

@@ -6,6 +6,8 @@
 
 ghost use Rattle.std.specs.Prelude.{◌≡◌, ◌≢◌, ◌<◌, ◌≤◌, ℕ, List, [], ◌∷◌, ◌++◌, length, IfOk, IfErr, IfSome, OnOk};
 ghost use Rattle.std.specs.Prelude.{option_map, Some, None, Ok, Err};
+ghost use Rattle.std.specs.Char.{is_ascii_hexdigit};
+ghost use Rattle.std.specs.List.{list_all};
 ghost use Rattle.definitions.specs.Items.{Item as Bytes};
 ghost use Rattle.hex.specs.Hex.{decode_of};
 ghost use Rattle.definitions.specs.Sets.{IsSet};
@@ -13,8 +15,12 @@ ghost use Rattle.item_files.specs.Faults.{IsSetOf};
 ghost use Rattle.item_files.specs.Files.{IsFromFile, IsAllOf};
 ghost use Rattle.item_files.specs.ItemFiles.{is_blank, without_front, without_end, digits_in, decoded, line_items};
 ghost use Rattle.item_files.specs.ItemFiles.{lines, lines_in, items_from, file_items, text_in, text_item};
-ghost use Rattle.item_files.specs.ItemFiles.{content_of, spelled, has_byte_order_mark};
+ghost use Rattle.item_files.specs.ItemFiles.{content_of, spelled, has_byte_order_mark, are_long_digits, is_long};
+ghost use Rattle.item_files.specs.ItemFiles.{line_flaw, bad_line};
+ghost use Rattle.item_files.specs.declared.bad_line.BadLine.{BadLine};
+ghost use Rattle.item_files.specs.declared.bad_line.LineFlaw.TheVariants as flaws;
 
+use crate::bad_line::{BadLine, Front, LineFlaw};
 use crate::fault::SettingsFault;
 use crate::file::{read_file, read_text};
 use crate::form::ItemForm;
@@ -117,6 +123,58 @@ fn spelled(form: ItemForm, content: &[u8]) -> Option<Item>
     }
 }
 
+/// Whether all bytes are hex digits.
+fn are_digits(bytes: &[u8]) -> bool
+    ensures { result ≡ list_all is_ascii_hexdigit bytes.now }
+{
+    bytes.iter().all(|byte| byte.is_ascii_hexdigit())
+}
+
+/// Whether these are hex digits of more than 64 bytes.
+fn are_long_digits(digits: &[u8]) -> bool
+    ensures { result ≡ are_long_digits digits.now }
+{
+    if digits.len() <= 128 {
+        return false;
+    }
+    are_digits(digits)
+}
+
+/// Whether what is left of a line spells more than 64 bytes.
+fn is_long(form: ItemForm, content: &[u8]) -> bool
+    ensures { result ≡ is_long form content.now }
+{
+    match form {
+        ItemForm::Hex => are_long_digits(content),
+        ItemForm::Text => match content.strip_prefix(b"0x") {
+            Some(digits) => are_long_digits(digits),
+            None => content.len() > 64,
+        },
+    }
+}
+
+/// What is wrong with a line that spells no item.
+fn line_flaw(form: ItemForm, line: &[u8]) -> LineFlaw
+    ensures { result ≡ line_flaw form line.now }
+{
+    if is_long(form, content_of(form, line)) {
+        LineFlaw::TooLong
+    } else {
+        LineFlaw::NoItem
+    }
+}
+
+/// The line of this number, which is bad for this flaw.
+fn bad_line(flaw: LineFlaw, number: usize, line: &[u8]) -> BadLine
+    ensures { result ≡ bad_line flaw number line.now }
+{
+    BadLine {
+        number,
+        front: Front::of_line(text_in(line)),
+        flaw,
+    }
+}
+
 /// Appends the item of a line, if anything is left of it.
 fn push_line(
     form: ItemForm,
@@ -126,7 +184,8 @@ fn push_line(
 ) -> Result<(), SettingsFault>
     ensures item { OnOk result ((xs : List Bytes) × (line_items form line.now ≡ Some xs)
         × (items.new.items ≡ items.old.items ++ xs)) }
-    ensures bad { IfErr result (λ e. e ≢ SettingsFault.Memory → (e ≡ SettingsFault.BadItemLine number)
+    ensures bad { IfErr result (λ e. e ≢ SettingsFault.Memory →
+        (e ≡ SettingsFault.BadItemLine (bad_line (line_flaw form line.now) number line.now))
         × (line_items form line.now ≡ None)) }
 {
     let content = content_of(form, line);
@@ -134,7 +193,8 @@ fn push_line(
         return Ok(());
     }
     let Some(item) = spelled(form, content) else {
-        return Err(SettingsFault::BadItemLine { line: number });
+        let flaw = line_flaw(form, line);
+        return Err(SettingsFault::BadItemLine(bad_line(flaw, number, line)));
     };
     items.push(item)?;
     Ok(())
@@ -154,8 +214,8 @@ fn first_line(text: &[u8]) -> (&[u8], Option<&[u8]>)
 /// The items of the lines in order.
 fn items_of_lines(alloc: Global, form: ItemForm, text: &[u8]) -> Result<Vec<Item>, SettingsFault>
     ensures items { IfOk result (λ v. items_from form 1 (lines text.now) ≡ Ok v.items) }
-    ensures refused { IfErr result (λ e. e ≢ SettingsFault.Memory → (line : ℕ)
-        × (e ≡ SettingsFault.BadItemLine line) × (items_from form 1 (lines text.now) ≡ Err line)) }
+    ensures refused { IfErr result (λ e. e ≢ SettingsFault.Memory → (bad : BadLine)
+        × (e ≡ SettingsFault.BadItemLine bad) × (items_from form 1 (lines text.now) ≡ Err bad)) }
 {
     let mut items = Vec::new(alloc);
     let mut rest = Some(text);
@@ -179,11 +239,13 @@ pub fn has_byte_order_mark(text: &[u8]) -> bool
 /// The items of a file's text in order.
 fn items_of(alloc: Global, form: ItemForm, text: &[u8]) -> Result<Vec<Item>, SettingsFault>
     ensures items { IfOk result (λ v. file_items form text.now ≡ Ok v.items) }
-    ensures refused { IfErr result (λ e. e ≢ SettingsFault.Memory → (line : ℕ)
-        × (e ≡ SettingsFault.BadItemLine line) × (file_items form text.now ≡ Err line)) }
+    ensures refused { IfErr result (λ e. e ≢ SettingsFault.Memory → (bad : BadLine)
+        × (e ≡ SettingsFault.BadItemLine bad) × (file_items form text.now ≡ Err bad)) }
 {
     if has_byte_order_mark(text) {
-        return Err(SettingsFault::BadItemLine { line: 1 });
+        let (line, _after) = first_line(text);
+        let bad = bad_line(LineFlaw::ByteOrderMark, 1, line);
+        return Err(SettingsFault::BadItemLine(bad));
     }
     items_of_lines(alloc, form, text)
 }
@@ -203,7 +265,7 @@ pub fn item_set(
     laws::set_of_a_list();
     let items = spans::distinct(items_of(alloc, form, text)?);
     if items.len() > cap {
-        return Err(SettingsFault::TooManyItems);
+        return Err(SettingsFault::TooManyItems { cap });
     }
     Ok(items)
 }

@@ -1,13 +1,22 @@
-//! Item files and strategy files: what they hold, and why one is refused.
+//! Item files and strategy files: what they hold, and why and where one is refused.
 #![tactic(auto)]
 
+mod bad_line;
 mod fault;
 mod file;
 mod form;
 mod item_file;
+mod profile;
+mod read_fault;
 mod strategy_file;
+mod strategy_flaw;
+mod strategy_place;
 
+pub use bad_line::{BadLine, Front, LineFlaw};
 pub use fault::SettingsFault;
 pub use form::ItemForm;
 pub use item_file::{has_byte_order_mark, item_of, item_set, read_input_items, read_items};
-pub use strategy_file::read_strategy;
+pub use profile::WireProfile;
+pub use read_fault::ReadFault;
+pub use strategy_file::{accepted_in, accepted_of, document, read_strategy};
+pub use strategy_flaw::{Key, NumberSpan, StrategyFlaw};

@@ -13,6 +13,7 @@
 //! | `links` | `link_core` |
 //! | `logs` | `version_log` |
 //! | `ranks` | `rank_core` |
+//! | `selectors` | `shard_core`, the name of a set |
 //! | `session_tables` | `session_table` |
 //! | `sessions` | `session_core` |
 //! | `shards` | `shard_core` |
@@ -39,6 +40,8 @@ mod links;
 mod logs;
 #[cfg(test)]
 mod ranks;
+#[cfg(test)]
+mod selectors;
 #[cfg(test)]
 mod session_tables;
 #[cfg(test)]

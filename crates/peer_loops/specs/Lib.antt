@@ -2,3 +2,4 @@ pub use Rattle.hub_core.specs.Hubs
 pub use Rattle.hub_core.specs.Peers
 pub use Rattle.peer_threads.specs.Workers
 pub mod Partings
+pub mod Visits

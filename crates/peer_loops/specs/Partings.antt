@@ -5,7 +5,7 @@
 --                                        that ended and was said whole says what it has learned, and of which version;
 --                                        any other is broken, and says as sent what was written whole
 --     PutsInOf id lets_in o v w          what was learned is put into the log, where the session is in the table
-use Rattle.std.specs.Prelude.{◌≡◌, ℕ, ◌-◌, Bool, true, false, Option, Some, None, if◌then◌else◌}
+use Rattle.std.specs.Prelude.{◌≡◌, ℕ, ◌-◌, Bool, Option, Some, None, if◌then◌else◌}
 use Rattle.session_table.specs.declared.session.SessionId.{SessionId}
 use Rattle.definitions.specs.Talks.{Knowledge}
 use Rattle.outcome_core.specs.declared.outcome.Direction.TheVariants as directions
@@ -26,6 +26,7 @@ abbrev pub broken_by : Parting → Bool → ℕ → Outcome
 broken_by (partings.Failed faults.Read) b sent = outcomes.Io directions.Read sent
 broken_by (partings.Failed faults.Write) b sent = outcomes.Io directions.Write sent
 broken_by (partings.Failed faults.Memory) b sent = outcomes.Memory sent
+broken_by (partings.Refuses code) b sent = outcomes.Refused code sent
 broken_by partings.Over b sent = outcomes.Io (if b then directions.Write else directions.Read) sent
 broken_by partings.TimeIsOver b sent = outcomes.Io (if b then directions.Write else directions.Read) sent
 
@@ -41,6 +42,7 @@ TellsEnded partings.Over stage version o =
     (k : Knowledge) × Learns stage k × (o ≡ outcomes.Ended k (sent_in stage) version)
 TellsEnded (partings.Failed f) stage version o = o ≡ broken_at (partings.Failed f) stage
 TellsEnded partings.TimeIsOver stage version o = o ≡ broken_at partings.TimeIsOver stage
+TellsEnded (partings.Refuses code) stage version o = o ≡ broken_at (partings.Refuses code) stage
 
 abbrev pub TellsOf : Option State → Parting → Stage → ℕ → Outcome → Type 0
 TellsOf (Some (states.Refused code)) parting stage version o = o ≡ outcomes.Refused code (sent_in stage)

@@ -2,6 +2,7 @@
 
 ghost use Rattle.std.specs.Prelude.{◌≡◌};
 
+use crate::chosen::reader_of;
 use crate::desk::Desk;
 use crate::ending::Parting;
 use crate::looping::{Kind, Loop};
@@ -184,6 +185,7 @@ impl Loop {
         let most_bytes = u64::from(site.crowd.limits.most_bytes);
         let serial = self.serial;
         self.serial = serial.saturating_add(1);
+        let reader = reader_of(site.crowd.set, reader);
         let peer = Peer::new(site.alloc, reader, writer, most_bytes, serial, self.now);
         self.admit(site, desk, Guest { peer, id: None });
     }
@@ -220,7 +222,7 @@ impl Loop {
     {
         let no_memory = Parting::Failed(LinkFault::Memory);
         let key = self.hub.next_key();
-        let fd = guest.peer.reader().as_raw_fd();
+        let fd = guest.peer.reader().inner().as_raw_fd();
         if !self.register(key, fd, guest.id) {
             self.part(site, desk, guest, no_memory);
             return;

@@ -2,10 +2,12 @@
 
 ghost use Rattle.std.specs.Prelude.{◌≤◌};
 
+use crate::board::Board;
 use crate::looping::Kind;
 use crate::note::Guest;
 use mio::{Poll, Waker};
 use outcome_core::SourceFault;
+use shard_core::SetName;
 use std::alloc::{AllocError, Global};
 use std::net::Net;
 use std::sync::atomic::{AtomicUsize, Ordering};
@@ -28,6 +30,19 @@ pub struct PeerLimits {
     pub sessions: usize,
 }
 
+/// How peers are served.
+#[derive(Clone, Copy)]
+pub struct Service<'a> {
+    /// How many loops accept, 1 to 16, and how many take those from them whose messages are long.
+    pub loops: u8,
+    /// What peers may cost.
+    pub limits: PeerLimits,
+    /// What is told of them, for those who watch.
+    pub board: &'a Board,
+    /// What the set is called, if peers have to say of which set they speak.
+    pub set: Option<SetName<'a>>,
+}
+
 /// Where peers wait for a loop, and how it is woken.
 #[derive(Drop)]
 pub(crate) struct Inlet {
@@ -38,10 +53,14 @@ pub(crate) struct Inlet {
 
 /// What all loops share beside the log.
 #[derive(Drop)]
-pub(crate) struct Crowd {
+pub(crate) struct Crowd<'a> {
     pub(crate) alloc: Global,
     /// What peers may cost.
     pub(crate) limits: PeerLimits,
+    /// What is told of them.
+    pub(crate) board: &'a Board,
+    /// What the set is called, if peers have to say it.
+    pub(crate) set: Option<SetName<'a>>,
     /// Of how many loops each kind has.
     pub(crate) loops: usize,
     inlets: Vec<Inlet>,
@@ -80,19 +99,26 @@ fn inlets(alloc: Global, count: usize) -> Result<Vec<Inlet>, AllocError> {
     Ok(inlets)
 }
 
-impl Crowd {
+impl<'a> Crowd<'a> {
     /// So many loops of each kind, of which none runs.
     pub(crate) fn new<R: Net>(
         rt: &R,
         alloc: Global,
-        loops: u8,
-        limits: PeerLimits,
-    ) -> Result<Crowd, AllocError> {
+        service: Service<'a>,
+    ) -> Result<Crowd<'a>, AllocError> {
+        let Service {
+            loops,
+            limits,
+            board,
+            set,
+        } = service;
         let loops = usize::from(loops);
         let both_kinds = loops.saturating_mul(2);
         Ok(Crowd {
             alloc,
             limits,
+            board,
+            set,
             loops,
             inlets: inlets(alloc, both_kinds)?,
             polls: Mutex::new(polls(rt, alloc, both_kinds)?),

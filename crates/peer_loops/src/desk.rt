@@ -8,6 +8,7 @@ ghost use Rattle.hub_core.specs.Peers.{Opens};
 ghost use Rattle.peer_threads.specs.Outcomes.{peer_at};
 ghost use Rattle.peer_threads.specs.Workers.{IsSettled, LookedOrNot, MayWork};
 
+use crate::chosen::Reader;
 use ends_core::Learned;
 use hub_core::Hub;
 use peer_threads::{Gate, Shared, settle};
@@ -49,7 +50,7 @@ impl<'a, G: Gate> Desk<'a, G> {
         &mut self,
         rt: &T,
         alloc: Global,
-        hub: &mut Hub<Half, Half>,
+        hub: &mut Hub<Reader, Half>,
         key: usize,
     ) -> Result<(), AllocError>
         ensures shared { self.new.shared ≡ self.old.shared }

@@ -21,6 +21,8 @@ pub(crate) enum Parting {
     Failed(LinkFault),
     /// Its time is over, or it makes room for another.
     TimeIsOver,
+    /// It speaks of no set that is here: the number of the refusal.
+    Refuses(u8),
 }
 
 /// What failed of a session that was cut off: the writing, where it waited for that.
@@ -47,6 +49,7 @@ fn broken(parting: Parting, owes: bool, sent: u32) -> Outcome
             sent,
         },
         Parting::Failed(LinkFault::Memory) => Outcome::Memory { sent },
+        Parting::Refuses(code) => Outcome::Refused { code, sent },
         Parting::Over | Parting::TimeIsOver => Outcome::Io {
             side: waiting_side(owes),
             sent,

@@ -2,6 +2,8 @@
 #![tactic(auto)]
 
 mod arriving;
+mod board;
+mod chosen;
 mod crowd;
 mod desk;
 mod ending;
@@ -12,6 +14,8 @@ mod parting;
 mod serving;
 mod site;
 mod talking;
+mod visiting;
 
-pub use crowd::PeerLimits;
+pub use board::{Board, Recent};
+pub use crowd::{PeerLimits, Service};
 pub use serving::serve_peers;

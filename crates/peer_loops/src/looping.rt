@@ -3,6 +3,7 @@
 ghost use Rattle.std.specs.Prelude.{◌≡◌};
 
 use crate::arriving::Accepting;
+use crate::chosen::Reader;
 use crate::desk::Desk;
 use crate::ending::Parting;
 use crate::leaving::Leavers;
@@ -51,7 +52,7 @@ pub(crate) struct Loop {
     pub(crate) kind: Kind,
     /// Its number among all loops.
     pub(crate) index: usize,
-    pub(crate) hub: Hub<Half, Half>,
+    pub(crate) hub: Hub<Reader, Half>,
     pub(crate) notes: Notes,
     /// Those with whom it goes on without waiting.
     pub(crate) soon: Vec<usize>,
@@ -218,6 +219,13 @@ impl Loop {
         self.sweep(site, desk);
     }
 
+    /// Shows those who watch what it has now.
+    fn show<R, G>(&self, site: &Site<'_, R, G>) {
+        let kept = u64::try_from(self.hub.held()).unwrap_or(u64::MAX);
+        let peers = self.hub.len() as u64;
+        site.crowd.board.show(self.index, peers, kept);
+    }
+
     /// Serves those who come, until nobody is there and nobody will come.
     pub(crate) fn run<R: Wait + Clock, G: Gate>(
         &mut self,
@@ -236,6 +244,7 @@ impl Loop {
             let passed = site.rt.monotonic()?;
             self.now = u64::try_from(passed.as_millis()).unwrap_or(u64::MAX);
             self.turn(site, desk, &events);
+            self.show(site);
         }
         unreachable!()
     }

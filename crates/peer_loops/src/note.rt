@@ -1,5 +1,6 @@
 //! What a loop notes of a peer, beside what the hub has.
 
+use crate::chosen::Reader;
 use hub_core::Peer;
 use session_table::SessionId;
 use std::alloc::AllocError;
@@ -17,7 +18,7 @@ pub(crate) struct Note {
 /// A peer on its way to another loop.
 #[derive(Drop)]
 pub(crate) struct Guest {
-    pub(crate) peer: Peer<Half, Half>,
+    pub(crate) peer: Peer<Reader, Half>,
     pub(crate) id: Option<SessionId>,
 }
 

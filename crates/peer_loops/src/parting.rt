@@ -4,19 +4,18 @@ ghost use Rattle.std.specs.Prelude.{◌≡◌};
 ghost use Rattle.outcome_core.specs.declared.outcome.Outcome as outcomes;
 ghost use Rattle.peer_loops.specs.Partings.{PutsInOf, Tells};
 
+use crate::chosen::tell_refusal;
 use crate::desk::Desk;
 use crate::ending::{Parting, outcome_of};
 use crate::looping::Loop;
 use crate::note::Guest;
 use crate::site::Site;
+use crate::visiting::{Leaver, profile_of, visit_of};
 use hub_core::Stage;
 use link_core::LinkFault;
 use peer_threads::{Gate, Outcome, kind_of};
 use session_table::SessionId;
-use std::io::Write;
 use std::sync::Wait;
-use tcp_front::Half;
-use wire_core::encode_fault;
 
 /// The number of the refusal where memory runs out.
 const NO_MEMORY: u8 = 90;
@@ -49,14 +48,14 @@ fn conclude<R: Wait, G: Gate>(
     }
 }
 
-/// Whether a fault frame may be written: the session is opened, goes on, and has no text that is begun.
-fn may_be_told(stage: &Stage, parting: Parting) -> bool {
-    parting == Parting::Failed(LinkFault::Memory) && stage.is_open() && !stage.owes()
-}
-
-/// Writes what can be written at once of a fault frame.
-fn tell_no_memory(writer: &mut Half) {
-    let _told = writer.write(&encode_fault(NO_MEMORY));
+/// The number of which the peer is told: where memory ran out, if its session is opened, goes on, and has no text that
+/// is begun; and where it speaks of no set that is here.
+fn told_number(stage: &Stage, parting: Parting) -> Option<u8> {
+    match parting {
+        Parting::Failed(LinkFault::Memory) if stage.is_open() && !stage.owes() => Some(NO_MEMORY),
+        Parting::Refuses(code) => Some(code),
+        _ => None,
+    }
 }
 
 impl Loop {
@@ -92,11 +91,23 @@ impl Loop {
         let Guest { peer, id } = guest;
         let left = peer.left();
         let version = peer.version();
+        let arrived = peer.arrived();
         let (stage, reader, mut writer) = peer.into_parts();
-        if may_be_told(&stage, parting) {
-            tell_no_memory(&mut writer);
+        let reader = reader.into_inner();
+        if let Some(code) = told_number(&stage, parting) {
+            tell_refusal(&stage, &mut writer, code);
         }
-        conclude(site, desk, id, &outcome_of(stage, version, parting));
+        let leaver = Leaver {
+            address: reader.address(),
+            profile: profile_of(&stage),
+            serial: id.as_ref().map(|id| id.serial()),
+            arrived,
+            now: self.now,
+        };
+        let outcome = outcome_of(stage, version, parting);
+        conclude(site, desk, id, &outcome);
+        let visit = visit_of(leaver, &outcome, &reader, &writer);
+        site.crowd.board.tell(site.rt, visit);
         self.leavers
             .add(self.poll.registry(), (reader, writer), left, self.now);
     }

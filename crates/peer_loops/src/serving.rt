@@ -5,7 +5,7 @@ ghost use Rattle.std.specs.Thread.{IsSync};
 ghost use Rattle.std.specs.Arc.{arc_value};
 ghost use Rattle.peer_threads.specs.Workers.{MayWork, Outlives};
 
-use crate::crowd::{Crowd, PeerLimits};
+use crate::crowd::{Crowd, Service};
 use crate::desk::Desk;
 use crate::looping::{Kind, Loop};
 use crate::site::Site;
@@ -73,7 +73,7 @@ fn work_and_leave<R: Clock + Wait, G: Gate>(
 fn run_half<R: Threads + Clock + Wait + Sync, G: Gate + Sync>(
     rt: &R,
     shared: &Shared<'_, Tree, G>,
-    crowd: &Crowd,
+    crowd: &Crowd<'_>,
     listener: &Listener<'_, R>,
     seat: Seat<Tree>,
     span: Span,
@@ -121,7 +121,8 @@ fn run_half<R: Threads + Clock + Wait + Sync, G: Gate + Sync>(
 
 /// Serves all who come to the listener, by so many loops that accept, 1 to 16, and as many that take those from them
 /// whose messages are long; each runs in a thread where one can be made, with a seat of its own. It ends once the
-/// listener has no more connections and all who came are gone.
+/// listener has no more connections and all who came are gone. The board is told of each of them that is gone, once all
+/// that is put into the log of its session is there.
 ///
 /// A session is opened over the newest version once its first message is whole, and is in the table of sessions from
 /// then on. What its peer was first to know, by a session that ended, is put into the log in the order learned, as many
@@ -134,17 +135,17 @@ pub fn serve_peers<R: Net + Threads + Clock + Wait + AllocGlobal + Sync, G: Gate
     shared: &Shared<'_, Tree, G>,
     seat: &mut Seat<Tree>,
     listener: &Listener<'_, R>,
-    serving: (u8, PeerLimits),
+    service: Service<'_>,
 ) -> Report
     requires lock { seat.old.table_id ≡ shared.now.lock.now }
     requires fits { seat.old.view.cap ≤ (arc_value shared.now.accepted.now).table.cap }
-    requires count { (1 ≤ serving.0) × (serving.0 ≤ 16) }
+    requires count { (1 ≤ service.loops) × (service.loops ≤ 16) }
     ensures seat { seat.new.table_id ≡ seat.old.table_id }
     ensures view { Outlives seat.old.view seat.new.view }
 {
-    let (loops, limits) = serving;
+    let loops = service.loops;
     let alloc = rt.alloc();
-    let crowd = match Crowd::new(rt, alloc, loops, limits) {
+    let crowd = match Crowd::new(rt, alloc, service) {
         Ok(crowd) if listener.never_wait().is_ok() => crowd,
         _ => {
             return Report {

@@ -12,6 +12,6 @@ pub(crate) struct Site<'a, R, G> {
     pub(crate) rt: &'a R,
     pub(crate) alloc: Global,
     pub(crate) shared: &'a Shared<'a, Tree, G>,
-    pub(crate) crowd: &'a Crowd,
+    pub(crate) crowd: &'a Crowd<'a>,
     pub(crate) listener: &'a Listener<'a, R>,
 }

@@ -2,6 +2,7 @@
 
 ghost use Rattle.std.specs.Prelude.{◌≡◌};
 
+use crate::chosen::refusal_of;
 use crate::desk::Desk;
 use crate::ending::Parting;
 use crate::looping::{Kind, Loop};
@@ -19,7 +20,7 @@ const ROOM: usize = 16_384;
 
 impl Loop {
     /// Goes on with this peer, as far as its stream goes without waiting; then lets those go that keep more than all
-    /// may.
+    /// may. One that speaks of no set that is here is let go.
     pub(crate) fn go_on<R: Wait, G: Gate>(
         &mut self,
         site: &Site<'_, R, G>,
@@ -32,6 +33,10 @@ impl Loop {
         let before = self.sent(key);
         let did = self.hub.pump(site.alloc, key, &mut room, self.now);
         self.count(site, key, before);
+        if let Some(code) = self.refusal(site, key) {
+            self.let_go(site, desk, key, Parting::Refuses(code));
+            return;
+        }
         match did {
             Some(Ok(step)) => self.follow(site, desk, key, step.pause),
             Some(Err(fault)) => self.let_go(site, desk, key, Parting::Failed(fault)),
@@ -113,6 +118,12 @@ impl Loop {
         }
     }
 
+    /// The number of the refusal of this peer, if it speaks of no set that is here.
+    fn refusal<R, G>(&self, site: &Site<'_, R, G>, key: usize) -> Option<u8> {
+        let set = site.crowd.set?;
+        refusal_of(set, self.hub.get(key)?)
+    }
+
     /// Opens the session of this peer, if the table has a place for it; else the peer waits.
     fn open<R: Wait, G: Gate>(&mut self, site: &Site<'_, R, G>, desk: &mut Desk<'_, G>, key: usize)
         ensures shared { desk.new.shared ≡ desk.old.shared }
@@ -176,7 +187,7 @@ impl Loop {
         let Some(peer) = self.hub.take(key) else {
             return;
         };
-        let fd = peer.reader().as_raw_fd();
+        let fd = peer.reader().inner().as_raw_fd();
         let _gone = self.poll.registry().deregister(&mut SourceFd(&fd));
         if let Err(guest) = site.crowd.hand_over(site.rt, index, Guest { peer, id }) {
             self.part(site, desk, guest, Parting::Failed(LinkFault::Memory));

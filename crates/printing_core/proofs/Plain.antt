@@ -1,7 +1,7 @@
 -- A text that stands for itself, by what the code finds of its bytes.
 -- Bytes are UTF-8 by the decision just where they are by the relation. So where they are none nothing is plain, and
 -- where they are, without a control character and with neither mark in front, they are plain.
-use Rattle.std.proofs.Common.{◌≡◌, ℕ, Bool, true, false, List, Option, Some, None, refl}
+use Rattle.std.proofs.Common.{◌≡◌, ℕ, Bool, true, false, List, Some, None, refl}
 use Rattle.std.specs.Prelude.{chars}
 use Rattle.std.specs.Char.{is_control}
 use Rattle.std.specs.List.{list_any}

@@ -4,24 +4,23 @@
 -- an item begins with a byte order mark, so that the first one does not make the file's line 1 bad.
 use Rattle.std.proofs.Common.{◌≡◌, ◌∙◌, ℕ, zero, suc, ◌<◌, ◌+◌, ◌++◌, ◌==◌, ◌-◌, ◌≤◌, ◌&&◌, ◌||◌, Bool, true, false}
 use Rattle.std.proofs.Common.{List, [], ◌∷◌, length}
-use Rattle.std.proofs.Common.{get_or, take, drop, Option, Some, None, Result, Ok, Err, refl, sym, ap, subst, inl, inr}
+use Rattle.std.proofs.Common.{get_or, take, Some, Ok, refl, sym, ap, subst}
 use Rattle.std.proofs.Common.{arith, rules}
 use Rattle.std.specs.Prelude.{flat_map, chars, not, option_map, if◌then◌else◌}
 use Rattle.std.specs.Char.{is_control}
-use Rattle.std.specs.Io.BufRead.{strip_last, ends_with_byte}
-use Rattle.std.specs.List.{All, AllByRecursion, list_any}
+use Rattle.std.specs.Io.BufRead.{ends_with_byte}
+use Rattle.std.specs.List.{AllByRecursion, list_any}
 use Rattle.std.specs.Str.{NoCharPasses, NonePass, is_utf8}
 use Rattle.std.proofs.lemmas.List.{append_assoc}
-use Rattle.std.proofs.lemmas.List.Elements.{All-from_get_or, All-get_or}
+use Rattle.std.proofs.lemmas.List.Elements.{All-from_get_or}
 use Rattle.std.proofs.lemmas.List.Splits.{slice_split_at}
 use Rattle.std.proofs.lemmas.Str.{NoCharPasses-byte, IsUtf8-from_is_utf8, encodes-chars}
-use Rattle.hex.specs.Hex.{encode_lower, decode_of, is_hex_digit}
+use Rattle.hex.specs.Hex.{encode_lower, is_hex_digit}
 use Rattle.hex.proofs.HexLemmas.{decode_of-encode_lower, decode_of-ok}
 use Rattle.definitions.specs.Items.{Item, IsItem, IsBytes}
-use Rattle.item_files.specs.ItemFiles.{lines, mark, is_marked, text_in, text_item, one_item, decoded, content_items}
-use Rattle.item_files.specs.ItemFiles.{line_items, line_before, before, items_from, file_items}
-use Rattle.item_files.specs.ItemFiles.{has_byte_order_mark}
-use Rattle.item_files.specs.declared.form.ItemForm.{ItemForm}
+use Rattle.item_files.specs.ItemFiles.{lines, is_marked, text_in, text_item, one_item, decoded, content_items}
+use Rattle.item_files.specs.ItemFiles.{line_items, line_before, before, items_from}
+use Rattle.item_files.specs.ItemFiles.{has_byte_order_mark, bad_line, line_flaw}
 use Rattle.item_files.specs.declared.form.ItemForm.TheVariants as forms
 use Rattle.printing_core.specs.ItemTexts.{is_plain, item_text, item_line, marked_text, ReadsWhatIsPrinted}
 
@@ -167,7 +166,8 @@ items_read n (x ∷ xs) fit =
     let rest = flat_map (item_line forms.Text) xs in
     ap (λ t. items_from forms.Text n (lines t)) (append_assoc text (10 ∷ []) rest)
     ∙ (ap (items_from forms.Text n) (first_line text rest is.line)
-    ∙ (ap (λ o. line_before n o (items_from forms.Text (n + 1) (lines rest))) (line_spells text x is)
+    ∙ (ap (λ o. line_before (bad_line (line_flaw forms.Text text) n text) o
+    (items_from forms.Text (n + 1) (lines rest))) (line_spells text x is)
     ∙ ap (before (x ∷ [])) (items_read (n + 1) xs fit.1)))
 
 -- ---- the first line

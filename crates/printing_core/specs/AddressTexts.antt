@@ -4,6 +4,8 @@
 --     unreached_connect kind n    the cause, by what the system said of connecting, for which there were n seconds
 --     port_of a                   what follows the last `:`, if there is one
 --     port_is_too_high a          whether this is decimal digits, and a number above 65535
+--     unknown_address a kind      the cause, by what the look-up of the text said
+--     listen_cause, connect_cause the cause of a fault, unless memory ran out
 use Rattle.std.specs.Prelude.{ℕ, Bool, false, ◌&&◌, ◌==◌, nat_lt, List, [], ◌∷◌, ◌++◌, codes, if◌then◌else◌}
 use Rattle.std.specs.Prelude.{Option, Some, None}
 use Rattle.std.specs.Fmt.{decimal}
@@ -12,6 +14,11 @@ use Rattle.std.specs.List.{list_all}
 use Rattle.std.specs.Str.Parse.{digits_value}
 use Rattle.std.specs.declared.io.ErrorKind.{ErrorKind}
 use Rattle.std.specs.declared.io.ErrorKind.TheVariants as kinds
+use Rattle.tcp_front.specs.declared.fault.ListenFault.{ListenFault}
+use Rattle.tcp_front.specs.declared.fault.ListenFault.TheVariants as listens
+use Rattle.tcp_front.specs.declared.fault.ConnectFault.{ConnectFault}
+use Rattle.tcp_front.specs.declared.fault.ConnectFault.TheVariants as connects
+use Rattle.printing_core.specs.UnixCauses.{unix_listen, unix_connect}
 use Rattle.printing_core.specs.declared.unreached.Unreached.{Unreached}
 use Rattle.printing_core.specs.declared.unreached.Unreached.TheVariants as causes
 
@@ -70,3 +77,22 @@ has_too_high None = false
 
 abbrev pub port_is_too_high : List ℕ → Bool
 port_is_too_high address = has_too_high (port_of address)
+
+abbrev pub unknown_kind : ErrorKind → Unreached
+unknown_kind kinds.InvalidInput = causes.NoPort
+unknown_kind kind = causes.NoHost
+
+abbrev pub unknown_address : List ℕ → ErrorKind → Unreached
+unknown_address address kind = if port_is_too_high address then causes.PortTooHigh else unknown_kind kind
+
+abbrev pub listen_cause : List ℕ → ListenFault → Option Unreached
+listen_cause address (listens.NoAddress kind) = Some (unknown_address address kind)
+listen_cause address (listens.Bind kind) = Some (unreached_listen kind)
+listen_cause address (listens.Socket at kind) = Some (unix_listen at kind)
+listen_cause address listens.Memory = None
+
+abbrev pub connect_cause : List ℕ → ConnectFault → ℕ → Option Unreached
+connect_cause address (connects.NoAddress kind) seconds = Some (unknown_address address kind)
+connect_cause address (connects.Connect kind) seconds = Some (unreached_connect kind seconds)
+connect_cause address (connects.Socket at kind) seconds = Some (unix_connect at kind)
+connect_cause address connects.Memory seconds = None

@@ -1,6 +1,5 @@
 -- Why a run is refused, by what refused, and its status.
---     of_answer, of_input, of_decoding, of_listing, of_settings, of_scenario, of_check, of_log, of_listen, of_connect,
---     of_source
+--     of_answer, of_input, of_decoding, of_listing, of_settings, of_scenario, of_log, of_listen, of_connect, of_source
 --                                                   the fault of what a lower call answers
 --     IsWordsStatus f status                        the status of a call whose words ask for nothing that is done
 --     status_of f                                   the status of a run that ends so
@@ -20,8 +19,7 @@ use Rattle.sim_core.specs.declared.scenario_fault.ScenarioError.{ScenarioError}
 use Rattle.sim_core.specs.declared.scenario_fault.ScenarioError.TheVariants as scenario_errors
 use Rattle.settings_core.specs.declared.words.WordsFault.{WordsFault}
 use Rattle.settings_core.specs.declared.words.WordsFault.TheVariants as words
-use Rattle.strategy_check.specs.declared.fault.CheckError.{CheckError}
-use Rattle.strategy_check.specs.declared.fault.CheckError.TheVariants as checks
+use Rattle.strategy_core.specs.declared.fault.StrategyFault.TheVariants as strategies
 use Rattle.version_log.specs.declared.answer.LogFault.{LogFault}
 use Rattle.version_log.specs.declared.answer.LogFault.TheVariants as logs
 use Rattle.tcp_front.specs.declared.fault.ListenFault.{ListenFault}
@@ -31,8 +29,9 @@ use Rattle.tcp_front.specs.declared.fault.ConnectFault.TheVariants as connects
 use Rattle.outcome_core.specs.declared.source.SourceFault.{SourceFault}
 use Rattle.outcome_core.specs.declared.source.SourceFault.TheVariants as sources
 use Rattle.printing_core.specs.declared.fault.Fault.{Fault}
-use Rattle.printing_core.specs.declared.fault.Fault.TheVariants.{CannotRead, BadItemLine, TooManyItems, BadScenario}
-use Rattle.printing_core.specs.declared.fault.Fault.TheVariants.{BadStep, Strategy, Check, Wire, Misplaced, Bind}
+use Rattle.printing_core.specs.declared.fault.Fault.TheVariants.{CannotRead, BadItemLine, NotHex, TooManyItems}
+use Rattle.printing_core.specs.declared.fault.Fault.TheVariants.{BadScenario, BadStep, Strategy, Check, Wire, Misplaced}
+use Rattle.printing_core.specs.declared.fault.Fault.TheVariants.{Bind}
 use Rattle.printing_core.specs.declared.fault.Fault.TheVariants.{Connect, Accept, Session, PeerRefused, ReaderFailed}
 use Rattle.printing_core.specs.declared.fault.Fault.TheVariants.{WriterFailed, LinesLost, Memory}
 
@@ -56,34 +55,36 @@ of_listing lists.Misplaced = Misplaced
 of_listing lists.Memory = Memory
 
 abbrev pub of_settings : SettingsFault → Fault
-of_settings settings.CannotRead = CannotRead
-of_settings (settings.BadItemLine line) = BadItemLine line
-of_settings settings.TooManyItems = TooManyItems
-of_settings (settings.Strategy f) = Strategy f
+of_settings (settings.CannotRead f) = CannotRead
+of_settings (settings.BadItemLine bad) = BadItemLine bad.number
+of_settings (settings.TooManyItems cap) = TooManyItems
+of_settings (settings.Strategy flaw) = Strategy flaw.fault
+of_settings (settings.Check f) = Check f
 of_settings settings.Memory = Memory
 
 abbrev pub of_scenario : ScenarioError → Fault
 of_scenario scenario_errors.Memory = Memory
-of_scenario (scenario_errors.Fault (scenarios.Strategy f)) = Strategy f
-of_scenario (scenario_errors.Fault (scenarios.Check f)) = Check f
-of_scenario (scenario_errors.Fault scenarios.TooManyItems) = TooManyItems
+of_scenario (scenario_errors.Fault scenarios.NotToml) = Strategy strategies.NotToml
+of_scenario (scenario_errors.Fault (scenarios.Strategy node flaw)) = Strategy flaw.fault
+of_scenario (scenario_errors.Fault (scenarios.Check node f)) = Check f
+of_scenario (scenario_errors.Fault (scenarios.TooManyItems node cap)) = TooManyItems
 of_scenario (scenario_errors.Fault scenarios.BadScenario) = BadScenario
 of_scenario (scenario_errors.Fault (scenarios.BadStep step)) = BadStep step
-
-abbrev pub of_check : CheckError → Fault
-of_check (checks.Fault f) = Check f
-of_check checks.Memory = Memory
 
 abbrev pub of_log : LogFault → Fault
 of_log logs.Full = TooManyItems
 of_log logs.Memory = Memory
 
 abbrev pub of_listen : ListenFault → Fault
+of_listen (listens.NoAddress kind) = Bind kind
 of_listen (listens.Bind kind) = Bind kind
+of_listen (listens.Socket at kind) = Bind kind
 of_listen listens.Memory = Memory
 
 abbrev pub of_connect : ConnectFault → Fault
+of_connect (connects.NoAddress kind) = Connect kind
 of_connect (connects.Connect kind) = Connect kind
+of_connect (connects.Socket at kind) = Connect kind
 of_connect connects.Memory = Memory
 
 abbrev pub of_source : SourceFault → Fault
@@ -94,6 +95,7 @@ of_source sources.Memory = Memory
 abbrev pub status_of : Fault → ℕ
 status_of CannotRead = 3
 status_of (BadItemLine line) = 1
+status_of NotHex = 1
 status_of TooManyItems = 1
 status_of BadScenario = 1
 status_of (BadStep step) = 1

@@ -1,4 +1,5 @@
 -- What is wrong with a file, with standard input, and with what a server did.
+--     unread_of f          the cause of a file that was not read
 --     unread_text c        why a file was not read, or not opened to be written to
 --     input_text f         what is wrong with standard input
 --     server_text f        what a server did
@@ -7,10 +8,20 @@ use Rattle.std.specs.Fmt.{decimal}
 use Rattle.printing_core.specs.Lines.{session_refusal_name}
 use Rattle.printing_core.specs.declared.flaws.Unread.{Unread}
 use Rattle.printing_core.specs.declared.flaws.Unread.TheVariants as unreads
+use Rattle.item_files.specs.declared.read_fault.ReadFault.{ReadFault}
+use Rattle.item_files.specs.declared.read_fault.ReadFault.TheVariants as reads
 use Rattle.printing_core.specs.declared.flaws.InputFlaw.{InputFlaw}
 use Rattle.printing_core.specs.declared.flaws.InputFlaw.TheVariants as inputs
 use Rattle.printing_core.specs.declared.flaws.ServerFlaw.{ServerFlaw}
 use Rattle.printing_core.specs.declared.flaws.ServerFlaw.TheVariants as servers
+
+abbrev pub unread_of : ReadFault → Unread
+unread_of reads.Absent = unreads.Absent
+unread_of reads.Forbidden = unreads.Forbidden
+unread_of reads.Folder = unreads.Folder
+unread_of reads.NoMoreFiles = unreads.NoMoreFiles
+unread_of reads.TooLong = unreads.TooLong
+unread_of reads.Other = unreads.Other
 
 abbrev pub unread_text : Unread → List ℕ
 unread_text unreads.Absent = codes "there is no such file"
@@ -34,13 +45,11 @@ input_text inputs.NotSum = codes "standard input has a part that is no Sum"
 input_text inputs.NotScenario = codes "standard input: a scenario needs 2 to 16 nodes with items, and steps"
 input_text (inputs.NotStep step) =
     codes "standard input: step " ++ (decimal step ++ codes ", counted from 0, has no form of a step")
-input_text inputs.TooManyItems = codes "standard input: a node has more different items than its cap"
 
 abbrev pub server_text : ServerFlaw → List ℕ
 server_text (servers.Silent patience) = codes "the server closed the connection, or was silent for "
     ++ (decimal patience ++ codes " seconds")
-server_text (servers.NotTaking patience) =
-    codes "the connection or standard output is closed, or the server took nothing for "
+server_text (servers.NotTaking patience) = codes "the server closed the connection, or took nothing for "
     ++ (decimal patience ++ codes " seconds")
 server_text (servers.Cut most_bytes) = codes "the server closed in the middle of a message, or sent more than "
     ++ (decimal most_bytes ++ codes " bytes")

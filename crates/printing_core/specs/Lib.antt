@@ -1,6 +1,5 @@
 pub mod AddressTexts
 pub mod Blanks
-pub mod Checks
 pub mod CostLines
 pub mod Endings
 pub mod FaultsOf
@@ -10,6 +9,7 @@ pub mod ItemTexts
 pub mod Lines
 pub mod Notices
 pub mod ReportTexts
+pub mod SecondLines
 pub mod SessionTexts
 pub mod ShownLines
 pub mod StatsTexts

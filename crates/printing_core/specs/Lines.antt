@@ -14,8 +14,9 @@ use Rattle.strategy_core.specs.declared.fault.StrategyFault.TheVariants.{RowActi
 use Rattle.strategy_check.specs.declared.fault.CheckFault.{CheckFault}
 use Rattle.strategy_check.specs.declared.fault.CheckFault.TheVariants.{NoDescent, ListTooLong, TooDeep, BadCertificate}
 use Rattle.printing_core.specs.declared.fault.Fault.{Fault}
-use Rattle.printing_core.specs.declared.fault.Fault.TheVariants.{CannotRead, BadItemLine, TooManyItems, BadScenario}
-use Rattle.printing_core.specs.declared.fault.Fault.TheVariants.{BadStep, Strategy, Check, Wire, Misplaced, Bind}
+use Rattle.printing_core.specs.declared.fault.Fault.TheVariants.{CannotRead, BadItemLine, NotHex, TooManyItems}
+use Rattle.printing_core.specs.declared.fault.Fault.TheVariants.{BadScenario, BadStep, Strategy, Check, Wire, Misplaced}
+use Rattle.printing_core.specs.declared.fault.Fault.TheVariants.{Bind}
 use Rattle.printing_core.specs.declared.fault.Fault.TheVariants.{Connect, Accept, Session, PeerRefused, ReaderFailed}
 use Rattle.printing_core.specs.declared.fault.Fault.TheVariants.{WriterFailed, LinesLost, Memory}
 
@@ -65,6 +66,8 @@ session_refusal_name n =
     else if n == 52 then codes "OverBound"
     else if n == 53 then codes "SerialsSpent"
     else if n == 54 then codes "GateClosed"
+    else if n == 55 then codes "WrongSet"
+    else if n == 57 then codes "BadEntry"
     else if n == 62 then codes "Accept"
     else if n == 80 then codes "CannotRead"
     else if n == 90 then codes "Memory"
@@ -74,6 +77,7 @@ session_refusal_name n =
 abbrev pub fault_line : Fault → List ℕ
 fault_line CannotRead = codes "refused 80 CannotRead"
 fault_line (BadItemLine line) = codes "refused 81 BadItemLine " ++ decimal line
+fault_line NotHex = codes "refused 81 BadItemLine 1"
 fault_line TooManyItems = codes "refused 82 TooManyItems"
 fault_line BadScenario = codes "refused 83 BadScenario"
 fault_line (BadStep step) = codes "refused 84 BadStep " ++ decimal step

@@ -4,7 +4,7 @@
 --     synced_text f v k a        the lines of a session that ended: its version, the messages sent, and what was
 --                                learned, items in the form f
 --     IsSyncOf f o result        what `sync` prints of a session, or the fault that it ends with
-use Rattle.std.specs.Prelude.{ℕ, ◌≡◌, List, [], ◌∷◌, ◌++◌, String, codes, flat_map, Result, Ok, Err, string_bytes}
+use Rattle.std.specs.Prelude.{ℕ, ◌≡◌, List, ◌∷◌, ◌++◌, String, codes, flat_map, Result, Ok, Err, string_bytes}
 use Rattle.std.specs.declared.alloc.Global.{Global}
 use Rattle.std.specs.Fmt.{decimal}
 use Rattle.definitions.specs.Items.{Item}

@@ -1,6 +1,6 @@
 -- What `sync` prints of what its session cost.
 --     stats_text s      messages, parts and bytes both ways, and seconds: a line each
-use Rattle.std.specs.Prelude.{ℕ, ◌/◌, ◌%◌, List, ◌∷◌, ◌++◌, codes, Option, Some, None}
+use Rattle.std.specs.Prelude.{ℕ, ◌/◌, ◌%◌, List, ◌++◌, codes, Option, Some, None}
 use Rattle.std.specs.Fmt.{decimal}
 use Rattle.printing_core.specs.declared.stats.Stats.{Stats}
 

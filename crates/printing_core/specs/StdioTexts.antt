@@ -11,13 +11,14 @@ use Rattle.printing_core.specs.SessionTexts.{of_direction}
 use Rattle.printing_core.specs.declared.fault.Fault.{Fault}
 use Rattle.printing_core.specs.declared.fault.Fault.TheVariants as faults
 use Rattle.printing_core.specs.declared.stdio.PeerFlaw.{PeerFlaw}
-use Rattle.printing_core.specs.declared.stdio.PeerFlaw.TheVariants.{Cut, Stranger, Unruly, TooManyParts, Refusing}
+use Rattle.printing_core.specs.declared.stdio.PeerFlaw.TheVariants.{Cut, Stranger, OtherSet, Unruly, TooManyParts, Refusing}
 use Rattle.printing_core.specs.declared.stdio.PeerFlaw.TheVariants.{Unread, NotTaking}
 
 abbrev pub peer_text : PeerFlaw → List ℕ
 peer_text (Cut most_bytes) = codes "the peer closed in the middle of a message, or sent more than "
     ++ (decimal most_bytes ++ codes " bytes")
 peer_text Stranger = codes "the peer does not speak this protocol"
+peer_text OtherSet = codes "the peer speaks of another set"
 peer_text Unruly = codes "the peer broke the rules of the protocol"
 peer_text TooManyParts =
     codes "a message of more than 131,072 parts is needed: the peer may hold more than 65,536 items"
@@ -25,10 +26,11 @@ peer_text (Refusing code) = codes "the peer refused: " ++ session_refusal_name c
 peer_text Unread = codes "standard input cannot be read"
 peer_text NotTaking = codes "the peer has closed, or standard output is full"
 
--- 1 is a hello that is none, and 2 to 26 what may not be sent
+-- 1 is a hello that is none, 2 to 26 what may not be sent, and 55 another set
 abbrev pub refused_for : ℕ → ℕ → Option PeerFlaw
 refused_for code most_bytes = if code == 1 then Some Stranger else if code == 3 then Some (Cut most_bytes)
-    else if code == 12 then Some TooManyParts else if nat_lt 1 code && nat_lt code 27 then Some Unruly else None
+    else if code == 12 then Some TooManyParts else if nat_lt 1 code && nat_lt code 27 then Some Unruly
+    else if code == 55 then Some OtherSet else None
 
 abbrev pub peer_flaw : Fault → ℕ → Option PeerFlaw
 peer_flaw (faults.Session code) most_bytes = refused_for code most_bytes

@@ -1,7 +1,9 @@
 -- The second line of a refusal, without its newline: what it speaks of, and the usual cause.
 --     strategy_text f      what a strategy wants
 --     check_text f         why a strategy is not accepted
---     range_text k n m     what a number of a strategy wants
+--     span_text s          what a number of a strategy may be
+--     want_text s f        the one where a number is refused, else the other
+--     place_text file n    a file or standard input, and a node of it if there is one
 --     why_text w           the whole line
 use Rattle.std.specs.Prelude.{ℕ, List, ◌∷◌, ◌++◌, codes, string_bytes, Option, Some, None}
 use Rattle.std.specs.Fmt.{decimal}
@@ -14,8 +16,9 @@ use Rattle.strategy_check.specs.declared.fault.CheckFault.TheVariants.{NoDescent
 use Rattle.printing_core.specs.FlawTexts.{unread_text, input_text, server_text}
 use Rattle.printing_core.specs.AddressTexts.{unreached_text}
 use Rattle.printing_core.specs.StdioTexts.{peer_text}
-use Rattle.printing_core.specs.declared.why.Key.{Key}
-use Rattle.printing_core.specs.declared.why.Key.TheVariants as keys
+use Rattle.item_files.specs.declared.strategy_flaw.Key.{Key}
+use Rattle.item_files.specs.declared.strategy_flaw.Key.TheVariants as keys
+use Rattle.item_files.specs.declared.strategy_flaw.NumberSpan.{NumberSpan}
 use Rattle.printing_core.specs.declared.why.Why.{Why}
 use Rattle.printing_core.specs.declared.why.Why.TheVariants as whys
 
@@ -44,9 +47,13 @@ key_name keys.Upto = codes "upto"
 key_name keys.Weight = codes "a weight of split"
 key_name keys.Peel = codes "peel"
 
-abbrev pub range_text : Key → ℕ → ℕ → List ℕ
-range_text key least greatest = key_name key ++ (codes " is a whole number from "
-    ++ (decimal least ++ (codes " to " ++ decimal greatest)))
+abbrev pub span_text : NumberSpan → List ℕ
+span_text span = key_name span.key ++ (codes " is a whole number from "
+    ++ (decimal span.least ++ (codes " to " ++ decimal span.greatest)))
+
+abbrev pub want_text : Option NumberSpan → StrategyFault → List ℕ
+want_text (Some span) f = span_text span
+want_text None f = strategy_text f
 
 -- a place, a colon and a text
 abbrev pub said_of : List ℕ → List ℕ → List ℕ
@@ -55,6 +62,11 @@ said_of place text = place ++ (codes ": " ++ text)
 -- a place and the number of a thing in it
 abbrev pub place_in : List ℕ → List ℕ → ℕ → List ℕ
 place_in place thing n = place ++ (32 ∷ (thing ++ (32 ∷ decimal n)))
+
+-- a file or standard input, and the number of a node in it if there is one
+abbrev pub place_text : List ℕ → Option ℕ → List ℕ
+place_text file None = file
+place_text file (Some node) = place_in file (codes "node") node
 
 -- a place, and the number of a row in it if there is one
 abbrev pub row_in : List ℕ → Option ℕ → List ℕ
@@ -67,13 +79,11 @@ why_text (whys.BadLine file line shown) = said_of (place_in file.now (codes "lin
 why_text (whys.LongLine file line shown) = file.now ++ (codes " line " ++ (decimal line
     ++ (codes ": an item has at most 64 bytes: " ++ string_bytes shown)))
 why_text (whys.ByteOrderMark file) = file.now ++ codes " line 1: the file begins with a byte order mark"
-why_text (whys.TooManyItems file cap) =
-    said_of file.now (codes "more than " ++ (decimal cap ++ codes " different items"))
-why_text (whys.NoStrategy place fault) = said_of place.now (strategy_text fault)
-why_text (whys.BadRow place row fault) = place.now ++ (codes " row " ++ (decimal row
-    ++ (codes ": " ++ strategy_text fault)))
-why_text (whys.BadKey place row key least greatest) = said_of (row_in place.now row) (range_text key least greatest)
-why_text (whys.NotAccepted place fault) = said_of place.now (check_text fault)
+why_text (whys.TooManyItems place cap) = place_text place.file.now place.node
+    ++ (codes ": more than " ++ (decimal cap ++ codes " different items"))
+why_text (whys.Strategy place flaw) =
+    said_of (row_in (place_text place.file.now place.node) flaw.row) (want_text flaw.number flaw.fault)
+why_text (whys.NotAccepted place fault) = said_of (place_text place.file.now place.node) (check_text fault)
 why_text (whys.Address address cause) = unreached_text address.now cause
 why_text (whys.Input flaw) = input_text flaw
 why_text whys.Output = codes "standard output is closed or full"

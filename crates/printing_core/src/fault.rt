@@ -2,7 +2,7 @@
 
 ghost use Rattle.std.specs.Prelude.{◌≡◌};
 ghost use Rattle.printing_core.specs.FaultsOf.{of_answer, of_input, of_decoding, of_listing, of_settings, of_scenario};
-ghost use Rattle.printing_core.specs.FaultsOf.{of_check, of_log, of_listen, of_connect, of_source};
+ghost use Rattle.printing_core.specs.FaultsOf.{of_log, of_listen, of_connect, of_source};
 ghost use Rattle.printing_core.specs.declared.fault.Fault.TheVariants as faults;
 
 use answer_core::{AnswerFault, ListReplyFault};
@@ -12,7 +12,7 @@ use outcome_core::SourceFault;
 use sim_core::{ScenarioError, ScenarioFault};
 use std::alloc::{AllocError, AllocFailed};
 use std::io::ErrorKind;
-use strategy_check::{CheckError, CheckFault};
+use strategy_check::CheckFault;
 use strategy_core::StrategyFault;
 use tcp_front::{ConnectFault, ListenFault};
 use version_log::LogFault;
@@ -26,8 +26,10 @@ use wire_core::{DecodeError, WireFault};
 pub enum Fault {
     /// A file or the input was not opened or not read, or is above 16,777,216 bytes.
     CannotRead,
-    /// A line, from 1, of the item file is bad; or the input is not hex.
+    /// A line, from 1, of the items is bad.
     BadItemLine { line: usize },
+    /// The input is not hex.
+    NotHex,
     /// There are more than 65,536 different items, or more than the cap of a strategy.
     TooManyItems,
     /// The input has no nodes, steps or items of a scenario.
@@ -114,10 +116,11 @@ impl From<SettingsFault> for Fault {
 
     fn from(fault: SettingsFault) -> Fault {
         match fault {
-            SettingsFault::CannotRead => Fault::CannotRead,
-            SettingsFault::BadItemLine { line } => Fault::BadItemLine { line },
-            SettingsFault::TooManyItems => Fault::TooManyItems,
-            SettingsFault::Strategy(fault) => Fault::Strategy(fault),
+            SettingsFault::CannotRead(_) => Fault::CannotRead,
+            SettingsFault::BadItemLine(bad) => Fault::BadItemLine { line: bad.number },
+            SettingsFault::TooManyItems { cap: _ } => Fault::TooManyItems,
+            SettingsFault::Strategy(flaw) => Fault::Strategy(flaw.fault),
+            SettingsFault::Check(fault) => Fault::Check(fault),
             SettingsFault::Memory => Fault::Memory,
         }
     }
@@ -129,22 +132,16 @@ impl From<ScenarioError> for Fault {
     fn from(error: ScenarioError) -> Fault {
         match error {
             ScenarioError::Memory => Fault::Memory,
-            ScenarioError::Fault(ScenarioFault::Strategy(fault)) => Fault::Strategy(fault),
-            ScenarioError::Fault(ScenarioFault::Check(fault)) => Fault::Check(fault),
-            ScenarioError::Fault(ScenarioFault::TooManyItems) => Fault::TooManyItems,
+            ScenarioError::Fault(ScenarioFault::NotToml) => Fault::Strategy(StrategyFault::NotToml),
+            ScenarioError::Fault(ScenarioFault::Strategy { node: _, flaw }) => {
+                Fault::Strategy(flaw.fault)
+            }
+            ScenarioError::Fault(ScenarioFault::Check { node: _, fault }) => Fault::Check(fault),
+            ScenarioError::Fault(ScenarioFault::TooManyItems { node: _, cap: _ }) => {
+                Fault::TooManyItems
+            }
             ScenarioError::Fault(ScenarioFault::BadScenario) => Fault::BadScenario,
             ScenarioError::Fault(ScenarioFault::BadStep { step }) => Fault::BadStep { step },
-        }
-    }
-}
-
-impl From<CheckError> for Fault {
-    ghost from_gives = { λ f e. e ≡ of_check f };
-
-    fn from(error: CheckError) -> Fault {
-        match error {
-            CheckError::Fault(fault) => Fault::Check(fault),
-            CheckError::Memory => Fault::Memory,
         }
     }
 }
@@ -165,7 +162,9 @@ impl From<ListenFault> for Fault {
 
     fn from(fault: ListenFault) -> Fault {
         match fault {
+            ListenFault::NoAddress(kind) => Fault::Bind(kind),
             ListenFault::Bind(kind) => Fault::Bind(kind),
+            ListenFault::Socket { at: _, kind } => Fault::Bind(kind),
             ListenFault::Memory => Fault::Memory,
         }
     }
@@ -176,7 +175,9 @@ impl From<ConnectFault> for Fault {
 
     fn from(fault: ConnectFault) -> Fault {
         match fault {
+            ConnectFault::NoAddress(kind) => Fault::Connect(kind),
             ConnectFault::Connect(kind) => Fault::Connect(kind),
+            ConnectFault::Socket { at: _, kind } => Fault::Connect(kind),
             ConnectFault::Memory => Fault::Memory,
         }
     }

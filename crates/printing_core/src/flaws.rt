@@ -1,9 +1,10 @@
 //! What is wrong with a file, with standard input, and with what a server did.
 
-ghost use Rattle.std.specs.Prelude.{Some};
-ghost use Rattle.printing_core.specs.FlawTexts.{unread_text, input_text, server_text};
+ghost use Rattle.std.specs.Prelude.{◌≡◌, Some};
+ghost use Rattle.printing_core.specs.FlawTexts.{unread_of, unread_text, input_text, server_text};
 
 use crate::printed::session_refusal_name;
+use item_files::ReadFault;
 use std::fmt;
 
 /// Why a file was not read, or not opened to be written to.
@@ -29,6 +30,21 @@ pub enum Unread {
     Other,
     /// It is to be written to, and was not opened.
     Unwritable,
+}
+
+impl From<ReadFault> for Unread {
+    ghost from_gives = { λ f e. e ≡ unread_of f };
+
+    fn from(fault: ReadFault) -> Unread {
+        match fault {
+            ReadFault::Absent => Unread::Absent,
+            ReadFault::Forbidden => Unread::Forbidden,
+            ReadFault::Folder => Unread::Folder,
+            ReadFault::NoMoreFiles => Unread::NoMoreFiles,
+            ReadFault::TooLong => Unread::TooLong,
+            ReadFault::Other => Unread::Other,
+        }
+    }
 }
 
 impl fmt::Display for Unread {
@@ -69,8 +85,6 @@ pub enum InputFlaw {
     NotScenario,
     /// A text of the scenario, from 0, spells no step.
     NotStep { step: usize },
-    /// A node of the scenario has too many items.
-    TooManyItems,
 }
 
 impl fmt::Display for InputFlaw {
@@ -106,12 +120,6 @@ impl fmt::Display for InputFlaw {
                     "standard input: step {step}, counted from 0, has no form of a step"
                 )
             }
-            InputFlaw::TooManyItems => {
-                write!(
-                    f,
-                    "standard input: a node has more different items than its cap"
-                )
-            }
         }
     }
 }
@@ -121,7 +129,7 @@ impl fmt::Display for InputFlaw {
 pub enum ServerFlaw {
     /// It closed, or was silent for so many seconds.
     Silent { patience: u32 },
-    /// It took nothing for so many seconds, or standard output did not.
+    /// It closed, or took nothing for so many seconds.
     NotTaking { patience: u32 },
     /// It closed too early, or so many bytes were too few.
     Cut { most_bytes: u32 },
@@ -148,7 +156,7 @@ impl fmt::Display for ServerFlaw {
             }
             ServerFlaw::NotTaking { patience } => write!(
                 f,
-                "the connection or standard output is closed, or the server took nothing for {patience} seconds"
+                "the server closed the connection, or took nothing for {patience} seconds"
             ),
             ServerFlaw::Cut { most_bytes } => write!(
                 f,

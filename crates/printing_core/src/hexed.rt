@@ -27,16 +27,17 @@ fn without_blanks(alloc: Global, text: &[u8]) -> Result<Vec<u8>, AllocError>
     text.iter().copied().filter(|b| is_solid(*b)).collect(alloc)
 }
 
-/// The bytes of hex text, its blanks left out. Refused 81, by line 1, where it is no hex.
+/// The bytes of hex text, its blanks left out. Refused 81 where it is no hex.
 pub fn decode_text(alloc: Global, text: &[u8]) -> Result<Vec<u8>, Fault>
     ensures ok { IfOk result (λ bytes. decode_of (filter is_solid text.now) ≡ Ok bytes.items) }
-    ensures refused { IfErr result (λ e. e ≢ Fault.Memory → IsErr (decode_of (filter is_solid text.now))) }
+    ensures refused { IfErr result (λ e. e ≢ Fault.Memory →
+        (e ≡ Fault.NotHex) × IsErr (decode_of (filter is_solid text.now))) }
 {
     let solid = without_blanks(alloc, text)?;
     match hex::decode(alloc, solid.as_slice()) {
         Ok(bytes) => Ok(bytes),
         Err(FromHexError::OutOfMemory) => Err(Fault::Memory),
-        Err(_) => Err(Fault::BadItemLine { line: 1 }),
+        Err(_) => Err(Fault::NotHex),
     }
 }
 

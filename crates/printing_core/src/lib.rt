@@ -9,6 +9,7 @@ mod flaws;
 mod hexed;
 mod item_text;
 mod printed;
+mod refusal;
 mod reports;
 mod session_texts;
 mod shown;
@@ -19,7 +20,7 @@ mod unix_causes;
 mod unreached;
 mod why;
 
-pub use accepted::{accepted_text, checked_text};
+pub use accepted::accepted_text;
 pub use costs::{push_cost, push_plan, push_sample};
 pub use ending::refusal_of;
 pub use fault::Fault;
@@ -29,15 +30,15 @@ pub use item_text::{push_item, text_is_read_again};
 pub use printed::{
     tell, tell_address, tell_dropped, tell_no_text, tell_stats, tell_unwritten, tell_words,
 };
+pub use refusal::Refusal;
 pub use reports::{Reporting, learned_line, left_out_line, report_text};
 pub use session_texts::{listening_line, outcome_text, served_text};
 pub use shown::shown_line;
 pub use stats::{Stats, Tally};
-pub use stdio::{PeerFlaw, peer_flaw, refusal_of_session, tell_stdio_flaw};
+pub use stdio::{PeerFlaw, refusal_of_session, tell_name_flaw, tell_stdio_flaw};
 pub use told::{
     Cause, tell_full, tell_left_out, tell_left_waiting, tell_torn, tell_unwritten_cause,
     tell_written_again,
 };
-pub use unix_causes::{AtPath, unreached_unix_connect, unreached_unix_listen};
-pub use unreached::{Unreached, port_is_too_high, unreached_connect, unreached_listen};
-pub use why::{Key, Why, tell_why};
+pub use unreached::Unreached;
+pub use why::{Place, Why, tell_why};

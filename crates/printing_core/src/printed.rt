@@ -49,6 +49,8 @@ pub fn session_refusal_name(code: u8) -> &'static str
         52 => "OverBound",
         53 => "SerialsSpent",
         54 => "GateClosed",
+        55 => "WrongSet",
+        57 => "BadEntry",
         62 => "Accept",
         80 => "CannotRead",
         90 => "Memory",
@@ -71,6 +73,7 @@ impl Fault {
             | Fault::LinesLost
             | Fault::Memory => 3,
             Fault::BadItemLine { line: _ }
+            | Fault::NotHex
             | Fault::TooManyItems
             | Fault::BadScenario
             | Fault::BadStep { step: _ }
@@ -128,6 +131,7 @@ impl fmt::Display for Fault {
         match self {
             Fault::CannotRead => write!(f, "refused 80 CannotRead"),
             Fault::BadItemLine { line } => write!(f, "refused 81 BadItemLine {line}"),
+            Fault::NotHex => write!(f, "refused 81 BadItemLine 1"),
             Fault::TooManyItems => write!(f, "refused 82 TooManyItems"),
             Fault::BadScenario => write!(f, "refused 83 BadScenario"),
             Fault::BadStep { step } => write!(f, "refused 84 BadStep {step}"),

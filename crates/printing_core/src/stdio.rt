@@ -18,6 +18,8 @@ pub enum PeerFlaw {
     Cut { most_bytes: u32 },
     /// It speaks something else.
     Stranger,
+    /// It speaks of another set.
+    OtherSet,
     /// It sent what may not be sent.
     Unruly,
     /// A session with it needs a message of more than 131,072 parts.
@@ -40,6 +42,7 @@ impl fmt::Display for PeerFlaw {
                 "the peer closed in the middle of a message, or sent more than {most_bytes} bytes"
             ),
             PeerFlaw::Stranger => write!(f, "the peer does not speak this protocol"),
+            PeerFlaw::OtherSet => write!(f, "the peer speaks of another set"),
             PeerFlaw::Unruly => write!(f, "the peer broke the rules of the protocol"),
             PeerFlaw::TooManyParts => write!(
                 f,
@@ -63,12 +66,13 @@ fn refused_for(code: u8, most_bytes: u32) -> Option<PeerFlaw>
         3 => Some(PeerFlaw::Cut { most_bytes }),
         12 => Some(PeerFlaw::TooManyParts),
         2..=26 => Some(PeerFlaw::Unruly),
+        55 => Some(PeerFlaw::OtherSet),
         _ => None,
     }
 }
 
 /// What a refusal says of the peer, or of standard input and output, if it is about these; so many bytes may be read.
-pub fn peer_flaw(fault: Fault, most_bytes: u32) -> Option<PeerFlaw>
+pub(crate) fn peer_flaw(fault: Fault, most_bytes: u32) -> Option<PeerFlaw>
     ensures { result ≡ peer_flaw fault most_bytes }
 {
     match fault {
@@ -96,8 +100,18 @@ pub fn refusal_of_session(outcome: &Outcome) -> Result<(), Fault>
     }
 }
 
-/// The status of a call that does not speak over standard input and output, though its words ask for it.
+/// The status of a call whose words ask for what is not done.
 const USAGE_STATUS: u8 = 2;
+
+/// Prints that the name of a set has too few or too many bytes, and gives the status. A line that is not taken changes
+/// nothing.
+pub fn tell_name_flaw<E: Write + Drop>(err: E) -> u8
+    ensures { result ≡ 2 }
+{
+    let mut err = err;
+    let _told = writeln!(err, "error: the name of a set has 1 to 63 bytes");
+    USAGE_STATUS
+}
 
 /// Prints why a call does not speak over standard input and output, and gives the status. A line that is not taken
 /// changes nothing.

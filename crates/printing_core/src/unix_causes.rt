@@ -1,39 +1,22 @@
 //! Why a Unix socket is not listened at, or not reached.
 
 ghost use Rattle.std.specs.Prelude.{◌≡◌};
-ghost use Rattle.printing_core.specs.UnixCauses.{path_flaw, taken_by, listen_cause, connect_cause};
+ghost use Rattle.printing_core.specs.UnixCauses.{path_cause, taken_by, listen_cause, connect_cause};
 ghost use Rattle.printing_core.specs.UnixCauses.{unix_listen, unix_connect};
 
 use crate::unreached::Unreached;
 use std::io::ErrorKind;
-
-/// The greatest number of bytes of the path of a socket.
-const MOST_BYTES: usize = 107;
-
-/// What stands at the path of a Unix socket.
-#[derive(Clone, Copy, Debug, PartialEq, Eq)]
-pub enum AtPath {
-    /// Nothing, or nothing that is known.
-    Nothing,
-    /// A folder.
-    Folder,
-    /// A socket.
-    Socket,
-    /// A file of another kind.
-    Other,
-}
+use tcp_front::AtPath;
 
 /// What is wrong with the path itself, if anything is.
-fn path_flaw(path: &str) -> Option<Unreached>
-    ensures { result ≡ path_flaw path.now }
+fn path_cause(at: AtPath) -> Option<Unreached>
+    ensures { result ≡ path_cause at }
 {
-    if path.is_empty() {
-        return Some(Unreached::NoPath);
+    match at {
+        AtPath::NoPath => Some(Unreached::NoPath),
+        AtPath::TooLong => Some(Unreached::PathTooLong),
+        AtPath::Nothing | AtPath::Folder | AtPath::Socket | AtPath::Other => None,
     }
-    if path.len() > MOST_BYTES {
-        return Some(Unreached::PathTooLong);
-    }
-    None
 }
 
 /// What has taken the path at which a socket was to be made.
@@ -43,7 +26,7 @@ fn taken_by(at: AtPath) -> Unreached
     match at {
         AtPath::Folder => Unreached::Folder,
         AtPath::Other => Unreached::NotASocket,
-        AtPath::Nothing | AtPath::Socket => Unreached::InUse,
+        AtPath::NoPath | AtPath::TooLong | AtPath::Nothing | AtPath::Socket => Unreached::InUse,
     }
 }
 
@@ -69,25 +52,25 @@ fn connect_cause(at: AtPath, kind: ErrorKind) -> Unreached
     match at {
         AtPath::Folder => Unreached::Folder,
         AtPath::Other => Unreached::NotASocket,
-        AtPath::Nothing | AtPath::Socket => Unreached::Nobody,
+        AtPath::NoPath | AtPath::TooLong | AtPath::Nothing | AtPath::Socket => Unreached::Nobody,
     }
 }
 
 /// Why a path is not listened at, by what stands there and what the system said.
-pub fn unreached_unix_listen(path: &str, at: AtPath, kind: ErrorKind) -> Unreached
-    ensures { result ≡ unix_listen path.now at kind }
+pub(crate) fn unix_listen(at: AtPath, kind: ErrorKind) -> Unreached
+    ensures { result ≡ unix_listen at kind }
 {
-    match path_flaw(path) {
+    match path_cause(at) {
         Some(flaw) => flaw,
         None => listen_cause(at, kind),
     }
 }
 
 /// Why nobody is reached at a path, by what stands there and what the system said.
-pub fn unreached_unix_connect(path: &str, at: AtPath, kind: ErrorKind) -> Unreached
-    ensures { result ≡ unix_connect path.now at kind }
+pub(crate) fn unix_connect(at: AtPath, kind: ErrorKind) -> Unreached
+    ensures { result ≡ unix_connect at kind }
 {
-    match path_flaw(path) {
+    match path_cause(at) {
         Some(flaw) => flaw,
         None => connect_cause(at, kind),
     }

@@ -4,10 +4,13 @@ ghost use Rattle.std.specs.Prelude.{◌≡◌, Some, option_copied};
 ghost use Rattle.std.specs.Char.{is_ascii_digit};
 ghost use Rattle.std.specs.List.{list_all};
 ghost use Rattle.printing_core.specs.AddressTexts.{unreached_text, unreached_listen, unreached_connect, port_of};
-ghost use Rattle.printing_core.specs.AddressTexts.{is_too_high, port_is_too_high};
+ghost use Rattle.printing_core.specs.AddressTexts.{is_too_high, port_is_too_high, unknown_address, listen_cause};
+ghost use Rattle.printing_core.specs.AddressTexts.{connect_cause};
 
+use crate::unix_causes::{unix_connect, unix_listen};
 use std::fmt;
 use std::io::ErrorKind;
+use tcp_front::{ConnectFault, ListenFault};
 
 /// Why an address is not listened at, or not reached.
 #[derive(Clone, Copy, Debug, PartialEq, Eq)]
@@ -90,7 +93,7 @@ impl fmt::Display for AddressLine<'_> {
 }
 
 /// Why an address that is well is not listened at, by what the system said.
-pub fn unreached_listen(kind: ErrorKind) -> Unreached
+fn unreached_listen(kind: ErrorKind) -> Unreached
     ensures { result ≡ unreached_listen kind }
 {
     match kind {
@@ -102,7 +105,7 @@ pub fn unreached_listen(kind: ErrorKind) -> Unreached
 }
 
 /// Why an address that is well is not reached, by what the system said; there were so many seconds for it.
-pub fn unreached_connect(kind: ErrorKind, seconds: u32) -> Unreached
+fn unreached_connect(kind: ErrorKind, seconds: u32) -> Unreached
     ensures { result ≡ unreached_connect kind seconds }
 {
     match kind {
@@ -141,11 +144,48 @@ fn is_too_high(digits: &str) -> bool
 }
 
 /// Whether what follows the last `:` of an address is decimal digits, and a number above 65535.
-pub fn port_is_too_high(address: &str) -> bool
+fn port_is_too_high(address: &str) -> bool
     ensures { result ≡ port_is_too_high address.now }
 {
     match port_of(address) {
         Some(port) => is_too_high(port),
         None => false,
+    }
+}
+
+/// Why the text of an address was not looked up, by what its look-up said.
+fn unknown_address(address: &str, kind: ErrorKind) -> Unreached
+    ensures { result ≡ unknown_address address.now kind }
+{
+    if port_is_too_high(address) {
+        return Unreached::PortTooHigh;
+    }
+    match kind {
+        ErrorKind::InvalidInput => Unreached::NoPort,
+        _ => Unreached::NoHost,
+    }
+}
+
+/// Why an address is not listened at, if that is not for want of memory.
+pub(crate) fn listen_cause(address: &str, fault: ListenFault) -> Option<Unreached>
+    ensures { result ≡ listen_cause address.now fault }
+{
+    match fault {
+        ListenFault::NoAddress(kind) => Some(unknown_address(address, kind)),
+        ListenFault::Bind(kind) => Some(unreached_listen(kind)),
+        ListenFault::Socket { at, kind } => Some(unix_listen(at, kind)),
+        ListenFault::Memory => None,
+    }
+}
+
+/// Why an address is not reached, if that is not for want of memory; there were so many seconds for it.
+pub(crate) fn connect_cause(address: &str, fault: ConnectFault, seconds: u32) -> Option<Unreached>
+    ensures { result ≡ connect_cause address.now fault seconds }
+{
+    match fault {
+        ConnectFault::NoAddress(kind) => Some(unknown_address(address, kind)),
+        ConnectFault::Connect(kind) => Some(unreached_connect(kind, seconds)),
+        ConnectFault::Socket { at, kind } => Some(unix_connect(at, kind)),
+        ConnectFault::Memory => None,
     }
 }

@@ -1,11 +1,13 @@
 //! The second line of a refusal: what it speaks of, and the usual cause.
 
 ghost use Rattle.std.specs.Prelude.{◌≡◌, Some};
-ghost use Rattle.printing_core.specs.Whys.{key_name, strategy_text, check_text, range_text, row_in, why_text};
+ghost use Rattle.printing_core.specs.Whys.{key_name, strategy_text, check_text, span_text, want_text, place_text};
+ghost use Rattle.printing_core.specs.Whys.{row_in, why_text};
 
 use crate::flaws::{InputFlaw, ServerFlaw, Unread};
 use crate::stdio::PeerFlaw;
 use crate::unreached::{AddressLine, Unreached};
+use item_files::{Key, NumberSpan, StrategyFlaw};
 use std::fmt;
 use std::io::Write;
 use strategy_check::CheckFault;
@@ -62,30 +64,67 @@ impl fmt::Display for CheckWant {
     }
 }
 
-/// A number of a strategy file.
-#[derive(Clone, Copy, Debug, PartialEq, Eq)]
-pub enum Key {
-    Cap,
-    Limit,
-    Rounds,
-    Upto,
-    /// A weight of `split`.
-    Weight,
-    Peel,
+/// The name of a number of a strategy in a second line.
+fn key_name(key: Key) -> &'static str
+    ensures { result.now ≡ key_name key }
+{
+    match key {
+        Key::Cap => "cap",
+        Key::Limit => "limit",
+        Key::Rounds => "rounds",
+        Key::Upto => "upto",
+        Key::Weight => "a weight of split",
+        Key::Peel => "peel",
+    }
 }
 
-impl Key {
-    /// Its name in a second line.
-    pub fn name(self) -> &'static str
-        ensures { result.now ≡ key_name self }
-    {
-        match self {
-            Key::Cap => "cap",
-            Key::Limit => "limit",
-            Key::Rounds => "rounds",
-            Key::Upto => "upto",
-            Key::Weight => "a weight of split",
-            Key::Peel => "peel",
+/// A number of a strategy, and what it may be.
+#[derive(Clone, Copy)]
+struct SpanWant(NumberSpan);
+
+impl fmt::Display for SpanWant {
+    ghost output = { λ want. Some (span_text want.0) };
+
+    fn fmt<W: fmt::Write>(&self, f: &mut fmt::Formatter<W>) -> fmt::Result {
+        let key = key_name(self.0.key);
+        write!(
+            f,
+            "{key} is a whole number from {} to {}",
+            self.0.least, self.0.greatest
+        )
+    }
+}
+
+/// What a strategy wants that is refused: of a number, what it may be.
+#[derive(Clone, Copy)]
+struct FlawWant(StrategyFlaw);
+
+impl fmt::Display for FlawWant {
+    ghost output = { λ want. Some (want_text want.0.number want.0.fault) };
+
+    fn fmt<W: fmt::Write>(&self, f: &mut fmt::Formatter<W>) -> fmt::Result {
+        match self.0.number {
+            Some(span) => write!(f, "{}", SpanWant(span)),
+            None => write!(f, "{}", StrategyWant(self.0.fault)),
+        }
+    }
+}
+
+/// Where a strategy, or items, stand: a file or standard input, and the node of a scenario, from 0, if it is one's.
+#[derive(Clone, Copy, Debug, PartialEq, Eq)]
+pub struct Place<'a> {
+    pub file: &'a str,
+    pub node: Option<usize>,
+}
+
+impl fmt::Display for Place<'_> {
+    ghost output = { λ p. Some (place_text p.file.now p.node) };
+
+    fn fmt<W: fmt::Write>(&self, f: &mut fmt::Formatter<W>) -> fmt::Result {
+        let file = self.file;
+        match self.node {
+            Some(node) => write!(f, "{file} node {node}"),
+            None => write!(f, "{file}"),
         }
     }
 }
@@ -93,12 +132,12 @@ impl Key {
 /// A place, and the number of a row in it, from 1, if it is a row.
 #[derive(Clone, Copy)]
 struct RowPlace<'a> {
-    place: &'a str,
+    place: Place<'a>,
     row: Option<usize>,
 }
 
 impl fmt::Display for RowPlace<'_> {
-    ghost output = { λ p. Some (row_in p.place.now p.row) };
+    ghost output = { λ p. Some (row_in (place_text p.place.file.now p.place.node) p.row) };
 
     fn fmt<W: fmt::Write>(&self, f: &mut fmt::Formatter<W>) -> fmt::Result {
         let place = self.place;
@@ -106,27 +145,6 @@ impl fmt::Display for RowPlace<'_> {
             Some(row) => write!(f, "{place} row {row}"),
             None => write!(f, "{place}"),
         }
-    }
-}
-
-/// A key, and the range of its numbers.
-#[derive(Clone, Copy)]
-struct KeyRange {
-    key: Key,
-    least: u32,
-    greatest: u32,
-}
-
-impl fmt::Display for KeyRange {
-    ghost output = { λ range. Some (range_text range.key range.least range.greatest) };
-
-    fn fmt<W: fmt::Write>(&self, f: &mut fmt::Formatter<W>) -> fmt::Result {
-        let key = self.key.name();
-        write!(
-            f,
-            "{key} is a whole number from {} to {}",
-            self.least, self.greatest
-        )
     }
 }
 
@@ -154,33 +172,19 @@ pub enum Why<'a> {
     ByteOrderMark {
         file: &'a str,
     },
-    /// An item file has more different items than this.
+    /// There are more different items than this.
     TooManyItems {
-        file: &'a str,
+        place: Place<'a>,
         cap: usize,
     },
-    /// A file, or standard input, holds no strategy.
-    NoStrategy {
-        place: &'a str,
-        fault: StrategyFault,
+    /// There is no strategy.
+    Strategy {
+        place: Place<'a>,
+        flaw: StrategyFlaw,
     },
-    /// A row of a strategy file, from 1, is wrong.
-    BadRow {
-        place: &'a str,
-        row: usize,
-        fault: StrategyFault,
-    },
-    /// A key of a strategy, or of a row of it, from 1, has no whole number in its range.
-    BadKey {
-        place: &'a str,
-        row: Option<usize>,
-        key: Key,
-        least: u32,
-        greatest: u32,
-    },
-    /// A file, or standard input, holds a strategy that is not accepted.
+    /// A strategy is not accepted.
     NotAccepted {
-        place: &'a str,
+        place: Place<'a>,
         fault: CheckFault,
     },
     /// An address is not listened at, or not reached.
@@ -214,25 +218,16 @@ impl fmt::Display for Why<'_> {
             Why::ByteOrderMark { file } => {
                 write!(f, "{file} line 1: the file begins with a byte order mark")
             }
-            Why::TooManyItems { file, cap } => write!(f, "{file}: more than {cap} different items"),
-            Why::NoStrategy { place, fault } => write!(f, "{place}: {}", StrategyWant(*fault)),
-            Why::BadRow { place, row, fault } => {
-                write!(f, "{place} row {row}: {}", StrategyWant(*fault))
+            Why::TooManyItems { place, cap } => {
+                write!(f, "{place}: more than {cap} different items")
             }
-            Why::BadKey {
-                place,
-                row,
-                key,
-                least,
-                greatest,
-            } => {
-                let place = RowPlace { place, row: *row };
-                let range = KeyRange {
-                    key: *key,
-                    least: *least,
-                    greatest: *greatest,
+            Why::Strategy { place, flaw } => {
+                let place = RowPlace {
+                    place: *place,
+                    row: flaw.row,
                 };
-                write!(f, "{place}: {range}")
+                let want = FlawWant(*flaw);
+                write!(f, "{place}: {want}")
             }
             Why::NotAccepted { place, fault } => write!(f, "{place}: {}", CheckWant(*fault)),
             Why::Address { address, cause } => write!(f, "{}", AddressLine(address, *cause)),

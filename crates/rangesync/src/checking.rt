@@ -4,16 +4,15 @@ ghost use Rattle.std.specs.Prelude.{◌≤◌, IfSome};
 ghost use Rattle.std.specs.Arc.{arc_value};
 ghost use Rattle.settings_core.specs.Spans.{IsItemLength};
 
+use crate::loading::strategy_of;
 use cost_core::{Sample, cost_of};
 use io_core::{Watched, write_output};
-use item_files::read_strategy;
-use printing_core::{Fault, accepted_text, checked_text, push_cost, push_sample};
+use printing_core::{Fault, Refusal, accepted_text, push_cost, push_sample};
 use std::alloc::Global;
 use std::io::Write;
 use std::rt::Files;
 use std::sync::Arc;
-use strategy_check::{Accepted, check};
-use strategy_core::Strategy;
+use strategy_check::Accepted;
 
 /// The numbers of differences of which the costs are printed.
 const DIFFERENCES: [u32; 5] = [1, 10, 100, 1_000, 10_000];
@@ -88,29 +87,28 @@ fn costs_text(alloc: Global, accepted: Accepted, pricing: Pricing) -> Result<Str
     Ok(text)
 }
 
-/// What `check` prints of a strategy: the steps of its least ranks, and what sessions cost where that is wanted.
-fn table_text(alloc: Global, strategy: Strategy, pricing: Pricing) -> Result<String, Fault>
+/// What `check` prints of a strategy that is accepted: the steps of its least ranks, and what sessions cost where that
+/// is wanted.
+fn table_text(alloc: Global, accepted: Accepted, pricing: Pricing) -> Result<String, Fault>
     requires { IfSome pricing.item_length IsItemLength }
 {
-    if !pricing.is_wanted {
-        return checked_text(alloc, strategy);
-    }
-    match check(alloc, strategy) {
-        Ok(accepted) => costs_text(alloc, accepted, pricing),
-        Err((_strategy, error)) => Err(Fault::from(error)),
+    if pricing.is_wanted {
+        costs_text(alloc, accepted, pricing)
+    } else {
+        Ok(accepted_text(alloc, accepted.steps())?)
     }
 }
 
 /// Checks the strategy in the file, and prints what is to be printed of it where it is accepted.
-pub(crate) fn check_table<R: Files + AllocGlobal, O: Write + Drop>(
+pub(crate) fn check_table<'a, R: Files + AllocGlobal, O: Write + Drop>(
     rt: &R,
-    path: &str,
+    path: &'a str,
     pricing: Pricing,
     out: O,
-) -> Result<(), Fault>
+) -> Result<(), Refusal<'a>>
     requires { IfSome pricing.item_length IsItemLength }
 {
-    let text = table_text(rt.alloc(), read_strategy(rt, path)?, pricing)?;
+    let text = table_text(rt.alloc(), strategy_of(rt, path)?, pricing)?;
     write_output(&mut Watched::new(out), text.as_bytes())?;
     Ok(())
 }

@@ -1,7 +1,9 @@
 //! Files of lines on a disk: opened, healed, locked, and written at their ends.
 
+use io_core::{Watched, write_output};
+use item_files::ReadFault;
 use line_file::{Device, LineFile, torn_length};
-use printing_core::{Fault, tell_torn};
+use printing_core::{Fault, Refusal, Unread, tell_torn};
 use std::alloc::Global;
 use std::cmp::Ordering;
 use std::fs::{File, OpenFile, OpenOptions, TryLockError};
@@ -60,25 +62,52 @@ fn identity_of(file: &File) -> Option<Identity> {
     })
 }
 
-/// Why a file is not opened.
-fn fault_of(error: &io::Error) -> Fault {
+/// The refusal of a file that is not opened to be written to, or not mended.
+fn unopened<'a>(path: &'a str, error: &io::Error) -> Refusal<'a> {
     match error.kind() {
-        ErrorKind::OutOfMemory => Fault::Memory,
-        _ => Fault::CannotRead,
+        ErrorKind::OutOfMemory => Refusal::from(Fault::Memory),
+        ErrorKind::InvalidData => Refusal::of_unread(path, Unread::NoLines),
+        _ => Refusal::of_unread(path, unopened_cause(error)),
+    }
+}
+
+/// Why a file is not opened to be written to.
+fn unopened_cause(error: &io::Error) -> Unread {
+    match ReadFault::of(error) {
+        ReadFault::NoMoreFiles => Unread::NoMoreFiles,
+        _ => Unread::Unwritable,
+    }
+}
+
+/// A file that was made for what is printed.
+#[derive(Drop)]
+pub struct NewFile<'a> {
+    path: &'a str,
+    file: File,
+}
+
+impl<'a> NewFile<'a> {
+    /// Writes all of this. Else `io write`.
+    pub fn print(self, text: &[u8]) -> Result<(), Refusal<'a>> {
+        let NewFile { path, file } = self;
+        match write_output(&mut Watched::new(file), text) {
+            Ok(()) => Ok(()),
+            Err(_failed) => Err(Refusal::of_unwritten(path)),
+        }
     }
 }
 
 /// Makes a file, or empties it if it is there, if a path is given. Else 80 or 90.
-pub fn create_file<R: Files<File = File>>(
+pub fn create_file<'a, R: Files<File = File>>(
     rt: &R,
-    path: Option<&str>,
-) -> Result<Option<File>, Fault> {
+    path: Option<&'a str>,
+) -> Result<Option<NewFile<'a>>, Refusal<'a>> {
     let Some(path) = path else {
         return Ok(None);
     };
     match fs::create(rt, path) {
-        Ok(file) => Ok(Some(file)),
-        Err(error) => Err(fault_of(&error)),
+        Ok(file) => Ok(Some(NewFile { path, file })),
+        Err(error) => Err(unopened(path, &error)),
     }
 }
 
@@ -120,12 +149,15 @@ fn is_special<R: Files>(rt: &R, path: &str) -> bool {
 
 /// Opens a regular file, made if it is not there, and locks it, so that no other server writes to it. A system that
 /// has no locks for it is passed over.
-fn open_locked<R: Files<File = File>>(rt: &R, path: &str) -> Result<File, Fault> {
+fn open_locked<'a, R: Files<File = File>>(rt: &R, path: &'a str) -> Result<File, Refusal<'a>> {
     let mut options = OpenOptions::new();
     options.read(true).append(true).create(true);
-    let file = options.open(rt, path).map_err(|error| fault_of(&error))?;
+    let file = match options.open(rt, path) {
+        Ok(file) => file,
+        Err(error) => return Err(unopened(path, &error)),
+    };
     match file.try_lock() {
-        Err(TryLockError::WouldBlock) => Err(Fault::CannotRead),
+        Err(TryLockError::WouldBlock) => Err(Refusal::of_unread(path, Unread::Locked)),
         _ => Ok(file),
     }
 }
@@ -146,10 +178,8 @@ impl Opened {
     }
 
     /// What the file holds, from its start.
-    pub fn reader(&mut self) -> Result<&File, Fault> {
-        self.file
-            .seek(SeekFrom::Start(0))
-            .map_err(|error| fault_of(&error))?;
+    pub fn reader(&mut self) -> io::Result<&File> {
+        self.file.seek(SeekFrom::Start(0))?;
         Ok(&self.file)
     }
 
@@ -206,28 +236,36 @@ fn mend(alloc: Global, file: &mut File, is_item_file: bool) -> io::Result<Mended
     }
 }
 
-/// Opens a file of lines to be written at its end; it is made if it is not there. A last line without its end is cut
-/// off, which standard error is told, or ended if the file is the item file. Refused 80 if it cannot be opened, read
-/// or mended, or if another process has it locked; or 90.
-pub fn open_lines<R: Files<File = File> + AllocGlobal, E: Write>(
-    rt: &R,
-    path: &str,
-    items: Option<ItemFile>,
-    err: &mut E,
-) -> Result<Opened, Fault> {
-    if is_special(rt, path) {
-        let file = OpenOptions::new().append(true).open(rt, path);
-        let file = file.map_err(|error| fault_of(&error))?;
-        return Ok(Opened {
+/// Opens a device, a pipe or a terminal to be written to.
+fn open_special<'a, R: Files<File = File>>(rt: &R, path: &'a str) -> Result<Opened, Refusal<'a>> {
+    match OpenOptions::new().append(true).open(rt, path) {
+        Ok(file) => Ok(Opened {
             file,
             length: 0,
             is_regular: false,
-        });
+        }),
+        Err(error) => Err(unopened(path, &error)),
+    }
+}
+
+/// Opens a file of lines to be written at its end; it is made if it is not there. A last line without its end is cut
+/// off, which standard error is told, or ended if the file is the item file. Refused 80 if it cannot be opened, read
+/// or mended, or if another process has it locked; or 90.
+pub fn open_lines<'a, R: Files<File = File> + AllocGlobal, E: Write>(
+    rt: &R,
+    path: &'a str,
+    items: Option<ItemFile>,
+    err: &mut E,
+) -> Result<Opened, Refusal<'a>> {
+    if is_special(rt, path) {
+        return open_special(rt, path);
     }
     let mut file = open_locked(rt, path)?;
     let is_item_file = items.is_some_and(|items| identity_of(&file) == Some(items.identity));
-    let mended = mend(rt.alloc(), &mut file, is_item_file);
-    let Mended { length, torn } = mended.map_err(|error| fault_of(&error))?;
+    let Mended { length, torn } = match mend(rt.alloc(), &mut file, is_item_file) {
+        Ok(mended) => mended,
+        Err(error) => return Err(unopened(path, &error)),
+    };
     if !torn.is_empty() {
         tell_torn(rt.alloc(), err, path, &torn);
     }

@@ -2,14 +2,12 @@
 
 ghost use Rattle.std.specs.Prelude.{◌≡◌, ◌≤◌, length, IfOk};
 ghost use Rattle.definitions.specs.Sets.{IsSet};
-ghost use Rattle.item_files.specs.Faults.{IsSetOf};
-ghost use Rattle.item_files.specs.Files.{IsFromFile};
 
 use crate::disk::{Opened, item_file, open_lines};
 use crate::reporting::Kept;
 use item_core::Item;
-use item_files::{ItemForm, SettingsFault, read_input_items, read_items, read_strategy};
-use printing_core::Fault;
+use item_files::{ItemForm, ReadFault, SettingsFault, read_input_items, read_items, read_strategy};
+use printing_core::{Fault, Refusal};
 use range_tree::Tree;
 use std::alloc::Global;
 use std::fs::File;
@@ -17,8 +15,7 @@ use std::io::{Read, Write};
 use std::rt::Files;
 use std::thread::Threads;
 use store_core::{laws, spans};
-use strategy_check::{Accepted, check};
-use strategy_core::Strategy;
+use strategy_check::Accepted;
 use version_log::Log;
 
 /// A strategy that was accepted, and a log of at most as many items as its cap.
@@ -32,11 +29,30 @@ pub struct Loaded {
     pub kept: Kept,
 }
 
-/// The strategy, with its least ranks, where it is accepted: else 37, 36 or 38.
-fn accepted(alloc: Global, strategy: Strategy) -> Result<Accepted, Fault> {
-    match check(alloc, strategy) {
+/// The strategy in the file, accepted. Else 80, 30 to 35 or 29, then 37, 36 or 38, and 90.
+pub fn strategy_of<'a, R: Files + AllocGlobal>(
+    rt: &R,
+    path: &'a str,
+) -> Result<Accepted, Refusal<'a>> {
+    match read_strategy(rt, path) {
         Ok(accepted) => Ok(accepted),
-        Err((_strategy, error)) => Err(Fault::from(error)),
+        Err(fault) => Err(Refusal::of_file(rt.alloc(), path, fault)),
+    }
+}
+
+/// The set of the items of the file: at most `cap`. Else 80, 81, then 82, and 90.
+pub fn items_of<'a, R: Files + AllocGlobal>(
+    rt: &R,
+    form: ItemForm,
+    path: &'a str,
+    cap: usize,
+) -> Result<Vec<Item>, Refusal<'a>>
+    ensures rises { IfOk result (λ v. IsSet v.items) }
+    ensures few { IfOk result (λ v. length v.items ≤ cap) }
+{
+    match read_items(rt, form, path, cap) {
+        Ok(items) => Ok(items),
+        Err(fault) => Err(Refusal::of_file(rt.alloc(), path, fault)),
     }
 }
 
@@ -53,38 +69,39 @@ pub struct Sources<'a> {
     pub keep: Option<&'a str>,
 }
 
-impl Sources<'_> {
+impl<'a> Sources<'a> {
     /// The path of the item file, if the items are in a file.
-    fn item_path(&self) -> Option<&str> {
+    fn item_path(&self) -> Option<&'a str> {
         self.items.filter(|path| *path != "-")
     }
 }
 
-/// The set of the items of the file, or of the input.
-fn item_set<R: Files + AllocGlobal, I: Read + Drop>(
+/// The set of the items of the file, or of the input. Else 80, 81, then 82, and 90.
+fn item_set<'a, R: Files + AllocGlobal, I: Read + Drop>(
     rt: &R,
     form: ItemForm,
-    items: &str,
+    items: &'a str,
     reader: I,
     cap: usize,
-) -> Result<Vec<Item>, SettingsFault>
-    ensures set { IsFromFile (λ text. IsSetOf (λ v. v.items) form text cap) result }
+) -> Result<Vec<Item>, Refusal<'a>>
     ensures rises { IfOk result (λ v. IsSet v.items) }
     ensures few { IfOk result (λ v. length v.items ≤ cap) }
 {
-    if items == "-" {
-        read_input_items(rt.alloc(), form, reader, cap)
-    } else {
-        read_items(rt, form, items, cap)
+    if items != "-" {
+        return items_of(rt, form, items, cap);
+    }
+    match read_input_items(rt.alloc(), form, reader, cap) {
+        Ok(items) => Ok(items),
+        Err(fault) => Err(Refusal::of_input(rt.alloc(), fault)),
     }
 }
 
 /// Opens and heals the file in which the set is kept, if there is one. Else 80 or 90.
-fn open_kept<R: Files<File = File> + AllocGlobal, E: Write>(
+fn open_kept<'a, R: Files<File = File> + AllocGlobal, E: Write>(
     rt: &R,
-    sources: Sources<'_>,
+    sources: Sources<'a>,
     err: &mut E,
-) -> Result<Kept, Fault> {
+) -> Result<Kept, Refusal<'a>> {
     let items = sources.item_path().and_then(|path| item_file(rt, path));
     let opened = match sources.keep {
         Some(path) => Some(open_lines(rt, path, items, err)?),
@@ -93,21 +110,45 @@ fn open_kept<R: Files<File = File> + AllocGlobal, E: Write>(
     Ok(Kept { opened, items })
 }
 
-/// The set of the items of the file in which it is kept, if there is one.
-fn kept_set(
+/// The items of a file that is open.
+fn reread(
     alloc: Global,
-    opened: &mut Option<Opened>,
+    opened: &mut Opened,
     form: ItemForm,
     cap: usize,
-) -> Result<Vec<Item>, Fault> {
-    match opened {
-        Some(opened) => Ok(read_input_items(alloc, form, opened.reader()?, cap)?),
-        None => Ok(Vec::new(alloc)),
+) -> Result<Vec<Item>, SettingsFault> {
+    match opened.reader() {
+        Ok(reader) => read_input_items(alloc, form, reader, cap),
+        Err(error) => Err(SettingsFault::CannotRead(ReadFault::of(&error))),
+    }
+}
+
+/// The set of the items of the file in which it is kept, if there is one. Else 80, 81, then 82, and 90.
+fn kept_set<'a>(
+    alloc: Global,
+    sources: Sources<'a>,
+    opened: &mut Option<Opened>,
+    cap: usize,
+) -> Result<Vec<Item>, Refusal<'a>> {
+    let Some(opened) = opened else {
+        return Ok(Vec::new(alloc));
+    };
+    match reread(alloc, opened, sources.form, cap) {
+        Ok(items) => Ok(items),
+        Err(fault) => Err(kept_refusal(alloc, sources.keep, fault)),
+    }
+}
+
+/// The refusal of the file in which the set is kept.
+fn kept_refusal<'a>(alloc: Global, keep: Option<&'a str>, fault: SettingsFault) -> Refusal<'a> {
+    match keep {
+        Some(path) => Refusal::of_file(alloc, path, fault),
+        None => Refusal::from(Fault::from(fault)),
     }
 }
 
 /// The set of the items of both. Else 82 where there are more different items than `cap`, or 90.
-fn joined(items: Vec<Item>, more: &[Item], cap: usize) -> Result<Vec<Item>, Fault>
+fn joined(items: Vec<Item>, more: &[Item], cap: usize) -> Result<Vec<Item>, SettingsFault>
     ensures rises { IfOk result (λ v. IsSet v.items) }
     ensures few { IfOk result (λ v. length v.items ≤ cap) }
 {
@@ -116,9 +157,26 @@ fn joined(items: Vec<Item>, more: &[Item], cap: usize) -> Result<Vec<Item>, Faul
     items.extend_from_slice(more)?;
     let items = spans::distinct(items);
     if items.len() > cap {
-        return Err(Fault::TooManyItems);
+        return Err(SettingsFault::TooManyItems { cap });
     }
     Ok(items)
+}
+
+/// The set of the items of both, of which the second are those of the file in which the set is kept.
+fn joined_set<'a>(
+    alloc: Global,
+    items: Vec<Item>,
+    more: &[Item],
+    keep: Option<&'a str>,
+    cap: usize,
+) -> Result<Vec<Item>, Refusal<'a>>
+    ensures rises { IfOk result (λ v. IsSet v.items) }
+    ensures few { IfOk result (λ v. length v.items ≤ cap) }
+{
+    match joined(items, more, cap) {
+        Ok(items) => Ok(items),
+        Err(fault) => Err(kept_refusal(alloc, keep, fault)),
+    }
 }
 
 /// The strategy in one file and a log of the items in the others, or in the input. Up to four threads hash the items.
@@ -126,24 +184,24 @@ fn joined(items: Vec<Item>, more: &[Item], cap: usize) -> Result<Vec<Item>, Faul
 /// The strategy is judged first: 80, 30 to 35 or 29, then 37, 36 or 38. Then the items are: 80, 81, then 82 where there
 /// are more different items than the strategy's cap; and then those of the file in which the set is kept, in the same
 /// way.
-pub fn load<R: Files<File = File> + AllocGlobal + Threads + Sync, I: Read + Drop, E: Write>(
+pub fn load<'a, R: Files<File = File> + AllocGlobal + Threads + Sync, I: Read + Drop, E: Write>(
     rt: &R,
-    sources: Sources<'_>,
+    sources: Sources<'a>,
     reader: I,
     err: &mut E,
-) -> Result<Loaded, Fault>
+) -> Result<Loaded, Refusal<'a>>
     ensures { IfOk result (λ o. o.log.cap ≡ o.accepted.table.cap) }
 {
     let alloc = rt.alloc();
-    let accepted = accepted(alloc, read_strategy(rt, sources.table)?)?;
+    let accepted = strategy_of(rt, sources.table)?;
     let cap = accepted.cap() as usize;
     let items = match sources.items {
         Some(items) => item_set(rt, sources.form, items, reader, cap)?,
         None => Vec::new(alloc),
     };
     let mut kept = open_kept(rt, sources, err)?;
-    let more = kept_set(alloc, &mut kept.opened, sources.form, cap)?;
-    let items = joined(items, &more, cap)?;
+    let more = kept_set(alloc, sources, &mut kept.opened, cap)?;
+    let items = joined_set(alloc, items, &more, sources.keep, cap)?;
     let store = Tree::from_rising_on(rt, alloc, &items)?;
     let log = Log::of_store(alloc, accepted.cap(), &items, store)?;
     Ok(Loaded {

@@ -1,23 +1,23 @@
 //! The program `rangesync`.
 #![tactic(auto)]
 
-mod bad_line;
 mod book;
+mod callers;
 mod checking;
 mod disk;
 mod limits;
 mod loading;
+mod logging;
 mod metering;
+mod naming;
 mod planning;
 mod reaching;
 mod reporting;
-mod row;
 mod run;
 mod serve;
 mod stdio;
 mod sync;
-mod why;
-mod why_address;
+mod watching;
 
 use printing_core::{Fault, tell, tell_no_text};
 use run::{StandardError, StandardInput};
@@ -37,7 +37,7 @@ fn status<R, I: Read + IsTerminal + Drop, O: Write + Drop, E: Write + IsTerminal
     rt: &R,
     reader: I,
     out: O,
-    err: E,
+    (err, log): (E, E),
 ) -> u8
 where
     R: Env
@@ -65,6 +65,7 @@ where
             let is_terminal = err.is_terminal();
             let err = StandardError {
                 writer: err,
+                log,
                 is_terminal,
             };
             run::run(rt, words.as_slice(), reader, out, err)
@@ -74,5 +75,6 @@ where
 }
 
 fn main(rt: HostRuntime) -> ExitCode {
-    ExitCode::from(status(&rt, rt.stdin(), rt.stdout(), rt.stderr()))
+    let errors = (rt.stderr(), rt.stderr());
+    ExitCode::from(status(&rt, rt.stdin(), rt.stdout(), errors))
 }

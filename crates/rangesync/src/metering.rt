@@ -1,5 +1,6 @@
 //! Counting what goes over a connection: bytes, and by their frames the messages and parts.
 
+use digest_core::{Counted, Fingerprint, Summary};
 use printing_core::Tally;
 use std::io;
 use std::io::{Read, Write};
@@ -24,6 +25,8 @@ const END: u8 = 4;
 #[derive(Clone, Copy, Debug, PartialEq, Eq)]
 struct Meter {
     place: Place,
+    /// The number that the bytes of the hello spell, as far as they were seen.
+    hello: u32,
     tally: Tally,
 }
 
@@ -35,6 +38,7 @@ impl Meter {
     fn new() -> Meter {
         Meter {
             place: Place::Hello(4),
+            hello: 0,
             tally: Tally {
                 messages: 0,
                 parts: 0,
@@ -55,8 +59,14 @@ impl Meter {
     /// The place after this byte, at which a frame may be whole.
     fn step(&mut self, byte: u8) {
         self.place = match self.place {
-            Place::Hello(left) if left > 1 => Place::Hello(left - 1),
-            Place::Hello(_) => NEXT,
+            Place::Hello(left) => {
+                self.hello = self.hello << 8 | u32::from(byte);
+                if left > 1 {
+                    Place::Hello(left - 1)
+                } else {
+                    NEXT
+                }
+            }
             Place::Length { left, length } => {
                 let length = length << 8 | u32::from(byte);
                 if left > 1 {
@@ -110,6 +120,18 @@ impl<T> Metered<T> {
     /// What went through.
     pub fn tally(&self) -> Tally {
         self.meter.tally
+    }
+
+    /// The wire profile, 1 or 2, of the hello that went through, if one did.
+    pub fn profile(&self) -> Option<u64> {
+        let hello = self.meter.hello.to_be_bytes();
+        if hello == Fingerprint::hello() {
+            Some(1)
+        } else if hello == Counted::hello() {
+            Some(2)
+        } else {
+            None
+        }
     }
 }
 

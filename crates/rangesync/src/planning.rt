@@ -8,7 +8,7 @@ ghost use Rattle.settings_core.specs.Spans.{IsItemCount, IsItemLength, IsRate};
 use crate::checking::length_of;
 use cost_core::{Line, Planned, Sample, Task, quickest, searched};
 use io_core::{Watched, write_output};
-use printing_core::{Fault, push_plan};
+use printing_core::{Fault, Refusal, push_plan};
 use std::io::Write;
 use std::time::Clock;
 
@@ -130,7 +130,7 @@ pub(crate) fn plan<R: Clock + AllocGlobal, O: Write + Drop>(
     rt: &R,
     planning: Planning,
     out: O,
-) -> Result<(), Fault>
+) -> Result<(), Refusal<'static>>
     requires items { IfSome planning.items IsItemCount }
     requires item_length { IfSome planning.item_length IsItemLength }
     requires rate { IfSome planning.rate IsRate }

@@ -26,7 +26,7 @@ where
 
 /// Connects to the address of this word. A read or a write that takes longer than this many seconds fails, and so does
 /// a connect over TCP. Else 61 or 90.
-pub fn connect_to<R: Net<Stream = TcpStream>>(
+pub fn connect_to<R: Files + Net<Stream = TcpStream>>(
     rt: &R,
     word: &str,
     patience: u32,

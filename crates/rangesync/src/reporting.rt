@@ -7,11 +7,12 @@ use item_core::Item;
 use item_files::ItemForm;
 use line_file::Device;
 use peer_threads::{Gate, Outcome};
-use printing_core::{Fault, Reporting, learned_line, left_out_line, report_text, tell_full};
+use printing_core::{Refusal, Reporting, learned_line, left_out_line, report_text, tell_full};
 use std::alloc::Global;
 use std::fs::File;
 use std::io::Write;
 use std::rt::Files;
+use std::sync::atomic::{AtomicU64, Ordering};
 use std::sync::{Condvar, Mutex, Wait};
 use std::time::{Clock, Duration};
 use version_log::LogFault;
@@ -73,7 +74,7 @@ fn open_book<'a, R: Files<File = File> + AllocGlobal, E: Write>(
     (option, path): (&'a str, Option<&'a str>),
     items: Option<ItemFile>,
     err: &mut E,
-) -> Result<Option<Book<'a, Disk<File>>>, Fault> {
+) -> Result<Option<Book<'a, Disk<File>>>, Refusal<'a>> {
     let Some(path) = path else {
         return Ok(None);
     };
@@ -88,7 +89,7 @@ pub fn open_books<'a, R: Files<File = File> + AllocGlobal, E: Write>(
     paths: Paths<'a>,
     kept: Kept,
     err: &mut E,
-) -> Result<DiskBooks<'a>, Fault> {
+) -> Result<DiskBooks<'a>, Refusal<'a>> {
     let Kept { opened, items } = kept;
     let report = open_book(rt, ("report", paths.report), None, err)?;
     let learned = open_book(rt, ("learned", paths.learned), items, err)?;
@@ -246,6 +247,9 @@ pub struct Reporter<'r, 'a, R: Wait, D, E> {
     desk: Mutex<Desk<'a, D, E>>,
     is_over: Mutex<bool>,
     ended: Condvar,
+    /// How many items were put in, and how many were dropped, for those who watch.
+    inserted: AtomicU64,
+    dropped: AtomicU64,
 }
 
 impl<'r, 'a, R: Wait, D: Device + Drop, E: Write + Drop> Reporter<'r, 'a, R, D, E> {
@@ -272,7 +276,19 @@ impl<'r, 'a, R: Wait, D: Device + Drop, E: Write + Drop> Reporter<'r, 'a, R, D, 
             desk: Mutex::new(desk),
             is_over: Mutex::new(false),
             ended: Condvar::new(),
+            inserted: AtomicU64::new(0),
+            dropped: AtomicU64::new(0),
         }
+    }
+
+    /// How many items of peers were put into the log.
+    pub fn inserted(&self) -> u64 {
+        self.inserted.load(Ordering::SeqCst)
+    }
+
+    /// How many items of peers were dropped.
+    pub fn dropped_so_far(&self) -> u64 {
+        self.dropped.load(Ordering::SeqCst)
     }
 
     /// Whether something is written that may have to be tried again.
@@ -296,6 +312,8 @@ impl<'r, 'a, R: Wait, D: Device + Drop, E: Write + Drop> Reporter<'r, 'a, R, D, 
             desk,
             is_over: _,
             ended: _,
+            inserted: _,
+            dropped: _,
         } = self;
         desk.into_inner().close()
     }
@@ -344,10 +362,12 @@ impl<R: Wait, D: Device + Drop, E: Write + Drop> Gate for Reporter<'_, '_, R, D,
 
     fn took(&self, item: &Item) {
         let form = self.rules.reporting.form;
+        self.inserted.fetch_add(1, Ordering::SeqCst);
         self.desk.lock(self.rt).learn(self.alloc, form, item);
     }
 
     fn dropped(&self, fault: LogFault, count: usize) {
+        self.dropped.fetch_add(count as u64, Ordering::SeqCst);
         self.desk.lock(self.rt).drop_more(fault, count, self.cap);
     }
 

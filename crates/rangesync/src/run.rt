@@ -6,20 +6,22 @@ ghost use Rattle.settings_core.specs.Spans.{AreInSpan};
 
 use crate::checking::{Pricing, check_table};
 use crate::limits::{PeerWords, limits_of};
-use crate::loading::{Sources, load};
+use crate::loading::{Sources, items_of, load};
+use crate::naming::{set_of, told_of};
 use crate::planning::{Planning, plan};
 use crate::reporting::{Paths, Rules};
-use crate::serve::{Serving, serve};
+use crate::serve::{Outputs, Serving, Watching, serve};
 use crate::stdio::{flaw_of, serve_stdio, sync_stdio};
 use crate::sync::{Asking, sync};
-use crate::why::explain;
 use answer_core::{answer, list_reply};
 use io_core::{Watched, read_input, write_output};
-use item_files::read_items;
+use item_files::ItemForm;
 use printing_core::{
-    Fault, Reporting, decode_text, encode_lines, tell, tell_stdio_flaw, tell_words,
+    Fault, Refusal, Reporting, Why, decode_text, encode_lines, tell, tell_name_flaw,
+    tell_stdio_flaw, tell_why, tell_words,
 };
 use settings_core::{Call, Command, read_words};
+use shard_core::SetName;
 use sim_core::{scenario_of, sim_text};
 use std::alloc::Global;
 use std::convert::AsStr;
@@ -77,22 +79,49 @@ fn answer_in<I: Read + Drop, O: Write + Drop>(
     }
 }
 
+/// Answers the message of the input, in hex or in bytes, for the items of the file.
+fn answer_for<'a, R: Files + AllocGlobal, I: Read + Drop, O: Write + Drop>(
+    rt: &R,
+    hexed: bool,
+    (form, path): (ItemForm, &'a str),
+    reader: I,
+    out: O,
+) -> Result<(), Refusal<'a>> {
+    let items = items_of(rt, form, path, MAX_ITEMS)?;
+    let store = FlatStore::from_rising(rt.alloc(), &items)?;
+    match answer_in(rt.alloc(), hexed, &store, reader, out) {
+        Ok(()) => Ok(()),
+        Err(fault) => Err(Refusal::of_message(hexed, fault)),
+    }
+}
+
 /// Runs the scenario of the input, and prints what is shown of its sessions.
-fn sim<I: Read + Drop, O: Write + Drop>(alloc: Global, reader: I, out: O) -> Result<(), Fault> {
+fn sim<I: Read + Drop, O: Write + Drop>(
+    alloc: Global,
+    reader: I,
+    out: O,
+) -> Result<(), Refusal<'static>> {
     let input = read_input(alloc, &mut Watched::new(reader))?;
     let text = sim_text(alloc, scenario_of(alloc, &input)?)?;
     write_output(&mut Watched::new(out), text.as_bytes())?;
     Ok(())
 }
 
+/// What is to be done, and the name of the set that it is done with, as the other side is told it.
+#[derive(Clone, Copy)]
+struct Task<'a> {
+    command: Command<'a>,
+    set: Option<SetName<'a>>,
+}
+
 /// Does what the words ask for.
-fn obey<R, I: Read + Drop, O: Write + Drop, E: Write + Send>(
-    rt: &R,
-    command: Command<'_>,
+fn obey<'a, R, I: Read + Drop, O: Write + Drop, E: Write + Drop + Send>(
+    rt: &'a R,
+    task: Task<'a>,
     reader: I,
-    out: O,
+    outputs: Outputs<O, E>,
     err: &mut E,
-) -> Result<(), Fault>
+) -> Result<(), Refusal<'a>>
 where
     R: Files<File = File>
         + Net<Listener = TcpListener, Stream = TcpStream>
@@ -101,13 +130,12 @@ where
         + Clock
         + AllocGlobal
         + Sync,
-    requires { AreInSpan command }
+    requires { AreInSpan task.command }
 {
+    let Task { command, set } = task;
     match command {
         Command::Answer { hexed, form, items } => {
-            let items = read_items(rt, form, items, MAX_ITEMS)?;
-            let store = FlatStore::from_rising(rt.alloc(), &items)?;
-            answer_in(rt.alloc(), hexed, &store, reader, out)
+            answer_for(rt, hexed, (form, items), reader, outputs.out)
         }
         Command::Check {
             cost,
@@ -120,7 +148,7 @@ where
                 items,
                 item_length,
             };
-            check_table(rt, file, pricing, out)
+            check_table(rt, file, pricing, outputs.out)
         }
         Command::Plan {
             items,
@@ -138,13 +166,14 @@ where
                 rate,
                 search,
             };
-            plan(rt, planning, out)
+            plan(rt, planning, outputs.out)
         }
-        Command::Sim => sim(rt.alloc(), reader, out),
+        Command::Sim => sim(rt.alloc(), reader, outputs.out),
         Command::Serve {
             table,
             address,
             stdio,
+            set: _,
             workers,
             sessions,
             patience,
@@ -159,6 +188,8 @@ where
             most_learned,
             read_only,
             report_items,
+            metrics,
+            log,
             form,
             items,
         } => {
@@ -186,6 +217,8 @@ where
                     most_learned: if read_only { Some(0) } else { most_learned },
                     is_durable: durable,
                 },
+                watching: Watching { metrics, log },
+                set,
             };
             let sources = Sources {
                 table,
@@ -195,15 +228,17 @@ where
             };
             if stdio {
                 let loaded = load(rt, sources, io::empty(), err)?;
-                serve_stdio(rt, loaded, serving, (reader, out), err)
+                serve_stdio(rt, loaded, serving, (reader, outputs.out), err)
             } else {
-                serve(rt, load(rt, sources, reader, err)?, serving, out, err)
+                let loaded = load(rt, sources, reader, err)?;
+                serve(rt, loaded, serving, outputs, err)
             }
         }
         Command::Sync {
             table,
             address,
             stdio,
+            set: _,
             out: file,
             profile,
             patience,
@@ -222,6 +257,7 @@ where
                 },
                 stats,
                 out: file,
+                set,
             };
             let sources = Sources {
                 table,
@@ -231,9 +267,10 @@ where
             };
             if stdio {
                 let loaded = load(rt, sources, io::empty(), err)?;
-                sync_stdio(rt, loaded, asking, (reader, out), err)
+                sync_stdio(rt, loaded, asking, (reader, outputs.out), err)
             } else {
-                sync(rt, load(rt, sources, reader, err)?, asking, out, err)
+                let loaded = load(rt, sources, reader, err)?;
+                sync(rt, loaded, asking, outputs.out, err)
             }
         }
     }
@@ -245,6 +282,8 @@ where
 pub struct StandardError<E> {
     /// What takes the lines.
     pub writer: E,
+    /// What takes the lines of a log: a second way to the same place.
+    pub log: E,
     /// Whether it is a terminal.
     pub is_terminal: bool,
 }
@@ -256,6 +295,13 @@ pub struct StandardInput<I> {
     pub reader: I,
     /// Whether it is a terminal.
     pub is_terminal: bool,
+}
+
+/// Prints the second line of a refusal, where there is something to say.
+fn tell_second<E: Write>(err: &mut E, why: Option<Why<'_>>) {
+    if let Some(why) = why {
+        tell_why(err, &why);
+    }
 }
 
 /// Runs the program on these words, of which the first is its own name, and gives the status: 0 done, 1 refused, 2 for
@@ -282,6 +328,7 @@ where
 {
     let StandardError {
         writer: mut err,
+        log,
         is_terminal,
     } = err;
     let Call { command, explains } = match read_words(rt.alloc(), words) {
@@ -291,12 +338,20 @@ where
     if let Some(flaw) = flaw_of(command, input.is_terminal) {
         return tell_stdio_flaw(err, flaw);
     }
-    match obey(rt, command, input.reader, out, &mut err) {
+    let told = match told_of(rt.alloc(), command) {
+        Ok(told) => told,
+        Err(refused) => return tell(err, Fault::from(refused)),
+    };
+    let Ok(set) = set_of(&told) else {
+        return tell_name_flaw(err);
+    };
+    let task = Task { command, set };
+    match obey(rt, task, input.reader, Outputs { out, log }, &mut err) {
         Ok(()) => 0,
-        Err(fault) => {
+        Err(Refusal { fault, why }) => {
             let status = tell(&mut err, fault);
             if explains || is_terminal {
-                explain(rt, command, fault, &mut err);
+                tell_second(&mut err, why);
             }
             status
         }

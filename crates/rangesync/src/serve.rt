@@ -7,14 +7,19 @@ ghost use Rattle.settings_core.specs.Spans.{IsWorkerCount};
 use crate::disk::Disk;
 use crate::limits::places;
 use crate::loading::Loaded;
+use crate::logging::log_all;
 use crate::reaching::listen_at;
 use crate::reporting::{Closed, Paths, Reporter, Rules, open_books};
+use crate::watching::{Beginning, Window, open_window, watch};
 use io_core::{Watched, WriterFailed, write_output};
-use peer_loops::{PeerLimits, serve_peers};
+use peer_loops::{Board, PeerLimits, Service, serve_peers};
 use peer_threads::{Report, Shared};
-use printing_core::{Fault, listening_line, refusal_of, served_text, tell_address, tell_dropped};
+use printing_core::{
+    Fault, Refusal, listening_line, refusal_of, served_text, tell_address, tell_dropped,
+};
 use range_tree::Tree;
 use session_table::SessionTable;
+use shard_core::SetName;
 use std::alloc::Global;
 use std::fs::File;
 use std::io::Write;
@@ -41,6 +46,28 @@ pub struct Serving<'a> {
     pub paths: Paths<'a>,
     /// What is written to them, and how much of a session is put into the log.
     pub rules: Rules,
+    /// How those see it who watch it.
+    pub watching: Watching<'a>,
+    /// What the set is called, if peers have to say it.
+    pub set: Option<SetName<'a>>,
+}
+
+/// How a server is watched.
+#[derive(Clone, Copy)]
+pub struct Watching<'a> {
+    /// The address at which metrics and a page answer HTTP, if there is one.
+    pub metrics: Option<&'a str>,
+    /// Whether standard error gets a line for each session.
+    pub log: bool,
+}
+
+/// What a server prints to: its output, and a second way to standard error, for its log.
+#[derive(Drop)]
+pub struct Outputs<O, E> {
+    /// The output.
+    pub out: O,
+    /// Standard error.
+    pub log: E,
 }
 
 /// Says at once that this address is listened at. Where the system chose the port, the real address goes to standard
@@ -51,7 +78,7 @@ fn announce<O: Write, E: Write>(
     real: Option<SocketAddr>,
     out: &mut O,
     err: &mut E,
-) -> Result<(), Fault> {
+) -> Result<(), Refusal<'static>> {
     let line = listening_line(alloc, address)?;
     write_output(&mut Watched::new(&mut *out), line.as_bytes())?;
     out.flush().map_err(|_| WriterFailed)?;
@@ -59,6 +86,83 @@ fn announce<O: Write, E: Write>(
         tell_address(err, real);
     }
     Ok(())
+}
+
+/// Says at which addresses a server listens: that of sessions, and that of the window if there is one.
+fn announce_doors<R, O: Write, E: Write>(
+    alloc: Global,
+    address: &str,
+    doors: (&Listener<'_, R>, Option<&Window<'_, R>>),
+    out: &mut O,
+    err: &mut E,
+) -> Result<(), Refusal<'static>> {
+    let (listener, window) = doors;
+    announce(alloc, address, listener.local_addr(), out, err)?;
+    if let Some(window) = window {
+        window.announce(alloc, out, err)?;
+    }
+    Ok(())
+}
+
+/// Opens the window of a server that listens already, if one is asked for, and says at which addresses it listens. Else
+/// 60, 90 or `io write`.
+fn open_beside<'a, R, O: Write, E: Write>(
+    rt: &'a R,
+    serving: Serving<'a>,
+    (listener, beginning): (&Listener<'a, R>, Beginning<'a>),
+    out: &mut O,
+    err: &mut E,
+) -> Result<Option<Window<'a, R>>, Refusal<'a>>
+where
+    R: Files + Net<Listener = TcpListener, Stream = TcpStream> + Clock + AllocGlobal,
+{
+    let window = open_window(rt, serving.watching.metrics, beginning)?;
+    let doors = (listener, window.as_ref());
+    let announced = announce_doors(rt.alloc(), serving.address, doors, out, err);
+    if let Err(refusal) = announced {
+        if let Some(window) = &window {
+            window.remove_file(rt);
+        }
+        return Err(refusal);
+    }
+    Ok(window)
+}
+
+/// Listens at the addresses of a server, and says so. Else 60, 90 or `io write`; and no file of a socket is left.
+fn open_doors<'a, R, O: Write, E: Write>(
+    rt: &'a R,
+    serving: Serving<'a>,
+    beginning: Beginning<'a>,
+    out: &mut O,
+    err: &mut E,
+) -> Result<(Listener<'a, R>, Option<Window<'a, R>>), Refusal<'a>>
+where
+    R: Files + Net<Listener = TcpListener, Stream = TcpStream> + Clock + AllocGlobal,
+{
+    let limits = Limits {
+        patience: serving.limits.patience,
+        most_bytes: serving.limits.most_bytes,
+    };
+    let address = serving.address;
+    let listener = match listen_at(rt, address, serving.sessions, limits) {
+        Ok(listener) => listener,
+        Err(fault) => return Err(Refusal::of_listen(address, fault)),
+    };
+    match open_beside(rt, serving, (&listener, beginning), out, err) {
+        Ok(window) => Ok((listener, window)),
+        Err(refusal) => {
+            listener.remove_file(rt);
+            Err(refusal)
+        }
+    }
+}
+
+/// Removes the files of the sockets of a server, if they have any.
+fn remove_files<R, F: Files>(rt: &F, listener: &Listener<'_, R>, window: Option<&Window<'_, R>>) {
+    listener.remove_file(rt);
+    if let Some(window) = window {
+        window.remove_file(rt);
+    }
 }
 
 /// The gate of a server: it writes to the files of a disk.
@@ -70,7 +174,7 @@ fn work<R, E: Write + Drop + Send>(
     shared: &Shared<'_, Tree, Desk<'_, '_, R, E>>,
     seat: Seat<Tree>,
     listener: &Listener<'_, R>,
-    serving: (u8, PeerLimits),
+    service: Service<'_>,
 ) -> Report
 where
     R: Net<Listener = TcpListener, Stream = TcpStream>
@@ -81,11 +185,12 @@ where
         + Sync,
     requires lock { seat.table_id ≡ shared.now.lock.now }
     requires fits { seat.view.cap ≤ (arc_value shared.now.accepted.now).table.cap }
-    requires workers { IsWorkerCount serving.0 }
+    requires workers { IsWorkerCount service.loops }
 {
     let mut seat = seat;
-    let report = serve_peers(rt, shared, &mut seat, listener, serving);
+    let report = serve_peers(rt, shared, &mut seat, listener, service);
     shared.gate.end();
+    service.board.end(rt);
     report
 }
 
@@ -95,7 +200,7 @@ fn work_beside<R, E: Write + Drop + Send>(
     shared: &Shared<'_, Tree, Desk<'_, '_, R, E>>,
     seat: Seat<Tree>,
     listener: &Listener<'_, R>,
-    serving: (u8, PeerLimits),
+    service: Service<'_>,
 ) -> Report
 where
     R: Net<Listener = TcpListener, Stream = TcpStream>
@@ -106,7 +211,7 @@ where
         + Sync,
     requires lock { seat.table_id ≡ shared.now.lock.now }
     requires fits { seat.view.cap ≤ (arc_value shared.now.accepted.now).table.cap }
-    requires workers { IsWorkerCount serving.0 }
+    requires workers { IsWorkerCount service.loops }
 {
     let gate = shared.gate;
     // If no thread can be made for the first, it runs after the second, and returns at once.
@@ -115,8 +220,8 @@ where
         move || gate.keep_trying(),
         move || -> Report
             requires { (seat.table_id ≡ shared.now.lock.now)
-                × (seat.view.cap ≤ (arc_value shared.now.accepted.now).table.cap) × IsWorkerCount serving.0 }
-        { work(rt, shared, seat, listener, serving) },
+                × (seat.view.cap ≤ (arc_value shared.now.accepted.now).table.cap) × IsWorkerCount service.loops }
+        { work(rt, shared, seat, listener, service) },
     );
     report
 }
@@ -127,7 +232,7 @@ fn work_and_write<R, E: Write + Drop + Send>(
     shared: &Shared<'_, Tree, Desk<'_, '_, R, E>>,
     seat: Seat<Tree>,
     listener: &Listener<'_, R>,
-    serving: (u8, PeerLimits),
+    service: Service<'_>,
 ) -> Report
 where
     R: Net<Listener = TcpListener, Stream = TcpStream>
@@ -138,13 +243,84 @@ where
         + Sync,
     requires lock { seat.table_id ≡ shared.now.lock.now }
     requires fits { seat.view.cap ≤ (arc_value shared.now.accepted.now).table.cap }
-    requires workers { IsWorkerCount serving.0 }
+    requires workers { IsWorkerCount service.loops }
 {
     if shared.gate.may_wait() {
-        work_beside(rt, shared, seat, listener, serving)
+        work_beside(rt, shared, seat, listener, service)
     } else {
-        work(rt, shared, seat, listener, serving)
+        work(rt, shared, seat, listener, service)
     }
+}
+
+/// The same; beside it a line is printed for each session, if that is asked for.
+fn work_and_log<R, E: Write + Drop + Send, L: Write + Drop + Send>(
+    rt: &R,
+    shared: &Shared<'_, Tree, Desk<'_, '_, R, E>>,
+    seat: Seat<Tree>,
+    listener: &Listener<'_, R>,
+    service: Service<'_>,
+    log: Option<L>,
+) -> Report
+where
+    R: Net<Listener = TcpListener, Stream = TcpStream>
+        + Threads
+        + Wait
+        + Clock
+        + AllocGlobal
+        + Sync,
+    requires lock { seat.table_id ≡ shared.now.lock.now }
+    requires fits { seat.view.cap ≤ (arc_value shared.now.accepted.now).table.cap }
+    requires workers { IsWorkerCount service.loops }
+{
+    let Some(log) = log else {
+        return work_and_write(rt, shared, seat, listener, service);
+    };
+    let board = service.board;
+    let (_logged, report) = join(
+        rt,
+        move || log_all(rt, rt.alloc(), board, log),
+        move || -> Report
+            requires { (seat.table_id ≡ shared.now.lock.now)
+                × (seat.view.cap ≤ (arc_value shared.now.accepted.now).table.cap) × IsWorkerCount service.loops }
+        { work_and_write(rt, shared, seat, listener, service) },
+    );
+    report
+}
+
+/// The same; beside it those are answered who watch the server, if there is a window.
+fn work_and_show<R, E: Write + Drop + Send, L: Write + Drop + Send>(
+    rt: &R,
+    shared: &Shared<'_, Tree, Desk<'_, '_, R, E>>,
+    seat: Seat<Tree>,
+    doors: (&Listener<'_, R>, Option<&Window<'_, R>>),
+    service: Service<'_>,
+    log: Option<L>,
+) -> Report
+where
+    R: Net<Listener = TcpListener, Stream = TcpStream>
+        + Threads
+        + Wait
+        + Clock
+        + AllocGlobal
+        + Sync,
+    requires lock { seat.table_id ≡ shared.now.lock.now }
+    requires fits { seat.view.cap ≤ (arc_value shared.now.accepted.now).table.cap }
+    requires workers { IsWorkerCount service.loops }
+{
+    let (listener, window) = doors;
+    let Some(window) = window else {
+        return work_and_log(rt, shared, seat, listener, service, log);
+    };
+    let board = service.board;
+    let (_shown, report) = join(
+        rt,
+        move || watch(rt, window, shared, board),
+        move || -> Report
+            requires { (seat.table_id ≡ shared.now.lock.now)
+                × (seat.view.cap ≤ (arc_value shared.now.accepted.now).table.cap) × IsWorkerCount service.loops }
+        { work_and_log(rt, shared, seat, listener, service, log) },
+    );
+    report
 }
 
 /// The refusal of a run whose workers ended so, and whose files were closed so.
@@ -161,15 +337,17 @@ fn ending(report: Report, closed: Closed) -> Result<(), Fault> {
 /// goes to its files; what cannot be written waits, and is tried again at the next line and each second. Standard error
 /// is told when that begins and when it goes on, and at the end how many learned items were dropped, if any were.
 ///
+/// Where it is asked for, those who watch are answered, and standard error gets a line for each session.
+///
 /// Else 90, 80, 60, or `io write`; and after what was counted 62, or 90 where no worker started, or `io write` where
 /// lines of a file are lost.
-pub fn serve<R, O: Write + Drop, E: Write + Send>(
-    rt: &R,
+pub fn serve<'a, R, O: Write + Drop, E: Write + Drop + Send>(
+    rt: &'a R,
     loaded: Loaded,
-    serving: Serving<'_>,
-    out: O,
+    serving: Serving<'a>,
+    outputs: Outputs<O, E>,
     err: &mut E,
-) -> Result<(), Fault>
+) -> Result<(), Refusal<'a>>
 where
     R: Files<File = File>
         + Net<Listener = TcpListener, Stream = TcpStream>
@@ -182,6 +360,7 @@ where
     requires workers { IsWorkerCount serving.workers }
 {
     let alloc = rt.alloc();
+    let Outputs { out, log: lines } = outputs;
     let mut out = out;
     let Loaded {
         accepted,
@@ -189,20 +368,13 @@ where
         kept,
     } = loaded;
     let cap = accepted.cap() as usize;
+    let beginning = Beginning::now(rt, serving.address, &log);
     let accepted = Arc::new(alloc, accepted)?;
     let (lock, mut seat) = VersionLock::new(alloc, log)?;
     let sessions = Mutex::new(SessionTable::new(alloc, places(serving.limits.peers))?);
+    let board = Board::new(alloc)?;
     let books = open_books(rt, serving.paths, kept, err)?;
-    let limits = Limits {
-        patience: serving.limits.patience,
-        most_bytes: serving.limits.most_bytes,
-    };
-    let listener = listen_at(rt, serving.address, serving.sessions, limits)?;
-    let announced = announce(alloc, serving.address, listener.local_addr(), &mut out, err);
-    if announced.is_err() {
-        listener.remove_file(rt);
-        return announced;
-    }
+    let (listener, window) = open_doors(rt, serving, beginning, &mut out, err)?;
     let reporter = Reporter::new(rt, alloc, serving.rules, cap, books, &mut *err);
     let shared = Shared {
         lock: &lock,
@@ -211,19 +383,24 @@ where
         gate: &reporter,
     };
     let own = lock.split_seat(&mut seat);
-    let report = work_and_write(
-        rt,
-        &shared,
-        own,
-        &listener,
-        (serving.workers, serving.limits),
-    );
-    listener.remove_file(rt);
+    let service = Service {
+        loops: serving.workers,
+        limits: serving.limits,
+        board: &board,
+        set: serving.set,
+    };
+    let log = serving.watching.log.then_some(lines);
+    let doors = (&listener, window.as_ref());
+    let report = work_and_show(rt, &shared, own, doors, service, log);
+    remove_files(rt, &listener, window.as_ref());
     let closed = reporter.close();
     tell_dropped(err, closed.dropped);
     let totals = sessions.into_inner().totals();
     let items = lock.close_with(rt, seat).count();
     let text = served_text(alloc, totals, items)?;
     write_output(&mut Watched::new(out), text.as_bytes())?;
-    ending(report, closed)
+    match ending(report, closed) {
+        Ok(()) => Ok(()),
+        Err(fault) => Err(Refusal::of_serving(serving.address, fault)),
+    }
 }

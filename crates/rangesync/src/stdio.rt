@@ -11,25 +11,35 @@ ghost use Rattle.peer_threads.specs.Workers.{LookedOrNot, PutsInLearned};
 
 use crate::disk::create_file;
 use crate::loading::Loaded;
+use crate::logging::{OnlySession, log_session};
+use crate::metering::Metered;
 use crate::reporting::{Closed, Reporter, open_books};
 use crate::serve::Serving;
-use crate::sync::{Asking, ask, print};
+use crate::sync::{Asking, ask, millis_since};
+use digest_core::{Counted, Fingerprint, Summary};
 use io_core::{Watched, write_output};
 use peer_threads::{Connection, Gate, Outcome, Shared, serve_one, settle};
 use printing_core::{
-    Fault, outcome_text, refusal_of_session, served_text, tell_dropped, tell_stats,
+    Fault, Refusal, Stats, Tally, outcome_text, refusal_of_session, served_text, tell_dropped,
+    tell_stats,
 };
 use range_tree::Tree;
-use session_table::SessionTable;
+use session_table::{SessionTable, Totals};
 use settings_core::{Command, StdioFlaw, StdioWords, stdio_flaw};
+use shard_core::{AfterSelector, SetName};
 use std::alloc::Global;
 use std::fs::File;
+use std::io;
 use std::io::{Read, Write};
 use std::rt::Files;
 use std::sync::{Arc, Mutex, Wait};
-use std::time::Clock;
+use std::time::{Clock, Instant};
 use tcp_front::limited;
 use version_lock::{Seat, VersionLock};
+use wire_core::encode_fault;
+
+/// The length of a hello.
+const HELLO: u64 = 4;
 
 /// The serial of the only session.
 const SERIAL: u64 = 1;
@@ -106,6 +116,150 @@ fn answer_peer<T: Wait, G: Gate, I: Read, O: Write>(
     }
 }
 
+/// A session that was answered, and what it cost.
+#[derive(Drop)]
+struct Answered {
+    outcome: Outcome,
+    stats: Stats,
+    /// The wire profile of the hello that was sent, 1 or 2, if one was.
+    profile: Option<u64>,
+}
+
+/// Reads the hello of a peer, or as much of it as comes.
+fn hello_of<I: Read>(alloc: Global, reader: &mut I) -> Vec<u8> {
+    let mut hello = Vec::new(alloc);
+    let _read = reader.take(HELLO).read_to_end(&mut hello);
+    hello
+}
+
+/// Our hello to a peer with this one: in its profile, if it has one.
+fn own_hello(hello: &[u8]) -> [u8; 4] {
+    if hello == Counted::hello().as_slice() {
+        Counted::hello()
+    } else {
+        Fingerprint::hello()
+    }
+}
+
+/// Writes our hello and a fault frame.
+fn tell_refusal<O: Write>(writer: &mut O, hello: [u8; 4], code: u8) -> io::Result<()> {
+    writer.write_all(&hello)?;
+    writer.write_all(&encode_fault(code))?;
+    writer.flush()
+}
+
+/// A session that was refused before it had begun, of a peer with this hello, of which so much was received.
+fn refused<O: Write + Drop>(writer: O, hello: &[u8], received: Tally, code: u8) -> Answered {
+    let mut writer = Metered::new(writer);
+    // The refusal stands, whether the peer is told of it or not.
+    let _told = tell_refusal(&mut writer, own_hello(hello), code);
+    Answered {
+        outcome: Outcome::Refused { code, sent: 0 },
+        stats: Stats {
+            sent: writer.tally(),
+            received,
+            millis: None,
+        },
+        profile: writer.profile(),
+    }
+}
+
+/// Answers a peer over this reader and this writer, if it speaks of the set of this name, and counts what goes through
+/// them.
+fn answer_named<T: Wait + Clock + AllocGlobal, G: Gate, I: Read + Drop, O: Write + Drop>(
+    rt: &T,
+    shared: &Shared<'_, Tree, G>,
+    seat: &mut Seat<Tree>,
+    set: SetName<'_>,
+    ends: (I, O),
+) -> Answered
+    requires lock { seat.old.table_id ≡ shared.now.lock.now }
+    requires fits { seat.old.view.cap ≤ (arc_value shared.now.accepted.now).table.cap }
+    requires enrolled { IsSome seat.old.view.writer }
+    ensures { seat.new.table_id ≡ seat.old.table_id }
+{
+    let alloc = rt.alloc();
+    let (reader, writer) = ends;
+    let mut reader = AfterSelector::new(Metered::new(reader));
+    let hello = hello_of(alloc, &mut reader);
+    if let Some(code) = set.refusal(reader.came()) {
+        return refused(writer, &hello, reader.inner().tally(), code);
+    }
+    let selector = reader.came().len() as u64;
+    let ends = (hello.as_slice().chain(reader), writer);
+    let mut answered = answer_counted(rt, alloc, shared, seat, ends);
+    let received = &mut answered.stats.received;
+    received.bytes = received.bytes.saturating_add(selector);
+    answered
+}
+
+/// Answers a peer over this reader and this writer; one that speaks of another set is refused, if the set has a name.
+fn answer_one<T: Wait + Clock + AllocGlobal, G: Gate, I: Read + Drop, O: Write + Drop>(
+    rt: &T,
+    shared: &Shared<'_, Tree, G>,
+    seat: &mut Seat<Tree>,
+    set: Option<SetName<'_>>,
+    ends: (I, O),
+) -> Answered
+    requires lock { seat.old.table_id ≡ shared.now.lock.now }
+    requires fits { seat.old.view.cap ≤ (arc_value shared.now.accepted.now).table.cap }
+    requires enrolled { IsSome seat.old.view.writer }
+    ensures { seat.new.table_id ≡ seat.old.table_id }
+{
+    match set {
+        Some(set) => answer_named(rt, shared, seat, set, ends),
+        None => answer_counted(rt, rt.alloc(), shared, seat, ends),
+    }
+}
+
+/// Answers a peer over this reader and this writer, and counts what goes through them.
+fn answer_counted<T: Wait + Clock, G: Gate, I: Read + Drop, O: Write + Drop>(
+    rt: &T,
+    alloc: Global,
+    shared: &Shared<'_, Tree, G>,
+    seat: &mut Seat<Tree>,
+    ends: (I, O),
+) -> Answered
+    requires lock { seat.old.table_id ≡ shared.now.lock.now }
+    requires fits { seat.old.view.cap ≤ (arc_value shared.now.accepted.now).table.cap }
+    requires enrolled { IsSome seat.old.view.writer }
+    ensures { seat.new.table_id ≡ seat.old.table_id }
+{
+    let (reader, writer) = ends;
+    let start = Instant::now(rt).ok();
+    let mut connection = Connection::new(Metered::new(reader), Metered::new(writer));
+    let outcome = answer_peer(rt, alloc, shared, seat, &mut connection);
+    let Connection { reader, writer } = connection;
+    let writer = writer.into_inner();
+    let stats = Stats {
+        sent: writer.tally(),
+        received: reader.into_inner().tally(),
+        millis: millis_since(rt, start),
+    };
+    let profile = writer.profile();
+    Answered {
+        outcome,
+        stats,
+        profile,
+    }
+}
+
+/// Prints the line of a session for a log; the table of the server counted so much.
+fn log_answered<R: Clock + AllocGlobal, E: Write>(
+    rt: &R,
+    answered: &Answered,
+    totals: Totals,
+    err: &mut E,
+) {
+    let session = OnlySession {
+        outcome: &answered.outcome,
+        stats: answered.stats,
+        profile: answered.profile,
+        serial: (totals.opened > 0).then_some(SERIAL),
+    };
+    log_session(rt, session, err);
+}
+
 /// The refusal of a session that ended so, and whose files were closed so.
 fn ending(outcome: &Outcome, closed: Closed) -> Result<(), Fault> {
     refusal_of_session(outcome)?;
@@ -116,20 +270,26 @@ fn ending(outcome: &Outcome, closed: Closed) -> Result<(), Fault> {
     }
 }
 
-/// Serves one session over this reader and this writer. What was counted is printed on standard error, and what is
-/// asked for of the session goes to its files.
+/// Writes all of this to standard error. Else `io write`, of which there is nobody to tell more.
+fn print_beside<E: Write>(err: &mut E, text: &[u8]) -> Result<(), Fault> {
+    write_output(&mut Watched::new(err), text)?;
+    Ok(())
+}
+
+/// Serves one session over this reader and this writer. What was counted is printed on standard error, and before it,
+/// if that is asked for, a line for the session; what is asked for of the session goes to its files.
 ///
 /// Else 90 or 80; and after what was counted the number of the refusal of this side or of the peer, `io read`, or
 /// `io write`, also where lines of a file are lost.
-pub fn serve_stdio<R, I: Read + Drop, O: Write + Drop, E: Write + Send>(
+pub fn serve_stdio<'a, R, I: Read + Drop, O: Write + Drop, E: Write + Send>(
     rt: &R,
     loaded: Loaded,
-    serving: Serving<'_>,
+    serving: Serving<'a>,
     ends: (I, O),
     err: &mut E,
-) -> Result<(), Fault>
+) -> Result<(), Refusal<'a>>
 where
-    R: Files<File = File> + Wait + AllocGlobal,
+    R: Files<File = File> + Wait + Clock + AllocGlobal,
     requires cap { loaded.log.cap ≡ loaded.accepted.table.cap }
 {
     let alloc = rt.alloc();
@@ -145,7 +305,7 @@ where
     let books = open_books(rt, serving.paths, kept, err)?;
     if lock.enroll(rt, &mut seat).is_err() {
         let code = WRITERS_SPENT;
-        return Err(Fault::Session { code });
+        return Err(Refusal::from(Fault::Session { code }));
     }
     let reporter = Reporter::new(rt, alloc, serving.rules, cap, books, &mut *err);
     let shared = Shared {
@@ -155,15 +315,21 @@ where
         gate: &reporter,
     };
     let (reader, writer) = ends;
-    let mut connection = Connection::new(limited(reader, serving.limits.most_bytes), writer);
-    let outcome = answer_peer(rt, alloc, &shared, &mut seat, &mut connection);
+    let ends = (limited(reader, serving.limits.most_bytes), writer);
+    let answered = answer_one(rt, &shared, &mut seat, serving.set, ends);
     let closed = reporter.close();
-    tell_dropped(err, closed.dropped);
     let totals = sessions.into_inner().totals();
+    if serving.watching.log {
+        log_answered(rt, &answered, totals, err);
+    }
+    tell_dropped(err, closed.dropped);
     let items = lock.close_with(rt, seat).count();
     let text = served_text(alloc, totals, items)?;
-    write_output(&mut Watched::new(&mut *err), text.as_bytes())?;
-    ending(&outcome, closed)
+    print_beside(err, text.as_bytes())?;
+    match ending(&answered.outcome, closed) {
+        Ok(()) => Ok(()),
+        Err(fault) => Err(Refusal::of_peer(serving.limits.most_bytes, fault)),
+    }
 }
 
 /// Runs one session over this reader and this writer as the initiator. What was learned goes to the file that is asked
@@ -171,13 +337,13 @@ where
 ///
 /// Else 80 if the file cannot be made, 90, the number of the refusal of this side or of the peer, or `io read` or
 /// `io write`.
-pub fn sync_stdio<R, I: Read + Drop, O: Write + Drop, E: Write>(
+pub fn sync_stdio<'a, R, I: Read + Drop, O: Write + Drop, E: Write>(
     rt: &R,
     loaded: Loaded,
-    asking: Asking<'_>,
+    asking: Asking<'a>,
     ends: (I, O),
     err: &mut E,
-) -> Result<(), Fault>
+) -> Result<(), Refusal<'a>>
 where
     R: Files<File = File> + Wait + Clock + AllocGlobal,
     requires cap { loaded.log.cap ≡ loaded.accepted.table.cap }
@@ -187,6 +353,15 @@ where
     if asking.stats {
         tell_stats(err, stats);
     }
-    let text = outcome_text(rt.alloc(), asking.form, &outcome)?;
-    print(text.as_bytes(), file, &mut *err)
+    let text = match outcome_text(rt.alloc(), asking.form, &outcome) {
+        Ok(text) => text,
+        Err(fault) => return Err(Refusal::of_peer(asking.limits.most_bytes, fault)),
+    };
+    match file {
+        Some(file) => file.print(text.as_bytes()),
+        None => {
+            print_beside(err, text.as_bytes())?;
+            Ok(())
+        }
+    }
 }

@@ -9,12 +9,12 @@ use crate::metering::Metered;
 use crate::reaching::connect_to;
 use digest_core::{Counted, Fingerprint, Summary};
 use io_core::{Watched, write_output};
-use item_files::ItemForm;
+use item_files::{ItemForm, WireProfile};
 use peer_threads::{Connection, OpenGate, Outcome, Shared, dial_one};
-use printing_core::{Fault, Stats, outcome_text, tell_stats};
+use printing_core::{Fault, Refusal, Stats, outcome_text, tell_stats};
 use range_tree::Tree;
 use session_table::SessionTable;
-use settings_core::WireProfile;
+use shard_core::{SetName, Which};
 use std::alloc::Global;
 use std::fs::File;
 use std::io::{Read, Write};
@@ -40,10 +40,12 @@ pub struct Asking<'a> {
     pub stats: bool,
     /// The path of the file for what is printed, if one is given.
     pub out: Option<&'a str>,
+    /// What the set is called, if the other side is to be told.
+    pub set: Option<SetName<'a>>,
 }
 
 /// The milliseconds since then, where the clock tells.
-fn millis_since<R: Clock>(rt: &R, start: Option<Instant>) -> Option<u64> {
+pub(crate) fn millis_since<R: Clock>(rt: &R, start: Option<Instant>) -> Option<u64> {
     let elapsed = start?.elapsed(rt).ok()?;
     u64::try_from(elapsed.as_millis()).ok()
 }
@@ -73,7 +75,23 @@ fn dial<R: Wait + Clock, I: Read + Drop, O: Write + Drop, F: Summary>(
     (outcome, stats)
 }
 
-/// Runs one session as the initiator, over this reader and this writer. What comes of it, and what it cost. Else 90.
+/// Writes of which set is spoken, if it is named: how many bytes. Else 90 or `io write`.
+fn name_set<O: Write>(
+    alloc: Global,
+    set: Option<SetName<'_>>,
+    writer: &mut O,
+) -> Result<u64, Fault> {
+    let Some(set) = set else {
+        return Ok(0);
+    };
+    let mut selector = Vec::new(alloc);
+    set.push(&mut selector, Which::Shard(0))?;
+    write_output(&mut Watched::new(writer), &selector)?;
+    Ok(selector.len() as u64)
+}
+
+/// Runs one session as the initiator, over this reader and this writer. What comes of it, and what it cost. Else 90, or
+/// `io write` before it has begun.
 pub fn ask<R: Wait + Clock + AllocGlobal, I: Read + Drop, O: Write + Drop>(
     rt: &R,
     loaded: Loaded,
@@ -97,21 +115,15 @@ pub fn ask<R: Wait + Clock + AllocGlobal, I: Read + Drop, O: Write + Drop>(
         sessions: &sessions,
         gate: &OpenGate,
     };
-    let (reader, writer) = ends;
+    let (reader, mut writer) = ends;
+    let named = name_set(alloc, asking.set, &mut writer)?;
     let ends = (limited(reader, asking.limits.most_bytes), writer);
-    Ok(match asking.profile {
+    let (outcome, mut stats) = match asking.profile {
         WireProfile::One => dial::<_, _, _, Fingerprint>(rt, alloc, &shared, &mut seat, ends),
         WireProfile::Two => dial::<_, _, _, Counted>(rt, alloc, &shared, &mut seat, ends),
-    })
-}
-
-/// Writes this to the file, if there is one, and else to the output.
-pub fn print<O: Write + Drop>(text: &[u8], file: Option<File>, out: O) -> Result<(), Fault> {
-    match file {
-        Some(file) => write_output(&mut Watched::new(file), text)?,
-        None => write_output(&mut Watched::new(out), text)?,
-    }
-    Ok(())
+    };
+    stats.sent.bytes = stats.sent.bytes.saturating_add(named);
+    Ok((outcome, stats))
 }
 
 /// Runs one session as the initiator, and prints what was learned, to the file if one is asked for. If it is asked for,
@@ -119,13 +131,13 @@ pub fn print<O: Write + Drop>(text: &[u8], file: Option<File>, out: O) -> Result
 ///
 /// Else 80 if the file cannot be made, 61, 90, the number of the refusal of this side or of the peer, or `io read` or
 /// `io write`.
-pub fn sync<R, O: Write + Drop, E: Write>(
+pub fn sync<'a, R, O: Write + Drop, E: Write>(
     rt: &R,
     loaded: Loaded,
-    asking: Asking<'_>,
+    asking: Asking<'a>,
     out: O,
     err: &mut E,
-) -> Result<(), Fault>
+) -> Result<(), Refusal<'a>>
 where
     R: Files<File = File> + Net<Stream = TcpStream> + Wait + Clock + AllocGlobal,
     requires cap { loaded.log.cap ≡ loaded.accepted.table.cap }
@@ -134,14 +146,27 @@ where
         patience,
         most_bytes,
     } = asking.limits;
+    let address = asking.address;
     let file = create_file(rt, asking.out)?;
-    let stream = connect_to(rt, asking.address, patience)?;
+    let stream = match connect_to(rt, address, patience) {
+        Ok(stream) => stream,
+        Err(fault) => return Err(Refusal::of_connect(address, fault, patience)),
+    };
     let (outcome, stats) = ask(rt, loaded, asking, (&stream, &stream))?;
     let left = u64::from(most_bytes).saturating_sub(stats.received.bytes);
     finish(rt, &stream, left);
     if asking.stats {
         tell_stats(err, stats);
     }
-    let text = outcome_text(rt.alloc(), asking.form, &outcome)?;
-    print(text.as_bytes(), file, out)
+    let text = match outcome_text(rt.alloc(), asking.form, &outcome) {
+        Ok(text) => text,
+        Err(fault) => return Err(Refusal::of_session(asking.limits, fault)),
+    };
+    match file {
+        Some(file) => file.print(text.as_bytes()),
+        None => {
+            write_output(&mut Watched::new(out), text.as_bytes())?;
+            Ok(())
+        }
+    }
 }

@@ -24,8 +24,8 @@ use Rattle.embedded_core.specs.declared.fault.EmbeddedFault.{EmbeddedFault}
 use Rattle.embedded_core.specs.declared.any_session.AnySession.{AnySession}
 use Rattle.embedded_core.specs.declared.any_session.Opening.{Opening}
 use Rattle.embedded_core.specs.declared.any_session.Opening.TheVariants as openings
-use Rattle.embedded_core.specs.declared.any_session.WireProfile.{WireProfile}
-use Rattle.embedded_core.specs.declared.any_session.WireProfile.TheVariants as profiles
+use Rattle.item_files.specs.declared.profile.WireProfile.{WireProfile}
+use Rattle.item_files.specs.declared.profile.WireProfile.TheVariants as profiles
 use Rattle.session_core.specs.declared.state.State.{State}
 use Rattle.session_core.specs.declared.state.State.TheVariants as states
 use Rattle.item_files.specs.declared.form.ItemForm.{ItemForm}
@@ -114,8 +114,8 @@ opening_number openings.Initiator = 0
 opening_number openings.Responder = 1
 
 abbrev pub profile_number : WireProfile → ℕ
-profile_number profiles.Plain = 1
-profile_number profiles.Counted = 2
+profile_number profiles.One = 1
+profile_number profiles.Two = 2
 
 abbrev pub state_number : State → ℕ
 state_number states.Open = 0

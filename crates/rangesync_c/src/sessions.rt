@@ -33,8 +33,8 @@ fn profile_of(number: u32) -> Option<WireProfile>
     ensures none { IfNone result ((number ≡ 0) ⊎ (2 < number)) }
 {
     match number {
-        1 => Some(WireProfile::Plain),
-        2 => Some(WireProfile::Counted),
+        1 => Some(WireProfile::One),
+        2 => Some(WireProfile::Two),
         _ => None,
     }
 }

@@ -8,8 +8,8 @@ use Rattle.clap.specs.Words.{ReadsOne, TriesOne, Text, one_text, rows_of}
 use Rattle.clap.specs.declared.parser.matches.Found.{Found}
 use Rattle.clap.proofs.WalkLemmas.{one_text-rows}
 use Rattle.settings_core.specs.Calls.{Finds, IsNumber, IsWritten, profile_number}
-use Rattle.settings_core.specs.declared.words.WireProfile.{WireProfile}
-use Rattle.settings_core.specs.declared.words.WireProfile.TheVariants as profiles
+use Rattle.item_files.specs.declared.profile.WireProfile.{WireProfile}
+use Rattle.item_files.specs.declared.profile.WireProfile.TheVariants as profiles
 use Rattle.settings_core.specs.Spans.{IsWithin}
 
 -- what `parse` gives at an unsigned number of k bits

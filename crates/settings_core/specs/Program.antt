@@ -135,6 +135,18 @@ read_only = flag (codes "read-only")
 abbrev pub report_items : Rule
 report_items = number (codes "report-items") 0 4294967295
 
+-- `--set NAME`
+abbrev pub set_name : Rule
+set_name = valued (codes "set")
+
+-- `--metrics A`
+abbrev pub metrics : Rule
+metrics = valued (codes "metrics")
+
+-- `--log`
+abbrev pub log : Rule
+log = flag (codes "log")
+
 -- `--why`
 abbrev pub why : Rule
 why = flag (codes "why")
@@ -193,15 +205,15 @@ sim = with_rules (new_app (codes "sim")) (why ∷ [])
 -- `serve` without its ITEMS
 abbrev pub served : App
 served = with_rules (new_app (codes "serve"))
-    (table ∷ address ∷ stdio ∷ workers ∷ sessions ∷ patience ∷ most_bytes ∷ peers ∷ session_seconds ∷ memory ∷ report
-    ∷ learned ∷ keep ∷ durable ∷ most_learned ∷ read_only ∷ report_items ∷ text ∷ why ∷ [])
+    (table ∷ address ∷ stdio ∷ set_name ∷ workers ∷ sessions ∷ patience ∷ most_bytes ∷ peers ∷ session_seconds ∷ memory
+    ∷ report ∷ learned ∷ keep ∷ durable ∷ most_learned ∷ read_only ∷ report_items ∷ metrics ∷ log ∷ text ∷ why ∷ [])
 
 abbrev pub serve : Bool → App
 serve must = with_rules served (items must ∷ [])
 
 abbrev pub sync : App
 sync = with_rules (new_app (codes "sync"))
-    (table ∷ address ∷ stdio ∷ out ∷ profile ∷ patience ∷ most_bytes ∷ stats ∷ text ∷ why ∷ items true ∷ [])
+    (table ∷ address ∷ stdio ∷ set_name ∷ out ∷ profile ∷ patience ∷ most_bytes ∷ stats ∷ text ∷ why ∷ items true ∷ [])
 
 -- the program itself, which has a version and asks for a command
 abbrev pub top : App

@@ -81,10 +81,10 @@ AreInSpan (Plan items differences item_length round_trip rate search) = IfSome i
     × IfSome differences IsDifferenceCount × IfSome item_length IsItemLength × IfSome round_trip IsRoundTrip
     × IfSome rate IsRate × IfSome search IsSearch
 AreInSpan Sim = ⊤
-AreInSpan (Serve table address stdio workers sessions patience most_bytes peers session_seconds memory report learned
-    keep durable most_learned read_only report_items form items) = IsWorkerCount workers
+AreInSpan (Serve table address stdio set workers sessions patience most_bytes peers session_seconds memory report
+    learned keep durable most_learned read_only report_items metrics log form items) = IsWorkerCount workers
     × IfSome sessions IsSessionCount × IsPatience patience × IsByteCount most_bytes × IfSome peers IsPeerCount
     × IfSome session_seconds IsSessionTime × IfSome memory IsMemory × IfSome most_learned IsLearnedCount
     × IfSome report_items IsReportedCount × IsAnyGiven keep items
-AreInSpan (Sync table address stdio out profile patience most_bytes stats form items) = IsPatience patience
+AreInSpan (Sync table address stdio set out profile patience most_bytes stats form items) = IsPatience patience
     × IsByteCount most_bytes

@@ -12,9 +12,9 @@ use crate::known_words::{
     MAX_ITEM_LENGTH, MAX_ITEMS, MAX_MEMORY, MAX_PATIENCE, MAX_PEERS, MAX_RATE, MAX_ROUND_TRIP,
     MAX_SEARCH, MAX_SESSION_SECONDS, MAX_SESSIONS, MAX_WORKERS, MIN_BYTES, MIN_ITEM_LENGTH,
 };
-use crate::words::{Call, Command, WireProfile};
+use crate::words::{Call, Command};
 use clap::ArgMatches;
-use item_files::ItemForm;
+use item_files::{ItemForm, WireProfile};
 
 /// The number of workers, which `clap` has read in its span.
 fn workers_in(matches: &ArgMatches<'_>) -> Option<u8>
@@ -240,6 +240,7 @@ fn serve_in<'a>(matches: &ArgMatches<'a>) -> Option<Command<'a>>
         table: text_in(matches, "table")?,
         address: text_in(matches, "addr")?,
         stdio: flag_in(matches, "stdio"),
+        set: text_in(matches, "set"),
         workers: workers_in(matches)?,
         sessions: sessions_in(matches)?,
         patience: patience_in(matches)?,
@@ -254,6 +255,8 @@ fn serve_in<'a>(matches: &ArgMatches<'a>) -> Option<Command<'a>>
         most_learned: most_learned_in(matches)?,
         read_only: flag_in(matches, "read-only"),
         report_items: report_items_in(matches)?,
+        metrics: text_in(matches, "metrics"),
+        log: flag_in(matches, "log"),
         form: form_in(matches),
         items,
     })
@@ -267,6 +270,7 @@ fn sync_in<'a>(matches: &ArgMatches<'a>) -> Option<Command<'a>>
         table: text_in(matches, "table")?,
         address: text_in(matches, "addr")?,
         stdio: flag_in(matches, "stdio"),
+        set: text_in(matches, "set"),
         out: text_in(matches, "out"),
         profile: profile_in(matches)?,
         patience: patience_in(matches)?,

@@ -9,6 +9,9 @@ use crate::addresses::DEFAULT_ADDRESS;
 use crate::arguments::{Argument, command_of, with_arguments};
 use std::alloc::{AllocError, Global};
 
+/// The version of the program.
+pub const VERSION: &str = "0.1.0";
+
 /// The greatest number of workers.
 pub(crate) const MAX_WORKERS: u8 = 16;
 
@@ -92,6 +95,13 @@ const TABLE: Argument<'static> = Argument::Needed {
 const STDIO: Argument<'static> = Argument::Flag {
     name: "stdio",
     help: "Speak one session over standard input and output",
+};
+
+/// Which set is spoken of.
+const SET: Argument<'static> = Argument::Valued {
+    name: "set",
+    value: "NAME",
+    help: "Speak of the set of this name alone, 1 to 63 bytes",
 };
 
 /// The arguments of `answer`.
@@ -224,7 +234,7 @@ fn sim_words<'a>(alloc: Global) -> Result<clap::Command<'a>, AllocError>
 }
 
 /// The arguments of `serve`, but for its ITEMS.
-const SERVE: [Argument<'static>; 19] = [
+const SERVE: [Argument<'static>; 22] = [
     TABLE,
     Argument::ValuedOr {
         name: "addr",
@@ -233,6 +243,7 @@ const SERVE: [Argument<'static>; 19] = [
         help: "The address to listen at, or unix:PATH",
     },
     STDIO,
+    SET,
     Argument::NumberOr {
         name: "workers",
         value: "N",
@@ -322,6 +333,15 @@ const SERVE: [Argument<'static>; 19] = [
         most: u32::MAX,
         help: "Report at most so many items of one session",
     },
+    Argument::Valued {
+        name: "metrics",
+        value: "A",
+        help: "The address at which metrics and a page answer HTTP",
+    },
+    Argument::Flag {
+        name: "log",
+        help: "Print a line for each session on standard error",
+    },
     TEXT,
     WHY,
 ];
@@ -345,7 +365,7 @@ fn serve_words<'a>(alloc: Global, must: bool) -> Result<clap::Command<'a>, Alloc
 }
 
 /// The arguments of `sync`.
-const SYNC: [Argument<'static>; 11] = [
+const SYNC: [Argument<'static>; 12] = [
     TABLE,
     Argument::ValuedOr {
         name: "addr",
@@ -354,6 +374,7 @@ const SYNC: [Argument<'static>; 11] = [
         help: "The address to connect to, or unix:PATH",
     },
     STDIO,
+    SET,
     Argument::Valued {
         name: "out",
         value: "FILE",
@@ -414,7 +435,7 @@ fn top_words<'a>(alloc: Global) -> clap::Command<'a>
 {
     clap::Command::new(alloc, "rangesync")
         .about("Find out which items each of two peers lacks")
-        .version("0.1.0")
+        .version(VERSION)
         .subcommand_required(true)
 }
 

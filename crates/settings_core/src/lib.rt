@@ -10,8 +10,9 @@ mod words;
 
 pub use addresses::{Address, DEFAULT_ADDRESS, address_of};
 pub use item_files::{
-    ItemForm, SettingsFault, has_byte_order_mark, item_of, item_set, read_input_items, read_items,
-    read_strategy,
+    ItemForm, SettingsFault, WireProfile, has_byte_order_mark, item_of, item_set, read_input_items,
+    read_items, read_strategy,
 };
+pub use known_words::VERSION;
 pub use stdio_words::{StdioFlaw, StdioWords, stdio_flaw};
-pub use words::{Call, Command, WireProfile, WordsFault, read_words};
+pub use words::{Call, Command, WordsFault, read_words};

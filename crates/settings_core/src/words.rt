@@ -9,7 +9,7 @@ ghost use Rattle.settings_core.specs.declared.words.WordsFault.TheVariants as fa
 use crate::given_words::call_in;
 use crate::known_words::program_words;
 use clap::error::ErrorKind;
-use item_files::ItemForm;
+use item_files::{ItemForm, WireProfile};
 use std::alloc::{AllocError, AllocFailed, Global};
 use std::convert::AsStr;
 
@@ -70,6 +70,8 @@ pub enum Command<'a> {
         address: &'a str,
         /// Whether one session is spoken over standard input and output, and nothing is listened at.
         stdio: bool,
+        /// The name of the set, if one is given.
+        set: Option<&'a str>,
         /// How many loops serve them, 1 to 16, and as many more for those whose messages are long.
         workers: u8,
         /// After how many connections it ends, 1 to 1,000,000; `None` where it has no end.
@@ -100,6 +102,10 @@ pub enum Command<'a> {
         read_only: bool,
         /// How many items of one session are reported at most; `None` where there is no limit.
         report_items: Option<u32>,
+        /// The address at which metrics and a page answer HTTP, if one is given.
+        metrics: Option<&'a str>,
+        /// Whether standard error gets a line for each session.
+        log: bool,
         /// How the item file is read, and how items are written.
         form: ItemForm,
         /// The path of the item file. `None` only where there is a file that keeps the set.
@@ -113,6 +119,8 @@ pub enum Command<'a> {
         address: &'a str,
         /// Whether the session is spoken over standard input and output, and nothing is connected to.
         stdio: bool,
+        /// The name of the set, if one is given.
+        set: Option<&'a str>,
         /// The path of the file for the lines of the session, if one is given.
         out: Option<&'a str>,
         /// The wire profile that is spoken.
@@ -128,15 +136,6 @@ pub enum Command<'a> {
         /// The path of the item file.
         items: &'a str,
     },
-}
-
-/// What a Sum carries of the items in its range.
-#[derive(Clone, Copy, Debug, PartialEq, Eq)]
-pub enum WireProfile {
-    /// Profile 1: a fingerprint.
-    One,
-    /// Profile 2: how many items there are, and a fingerprint.
-    Two,
 }
 
 /// Why words ask for nothing that is done.

@@ -6,3 +6,4 @@ pub mod Told
 pub mod Sums
 pub mod Dealt
 pub mod Chosen
+pub mod Taken

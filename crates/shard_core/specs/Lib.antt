@@ -7,3 +7,4 @@ pub mod Directories
 pub mod Parts
 pub mod Splits
 pub mod Selectors
+pub mod Fronts

@@ -2,10 +2,11 @@
 --     IsWhich b w                      a set that is cut by b bits has this shard, or this directory
 --     selector_text name b w           the bytes that say it
 --     selecting name b bytes           what the first bytes of an input say to a responder of this name and b
+--     refusal_of r                     the number of the refusal of a peer whose first bytes say this, if it is refused
 --     ReadsBack name b bytes r         what was written is read back, whatever follows it
 --     ReadsOnly name b bytes r         and nothing else is
 use Rattle.std.specs.Prelude.{◌≡◌, ℕ, ◌+◌, ◌<◌, ◌^◌, Bool, true, ◌&&◌, ◌==◌, nat_lt, List, [], ◌∷◌, ◌++◌, length}
-use Rattle.std.specs.Prelude.{take, drop, if◌then◌else◌}
+use Rattle.std.specs.Prelude.{take, drop, if◌then◌else◌, Option, Some, None}
 use Rattle.std.specs.Int.{w16, to_be_bytes, from_be_bytes}
 use Rattle.shard_core.specs.declared.selector.Which.{Which}
 use Rattle.shard_core.specs.declared.selector.Which.TheVariants.{Shard, Directory}
@@ -56,6 +57,13 @@ selecting name b bytes =
     else selected b (number_at bytes (6 + length name)) (8 + length name)
     ) else WrongSet
     ) else NoSelector
+
+-- what ends inside a selector is for the session to refuse
+abbrev pub refusal_of : Selecting → Option ℕ
+refusal_of NoSelector = Some 1
+refusal_of More = None
+refusal_of WrongSet = Some 55
+refusal_of (Selected w used) = None
 
 abbrev pub ReadsBack : List ℕ → ℕ → List ℕ → Selecting → Type 0
 ReadsBack name b bytes r = (w : Which) (later : List ℕ) → IsWhich b w → bytes ≡ selector_text name b w ++ later →

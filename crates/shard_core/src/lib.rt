@@ -1,6 +1,7 @@
 //! Sets of any size: shards by the digests of items, the directory of a set, and parts that add up.
 #![tactic(auto)]
 
+mod after_selector;
 mod dealing;
 mod directory;
 mod entry;
@@ -8,16 +9,19 @@ mod fault;
 pub mod laws;
 mod part;
 mod selector;
+mod set_name;
 mod shard;
 mod shard_sum;
 mod unequal;
 
+pub use after_selector::AfterSelector;
 pub use dealing::split;
 pub use directory::{differing, directory_of};
 pub use entry::{BadEntry, entry_of, read_entry};
 pub use fault::{DirectoryFault, SplitFault};
 pub use part::{Merged, Part, merge};
 pub use selector::{MAX_NAME, Selecting, Which, push_selector, read_selector};
+pub use set_name::SetName;
 pub use shard::{MAX_BITS, shard_count, shard_of};
 pub use shard_sum::{MAX_COUNT, ShardSum};
 pub use unequal::Unequal;

@@ -9,7 +9,7 @@ use crate::shard::{number, shard_count};
 use std::alloc::AllocError;
 
 /// The first four bytes.
-const MARK: [u8; 4] = [0x52, 0x52, 0x53, 0x4E];
+pub(crate) const MARK: [u8; 4] = [0x52, 0x52, 0x53, 0x4E];
 
 /// The number that stands for the directory.
 const DIRECTORY: u16 = 0xFFFF;
@@ -70,7 +70,7 @@ pub fn push_selector(
 }
 
 /// The bytes from a place on, none if there are none.
-fn rest(bytes: &[u8], from: usize) -> &[u8]
+pub(crate) fn rest(bytes: &[u8], from: usize) -> &[u8]
     ensures { result.now ≡ drop from bytes.now }
 {
     if from > bytes.len() {

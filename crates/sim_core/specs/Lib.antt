@@ -5,7 +5,6 @@ pub use Rattle.item_files.specs.ItemFiles
 pub mod NodeTexts
 pub mod Reports
 pub mod Runs
-pub mod ScenarioFaults
 pub mod ScenarioOpens
 pub mod Scenarios
 pub mod StepTexts

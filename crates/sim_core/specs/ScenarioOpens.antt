@@ -5,8 +5,7 @@ use Rattle.std.specs.declared.alloc.Global.{Global}
 use Rattle.toml.specs.View.{table_view}
 use Rattle.toml.specs.declared.value.Value.{Value}
 use Rattle.strategy_core.specs.Texts.{IsDocument, IsText}
-use Rattle.strategy_core.specs.declared.fault.StrategyFault.TheVariants.{NotToml}
-use Rattle.sim_core.specs.declared.scenario_fault.ScenarioFault.TheVariants.{Strategy}
+use Rattle.sim_core.specs.declared.scenario_fault.ScenarioFault.TheVariants.{NotToml}
 use Rattle.sim_core.specs.declared.scenario_fault.ScenarioError.{ScenarioError}
 use Rattle.sim_core.specs.declared.scenario_fault.ScenarioError.TheVariants as errors
 
@@ -14,4 +13,4 @@ use Rattle.sim_core.specs.declared.scenario_fault.ScenarioError.TheVariants as e
 abbrev pub Opens : Result (BTreeMap (String Global) Value) ScenarioError → List ℕ → Type 0
 Opens (Ok table) text = IsDocument text (table_view table)
 Opens (Err errors.Memory) text = ⊤
-Opens (Err (errors.Fault f)) text = (f ≡ Strategy NotToml) × (IsText text → ⊥)
+Opens (Err (errors.Fault f)) text = (f ≡ NotToml) × (IsText text → ⊥)

@@ -13,17 +13,17 @@ use Rattle.definitions.specs.Ranks.{check_fault, found}
 use Rattle.hex.specs.Hex.{decode_of}
 use Rattle.strategy_core.specs.Texts.{table_in, items_count, IsDocument, IsText}
 use Rattle.strategy_core.specs.declared.fault.StrategyFault.{StrategyFault}
-use Rattle.strategy_core.specs.declared.fault.StrategyFault.TheVariants.{NotToml}
 use Rattle.strategy_check.specs.Checked.{Checked}
 use Rattle.strategy_check.specs.declared.fault.CheckFault.{CheckFault}
 use Rattle.strategy_check.specs.declared.fault.CheckFault.TheVariants as checks
 use Rattle.sim_core.specs.NodeTexts.{NodeText, ScenarioText}
 use Rattle.item_files.specs.ItemFiles.{decoded}
+use Rattle.item_files.specs.StrategyFlaws.{flaw_in}
 use Rattle.sim_core.specs.StepTexts.{step_of}
 use Rattle.sim_core.specs.declared.scenario.ScenarioStep.{ScenarioStep}
 use Rattle.sim_core.specs.declared.scenario_fault.ScenarioFault.{ScenarioFault}
-use Rattle.sim_core.specs.declared.scenario_fault.ScenarioFault.TheVariants.{Strategy, Check, TooManyItems, BadScenario}
-use Rattle.sim_core.specs.declared.scenario_fault.ScenarioFault.TheVariants.{BadStep}
+use Rattle.sim_core.specs.declared.scenario_fault.ScenarioFault.TheVariants.{NotToml, Strategy, Check, TooManyItems}
+use Rattle.sim_core.specs.declared.scenario_fault.ScenarioFault.TheVariants.{BadScenario, BadStep}
 use Rattle.sim_core.specs.declared.scenario_fault.ScenarioError.{ScenarioError}
 use Rattle.sim_core.specs.declared.scenario_fault.ScenarioError.TheVariants as errors
 
@@ -79,9 +79,10 @@ steps_at ms = array_at (codes "steps") ms >>= λ ds. provided (are_steps ds) Bad
 
 -- ---- a node
 
-abbrev pub of_strategy : {A : Type 0} → Result A StrategyFault → Result A ScenarioFault
-of_strategy (Ok x) = Ok x
-of_strategy (Err f) = Err (Strategy f)
+-- the fault of the node n, and where it is in its table
+abbrev pub of_strategy : {A : Type 0} → ℕ → Members → Result A StrategyFault → Result A ScenarioFault
+of_strategy n ms (Ok x) = Ok x
+of_strategy n ms (Err f) = Err (Strategy n (flaw_in ms f))
 
 abbrev pub reason_of : ranks.CheckFault → CheckFault
 reason_of (ranks.List_too_long upto) = checks.ListTooLong upto
@@ -90,36 +91,38 @@ reason_of (ranks.Too_deep count rank) = checks.TooDeep count rank
 reason_of (ranks.Bad_certificate count) = checks.BadCertificate count
 
 -- the table with the staircase of its least ranks
-abbrev pub with_steps : Table → Result (List ℕ) ℕ → Result Checked ScenarioFault
-with_steps T (Ok steps) = Ok (record { table = T; steps = steps })
-with_steps T (Err count) = Err (Check (checks.NoDescent count))
+abbrev pub with_steps : ℕ → Table → Result (List ℕ) ℕ → Result Checked ScenarioFault
+with_steps n T (Ok steps) = Ok (record { table = T; steps = steps })
+with_steps n T (Err count) = Err (Check n (checks.NoDescent count))
 
-abbrev pub unless : {A : Type 0} → Option ranks.CheckFault → Result A ScenarioFault → Result A ScenarioFault
-unless None said = said
-unless (Some f) said = Err (Check (reason_of f))
+abbrev pub unless : {A : Type 0} → ℕ → Option ranks.CheckFault → Result A ScenarioFault → Result A ScenarioFault
+unless n None said = said
+unless n (Some f) said = Err (Check n (reason_of f))
 
-abbrev pub checked : Table → Result Checked ScenarioFault
-checked T = unless (check_fault T) (with_steps T (found T))
+abbrev pub checked : ℕ → Table → Result Checked ScenarioFault
+checked n T = unless n (check_fault T) (with_steps n T (found T))
 
-abbrev pub accepted_in : Members → Result Checked ScenarioFault
-accepted_in ms = of_strategy (table_in ms) >>= checked
+-- the strategy of the node n, accepted
+abbrev pub accepted_in : ℕ → Members → Result Checked ScenarioFault
+accepted_in n ms = of_strategy n ms (table_in ms) >>= checked n
 
 abbrev pub item_in : Data → Result Item ScenarioFault
 item_in d = present BadScenario (as_str d) >>= λ digits. present BadScenario (decoded (decode_of digits))
 
 -- `items`: texts that are each an item in hex; the set of these has at most this many
-abbrev pub items_in : ℕ → Members → Result (List Item) ScenarioFault
-items_in cap ms = array_at (codes "items") ms >>= λ ds. each_from (λ _ d. item_in d) 0 ds
-    >>= λ xs. provided (nat_le (length (set_of xs)) cap) TooManyItems (set_of xs)
+abbrev pub items_in : ℕ → ℕ → Members → Result (List Item) ScenarioFault
+items_in n cap ms = array_at (codes "items") ms >>= λ ds. each_from (λ _ d. item_in d) 0 ds
+    >>= λ xs. provided (nat_le (length (set_of xs)) cap) (TooManyItems n cap) (set_of xs)
 
-abbrev pub node_at : Members → Result NodeText ScenarioFault
-node_at ms = do
-  accepted ← accepted_in ms
-  items ← items_in accepted.table.cap ms
+abbrev pub node_at : ℕ → Members → Result NodeText ScenarioFault
+node_at n ms = do
+  accepted ← accepted_in n ms
+  items ← items_in n accepted.table.cap ms
   Ok (record { accepted = accepted; items = items })
 
-abbrev pub node_in : Data → Result NodeText ScenarioFault
-node_in d = present BadScenario (as_table d) >>= node_at
+-- the node of this number
+abbrev pub node_in : ℕ → Data → Result NodeText ScenarioFault
+node_in n d = present BadScenario (as_table d) >>= node_at n
 
 -- ---- a scenario
 
@@ -131,7 +134,7 @@ abbrev pub scenario_in : Members → Result ScenarioText ScenarioFault
 scenario_in ms = do
   entries ← nodes_at ms
   texts ← steps_at ms
-  nodes ← each_from (λ _ d. node_in d) 0 entries
+  nodes ← each_from node_in 0 entries
   steps ← each_from step_in 0 texts
   Ok (record { nodes = nodes; steps = steps })
 
@@ -156,7 +159,7 @@ IsTextOf text said = (ms : Members) × IsDocument text ms × (scenario_in ms ≡
 -- the scenario of a text, or that it is no TOML, or the fault of its table
 abbrev pub Refuses : ScenarioError → List ℕ → Type 0
 Refuses errors.Memory text = ⊤
-Refuses (errors.Fault f) text = ((f ≡ Strategy NotToml) × (IsText text → ⊥)) ⊎ IsTextOf text (Err f)
+Refuses (errors.Fault f) text = ((f ≡ NotToml) × (IsText text → ⊥)) ⊎ IsTextOf text (Err f)
 
 abbrev pub Reads : Result ScenarioText ScenarioError → List ℕ → Type 0
 Reads (Ok s) text = IsTextOf text (Ok s)

@@ -1,26 +1,43 @@
 //! Why a text is no scenario, or is not run.
 
 ghost use Rattle.std.specs.Prelude.{◌≡◌};
-ghost use Rattle.sim_core.specs.ScenarioFaults.{of_strategy_error, of_check_error};
 ghost use Rattle.sim_core.specs.declared.scenario_fault.ScenarioError.TheVariants as errors;
 
+use item_files::StrategyFlaw;
 use std::alloc::{AllocError, AllocFailed};
-use strategy_check::{CheckError, CheckFault};
-use strategy_core::{StrategyError, StrategyFault};
+use strategy_check::CheckFault;
 use thiserror::Error;
 
-/// Why a text is no scenario: the first test that fails.
+/// Why a text is no scenario: the first test that fails. Nodes and steps are counted from 0, as steps name nodes.
 #[derive(Clone, Copy, Debug, PartialEq, Eq, Error)]
 pub enum ScenarioFault {
-    /// The bytes are no TOML text, or a node has no strategy.
-    #[error("there is no strategy (refusal {})", .0.number())]
-    Strategy(StrategyFault),
+    /// The bytes are no TOML text.
+    #[error("there is no TOML text (refusal 30)")]
+    NotToml,
+    /// A node has no strategy.
+    #[error("node {node} has no strategy (refusal {})", .flaw.fault.number())]
+    Strategy {
+        /// The number of the node.
+        node: usize,
+        /// The first test that fails, and where.
+        flaw: StrategyFlaw,
+    },
     /// A node's strategy is not accepted.
-    #[error("a strategy is not accepted (refusal {})", .0.number())]
-    Check(CheckFault),
+    #[error("the strategy of node {node} is not accepted (refusal {})", .fault.number())]
+    Check {
+        /// The number of the node.
+        node: usize,
+        /// Why it is not.
+        fault: CheckFault,
+    },
     /// A node has more different items than its cap.
-    #[error("there are more different items than the cap")]
-    TooManyItems,
+    #[error("node {node} has more different items than its cap, {cap}")]
+    TooManyItems {
+        /// The number of the node.
+        node: usize,
+        /// Its cap.
+        cap: u32,
+    },
     /// `node` is no array of 2 to 16 tables, `steps` no array of at most 100,000 texts, or `items` no array of texts
     /// that are each 1 to 64 bytes in hex.
     #[error("the nodes, the steps or the items are none")]
@@ -28,7 +45,7 @@ pub enum ScenarioFault {
     /// A text spells no step.
     #[error("step {step} is none")]
     BadStep {
-        /// The number of the first such step, from 0.
+        /// The number of the first such step.
         step: usize,
     },
 }
@@ -49,28 +66,6 @@ impl From<ScenarioFault> for ScenarioError {
 
     fn from(fault: ScenarioFault) -> ScenarioError {
         ScenarioError::Fault(fault)
-    }
-}
-
-impl From<StrategyError> for ScenarioError {
-    ghost from_gives = { λ f e. e ≡ of_strategy_error f };
-
-    fn from(error: StrategyError) -> ScenarioError {
-        match error {
-            StrategyError::Fault(fault) => ScenarioError::Fault(ScenarioFault::Strategy(fault)),
-            StrategyError::Memory => ScenarioError::Memory,
-        }
-    }
-}
-
-impl From<CheckError> for ScenarioError {
-    ghost from_gives = { λ f e. e ≡ of_check_error f };
-
-    fn from(error: CheckError) -> ScenarioError {
-        match error {
-            CheckError::Fault(fault) => ScenarioError::Fault(ScenarioFault::Check(fault)),
-            CheckError::Memory => ScenarioError::Memory,
-        }
     }
 }
 

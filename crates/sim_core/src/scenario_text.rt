@@ -5,7 +5,7 @@ ghost use Rattle.std.specs.List.{list_all};
 ghost use Rattle.toml.specs.Data.{get_member};
 ghost use Rattle.toml.specs.View.{table_view, view, array_view};
 ghost use Rattle.sim_core.specs.Scenarios.{Gives, GivesField, Reads, each_from, array_at, is_table, is_text, are_nodes};
-ghost use Rattle.sim_core.specs.Scenarios.{are_steps, nodes_at, steps_at, accepted_in, checked, item_in, items_in};
+ghost use Rattle.sim_core.specs.Scenarios.{are_steps, nodes_at, steps_at, accepted_in, item_in, items_in};
 ghost use Rattle.sim_core.specs.Scenarios.{node_at, node_in, step_in, scenario_in};
 ghost use Rattle.sim_core.specs.ScenarioOpens.{Opens};
 
@@ -13,11 +13,10 @@ use crate::scenario::{Scenario, ScenarioNode, ScenarioStep};
 use crate::scenario_fault::{ScenarioError, ScenarioFault};
 use crate::step_text::step_of;
 use item_core::Item;
-use item_files::item_of;
+use item_files::{SettingsFault, item_of};
 use std::alloc::Global;
 use store_core::spans::distinct;
-use strategy_check::{Accepted, check};
-use strategy_core::{Strategy, StrategyFault};
+use strategy_check::Accepted;
 use toml::value::{Array, Table, Value};
 
 /// The most nodes of a scenario.
@@ -30,10 +29,10 @@ const MAX_STEPS: usize = 100_000;
 fn document(alloc: Global, text: &[u8]) -> Result<Table, ScenarioError>
     ensures { Opens result text.now }
 {
-    match toml::table_from_slice(alloc, text) {
+    match item_files::document(alloc, text) {
         Ok(table) => Ok(table),
-        Err(error) if error.is_memory() => Err(ScenarioError::Memory),
-        Err(_) => Err(ScenarioError::Fault(ScenarioFault::Strategy(StrategyFault::NotToml))),
+        Err(SettingsFault::Strategy(_)) => Err(ScenarioError::Fault(ScenarioFault::NotToml)),
+        Err(_) => Err(ScenarioError::Memory),
     }
 }
 
@@ -118,21 +117,20 @@ fn steps_at(table: &Table) -> Result<&Array, ScenarioFault>
     Ok(array)
 }
 
-/// The strategy with the ranks that its check finds.
-fn checked(alloc: Global, strategy: Strategy) -> Result<Accepted, ScenarioError>
-    ensures { Gives (λ a. a) result (checked strategy) }
+/// The strategy of the node of this number, with the ranks that its check finds.
+fn accepted_in(alloc: Global, node: usize, entry: &Table) -> Result<Accepted, ScenarioError>
+    ensures { Gives (λ a. a) result (accepted_in node (table_view entry.now)) }
 {
-    match check(alloc, strategy) {
+    match item_files::accepted_in(alloc, entry) {
         Ok(accepted) => Ok(accepted),
-        Err((_strategy, error)) => Err(ScenarioError::from(error)),
+        Err(SettingsFault::Strategy(flaw)) => {
+            Err(ScenarioError::Fault(ScenarioFault::Strategy { node, flaw }))
+        }
+        Err(SettingsFault::Check(fault)) => {
+            Err(ScenarioError::Fault(ScenarioFault::Check { node, fault }))
+        }
+        Err(_) => Err(ScenarioError::Memory),
     }
-}
-
-/// The strategy of a node.
-fn accepted_in(alloc: Global, entry: &Table) -> Result<Accepted, ScenarioError>
-    ensures { Gives (λ a. a) result (accepted_in (table_view entry.now)) }
-{
-    checked(alloc, Strategy::from_table(alloc, entry)?)
 }
 
 /// The item that a value spells in hex.
@@ -156,43 +154,44 @@ fn listed(alloc: Global, array: &Array) -> Result<Vec<Item>, ScenarioError>
     Ok(items)
 }
 
-/// The items of a node, in rising order: not more than the cap.
-fn items_in(alloc: Global, entry: &Table, cap: u32) -> Result<Vec<Item>, ScenarioError>
-    ensures { Gives (λ items. items.items) result (items_in cap (table_view entry.now)) }
+/// The items of the node of this number, in rising order: not more than the cap.
+fn items_in(alloc: Global, node: usize, entry: &Table, cap: u32) -> Result<Vec<Item>, ScenarioError>
+    ensures { Gives (λ items. items.items) result (items_in node cap (table_view entry.now)) }
 {
     let items = distinct(listed(alloc, array_at(entry, "items")?)?);
     if items.len() > cap as usize {
-        return Err(ScenarioError::Fault(ScenarioFault::TooManyItems));
+        return Err(ScenarioError::Fault(ScenarioFault::TooManyItems { node, cap }));
     }
     Ok(items)
 }
 
-/// The node that a table is: its strategy, its check, and then its items.
-fn node_at(alloc: Global, entry: &Table) -> Result<ScenarioNode, ScenarioError>
-    ensures { Gives (λ node. node) result (node_at (table_view entry.now)) }
+/// The node of this number that a table is: its strategy, its check, and then its items.
+fn node_at(alloc: Global, node: usize, entry: &Table) -> Result<ScenarioNode, ScenarioError>
+    ensures { Gives (λ node. node) result (node_at node (table_view entry.now)) }
 {
-    let accepted = accepted_in(alloc, entry)?;
-    let items = items_in(alloc, entry, accepted.cap())?;
+    let accepted = accepted_in(alloc, node, entry)?;
+    let items = items_in(alloc, node, entry, accepted.cap())?;
     Ok(ScenarioNode { accepted, items })
 }
 
-/// The node that a value is.
-fn node_in(alloc: Global, value: &Value) -> Result<ScenarioNode, ScenarioError>
-    ensures { Gives (λ node. node) result (node_in (view value.now)) }
+/// The node of this number that a value is.
+fn node_in(alloc: Global, node: usize, value: &Value) -> Result<ScenarioNode, ScenarioError>
+    ensures { Gives (λ node. node) result (node_in node (view value.now)) }
 {
     match value.as_table() {
-        Some(entry) => node_at(alloc, entry),
+        Some(entry) => node_at(alloc, node, entry),
         None => Err(ScenarioError::Fault(ScenarioFault::BadScenario)),
     }
 }
 
 /// The nodes of an array.
 fn nodes_in(alloc: Global, array: &Array) -> Result<Vec<ScenarioNode>, ScenarioError>
-    ensures { Gives (λ nodes. nodes.items) result (each_from (λ _ d. node_in d) 0 (array_view array.now)) }
+    ensures { Gives (λ nodes. nodes.items) result (each_from node_in 0 (array_view array.now)) }
 {
     let mut nodes = Vec::new(alloc);
     for value in array {
-        nodes.push(node_in(alloc, value)?)?;
+        let node = node_in(alloc, nodes.len(), value)?;
+        nodes.push(node)?;
     }
     Ok(nodes)
 }

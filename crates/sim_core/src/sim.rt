@@ -17,8 +17,13 @@ use world_core::{Did, Setup, SetupFault, Step, World};
 /// The most messages of a session: 3 + 2 * 255, as no rank is above 255.
 const MAX_MESSAGES: usize = 513;
 
-/// Adds a node of a scenario.
-fn add_node(alloc: Global, setup: &mut Setup, node: ScenarioNode) -> Result<(), ScenarioError>
+/// Adds the node of this number.
+fn add_node(
+    alloc: Global,
+    setup: &mut Setup,
+    number: usize,
+    node: ScenarioNode,
+) -> Result<(), ScenarioError>
     ensures node { OnOk result (setup.new ≡ setup.old ++ node_of node ∷ []) }
     ensures fits { IfErr result (λ e. FitsItsCap node → e ≡ ScenarioError.Memory) }
 {
@@ -26,9 +31,12 @@ fn add_node(alloc: Global, setup: &mut Setup, node: ScenarioNode) -> Result<(), 
     let Err(refused) = setup.add_node(alloc, accepted, &items) else {
         return Ok(());
     };
-    let (_accepted, fault) = refused;
+    let (accepted, fault) = refused;
     match fault {
-        SetupFault::Full => Err(ScenarioError::Fault(ScenarioFault::TooManyItems)),
+        SetupFault::Full => Err(ScenarioError::Fault(ScenarioFault::TooManyItems {
+            node: number,
+            cap: accepted.cap(),
+        })),
         SetupFault::Memory => Err(ScenarioError::Memory),
     }
 }
@@ -39,8 +47,10 @@ fn setup_of(alloc: Global, nodes: Vec<ScenarioNode>) -> Result<Setup, ScenarioEr
     ensures fits { IfErr result (λ e. AllByRecursion FitsItsCap nodes.items → e ≡ ScenarioError.Memory) }
 {
     let mut setup = Setup::new(alloc);
+    let mut number = 0usize;
     for node in nodes {
-        add_node(alloc, &mut setup, node)?;
+        add_node(alloc, &mut setup, number, node)?;
+        number = number.saturating_add(1);
     }
     Ok(setup)
 }

@@ -7,9 +7,13 @@ use Rattle.tcp_front.specs.declared.fault.ConnectFault.{ConnectFault}
 use Rattle.tcp_front.specs.declared.fault.ConnectFault.TheVariants as connects
 
 abbrev pub listen_fault_number : ListenFault → ℕ
+listen_fault_number (listens.NoAddress _) = codes.bind
 listen_fault_number (listens.Bind _) = codes.bind
+listen_fault_number (listens.Socket at kind) = codes.bind
 listen_fault_number listens.Memory = codes.no_memory
 
 abbrev pub connect_fault_number : ConnectFault → ℕ
+connect_fault_number (connects.NoAddress _) = codes.connect
 connect_fault_number (connects.Connect _) = codes.connect
+connect_fault_number (connects.Socket at kind) = codes.connect
 connect_fault_number connects.Memory = codes.no_memory

@@ -10,8 +10,20 @@ use std::io;
 use std::io::ErrorKind;
 use std::net::{Net, SocketAddr, TcpStream, ToSocketAddrs};
 
+/// Why the text of an address was not looked up.
+fn unknown(error: &io::Error) -> ConnectFault
+    ensures memory { error_kind error.now ≡ ErrorKind.OutOfMemory → result ≡ ConnectFault.Memory }
+    ensures unknown { error_kind error.now ≢ ErrorKind.OutOfMemory →
+        result ≡ ConnectFault.NoAddress (error_kind error.now) }
+{
+    match error.kind() {
+        ErrorKind::OutOfMemory => ConnectFault::Memory,
+        kind => ConnectFault::NoAddress(kind),
+    }
+}
+
 /// Why a connection was not made.
-pub(crate) fn fault_of(error: &io::Error) -> ConnectFault
+fn fault_of(error: &io::Error) -> ConnectFault
     ensures memory { error_kind error.now ≡ ErrorKind.OutOfMemory → result ≡ ConnectFault.Memory }
     ensures connect { error_kind error.now ≢ ErrorKind.OutOfMemory →
         result ≡ ConnectFault.Connect (error_kind error.now) }
@@ -37,15 +49,19 @@ fn reach_any<R: Net<Stream = TcpStream>>(
     rt: &R,
     address: &str,
     patience: u32,
-) -> io::Result<Stream> {
+) -> Result<Stream, ConnectFault> {
+    let places = match address.to_socket_addrs(rt) {
+        Ok(places) => places,
+        Err(error) => return Err(unknown(&error)),
+    };
     let mut last = io::Error::from(ErrorKind::InvalidInput);
-    for place in address.to_socket_addrs(rt)? {
+    for place in places {
         match reach(rt, &place, patience) {
             Ok(stream) => return Ok(stream),
             Err(error) => last = error,
         }
     }
-    Err(last)
+    Err(fault_of(&last))
 }
 
 /// Connects to an address: an IP address or a host's name, and a port, as `127.0.0.1:7700`. Small messages are sent at
@@ -58,11 +74,7 @@ pub fn connect<R: Net<Stream = TcpStream>>(
     address: &str,
     patience: u32,
 ) -> Result<Stream, ConnectFault> {
-    match reach_any(rt, address, patience) {
-        Ok(stream) => {
-            stream.send_at_once();
-            Ok(stream)
-        }
-        Err(error) => Err(fault_of(&error)),
-    }
+    let stream = reach_any(rt, address, patience)?;
+    stream.send_at_once();
+    Ok(stream)
 }

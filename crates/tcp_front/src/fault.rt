@@ -3,13 +3,18 @@
 ghost use Rattle.std.specs.Prelude.{◌≡◌};
 ghost use Rattle.tcp_front.specs.Faults.{listen_fault_number, connect_fault_number};
 
+use crate::at_path::AtPath;
 use std::io::ErrorKind;
 
 /// Why there is no listener.
 #[derive(Clone, Copy, Debug, PartialEq, Eq)]
 pub enum ListenFault {
-    /// The address is none, or is in use, or may not be listened at: what the system said.
+    /// The text names no address: what its look-up said.
+    NoAddress(ErrorKind),
+    /// The address is in use, or may not be listened at: what the system said.
     Bind(ErrorKind),
+    /// No socket is made at the path: what stands there, and what the system said.
+    Socket { at: AtPath, kind: ErrorKind },
     /// Memory ran out.
     Memory,
 }
@@ -20,7 +25,7 @@ impl ListenFault {
         ensures { result ≡ listen_fault_number self }
     {
         match self {
-            ListenFault::Bind(_) => 60,
+            ListenFault::NoAddress(_) | ListenFault::Bind(_) | ListenFault::Socket { .. } => 60,
             ListenFault::Memory => 90,
         }
     }
@@ -29,8 +34,12 @@ impl ListenFault {
 /// Why there is no connection.
 #[derive(Clone, Copy, Debug, PartialEq, Eq)]
 pub enum ConnectFault {
-    /// The address is none, or nobody answers there: what the system said.
+    /// The text names no address: what its look-up said.
+    NoAddress(ErrorKind),
+    /// Nobody answers at the address: what the system said.
     Connect(ErrorKind),
+    /// Nobody answers at the path of a socket: what stands there, and what the system said.
+    Socket { at: AtPath, kind: ErrorKind },
     /// Memory ran out.
     Memory,
 }
@@ -41,7 +50,8 @@ impl ConnectFault {
         ensures { result ≡ connect_fault_number self }
     {
         match self {
-            ConnectFault::Connect(_) => 61,
+            ConnectFault::NoAddress(_) | ConnectFault::Connect(_) | ConnectFault::Socket { .. } =>
+                61,
             ConnectFault::Memory => 90,
         }
     }

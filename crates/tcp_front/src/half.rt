@@ -4,7 +4,7 @@ use crate::stream::Stream;
 use std::alloc::Global;
 use std::io;
 use std::io::{Read, Write};
-use std::net::Shutdown;
+use std::net::{Shutdown, SocketAddr};
 use std::os::fd::{AsRawFd, RawFd};
 use std::sync::Arc;
 
@@ -13,35 +13,64 @@ use std::sync::Arc;
 /// Both halves share the connection's one descriptor, so a session takes no second one. The connection is closed when
 /// both are dropped.
 #[derive(Drop)]
-pub struct Half(Arc<Stream>);
+pub struct Half {
+    stream: Arc<Stream>,
+    /// The address of TCP of the other side, if it is known.
+    address: Option<SocketAddr>,
+    /// How many bytes went through. The count stops at 2^64 - 1.
+    bytes: u64,
+}
 
 impl Half {
+    /// One half of a connection from this address, through which nothing went so far.
+    fn new(stream: Arc<Stream>, address: Option<SocketAddr>) -> Half {
+        Half {
+            stream,
+            address,
+            bytes: 0,
+        }
+    }
+
     /// The connection.
     pub(crate) fn stream(&self) -> &Stream {
-        &self.0
+        &self.stream
+    }
+
+    /// The address of TCP of the other side, if it is known.
+    pub fn address(&self) -> Option<SocketAddr> {
+        self.address
+    }
+
+    /// How many bytes were read of this half, or written to it.
+    pub fn bytes(&self) -> u64 {
+        self.bytes
     }
 
     /// Nothing more is written to the connection.
     pub fn end_output(&self) -> io::Result<()> {
-        self.0.shutdown(Shutdown::Write)
+        self.stream.shutdown(Shutdown::Write)
     }
 }
 
 impl AsRawFd for Half {
     fn as_raw_fd(&self) -> RawFd {
-        self.0.as_raw_fd()
+        self.stream.as_raw_fd()
     }
 }
 
 impl Read for Half {
     fn read(&mut self, buf: &mut [u8]) -> io::Result<usize> {
-        self.0.receive(buf)
+        let count = self.stream.receive(buf)?;
+        self.bytes = self.bytes.saturating_add(count as u64);
+        Ok(count)
     }
 }
 
 impl Write for Half {
     fn write(&mut self, buf: &[u8]) -> io::Result<usize> {
-        self.0.send(buf)
+        let count = self.stream.send(buf)?;
+        self.bytes = self.bytes.saturating_add(count as u64);
+        Ok(count)
     }
 
     fn flush(&mut self) -> io::Result<()> {
@@ -49,9 +78,14 @@ impl Write for Half {
     }
 }
 
-/// The half that is read and the half that is written; without memory there are none, and the connection is closed.
-pub(crate) fn halves(alloc: Global, stream: Stream) -> Option<(Half, Half)> {
+/// The half that is read and the half that is written of a connection from this address; without memory there are none,
+/// and the connection is closed.
+pub(crate) fn halves(
+    alloc: Global,
+    stream: Stream,
+    address: Option<SocketAddr>,
+) -> Option<(Half, Half)> {
     let reader = Arc::new(alloc, stream).ok()?;
     let writer = Arc::try_clone(&reader).ok()?;
-    Some((Half(reader), Half(writer)))
+    Some((Half::new(reader, address), Half::new(writer, address)))
 }

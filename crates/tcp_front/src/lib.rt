@@ -1,6 +1,7 @@
 //! Connections over TCP and Unix sockets: a listener that workers share, and a connection that is made.
 #![tactic(auto)]
 
+mod at_path;
 mod closing;
 mod connecting;
 mod fault;
@@ -16,6 +17,7 @@ mod tests;
 mod trying;
 mod unix_socket;
 
+pub use at_path::AtPath;
 pub use closing::finish;
 pub use connecting::connect;
 pub use fault::{ConnectFault, ListenFault};

@@ -16,7 +16,7 @@ use outcome_core::{Source, SourceFault};
 use std::alloc::Global;
 use std::io;
 use std::io::{ErrorKind, Take};
-use std::net::{Net, SocketAddr, TcpListener, TcpStream};
+use std::net::{Net, SocketAddr, TcpListener, TcpStream, ToSocketAddrs};
 use std::os::fd::{AsRawFd, RawFd};
 use std::rt::Files;
 use std::sync::atomic::{AtomicU64, Ordering};
@@ -39,8 +39,20 @@ pub struct Listener<'a, C> {
     clock: &'a C,
 }
 
+/// Why the text of an address was not looked up.
+fn unknown(error: &io::Error) -> ListenFault
+    ensures memory { error_kind error.now ≡ ErrorKind.OutOfMemory → result ≡ ListenFault.Memory }
+    ensures unknown { error_kind error.now ≢ ErrorKind.OutOfMemory →
+        result ≡ ListenFault.NoAddress (error_kind error.now) }
+{
+    match error.kind() {
+        ErrorKind::OutOfMemory => ListenFault::Memory,
+        kind => ListenFault::NoAddress(kind),
+    }
+}
+
 /// Why a listener was not made.
-pub(crate) fn listen_fault(error: &io::Error) -> ListenFault
+fn listen_fault(error: &io::Error) -> ListenFault
     ensures memory { error_kind error.now ≡ ErrorKind.OutOfMemory → result ≡ ListenFault.Memory }
     ensures bind { error_kind error.now ≢ ErrorKind.OutOfMemory →
         result ≡ ListenFault.Bind (error_kind error.now) }
@@ -62,6 +74,25 @@ pub(crate) fn accept_fault(error: &io::Error) -> SourceFault
     }
 }
 
+/// A socket that listens at the first address of the text at which it may.
+fn bind_any<R: Net<Listener = TcpListener, Stream = TcpStream>>(
+    rt: &R,
+    address: &str,
+) -> Result<TcpListener, ListenFault> {
+    let places = match address.to_socket_addrs(rt) {
+        Ok(places) => places,
+        Err(error) => return Err(unknown(&error)),
+    };
+    let mut last = io::Error::from(ErrorKind::InvalidInput);
+    for place in places {
+        match TcpListener::bind(rt, place) {
+            Ok(socket) => return Ok(socket),
+            Err(error) => last = error,
+        }
+    }
+    Err(listen_fault(&last))
+}
+
 /// Listens at an address: an IP address or a host's name, and a port, as `127.0.0.1:7700`; at port 0 the system chooses
 /// one. After this many connections the listener gives no more; with none it has no end. A read or a write of a
 /// connection that takes longer than the limits say fails, and its input ends after the bytes that they say. A
@@ -74,10 +105,8 @@ pub fn listen<'a, R: Net<Listener = TcpListener, Stream = TcpStream> + Clock + A
     connections: Option<u32>,
     limits: Limits,
 ) -> Result<Listener<'a, R>, ListenFault> {
-    match TcpListener::bind(rt, address) {
-        Ok(socket) => Ok(Listener::new(rt, Socket::Tcp(socket), connections, limits)),
-        Err(error) => Err(listen_fault(&error)),
-    }
+    let socket = Socket::Tcp(bind_any(rt, address)?);
+    Ok(Listener::new(rt, socket, connections, limits))
 }
 
 /// The next connection of a socket.
@@ -88,7 +117,8 @@ impl Attempt for Next<'_> {
     type Made = Stream;
 
     fn attempt(&self) -> io::Result<Stream> {
-        self.0.accept()
+        let (stream, _from) = self.0.accept()?;
+        Ok(stream)
     }
 }
 
@@ -168,7 +198,7 @@ impl<C: Clock> Listener<'_, C> {
     /// Waits for a connection, and gives its two halves.
     fn next(&self) -> Result<(Take<Half>, Half), SourceFault> {
         let stream = self.accept().map_err(|error| accept_fault(&error))?;
-        let (reader, writer) = halves(self.alloc, stream).ok_or(SourceFault::Memory)?;
+        let (reader, writer) = halves(self.alloc, stream, None).ok_or(SourceFault::Memory)?;
         Ok((limited(reader, self.limits.most_bytes), writer))
     }
 }

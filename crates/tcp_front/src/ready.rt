@@ -10,6 +10,7 @@ use crate::trying::{Miss, miss_of};
 use outcome_core::SourceFault;
 use std::io;
 use std::io::ErrorKind;
+use std::net::SocketAddr;
 
 /// What a listener has for someone who does not wait.
 #[derive(Drop)]
@@ -54,10 +55,11 @@ impl<C> Listener<'_, C> {
         self.socket.never_wait()
     }
 
-    /// The two halves of a connection that was accepted. One that is gone meanwhile is passed over.
-    fn arrived(&self, stream: Stream) -> Arrival {
+    /// The two halves of a connection that was accepted, from this address if it is known. One that is gone meanwhile
+    /// is passed over.
+    fn arrived(&self, stream: Stream, from: Option<SocketAddr>) -> Arrival {
         match prompt(stream) {
-            Ok(stream) => match halves(self.alloc, stream) {
+            Ok(stream) => match halves(self.alloc, stream, from) {
                 Some((reader, writer)) => Arrival::Came(reader, writer),
                 None => Arrival::NoRoom,
             },
@@ -72,7 +74,7 @@ impl<C> Listener<'_, C> {
             return Ok(Arrival::NoMore);
         }
         match self.socket.accept() {
-            Ok(stream) => Ok(self.arrived(stream)),
+            Ok((stream, from)) => Ok(self.arrived(stream, from)),
             Err(error) => {
                 self.uncount();
                 let missed = missed(&error);

@@ -16,16 +16,16 @@ pub(crate) enum Socket {
 }
 
 impl Socket {
-    /// The next connection.
-    pub(crate) fn accept(&self) -> io::Result<Stream> {
+    /// The next connection, and the address of its other side over TCP.
+    pub(crate) fn accept(&self) -> io::Result<(Stream, Option<SocketAddr>)> {
         match self {
             Socket::Tcp(listener) => {
-                let (stream, _peer) = listener.accept()?;
-                Ok(Stream::Tcp(stream))
+                let (stream, from) = listener.accept()?;
+                Ok((Stream::Tcp(stream), Some(from)))
             }
             Socket::Unix(listener) => {
-                let (stream, _peer) = listener.accept()?;
-                Ok(Stream::Unix(stream))
+                let (stream, _from) = listener.accept()?;
+                Ok((Stream::Unix(stream), None))
             }
         }
     }

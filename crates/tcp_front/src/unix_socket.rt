@@ -1,9 +1,12 @@
 //! Unix sockets: the file that one has is made, a stale one is replaced, and it is removed at the end.
 
-use crate::connecting::fault_of;
+ghost use Rattle.std.specs.Prelude.{◌≡◌, ◌≢◌};
+ghost use Rattle.std.specs.IoError.{error_kind};
+
+use crate::at_path::{AtPath, at_path};
 use crate::fault::{ConnectFault, ListenFault};
 use crate::limits::Limits;
-use crate::listener::{Listener, listen_fault};
+use crate::listener::Listener;
 use crate::patience::bounded;
 use crate::socket::Socket;
 use crate::stream::Stream;
@@ -59,6 +62,30 @@ impl<'a> SocketFile<'a> {
     }
 }
 
+/// Why no socket was made at a path at which this stands.
+fn listen_fault(at: AtPath, error: &io::Error) -> ListenFault
+    ensures memory { error_kind error.now ≡ ErrorKind.OutOfMemory → result ≡ ListenFault.Memory }
+    ensures socket { error_kind error.now ≢ ErrorKind.OutOfMemory →
+        result ≡ ListenFault.Socket at (error_kind error.now) }
+{
+    match error.kind() {
+        ErrorKind::OutOfMemory => ListenFault::Memory,
+        kind => ListenFault::Socket { at, kind },
+    }
+}
+
+/// Why nobody was reached at a path at which this stands.
+fn connect_fault(at: AtPath, error: &io::Error) -> ConnectFault
+    ensures memory { error_kind error.now ≡ ErrorKind.OutOfMemory → result ≡ ConnectFault.Memory }
+    ensures socket { error_kind error.now ≢ ErrorKind.OutOfMemory →
+        result ≡ ConnectFault.Socket at (error_kind error.now) }
+{
+    match error.kind() {
+        ErrorKind::OutOfMemory => ConnectFault::Memory,
+        kind => ConnectFault::Socket { at, kind },
+    }
+}
+
 /// A path that may be a socket's: the system gives an empty one a name of its own choice.
 fn named(path: &str) -> io::Result<&str> {
     if path.is_empty() {
@@ -109,7 +136,7 @@ pub fn listen_unix<'a, R: Files + Net + Clock + AllocGlobal>(
             let file = SocketFile::of(rt, path);
             Ok(Listener::new(rt, Socket::Unix(socket), connections, limits).with_file(file))
         }
-        Err(error) => Err(listen_fault(&error)),
+        Err(error) => Err(listen_fault(at_path(rt, path), &error)),
     }
 }
 
@@ -122,6 +149,13 @@ fn reach<R: Net>(rt: &R, path: &str, patience: u32) -> io::Result<Stream> {
 /// Connects to a Unix socket. A read or a write that takes longer than this many seconds fails.
 ///
 /// Fails with 61 if the path is empty or has more than 107 bytes, or nobody listens there, and with 90.
-pub fn connect_unix<R: Net>(rt: &R, path: &str, patience: u32) -> Result<Stream, ConnectFault> {
-    reach(rt, path, patience).map_err(|error| fault_of(&error))
+pub fn connect_unix<R: Files + Net>(
+    rt: &R,
+    path: &str,
+    patience: u32,
+) -> Result<Stream, ConnectFault> {
+    match reach(rt, path, patience) {
+        Ok(stream) => Ok(stream),
+        Err(error) => Err(connect_fault(at_path(rt, path), &error)),
+    }
 }

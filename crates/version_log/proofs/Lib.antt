@@ -1,2 +1,3 @@
 mod Once
+mod Packs
 mod Rising

@@ -1,6 +1,6 @@
 -- Histories in which each item stands once.
-use Rattle.std.proofs.Common.{◌≡◌, ℕ, ◌+◌, ◌<◌, ◌≤◌, Bool, true, false, not, List, [], ◌∷◌, ◌++◌, length, take, get_or}
-use Rattle.std.proofs.Common.{refl, sym, ap, subst, ◌∙◌, arith}
+use Rattle.std.proofs.Common.{◌≡◌, ℕ, ◌+◌, ◌<◌, ◌≤◌, Bool, true, false, not, List, [], ◌∷◌, ◌++◌, length, take}
+use Rattle.std.proofs.Common.{drop, get_or, refl, sym, ap, subst, ◌∙◌, arith}
 use Rattle.std.specs.Prelude.{fold, IsTrue, if◌then◌else◌}
 use Rattle.std.specs.List.{AllByRecursion, IsDistinct, list_any}
 use Rattle.std.specs.BTreeMap.{is_at}
@@ -9,6 +9,7 @@ use Rattle.std.specs.Ordering.{match_ordering}
 use Rattle.std.specs.declared.cmp.Ordering.{Ordering}
 use Rattle.std.specs.declared.cmp.Ordering.TheVariants.{Less, Equal, Greater}
 use Rattle.std.proofs.lemmas.List.Sums.{fold_more}
+use Rattle.std.proofs.lemmas.List.{take-append-drop}
 use Rattle.std.proofs.lemmas.Map.Text.{is_eq-slice_cmp}
 use Rattle.definitions.specs.Items.{Item, item_cmp, same_item}
 use Rattle.definitions.specs.Sets.{IsSet, has, add_item, union, set_of}
@@ -161,14 +162,14 @@ module _ (are_sets : (xs : List Item) → IsSet (set_of xs))
   content_after h [] = refl
   content_after h (x ∷ xs) = content_after (with_item h x) xs ∙ ap (λ A. union A xs) (content_with h x)
 
-  content_opened : (xs : List Item) → content (opening_history xs) ≡ set_of xs
+  pub content_opened : (xs : List Item) → content (opening_history xs) ≡ set_of xs
   content_opened xs = content_after [] xs
 
   pub length_opened : (xs : List Item) → length (opening_history xs) ≡ length (set_of xs)
   length_opened xs = sym (length-content (opening_history xs) (once_opened xs)) ∙ ap length (content_opened xs)
 
   -- a set tells whether the item is new
-  is_new : (h : History) (K : List Item) (x : Item) (b : Bool) → K ≡ content h →
+  pub is_new : (h : History) (K : List Item) (x : Item) (b : Bool) → K ≡ content h →
       b ≡ not (contains item_cmp (record { keys = K }) x) → has (items_of h) x ≡ not b
   is_new h K x b all test = sym (has_all (items_of h) x) ∙ ap (λ A. has A x) (sym all) ∙ sym (has_by_order K x)
       ∙ sym (not_twice (contains item_cmp (record { keys = K }) x)) ∙ ap not (sym test)
@@ -185,3 +186,34 @@ module _ (are_sets : (xs : List Item) → IsSet (set_of xs))
       ∙ ap (λ f. with_item f x) (sym so_far) in
       let with : with_item h x ≡ g = ap (λ t. if t then h else h ++ (0, x) ∷ []) old ∙ sym grown in
       (sym with ∙ sym next, ap (λ A. add_item A x) all ∙ sym (content_with h x) ∙ ap content with)
+
+-- ---- a history that opens only grows
+
+length_with : (h : History) (x : Item) (b : Bool) → length h ≤ length (if b then h else h ++ (0, x) ∷ [])
+length_with h x true = omega arith
+length_with h x false = omega (arith, length-append h ((0, x) ∷ []))
+
+length_after : (h : History) (xs : List Item) → length h ≤ length (fold with_item h xs)
+length_after h [] = omega arith
+length_after h (x ∷ xs) =
+    omega (arith, length_with h x (has (items_of h) x), length_after (with_item h x) xs)
+
+-- what the first items open has no more entries than what all do
+pub length_of_first : (n : ℕ) (xs : List Item) → length (opening_history (take n xs)) ≤ length (opening_history xs)
+length_of_first n xs =
+    let all : opening_history xs ≡ fold with_item (opening_history (take n xs)) (drop n xs) =
+    ap opening_history (sym (take-append-drop n xs)) ∙ fold-append with_item [] (take n xs) (drop n xs) in
+    let same = ap length all in
+    omega (arith, length_after (opening_history (take n xs)) (drop n xs))
+
+-- so there is room for one more where it is new
+pub room_for_one : (xs : List Item) (i : ℕ) (x : Item) (h : History) → i < length xs → x ≡ get_or xs i x →
+    h ≡ opening_history (take i xs) → has (items_of h) x ≡ false → length (opening_history xs) ≤ 65536 →
+    length h < 65536
+room_for_one xs i x h below at so_far new few =
+    let next : opening_history (take (i + 1) xs) ≡ with_item h x =
+    fold_more with_item [] xs i x below ∙ ap (λ y. with_item (opening_history (take i xs)) y) (sym at)
+    ∙ ap (λ f. with_item f x) (sym so_far) in
+    let grown : with_item h x ≡ h ++ (0, x) ∷ [] = ap (λ b. if b then h else h ++ (0, x) ∷ []) new in
+    let same = ap length (next ∙ grown) in
+    omega (arith, length_of_first (i + 1) xs, length-append h ((0, x) ∷ []))

@@ -1,5 +1,5 @@
 -- What a log opens with where its items rise: an entry each, in their order.
-use Rattle.std.proofs.Common.{◌≡◌, ℕ, Bool, true, false, List, [], ◌∷◌, ◌++◌, length, map, fold, refl, sym, ap, ◌∙◌}
+use Rattle.std.proofs.Common.{◌≡◌, false, List, [], ◌∷◌, ◌++◌, length, map, fold, refl, sym, ap, ◌∙◌}
 use Rattle.std.proofs.Common.{append_assoc}
 use Rattle.std.specs.List.{AllByRecursion, IsDistinct}
 use Rattle.std.specs.Ordering.{eq_by_cmp}
@@ -8,7 +8,7 @@ use Rattle.std.proofs.lemmas.Map.Text.{is_eq-slice_cmp}
 use Rattle.definitions.specs.Items.{Item, item_cmp, same_item}
 use Rattle.definitions.specs.Sets.{IsSet, has, set_of}
 use Rattle.definitions.specs.Histories.{History, content, items_of, opening_history, with_item}
-use Rattle.definitions.proofs.Lemmas.{All-both, All-every, All-map, append-nil, length-map, or_from, or_parts}
+use Rattle.definitions.proofs.Lemmas.{All-both, All-every, append-nil, length-map, or_from, or_parts}
 use Rattle.store_core.proofs.Made.{same_set, set_of_is_set, has_set_of}
 use Rattle.version_log.proofs.Once.{differs_back, items_push}
 

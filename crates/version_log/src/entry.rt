@@ -1,8 +1,6 @@
-ghost use Rattle.std.specs.Prelude.{◌≡◌, IfOk};
-ghost use Rattle.definitions.specs.Histories.{items_of};
+ghost use Rattle.std.specs.Prelude.{◌≡◌};
 
 use item_core::Item;
-use std::alloc::{AllocError, Global};
 use std::marker::Model;
 
 /// An item of a history, and the number of the writer that brought it.
@@ -44,15 +42,4 @@ impl Entry {
     {
         &self.item
     }
-}
-
-/// The items of the entries, in their order.
-pub(crate) fn items_of(alloc: Global, entries: &[Entry]) -> Result<Vec<Item>, AllocError>
-    ensures { IfOk result (λ items. items.items ≡ items_of entries.now) }
-{
-    let mut items = Vec::with_capacity(alloc, entries.len())?;
-    for entry in entries {
-        items.push(*entry.item())?;
-    }
-    Ok(items)
 }

@@ -6,7 +6,8 @@ ghost use Rattle.version_log.specs.Logs.{with_writer_given};
 ghost use Rattle.version_log.specs.Answers.{insertion_in};
 
 use crate::answer::{Added, LogFault, WritersSpent};
-use crate::entry::{Entry, items_of};
+use crate::entries::Entries;
+use crate::entry::Entry;
 use crate::first_entries::{first_entries, first_entries_of_set};
 use item_core::Item;
 use std::alloc::{AllocError, Global};
@@ -20,7 +21,7 @@ use store_core::{Insertion, RangeStore, laws};
 #[derive(Drop)]
 pub struct Log<S: RangeStore> {
     cap: u32,
-    entries: Vec<Entry>,
+    entries: Entries,
     store: S,
     next_writer: u64,
 }
@@ -32,10 +33,10 @@ impl<S: RangeStore> Model for Log<S> {
 
     ghost Value = { LogState };
 
-    ghost view = { λ p. log p.cap p.entries.items p.next_writer };
+    ghost view = { λ p. log p.cap p.entries p.next_writer };
 
-    ghost invariant = { λ p. (S.content p.store ≡ content p.entries.items)
-        × IsLog (log p.cap p.entries.items p.next_writer) };
+    ghost invariant = { λ p. (S.content p.store ≡ content p.entries)
+        × IsLog (log p.cap p.entries p.next_writer) };
 }
 
 impl<S: RangeStore> Log<S> {
@@ -65,14 +66,13 @@ impl<S: RangeStore> Log<S> {
         ensures fits { IfOk result (λ _. length (set_of items.now) ≤ cap) }
         ensures full { IfErr result (λ e. e ≡ LogFault.Full → cap < length (set_of items.now)) }
     {
-        let entries = first_entries(alloc, items)?;
-        if entries.len() > cap as usize {
+        let store = S::from_items(alloc, Vec::from_slice(alloc, items)?)?;
+        if store.len() > cap as usize {
             return Err(LogFault::Full);
         }
-        let store = S::from_items(alloc, items_of(alloc, &entries)?)?;
         Ok(Log {
             cap,
-            entries,
+            entries: first_entries(alloc, items)?,
             store,
             next_writer,
         })
@@ -128,8 +128,7 @@ impl<S: RangeStore> Log<S> {
         let Insertion::New(store) = self.store.with(alloc, item)? else {
             return Ok(Added::Already);
         };
-        self.entries.reserve(1)?;
-        self.entries.push_reserved(Entry::new(writer, item));
+        self.entries.push(writer, &item)?;
         self.store = store;
         Ok(Added::New(self.entries.len()))
     }
@@ -156,7 +155,7 @@ impl<S: RangeStore> Log<S> {
         if number == self.entries.len() {
             return self.store.copy(alloc);
         }
-        S::from_items(alloc, items_of(alloc, &self.entries[..number])?)
+        S::from_items(alloc, self.entries.items(alloc, number)?)
     }
 
     /// The same log again.
@@ -165,7 +164,7 @@ impl<S: RangeStore> Log<S> {
     {
         Ok(Log {
             cap: self.cap,
-            entries: Vec::from_slice(alloc, &self.entries)?,
+            entries: self.entries.copy(alloc)?,
             store: self.store.copy(alloc)?,
             next_writer: self.next_writer,
         })
@@ -203,11 +202,11 @@ impl<S: RangeStore> Log<S> {
     }
 
     /// The entry at this place, from 0.
-    pub fn entry(&self, index: usize) -> &Entry
+    pub fn entry(&self, index: usize) -> Entry
         requires { index < length self.now.history }
-        ensures { slice_get self.now.history index ≡ Some result.now }
+        ensures { slice_get self.now.history index ≡ Some result }
     {
-        &self.entries[index]
+        self.entries.entry(index)
     }
 
     /// The store of all items.

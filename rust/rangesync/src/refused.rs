@@ -131,6 +131,8 @@ const NAMES: &[(u32, &str)] = &[
     (52, "OverBound"),
     (53, "SerialsSpent"),
     (54, "GateClosed"),
+    (55, "WrongSet"),
+    (57, "BadEntry"),
     (60, "Bind"),
     (61, "Connect"),
     (62, "Accept"),

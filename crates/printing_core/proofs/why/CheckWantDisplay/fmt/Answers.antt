@@ -1,4 +1,3 @@
-use Rattle.std.proofs.Common.{rules}
 use Rattle.printing_core.proofs.why.CheckWantDisplay.fmt.Goals as goal
 
 pub returns-in-TooDeep-clause-writes : goal.returns-in-TooDeep-clause-writes

@@ -3,8 +3,5 @@ use Rattle.printing_core.proofs.why.WhyDisplay.fmt.Goals as goal
 pub returns-in-TooManyItems-clause-writes : goal.returns-in-TooManyItems-clause-writes
 returns-in-TooManyItems-clause-writes g c = rw c.in-TooManyItems.is c.write-in-TooManyItems.ensures.writes
 
-pub returns-in-BadRow-clause-writes : goal.returns-in-BadRow-clause-writes
-returns-in-BadRow-clause-writes g c = rw c.in-BadRow.is c.write-in-BadRow.ensures.writes
-
 pub returns-in-LongLine-clause-writes : goal.returns-in-LongLine-clause-writes
 returns-in-LongLine-clause-writes g c = rw c.in-LongLine.is c.write-in-LongLine.ensures.writes

@@ -1,4 +1,4 @@
-use Rattle.std.proofs.Common.{rules, arith, ◌∙◌, sym, length, ◌≤◌}
+use Rattle.std.proofs.Common.{arith, ◌∙◌, sym, length, ◌≤◌}
 use Rattle.version_log.proofs.Once.{writers_opened}
 use Rattle.version_log.proofs.log.Log.of_store.Goals as goal
 
@@ -8,7 +8,7 @@ invariant_of-result g c =
     let opening = c.in_ok-first_entries_of_set.ensures in
     let count = opening.count in
     let room = c.requires.fits in
-    let small : length entries.items ≤ c.args.cap = rw count room in (
+    let small : length entries ≤ c.args.cap = rw count room in (
       c.requires.store ∙ sym opening.content,
       record {
         once = opening.once;

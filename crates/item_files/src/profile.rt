@@ -1,0 +1,8 @@
+/// What a Sum carries of the items in its range.
+#[derive(Clone, Copy, Debug, PartialEq, Eq)]
+pub enum WireProfile {
+    /// Profile 1: a fingerprint.
+    One,
+    /// Profile 2: how many items there are, and a fingerprint.
+    Two,
+}

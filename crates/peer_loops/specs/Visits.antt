@@ -1,0 +1,43 @@
+-- What those who watch are told of a peer that is gone.
+--     profile_in stage       the wire profile of its session, if that was opened
+--     ours_in o, theirs_in o how many own items its peer lacked, and of the peer's were lacked here, if it came to its end
+--     IsTold l o v           what is told of a peer of which this is known, and whose session ended so
+use Rattle.std.specs.Prelude.{◌≡◌, ℕ, ◌-◌, length, Option, Some, None}
+use Rattle.outcome_core.specs.Sent.{sent_in}
+use Rattle.outcome_core.specs.declared.outcome.Outcome.{Outcome}
+use Rattle.outcome_core.specs.declared.outcome.Outcome.TheVariants as outcomes
+use Rattle.hub_core.specs.declared.stage.Stage.{Stage}
+use Rattle.hub_core.specs.declared.stage.Stage.TheVariants as stages
+use Rattle.watch_core.specs.Counting.{ending_of}
+use Rattle.watch_core.specs.declared.visit.Visit.{Visit}
+use Rattle.peer_loops.specs.declared.visiting.Leaver.{Leaver}
+
+abbrev pub profile_in : Stage → Option ℕ
+profile_in (stages.Greeting g) = None
+profile_in (stages.Plain c) = Some 1
+profile_in (stages.Counted c) = Some 2
+
+abbrev pub ours_in : Outcome → ℕ
+ours_in (outcomes.Ended learned sent version) = length learned.ours
+ours_in (outcomes.Refused code sent) = 0
+ours_in (outcomes.PeerRefused code sent) = 0
+ours_in (outcomes.Io side sent) = 0
+ours_in (outcomes.Memory sent) = 0
+
+abbrev pub theirs_in : Outcome → ℕ
+theirs_in (outcomes.Ended learned sent version) = length learned.theirs
+theirs_in (outcomes.Refused code sent) = 0
+theirs_in (outcomes.PeerRefused code sent) = 0
+theirs_in (outcomes.Io side sent) = 0
+theirs_in (outcomes.Memory sent) = 0
+
+pub record IsTold (l : Leaver) (o : Outcome) (v : Visit) : Type 0 where
+  pub address : v.address ≡ l.address
+  pub profile : v.profile ≡ l.profile
+  pub serial : v.serial ≡ l.serial
+  pub ending : v.ending ≡ ending_of o
+  pub messages : v.traffic.messages ≡ sent_in o
+  pub ours : v.traffic.ours ≡ ours_in o
+  pub theirs : v.traffic.theirs ≡ theirs_in o
+  pub millis : v.millis ≡ l.now - l.arrived
+  pub ended : v.ended ≡ l.now

@@ -1,0 +1,182 @@
+//! Those who ask by HTTP, on connections that never wait: each is heard for a while, answered, and read on until it
+//! closes.
+
+use std::alloc::{AllocError, Global};
+use std::io::{ErrorKind, Read, Write};
+use std::os::fd::{AsRawFd, RawFd};
+use tcp_front::Half;
+use watch_core::{Asked, request_in};
+
+/// For how many milliseconds a connection is kept, at most.
+const MOST_MILLISECONDS: u64 = 5_000;
+
+/// How many bytes are read of one, at most: the head of a request, and what may follow it.
+const MOST_BYTES: usize = 1_048_576;
+
+/// How many bytes are read at a time.
+const ROOM: usize = 4_096;
+
+/// How many reads or writes one call makes at most.
+const TURNS: usize = 32;
+
+/// How far a caller is.
+#[derive(Clone, Copy, Debug, PartialEq, Eq)]
+enum Stage {
+    /// Its request has not come whole.
+    Asks,
+    /// The answer is being written.
+    Hears,
+    /// The answer is written. What the caller still sends is dropped.
+    Leaves,
+}
+
+/// How a call left off.
+#[derive(Clone, Copy, Debug, PartialEq, Eq)]
+pub enum Step {
+    /// There is nothing to do until the connection is ready, or a while is over.
+    Waits,
+    /// This is asked for.
+    Asks(Asked),
+    /// The connection is to be closed.
+    Gone,
+}
+
+/// Someone who asks by HTTP.
+#[derive(Drop)]
+pub struct Caller {
+    reader: Half,
+    writer: Half,
+    stage: Stage,
+    /// What came so far, while it asks.
+    came: Vec<u8>,
+    /// The answer, and how many bytes of it are written.
+    answer: Vec<u8>,
+    said: usize,
+    /// How many bytes more are read.
+    left: usize,
+    /// When the connection is closed.
+    until: u64,
+}
+
+impl Caller {
+    /// One that has just come.
+    pub fn new(alloc: Global, connection: (Half, Half), now: u64) -> Caller {
+        let (reader, writer) = connection;
+        Caller {
+            reader,
+            writer,
+            stage: Stage::Asks,
+            came: Vec::new(alloc),
+            answer: Vec::new(alloc),
+            said: 0,
+            left: MOST_BYTES,
+            until: now.saturating_add(MOST_MILLISECONDS),
+        }
+    }
+
+    /// Whether its time is over.
+    pub fn is_late(&self, now: u64) -> bool {
+        self.until <= now
+    }
+
+    /// Keeps what came. What is asked for, if that has come whole.
+    fn keep(&mut self, piece: &[u8]) -> Result<Option<Asked>, AllocError> {
+        self.came.extend_from_slice(piece)?;
+        Ok(request_in(&self.came))
+    }
+
+    /// Reads until its request has come.
+    fn hear(&mut self) -> Step {
+        let mut room = [0u8; ROOM];
+        for _ in 0..TURNS {
+            let count = match self.reader.read(&mut room) {
+                Ok(0) => return Step::Gone,
+                Ok(count) => count,
+                Err(error) if error.kind() == ErrorKind::WouldBlock => return Step::Waits,
+                Err(_) => return Step::Gone,
+            };
+            match self.keep(&room[..count]) {
+                Ok(Some(asked)) => return Step::Asks(asked),
+                Ok(None) => {}
+                Err(AllocError) => return Step::Gone,
+            }
+        }
+        Step::Waits
+    }
+
+    /// From now on it hears this answer.
+    pub fn answer(&mut self, answer: Vec<u8>) {
+        self.answer = answer;
+        self.stage = Stage::Hears;
+    }
+
+    /// Writes what is left of the answer. Whether that is all of it; none where the connection failed.
+    fn write_rest(&mut self) -> Option<bool> {
+        for _ in 0..TURNS {
+            let Some(rest) = self.answer.get(self.said..) else {
+                return None;
+            };
+            if rest.is_empty() {
+                return Some(true);
+            }
+            match self.writer.write(rest) {
+                Ok(0) => return None,
+                Ok(count) => self.said = self.said.saturating_add(count),
+                Err(error) if error.kind() == ErrorKind::WouldBlock => return Some(false),
+                Err(_) => return None,
+            }
+        }
+        Some(false)
+    }
+
+    /// Writes what is left of the answer, and then says that no more comes.
+    fn say(&mut self) -> Step {
+        match self.write_rest() {
+            None => Step::Gone,
+            Some(false) => Step::Waits,
+            Some(true) => self.leave(),
+        }
+    }
+
+    /// Says that no more comes, and reads on.
+    fn leave(&mut self) -> Step {
+        self.stage = Stage::Leaves;
+        if self.writer.end_output().is_err() {
+            return Step::Gone;
+        }
+        self.read_on()
+    }
+
+    /// Reads what still comes, and drops it: a system that closes a connection with input unread throws away what the
+    /// caller has not got so far.
+    fn read_on(&mut self) -> Step {
+        let mut room = [0u8; ROOM];
+        for _ in 0..TURNS {
+            match self.reader.read(&mut room) {
+                Ok(0) => return Step::Gone,
+                Ok(count) => self.left = self.left.saturating_sub(count),
+                Err(error) if error.kind() == ErrorKind::WouldBlock => return Step::Waits,
+                Err(_) => return Step::Gone,
+            }
+            if self.left == 0 {
+                return Step::Gone;
+            }
+        }
+        Step::Waits
+    }
+
+    /// Goes on as far as the connection goes without waiting.
+    pub fn go_on(&mut self) -> Step {
+        match self.stage {
+            Stage::Asks => self.hear(),
+            Stage::Hears => self.say(),
+            Stage::Leaves => self.read_on(),
+        }
+    }
+}
+
+impl AsRawFd for Caller {
+    fn as_raw_fd(&self) -> RawFd {
+        self.reader.as_raw_fd()
+    }
+}

@@ -1,0 +1,38 @@
+-- The lines of a log, in which a value follows the name of its key and `=`.
+--     log_line time v      the line of a visit that ended then
+--     lost_line time n     that n visits have no line
+--     metrics_line a       that metrics are answered at this address
+use Rattle.std.specs.Prelude.{ℕ, List, ◌++◌, codes}
+use Rattle.std.specs.Fmt.{decimal}
+use Rattle.watch_core.specs.Pieces.{seconds_text, address_text, known_text, reason_text}
+use Rattle.watch_core.specs.declared.visit.Traffic.{Traffic}
+use Rattle.watch_core.specs.declared.visit.Visit.{Visit}
+
+-- who came, and when the visit ended
+abbrev pub who_text : ℕ → Visit → List ℕ
+who_text time v = codes "time=" ++ (seconds_text time ++ (codes " peer=" ++ (address_text v.address
+    ++ (codes " session=" ++ (known_text v.serial ++ codes " ")))))
+
+-- in which profile, and how it ended
+abbrev pub ending_text : Visit → List ℕ
+ending_text v = codes "profile=" ++ (known_text v.profile ++ (codes " outcome="
+    ++ (reason_text (codes " refusal=") v.ending ++ codes " ")))
+
+abbrev pub found_text : Traffic → List ℕ
+found_text t = codes "ours=" ++ (decimal t.ours ++ (codes " theirs=" ++ (decimal t.theirs ++ codes " ")))
+
+abbrev pub bytes_text : Traffic → List ℕ
+bytes_text t = codes "received=" ++ (decimal t.received ++ (codes " sent=" ++ (decimal t.sent ++ codes " ")))
+
+abbrev pub cost_text : Visit → List ℕ
+cost_text v = codes "messages=" ++ (decimal v.traffic.messages ++ (codes " milliseconds="
+    ++ (decimal v.millis ++ codes "\n")))
+
+abbrev pub log_line : ℕ → Visit → List ℕ
+log_line time v = who_text time v ++ (ending_text v ++ (found_text v.traffic ++ (bytes_text v.traffic ++ cost_text v)))
+
+abbrev pub lost_line : ℕ → ℕ → List ℕ
+lost_line time n = codes "time=" ++ (seconds_text time ++ (codes " lost=" ++ (decimal n ++ codes "\n")))
+
+abbrev pub metrics_line : List ℕ → List ℕ
+metrics_line address = codes "metrics " ++ (address ++ codes "\n")

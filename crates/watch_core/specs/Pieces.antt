@@ -1,0 +1,32 @@
+-- Pieces that several texts have.
+--     seconds_text millis      thousandths of a second as seconds to three places
+--     address_text address        an address, or `-`
+--     known_text n             a number, or `-`
+--     reason_text between e    how a visit ended, as a word, and after `between` the number of a refusal
+use Rattle.std.specs.Prelude.{ℕ, ◌/◌, ◌%◌, List, ◌++◌, codes, Option, Some, None}
+use Rattle.std.specs.Fmt.{decimal}
+use Rattle.std.specs.Net.Text.{socket_text}
+use Rattle.std.specs.declared.net.socket_addr.SocketAddr.{SocketAddr}
+use Rattle.outcome_core.specs.declared.outcome.Direction.TheVariants.{Read, Write}
+use Rattle.watch_core.specs.declared.endings.Ending.{Ending}
+use Rattle.watch_core.specs.declared.endings.Ending.TheVariants as endings
+
+abbrev pub seconds_text : ℕ → List ℕ
+seconds_text millis = decimal (millis / 1000) ++ (codes "." ++ (decimal (millis / 100 % 10)
+    ++ (decimal (millis / 10 % 10) ++ decimal (millis % 10))))
+
+abbrev pub address_text : Option SocketAddr → List ℕ
+address_text None = codes "-"
+address_text (Some address) = socket_text address
+
+abbrev pub known_text : Option ℕ → List ℕ
+known_text None = codes "-"
+known_text (Some n) = decimal n
+
+abbrev pub reason_text : List ℕ → Ending → List ℕ
+reason_text between endings.Ended = codes "ended"
+reason_text between (endings.Refused code) = codes "refused" ++ (between ++ decimal code)
+reason_text between (endings.PeerRefused code) = codes "peer_refused" ++ (between ++ decimal code)
+reason_text between (endings.Io Read) = codes "io_read"
+reason_text between (endings.Io Write) = codes "io_write"
+reason_text between endings.Memory = codes "memory"

@@ -1,0 +1,33 @@
+//! How a server is watched: what is counted of the visits of peers, what is shown of them, and what is answered to
+//! those who ask for it by HTTP.
+#![tactic(auto)]
+
+mod counts;
+mod durations;
+mod endings;
+mod escaping;
+mod logged;
+mod metrics;
+mod never_markup;
+mod once_each;
+mod page;
+mod pieces;
+mod replying;
+mod requests;
+mod standing;
+mod visit;
+mod watch;
+
+pub use counts::Counts;
+pub use durations::{Bucket, Durations};
+pub use endings::{Ending, EndingCounts};
+pub use logged::{log_line, lost_line, metrics_line};
+pub use metrics::metrics_text;
+pub use never_markup::texts_are_never_markup;
+pub use once_each::visits_count_once;
+pub use page::page_text;
+pub use replying::{refusal_text, response};
+pub use requests::{Asked, MOST_HEAD, request_in};
+pub use standing::Standing;
+pub use visit::{Traffic, Visit};
+pub use watch::{MOST_SESSIONS, MOST_VISITS, Watch};

@@ -1,0 +1,48 @@
+//! The lines of a log.
+
+ghost use Rattle.std.specs.Prelude.{◌≡◌, IfOk, string_bytes};
+ghost use Rattle.watch_core.specs.LogTexts.{log_line, lost_line, metrics_line};
+
+use crate::pieces::{Address, Known, Reason, Seconds};
+use crate::visit::Visit;
+use std::alloc::{AllocError, Global};
+
+/// The line of a visit that ended then, in thousandths of a second since 1970.
+pub fn log_line(alloc: Global, time: u64, visit: &Visit) -> Result<String, AllocError>
+    ensures { IfOk result (λ text. string_bytes text ≡ log_line time visit.now) }
+{
+    let mut text = format!(in alloc;
+        "time={} peer={} session={} ",
+        Seconds(time),
+        Address(visit.address),
+        Known(visit.serial)
+    )?;
+    let reason = Reason {
+        ending: visit.ending,
+        between: " refusal=",
+    };
+    write!(text, "profile={} outcome={reason} ", Known(visit.profile))?;
+    let traffic = visit.traffic;
+    write!(text, "ours={} theirs={} ", traffic.ours, traffic.theirs)?;
+    write!(text, "received={} sent={} ", traffic.received, traffic.sent)?;
+    write!(
+        text,
+        "messages={} milliseconds={}\n",
+        traffic.messages, visit.millis
+    )?;
+    Ok(text)
+}
+
+/// The line that says that so many visits have no line since standard error took none for too long.
+pub fn lost_line(alloc: Global, time: u64, count: u64) -> Result<String, AllocError>
+    ensures { IfOk result (λ text. string_bytes text ≡ lost_line time count) }
+{
+    format!(in alloc; "time={} lost={count}\n", Seconds(time))
+}
+
+/// The line that says that metrics are answered at this address.
+pub fn metrics_line(alloc: Global, address: &str) -> Result<String, AllocError>
+    ensures { IfOk result (λ text. string_bytes text ≡ metrics_line address.now) }
+{
+    format!(in alloc; "metrics {address}\n")
+}

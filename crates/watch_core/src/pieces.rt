@@ -1,0 +1,84 @@
+//! Pieces that several texts have.
+
+ghost use Rattle.std.specs.Prelude.{Some};
+ghost use Rattle.watch_core.specs.Pieces.{address_text, known_text, reason_text, seconds_text};
+
+use crate::endings::Ending;
+use outcome_core::Direction;
+use std::fmt;
+use std::net::SocketAddr;
+
+/// Thousandths of a second, which print as seconds to three places.
+#[derive(Clone, Copy)]
+pub(crate) struct Seconds(pub(crate) u64);
+
+impl fmt::Display for Seconds {
+    ghost output = { λ s. Some (seconds_text s.0) };
+
+    fn fmt<W: fmt::Write>(&self, f: &mut fmt::Formatter<W>) -> fmt::Result {
+        let millis = self.0;
+        let seconds = millis / 1_000;
+        let tenths = millis / 100 % 10;
+        let hundredths = millis / 10 % 10;
+        let thousandths = millis % 10;
+        write!(f, "{seconds}.{tenths}{hundredths}{thousandths}")
+    }
+}
+
+/// An address, or `-` where it is not known.
+#[derive(Clone, Copy)]
+pub(crate) struct Address(pub(crate) Option<SocketAddr>);
+
+impl fmt::Display for Address {
+    ghost output = { λ address. Some (address_text address.0) };
+
+    fn fmt<W: fmt::Write>(&self, f: &mut fmt::Formatter<W>) -> fmt::Result {
+        match self.0 {
+            Some(address) => write!(f, "{address}"),
+            None => write!(f, "-"),
+        }
+    }
+}
+
+/// A number, or `-` where there is none.
+#[derive(Clone, Copy)]
+pub(crate) struct Known(pub(crate) Option<u64>);
+
+impl fmt::Display for Known {
+    ghost output = { λ known. Some (known_text known.0) };
+
+    fn fmt<W: fmt::Write>(&self, f: &mut fmt::Formatter<W>) -> fmt::Result {
+        match self.0 {
+            Some(number) => write!(f, "{number}"),
+            None => write!(f, "-"),
+        }
+    }
+}
+
+/// How a visit ended, as a word, and the number of the refusal where it was one.
+#[derive(Clone, Copy)]
+pub(crate) struct Reason {
+    pub(crate) ending: Ending,
+    /// What stands between the word and the number.
+    pub(crate) between: &'static str,
+}
+
+impl fmt::Display for Reason {
+    ghost output = { λ reason. Some (reason_text reason.between.now reason.ending) };
+
+    fn fmt<W: fmt::Write>(&self, f: &mut fmt::Formatter<W>) -> fmt::Result {
+        let between = self.between;
+        match self.ending {
+            Ending::Ended => write!(f, "ended"),
+            Ending::Refused { code } => write!(f, "refused{between}{code}"),
+            Ending::PeerRefused { code } => write!(f, "peer_refused{between}{code}"),
+            Ending::Io {
+                side: Direction::Read,
+            } => write!(f, "io_read"),
+            Ending::Io {
+                side: Direction::Write,
+            } => write!(f, "io_write"),
+            Ending::Memory => write!(f, "memory"),
+        }
+    }
+}

@@ -1,0 +1,133 @@
+"""A peer that keeps a set in shards, by docs/PROTOCOL.md: over `peer.py`, which has one session."""
+
+import hashlib
+from dataclasses import dataclass, field
+
+from peer import HELLOS, Input, Refused, Side, dial, fingerprint, read_hello, require
+
+MARK, DIRECTORY, ENTRY, MOST_IN_A_SHARD = b"RRSN", 0xFFFF, 38, 65_536
+LONGEST_NAME = 64
+
+
+def after_selector(peer):
+    """What is left of a peer's bytes once a selector is taken off, whatever set it names."""
+    source = Input(peer)
+    if not peer.startswith(MARK):
+        return peer
+    try:
+        source.take(len(MARK))
+        length = source.take(1)[0]
+        if length <= LONGEST_NAME:
+            source.take(length + 3)
+    except Refused:
+        return b""
+    return source.rest
+
+
+@dataclass
+class Shards:
+    """A set in 2 ** bits shards, under a table; its name may be of no bytes."""
+
+    name: bytes
+    bits: int
+    table: dict
+    items: list
+
+    def shard(self, number):
+        """The items of a shard: those whose digests begin with the bits of its number."""
+        digests = ((item, int.from_bytes(hashlib.sha256(item).digest(), "big")) for item in self.items)
+        return sorted(item for item, digest in digests if digest >> (256 - self.bits) == number)
+
+    def part(self, number):
+        """The items of a session: those of a shard, or the entries of all."""
+        if number != DIRECTORY:
+            return self.shard(number)
+        shards = [self.shard(number) for number in range(2**self.bits)]
+        return [
+            number.to_bytes(2, "big") + len(items).to_bytes(4, "big") + fingerprint(1, items)
+            for number, items in enumerate(shards)
+        ]
+
+    def front(self):
+        """A selector without its last two bytes."""
+        return MARK + bytes([len(self.name)]) + self.name + bytes([self.bits])
+
+    def selector(self, number):
+        return self.front() + number.to_bytes(2, "big")
+
+    def selected(self, source):
+        """Reads a selector: the number of the shard, or of the directory."""
+        for place, byte in enumerate(self.front()):
+            require(source.take(1) == bytes([byte]), 1 if place < len(MARK) else 55)
+        number = int.from_bytes(source.take(2), "big")
+        require(number < 2**self.bits or (number == DIRECTORY and self.bits > 0), 55)
+        return number
+
+    def numbers(self, entries):
+        """The numbers of the shards that entries of a peer are of."""
+        numbers = set()
+        for entry in entries:
+            require(len(entry) == ENTRY, 57)
+            number, count = int.from_bytes(entry[:2], "big"), int.from_bytes(entry[2:6], "big")
+            require(number < 2**self.bits and count <= MOST_IN_A_SHARD and number not in numbers, 57)
+            numbers.add(number)
+        return numbers
+
+    def serve(self, peer):
+        """The session of a responder, for what the peer asks. If that is refused, a hello comes before the fault."""
+        side = Side(self.table, [], after_selector(peer))
+
+        def begin():
+            try:
+                side.items = self.part(self.selected(Input(peer)))
+            except Refused:
+                side.own_hello(2 if side.source.rest.startswith(HELLOS[2]) else 1)
+                raise
+            read_hello(side)
+
+        return side.run(begin)
+
+    def dial(self, profile, number, peer):
+        """The session of an initiator, over a shard or the directory. What it wrote has no selector."""
+        return dial(profile, self.table, self.part(number), peer)
+
+    def reconcile(self, profile, peers):
+        """All sessions of an initiator, the shards in rising order, over what the peer writes in each of them."""
+        found, talks = Found(), iter(peers)
+        numbers = [0]
+        if self.bits > 0:
+            first = self.dial(profile, DIRECTORY, next(talks))
+            found.sessions.append((DIRECTORY, first))
+            found.text = first.text
+            try:
+                numbers = sorted(self.numbers(first.ours) | self.numbers(first.theirs))
+            except Refused as fault:
+                found.text, numbers = f"refused {fault.number}", []
+        for number in numbers:
+            found.takes(number, self.dial(profile, number, next(talks)))
+        if self.bits == 0 and found.faults:
+            # The one session is all that there is.
+            return Found(found.faults[0], found.sessions)
+        return found
+
+
+@dataclass
+class Found:
+    """What came of all sessions of an initiator, by the numbers of their shards; `incomplete` if some failed."""
+
+    text: str = "ended"
+    sessions: list = field(default_factory=list)
+    ours: list = field(default_factory=list)
+    theirs: list = field(default_factory=list)
+    differ: int = 0
+    faults: dict = field(default_factory=dict)
+
+    def takes(self, number, outcome):
+        """Adds the session over a shard."""
+        self.sessions.append((number, outcome))
+        self.ours = sorted({*self.ours, *outcome.ours})
+        self.theirs = sorted({*self.theirs, *outcome.theirs})
+        # With b = 0 no directory says whether the one shard differs.
+        self.differ += len(self.sessions) > 1 or bool(outcome.ours or outcome.theirs)
+        if outcome.text != "ended":
+            self.text, self.faults[number] = "incomplete", outcome.text
