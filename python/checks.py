@@ -14,7 +14,6 @@ import functools
 import hashlib
 import os
 import re
-import signal
 import socket
 import subprocess
 import sys
@@ -30,6 +29,7 @@ from typing import Any
 TOP = Path(__file__).resolve().parent.parent
 os.environ.setdefault("RANGESYNC_LIBRARY", str(TOP / "c/out/librangesync.so"))
 
+from counted import main  # noqa: E402
 from rangesync import Learned, Refused, Session, Set, State, Strategy, run  # noqa: E402
 
 PROGRAM = os.environ.get("RANGESYNC") or str(TOP / "crates/rangesync/out/rangesync")
@@ -416,14 +416,5 @@ class WithoutTheProgram(Check):
         self.assertIn(("54", "GateClosed"), rows)
 
 
-def main() -> int:
-    signal.signal(signal.SIGTERM, signal.default_int_handler)  # So a signal to end ends the program too.
-    tests = unittest.defaultTestLoader.loadTestsFromModule(sys.modules[__name__])
-    result = unittest.TextTestRunner(sys.stdout, descriptions=False, verbosity=2).run(tests)
-    failed = len({test.id().split()[0] for test, _text in result.failures + result.errors})
-    print(f"{result.testsRun - failed} passed, {failed} failed")
-    return 1 if failed or not result.testsRun else 0
-
-
 if __name__ == "__main__":
-    sys.exit(main())
+    sys.exit(main(__name__))

@@ -27,6 +27,7 @@ TOP = Path(__file__).resolve().parent.parent
 os.environ.setdefault("RANGESYNC_LIBRARY", str(TOP / "c/out/librangesync.so"))
 
 import rangesync  # noqa: E402
+from counted import main  # noqa: E402
 from rangesync import BadItem, Integers, Learned, LearnedValues, Refused, Set, Strategy, Texts  # noqa: E402
 from rangesync import TypedSet, Uuids, arun  # noqa: E402
 
@@ -322,13 +323,5 @@ class Told(unittest.TestCase):
         self.assertEqual([name for name in rangesync.__all__ if name not in names], [])
 
 
-def main() -> int:
-    tests = unittest.defaultTestLoader.loadTestsFromModule(sys.modules[__name__])
-    result = unittest.TextTestRunner(sys.stdout, descriptions=False, verbosity=2).run(tests)
-    failed = len({test.id().split()[0] for test, _text in result.failures + result.errors})
-    print(f"{result.testsRun - failed} passed, {failed} failed")
-    return 1 if failed or not result.testsRun else 0
-
-
 if __name__ == "__main__":
-    sys.exit(main())
+    sys.exit(main(__name__))

@@ -26,6 +26,7 @@ from typing import Any, Union
 TOP = Path(__file__).resolve().parent.parent
 os.environ.setdefault("RANGESYNC_LIBRARY", str(TOP / "c/out/librangesync.so"))
 
+from counted import main  # noqa: E402
 from rangesync import Answered, Incomplete, Learned, Reconciled, Refused, Set, Shards, Strategy  # noqa: E402
 from rangesync import run, shard_of  # noqa: E402
 from shard_peers import SECONDS, Counted, Near, Played, entry, number_of, outcome_of, refusal_of  # noqa: E402
@@ -483,13 +484,5 @@ class Worked(Check):
                 self.answers(self.held(case, case["responder"]), came, ("ended", wanted.hex()))
 
 
-def main() -> int:
-    tests = unittest.defaultTestLoader.loadTestsFromModule(sys.modules[__name__])
-    result = unittest.TextTestRunner(sys.stdout, descriptions=False, verbosity=2).run(tests)
-    failed = len({test.id().split()[0] for test, _text in result.failures + result.errors})
-    print(f"{result.testsRun - failed} passed, {failed} failed")
-    return 1 if failed or not result.testsRun else 0
-
-
 if __name__ == "__main__":
-    sys.exit(main())
+    sys.exit(main(__name__))
