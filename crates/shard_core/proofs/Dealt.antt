@@ -1,7 +1,7 @@
 -- Items dealt to their shards, and lists that become sets one by one.
 use Rattle.std.proofs.Common.{◌≡◌, ℕ, ◌+◌, ◌<◌, ◌≤◌, ◌^◌, Bool, true, false, ◌==◌, List, [], ◌∷◌, ◌++◌, length, map}
 use Rattle.std.proofs.Common.{get_or}
-use Rattle.std.proofs.Common.{set, take, drop, cond, refl, sym, ap, subst, ◌∙◌, arith}
+use Rattle.std.proofs.Common.{set, take, drop, cond, refl, sym, ap, subst, ◌∙◌, arith, append_assoc}
 use Rattle.std.specs.List.{AllByRecursion}
 use Rattle.std.proofs.lemmas.Bool.{eq-eqb}
 use Rattle.std.proofs.Math.ListN.{get_or-map as get_or_map}
@@ -17,7 +17,7 @@ use Rattle.shard_core.specs.Splits.{held}
 use Rattle.shard_core.proofs.Numbers.{few}
 use Rattle.shard_core.proofs.Cut.{set_shard}
 use Rattle.shard_core.proofs.Lists.{replicate_is}
-use Rattle.std.proofs.lemmas.List.{append-nil, take_more, drop_more, length-map, length-take, get_or-map, take-map}
+use Rattle.std.proofs.lemmas.List.{append-nil, take_more, take_all, drop_more, length-map, length-take, get_or-map, take-map}
 use Rattle.std.proofs.lemmas.List.{map_more}
 use Rattle.std.proofs.lemmas.List.Edits.{map_over_more}
 use Rattle.std.proofs.lemmas.List.Elements.{filter-append}
@@ -51,16 +51,25 @@ dealt_more b xs x low =
     (shard_push b n xs x true (eq-eqb n n refl) ∙ ap (λ ys. ys ++ x ∷ []) (sym held))
     (λ k apart. shard_push b k xs x false (not_equal n k (λ same. apart (sym same))) ∙ append-nil (shard b xs k))
 
-pub dealt_step : (b : ℕ) (items : List Item) (i : ℕ) (x : Item) (n : ℕ) (old new : List (List Item)) → b ≤ 12 →
-    i < length items → x ≡ get_or items i x → n ≡ shard_number b x → old ≡ shards b (take i items) →
-    new ≡ set old n (get_or old n [] ++ x ∷ []) → new ≡ shards b (take (i + 1) items)
-dealt_step b items i x n old new low inside at number was is =
-    let seen : List Item = take i items in
-    let front : seen ++ x ∷ [] ≡ take (i + 1) items =
-    ap (λ y. seen ++ y ∷ []) at ∙ sym (take_more items i x inside) in
+-- after the items before and the first i of these, one more
+pub dealt_step : (b : ℕ) (before items : List Item) (i : ℕ) (x : Item) (n : ℕ) (old new : List (List Item)) → b ≤ 12 →
+    i < length items → x ≡ get_or items i x → n ≡ shard_number b x → old ≡ shards b (before ++ take i items) →
+    new ≡ set old n (get_or old n [] ++ x ∷ []) → new ≡ shards b (before ++ take (i + 1) items)
+dealt_step b before items i x n old new low inside at number was is =
+    let seen : List Item = before ++ take i items in
+    let front : seen ++ x ∷ [] ≡ before ++ take (i + 1) items =
+    append_assoc before (take i items) (x ∷ [])
+    ∙ ap (λ ys. before ++ ys) (ap (λ y. take i items ++ y ∷ []) at ∙ sym (take_more items i x inside)) in
     is ∙ ap (λ Z. set Z n (get_or Z n [] ++ x ∷ [])) was
     ∙ ap (λ k. set (shards b seen) k (get_or (shards b seen) k [] ++ x ∷ [])) number
     ∙ dealt_more b seen x low ∙ ap (λ ys. shards b ys) front
+
+pub dealt_all : (b : ℕ) (before items : List Item) (i : ℕ) → length items ≤ i →
+    shards b (before ++ take i items) ≡ shards b (before ++ items)
+dealt_all b before items i past = ap (λ ys. shards b (before ++ ys)) (take_all i items past)
+
+pub dealt_none : (b : ℕ) (before : List Item) → shards b before ≡ shards b (before ++ [])
+dealt_none b before = ap (λ ys. shards b ys) (sym (append-nil before))
 
 -- ---- one list after another becomes a set
 
@@ -113,6 +122,10 @@ deal_at vs n d v x low grown = map-set listed vs n v
 
 pub none_dealt : (b n : ℕ) → n ≡ 2 ^ b → replicate n [] ≡ shards b []
 none_dealt b n same = replicate_is [] n (2 ^ b) same
+
+pub shards_many : (vs : List (Vec Item Global)) (b : ℕ) (xs : List Item) → held vs ≡ shards b xs → length vs ≡ 2 ^ b
+shards_many vs b xs is =
+    sym (length-map vs listed) ∙ ap length is ∙ length-map-range_with_len (shard b xs) 0 (2 ^ b)
 
 pub shards_few : (vs : List (Vec Item Global)) (b : ℕ) (xs : List Item) → b ≤ 12 → held vs ≡ shards b xs →
     length vs ≤ 4096

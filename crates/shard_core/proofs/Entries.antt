@@ -70,14 +70,14 @@ entries_push s (v ∷ vs) w =
     ap (λ xs. entry s v.count v.fingerprint ∷ xs) (entries_push (s + 1) vs w
     ∙ ap (λ k. entries_from (s + 1) vs ++ entry k w.count w.fingerprint ∷ []) there)
 
-pub entries_more : (ws : List ShardSum) (i : ℕ) (w : ShardSum) → i < length ws → w ≡ get_or ws i w →
-    entries_from 0 (take (i + 1) ws) ≡ entries_from 0 (take i ws) ++ entry i w.count w.fingerprint ∷ []
-entries_more ws i w low at =
+pub entries_more : (s : ℕ) (ws : List ShardSum) (i : ℕ) (w : ShardSum) → i < length ws → w ≡ get_or ws i w →
+    entries_from s (take (i + 1) ws) ≡ entries_from s (take i ws) ++ entry (s + i) w.count w.fingerprint ∷ []
+entries_more s ws i w low at =
     let front : List ShardSum = take i ws in
     let long : length front ≡ i = simp length-take (omega arith) in
-    let count : 0 + length front ≡ i = omega (arith, long) in
-    ap (λ us. entries_from 0 us) (take_more ws i w low ∙ ap (λ v. front ++ v ∷ []) (sym at))
-    ∙ entries_push 0 front w ∙ ap (λ k. entries_from 0 front ++ entry k w.count w.fingerprint ∷ []) count
+    let count : s + length front ≡ s + i = omega (arith, long) in
+    ap (λ us. entries_from s us) (take_more ws i w low ∙ ap (λ v. front ++ v ∷ []) (sym at))
+    ∙ entries_push s front w ∙ ap (λ k. entries_from s front ++ entry k w.count w.fingerprint ∷ []) count
 
 -- ---- what is counted and summed of a store
 
@@ -102,7 +102,7 @@ sum_made A X n f count sum all =
 
 -- ---- the directory
 
-entries_are : (f : ℕ → List Item) (a n : ℕ) →
+pub entries_are : (f : ℕ → List Item) (a n : ℕ) →
     entries_from a (map (λ s. sum_of (f s)) (range_with_len a n)) ≡ map (λ s. entry_for s (f s)) (range_with_len a n)
 unfolding entry_for
 entries_are f a zero = refl

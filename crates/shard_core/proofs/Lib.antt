@@ -7,3 +7,6 @@ pub mod Sums
 pub mod Dealt
 pub mod Chosen
 pub mod Taken
+pub mod Spanned
+pub mod Joins
+pub mod Holders

@@ -6,5 +6,7 @@ pub mod Shards
 pub mod Directories
 pub mod Parts
 pub mod Splits
+pub mod Spans
+pub mod Choices
 pub mod Selectors
 pub mod Fronts

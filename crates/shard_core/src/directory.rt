@@ -1,7 +1,7 @@
 //! The directory of a set, and which shards two directories differ in.
 
-ghost use Rattle.std.specs.Prelude.{◌≡◌, ◌≤◌, ◌^◌, ℕ, List, [], ◌∷◌, ◌++◌, length, map, filter, IfOk, IfErr, OnOk};
-ghost use Rattle.std.specs.Prelude.{Some, None, if◌then◌else◌};
+ghost use Rattle.std.specs.Prelude.{◌≡◌, ◌+◌, ◌≤◌, ◌^◌, ℕ, List, [], ◌∷◌, ◌++◌, length, map, filter, IfOk, IfErr};
+ghost use Rattle.std.specs.Prelude.{OnOk, Some, None, if◌then◌else◌};
 ghost use Rattle.std.specs.Option.{option_or};
 ghost use Rattle.definitions.specs.Items.{Item as Bytes};
 ghost use Rattle.definitions.specs.Sets.{IsSet};
@@ -9,6 +9,7 @@ ghost use Rattle.definitions.specs.Theorems.{KnowsDifference};
 ghost use Rattle.shard_core.specs.Shards.{max_bits, numbers, directory, entries_differ};
 ghost use Rattle.shard_core.specs.Directories.{count_for, first_fault, fault_after, entries_from, sums_of, differing};
 ghost use Rattle.shard_core.specs.Directories.{is_told, IsBad, unequal_numbers};
+ghost use Rattle.shard_core.specs.Spans.{span_sums, span_directory};
 
 use crate::entry::{BadEntry, entry_of, read_entry};
 use crate::fault::DirectoryFault;
@@ -18,6 +19,21 @@ use crate::unequal::Unequal;
 use item_core::Item;
 use std::alloc::{AllocError, Global};
 
+/// The entries of some shards, given what is counted and summed of each in order, from the shard `first` on.
+pub fn directory_from(alloc: Global, first: u16, sums: &[ShardSum]) -> Result<Vec<Item>, AllocError>
+    requires { first + length sums.now ≤ 4096 }
+    ensures entries { IfOk result (λ v. v.items ≡ entries_from first sums.now) }
+    ensures span { IfOk result (λ v. (b last : ℕ) (A : List Bytes) → sums.now ≡ span_sums b first last A →
+        v.items ≡ span_directory b first last A) }
+    ensures set { IfOk result (λ v. IsSet v.items) }
+{
+    let mut entries = Vec::with_capacity(alloc, sums.len())?;
+    for number in 0..sums.len() {
+        entries.push(entry_of(first + number as u16, sums[number]))?;
+    }
+    Ok(entries)
+}
+
 /// The directory of a set, given what is counted and summed of each of its shards in order, from 0 on.
 pub fn directory_of(alloc: Global, sums: &[ShardSum]) -> Result<Vec<Item>, AllocError>
     requires { length sums.now ≤ 4096 }
@@ -25,11 +41,7 @@ pub fn directory_of(alloc: Global, sums: &[ShardSum]) -> Result<Vec<Item>, Alloc
     ensures directory { IfOk result (λ v. (b : ℕ) (A : List Bytes) → sums.now ≡ sums_of b A → v.items ≡ directory b A) }
     ensures set { IfOk result (λ v. IsSet v.items) }
 {
-    let mut entries = Vec::with_capacity(alloc, sums.len())?;
-    for number in 0..sums.len() {
-        entries.push(entry_of(number as u16, sums[number]))?;
-    }
-    Ok(entries)
+    directory_from(alloc, 0, sums)
 }
 
 /// Notes the count of one entry more.

@@ -2,26 +2,32 @@
 #![tactic(auto)]
 
 mod after_selector;
+mod choice;
 mod dealing;
 mod directory;
 mod entry;
 mod fault;
+mod joining;
 pub mod laws;
 mod part;
 mod selector;
 mod set_name;
 mod shard;
 mod shard_sum;
+mod span;
 mod unequal;
 
 pub use after_selector::AfterSelector;
-pub use dealing::split;
-pub use directory::{differing, directory_of};
+pub use choice::{Asked, ChoiceFault, asked_of};
+pub use dealing::{none_dealt, split};
+pub use directory::{differing, directory_from, directory_of};
 pub use entry::{BadEntry, entry_of, read_entry};
 pub use fault::{DirectoryFault, SplitFault};
+pub use joining::join_shards;
 pub use part::{Merged, Part, merge};
 pub use selector::{MAX_NAME, Selecting, Which, push_selector, read_selector};
 pub use set_name::SetName;
 pub use shard::{MAX_BITS, shard_count, shard_of};
 pub use shard_sum::{MAX_COUNT, ShardSum};
+pub use span::{deal_span, into_span};
 pub use unequal::Unequal;

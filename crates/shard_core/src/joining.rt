@@ -1,0 +1,85 @@
+//! The shards of two sets as those of one.
+
+ghost use Rattle.std.specs.Prelude.{◌≡◌, ◌+◌, ◌<◌, ◌≤◌, ◌^◌, ℕ, List, ◌++◌, length, IfOk, IfErr, OnOk};
+ghost use Rattle.definitions.specs.Items.{Item as Bytes};
+ghost use Rattle.definitions.specs.Sets.{set_of};
+ghost use Rattle.shard_core.specs.Shards.{max_bits};
+ghost use Rattle.shard_core.specs.Splits.{held, HasRoom, IsFull};
+ghost use Rattle.shard_core.specs.Spans.{span_shards, joined_to, AreKept, IsFullFrom};
+
+use crate::dealing::into_sets;
+use crate::fault::SplitFault;
+use item_core::Item;
+use std::alloc::AllocError;
+
+/// Appends items.
+fn append_items(items: &mut Vec<Item>, more: &[Item]) -> Result<(), AllocError>
+    ensures { OnOk result (items.new.items ≡ items.old.items ++ more.now) }
+{
+    items.extend_from_slice(more)?;
+    Ok(())
+}
+
+/// Appends to each list the items of the other one in its place.
+fn append_each(lists: &mut [Vec<Item>], more: &[Vec<Item>]) -> Result<(), AllocError>
+    requires { length lists.old ≡ length more.now }
+    ensures joined { OnOk result (held lists.new ≡ joined_to (length lists.old) (held lists.old) (held more.now)) }
+    ensures all { length lists.new ≡ length lists.old }
+{
+    for place in 0..lists.len() {
+        append_items(&mut lists[place], &more[place])?;
+    }
+    Ok(())
+}
+
+/// The lists, each with the items of the other one in its place.
+fn joined(lists: Vec<Vec<Item>>, more: &[Vec<Item>]) -> Result<Vec<Vec<Item>>, AllocError>
+    requires { length lists.items ≡ length more.now }
+    ensures joined { IfOk result (λ v. held v.items
+        ≡ joined_to (length lists.items) (held lists.items) (held more.now)) }
+    ensures all { IfOk result (λ v. length v.items ≡ length lists.items) }
+{
+    let mut all = lists;
+    append_each(&mut all, more)?;
+    Ok(all)
+}
+
+/// The fault of a list whose place in all lists was told, of lists that begin with the shard of this number.
+fn counted_from(fault: SplitFault, first: u16) -> SplitFault
+    ensures { (cap : ℕ) (Xs : List (List Bytes)) → first + length Xs ≤ 4096 → IsFull cap Xs fault →
+        IsFullFrom first cap Xs result }
+{
+    match fault {
+        SplitFault::TooManyItems { shard } => SplitFault::TooManyItems {
+            shard: shard.saturating_add(first),
+        },
+        SplitFault::Memory => SplitFault::Memory,
+    }
+}
+
+/// The shards of the set of the items of both, whose lists are of the same shards, from `first` on: each item once,
+/// if no shard has more different items than the cap. Otherwise the first that has.
+pub fn join_shards(
+    lists: Vec<Vec<Item>>,
+    more: &[Vec<Item>],
+    first: u16,
+    cap: usize,
+) -> Result<Vec<Vec<Item>>, SplitFault>
+    requires spans { (b last : ℕ) × (b ≤ max_bits) × (first ≤ last) × (last < 2 ^ b)
+        × AreKept b first last cap (held lists.items) × AreKept b first last cap (held more.now) }
+    ensures joined { (b last : ℕ) (A B : List Bytes) → held lists.items ≡ span_shards b first last A →
+        held more.now ≡ span_shards b first last B →
+        IfOk result (λ v. held v.items ≡ span_shards b first last (set_of (A ++ B))) }
+    ensures room { IfOk result (λ v. HasRoom cap (held v.items)) }
+    ensures kept { (b last : ℕ) → AreKept b first last cap (held lists.items) →
+        AreKept b first last cap (held more.now) →
+        IfOk result (λ v. AreKept b first last cap (held v.items)) }
+    ensures many { (b last : ℕ) (A B : List Bytes) → held lists.items ≡ span_shards b first last A →
+        held more.now ≡ span_shards b first last B →
+        IfErr result (λ e. IsFullFrom first cap (span_shards b first last (set_of (A ++ B))) e) }
+{
+    match into_sets(joined(lists, more)?, cap) {
+        Ok(sets) => Ok(sets),
+        Err(fault) => Err(counted_from(fault, first)),
+    }
+}
