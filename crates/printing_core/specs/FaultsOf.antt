@@ -1,5 +1,6 @@
 -- Why a run is refused, by what refused, and its status.
---     of_answer, of_input, of_decoding, of_listing, of_settings, of_scenario, of_log, of_listen, of_connect, of_source
+--     of_answer, of_input, of_decoding, of_listing, of_settings, of_load, of_scenario, of_log, of_listen, of_connect,
+--     of_source
 --                                                   the fault of what a lower call answers
 --     IsWordsStatus f status                        the status of a call whose words ask for nothing that is done
 --     status_of f                                   the status of a run that ends so
@@ -14,6 +15,8 @@ use Rattle.answer_core.specs.declared.answering.AnswerFault.{AnswerFault}
 use Rattle.answer_core.specs.declared.answering.AnswerFault.TheVariants as answers
 use Rattle.item_files.specs.declared.fault.SettingsFault.{SettingsFault}
 use Rattle.item_files.specs.declared.fault.SettingsFault.TheVariants as settings
+use Rattle.shard_loading.specs.declared.fault.LoadFault.{LoadFault}
+use Rattle.shard_loading.specs.declared.fault.LoadFault.TheVariants as loads
 use Rattle.sim_core.specs.declared.scenario_fault.ScenarioFault.TheVariants as scenarios
 use Rattle.sim_core.specs.declared.scenario_fault.ScenarioError.{ScenarioError}
 use Rattle.sim_core.specs.declared.scenario_fault.ScenarioError.TheVariants as scenario_errors
@@ -33,7 +36,7 @@ use Rattle.printing_core.specs.declared.fault.Fault.TheVariants.{CannotRead, Bad
 use Rattle.printing_core.specs.declared.fault.Fault.TheVariants.{BadScenario, BadStep, Strategy, Check, Wire, Misplaced}
 use Rattle.printing_core.specs.declared.fault.Fault.TheVariants.{Bind}
 use Rattle.printing_core.specs.declared.fault.Fault.TheVariants.{Connect, Accept, Session, PeerRefused, ReaderFailed}
-use Rattle.printing_core.specs.declared.fault.Fault.TheVariants.{WriterFailed, LinesLost, Memory}
+use Rattle.printing_core.specs.declared.fault.Fault.TheVariants.{WriterFailed, LinesLost, Incomplete, Memory}
 
 abbrev pub of_answer : AnswerFault → Fault
 of_answer answers.CannotRead = CannotRead
@@ -61,6 +64,13 @@ of_settings (settings.TooManyItems cap) = TooManyItems
 of_settings (settings.Strategy flaw) = Strategy flaw.fault
 of_settings (settings.Check f) = Check f
 of_settings settings.Memory = Memory
+
+abbrev pub of_load : LoadFault → Fault
+of_load (loads.CannotRead f) = CannotRead
+of_load loads.TooLong = CannotRead
+of_load (loads.BadItemLine bad) = BadItemLine bad.number
+of_load (loads.TooManyItems shard) = TooManyItems
+of_load loads.Memory = Memory
 
 abbrev pub of_scenario : ScenarioError → Fault
 of_scenario scenario_errors.Memory = Memory
@@ -91,7 +101,8 @@ abbrev pub of_source : SourceFault → Fault
 of_source sources.Accept = Accept
 of_source sources.Memory = Memory
 
--- 1 where something given, or a session, is refused, 3 for a file, an input, an output, the network or memory
+-- 1 where something given, or a session, is refused, 3 for a file, an input, an output, the network, memory, or shards
+-- that were not done
 abbrev pub status_of : Fault → ℕ
 status_of CannotRead = 3
 status_of (BadItemLine line) = 1
@@ -111,6 +122,7 @@ status_of (PeerRefused code) = 1
 status_of ReaderFailed = 3
 status_of WriterFailed = 3
 status_of LinesLost = 3
+status_of Incomplete = 3
 status_of Memory = 3
 
 -- 2 for words that the program does not know; 0 for help that was printed, 3 where it was not, or for memory

@@ -11,6 +11,9 @@ pub mod Notices
 pub mod ReportTexts
 pub mod SecondLines
 pub mod SessionTexts
+pub mod ShardLines
+pub mod ShardReports
+pub mod ShardTexts
 pub mod ShownLines
 pub mod StatsTexts
 pub mod StdioTexts

@@ -18,7 +18,7 @@ use Rattle.printing_core.specs.declared.fault.Fault.TheVariants.{CannotRead, Bad
 use Rattle.printing_core.specs.declared.fault.Fault.TheVariants.{BadScenario, BadStep, Strategy, Check, Wire, Misplaced}
 use Rattle.printing_core.specs.declared.fault.Fault.TheVariants.{Bind}
 use Rattle.printing_core.specs.declared.fault.Fault.TheVariants.{Connect, Accept, Session, PeerRefused, ReaderFailed}
-use Rattle.printing_core.specs.declared.fault.Fault.TheVariants.{WriterFailed, LinesLost, Memory}
+use Rattle.printing_core.specs.declared.fault.Fault.TheVariants.{WriterFailed, LinesLost, Incomplete, Memory}
 
 abbrev pub strategy_line : StrategyFault → List ℕ
 strategy_line NotToml = codes "refused 30 NotToml"
@@ -67,6 +67,7 @@ session_refusal_name n =
     else if n == 53 then codes "SerialsSpent"
     else if n == 54 then codes "GateClosed"
     else if n == 55 then codes "WrongSet"
+    else if n == 56 then codes "NoShard"
     else if n == 57 then codes "BadEntry"
     else if n == 62 then codes "Accept"
     else if n == 80 then codes "CannotRead"
@@ -94,6 +95,7 @@ fault_line (PeerRefused code) = codes "peer refused " ++ decimal code
 fault_line ReaderFailed = codes "io read"
 fault_line WriterFailed = codes "io write"
 fault_line LinesLost = codes "io write"
+fault_line Incomplete = codes "incomplete"
 fault_line Memory = codes "refused 90 Memory"
 
 -- a space and the number

@@ -16,6 +16,7 @@ use Rattle.strategy_check.specs.declared.fault.CheckFault.TheVariants.{NoDescent
 use Rattle.printing_core.specs.FlawTexts.{unread_text, input_text, server_text}
 use Rattle.printing_core.specs.AddressTexts.{unreached_text}
 use Rattle.printing_core.specs.StdioTexts.{peer_text}
+use Rattle.printing_core.specs.ShardTexts.{shards_flaw_text, full_shard_text, few_places_text}
 use Rattle.item_files.specs.declared.strategy_flaw.Key.{Key}
 use Rattle.item_files.specs.declared.strategy_flaw.Key.TheVariants as keys
 use Rattle.item_files.specs.declared.strategy_flaw.NumberSpan.{NumberSpan}
@@ -81,6 +82,8 @@ why_text (whys.LongLine file line shown) = file.now ++ (codes " line " ++ (decim
 why_text (whys.ByteOrderMark file) = file.now ++ codes " line 1: the file begins with a byte order mark"
 why_text (whys.TooManyItems place cap) = place_text place.file.now place.node
     ++ (codes ": more than " ++ (decimal cap ++ codes " different items"))
+why_text (whys.FullShard file shard cap) = full_shard_text file.now shard cap
+why_text (whys.FewPlaces file shards) = few_places_text file.now shards
 why_text (whys.Strategy place flaw) =
     said_of (row_in (place_text place.file.now place.node) flaw.row) (want_text flaw.number flaw.fault)
 why_text (whys.NotAccepted place fault) = said_of (place_text place.file.now place.node) (check_text fault)
@@ -89,3 +92,4 @@ why_text (whys.Input flaw) = input_text flaw
 why_text whys.Output = codes "standard output is closed or full"
 why_text (whys.Server flaw) = server_text flaw
 why_text (whys.Peer flaw) = peer_text flaw
+why_text (whys.Shards flaw) = shards_flaw_text flaw

@@ -2,13 +2,14 @@
 
 ghost use Rattle.std.specs.Prelude.{◌≡◌};
 ghost use Rattle.printing_core.specs.FaultsOf.{of_answer, of_input, of_decoding, of_listing, of_settings, of_scenario};
-ghost use Rattle.printing_core.specs.FaultsOf.{of_log, of_listen, of_connect, of_source};
+ghost use Rattle.printing_core.specs.FaultsOf.{of_log, of_listen, of_connect, of_source, of_load};
 ghost use Rattle.printing_core.specs.declared.fault.Fault.TheVariants as faults;
 
 use answer_core::{AnswerFault, ListReplyFault};
 use io_core::{InputFault, WriterFailed};
 use item_files::SettingsFault;
 use outcome_core::SourceFault;
+use shard_loading::LoadFault;
 use sim_core::{ScenarioError, ScenarioFault};
 use std::alloc::{AllocError, AllocFailed};
 use std::io::ErrorKind;
@@ -21,7 +22,7 @@ use wire_core::{DecodeError, WireFault};
 /// Why a run does not end with status 0, its words being known.
 ///
 /// It prints as the line for standard error: `refused`, the number, the name and the values; `peer refused` and the
-/// code; `io read` or `io write`.
+/// code; `io read` or `io write`; `incomplete`.
 #[derive(Clone, Copy, Debug, PartialEq, Eq)]
 pub enum Fault {
     /// A file or the input was not opened or not read, or is above 16,777,216 bytes.
@@ -60,6 +61,8 @@ pub enum Fault {
     WriterFailed,
     /// Lines of a file were not written.
     LinesLost,
+    /// Some shards were not done.
+    Incomplete,
     /// Memory ran out.
     Memory,
 }
@@ -122,6 +125,19 @@ impl From<SettingsFault> for Fault {
             SettingsFault::Strategy(flaw) => Fault::Strategy(flaw.fault),
             SettingsFault::Check(fault) => Fault::Check(fault),
             SettingsFault::Memory => Fault::Memory,
+        }
+    }
+}
+
+impl From<LoadFault> for Fault {
+    ghost from_gives = { λ f e. e ≡ of_load f };
+
+    fn from(fault: LoadFault) -> Fault {
+        match fault {
+            LoadFault::CannotRead(_) | LoadFault::TooLong => Fault::CannotRead,
+            LoadFault::BadItemLine(bad) => Fault::BadItemLine { line: bad.number },
+            LoadFault::TooManyItems { shard: _ } => Fault::TooManyItems,
+            LoadFault::Memory => Fault::Memory,
         }
     }
 }

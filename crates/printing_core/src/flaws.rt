@@ -20,6 +20,8 @@ pub enum Unread {
     NotAFile,
     /// It has more than 16,777,216 bytes.
     TooLong,
+    /// It has more than 16,777,216 bytes for each shard.
+    TooLongForShards,
     /// It has no line feed at its end, and what would have to be cut off is too long.
     NoLines,
     /// Another process has locked it.
@@ -57,6 +59,9 @@ impl fmt::Display for Unread {
             Unread::Folder => write!(f, "this is a folder"),
             Unread::NotAFile => write!(f, "it is not a regular file"),
             Unread::TooLong => write!(f, "it has more than 16,777,216 bytes"),
+            Unread::TooLongForShards => {
+                write!(f, "it has more than 16,777,216 bytes for each shard")
+            }
             Unread::NoLines => write!(f, "it ends in 65,536 bytes without a line feed"),
             Unread::Locked => write!(f, "another process has it locked"),
             Unread::NoMoreFiles => write!(f, "this process may open no more files"),
@@ -71,6 +76,10 @@ impl fmt::Display for Unread {
 pub enum InputFlaw {
     /// It cannot be read, or is too long.
     CannotRead,
+    /// It cannot be read.
+    Unread,
+    /// It has more than 16,777,216 bytes for each shard.
+    TooLongForShards,
     /// It is to be hex, and is not.
     NotHex,
     /// It is to be the bytes of a message, and is not.
@@ -96,6 +105,13 @@ impl fmt::Display for InputFlaw {
                 write!(
                     f,
                     "standard input cannot be read, or has more than 16,777,216 bytes"
+                )
+            }
+            InputFlaw::Unread => write!(f, "standard input cannot be read"),
+            InputFlaw::TooLongForShards => {
+                write!(
+                    f,
+                    "standard input has more than 16,777,216 bytes for each shard"
                 )
             }
             InputFlaw::NotHex => write!(f, "standard input is not hex"),

@@ -9,9 +9,14 @@ mod flaws;
 mod hexed;
 mod item_text;
 mod printed;
+mod progress;
 mod refusal;
 mod reports;
 mod session_texts;
+mod shard_flaws;
+mod shard_refusals;
+mod shard_reports;
+mod shard_texts;
 mod shown;
 mod stats;
 mod stdio;
@@ -28,11 +33,16 @@ pub use flaws::{InputFlaw, ServerFlaw, Unread};
 pub use hexed::{decode_text, encode_lines};
 pub use item_text::{push_item, text_is_read_again};
 pub use printed::{
-    tell, tell_address, tell_dropped, tell_no_text, tell_stats, tell_unwritten, tell_words,
+    tell, tell_address, tell_dropped, tell_no_text, tell_shard_flaw, tell_stats, tell_unwritten,
+    tell_words,
 };
+pub use progress::{end_progress, tell_progress};
 pub use refusal::Refusal;
 pub use reports::{Reporting, learned_line, left_out_line, report_text};
 pub use session_texts::{listening_line, outcome_text, served_text};
+pub use shard_flaws::ShardsFlaw;
+pub use shard_reports::shard_report_text;
+pub use shard_texts::{MergedCounts, merged_text, tell_undone, undone_text};
 pub use shown::shown_line;
 pub use stats::{Stats, Tally};
 pub use stdio::{PeerFlaw, refusal_of_session, tell_name_flaw, tell_stdio_flaw};

@@ -6,7 +6,7 @@ ghost use Rattle.printing_core.specs.Lines.{session_refusal_name, strategy_line,
 
 use crate::fault::Fault;
 use crate::stats::Stats;
-use settings_core::WordsFault;
+use settings_core::{ShardFlaw, WordsFault};
 use std::fmt;
 use std::io::Write;
 use std::net::SocketAddr;
@@ -50,6 +50,7 @@ pub fn session_refusal_name(code: u8) -> &'static str
         53 => "SerialsSpent",
         54 => "GateClosed",
         55 => "WrongSet",
+        56 => "NoShard",
         57 => "BadEntry",
         62 => "Accept",
         80 => "CannotRead",
@@ -71,6 +72,7 @@ impl Fault {
             | Fault::ReaderFailed
             | Fault::WriterFailed
             | Fault::LinesLost
+            | Fault::Incomplete
             | Fault::Memory => 3,
             Fault::BadItemLine { line: _ }
             | Fault::NotHex
@@ -151,6 +153,7 @@ impl fmt::Display for Fault {
             Fault::PeerRefused { code } => write!(f, "peer refused {code}"),
             Fault::ReaderFailed => write!(f, "io read"),
             Fault::WriterFailed | Fault::LinesLost => write!(f, "io write"),
+            Fault::Incomplete => write!(f, "incomplete"),
             Fault::Memory => write!(f, "refused 90 Memory"),
         }
     }
@@ -195,6 +198,16 @@ pub fn tell_no_text<E: Write + Drop>(err: E) -> u8
 {
     let mut err = err;
     let _told = writeln!(err, "error: a word is not UTF-8 text");
+    USAGE_STATUS
+}
+
+/// Prints why a call does not speak of shards as its words ask for it, and gives the status. A line that is not taken
+/// changes nothing.
+pub fn tell_shard_flaw<E: Write + Drop>(err: E, flaw: ShardFlaw) -> u8
+    ensures { result ≡ 2 }
+{
+    let mut err = err;
+    let _told = writeln!(err, "{flaw}");
     USAGE_STATUS
 }
 

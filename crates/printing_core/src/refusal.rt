@@ -27,7 +27,7 @@ use version_log::LogFault;
 use wire_core::WireFault;
 
 /// What stands in place of a file's name where items or a strategy are in none.
-const STANDARD_INPUT: &str = "standard input";
+pub(crate) const STANDARD_INPUT: &str = "standard input";
 
 /// Why a run is refused, and where that is seen.
 #[derive(Debug, Drop)]
@@ -39,7 +39,7 @@ pub struct Refusal<'a> {
 }
 
 /// The second line for a bad line of a file of items. None where memory runs out.
-fn why_bad_line<'a>(alloc: Global, file: &'a str, bad: &BadLine) -> Option<Why<'a>>
+pub(crate) fn why_bad_line<'a>(alloc: Global, file: &'a str, bad: &BadLine) -> Option<Why<'a>>
     ensures { IsSaidOfLine bad.now.flaw (bad_line_text file.now bad.now) result }
 {
     let line = bad.number;

@@ -27,7 +27,7 @@ pub struct Reporting {
 }
 
 /// What failed of a connection, as a fault.
-fn of_direction(side: Direction) -> Fault
+pub(crate) fn of_direction(side: Direction) -> Fault
     ensures { result ≡ of_direction side }
 {
     match side {
@@ -92,7 +92,7 @@ fn push_first(
 }
 
 /// Appends both differences as they are reported.
-fn push_reported(
+pub(crate) fn push_reported(
     alloc: Global,
     text: &mut String,
     reporting: Reporting,

@@ -5,6 +5,7 @@ ghost use Rattle.printing_core.specs.Whys.{key_name, strategy_text, check_text, 
 ghost use Rattle.printing_core.specs.Whys.{row_in, why_text};
 
 use crate::flaws::{InputFlaw, ServerFlaw, Unread};
+use crate::shard_flaws::ShardsFlaw;
 use crate::stdio::PeerFlaw;
 use crate::unreached::{AddressLine, Unreached};
 use item_files::{Key, NumberSpan, StrategyFlaw};
@@ -177,6 +178,17 @@ pub enum Why<'a> {
         place: Place<'a>,
         cap: usize,
     },
+    /// A shard has more different items than this.
+    FullShard {
+        file: &'a str,
+        shard: u16,
+        cap: usize,
+    },
+    /// A strategy has a cap below the number of shards.
+    FewPlaces {
+        file: &'a str,
+        shards: u32,
+    },
     /// There is no strategy.
     Strategy {
         place: Place<'a>,
@@ -200,6 +212,8 @@ pub enum Why<'a> {
     Server(ServerFlaw),
     /// The peer of a session over standard input and output did not, or these fail.
     Peer(PeerFlaw),
+    /// The servers of the shards do not fit.
+    Shards(ShardsFlaw),
 }
 
 impl fmt::Display for Why<'_> {
@@ -221,6 +235,15 @@ impl fmt::Display for Why<'_> {
             Why::TooManyItems { place, cap } => {
                 write!(f, "{place}: more than {cap} different items")
             }
+            Why::FullShard { file, shard, cap } => {
+                write!(
+                    f,
+                    "{file}: shard {shard} has more than {cap} different items"
+                )
+            }
+            Why::FewPlaces { file, shards } => {
+                write!(f, "{file}: {shards} shards need a cap of at least {shards}")
+            }
             Why::Strategy { place, flaw } => {
                 let place = RowPlace {
                     place: *place,
@@ -235,6 +258,7 @@ impl fmt::Display for Why<'_> {
             Why::Output => write!(f, "standard output is closed or full"),
             Why::Server(flaw) => write!(f, "{flaw}"),
             Why::Peer(flaw) => write!(f, "{flaw}"),
+            Why::Shards(flaw) => write!(f, "{flaw}"),
         }
     }
 }

@@ -69,10 +69,11 @@ HasValues rows (Plan items differences item_length round_trip rate search) = IsN
     × IsNumber (codes "round-trip") rows round_trip × IsNumber (codes "rate") rows rate
     × IsNumber (codes "search") rows search
 HasValues rows Sim = ⊤
-HasValues rows (Serve table address stdio set workers sessions patience most_bytes peers session_seconds memory report
-    learned keep durable most_learned read_only report_items metrics log form items) =
+HasValues rows (Serve table address stdio set shards only workers sessions patience most_bytes peers session_seconds
+    memory report learned keep durable most_learned read_only report_items metrics log form items) =
     IsText (codes "table") rows table.now × IsText (codes "addr") rows address.now
     × IsFlag (codes "stdio") rows stdio × IsAnyText (codes "set") rows (option_map (λ text. text.now) set)
+    × IsNumber (codes "shards") rows shards × IsAnyText (codes "only") rows (option_map (λ text. text.now) only)
     × IsNumber (codes "workers") rows (Some workers)
     × IsNumber (codes "sessions") rows sessions
     × IsNumber (codes "patience") rows (Some patience) × IsNumber (codes "most-bytes") rows (Some most_bytes)
@@ -86,9 +87,11 @@ HasValues rows (Serve table address stdio set workers sessions patience most_byt
     × IsAnyText (codes "metrics") rows (option_map (λ text. text.now) metrics) × IsFlag (codes "log") rows log
     × IsFlag (codes "text") rows (is_text form)
     × IsAnyText (codes "ITEMS") rows (option_map (λ text. text.now) items)
-HasValues rows (Sync table address stdio set out profile patience most_bytes stats form items) =
+HasValues rows (Sync table address stdio set shards only at_once out profile patience most_bytes stats form items) =
     IsText (codes "table") rows table.now × IsText (codes "addr") rows address.now
     × IsFlag (codes "stdio") rows stdio × IsAnyText (codes "set") rows (option_map (λ text. text.now) set)
+    × IsNumber (codes "shards") rows shards × IsAnyText (codes "only") rows (option_map (λ text. text.now) only)
+    × IsNumber (codes "at-once") rows at_once
     × IsAnyText (codes "out") rows (option_map (λ text. text.now) out)
     × IsNumber (codes "profile") rows (Some (profile_number profile))
     × IsNumber (codes "patience") rows (Some patience) × IsNumber (codes "most-bytes") rows (Some most_bytes)
@@ -100,9 +103,10 @@ name_of (Answer hexed form items) = codes "answer"
 name_of (Check cost items item_length file) = codes "check"
 name_of (Plan items differences item_length round_trip rate search) = codes "plan"
 name_of Sim = codes "sim"
-name_of (Serve table address stdio set workers sessions patience most_bytes peers session_seconds memory report learned
-    keep durable most_learned read_only report_items metrics log form items) = codes "serve"
-name_of (Sync table address stdio set out profile patience most_bytes stats form items) = codes "sync"
+name_of (Serve table address stdio set shards only workers sessions patience most_bytes peers session_seconds memory
+    report learned keep durable most_learned read_only report_items metrics log form items) = codes "serve"
+name_of (Sync table address stdio set shards only at_once out profile patience most_bytes stats form items) =
+    codes "sync"
 
 abbrev pub AsksFor : Text → List Row → Command → Type 0
 AsksFor name rows c = (name_of c ≡ name) × HasValues rows c × AreInSpan c

@@ -2,5 +2,6 @@ pub mod Addresses
 pub mod Calls
 pub mod Program
 pub mod Rules
+pub mod ShardWords
 pub mod Spans
 pub mod StdioWords

@@ -139,6 +139,18 @@ report_items = number (codes "report-items") 0 4294967295
 abbrev pub set_name : Rule
 set_name = valued (codes "set")
 
+-- `--shards B`, of 0 to 12
+abbrev pub shard_bits : Rule
+shard_bits = number (codes "shards") 0 12
+
+-- `--only A-B`
+abbrev pub only : Rule
+only = valued (codes "only")
+
+-- `--at-once N`, of 1 to 64
+abbrev pub at_once : Rule
+at_once = number (codes "at-once") 1 64
+
 -- `--metrics A`
 abbrev pub metrics : Rule
 metrics = valued (codes "metrics")
@@ -205,15 +217,17 @@ sim = with_rules (new_app (codes "sim")) (why ∷ [])
 -- `serve` without its ITEMS
 abbrev pub served : App
 served = with_rules (new_app (codes "serve"))
-    (table ∷ address ∷ stdio ∷ set_name ∷ workers ∷ sessions ∷ patience ∷ most_bytes ∷ peers ∷ session_seconds ∷ memory
-    ∷ report ∷ learned ∷ keep ∷ durable ∷ most_learned ∷ read_only ∷ report_items ∷ metrics ∷ log ∷ text ∷ why ∷ [])
+    (table ∷ address ∷ stdio ∷ set_name ∷ shard_bits ∷ only ∷ workers ∷ sessions ∷ patience ∷ most_bytes ∷ peers
+    ∷ session_seconds ∷ memory ∷ report ∷ learned ∷ keep ∷ durable ∷ most_learned ∷ read_only ∷ report_items ∷ metrics
+    ∷ log ∷ text ∷ why ∷ [])
 
 abbrev pub serve : Bool → App
 serve must = with_rules served (items must ∷ [])
 
 abbrev pub sync : App
 sync = with_rules (new_app (codes "sync"))
-    (table ∷ address ∷ stdio ∷ set_name ∷ out ∷ profile ∷ patience ∷ most_bytes ∷ stats ∷ text ∷ why ∷ items true ∷ [])
+    (table ∷ address ∷ stdio ∷ set_name ∷ shard_bits ∷ only ∷ at_once ∷ out ∷ profile ∷ patience ∷ most_bytes ∷ stats
+    ∷ text ∷ why ∷ items true ∷ [])
 
 -- the program itself, which has a version and asks for a command
 abbrev pub top : App

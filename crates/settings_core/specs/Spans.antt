@@ -68,6 +68,14 @@ IsRate n = (1 ≤ n) × (n ≤ 100000)
 abbrev pub IsSearch : ℕ → Type 0
 IsSearch n = (1 ≤ n) × (n ≤ 3600)
 
+-- a set is cut into 2 to this power shards
+abbrev pub IsShardBits : ℕ → Type 0
+IsShardBits n = (0 ≤ n) × (n ≤ 12)
+
+-- how many sessions of one call there are at once
+abbrev pub IsAtOnce : ℕ → Type 0
+IsAtOnce n = (1 ≤ n) × (n ≤ 64)
+
 -- one of the two, or both
 abbrev pub IsAnyGiven : {X Y : Type 0} → Option X → Option Y → Type 0
 IsAnyGiven None None = ⊥
@@ -81,10 +89,10 @@ AreInSpan (Plan items differences item_length round_trip rate search) = IfSome i
     × IfSome differences IsDifferenceCount × IfSome item_length IsItemLength × IfSome round_trip IsRoundTrip
     × IfSome rate IsRate × IfSome search IsSearch
 AreInSpan Sim = ⊤
-AreInSpan (Serve table address stdio set workers sessions patience most_bytes peers session_seconds memory report
-    learned keep durable most_learned read_only report_items metrics log form items) = IsWorkerCount workers
-    × IfSome sessions IsSessionCount × IsPatience patience × IsByteCount most_bytes × IfSome peers IsPeerCount
-    × IfSome session_seconds IsSessionTime × IfSome memory IsMemory × IfSome most_learned IsLearnedCount
-    × IfSome report_items IsReportedCount × IsAnyGiven keep items
-AreInSpan (Sync table address stdio set out profile patience most_bytes stats form items) = IsPatience patience
-    × IsByteCount most_bytes
+AreInSpan (Serve table address stdio set shards only workers sessions patience most_bytes peers session_seconds memory
+    report learned keep durable most_learned read_only report_items metrics log form items) =
+    IfSome shards IsShardBits × IsWorkerCount workers × IfSome sessions IsSessionCount × IsPatience patience
+    × IsByteCount most_bytes × IfSome peers IsPeerCount × IfSome session_seconds IsSessionTime × IfSome memory IsMemory
+    × IfSome most_learned IsLearnedCount × IfSome report_items IsReportedCount × IsAnyGiven keep items
+AreInSpan (Sync table address stdio set shards only at_once out profile patience most_bytes stats form items) =
+    IfSome shards IsShardBits × IfSome at_once IsAtOnce × IsPatience patience × IsByteCount most_bytes

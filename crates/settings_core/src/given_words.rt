@@ -6,11 +6,12 @@ ghost use Rattle.settings_core.specs.Calls.{AsksFor, CallsFor, Finds, IsFlag, Is
 ghost use Rattle.settings_core.specs.Spans.{IsByteCount, IsLearnedCount, IsPatience, IsReportedCount, IsSessionCount};
 ghost use Rattle.settings_core.specs.Spans.{IsWithin, IsWorkerCount};
 ghost use Rattle.settings_core.specs.Spans.{IsItemCount, IsItemLength, IsDifferenceCount, IsRoundTrip, IsRate};
-ghost use Rattle.settings_core.specs.Spans.{IsSearch, IsPeerCount, IsSessionTime, IsMemory};
+ghost use Rattle.settings_core.specs.Spans.{IsSearch, IsPeerCount, IsSessionTime, IsMemory, IsShardBits, IsAtOnce};
 
 use crate::known_words::{
-    MAX_ITEM_LENGTH, MAX_ITEMS, MAX_MEMORY, MAX_PATIENCE, MAX_PEERS, MAX_RATE, MAX_ROUND_TRIP,
-    MAX_SEARCH, MAX_SESSION_SECONDS, MAX_SESSIONS, MAX_WORKERS, MIN_BYTES, MIN_ITEM_LENGTH,
+    MAX_AT_ONCE, MAX_ITEM_LENGTH, MAX_ITEMS, MAX_MEMORY, MAX_PATIENCE, MAX_PEERS, MAX_RATE,
+    MAX_ROUND_TRIP, MAX_SEARCH, MAX_SESSION_SECONDS, MAX_SESSIONS, MAX_SHARD_BITS, MAX_WORKERS,
+    MIN_BYTES, MIN_ITEM_LENGTH,
 };
 use crate::words::{Call, Command};
 use clap::ArgMatches;
@@ -42,6 +43,22 @@ fn sessions_in(matches: &ArgMatches<'_>) -> Option<Option<u32>>
         × IfSome n IsSessionCount) result }
 {
     number_in(matches, "sessions", 1, MAX_SESSIONS)
+}
+
+/// The bits of the shards, if they are given.
+fn shards_in(matches: &ArgMatches<'_>) -> Option<Option<u32>>
+    ensures { Finds (λ n. IsNumber (codes "shards") (rows_of (found_of matches.now)) n
+        × IfSome n IsShardBits) result }
+{
+    number_in(matches, "shards", 0, MAX_SHARD_BITS)
+}
+
+/// How many sessions there are at once, if it is given.
+fn at_once_in(matches: &ArgMatches<'_>) -> Option<Option<u32>>
+    ensures { Finds (λ n. IsNumber (codes "at-once") (rows_of (found_of matches.now)) n
+        × IfSome n IsAtOnce) result }
+{
+    number_in(matches, "at-once", 1, MAX_AT_ONCE)
 }
 
 /// How many peers there are at once, if it is given.
@@ -241,6 +258,8 @@ fn serve_in<'a>(matches: &ArgMatches<'a>) -> Option<Command<'a>>
         address: text_in(matches, "addr")?,
         stdio: flag_in(matches, "stdio"),
         set: text_in(matches, "set"),
+        shards: shards_in(matches)?,
+        only: text_in(matches, "only"),
         workers: workers_in(matches)?,
         sessions: sessions_in(matches)?,
         patience: patience_in(matches)?,
@@ -271,6 +290,9 @@ fn sync_in<'a>(matches: &ArgMatches<'a>) -> Option<Command<'a>>
         address: text_in(matches, "addr")?,
         stdio: flag_in(matches, "stdio"),
         set: text_in(matches, "set"),
+        shards: shards_in(matches)?,
+        only: text_in(matches, "only"),
+        at_once: at_once_in(matches)?,
         out: text_in(matches, "out"),
         profile: profile_in(matches)?,
         patience: patience_in(matches)?,

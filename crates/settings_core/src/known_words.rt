@@ -51,6 +51,12 @@ pub(crate) const MAX_RATE: u32 = 100_000;
 /// The greatest number of seconds that are spent on a search: an hour.
 pub(crate) const MAX_SEARCH: u32 = 3_600;
 
+/// A set is cut into at most 2 to this power shards.
+pub(crate) const MAX_SHARD_BITS: u32 = 12;
+
+/// The greatest number of sessions of one call at once.
+pub(crate) const MAX_AT_ONCE: u32 = 64;
+
 /// How help speaks of a strategy file.
 const FILE_HELP: &str = "A strategy in TOML";
 
@@ -102,6 +108,15 @@ const SET: Argument<'static> = Argument::Valued {
     name: "set",
     value: "NAME",
     help: "Speak of the set of this name alone, 1 to 63 bytes",
+};
+
+/// Into how many shards the set is cut.
+const SHARDS: Argument<'static> = Argument::Number {
+    name: "shards",
+    value: "B",
+    least: 0,
+    most: MAX_SHARD_BITS,
+    help: "Cut the set into 2 to the power of B shards, 0 to 12",
 };
 
 /// The arguments of `answer`.
@@ -234,7 +249,7 @@ fn sim_words<'a>(alloc: Global) -> Result<clap::Command<'a>, AllocError>
 }
 
 /// The arguments of `serve`, but for its ITEMS.
-const SERVE: [Argument<'static>; 22] = [
+const SERVE: [Argument<'static>; 24] = [
     TABLE,
     Argument::ValuedOr {
         name: "addr",
@@ -244,6 +259,12 @@ const SERVE: [Argument<'static>; 22] = [
     },
     STDIO,
     SET,
+    SHARDS,
+    Argument::Valued {
+        name: "only",
+        value: "A-B",
+        help: "With --shards: keep these shards alone, as 3 or 0-7",
+    },
     Argument::NumberOr {
         name: "workers",
         value: "N",
@@ -365,7 +386,7 @@ fn serve_words<'a>(alloc: Global, must: bool) -> Result<clap::Command<'a>, Alloc
 }
 
 /// The arguments of `sync`.
-const SYNC: [Argument<'static>; 12] = [
+const SYNC: [Argument<'static>; 15] = [
     TABLE,
     Argument::ValuedOr {
         name: "addr",
@@ -375,6 +396,19 @@ const SYNC: [Argument<'static>; 12] = [
     },
     STDIO,
     SET,
+    SHARDS,
+    Argument::Valued {
+        name: "only",
+        value: "A-B",
+        help: "With --shards: speak of these shards alone, as 3 or 0-7",
+    },
+    Argument::Number {
+        name: "at-once",
+        value: "N",
+        least: 1,
+        most: MAX_AT_ONCE,
+        help: "With --shards: so many sessions at once, 1 to 64 [default: 8]",
+    },
     Argument::Valued {
         name: "out",
         value: "FILE",

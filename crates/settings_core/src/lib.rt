@@ -5,6 +5,8 @@ mod addresses;
 mod arguments;
 mod given_words;
 mod known_words;
+mod shard_words;
+mod sharding;
 mod stdio_words;
 mod words;
 
@@ -14,5 +16,7 @@ pub use item_files::{
     read_items, read_strategy,
 };
 pub use known_words::VERSION;
+pub use shard_words::{ShardFlaw, ShardWords, sharding_of};
+pub use sharding::Sharding;
 pub use stdio_words::{StdioFlaw, StdioWords, stdio_flaw};
 pub use words::{Call, Command, WordsFault, read_words};

@@ -72,6 +72,10 @@ pub enum Command<'a> {
         stdio: bool,
         /// The name of the set, if one is given.
         set: Option<&'a str>,
+        /// The set is cut into 2 to this power shards, 0 to 12, if it is given.
+        shards: Option<u32>,
+        /// Which of the shards are kept, if it is given.
+        only: Option<&'a str>,
         /// How many loops serve them, 1 to 16, and as many more for those whose messages are long.
         workers: u8,
         /// After how many connections it ends, 1 to 1,000,000; `None` where it has no end.
@@ -121,6 +125,12 @@ pub enum Command<'a> {
         stdio: bool,
         /// The name of the set, if one is given.
         set: Option<&'a str>,
+        /// The set is cut into 2 to this power shards, 0 to 12, if it is given.
+        shards: Option<u32>,
+        /// Which of the shards are spoken of, if it is given.
+        only: Option<&'a str>,
+        /// How many sessions there are at once, 1 to 64, if it is given.
+        at_once: Option<u32>,
         /// The path of the file for the lines of the session, if one is given.
         out: Option<&'a str>,
         /// The wire profile that is spoken.
