@@ -5,9 +5,12 @@
 --                                        that ended and was said whole says what it has learned, and of which version;
 --                                        any other is broken, and says as sent what was written whole
 --     PutsInOf id lets_in o v w          what was learned is put into the log, where the session is in the table
+--     shown_in which o                   the outcome of which the board is told: over the directory no items are found
 use Rattle.std.specs.Prelude.{◌≡◌, ℕ, ◌-◌, Bool, Option, Some, None, if◌then◌else◌}
 use Rattle.session_table.specs.declared.session.SessionId.{SessionId}
-use Rattle.definitions.specs.Talks.{Knowledge}
+use Rattle.definitions.specs.Talks.{Knowledge, nothing}
+use Rattle.shard_core.specs.declared.selector.Which.{Which}
+use Rattle.shard_core.specs.declared.selector.Which.TheVariants.{Shard, Directory}
 use Rattle.outcome_core.specs.declared.outcome.Direction.TheVariants as directions
 use Rattle.outcome_core.specs.declared.outcome.Outcome.{Outcome}
 use Rattle.outcome_core.specs.declared.outcome.Outcome.TheVariants as outcomes
@@ -57,3 +60,15 @@ Tells parting stage version o = TellsOf (state_in stage) parting stage version o
 abbrev pub PutsInOf : Option SessionId → (ℕ → ℕ → ℕ → Type 0) → Outcome → View → View → Type 0
 PutsInOf None lets_in o v w = w ≡ v
 PutsInOf (Some id) lets_in o v w = PutsInLearned lets_in o v w
+
+abbrev pub found_none : Outcome → Outcome
+found_none (outcomes.Ended learned sent version) = outcomes.Ended nothing sent version
+found_none (outcomes.Refused code sent) = outcomes.Refused code sent
+found_none (outcomes.PeerRefused code sent) = outcomes.PeerRefused code sent
+found_none (outcomes.Io side sent) = outcomes.Io side sent
+found_none (outcomes.Memory sent) = outcomes.Memory sent
+
+abbrev pub shown_in : Option Which → Outcome → Outcome
+shown_in None o = o
+shown_in (Some (Shard number)) o = o
+shown_in (Some Directory) o = found_none o

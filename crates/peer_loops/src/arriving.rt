@@ -7,13 +7,13 @@ use crate::desk::Desk;
 use crate::ending::Parting;
 use crate::looping::{Kind, Loop};
 use crate::note::Guest;
+use crate::part_gate::PartGate;
 use crate::site::Site;
 use hub_core::Peer;
 use link_core::LinkFault;
 use mio::unix::SourceFd;
 use mio::{Interest, Token};
 use outcome_core::SourceFault;
-use peer_threads::Gate;
 use session_table::SessionId;
 use std::os::fd::{AsRawFd, RawFd};
 use std::sync::Wait;
@@ -58,7 +58,7 @@ impl Accepting {
 
 impl Loop {
     /// Takes in whoever has come: those who connect, or those whom other loops hand over.
-    pub(crate) fn take_in<R: Wait, G: Gate>(
+    pub(crate) fn take_in<R: Wait, G: PartGate>(
         &mut self,
         site: &Site<'_, R, G>,
         desk: &mut Desk<'_, G>,
@@ -73,7 +73,7 @@ impl Loop {
 
     /// Accepts one connection, if somebody may be there: so it is served before this loop takes another, and the other
     /// loops, which were woken too, take those. Where nobody will come, they are told.
-    fn accept_once<R: Wait, G: Gate>(&mut self, site: &Site<'_, R, G>, desk: &mut Desk<'_, G>)
+    fn accept_once<R: Wait, G: PartGate>(&mut self, site: &Site<'_, R, G>, desk: &mut Desk<'_, G>)
         ensures shared { desk.new.shared ≡ desk.old.shared }
     {
         if self.accepting != Accepting::More && self.accepting != Accepting::NoRoom {
@@ -86,7 +86,7 @@ impl Loop {
     }
 
     /// Accepts one connection, if somebody is there; how the accepting goes on.
-    fn accept_next<R: Wait, G: Gate>(
+    fn accept_next<R: Wait, G: PartGate>(
         &mut self,
         site: &Site<'_, R, G>,
         desk: &mut Desk<'_, G>,
@@ -103,7 +103,7 @@ impl Loop {
     }
 
     /// Takes in a connection, if one came; how the accepting goes on.
-    fn accept<R: Wait, G: Gate>(
+    fn accept<R: Wait, G: PartGate>(
         &mut self,
         site: &Site<'_, R, G>,
         desk: &mut Desk<'_, G>,
@@ -125,7 +125,11 @@ impl Loop {
     }
 
     /// Makes room where there is no descriptor for one more. After so many times in a row the source has failed.
-    fn miss<R: Wait, G: Gate>(&mut self, site: &Site<'_, R, G>, desk: &mut Desk<'_, G>) -> Accepting
+    fn miss<R: Wait, G: PartGate>(
+        &mut self,
+        site: &Site<'_, R, G>,
+        desk: &mut Desk<'_, G>,
+    ) -> Accepting
         ensures shared { desk.new.shared ≡ desk.old.shared }
     {
         self.misses = self.misses.saturating_add(1);
@@ -142,7 +146,7 @@ impl Loop {
 
     /// Lets the peer go that has been silent for longest, if it has been so for a while: the system may say that there
     /// is no descriptor though nobody waits.
-    fn let_a_silent_one_go<R: Wait, G: Gate>(
+    fn let_a_silent_one_go<R: Wait, G: PartGate>(
         &mut self,
         site: &Site<'_, R, G>,
         desk: &mut Desk<'_, G>,
@@ -159,7 +163,7 @@ impl Loop {
     }
 
     /// Lets the peer go that has been silent for longest.
-    fn make_room<R: Wait, G: Gate>(&mut self, site: &Site<'_, R, G>, desk: &mut Desk<'_, G>)
+    fn make_room<R: Wait, G: PartGate>(&mut self, site: &Site<'_, R, G>, desk: &mut Desk<'_, G>)
         ensures shared { desk.new.shared ≡ desk.old.shared }
     {
         if let Some(key) = self.hub.most_silent() {
@@ -169,7 +173,7 @@ impl Loop {
 
     /// Takes in a connection that has just come. Where all places are taken, the peer of this loop that has been silent
     /// for longest makes room; one more comes in where this loop has none.
-    fn admit_new<R: Wait, G: Gate>(
+    fn admit_new<R: Wait, G: PartGate>(
         &mut self,
         site: &Site<'_, R, G>,
         desk: &mut Desk<'_, G>,
@@ -191,7 +195,7 @@ impl Loop {
     }
 
     /// Takes in all whom other loops hand over.
-    fn take_guests<R: Wait, G: Gate>(&mut self, site: &Site<'_, R, G>, desk: &mut Desk<'_, G>)
+    fn take_guests<R: Wait, G: PartGate>(&mut self, site: &Site<'_, R, G>, desk: &mut Desk<'_, G>)
         ensures shared { desk.new.shared ≡ desk.old.shared }
     {
         for guest in site.crowd.guests(site.rt, site.alloc, self.index) {
@@ -212,7 +216,7 @@ impl Loop {
     }
 
     /// Takes in a peer.
-    fn admit<R: Wait, G: Gate>(
+    fn admit<R: Wait, G: PartGate>(
         &mut self,
         site: &Site<'_, R, G>,
         desk: &mut Desk<'_, G>,
@@ -224,14 +228,14 @@ impl Loop {
         let key = self.hub.next_key();
         let fd = guest.peer.reader().inner().as_raw_fd();
         if !self.register(key, fd, guest.id) {
-            self.part(site, desk, guest, no_memory);
+            self.part_with(site, desk, guest, no_memory);
             return;
         }
         let Guest { peer, id } = guest;
         match self.hub.admit(peer) {
             // the system reports at once that it can be written to
             Ok(_key) => {}
-            Err(peer) => self.part(site, desk, Guest { peer, id }, no_memory),
+            Err(peer) => self.part_with(site, desk, Guest { peer, id }, no_memory),
         }
     }
 }

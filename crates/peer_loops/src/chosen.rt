@@ -1,8 +1,13 @@
-//! Of which set a peer speaks.
+//! Of which set a peer speaks, and of which part of it.
 
+ghost use Rattle.std.specs.Prelude.{◌≡◌};
+ghost use Rattle.shard_core.specs.Selectors.{selecting};
+ghost use Rattle.peer_loops.specs.ShardSpans.{part_in};
+
+use crate::shards::Shards;
 use digest_core::{Fingerprint, Summary};
 use hub_core::{Greeting, Peer, Stage};
-use shard_core::{AfterSelector, SetName};
+use shard_core::{AfterSelector, Selecting, SetName, Which};
 use std::io::Write;
 use tcp_front::Half;
 use wire_core::encode_fault;
@@ -12,6 +17,12 @@ pub(crate) type Reader = AfterSelector<Half>;
 
 /// The length of our hello.
 const HELLO: usize = 4;
+
+/// The number of the refusal of a peer that speaks of a set that is not here.
+const WRONG_SET: u8 = 55;
+
+/// The number of the refusal of a peer whose input ended too early.
+const TRUNCATED: u8 = 3;
 
 /// What is read of a peer that has come: what comes after its selector, where it has to say of which set it speaks.
 pub(crate) fn reader_of(set: Option<SetName<'_>>, reader: Half) -> Reader {
@@ -26,10 +37,41 @@ fn is_known(greeting: &Greeting) -> bool {
     greeting.said() == HELLO || greeting.is_over()
 }
 
-/// The number of the refusal of a peer that speaks of another set, or of none, once that is known.
-pub(crate) fn refusal_of(set: SetName<'_>, peer: &Peer<Reader, Half>) -> Option<u8> {
+/// The part of a set of which a peer speaks, if it has said so.
+pub(crate) fn part_of(set: SetName<'_>, reader: &Reader) -> Option<Which>
+    ensures { result ≡ part_in (selecting set.entry.name.now set.entry.bits reader.now.came) }
+{
+    match set.read(reader.came()) {
+        Selecting::Selected(which, _) => Some(which),
+        _ => None,
+    }
+}
+
+/// The number of the refusal of a peer that speaks of another set, of none, of a shard that is not kept, or whose input
+/// ended before it said of which shard.
+fn refusal_at(set: SetName<'_>, shards: Option<&Shards>, reader: &Reader) -> Option<u8> {
+    let refusal = set.refusal(reader.came());
+    if refusal.is_some() {
+        return refusal;
+    }
+    let shards = shards?;
+    match part_of(set, reader) {
+        Some(which) if shards.keeps(which) => None,
+        Some(_) => Some(WRONG_SET),
+        // its input ended inside a selector that was right so far
+        None => Some(TRUNCATED),
+    }
+}
+
+/// The number of the refusal of a peer that speaks of another set, of none, or of a shard that is not kept, once that
+/// is known.
+pub(crate) fn refusal_of(
+    set: SetName<'_>,
+    shards: Option<&Shards>,
+    peer: &Peer<Reader, Half>,
+) -> Option<u8> {
     match peer.stage() {
-        Stage::Greeting(greeting) if is_known(greeting) => set.refusal(peer.reader().came()),
+        Stage::Greeting(greeting) if is_known(greeting) => refusal_at(set, shards, peer.reader()),
         _ => None,
     }
 }

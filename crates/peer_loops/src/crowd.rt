@@ -5,6 +5,7 @@ ghost use Rattle.std.specs.Prelude.{◌≤◌};
 use crate::board::Board;
 use crate::looping::Kind;
 use crate::note::Guest;
+use crate::shards::Shards;
 use mio::{Poll, Waker};
 use outcome_core::SourceFault;
 use shard_core::SetName;
@@ -41,6 +42,9 @@ pub struct Service<'a> {
     pub board: &'a Board,
     /// What the set is called, if peers have to say of which set they speak.
     pub set: Option<SetName<'a>>,
+    /// The shards of a set that is cut into shards, if it is: sessions are over these then, and over none of the log.
+    /// There must be a set name too.
+    pub shards: Option<&'a Shards>,
 }
 
 /// Where peers wait for a loop, and how it is woken.
@@ -61,6 +65,8 @@ pub(crate) struct Crowd<'a> {
     pub(crate) board: &'a Board,
     /// What the set is called, if peers have to say it.
     pub(crate) set: Option<SetName<'a>>,
+    /// The shards, if sessions are over these.
+    pub(crate) shards: Option<&'a Shards>,
     /// Of how many loops each kind has.
     pub(crate) loops: usize,
     inlets: Vec<Inlet>,
@@ -111,6 +117,7 @@ impl<'a> Crowd<'a> {
             limits,
             board,
             set,
+            shards,
         } = service;
         let loops = usize::from(loops);
         let both_kinds = loops.saturating_mul(2);
@@ -119,6 +126,7 @@ impl<'a> Crowd<'a> {
             limits,
             board,
             set,
+            shards,
             loops,
             inlets: inlets(alloc, both_kinds)?,
             polls: Mutex::new(polls(rt, alloc, both_kinds)?),

@@ -10,12 +10,18 @@ mod ending;
 mod leaving;
 mod looping;
 mod note;
+mod opening;
+mod part_gate;
 mod parting;
+mod putting;
 mod serving;
+mod shards;
 mod site;
 mod talking;
 mod visiting;
 
 pub use board::{Board, Recent};
 pub use crowd::{PeerLimits, Service};
+pub use part_gate::PartGate;
 pub use serving::serve_peers;
+pub use shards::Shards;

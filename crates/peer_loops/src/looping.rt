@@ -8,11 +8,11 @@ use crate::desk::Desk;
 use crate::ending::Parting;
 use crate::leaving::Leavers;
 use crate::note::Notes;
+use crate::part_gate::PartGate;
 use crate::site::Site;
 use hub_core::{Hub, HubLimits};
 use mio::unix::SourceFd;
 use mio::{Events, Interest, Poll, Token, Waker};
-use peer_threads::Gate;
 use std::io;
 use std::io::ErrorKind;
 use std::os::fd::AsRawFd;
@@ -145,7 +145,7 @@ impl Loop {
     }
 
     /// Goes on with those that were left off.
-    fn go_on_soon<R: Wait, G: Gate>(&mut self, site: &Site<'_, R, G>, desk: &mut Desk<'_, G>)
+    fn go_on_soon<R: Wait, G: PartGate>(&mut self, site: &Site<'_, R, G>, desk: &mut Desk<'_, G>)
         ensures shared { desk.new.shared ≡ desk.old.shared }
     {
         let mut soon = Vec::new(site.alloc);
@@ -157,7 +157,7 @@ impl Loop {
     }
 
     /// Tries again to open the sessions for which there was no place.
-    fn open_waiting<R: Wait, G: Gate>(&mut self, site: &Site<'_, R, G>, desk: &mut Desk<'_, G>)
+    fn open_waiting<R: Wait, G: PartGate>(&mut self, site: &Site<'_, R, G>, desk: &mut Desk<'_, G>)
         ensures shared { desk.new.shared ≡ desk.old.shared }
     {
         let mut waiting = Vec::new(site.alloc);
@@ -169,7 +169,7 @@ impl Loop {
     }
 
     /// Lets those go whose time is over.
-    fn sweep<R: Wait, G: Gate>(&mut self, site: &Site<'_, R, G>, desk: &mut Desk<'_, G>)
+    fn sweep<R: Wait, G: PartGate>(&mut self, site: &Site<'_, R, G>, desk: &mut Desk<'_, G>)
         ensures shared { desk.new.shared ≡ desk.old.shared }
     {
         self.leavers.close_late(self.now);
@@ -186,7 +186,7 @@ impl Loop {
     }
 
     /// Goes on with whoever is ready.
-    fn meet<R: Wait, G: Gate>(
+    fn meet<R: Wait, G: PartGate>(
         &mut self,
         site: &Site<'_, R, G>,
         desk: &mut Desk<'_, G>,
@@ -202,7 +202,7 @@ impl Loop {
     }
 
     /// What it does after a wait.
-    fn turn<R: Wait, G: Gate>(
+    fn turn<R: Wait, G: PartGate>(
         &mut self,
         site: &Site<'_, R, G>,
         desk: &mut Desk<'_, G>,
@@ -227,7 +227,7 @@ impl Loop {
     }
 
     /// Serves those who come, until nobody is there and nobody will come.
-    pub(crate) fn run<R: Wait + Clock, G: Gate>(
+    pub(crate) fn run<R: Wait + Clock, G: PartGate>(
         &mut self,
         site: &Site<'_, R, G>,
         desk: &mut Desk<'_, G>,

@@ -8,9 +8,10 @@ ghost use Rattle.peer_threads.specs.Workers.{MayWork, Outlives};
 use crate::crowd::{Crowd, Service};
 use crate::desk::Desk;
 use crate::looping::{Kind, Loop};
+use crate::part_gate::PartGate;
 use crate::site::Site;
 use outcome_core::Report;
-use peer_threads::{Gate, Shared};
+use peer_threads::Shared;
 use range_tree::Tree;
 use std::net::Net;
 use std::sync::Wait;
@@ -27,7 +28,7 @@ struct Span {
 }
 
 /// Serves by one loop, until nobody will come. Whether it could.
-fn serve_one<R: Clock + Wait, G: Gate>(
+fn serve_one<R: Clock + Wait, G: PartGate>(
     site: &Site<'_, R, G>,
     desk: &mut Desk<'_, G>,
     index: usize,
@@ -41,7 +42,7 @@ fn serve_one<R: Clock + Wait, G: Gate>(
 }
 
 /// Serves by the loop of this number, with this seat, until nobody will come. Whether it could.
-fn work<R: Clock + Wait, G: Gate>(site: &Site<'_, R, G>, seat: Seat<Tree>, index: usize) -> bool
+fn work<R: Clock + Wait, G: PartGate>(site: &Site<'_, R, G>, seat: Seat<Tree>, index: usize) -> bool
     requires lock { seat.table_id ≡ site.now.shared.now.lock.now }
     requires seat { MayWork (arc_value site.now.shared.now.accepted.now).table.cap seat.view }
 {
@@ -52,7 +53,7 @@ fn work<R: Clock + Wait, G: Gate>(site: &Site<'_, R, G>, seat: Seat<Tree>, index
 }
 
 /// The same; the others are told once it accepts no more. How many loops that accept have served.
-fn work_and_leave<R: Clock + Wait, G: Gate>(
+fn work_and_leave<R: Clock + Wait, G: PartGate>(
     site: &Site<'_, R, G>,
     seat: Seat<Tree>,
     index: usize,
@@ -70,7 +71,7 @@ fn work_and_leave<R: Clock + Wait, G: Gate>(
 
 /// So many loops, each half of them beside the other. Where no thread can be made for the first half, it runs after the
 /// second. How many loops that accept have served.
-fn run_half<R: Threads + Clock + Wait + Sync, G: Gate + Sync>(
+fn run_half<R: Threads + Clock + Wait + Sync, G: PartGate + Sync>(
     rt: &R,
     shared: &Shared<'_, Tree, G>,
     crowd: &Crowd<'_>,
@@ -130,7 +131,7 @@ fn run_half<R: Threads + Clock + Wait + Sync, G: Gate + Sync>(
 /// arrives.
 ///
 /// Where memory ran out before a loop ran, none is started.
-pub fn serve_peers<R: Net + Threads + Clock + Wait + AllocGlobal + Sync, G: Gate + Sync>(
+pub fn serve_peers<R: Net + Threads + Clock + Wait + AllocGlobal + Sync, G: PartGate + Sync>(
     rt: &R,
     shared: &Shared<'_, Tree, G>,
     seat: &mut Seat<Tree>,

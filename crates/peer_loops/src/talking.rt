@@ -7,11 +7,11 @@ use crate::desk::Desk;
 use crate::ending::Parting;
 use crate::looping::{Kind, Loop};
 use crate::note::Guest;
+use crate::part_gate::PartGate;
 use crate::site::Site;
 use hub_core::StepPause;
 use link_core::LinkFault;
 use mio::unix::SourceFd;
-use peer_threads::Gate;
 use std::os::fd::AsRawFd;
 use std::sync::Wait;
 
@@ -21,7 +21,7 @@ const ROOM: usize = 16_384;
 impl Loop {
     /// Goes on with this peer, as far as its stream goes without waiting; then lets those go that keep more than all
     /// may. One that speaks of no set that is here is let go.
-    pub(crate) fn go_on<R: Wait, G: Gate>(
+    pub(crate) fn go_on<R: Wait, G: PartGate>(
         &mut self,
         site: &Site<'_, R, G>,
         desk: &mut Desk<'_, G>,
@@ -66,7 +66,7 @@ impl Loop {
     }
 
     /// Does what a step of this peer asks for.
-    fn follow<R: Wait, G: Gate>(
+    fn follow<R: Wait, G: PartGate>(
         &mut self,
         site: &Site<'_, R, G>,
         desk: &mut Desk<'_, G>,
@@ -91,7 +91,7 @@ impl Loop {
     }
 
     /// Notes that it goes on with this peer without waiting. Where memory runs out, the peer is let go.
-    pub(crate) fn soon<R: Wait, G: Gate>(
+    pub(crate) fn soon<R: Wait, G: PartGate>(
         &mut self,
         site: &Site<'_, R, G>,
         desk: &mut Desk<'_, G>,
@@ -105,7 +105,7 @@ impl Loop {
     }
 
     /// The same once there may be a place for its session.
-    fn wait_for_place<R: Wait, G: Gate>(
+    fn wait_for_place<R: Wait, G: PartGate>(
         &mut self,
         site: &Site<'_, R, G>,
         desk: &mut Desk<'_, G>,
@@ -121,18 +121,23 @@ impl Loop {
     /// The number of the refusal of this peer, if it speaks of no set that is here.
     fn refusal<R, G>(&self, site: &Site<'_, R, G>, key: usize) -> Option<u8> {
         let set = site.crowd.set?;
-        refusal_of(set, self.hub.get(key)?)
+        refusal_of(set, site.crowd.shards, self.hub.get(key)?)
     }
 
     /// Opens the session of this peer, if the table has a place for it; else the peer waits.
-    fn open<R: Wait, G: Gate>(&mut self, site: &Site<'_, R, G>, desk: &mut Desk<'_, G>, key: usize)
+    fn open<R: Wait, G: PartGate>(
+        &mut self,
+        site: &Site<'_, R, G>,
+        desk: &mut Desk<'_, G>,
+        key: usize,
+    )
         ensures shared { desk.new.shared ≡ desk.old.shared }
     {
         if !site.crowd.take_place() {
             self.wait_for_place(site, desk, key);
             return;
         }
-        let opened = desk.open(site.rt, site.alloc, &mut self.hub, key);
+        let opened = self.open_session(site, desk, key);
         self.book(site, key);
         if opened.is_err() {
             self.let_go(site, desk, key, Parting::Failed(LinkFault::Memory));
@@ -170,7 +175,7 @@ impl Loop {
     }
 
     /// Hands this peer to a loop for those whose messages are long, if one runs.
-    fn hand_over<R: Wait, G: Gate>(
+    fn hand_over<R: Wait, G: PartGate>(
         &mut self,
         site: &Site<'_, R, G>,
         desk: &mut Desk<'_, G>,
@@ -190,12 +195,12 @@ impl Loop {
         let fd = peer.reader().inner().as_raw_fd();
         let _gone = self.poll.registry().deregister(&mut SourceFd(&fd));
         if let Err(guest) = site.crowd.hand_over(site.rt, index, Guest { peer, id }) {
-            self.part(site, desk, guest, Parting::Failed(LinkFault::Memory));
+            self.part_with(site, desk, guest, Parting::Failed(LinkFault::Memory));
         }
     }
 
     /// Lets the peers go of which most is kept, until all keep no more than they may.
-    fn keep_within<R: Wait, G: Gate>(&mut self, site: &Site<'_, R, G>, desk: &mut Desk<'_, G>)
+    fn keep_within<R: Wait, G: PartGate>(&mut self, site: &Site<'_, R, G>, desk: &mut Desk<'_, G>)
         ensures shared { desk.new.shared ≡ desk.old.shared }
     {
         for _peer in 0..self.hub.len() {

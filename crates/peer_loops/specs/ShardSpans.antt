@@ -1,0 +1,19 @@
+-- Which parts of a set a server keeps.
+--     keeps first count which      of consecutive shards from the first on, so many: whether this part is kept
+--     part_in selecting            the part that the bytes of a peer select, if they do
+use Rattle.std.specs.Prelude.{ℕ, ◌-◌, Bool, true, not, ◌&&◌, nat_lt, Option, Some, None}
+use Rattle.shard_core.specs.declared.selector.Which.{Which}
+use Rattle.shard_core.specs.declared.selector.Which.TheVariants.{Shard, Directory}
+use Rattle.shard_core.specs.declared.selector.Selecting.{Selecting}
+use Rattle.shard_core.specs.declared.selector.Selecting.TheVariants.{NoSelector, More, WrongSet, Selected}
+
+-- the directory is always there
+abbrev pub keeps : ℕ → ℕ → Which → Bool
+keeps first count (Shard s) = not (nat_lt s first) && nat_lt (s - first) count
+keeps first count Directory = true
+
+abbrev pub part_in : Selecting → Option Which
+part_in NoSelector = None
+part_in More = None
+part_in WrongSet = None
+part_in (Selected which used) = Some which
