@@ -11,11 +11,13 @@
 //! | `items` | `item_core` |
 //! | `line_files` | `line_file` |
 //! | `links` | `link_core` |
+//! | `loads` | `shard_loading` |
 //! | `logs` | `version_log` |
 //! | `ranks` | `rank_core` |
 //! | `selectors` | `shard_core`, the name of a set |
 //! | `session_tables` | `session_table` |
 //! | `sessions` | `session_core` |
+//! | `shard_logs` | `shard_log` |
 //! | `shards` | `shard_core` |
 //! | `stores` | `store_core` |
 //! | `strategies` | `strategy_core` |
@@ -37,6 +39,8 @@ mod line_files;
 #[cfg(test)]
 mod links;
 #[cfg(test)]
+mod loads;
+#[cfg(test)]
 mod logs;
 #[cfg(test)]
 mod ranks;
@@ -46,6 +50,8 @@ mod selectors;
 mod session_tables;
 #[cfg(test)]
 mod sessions;
+#[cfg(test)]
+mod shard_logs;
 #[cfg(test)]
 mod shards;
 #[cfg(test)]

@@ -97,7 +97,7 @@ fn item_set<'a, R: Files + AllocGlobal, I: Read + Drop>(
 }
 
 /// Opens and heals the file in which the set is kept, if there is one. Else 80 or 90.
-fn open_kept<'a, R: Files<File = File> + AllocGlobal, E: Write>(
+pub(crate) fn open_kept<'a, R: Files<File = File> + AllocGlobal, E: Write>(
     rt: &R,
     sources: Sources<'a>,
     err: &mut E,

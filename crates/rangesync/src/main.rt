@@ -4,9 +4,12 @@
 mod book;
 mod callers;
 mod checking;
+mod costs;
+mod directories;
 mod disk;
 mod limits;
 mod loading;
+mod loading_shards;
 mod logging;
 mod metering;
 mod naming;
@@ -15,8 +18,12 @@ mod reaching;
 mod reporting;
 mod run;
 mod serve;
+mod sessions;
+mod sharding;
 mod stdio;
+mod stocking;
 mod sync;
+mod sync_shards;
 mod watching;
 
 use printing_core::{Fault, tell, tell_no_text};

@@ -36,14 +36,20 @@ pub fn told_of(alloc: Global, command: Command<'_>) -> Result<Vec<u8>, AllocErro
     Ok(told)
 }
 
-/// The set of which the other side is told so: none where it is told nothing.
-pub fn set_of(told: &[u8]) -> Result<Option<SetName<'_>>, BadName> {
+/// The set that the other side is told so, and that is cut by so many bits.
+fn set_cut(told: &[u8], bits: u8) -> Result<Option<SetName<'_>>, BadName> {
+    match SetName::new(told, bits) {
+        Some(set) => Ok(Some(set)),
+        None => Err(BadName),
+    }
+}
+
+/// The set of which the other side is told so: none where it is told nothing. A set that is cut into shards may have no
+/// name: the other side is told of its bits.
+pub fn set_of(told: &[u8], bits: Option<u8>) -> Result<Option<SetName<'_>>, BadName> {
     match told.len() {
-        0 => Ok(None),
         1 => Err(BadName),
-        _ => match SetName::new(told, 0) {
-            Some(set) => Ok(Some(set)),
-            None => Err(BadName),
-        },
+        0 if bits.is_none() => Ok(None),
+        _ => set_cut(told, bits.unwrap_or(0)),
     }
 }

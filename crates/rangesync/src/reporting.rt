@@ -6,8 +6,12 @@ use crate::disk::{Disk, ItemFile, Opened, open_lines};
 use item_core::Item;
 use item_files::ItemForm;
 use line_file::Device;
+use peer_loops::PartGate;
 use peer_threads::{Gate, Outcome};
-use printing_core::{Refusal, Reporting, learned_line, left_out_line, report_text, tell_full};
+use printing_core::{
+    Refusal, Reporting, learned_line, left_out_line, report_text, shard_report_text, tell_full,
+};
+use shard_core::Which;
 use std::alloc::Global;
 use std::fs::File;
 use std::io::Write;
@@ -138,6 +142,22 @@ impl<D: Device + Drop, E: Write + Drop> Desk<'_, D, E> {
             book.put(
                 &mut self.err,
                 report_text(alloc, reporting, serial, outcome),
+            );
+        }
+    }
+
+    /// Reports a session over a part of the set that is over.
+    fn report_part(
+        &mut self,
+        alloc: Global,
+        reporting: Reporting,
+        (serial, which): (u64, Which),
+        outcome: &Outcome,
+    ) {
+        if let Some(book) = &mut self.books.report {
+            book.put(
+                &mut self.err,
+                shard_report_text(alloc, reporting, serial, which, outcome),
             );
         }
     }
@@ -377,5 +397,12 @@ impl<R: Wait, D: Device + Drop, E: Write + Drop> Gate for Reporter<'_, '_, R, D,
         if self.rules.is_durable {
             desk.sync();
         }
+    }
+}
+
+impl<R: Wait, D: Device + Drop, E: Write + Drop> PartGate for Reporter<'_, '_, R, D, E> {
+    fn ended_in(&self, serial: u64, which: Which, outcome: &Outcome) {
+        let mut desk = self.desk.lock(self.rt);
+        desk.report_part(self.alloc, self.rules.reporting, (serial, which), outcome);
     }
 }

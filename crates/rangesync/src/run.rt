@@ -7,20 +7,24 @@ ghost use Rattle.settings_core.specs.Spans.{AreInSpan};
 use crate::checking::{Pricing, check_table};
 use crate::limits::{PeerWords, limits_of};
 use crate::loading::{Sources, items_of, load};
+use crate::loading_shards::load_shards;
 use crate::naming::{set_of, told_of};
 use crate::planning::{Planning, plan};
 use crate::reporting::{Paths, Rules};
-use crate::serve::{Outputs, Serving, Watching, serve};
+use crate::serve::{Outputs, Serving, Stock, Watching, serve};
+use crate::sharding::shards_of;
 use crate::stdio::{flaw_of, serve_stdio, sync_stdio};
+use crate::stocking::stock_of;
 use crate::sync::{Asking, sync};
+use crate::sync_shards::{AskingShards, sync_shards};
 use answer_core::{answer, list_reply};
 use io_core::{Watched, read_input, write_output};
 use item_files::ItemForm;
 use printing_core::{
     Fault, Refusal, Reporting, Why, decode_text, encode_lines, tell, tell_name_flaw,
-    tell_stdio_flaw, tell_why, tell_words,
+    tell_shard_flaw, tell_stdio_flaw, tell_why, tell_words,
 };
-use settings_core::{Call, Command, read_words};
+use settings_core::{Call, Command, Sharding, read_words};
 use shard_core::SetName;
 use sim_core::{scenario_of, sim_text};
 use std::alloc::Global;
@@ -39,6 +43,9 @@ use wire_core::decode_message;
 
 /// The greatest number of different items of `answer`.
 const MAX_ITEMS: usize = 65_536;
+
+/// How many sessions over shards run at once, if no number is given.
+const AT_ONCE: u32 = 8;
 
 /// Answers hex text with hex text.
 fn answer_hex<I: Read + Drop, O: Write + Drop>(
@@ -107,11 +114,15 @@ fn sim<I: Read + Drop, O: Write + Drop>(
     Ok(())
 }
 
-/// What is to be done, and the name of the set that it is done with, as the other side is told it.
+/// What is to be done, and the name of the set that it is done with, as the other side is told it; and which shards of
+/// the set are meant, if it is cut into shards.
 #[derive(Clone, Copy)]
 struct Task<'a> {
     command: Command<'a>,
     set: Option<SetName<'a>>,
+    sharding: Option<Sharding>,
+    /// Whether standard error is a terminal, and may be shown how far all is.
+    shows: bool,
 }
 
 /// Does what the words ask for.
@@ -132,7 +143,12 @@ where
         + Sync,
     requires { AreInSpan task.command }
 {
-    let Task { command, set } = task;
+    let Task {
+        command,
+        set,
+        sharding,
+        shows,
+    } = task;
     match command {
         Command::Answer { hexed, form, items } => {
             answer_for(rt, hexed, (form, items), reader, outputs.out)
@@ -174,6 +190,8 @@ where
             address,
             stdio,
             set: _,
+            shards: _,
+            only: _,
             workers,
             sessions,
             patience,
@@ -230,8 +248,8 @@ where
                 let loaded = load(rt, sources, io::empty(), err)?;
                 serve_stdio(rt, loaded, serving, (reader, outputs.out), err)
             } else {
-                let loaded = load(rt, sources, reader, err)?;
-                serve(rt, loaded, serving, outputs, err)
+                let stock = stock_of(rt, sources, sharding, reader, err)?;
+                serve(rt, stock, serving, outputs, err)
             }
         }
         Command::Sync {
@@ -239,6 +257,9 @@ where
             address,
             stdio,
             set: _,
+            shards: _,
+            only: _,
+            at_once,
             out: file,
             profile,
             patience,
@@ -268,6 +289,15 @@ where
             if stdio {
                 let loaded = load(rt, sources, io::empty(), err)?;
                 sync_stdio(rt, loaded, asking, (reader, outputs.out), err)
+            } else if let (Some(sharding), Some(set)) = (sharding, set) {
+                let loaded = load_shards(rt, sources, sharding, reader, err)?;
+                let asking = AskingShards {
+                    asking,
+                    set,
+                    at_once: at_once.unwrap_or(AT_ONCE) as usize,
+                    shows,
+                };
+                sync_shards(rt, loaded, asking, outputs.out, err)
             } else {
                 let loaded = load(rt, sources, reader, err)?;
                 sync(rt, loaded, asking, outputs.out, err)
@@ -338,14 +368,23 @@ where
     if let Some(flaw) = flaw_of(command, input.is_terminal) {
         return tell_stdio_flaw(err, flaw);
     }
+    let sharding = match shards_of(command) {
+        Ok(sharding) => sharding,
+        Err(flaw) => return tell_shard_flaw(err, flaw),
+    };
     let told = match told_of(rt.alloc(), command) {
         Ok(told) => told,
         Err(refused) => return tell(err, Fault::from(refused)),
     };
-    let Ok(set) = set_of(&told) else {
+    let Ok(set) = set_of(&told, sharding.map(|sharding| sharding.bits)) else {
         return tell_name_flaw(err);
     };
-    let task = Task { command, set };
+    let task = Task {
+        command,
+        set,
+        sharding,
+        shows: is_terminal,
+    };
     match obey(rt, task, input.reader, Outputs { out, log }, &mut err) {
         Ok(()) => 0,
         Err(Refusal { fault, why }) => {

@@ -12,7 +12,7 @@ use crate::reaching::listen_at;
 use crate::reporting::{Closed, Paths, Reporter, Rules, open_books};
 use crate::watching::{Beginning, Window, open_window, watch};
 use io_core::{Watched, WriterFailed, write_output};
-use peer_loops::{Board, PeerLimits, Service, serve_peers};
+use peer_loops::{Board, PeerLimits, Service, Shards, serve_peers};
 use peer_threads::{Report, Shared};
 use printing_core::{
     Fault, Refusal, listening_line, refusal_of, served_text, tell_address, tell_dropped,
@@ -20,7 +20,8 @@ use printing_core::{
 use range_tree::Tree;
 use session_table::SessionTable;
 use shard_core::SetName;
-use std::alloc::Global;
+use shard_log::ShardLog;
+use std::alloc::{AllocError, Global};
 use std::fs::File;
 use std::io::Write;
 use std::net::{Net, SocketAddr, TcpListener, TcpStream};
@@ -50,6 +51,15 @@ pub struct Serving<'a> {
     pub watching: Watching<'a>,
     /// What the set is called, if peers have to say it.
     pub set: Option<SetName<'a>>,
+}
+
+/// What a server serves: the log that was loaded; or the shards of a set, beside an empty log.
+#[derive(Drop)]
+pub struct Stock {
+    /// What was loaded.
+    pub loaded: Loaded,
+    /// The logs of the shards, whose numbers follow one another, if the set is cut into shards.
+    pub shards: Option<Vec<ShardLog>>,
 }
 
 /// How a server is watched.
@@ -333,17 +343,46 @@ fn ending(report: Report, closed: Closed) -> Result<(), Fault> {
     }
 }
 
+/// These shards, as loops serve them.
+fn shards_of(alloc: Global, logs: Option<Vec<ShardLog>>) -> Result<Option<Shards>, AllocError> {
+    match logs {
+        Some(logs) => Ok(Some(Shards::new(alloc, logs)?)),
+        None => Ok(None),
+    }
+}
+
+/// What a server begins with that serves these shards, or else its log.
+fn beginning_with<'a, R: Wait>(
+    rt: &R,
+    beginning: Beginning<'a>,
+    shards: Option<&Shards>,
+) -> Beginning<'a> {
+    match shards {
+        Some(shards) => beginning.with_shards(rt, shards),
+        None => beginning,
+    }
+}
+
+/// How many items a server has whose log has so many: those of the shards, if it serves them.
+fn items_in<R: Wait>(rt: &R, items: usize, shards: Option<&Shards>) -> usize {
+    match shards {
+        Some(shards) => shards.count(rt),
+        None => items,
+    }
+}
+
 /// Serves sessions until there are no more connections, and prints what was counted. What is asked for of each session
 /// goes to its files; what cannot be written waits, and is tried again at the next line and each second. Standard error
 /// is told when that begins and when it goes on, and at the end how many learned items were dropped, if any were.
 ///
-/// Where it is asked for, those who watch are answered, and standard error gets a line for each session.
+/// Where it is asked for, those who watch are answered, and standard error gets a line for each session. Of shards the
+/// number of items that is printed is that of all.
 ///
 /// Else 90, 80, 60, or `io write`; and after what was counted 62, or 90 where no worker started, or `io write` where
 /// lines of a file are lost.
 pub fn serve<'a, R, O: Write + Drop, E: Write + Drop + Send>(
     rt: &'a R,
-    loaded: Loaded,
+    stock: Stock,
     serving: Serving<'a>,
     outputs: Outputs<O, E>,
     err: &mut E,
@@ -356,19 +395,22 @@ where
         + Clock
         + AllocGlobal
         + Sync,
-    requires cap { loaded.log.cap ≡ loaded.accepted.table.cap }
+    requires cap { stock.loaded.log.cap ≡ stock.loaded.accepted.table.cap }
     requires workers { IsWorkerCount serving.workers }
 {
     let alloc = rt.alloc();
     let Outputs { out, log: lines } = outputs;
     let mut out = out;
+    let Stock { loaded, shards } = stock;
     let Loaded {
         accepted,
         log,
         kept,
     } = loaded;
+    let shards = shards_of(alloc, shards)?;
     let cap = accepted.cap() as usize;
     let beginning = Beginning::now(rt, serving.address, &log);
+    let beginning = beginning_with(rt, beginning, shards.as_ref());
     let accepted = Arc::new(alloc, accepted)?;
     let (lock, mut seat) = VersionLock::new(alloc, log)?;
     let sessions = Mutex::new(SessionTable::new(alloc, places(serving.limits.peers))?);
@@ -388,6 +430,7 @@ where
         limits: serving.limits,
         board: &board,
         set: serving.set,
+        shards: shards.as_ref(),
     };
     let log = serving.watching.log.then_some(lines);
     let doors = (&listener, window.as_ref());
@@ -397,6 +440,7 @@ where
     tell_dropped(err, closed.dropped);
     let totals = sessions.into_inner().totals();
     let items = lock.close_with(rt, seat).count();
+    let items = items_in(rt, items, shards.as_ref());
     let text = served_text(alloc, totals, items)?;
     write_output(&mut Watched::new(out), text.as_bytes())?;
     match ending(report, closed) {

@@ -22,8 +22,10 @@ use std::net::{Net, TcpStream};
 use std::rt::Files;
 use std::sync::{Arc, Mutex, Wait};
 use std::time::{Clock, Instant};
+use strategy_check::Accepted;
 use tcp_front::{Limits, finish, limited};
 use version_lock::{Seat, VersionLock};
+use version_log::Log;
 
 /// With whom a session is run.
 #[derive(Clone, Copy)]
@@ -78,16 +80,58 @@ fn dial<R: Wait + Clock, I: Read + Drop, O: Write + Drop, F: Summary>(
 /// Writes of which set is spoken, if it is named: how many bytes. Else 90 or `io write`.
 fn name_set<O: Write>(
     alloc: Global,
-    set: Option<SetName<'_>>,
+    set: Option<(SetName<'_>, Which)>,
     writer: &mut O,
 ) -> Result<u64, Fault> {
-    let Some(set) = set else {
+    let Some((set, which)) = set else {
         return Ok(0);
     };
     let mut selector = Vec::new(alloc);
-    set.push(&mut selector, Which::Shard(0))?;
+    set.push(&mut selector, which)?;
     write_output(&mut Watched::new(writer), &selector)?;
     Ok(selector.len() as u64)
+}
+
+/// How a session is run.
+#[derive(Clone, Copy)]
+pub struct Talk<'a> {
+    /// The wire profile that is spoken.
+    pub profile: WireProfile,
+    /// How many bytes are read.
+    pub most_bytes: u32,
+    /// Which set the other side is told, if it is told.
+    pub set: Option<(SetName<'a>, Which)>,
+}
+
+/// Runs one session as the initiator over this log, which is let go, and over this reader and this writer. What comes
+/// of it, and what it cost. Else 90, or `io write` before it has begun.
+pub fn converse<R: Wait + Clock, I: Read + Drop, O: Write + Drop>(
+    rt: &R,
+    alloc: Global,
+    accepted: &Arc<Accepted>,
+    log: Log<Tree>,
+    talk: Talk<'_>,
+    ends: (I, O),
+) -> Result<(Outcome, Stats), Fault>
+    requires cap { log.cap ≤ (arc_value accepted.now).table.cap }
+{
+    let (lock, mut seat) = VersionLock::new(alloc, log)?;
+    let sessions = Mutex::new(SessionTable::new(alloc, 1)?);
+    let shared = Shared {
+        lock: &lock,
+        accepted,
+        sessions: &sessions,
+        gate: &OpenGate,
+    };
+    let (reader, mut writer) = ends;
+    let named = name_set(alloc, talk.set, &mut writer)?;
+    let ends = (limited(reader, talk.most_bytes), writer);
+    let (outcome, mut stats) = match talk.profile {
+        WireProfile::One => dial::<_, _, _, Fingerprint>(rt, alloc, &shared, &mut seat, ends),
+        WireProfile::Two => dial::<_, _, _, Counted>(rt, alloc, &shared, &mut seat, ends),
+    };
+    stats.sent.bytes = stats.sent.bytes.saturating_add(named);
+    Ok((outcome, stats))
 }
 
 /// Runs one session as the initiator, over this reader and this writer. What comes of it, and what it cost. Else 90, or
@@ -107,23 +151,12 @@ pub fn ask<R: Wait + Clock + AllocGlobal, I: Read + Drop, O: Write + Drop>(
         kept: _,
     } = loaded;
     let accepted = Arc::new(alloc, accepted)?;
-    let (lock, mut seat) = VersionLock::new(alloc, log)?;
-    let sessions = Mutex::new(SessionTable::new(alloc, 1)?);
-    let shared = Shared {
-        lock: &lock,
-        accepted: &accepted,
-        sessions: &sessions,
-        gate: &OpenGate,
+    let talk = Talk {
+        profile: asking.profile,
+        most_bytes: asking.limits.most_bytes,
+        set: asking.set.map(|set| (set, Which::Shard(0))),
     };
-    let (reader, mut writer) = ends;
-    let named = name_set(alloc, asking.set, &mut writer)?;
-    let ends = (limited(reader, asking.limits.most_bytes), writer);
-    let (outcome, mut stats) = match asking.profile {
-        WireProfile::One => dial::<_, _, _, Fingerprint>(rt, alloc, &shared, &mut seat, ends),
-        WireProfile::Two => dial::<_, _, _, Counted>(rt, alloc, &shared, &mut seat, ends),
-    };
-    stats.sent.bytes = stats.sent.bytes.saturating_add(named);
-    Ok((outcome, stats))
+    converse(rt, alloc, &accepted, log, talk, ends)
 }
 
 /// Runs one session as the initiator, and prints what was learned, to the file if one is asked for. If it is asked for,

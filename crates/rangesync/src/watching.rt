@@ -8,7 +8,7 @@ use crate::reporting::Reporter;
 use io_core::{Watched, WriterFailed, write_output};
 use mio::unix::SourceFd;
 use mio::{Events, Interest, Poll, Token};
-use peer_loops::Board;
+use peer_loops::{Board, Shards};
 use peer_threads::Shared;
 use printing_core::Refusal;
 use range_tree::Tree;
@@ -70,6 +70,18 @@ impl<'a> Beginning<'a> {
             cap: u64::from(log.cap()),
             version: log.version() as u64,
             moment: rt.monotonic().map_or(0, |moment| millis_of(moment)),
+        }
+    }
+
+    /// The same of a server of these shards, whose own log has no items and the cap of each. A set that is cut into
+    /// shards is at the version that has as many items.
+    pub fn with_shards<R: Wait>(self, rt: &R, shards: &Shards) -> Beginning<'a> {
+        let items = shards.count(rt) as u64;
+        Beginning {
+            items,
+            cap: self.cap.saturating_mul(shards.len() as u64),
+            version: items,
+            ..self
         }
     }
 }

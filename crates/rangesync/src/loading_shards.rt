@@ -1,0 +1,219 @@
+//! What a side of sessions over shards begins with.
+
+ghost use Rattle.std.specs.Prelude.{◌≡◌, ◌<◌, ◌≤◌, ◌^◌, IfOk, OnOk};
+ghost use Rattle.shard_core.specs.Shards.{max_bits};
+ghost use Rattle.shard_core.specs.Splits.{held};
+ghost use Rattle.shard_core.specs.Spans.{AreKept};
+
+use crate::disk::Opened;
+use crate::loading::{Sources, open_kept, strategy_of};
+use crate::reporting::Kept;
+use io_core::Watched;
+use item_core::Item;
+use item_files::ReadFault;
+use printing_core::{Fault, Refusal};
+use settings_core::Sharding;
+use shard_core::{join_shards, shard_count};
+use shard_loading::{LoadFault, LoadOptions, ShardedSet, read_shards};
+use std::alloc::Global;
+use std::fs::File;
+use std::io::{ErrorKind, Read, Write};
+use std::rt::Files;
+use std::thread::Threads;
+use std::{fs, io};
+use strategy_check::Accepted;
+
+/// A strategy that was accepted, and some shards of a set, each of at most as many items as its cap.
+#[derive(Drop)]
+pub struct LoadedShards {
+    /// The strategy.
+    pub accepted: Accepted,
+    /// The shards.
+    pub set: ShardedSet,
+    /// What else was opened.
+    pub kept: Kept,
+}
+
+/// Why a file is not read that was not opened, or not set to its start.
+fn unread(error: &io::Error) -> LoadFault {
+    match error.kind() {
+        ErrorKind::OutOfMemory => LoadFault::Memory,
+        _ => LoadFault::CannotRead(ReadFault::of(error)),
+    }
+}
+
+/// The shards of the items of the file.
+fn file_shards<R: Files + AllocGlobal>(
+    rt: &R,
+    path: &str,
+    options: LoadOptions,
+) -> Result<Vec<Vec<Item>>, LoadFault>
+    requires low { options.bits ≤ max_bits }
+    requires span { (options.first ≤ options.last) × (options.last < 2 ^ options.bits) }
+    ensures { IfOk result (λ v. AreKept options.bits options.first options.last options.cap (held v.items)) }
+{
+    match fs::open(rt, path) {
+        Ok(file) => read_shards(rt.alloc(), &mut Watched::new(file), options),
+        Err(error) => Err(unread(&error)),
+    }
+}
+
+/// The shards of the items of the input.
+fn input_shards<'a, I: Read + Drop>(
+    alloc: Global,
+    reader: I,
+    options: LoadOptions,
+) -> Result<Vec<Vec<Item>>, Refusal<'a>>
+    requires low { options.bits ≤ max_bits }
+    requires span { (options.first ≤ options.last) × (options.last < 2 ^ options.bits) }
+    ensures { IfOk result (λ v. AreKept options.bits options.first options.last options.cap (held v.items)) }
+{
+    match read_shards(alloc, &mut Watched::new(reader), options) {
+        Ok(shards) => Ok(shards),
+        Err(fault) => Err(Refusal::of_shards_input(alloc, options.cap, fault)),
+    }
+}
+
+/// The shards of the items of the file, or of the input; of no items, if neither is given. Else 80, 81, then 82, and
+/// 90.
+fn item_shards<'a, R: Files + AllocGlobal, I: Read + Drop>(
+    rt: &R,
+    items: Option<&'a str>,
+    reader: I,
+    options: LoadOptions,
+) -> Result<Vec<Vec<Item>>, Refusal<'a>>
+    requires low { options.bits ≤ max_bits }
+    requires span { (options.first ≤ options.last) × (options.last < 2 ^ options.bits) }
+    ensures { IfOk result (λ v. AreKept options.bits options.first options.last options.cap (held v.items)) }
+{
+    let alloc = rt.alloc();
+    match items {
+        Some("-") => input_shards(alloc, reader, options),
+        Some(path) => match file_shards(rt, path, options) {
+            Ok(shards) => Ok(shards),
+            Err(fault) => Err(Refusal::of_shards_file(alloc, path, options.cap, fault)),
+        },
+        None => input_shards(alloc, io::empty(), options),
+    }
+}
+
+/// The shards of the items of a file that is open.
+fn reread_shards(
+    alloc: Global,
+    opened: &mut Opened,
+    options: LoadOptions,
+) -> Result<Vec<Vec<Item>>, LoadFault>
+    requires low { options.bits ≤ max_bits }
+    requires span { (options.first ≤ options.last) × (options.last < 2 ^ options.bits) }
+    ensures { IfOk result (λ v. AreKept options.bits options.first options.last options.cap (held v.items)) }
+{
+    match opened.reader() {
+        Ok(reader) => read_shards(alloc, &mut Watched::new(reader), options),
+        Err(error) => Err(unread(&error)),
+    }
+}
+
+/// The shards of the items of both, of which the second are those of a file.
+fn joined_shards(
+    alloc: Global,
+    shards: Vec<Vec<Item>>,
+    opened: &mut Opened,
+    options: LoadOptions,
+) -> Result<Vec<Vec<Item>>, LoadFault>
+    requires low { options.bits ≤ max_bits }
+    requires span { (options.first ≤ options.last) × (options.last < 2 ^ options.bits) }
+    requires own { AreKept options.bits options.first options.last options.cap (held shards.items) }
+    ensures { IfOk result (λ v. AreKept options.bits options.first options.last options.cap (held v.items)) }
+{
+    let more = reread_shards(alloc, opened, options)?;
+    Ok(join_shards(shards, &more, options.first, options.cap)?)
+}
+
+/// The same with the shards of the file in which the set is kept, if there is one. Else 80, 81, then 82, and 90.
+fn with_kept<'a>(
+    alloc: Global,
+    keep: Option<&'a str>,
+    opened: &mut Option<Opened>,
+    shards: Vec<Vec<Item>>,
+    options: LoadOptions,
+) -> Result<Vec<Vec<Item>>, Refusal<'a>>
+    requires low { options.bits ≤ max_bits }
+    requires span { (options.first ≤ options.last) × (options.last < 2 ^ options.bits) }
+    requires own { AreKept options.bits options.first options.last options.cap (held shards.items) }
+    ensures { IfOk result (λ v. AreKept options.bits options.first options.last options.cap (held v.items)) }
+{
+    let Some(opened) = opened else {
+        return Ok(shards);
+    };
+    match joined_shards(alloc, shards, opened, options) {
+        Ok(shards) => Ok(shards),
+        Err(fault) => Err(kept_refusal(alloc, keep, options.cap, fault)),
+    }
+}
+
+/// The refusal of the file in which the set is kept.
+fn kept_refusal<'a>(
+    alloc: Global,
+    keep: Option<&'a str>,
+    cap: usize,
+    fault: LoadFault,
+) -> Refusal<'a> {
+    match keep {
+        Some(path) => Refusal::of_shards_file(alloc, path, cap, fault),
+        None => Refusal::from(Fault::from(fault)),
+    }
+}
+
+/// Refuses a strategy whose cap is below the number of shards: of their entries there would be no directory.
+fn enough_places<'a>(accepted: &Accepted, table: &'a str, bits: u8) -> Result<(), Refusal<'a>>
+    requires { bits ≤ max_bits }
+    ensures { OnOk result (2 ^ bits ≤ accepted.now.table.cap) }
+{
+    if (accepted.cap() as usize) < shard_count(bits) {
+        return Err(Refusal::of_few_places(table, bits));
+    }
+    Ok(())
+}
+
+/// The strategy in one file and the logs of some shards of the items in the others, or in the input. Up to four threads
+/// hash the items.
+///
+/// The strategy is judged first: 80, 30 to 35 or 29, then 37, 36 or 38, then 82 where its cap is below the number of
+/// shards. Then the items are: 80, 81, then 82 where a shard that is kept has more different items than the cap; and
+/// then those of the file in which the set is kept, in the same way. Items of other shards are left out.
+pub fn load_shards<
+    'a,
+    R: Files<File = File> + AllocGlobal + Threads + Sync,
+    I: Read + Drop,
+    E: Write,
+>(
+    rt: &R,
+    sources: Sources<'a>,
+    sharding: Sharding,
+    reader: I,
+    err: &mut E,
+) -> Result<LoadedShards, Refusal<'a>>
+    ensures places { IfOk result (λ o. 2 ^ o.set.bits ≤ o.accepted.table.cap) }
+    ensures cap { IfOk result (λ o. o.set.cap ≡ o.accepted.table.cap) }
+{
+    let alloc = rt.alloc();
+    let accepted = strategy_of(rt, sources.table)?;
+    let Sharding { bits, first, last } = sharding;
+    enough_places(&accepted, sources.table, bits)?;
+    let options = LoadOptions {
+        form: sources.form,
+        bits,
+        first,
+        last,
+        cap: accepted.cap() as usize,
+    };
+    let shards = item_shards(rt, sources.items, reader, options)?;
+    let mut kept = open_kept(rt, sources, err)?;
+    let shards = with_kept(alloc, sources.keep, &mut kept.opened, shards, options)?;
+    let set = ShardedSet::of(rt, alloc, bits, first, accepted.cap(), shards)?;
+    Ok(LoadedShards {
+        accepted,
+        set,
+        kept,
+    })
+}

@@ -1,0 +1,293 @@
+//! A session with who listens for each shard that differs.
+
+ghost use Rattle.std.specs.Prelude.{◌≡◌, ◌≤◌, ◌<◌, ◌^◌, ℕ, List, length, IfOk, flat_map, string_bytes};
+ghost use Rattle.std.specs.Arc.{arc_value};
+ghost use Rattle.definitions.specs.Items.{Item as Bytes};
+ghost use Rattle.definitions.specs.Sets.{IsSet, set_of, difference};
+ghost use Rattle.shard_core.specs.Shards.{max_bits};
+ghost use Rattle.shard_core.specs.Choices.{AreBelow};
+ghost use Rattle.shard_core.specs.Parts.{ours_of, theirs_of, asked_of, KnowsShards, NoClash, Covers};
+ghost use Rattle.printing_core.specs.ShardTexts.{merged_text};
+ghost use Rattle.shard_loading.specs.Sharded.{AreLogs};
+
+use crate::costs::Costs;
+use crate::directories::{Asker, Own, ask_directories, ask_whole};
+use crate::disk::{NewFile, create_file};
+use crate::loading_shards::LoadedShards;
+use crate::sessions::{Crew, Gathered, Work, run_sessions};
+use crate::sync::Asking;
+use io_core::{Watched, write_output};
+use item_files::ItemForm;
+use printing_core::{Fault, MergedCounts, Refusal, end_progress, merged_text, tell_undone};
+use shard_core::{Asked, Part, SetName, merge};
+use shard_log::ShardLog;
+use std::alloc::{AllocError, Global};
+use std::fs::File;
+use std::io::Write;
+use std::net::{Net, TcpStream};
+use std::rt::Files;
+use std::sync::{Arc, Wait};
+use std::thread::Threads;
+use std::time::Clock;
+use strategy_check::Accepted;
+
+/// With whom sessions over shards are run.
+#[derive(Clone, Copy)]
+pub struct AskingShards<'a> {
+    /// As for a session over one set; of the address there may be several, with a comma between them.
+    pub asking: Asking<'a>,
+    /// What the set is called, and how it is cut.
+    pub set: SetName<'a>,
+    /// How many sessions run at once.
+    pub at_once: usize,
+    /// Whether standard error is shown how far all is.
+    pub shows: bool,
+}
+
+/// The text of what these sessions found together.
+fn found_text(
+    alloc: Global,
+    form: ItemForm,
+    counts: MergedCounts,
+    parts: &[Part],
+) -> Result<String, AllocError>
+    ensures text { IfOk result (λ text. string_bytes text
+        ≡ merged_text form counts (set_of (flat_map ours_of parts.now)) (set_of (flat_map theirs_of parts.now))) }
+    // Of the shards that were asked for, all differences are printed, and nothing else.
+    ensures asked { IfOk result (λ text. (b : ℕ) (A B : List Bytes) → IsSet A → IsSet B → KnowsShards b A B parts.now →
+        string_bytes text ≡ merged_text form counts (asked_of b parts.now (difference A B))
+        (asked_of b parts.now (difference B A))) }
+    // Where each shard with different entries was asked for, and no unequal shards have equal entries, these are all.
+    ensures adds_up { IfOk result (λ text. (b : ℕ) (A B : List Bytes) → b ≤ max_bits → IsSet A → IsSet B →
+        KnowsShards b A B parts.now → NoClash b A B → Covers b A B parts.now →
+        string_bytes text ≡ merged_text form counts (difference A B) (difference B A)) }
+{
+    let merged = merge(alloc, parts)?;
+    merged_text(alloc, form, counts, &merged.ours, &merged.theirs)
+}
+
+/// The addresses in a word, which has a comma between them.
+fn addresses_of<'a>(alloc: Global, word: &'a str) -> Result<Vec<&'a str>, AllocError>
+    ensures { IfOk result (λ v. 0 < length v.items) }
+{
+    let mut addresses = Vec::new(alloc);
+    let mut rest = word;
+    while let Some((address, others)) = rest.split_once(',') {
+        addresses.push(address)?;
+        rest = others;
+    }
+    addresses.push(rest)?;
+    Ok(addresses)
+}
+
+/// The address of the server that is asked for the shard of this number, if it is asked for.
+fn address_of<'a>(asked: &[Asked], addresses: &[&'a str], number: u16) -> Option<&'a str>
+    requires { AreBelow (length addresses.now) asked.now }
+{
+    let place = asked.binary_search_by(|one| one.shard.cmp(&number)).ok()?;
+    Some(addresses[asked[place].server])
+}
+
+/// Appends the work on a shard, if it is asked for; its log is let go if it is not.
+fn push_work<'a>(
+    works: &mut Vec<Work<'a>>,
+    accepted: &Arc<Accepted>,
+    address: Option<&'a str>,
+    log: ShardLog,
+) -> Result<(), AllocError>
+    requires { log.log.cap ≤ (arc_value accepted.now).table.cap }
+{
+    let Some(address) = address else {
+        return Ok(());
+    };
+    works.push(Work {
+        number: log.number(),
+        address,
+        accepted: Arc::try_clone(accepted)?,
+        log: log.into_log(),
+    })?;
+    Ok(())
+}
+
+/// The work on each of these shards that is asked for.
+fn works_of<'a>(
+    alloc: Global,
+    accepted: &Arc<Accepted>,
+    logs: Vec<ShardLog>,
+    asked: &[Asked],
+    addresses: &[&'a str],
+) -> Result<Vec<Work<'a>>, AllocError>
+    requires logs { (b first : ℕ) × AreLogs b first (arc_value accepted.now).table.cap logs.items }
+    requires servers { AreBelow (length addresses.now) asked.now }
+{
+    let mut works = Vec::new(alloc);
+    for log in logs {
+        let address = address_of(asked, addresses, log.number());
+        push_work(&mut works, accepted, address, log)?;
+    }
+    Ok(works)
+}
+
+/// Who is asked for which shard: the directories of the servers say it, where there are two shards or more.
+fn choose<'a, R>(
+    rt: &R,
+    own: Own<'_>,
+    asker: Asker<'a>,
+    addresses: &[&'a str],
+    costs: &mut Costs,
+) -> Result<Vec<Asked>, Refusal<'a>>
+where
+    R: Files + Net<Stream = TcpStream> + Wait + Clock + AllocGlobal,
+    requires { 0 < length addresses.now }
+    ensures { IfOk result (λ v. AreBelow (length addresses.now) v.items) }
+{
+    if asker.set.bits == 0 {
+        return ask_whole(rt.alloc(), addresses);
+    }
+    ask_directories(rt, own, asker, addresses, costs)
+}
+
+/// Asks for all shards that differ. How many these are; of the whole set, whether it is asked for.
+fn ask_all<'a, R, E: Write>(
+    rt: &R,
+    loaded: LoadedShards,
+    asking: AskingShards<'a>,
+    addresses: &[&'a str],
+    gathered: &mut Gathered<'a>,
+    err: &mut E,
+) -> Result<usize, Refusal<'a>>
+where
+    R: Files + Net<Stream = TcpStream> + Threads + Wait + Clock + AllocGlobal + Sync,
+    requires places { 2 ^ loaded.set.bits ≤ loaded.accepted.table.cap }
+    requires cap { loaded.set.cap ≡ loaded.accepted.table.cap }
+    requires servers { 0 < length addresses.now }
+{
+    let alloc = rt.alloc();
+    let LoadedShards {
+        accepted,
+        set,
+        kept: _,
+    } = loaded;
+    let asker = Asker {
+        profile: asking.asking.profile,
+        limits: asking.asking.limits,
+        set: asking.set,
+    };
+    let cap = accepted.cap();
+    let entries = set.directory(alloc)?;
+    let accepted = Arc::new(alloc, accepted)?;
+    let own = Own {
+        accepted: &accepted,
+        cap,
+        entries: &entries,
+        first: set.first(),
+        last: set.last(),
+    };
+    let asked = choose(rt, own, asker, addresses, &mut gathered.costs)?;
+    let works = works_of(alloc, &accepted, set.into_logs(), &asked, addresses)?;
+    let crew = Crew {
+        asker,
+        at_once: asking.at_once,
+        shown: asking.shows.then_some(asked.len()),
+    };
+    run_sessions(rt, crew, works, gathered, err)?;
+    Ok(asked.len())
+}
+
+/// How many shards differ, of so many that were asked for: of a whole set it is known only then.
+fn count_differing(bits: u8, asked: usize, parts: &[Part]) -> u32 {
+    let differ = if bits == 0 {
+        parts
+            .iter()
+            .filter(|part| !part.ours.is_empty() || !part.theirs.is_empty())
+            .count()
+    } else {
+        asked
+    };
+    u32::try_from(differ).unwrap_or(u32::MAX)
+}
+
+/// Prints text to the file, or to the output where there is none.
+fn print<'a, O: Write + Drop>(
+    file: Option<NewFile<'a>>,
+    out: O,
+    text: &[u8],
+) -> Result<(), Refusal<'a>> {
+    match file {
+        Some(file) => file.print(text),
+        None => {
+            write_output(&mut Watched::new(out), text)?;
+            Ok(())
+        }
+    }
+}
+
+/// Says which shards were not done, if there are any. The refusal for that.
+fn ending<'a, E: Write>(
+    alloc: Global,
+    undone: &[u16],
+    first: Option<Refusal<'a>>,
+    err: &mut E,
+) -> Result<(), Refusal<'a>> {
+    let Some(Refusal { fault, why }) = first else {
+        return Ok(());
+    };
+    tell_undone(alloc, err, undone, fault);
+    Err(Refusal {
+        fault: Fault::Incomplete,
+        why,
+    })
+}
+
+/// Runs a session as the initiator for the directory of each server, and one for each shard that differs, and prints
+/// what all found together, to the file if one is asked for. If it is asked for, standard error is told what they cost,
+/// however they ended.
+///
+/// Else 80 if the file cannot be made; before a shard is asked for 61, 56, 57, 90, the number of the refusal of this
+/// side or of a peer, or `io read` or `io write`. Where sessions over shards do not end, what the others found is
+/// printed, standard error is told which were not done, and it is `incomplete`.
+pub fn sync_shards<'a, R, O: Write + Drop, E: Write>(
+    rt: &R,
+    loaded: LoadedShards,
+    asking: AskingShards<'a>,
+    out: O,
+    err: &mut E,
+) -> Result<(), Refusal<'a>>
+where
+    R: Files<File = File> + Net<Stream = TcpStream> + Threads + Wait + Clock + AllocGlobal + Sync,
+    requires places { 2 ^ loaded.set.bits ≤ loaded.accepted.table.cap }
+    requires cap { loaded.set.cap ≡ loaded.accepted.table.cap }
+{
+    let alloc = rt.alloc();
+    let file = create_file(rt, asking.asking.out)?;
+    let addresses = addresses_of(alloc, asking.asking.address)?;
+    let bits = loaded.set.bits();
+    let shards = loaded.set.shards() as u32;
+    let mut gathered = Gathered::new(alloc, Costs::begin(rt));
+    let asked = ask_all(rt, loaded, asking, &addresses, &mut gathered, err);
+    if asking.shows {
+        end_progress(err);
+    }
+    if asking.asking.stats {
+        gathered.tell_costs(rt, err);
+    }
+    let asked = asked?;
+    let Gathered {
+        parts,
+        undone,
+        first,
+        costs,
+        items: _,
+    } = gathered;
+    if bits == 0 && first.is_some() {
+        return first.map_or(Ok(()), Err);
+    }
+    let counts = MergedCounts {
+        shards,
+        differ: count_differing(bits, asked, &parts),
+        sent: costs.messages(),
+    };
+    let text = found_text(alloc, asking.asking.form, counts, &parts)?;
+    print(file, out, text.as_bytes())?;
+    ending(alloc, &undone, first, err)
+}
