@@ -226,12 +226,10 @@ class Between(Check):
             with Near(whole.answer) as near:
                 found = some.reconcile(near.connect)
             self.assertEqual((found.ours, found.theirs), (ours, theirs))
-            with Near(some.answer) as near, self.assertRaises(Incomplete) as raised:
-                whole.reconcile(near.connect)
-            fault = raised.exception
-            self.assertEqual((fault.found.ours, fault.found.theirs), (theirs, ours))
-            self.assertEqual(set(fault.faults), set(range(16)) - set(only))
-            self.assertEqual({str(each) for each in fault.faults.values()}, {"peer refused 55 WrongSet"})
+            first = min(set(range(16)) - set(only))
+            with Near(some.answer) as near:
+                fault = self.refuses(f"refused 56 NoShard in shard {first}", lambda: whole.reconcile(near.connect))
+            self.assertEqual((fault.number, fault.shard, fault.by_peer, len(near.made)), (56, first, False, 1))
 
     def test_a_process(self) -> None:
         """The other side is another process, and has the shards of THERE."""

@@ -63,6 +63,13 @@ class Shards:
         require(number < 2**self.bits or (number == DIRECTORY and self.bits > 0), 55)
         return number
 
+    def differing(self, ours, theirs):
+        """The numbers of the shards that two directories differ in: the entries that each side alone has."""
+        ours, theirs = self.numbers(ours), self.numbers(theirs)
+        # Each shard that is kept has an entry, and this side keeps all.
+        require(ours <= theirs, 56)
+        return sorted(ours)
+
     def numbers(self, entries):
         """The numbers of the shards that entries of a peer are of."""
         numbers = set()
@@ -100,7 +107,7 @@ class Shards:
             found.sessions.append((DIRECTORY, first))
             found.text = first.text
             try:
-                numbers = sorted(self.numbers(first.ours) | self.numbers(first.theirs))
+                numbers = self.differing(first.ours, first.theirs)
             except Refused as fault:
                 found.text, numbers = f"refused {fault.number}", []
         for number in numbers:

@@ -43,6 +43,7 @@ _KNOWN = {
     53: ("SerialsSpent", "no number for one more session is left"),
     54: ("GateClosed", "the peer does not let the session go on"),
     55: ("WrongSet", "there is no such set: it has another name, or other bits, or the shard is not kept there"),
+    56: ("NoShard", "a shard that is kept here has no entry in the peer's directory: the peer does not keep it"),
     57: ("BadEntry", "an item of the peer's directory is no entry of a shard"),
     60: ("Bind", "the address is none, or is in use, or may not be listened at"),
     61: ("Connect", "nobody listens at the address, or nobody answered in time"),
@@ -66,7 +67,8 @@ class Refused(Exception):
 
     `number` is that of docs/PROTOCOL.md, and `name` its name, `cause` a sentence that says what was wrong, without a
     full stop. Both are empty for a number that has none, as a peer may send. `by_peer` says that the peer refused.
-    `shard` is the number of the shard that has no room, where one of `Shards` has none, and None otherwise.
+    `shard` is the number of the shard that has no room, or that the peer does not keep, where one of `Shards` is
+    refused for that, and None otherwise.
 
         >>> fault = Refused(40)
         >>> fault.number, fault.name, fault.by_peer

@@ -87,10 +87,12 @@ class _Asking:
         return learned
 
     def differing(self) -> list[int]:
-        """The shards that are kept here and whose entries differ, rising."""
+        """The shards that are kept here and whose entries differ, rising. Raises `Refused` 56, 57."""
         learned = self.session(DIRECTORY)
-        numbers = self.cut.numbers(learned.ours) | self.cut.numbers(learned.theirs)
-        return sorted(numbers & self.versions.keys())
+        ours, theirs = self.cut.numbers(learned.ours), self.cut.numbers(learned.theirs)
+        for number in sorted(ours - theirs):
+            raise Refused(56, shard=number)
+        return sorted(ours)
 
     def shard(self, number: int) -> Came:
         """What a shard's session finds, or what stopped it."""
@@ -271,7 +273,8 @@ class Shards:
 
         Raises `Incomplete` where shards that differ were not reconciled, with what was found in the others. Before
         that, of the session over the directory, raises as `run`, and what `connect` raises: nothing is known then.
-        Raises `Refused` 55 by the peer where it has another name or other bits, and 57 where its directory is none.
+        Raises `Refused` 55 by the peer where it has another name or other bits, 57 where its directory is none, and 56
+        for the first shard that is kept here and not there, with its number in `shard`.
         """
         if at_once < 1:
             raise ValueError("at_once is to be 1 or more")
