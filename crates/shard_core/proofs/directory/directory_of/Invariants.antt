@@ -1,6 +1,0 @@
-use Rattle.std.proofs.Common.{◌≡◌, take}
-use Rattle.shard_core.specs.Directories.{entries_from}
-use Rattle.shard_core.proofs.directory.directory_of.Given as goal
-
-abbrev pub invariant-loop-number : goal.invariant-loop-number
-invariant-loop-number l = l.entries.items ≡ entries_from 0 (take l.number l.sums)
