@@ -75,6 +75,7 @@ var names = map[int]string{
 	53: "SerialsSpent",
 	54: "GateClosed",
 	55: "WrongSet",
+	56: "NoShard",
 	57: "BadEntry",
 	60: "Bind",
 	61: "Connect",

@@ -132,6 +132,7 @@ const NAMES: &[(u32, &str)] = &[
     (53, "SerialsSpent"),
     (54, "GateClosed"),
     (55, "WrongSet"),
+    (56, "NoShard"),
     (57, "BadEntry"),
     (60, "Bind"),
     (61, "Connect"),
