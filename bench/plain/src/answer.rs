@@ -33,7 +33,15 @@ impl Store {
     }
 
     fn sum(&self, range: &Range) -> Sum {
-        self.prints[self.places(range)].iter().fold(sums::ZERO, |sum, print| sums::join(sum, *print))
+        let places = self.places(range);
+        sums::less(self.before(places.end), self.before(places.start))
+    }
+
+    fn before(&self, place: usize) -> Sum {
+        match place.checked_sub(1) {
+            None => sums::ZERO,
+            Some(last) => self.prints[last],
+        }
     }
 
     fn items(&self, range: &Range) -> &[Short] {
@@ -130,7 +138,16 @@ fn load(file: &Path, times: &mut Times) -> Result<Store, Box<dyn Error>> {
     if items.len() > MAX_ITEMS {
         return Err(Refusal(82).into());
     }
-    let prints = times.time("hash", || items.iter().map(sums::of_item).collect());
+    let prints = times.time("hash", || {
+        let mut total = sums::ZERO;
+        items
+            .iter()
+            .map(|item| {
+                total = sums::join(total, sums::of_item(item));
+                total
+            })
+            .collect()
+    });
     Ok(Store { items, prints })
 }
 

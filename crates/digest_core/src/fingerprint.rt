@@ -1,5 +1,7 @@
-ghost use Rattle.std.specs.Prelude.{◌≡◌, length};
+ghost use Rattle.std.specs.Prelude.{◌≡◌, ◌++◌, List, length};
 ghost use Rattle.std.specs.Int.{w128, from_be_bytes};
+ghost use Rattle.definitions.specs.Items as items;
+ghost use Rattle.definitions.specs.Fingerprints.{join_lanes, two_lanes};
 ghost use Rattle.definitions.specs.Wire.{IsFingerprint, lanes_text, lanes_read, two_lane_profile};
 
 use crate::laws;
@@ -61,6 +63,18 @@ impl Fingerprint {
         Fingerprint {
             first: lane(&bytes[..16]),
             second: lane(&bytes[16..]),
+        }
+    }
+
+    /// The fingerprint of what is left of some items without a part of them.
+    pub fn without(self, part: Fingerprint) -> Fingerprint
+        ensures joined { join_lanes part result ≡ self }
+        ensures rest { (A B : List items.Item) → part ≡ two_lanes.of A → self ≡ two_lanes.of (A ++ B) →
+            result ≡ two_lanes.of B }
+    {
+        Fingerprint {
+            first: self.first.wrapping_sub(part.first),
+            second: self.second.wrapping_sub(part.second),
         }
     }
 }

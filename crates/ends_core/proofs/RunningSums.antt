@@ -44,6 +44,27 @@ cuts_within start (s ∷ t ∷ ss) some = (
       (omega (arith, sum-cons s (t ∷ ss))) (cuts_within (start + s) (t ∷ ss) some.1),
 )
 
+cuts_least : (start : ℕ) (sizes : List ℕ) (j d : ℕ) → j < length (inner_cuts start sizes) →
+    start ≤ get_or (inner_cuts start sizes) j d
+cuts_least start [] j d low = absurd (omega arith)
+cuts_least start (s ∷ []) j d low = absurd (omega arith)
+cuts_least start (s ∷ t ∷ ss) zero d low = omega arith
+cuts_least start (s ∷ t ∷ ss) (suc j) d low =
+    let rest : start + s ≤ get_or (inner_cuts (start + s) (t ∷ ss)) j d =
+    cuts_least (start + s) (t ∷ ss) j d (omega arith) in
+    omega arith
+
+-- whatever the sizes, no cut is below one before it
+pub cuts_order : (start : ℕ) (sizes : List ℕ) (i j d : ℕ) → i ≤ j → j < length (inner_cuts start sizes) →
+    get_or (inner_cuts start sizes) i d ≤ get_or (inner_cuts start sizes) j d
+cuts_order start [] i j d le low = absurd (omega arith)
+cuts_order start (s ∷ []) i j d le low = absurd (omega arith)
+cuts_order start (s ∷ t ∷ ss) zero zero d le low = omega arith
+cuts_order start (s ∷ t ∷ ss) zero (suc j) d le low = cuts_least (start + s) (t ∷ ss) j d (omega arith)
+cuts_order start (s ∷ t ∷ ss) (suc i) zero d le low = absurd (omega arith)
+cuts_order start (s ∷ t ∷ ss) (suc i) (suc j) d le low =
+    cuts_order (start + s) (t ∷ ss) i j d (omega arith) (omega arith)
+
 pub cut_at : (start : ℕ) (sizes : List ℕ) (j d : ℕ) → suc j < length sizes →
     get_or (inner_cuts start sizes) j d ≡ start + sum (take (suc j) sizes)
 cut_at start [] j d low = absurd (omega arith)

@@ -19,4 +19,3 @@ pub mod Standing
 pub use Rattle.definitions.specs.Engines
 pub use Rattle.definitions.specs.Theorems
 pub mod Sides
-pub mod Separating

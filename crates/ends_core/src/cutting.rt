@@ -1,18 +1,17 @@
 //! Cutting a range.
 
-ghost use Rattle.std.specs.Prelude.{◌≡◌, ◌+◌, ◌-◌, ◌∷◌, ◌<◌, ◌≤◌, ℕ, List, length, map, take, drop, [], IfOk, IsTrue};
+ghost use Rattle.std.specs.Prelude.{◌≡◌, ◌+◌, ◌∷◌, ◌<◌, ◌≤◌, ℕ, List, length, map, take, drop, [], IfOk, IsTrue};
 ghost use Rattle.std.specs.Prelude.{IsFalse};
 ghost use Rattle.std.specs.List.{AllByRecursion};
 ghost use Rattle.definitions.specs.Items.{cut_range as cut, Rises, is_below, separator};
 ghost use Rattle.definitions.specs.Replies.{bound_at};
-ghost use Rattle.definitions.specs.Sets.{items_in};
 ghost use Rattle.item_core.specs.Bounds.{upper_value};
 ghost use Rattle.strategy_core.specs.Rules.{bounds_of};
-ghost use Rattle.ends_core.specs.Separating.{separators};
+ghost use Rattle.store_core.specs.Stores.{span};
 
 use item_core::{Item, Lower, Range, Upper};
 use std::alloc::{AllocError, Global};
-use store_core::RangeStore;
+use store_core::{RangeStore, Span};
 use strategy_core::Bounds;
 
 /// Whether this byte stands at the place.
@@ -46,61 +45,36 @@ fn separator_of(before: &Item, item: &Item) -> Item
     Item::of(&bytes[..separator_length(before.bytes(), bytes)])
 }
 
-/// The shortest bounds between the items of two lists of one length.
-fn separators_of(alloc: Global, before: &[Item], items: &[Item]) -> Result<Vec<Item>, AllocError>
-    requires { length before.now ≡ length items.now }
-    ensures { IfOk result (λ bounds. bounds.items ≡ separators before.now items.now) }
+/// The bound of a part that begins at this place of the span, counted from its first.
+fn bound_of<S: RangeStore>(bounds: Bounds, store: &S, at: Span, place: usize) -> Item
+    requires { place < length (span at.from at.to (S.content store.now)) }
+    ensures { result ≡ bound_at (bounds_of bounds) (span at.from at.to (S.content store.now)) place }
 {
-    let mut bounds = Vec::with_capacity(alloc, items.len())?;
-    for place in 0..items.len() {
-        bounds.push(separator_of(&before[place], &items[place]))?;
+    let _ = store.len(); // proof only: a place is below 2^64
+    let item = store.item_at(at.from + place);
+    match bounds {
+        Bounds::Items => item,
+        Bounds::Short => separator_of(&store.item_at(at.from + place.saturating_sub(1)), &item),
     }
-    Ok(bounds)
 }
 
-/// The places before these.
-fn before_each(alloc: Global, places: &[usize]) -> Result<Vec<usize>, AllocError>
-    ensures { IfOk result (λ before. before.items ≡ map (λ place. place - 1) places.now) }
-{
-    let mut before = Vec::with_capacity(alloc, places.len())?;
-    for place in places {
-        before.push(place.saturating_sub(1))?;
-    }
-    Ok(before)
-}
-
-/// The shortest bounds of the parts that begin at these places of the range.
-fn short_bounds<S: RangeStore>(
-    alloc: Global,
-    store: &S,
-    range: &Range,
-    places: &[usize],
-) -> Result<Vec<Item>, AllocError>
-    requires { AllByRecursion (λ place. place < length (items_in (S.content store.now) range.now)) places.now }
-    ensures { IfOk result (λ bounds. bounds.items
-        ≡ map (bound_at (bounds_of Bounds.Short) (items_in (S.content store.now) range.now)) places.now) }
-{
-    let items = store.nths(alloc, range, places)?;
-    let before = store.nths(alloc, range, &before_each(alloc, places)?)?;
-    separators_of(alloc, &before, &items)
-}
-
-/// The bounds of the parts that begin at these places of the range, counted from 0.
+/// The bounds of the parts that begin at these places of the span, counted from its first.
 pub(crate) fn bounds_at<S: RangeStore>(
     alloc: Global,
     bounds: Bounds,
     store: &S,
-    range: &Range,
+    at: Span,
     places: &[usize],
 ) -> Result<Vec<Item>, AllocError>
-    requires { AllByRecursion (λ place. place < length (items_in (S.content store.now) range.now)) places.now }
+    requires { AllByRecursion (λ place. place < length (span at.from at.to (S.content store.now))) places.now }
     ensures { IfOk result (λ held. held.items
-        ≡ map (bound_at (bounds_of bounds) (items_in (S.content store.now) range.now)) places.now) }
+        ≡ map (bound_at (bounds_of bounds) (span at.from at.to (S.content store.now))) places.now) }
 {
-    match bounds {
-        Bounds::Items => store.nths(alloc, range, places),
-        Bounds::Short => short_bounds(alloc, store, range, places),
+    let mut held = Vec::with_capacity(alloc, places.len())?;
+    for place in places {
+        held.push(bound_of(bounds, store, at, *place))?;
     }
+    Ok(held)
 }
 
 /// The range between two bounds.

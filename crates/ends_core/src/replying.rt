@@ -1,20 +1,25 @@
 //! The reply to a part of a message under a strategy.
 
-ghost use Rattle.std.specs.Prelude.{◌≡◌, ◌++◌, ◌<◌, ◌≤◌, ◌^◌, List, map, length, not, IfOk, OnOk, IsTrue};
-ghost use Rattle.definitions.specs.Items.{Item as Bytes, Range as Bounds};
+ghost use Rattle.std.specs.Prelude.{◌≡◌, ◌++◌, ◌+◌, ◌-◌, ◌<◌, ◌≤◌, ◌^◌, List, map, take, length, get_or, not};
+ghost use Rattle.std.specs.Prelude.{IfOk, OnOk, IsTrue};
+ghost use Rattle.std.specs.List.{AllByRecursion};
+ghost use Rattle.std.specs.List.Sorted.{IsNonDecreasing};
+ghost use Rattle.definitions.specs.Items as items;
+ghost use Rattle.definitions.specs.Fingerprints.{two_lanes};
 ghost use Rattle.definitions.specs.Messages.{Sum, Listing};
 ghost use Rattle.definitions.specs.Replies as replies;
 ghost use Rattle.definitions.specs.Sets.{has, items_in};
 ghost use Rattle.definitions.specs.Strategies.{IsTable, act, shares, is_split};
 ghost use Rattle.definitions.specs.Wire.{IsPart};
-ghost use Rattle.store_core.specs.Stores.{counted_in};
+ghost use Rattle.store_core.specs.Stores.{span};
+ghost use Rattle.laws.specs.Cutting.{pieces_at};
 
 use crate::cutting::{bounds_at, cut_range};
 use crate::learning::push_unlisted;
 use digest_core::{Fingerprint, Summary};
 use item_core::{Item, Range};
 use std::alloc::{AllocError, Global};
-use store_core::RangeStore;
+use store_core::{RangeStore, Span};
 use strategy_core::{Act, Strategy};
 use wire_core::{Marks, Part, PartKind};
 
@@ -51,17 +56,19 @@ fn answer_to<S: RangeStore, F: Summary>(
     }
 }
 
-/// The list of a range.
+/// The list of a range whose items stand in this span.
 fn list_of<S: RangeStore, F: Summary>(
     alloc: Global,
     store: &S,
     range: Range,
+    at: Span,
 ) -> Result<Part<F>, AllocError>
-    requires { length (S.content store.now) ≤ 65536 }
+    requires few { length (S.content store.now) ≤ 65536 }
+    requires at { span at.from at.to (S.content store.now) ≡ items_in (S.content store.now) range }
     ensures { IfOk result (λ part. part ≡ Listing range (items_in (S.content store.now) range)) }
 {
     codec_laws::sets_fit::<F>();
-    Ok(Part::listing(range, store.items(alloc, &range)?))
+    Ok(Part::listing(range, store.items_at(alloc, at)?))
 }
 
 /// Where the parts of n items end but for the last one: the places, from 0, where a range of them is cut.
@@ -76,59 +83,95 @@ fn places_of(alloc: Global, strategy: &Strategy, n: u32) -> Result<Vec<usize>, A
     Ok(places)
 }
 
+/// The fingerprint of the items of a span.
+fn sum_at<S: RangeStore, F: Summary>(store: &S, at: Span) -> F
+    requires { at.to ≤ length (S.content store.now) }
+    ensures { result ≡ F.summary.of (span at.from at.to (S.content store.now)) }
+{
+    F::of_set(at.len(), store.sum_at(at))
+}
+
 /// The fingerprint of the items in the range.
 pub(crate) fn sum_in<S: RangeStore, F: Summary>(store: &S, range: &Range) -> F
     ensures { result ≡ F.summary.of (items_in (S.content store.now) range.now) }
 {
-    let (count, lanes) = store.count_and_sum(range);
-    F::of_set(count, lanes)
+    sum_at(store, store.span_of(range))
 }
 
-/// The Sum of a range, by the number of items that it holds and their fingerprint.
-fn sum_by<F: Summary>(told: &(Range, usize, Fingerprint)) -> Part<F>
-    ensures { (A : List Bytes) (X : Bounds) → told.now ≡ counted_in A X → result ≡ replies.sum_of F.summary A X }
+/// The fingerprint of the items of a span, by those of the items before its start and before its end.
+fn sum_between<F: Summary>(at: Span, before: Fingerprint, next: Fingerprint) -> F
+    ensures { (A : List items.Item) → at.from ≤ at.to → at.to ≤ length A → before ≡ two_lanes.of (take at.from A) →
+        next ≡ two_lanes.of (take at.to A) → result ≡ F.summary.of (span at.from at.to A) }
 {
-    let (range, count, lanes) = told;
-    Part::sum(*range, F::of_set(*count, *lanes))
+    F::of_set(at.len(), next.without(before))
 }
 
-/// Appends the Sum of each range.
+/// Where a piece of a span ends that is cut at these places, counted from the span's first.
+fn end_of(at: Span, places: &[usize], piece: usize) -> usize
+    requires { AllByRecursion (λ place. place < at.to - at.from) places.now }
+    ensures inner { piece < length places.now → result ≡ at.from + get_or places.now piece 0 }
+    ensures last { length places.now ≤ piece → result ≡ at.to }
+{
+    match places.get(piece) {
+        Some(place) => at.from + *place,
+        None => at.to,
+    }
+}
+
+/// Appends the Sum of each range. The first has the items of the span before the first of these places, each next one
+/// those from the place where the one before it ends; the places are counted from the span's first. What stands before
+/// a place is summed once, for the piece that ends there and the one that begins there.
 fn push_sums<S: RangeStore, F: Summary>(
-    alloc: Global,
-    parts: &mut Vec<Part<F>>,
     store: &S,
+    at: Span,
+    places: &[usize],
     ranges: &[Range],
+    parts: &mut Vec<Part<F>>,
 ) -> Result<(), AllocError>
+    requires order { at.from ≤ at.to }
+    requires end { at.to ≤ length (S.content store.now) }
+    requires within { AllByRecursion (λ place. place < at.to - at.from) places.now }
+    requires rise { IsNonDecreasing places.now }
+    requires pieces { map (items_in (S.content store.now)) ranges.now
+        ≡ pieces_at 0 places.now (span at.from at.to (S.content store.now)) }
     ensures { OnOk result (parts.new.items ≡ parts.old.items ++ map (replies.sum_of F.summary (S.content store.now))
         ranges.now) }
 {
-    let counted = store.counts_and_sums(alloc, ranges)?;
-    for told in &counted {
-        parts.push(sum_by(told))?;
+    let mut from = at.from;
+    let mut before = store.sum_before(from);
+    for (piece, range) in ranges.iter().enumerate() {
+        let to = end_of(at, places, piece);
+        let next = store.sum_before(to);
+        parts.push(Part::sum(*range, sum_between(Span { from, to }, before, next)))?;
+        from = to;
+        before = next;
     }
     Ok(())
 }
 
-/// How many own items the range holds: no more than the strategy serves.
-fn count_in<S: RangeStore>(strategy: &Strategy, store: &S, range: &Range) -> u32
-    requires { length (S.content store.now) ≤ strategy.now.cap }
-    ensures count { result ≡ length (items_in (S.content store.now) range.now) }
-    ensures served { result ≤ strategy.now.cap }
+/// How many items a span has: no more than the strategy serves.
+fn count_at(strategy: &Strategy, at: Span) -> u32
+    requires { at.to - at.from ≤ strategy.now.cap }
+    ensures count { result ≡ at.to - at.from }
     ensures table { IsTable strategy.now }
 {
     let _ = strategy.cap(); // proof only: a cap is below 2^17
-    store.count(range) as u32
+    at.len() as u32
 }
 
-/// Appends the Sums of the parts that the strategy cuts the range into.
+/// Appends the Sums of the parts that the strategy cuts the range into, whose items stand in this span.
 fn push_cut<S: RangeStore, F: Summary>(
     alloc: Global,
     strategy: &Strategy,
     store: &S,
     range: &Range,
+    at: Span,
     parts: &mut Vec<Part<F>>,
 ) -> Result<(), AllocError>
     requires few { length (S.content store.now) ≤ strategy.now.cap }
+    requires at { span at.from at.to (S.content store.now) ≡ items_in (S.content store.now) range.now }
+    requires order { at.from ≤ at.to }
+    requires end { at.to ≤ length (S.content store.now) }
     requires split { IsTrue (is_split (act strategy.now (length (items_in (S.content store.now) range.now)))) }
     ensures { OnOk result (parts.new.items ≡ parts.old.items ++ map (replies.sum_of F.summary (S.content store.now))
         (replies.cutup strategy.now.bounds (S.content store.now) range.now
@@ -136,30 +179,45 @@ fn push_cut<S: RangeStore, F: Summary>(
 {
     rank_laws::shares_are_parts();
     laws::cuts_have_ranges();
+    laws::cuts_are_pieces();
     let _ = range.lower(); // proof only: the range rises
-    let places = places_of(alloc, strategy, count_in(strategy, store, range))?;
-    let bounds = bounds_at(alloc, strategy.bounds(), store, range, &places)?;
+    let places = places_of(alloc, strategy, count_at(strategy, at))?;
+    let bounds = bounds_at(alloc, strategy.bounds(), store, at, &places)?;
     let ranges = cut_range(alloc, range, &bounds)?;
-    push_sums(alloc, parts, store, &ranges)
+    push_sums(store, at, &places, &ranges, parts)
 }
 
-/// Appends what is said of a range that differs: its list, or the Sums of its parts.
+/// Appends what is said of a range that differs, whose items stand in this span: its list, or the Sums of its parts.
 fn push_differing<S: RangeStore, F: Summary>(
     alloc: Global,
     strategy: &Strategy,
     store: &S,
     range: &Range,
+    at: Span,
     parts: &mut Vec<Part<F>>,
 ) -> Result<(), AllocError>
-    requires { length (S.content store.now) ≤ strategy.now.cap }
+    requires few { length (S.content store.now) ≤ strategy.now.cap }
+    requires at { span at.from at.to (S.content store.now) ≡ items_in (S.content store.now) range.now }
+    requires order { at.from ≤ at.to }
+    requires end { at.to ≤ length (S.content store.now) }
     ensures { OnOk result (parts.new.items ≡ parts.old.items ++ replies.differing F.summary
         (record { table = strategy.now; items = S.content store.now }) range.now) }
 {
-    if strategy.act(count_in(strategy, store, range)) == Act::Split {
-        return push_cut(alloc, strategy, store, range, parts);
+    if strategy.act(count_at(strategy, at)) == Act::Split {
+        return push_cut(alloc, strategy, store, range, at, parts);
     }
-    parts.push(list_of(alloc, store, *range)?)?;
+    parts.push(list_of(alloc, store, *range, at)?)?;
     Ok(())
+}
+
+/// Where the items of the range stand. A store may say of a range without items that its end is in front of its start;
+/// here it is not, so that the sum before the one may be taken from the sum before the other.
+fn span_in<S: RangeStore>(store: &S, range: &Range) -> Span
+    ensures items { span result.from result.to (S.content store.now) ≡ items_in (S.content store.now) range.now }
+    ensures order { result.from ≤ result.to }
+    ensures end { result.to ≤ length (S.content store.now) }
+{
+    store.span_of(range).fitted(store.len())
 }
 
 /// Appends the reply to a Sum: nothing where the own fingerprint is the same.
@@ -175,11 +233,12 @@ fn push_compared<S: RangeStore, F: Summary>(
     ensures { OnOk result (parts.new.items ≡ parts.old.items ++ replies.reply_to F.summary
         (record { table = strategy.now; items = S.content store.now }) (Sum range.now sum.now)) }
 {
-    let own: F = sum_in(store, range);
+    let at = span_in(store, range);
+    let own: F = sum_at(store, at);
     if own.equals(*sum) {
         return Ok(());
     }
-    push_differing(alloc, strategy, store, range, parts)
+    push_differing(alloc, strategy, store, range, at, parts)
 }
 
 /// Appends the reply to a part.

@@ -1,6 +1,7 @@
 pub mod Times
 pub mod Cuts
 pub mod PeerCuts
+pub mod Pieces
 pub mod Placing
 pub mod OpenRanges
 pub mod Saying

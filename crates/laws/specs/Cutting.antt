@@ -1,18 +1,20 @@
 -- What a cut is.
 --     CutsAreExact           of a range by a peer's table
 --     CutsHaveRanges         its parts rise, whatever the table
+--     CutsArePieces          each of its parts has the own items between two places
 --     SeparatorsAreShortest  the computed separator of two items is the shortest one
 --     TalksHaveRanges        each range of a talk rises
-use Rattle.std.specs.Prelude.{◌≡◌, ℕ, ◌≤◌, List, length, map, flat_map, IsTrue}
+use Rattle.std.specs.Prelude.{◌≡◌, ℕ, ◌≤◌, List, [], ◌∷◌, take, drop, length, map, flat_map, IsTrue}
 use Rattle.std.specs.List.{AllByRecursion}
 use Rattle.definitions.specs.Items.{Item, Range, Rises, comes_before, separator, IsSeparator}
 use Rattle.definitions.specs.Sets.{IsSet, items_in}
 use Rattle.definitions.specs.Fingerprints.{Summary}
-use Rattle.definitions.specs.Strategies.{act, shares, is_split}
-use Rattle.definitions.specs.Replies.{Peer, cutup}
+use Rattle.definitions.specs.Strategies.{Bounds, act, shares, is_split}
+use Rattle.definitions.specs.Replies.{Peer, inner_cuts, cutup}
 use Rattle.definitions.specs.Talks.{talk}
 use Rattle.definitions.specs.Messages.{RangesRise}
 use Rattle.definitions.specs.Theorems.{Ready}
+use Rattle.rank_laws.specs.Laws.{IsCut}
 
 pub record IsExactCut (P : Peer) (X : Range) (Ys : List Range) : Type 0 where
   -- the parts hold so many own items as the table says
@@ -33,6 +35,16 @@ abbrev pub CutsHaveRanges : Type 0
 CutsHaveRanges =
     (P : Peer) (X : Range) → IsSet P.items → Rises X →
     AllByRecursion Rises (cutup P.table.bounds P.items X (shares P.table (length (items_in P.items X))))
+
+-- the pieces of a list that is cut at these places, from place `from` on
+abbrev pub pieces_at : ℕ → List ℕ → List Item → List (List Item)
+pieces_at from [] B = drop from B ∷ []
+pieces_at from (p ∷ ps) B = drop from (take p B) ∷ pieces_at p ps B
+
+abbrev pub CutsArePieces : Type 0
+CutsArePieces =
+    (b : Bounds) (A : List Item) (X : Range) (sizes : List ℕ) → IsSet A → IsCut (length (items_in A X)) sizes →
+    map (items_in A) (cutup b A X sizes) ≡ pieces_at 0 (inner_cuts 0 sizes) (items_in A X)
 
 abbrev pub SeparatorsAreShortest : Type 0
 SeparatorsAreShortest = (x y : Item) → IsTrue (comes_before x y) → IsSeparator x y (separator x y)

@@ -15,7 +15,8 @@ ghost use Rattle.definitions.specs.Theorems.{InitiatorStops, ResponderStops, End
 ghost use Rattle.definitions.specs.Theorems.{InitiatorLearns, ResponderLearns, ListsAreShort, KnowledgeIsExact};
 ghost use Rattle.definitions.specs.Theorems.{KnowledgeIsSound, PartsAreFew, Headline, CostClaim, HistoryClaim};
 ghost use Rattle.definitions.specs.Theorems.{AbsorbClaim, SessionsEnd};
-ghost use Rattle.laws.specs.Cutting.{CutsAreExact, CutsHaveRanges, SeparatorsAreShortest, TalksHaveRanges};
+ghost use Rattle.laws.specs.Cutting.{CutsAreExact, CutsHaveRanges, CutsArePieces, SeparatorsAreShortest};
+ghost use Rattle.laws.specs.Cutting.{TalksHaveRanges};
 ghost use Rattle.laws.specs.Growing.{TalksGrow, KnowledgeGrows};
 ghost use Rattle.laws.specs.Turns.{TalksBegin, TalksGoOn, EndsHear, EndsTalk};
 ghost use Rattle.laws.specs.Saying.{EndsSay};
@@ -70,6 +71,12 @@ pub fn cuts_are_exact()
 /// docs/LAWS.md: *A cut is exact*.
 pub fn cuts_have_ranges()
     ensures { CutsHaveRanges }
+{}
+
+/// Each part of a cut has the own items between two places of the range, whatever the table.
+/// docs/LAWS.md: *A cut is exact*.
+pub fn cuts_are_pieces()
+    ensures { CutsArePieces }
 {}
 
 /// The bound of a cut that is short is the shortest that serves.

@@ -7,7 +7,7 @@ use digest_core::{Fingerprint, Summary};
 use item_core::{Item, Lower, Range, Upper};
 use std::alloc::Global;
 use std::process::Abort;
-use store_core::{FlatStore, Insertion, RangeStore};
+use store_core::{FlatStore, Insertion, RangeStore, Span};
 
 // What generic code learns of any store.
 
@@ -61,32 +61,34 @@ fn a_to_c<S: RangeStore>(rt: &impl Abort, alloc: Global) {
     assert!(rt; again.len() == 3 && again.sum(&before_c) == sum);
 }
 
-// Through the trait alone: a, b and c are asked for by two ranges, one after the other, and by two places.
-fn several_at_once<S: RangeStore>(rt: &impl Abort, alloc: Global, items: &[Item; 3]) {
+// Through the trait alone: where a, b and c stand, and what is read there.
+fn read_by_places<S: RangeStore>(rt: &impl Abort, alloc: Global, items: &[Item; 3]) {
     let given = Vec::from_slice(alloc, items).expect(rt, "memory");
     let store = S::from_items(alloc, given).expect(rt, "memory");
-    let before_c = from_to(rt, b"", Upper::Before(items[2]));
-    let from_c = from_to(rt, b"c", Upper::End);
-    let told = store
-        .counts_and_sums(alloc, &[before_c, from_c])
-        .expect(rt, "memory");
+    let before_c = store.span_of(&from_to(rt, b"", Upper::Before(items[2])));
+    let from_c = store.span_of(&from_to(rt, b"c", Upper::End));
+    assert!(rt; before_c.from == 0 && before_c.to == 2 && before_c.len() == 2);
+    assert!(rt; from_c.from == 2 && from_c.to == 3 && from_c.len() == 1);
     let sum = Fingerprint::of_item(&items[0]).join(Fingerprint::of_item(&items[1]));
-    assert!(rt; told.len() == 2);
-    assert!(rt;
-        told[0] == (before_c, 2, sum) && told[1] == (from_c, 1, Fingerprint::of_item(&items[2]))
-    );
-    assert!(rt; store.count(&Range::whole()) == 3);
+    assert!(rt; store.sum_at(before_c) == sum);
+    assert!(rt; store.sum_at(from_c) == Fingerprint::of_item(&items[2]));
+    assert!(rt; store.sum_before(2) == sum && store.sum_before(9) == store.sum(&Range::whole()));
     let two = store
-        .nths(alloc, &Range::whole(), &[0, 2])
+        .items_at(alloc, Span { from: 1, to: 9 })
         .expect(rt, "memory");
-    assert!(rt; two.len() == 2 && two[0] == items[0] && two[1] == items[2]);
+    assert!(rt; two.len() == 2 && two[0] == items[1] && two[1] == items[2]);
+    let none = Span { from: 2, to: 1 };
+    assert!(rt; store.sum_at(none) == Fingerprint::zero());
+    assert!(rt; store.items_at(alloc, none).expect(rt, "memory").is_empty());
+    assert!(rt; store.len() == 3 && store.count(&Range::whole()) == 3);
+    assert!(rt; store.item_at(0) == items[0] && store.item_at(2) == items[2]);
 }
 
 #[test]
 fn flat_store(rt: HostRuntime) {
     a_to_c::<FlatStore>(&rt, rt.alloc());
     let items = [item(&rt, b"a"), item(&rt, b"b"), item(&rt, b"c")];
-    several_at_once::<FlatStore>(&rt, rt.alloc(), &items);
+    read_by_places::<FlatStore>(&rt, rt.alloc(), &items);
 }
 
 #[test]

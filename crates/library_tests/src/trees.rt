@@ -5,7 +5,7 @@ use std::alloc::Global;
 use std::process::Abort;
 use std::test::Fail;
 use std::thread::Threads;
-use store_core::{Insertion, RangeStore, laws, spans};
+use store_core::{Insertion, RangeStore, Span, laws, spans};
 
 fn item(rt: &impl Abort, number: u16) -> Item {
     Item::new(&number.to_be_bytes()).ok().expect(rt, "an item")
@@ -62,21 +62,45 @@ fn counts(rt: &impl Abort, tree: &Tree) {
     assert!(rt; count == 1 && sum == tree.sum(&last) && compared <= 44);
 }
 
-// Three ranges, one after the other, and the items at two places of the second one.
-fn several_at_once(rt: &impl Abort, alloc: Global, tree: &Tree) {
-    let before = from_to(rt, b"", Upper::Before(item(rt, 0x10)));
-    let after = from_to(rt, b"\x00\x20", Upper::End);
-    let range = sixteen(rt);
-    let told = tree
-        .counts_and_sums(alloc, &[before, range, after])
+// Three ranges, one after the other, and what is read by places: across leaves, past the end, and of no items.
+fn read_by_places(rt: &impl Abort, alloc: Global, tree: &Tree) {
+    let before = tree.span_of(&from_to(rt, b"", Upper::Before(item(rt, 0x10))));
+    let range = tree.span_of(&sixteen(rt));
+    let after = tree.span_of(&from_to(rt, b"\x00\x20", Upper::End));
+    assert!(rt; before.from == 0 && before.to == 0x10);
+    assert!(rt; range.from == 0x10 && range.to == 0x20);
+    assert!(rt; after.from == 0x20 && after.to == 0x1_0000);
+    let sums = tree
+        .sum_at(before)
+        .join(tree.sum_at(range))
+        .join(tree.sum_at(after));
+    assert!(rt; tree.sum_at(range) == tree.sum(&sixteen(rt)) && sums == tree.sum(&Range::whole()));
+    assert!(rt; tree.len() == 0x1_0000);
+    assert!(rt; tree.item_at(0x10) == item(rt, 0x10) && tree.item_at(0xffff) == item(rt, 0xffff));
+    let across = tree
+        .items_at(
+            alloc,
+            Span {
+                from: 0x0fff,
+                to: 0x1801,
+            },
+        )
         .expect(rt, "memory");
-    assert!(rt; told.len() == 3);
-    assert!(rt; told[0].1 == 16 && told[1].1 == 16 && told[2].1 == 65_504);
-    assert!(rt; told[1].0 == range && told[1].2 == tree.sum(&range));
-    assert!(rt; told[0].2.join(told[1].2).join(told[2].2) == tree.sum(&Range::whole()));
-    assert!(rt; tree.count(&range) == 16);
-    let items = tree.nths(alloc, &range, &[0, 15]).expect(rt, "memory");
-    assert!(rt; items.len() == 2 && items[0] == item(rt, 0x10) && items[1] == item(rt, 0x1f));
+    assert!(rt; across.len() == 0x802);
+    assert!(rt; across[0] == item(rt, 0x0fff) && across[0x801] == item(rt, 0x1800));
+    let last = tree
+        .items_at(
+            alloc,
+            Span {
+                from: 0xffff,
+                to: usize::MAX,
+            },
+        )
+        .expect(rt, "memory");
+    assert!(rt; last.len() == 1 && last[0] == item(rt, 0xffff));
+    let none = Span { from: 9, to: 9 };
+    assert!(rt; tree.sum_at(none) == Fingerprint::zero());
+    assert!(rt; tree.items_at(alloc, none).expect(rt, "memory").is_empty());
 }
 
 #[test]
@@ -98,7 +122,7 @@ fn all_pairs_of_bytes(rt: HostRuntime) {
     assert!(rt; one.sum(&Range::whole()) == first && hundred.sum(&Range::whole()) == sum);
     has_all(&rt, &all);
     counts(&rt, &all);
-    several_at_once(&rt, alloc, &all);
+    read_by_places(&rt, alloc, &all);
     let other = falling(&rt, alloc);
     has_all(&rt, &other);
     counts(&rt, &other);

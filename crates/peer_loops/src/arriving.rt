@@ -5,7 +5,7 @@ ghost use Rattle.std.specs.Prelude.{◌≡◌};
 use crate::chosen::reader_of;
 use crate::desk::Desk;
 use crate::ending::Parting;
-use crate::looping::{Kind, Loop};
+use crate::looping::{Kind, Loop, PAUSE};
 use crate::note::Guest;
 use crate::part_gate::PartGate;
 use crate::site::Site;
@@ -19,7 +19,7 @@ use std::os::fd::{AsRawFd, RawFd};
 use std::sync::Wait;
 use tcp_front::{Arrival, Half};
 
-/// How often in a row it is tried again while there is no descriptor for one more: for ten minutes and more.
+/// How often in a row it is tried again while there is no descriptor for one more: for ten minutes.
 const MOST_MISSES: u32 = 60_000;
 
 /// For how many milliseconds a peer has to be silent that goes because there is no descriptor for another.
@@ -32,8 +32,11 @@ pub(crate) enum Accepting {
     Waits,
     /// Somebody may be there.
     More,
-    /// There was no descriptor, or no memory, for one more.
-    NoRoom,
+    /// There was no descriptor, or no memory, for one more. It is tried again from this time on, in milliseconds.
+    NoRoom {
+        /// The time.
+        until: u64,
+    },
     /// Nobody will come.
     Done,
 }
@@ -47,11 +50,28 @@ impl Accepting {
         }
     }
 
-    /// Somebody may be there.
+    /// Somebody may be there. Where there was no room the next try is as far off as before: whoever comes makes none.
     pub(crate) fn again(self) -> Accepting {
         match self {
-            Accepting::Done => Accepting::Done,
-            _ => Accepting::More,
+            Accepting::Waits | Accepting::More => Accepting::More,
+            Accepting::NoRoom { .. } | Accepting::Done => self,
+        }
+    }
+
+    /// Whether a connection is accepted at this time, if one is there.
+    fn tries(self, now: u64) -> bool {
+        match self {
+            Accepting::More => true,
+            Accepting::NoRoom { until } => until <= now,
+            Accepting::Waits | Accepting::Done => false,
+        }
+    }
+
+    /// Whether it waits for room.
+    pub(crate) fn has_no_room(self) -> bool {
+        match self {
+            Accepting::NoRoom { .. } => true,
+            Accepting::Waits | Accepting::More | Accepting::Done => false,
         }
     }
 }
@@ -76,7 +96,7 @@ impl Loop {
     fn accept_once<R: Wait, G: PartGate>(&mut self, site: &Site<'_, R, G>, desk: &mut Desk<'_, G>)
         ensures shared { desk.new.shared ≡ desk.old.shared }
     {
-        if self.accepting != Accepting::More && self.accepting != Accepting::NoRoom {
+        if !self.accepting.tries(self.now) {
             return;
         }
         self.accepting = self.accept_next(site, desk);
@@ -141,7 +161,9 @@ impl Loop {
             self.let_a_silent_one_go(site, desk);
         }
         self.leavers.close_all();
-        Accepting::NoRoom
+        Accepting::NoRoom {
+            until: self.now.saturating_add(PAUSE),
+        }
     }
 
     /// Lets the peer go that has been silent for longest, if it has been so for a while: the system may say that there

@@ -31,7 +31,7 @@ const EVENTS: usize = 1_024;
 /// How many milliseconds a loop waits at most, and while something is to be tried again.
 const TICK: u64 = 250;
 
-const PAUSE: u64 = 10;
+pub(crate) const PAUSE: u64 = 10;
 
 /// How many peers are let go in a row whose time is over.
 const IN_A_ROW: usize = 256;
@@ -125,7 +125,7 @@ impl Loop {
         }
         if !self.waiting.is_empty()
             || !self.leavers.is_empty()
-            || self.accepting == Accepting::NoRoom
+            || self.accepting.has_no_room()
         {
             return PAUSE;
         }

@@ -2,9 +2,11 @@ pub mod Fits
 pub mod Groups
 pub mod Growing
 pub mod Joins
+pub mod Numbers
 pub mod Pieces
 pub mod Places
 pub mod Ranks
+pub mod Renewals
+pub mod Rows
 pub mod Searches
-pub mod Sums
 pub mod Widths

@@ -1,18 +1,19 @@
--- Items that are kept packed: where they end, and their bytes.
-use Rattle.std.proofs.Common.{◌≡◌, ℕ, zero, suc, Some, ◌+◌, ◌-◌, ◌*◌, ◌^◌, ◌<◌, ◌≤◌, List, [], ◌∷◌, ◌++◌, take, drop, map}
-use Rattle.std.proofs.Common.{length, min, get_or, refl, sym, ap, subst, ◌∙◌, append_assoc, arith}
+-- Items that are kept packed: where they end, their bytes, and their running sums.
+use Rattle.std.proofs.Common.{◌≡◌, ℕ, zero, suc, Some, ◌+◌, ◌-◌, ◌*◌, ◌^◌, ◌<◌, ◌≤◌, List, [], ◌∷◌, ◌++◌}
+use Rattle.std.proofs.Common.{take, drop, map, length, get_or, refl, sym, ap, subst, ◌∙◌, append_assoc, arith}
 use Rattle.std.specs.List.{AllByRecursion, slice_get}
-use Rattle.std.proofs.lemmas.List.{length-append, length-take-le, length-take, take-append-drop, take-take, take_at, drop_at}
-use Rattle.std.proofs.lemmas.List.{drop-append-le, drop-take, drop_all, take_all, take_more, append-nil, map-append}
-use Rattle.std.proofs.lemmas.List.{length-map, length-drop, get_or-map}
+use Rattle.std.proofs.lemmas.List.{length-append, length-take-le, length-take, length-drop, take-append-drop}
+use Rattle.std.proofs.lemmas.List.{take-take, take_at, drop_at, drop-append-le, drop-take, drop_all, take_all}
+use Rattle.std.proofs.lemmas.List.{take_more, append-nil}
 use Rattle.std.proofs.lemmas.Option.{get_or_from_slice_get}
 use Rattle.std.proofs.lemmas.List.Concat.{flat_map-append}
 use Rattle.definitions.specs.Items.{Item, IsItem}
-use Rattle.definitions.specs.Fingerprints.{Lanes, two_lanes, join_lanes}
-use Rattle.digest_core.specs.Laws.{adds_up}
+use Rattle.definitions.specs.Fingerprints.{Lanes, two_lanes}
+use Rattle.store_core.specs.Sums.{running_sums}
+use Rattle.store_core.proofs.Running.{sums-length}
 use Rattle.range_tree.specs.Parts.{span, first_item}
-use Rattle.range_tree.specs.Packs.{joined, ends_from, pieces, own_print, IsPack}
-use Rattle.range_tree.proofs.Places.{map_take, map_drop, put, length_put, span_clamped}
+use Rattle.range_tree.specs.Packs.{joined, ends_from, pieces, IsPack}
+use Rattle.range_tree.proofs.Places.{put, length_put}
 
 -- ---- where items end
 
@@ -185,30 +186,35 @@ pieces_of start (x ∷ xs) =
     (λ i. first i ∷ pieces (start + length x) (ends_from (start + length x) xs) (rest i))
     ∙ ap (λ ys. x ∷ ys) (pieces_of (start + length x) xs)
 
-pub pack_is : (xs : List Item) (bytes ends : List ℕ) (prints : List Lanes) → IsPack xs bytes ends prints →
+pub pack_is : (xs : List Item) (bytes ends : List ℕ) (sums : List Lanes) → IsPack xs bytes ends sums →
     pieces 0 ends bytes ≡ xs
-pack_is xs bytes ends prints pack = (λ i. pieces 0 (pack.are_ends i) (pack.are_joined i)) ∙ pieces_of 0 xs
+pack_is xs bytes ends sums pack = (λ i. pieces 0 (pack.are_ends i) (pack.are_joined i)) ∙ pieces_of 0 xs
 
-pub pack_whole : (xs : List Item) (bytes ends : List ℕ) (prints : List Lanes) → IsPack xs bytes ends prints →
-    IsPack (pieces 0 ends bytes) bytes ends prints
-pack_whole xs bytes ends prints pack =
-    subst (λ ys. IsPack ys bytes ends prints) (sym (pack_is xs bytes ends prints pack)) pack
+pub pack_whole : (xs : List Item) (bytes ends : List ℕ) (sums : List Lanes) → IsPack xs bytes ends sums →
+    IsPack (pieces 0 ends bytes) bytes ends sums
+pack_whole xs bytes ends sums pack =
+    subst (λ ys. IsPack ys bytes ends sums) (sym (pack_is xs bytes ends sums pack)) pack
 
 -- what the fields of packed items are, where it is known which items these are
-pub pack_now : (xs : List Item) (bytes ends : List ℕ) (prints : List Lanes) →
-    IsPack (pieces 0 ends bytes) bytes ends prints → pieces 0 ends bytes ≡ xs → IsPack xs bytes ends prints
-pack_now xs bytes ends prints pack is = subst (λ ys. IsPack ys bytes ends prints) is pack
+pub pack_now : (xs : List Item) (bytes ends : List ℕ) (sums : List Lanes) →
+    IsPack (pieces 0 ends bytes) bytes ends sums → pieces 0 ends bytes ≡ xs → IsPack xs bytes ends sums
+pack_now xs bytes ends sums pack is = subst (λ ys. IsPack ys bytes ends sums) is pack
+
+-- there are as many sums as items
+pub sums_long : (xs : List Item) (bytes ends : List ℕ) (sums read : List Lanes) → IsPack xs bytes ends sums →
+    read ≡ sums → length read ≡ length xs
+sums_long xs bytes ends sums read pack same = ap length (same ∙ pack.are_sums) ∙ sums-length two_lanes.of [] xs
 
 pub pack_none : IsPack [] [] [] []
 pack_none =
-    record { are_joined = refl; are_ends = refl; are_prints = refl; are_items = tt; are_few = omega arith }
+    record { are_joined = refl; are_ends = refl; are_sums = refl; are_items = tt; are_few = omega arith }
 
 -- one item more of a list
-pub pack_more : (xs : List Item) (i : ℕ) (x : Item) (bytes ends more_bytes more_ends : List ℕ)
-    (prints more_prints : List Lanes) → IsPack (take i xs) bytes ends prints → i < length xs → length xs < 1024 →
+pub pack_more : (xs : List Item) (i : ℕ) (x : Item) (bytes ends more_bytes more_ends : List ℕ) →
+    IsPack (take i xs) bytes ends (running_sums (take i xs)) → i < length xs → length xs < 1024 →
     x ≡ get_or xs i x → IsItem x → more_bytes ≡ bytes ++ x → more_ends ≡ ends ++ length more_bytes ∷ [] →
-    more_prints ≡ prints ++ own_print x ∷ [] → IsPack (take (i + 1) xs) more_bytes more_ends more_prints
-pack_more xs i x bytes ends more_bytes more_ends prints more_prints pack low few is item in_bytes in_ends in_prints =
+    IsPack (take (i + 1) xs) more_bytes more_ends (running_sums (take (i + 1) xs))
+pack_more xs i x bytes ends more_bytes more_ends pack low few is item in_bytes in_ends =
     let front = take i xs in
     let whole : front ++ x ∷ [] ≡ take (i + 1) xs =
     ap (λ y. front ++ y ∷ []) is ∙ sym (take_more xs i x low) in
@@ -220,14 +226,21 @@ pack_more xs i x bytes ends more_bytes more_ends prints more_prints pack low few
     let end : length more_bytes ≡ 0 + length (joined front) + length x = omega arith in
     let short = length-take-le i xs (omega arith) in
     let sum = length-append front (x ∷ []) in
-    subst (λ ys. IsPack ys more_bytes more_ends more_prints) whole (record {
+    subst (λ ys. IsPack ys more_bytes more_ends (running_sums ys)) whole (record {
       are_joined = in_bytes ∙ in_one ∙ sym (flat_map-append (λ y. y) front (x ∷ []));
       are_ends = in_ends ∙ (λ j. pack.are_ends j ++ end j ∷ []) ∙ sym (ends_append 0 front (x ∷ []));
-      are_prints =
-          in_prints ∙ ap (λ ps. ps ++ own_print x ∷ []) pack.are_prints ∙ sym (map-append own_print front (x ∷ []));
+      are_sums = refl;
       are_items = all_append IsItem front (x ∷ []) pack.are_items (item, tt);
       are_few = omega arith;
     })
+
+-- and all of them
+pub pack_all : (xs : List Item) (i : ℕ) (bytes ends : List ℕ) (sums : List Lanes) →
+    IsPack (take i xs) bytes ends (running_sums (take i xs)) → length xs ≤ i → sums ≡ running_sums xs →
+    IsPack xs bytes ends sums
+pack_all xs i bytes ends sums pack past are =
+    subst (λ held. IsPack xs bytes ends held) (sym are)
+    (subst (λ ys. IsPack ys bytes ends (running_sums ys)) (take_all i xs past) pack)
 
 -- ---- one item more, at a place
 
@@ -254,28 +267,19 @@ module _ (xs : List Item) (place : ℕ) (x : Item) where
       ∙ (λ j. ends_from 0 (take place xs) ++ end j ∷ sym (ends_later (0 + start) (length x) rest) j)
       ∙ sym (ends_append 0 (take place xs) (x ∷ rest))
 
-  with_prints : (prints : List Lanes) → prints ≡ map own_print xs →
-      take place prints ++ (own_print x ∷ []) ++ drop place prints ≡ map own_print (put place x xs)
-  with_prints prints is =
-      ap (λ ps. take place ps ++ (own_print x ∷ []) ++ drop place ps) is
-      ∙ (λ j. sym (map_take own_print place xs) j ++ (own_print x ∷ []) ++ sym (map_drop own_print place xs) j)
-      ∙ append_assoc (map own_print (take place xs)) (own_print x ∷ []) (map own_print (drop place xs))
-      ∙ sym (map-append own_print (take place xs) (x ∷ drop place xs))
-
-  pub pack_with : (bytes ends more_bytes more_ends : List ℕ) (prints more_prints : List Lanes) →
-      IsPack xs bytes ends prints → length xs < 1023 → IsItem x →
+  pub pack_with : (bytes ends more_bytes more_ends : List ℕ) (sums more_sums : List Lanes) →
+      IsPack xs bytes ends sums → length xs < 1023 → IsItem x →
       more_bytes
       ≡ take (length (joined (take place xs))) bytes ++ x ++ drop (length (joined (take place xs))) bytes →
       more_ends ≡ take place ends ++ (length (joined (take place xs)) + length x)
       ∷ map (λ e. e + length x) (drop place ends) →
-      more_prints ≡ take place prints ++ (own_print x ∷ []) ++ drop place prints →
-      IsPack (put place x xs) more_bytes more_ends more_prints
-  pack_with bytes ends more_bytes more_ends prints more_prints pack few item in_bytes in_ends in_prints =
+      more_sums ≡ running_sums (put place x xs) → IsPack (put place x xs) more_bytes more_ends more_sums
+  pack_with bytes ends more_bytes more_ends sums more_sums pack few item in_bytes in_ends in_sums =
       let longer = length_put place x xs in
       record {
         are_joined = in_bytes ∙ with_bytes bytes pack.are_joined;
         are_ends = in_ends ∙ with_ends ends pack.are_ends;
-        are_prints = in_prints ∙ with_prints prints pack.are_prints;
+        are_sums = in_sums;
         are_items = all_append IsItem (take place xs) (x ∷ drop place xs) (all_take IsItem place xs pack.are_items)
             (item, all_drop IsItem place xs pack.are_items);
         are_few = omega arith;
@@ -289,10 +293,6 @@ slice_span from to xs low =
     let whole : from + (to - from) ≡ to = omega arith in
     sym (drop-take from (to - from) xs) ∙ ap (λ n. drop from (take n xs)) whole
 
-pub map_span : {X Y : Type 0} (f : X → Y) (from to : ℕ) (xs : List X) →
-    span from to (map f xs) ≡ map f (span from to xs)
-map_span f from to xs = ap (drop from) (sym (map_take f to xs)) ∙ sym (map_drop f from (take to xs))
-
 pub ends_span : (from to : ℕ) (xs : List Item) → from ≤ to →
     span from to (ends_from 0 xs) ≡ ends_from (0 + length (joined (take from xs))) (span from to xs)
 ends_span from to xs low =
@@ -300,12 +300,12 @@ ends_span from to xs low =
     ∙ ap (λ ys. ends_from (0 + length (joined ys)) (span from to xs)) (take-take from to xs low)
 
 pub pack_part : (xs : List Item) (from to : ℕ) (bytes ends some_bytes some_ends : List ℕ)
-    (prints some_prints : List Lanes) → IsPack xs bytes ends prints → from ≤ to → to ≤ length xs →
+    (sums some_sums : List Lanes) → IsPack xs bytes ends sums → from ≤ to → to ≤ length xs →
     some_bytes ≡ take (length (joined (take to xs)) - length (joined (take from xs)))
     (drop (length (joined (take from xs))) bytes) →
     some_ends ≡ map (λ e. e - length (joined (take from xs))) (take (to - from) (drop from ends)) →
-    some_prints ≡ take (to - from) (drop from prints) → IsPack (span from to xs) some_bytes some_ends some_prints
-pack_part xs from to bytes ends some_bytes some_ends prints some_prints pack low high in_bytes in_ends in_prints =
+    some_sums ≡ running_sums (span from to xs) → IsPack (span from to xs) some_bytes some_ends some_sums
+pack_part xs from to bytes ends some_bytes some_ends sums some_sums pack low high in_bytes in_ends in_sums =
     let start = length (joined (take from xs)) in
     let end = length (joined (take to xs)) in
     let fewer = length-drop from (take to xs) in
@@ -316,8 +316,7 @@ pack_part xs from to bytes ends some_bytes some_ends prints some_prints pack low
           ∙ joined_span from to xs low high;
       are_ends = in_ends ∙ ap (map (λ e. e - start)) (slice_span from to ends low ∙ ap (span from to) pack.are_ends
           ∙ ends_span from to xs low) ∙ ends_earlier start (span from to xs);
-      are_prints = in_prints ∙ slice_span from to prints low ∙ ap (span from to) pack.are_prints
-          ∙ map_span own_print from to xs;
+      are_sums = in_sums;
       are_items = all_drop IsItem from (take to xs) (all_take IsItem to xs pack.are_items);
       are_few = omega arith;
     }
@@ -362,31 +361,6 @@ span_more from k xs x low high is =
     ∙ drop-append-le from (take k xs) (get_or xs k x ∷ []) (omega arith)
     ∙ ap (λ y. span from k xs ++ y ∷ []) (get_or_from_slice_get xs k x x is)
 
-pub span_ended : {X : Type 0} (from to : ℕ) (xs : List X) (start end : ℕ) → end ≡ min to (length xs) →
-    start ≡ min from end → span start end xs ≡ span from to xs
-span_ended from to xs start end e s =
-    sym (slice_span start end xs (omega arith)) ∙ span_clamped from to xs start end e s
-
 pub first_read : (xs : List Item) (x : Item) → slice_get xs 0 ≡ Some x → x ≡ first_item xs
 first_read [] x e = absurd (cc)
 first_read (y ∷ ys) x e = cc
-
--- ---- fingerprints that are summed
-
-pub sum_more : (A : List Item) (prints : List Lanes) (i : ℕ) (print sum more : Lanes) → prints ≡ map own_print A →
-    i < length prints → print ≡ get_or prints i print → sum ≡ two_lanes.of (take i A) →
-    more ≡ join_lanes sum print → more ≡ two_lanes.of (take (i + 1) A)
-sum_more A prints i print sum more are low read so_far adds =
-    let same = ap length are ∙ length-map A own_print in
-    let within : i < length A = omega arith in
-    let item = get_or A i [] in
-    let own : print ≡ own_print item =
-    read ∙ ap (λ ps. get_or ps i print) are ∙ get_or-map own_print A i [] print within in
-    adds ∙ (λ j. join_lanes (so_far j) (own j)) ∙ sym (adds_up (take i A) (item ∷ []))
-    ∙ ap two_lanes.of (sym (take_more A i [] within))
-
-pub sum_all : (A : List Item) (prints : List Lanes) (i : ℕ) → prints ≡ map own_print A → length prints ≤ i →
-    take i A ≡ A
-sum_all A prints i are past =
-    let same = ap length are ∙ length-map A own_print in
-    take_all i A (omega arith)

@@ -1,12 +1,12 @@
 -- Spans of lists, and lists that are kept in parts.
 use Rattle.std.proofs.Common.{◌≡◌, ℕ, None, Some, zero, suc, ◌+◌, ◌-◌, ◌<◌, ◌≤◌, Bool, not, ◌&&◌, filter, List, [], ◌∷◌}
 use Rattle.std.proofs.Common.{◌++◌}
-use Rattle.std.proofs.Common.{take, drop, map, length, min, get_or, refl, sym, ap, ◌∙◌, arith}
+use Rattle.std.proofs.Common.{take, drop, map, length, get_or, refl, sym, ap, ◌∙◌, arith}
 use Rattle.std.specs.List.{flat_map, slice_get}
 use Rattle.std.proofs.lemmas.List.{drop_more, take_more, take-append-drop, take-append-le, drop-append-le, append_assoc}
 use Rattle.std.proofs.lemmas.List.{get_or-drop, get_or-take, length-drop}
 use Rattle.std.proofs.lemmas.Option.{get_or_from_slice_get}
-use Rattle.std.proofs.lemmas.List.{append-nil, map-append, length-append, length-take, take_min, drop_min, drop-take}
+use Rattle.std.proofs.lemmas.List.{append-nil, map-append, length-append, length-take}
 use Rattle.std.proofs.lemmas.List.Concat.{flat_map-append}
 use Rattle.definitions.proofs.Partitions.{later}
 use Rattle.range_tree.specs.Parts.{span, PassFirst}
@@ -48,11 +48,6 @@ map_drop f zero xs = refl
 map_drop f (suc n) [] = refl
 map_drop f (suc n) (x ∷ xs) = map_drop f n xs
 
-pub flat_of_map : {X Y A : Type 0} (f : Y → List A) (g : X → Y) (xs : List X) →
-    flat_map f (map g xs) ≡ flat_map (λ x. f (g x)) xs
-flat_of_map f g [] = refl
-flat_of_map f g (x ∷ xs) = ap (λ ys. f (g x) ++ ys) (flat_of_map f g xs)
-
 -- what the parts hold, cut before and after one of them
 pub flat_cut : {P A : Type 0} (f : P → List A) (ps : List P) (k : ℕ) (d : P) → k < length ps →
     flat_map f ps ≡ flat_map f (take k ps) ++ (f (get_or ps k d) ++ flat_map f (drop (k + 1) ps))
@@ -70,18 +65,6 @@ pub span_step : {A : Type 0} (s e : ℕ) (xs ys held all : List A) → held ++ s
     held ++ span s e xs ++ span (s - length xs) (e - length xs) ys ≡ all
 span_step s e xs ys held all h = append_assoc held (span s e xs) (span (s - length xs) (e - length xs) ys)
     ∙ ap (λ zs. held ++ zs) (sym (span_append s e xs ys)) ∙ h
-
--- with both places held within the list
-pub span_clamped : {A : Type 0} (from to : ℕ) (xs : List A) (start end : ℕ) → end ≡ min to (length xs) →
-    start ≡ min from end → take (end - start) (drop start xs) ≡ span from to xs
-span_clamped from to xs start end e s =
-    let low : start ≤ end = omega arith in
-    let whole : start + (end - start) ≡ end = omega arith in
-    let len : length (take end xs) ≡ end = length-take end xs ∙ omega arith in
-    let cut : take end xs ≡ take to xs = ap (λ n. take n xs) e ∙ take_min to xs in
-    let place : start ≡ min from (length (take end xs)) = s ∙ ap (min from) (sym len) in
-    sym (drop-take start (end - start) xs) ∙ ap (λ n. drop start (take n xs)) whole
-    ∙ ap (λ n. drop n (take end xs)) place ∙ drop_min from (take end xs) ∙ ap (drop from) cut
 
 pub map_take : {X Y : Type 0} (f : X → Y) (n : ℕ) (xs : List X) → map f (take n xs) ≡ take n (map f xs)
 map_take f zero xs = refl
@@ -103,15 +86,16 @@ length_take_more f ps k d low =
     ∙ length-append (flat_map f (take k ps)) (f (get_or ps k d) ++ [])
     ∙ ap (λ xs. length (flat_map f (take k ps)) + length xs) (append-nil (f (get_or ps k d)))
 
-pub length_drop_more : {P A : Type 0} (f : P → List A) (ps : List P) (k : ℕ) (d : P) → k < length ps →
-    length (flat_map f (drop k ps)) ≡ length (f (get_or ps k d)) + length (flat_map f (drop (k + 1) ps))
-length_drop_more f ps k d low = ap (λ qs. length (flat_map f qs)) (drop_more ps k d low)
-    ∙ length-append (f (get_or ps k d)) (flat_map f (drop (k + 1) ps))
-
 -- the value of a part that is read
 pub value_read : {T P : Type 0} (v : T → P) (xs : List T) (i : ℕ) (x : T) → x ≡ get_or xs i x →
     get_or (map v xs) i (v x) ≡ v x
 value_read v xs i x e = map_get v xs i x ∙ ap v (sym e)
+
+-- the same, of a reference to the value, where the values are known
+pub part_read : {T P : Type 0} (v : T → P) (xs : List T) (ps : List P) (i : ℕ) (x : T) (p : P) → map v xs ≡ ps →
+    x ≡ get_or xs i x → p ≡ v x → p ≡ get_or ps i p
+part_read v xs ps i x p values e is =
+    is ∙ sym (value_read v xs i x e) ∙ (λ j. get_or (values j) i (sym is j))
 
 pub get_front : {X : Type 0} (xs ys : List X) (n : ℕ) → n < length xs → slice_get (xs ++ ys) n ≡ slice_get xs n
 get_front [] ys n low = absurd (omega arith)
@@ -163,12 +147,6 @@ flat_halves f v n xs =
     ap (λ ys. flat_map f (map v (take n xs)) ++ ys) (append-nil (flat_map f (map v (drop n xs))))
     ∙ sym (flat_map-append f (map v (take n xs)) (map v (drop n xs)))
     ∙ ap (flat_map f) (sym (map-append v (take n xs) (drop n xs)) ∙ ap (map v) (take-append-drop n xs))
-
-pub has_parts : {T P A : Type 0} (f : P → List A) (v : T → P) (xs : List T) (front back : List A) (x : A) →
-    flat_map f (map v xs) ≡ front ++ x ∷ back → 0 < length xs
-has_parts f v [] front back x e = let len : 0 ≡ length (front ++ x ∷ back) = ap length e in
-    let sum = length-append front (x ∷ back) in absurd (omega arith)
-has_parts f v (y ∷ ys) front back x e = omega arith
 
 -- ---- what passes both of two tests
 

@@ -2,8 +2,7 @@
 use Rattle.std.proofs.Common.{◌≡◌, ℕ, zero, suc, ◌+◌, ◌*◌, ◌<◌, ◌≤◌, List, [], ◌∷◌, ◌++◌, take, drop, map, length}
 use Rattle.std.proofs.Common.{get_or, arith}
 use Rattle.std.specs.List.{flat_map, AllByRecursion}
-use Rattle.std.specs.Arc.{arc_value}
-use Rattle.std.proofs.lemmas.List.{length-append, length-map}
+use Rattle.std.proofs.lemmas.List.{length-append}
 use Rattle.range_tree.specs.declared.part.Grown.{Grown}
 use Rattle.range_tree.specs.declared.part.Grown.TheVariants.{One, Two}
 use Rattle.range_tree.specs.declared.leaf.Leaf.{Leaf}
@@ -105,10 +104,8 @@ wide_leaves (l ∷ ls) all =
 
 wide_branch : (b : Branch) → 32 ≤ branch_width b → 1024 ≤ length (branch_items b)
 wide_branch b wide =
-    let leaves = map (arc_value {X = Leaf}) b.leaves.items in
-    let len = length-map b.leaves.items (arc_value {X = Leaf}) in
-    let more : 1 < length leaves = omega arith in
-    let most = wide_leaves leaves (wide_from_full leaf_width leaves more b.full) in
+    let more : 1 < length b.leaves = omega arith in
+    let most = wide_leaves b.leaves (wide_from_full leaf_width b.leaves more b.full) in
     omega arith
 
 wide_branches : (bs : List Branch) → AllByRecursion (λ b. 32 ≤ branch_width b) bs →
@@ -125,8 +122,5 @@ few_branches [] full low = omega arith
 few_branches (b ∷ []) full low = omega arith
 few_branches (b ∷ c ∷ bs) full low = let most = wide_branches (b ∷ c ∷ bs) full in omega arith
 
-pub few_in_tree : (t : Tree) → length (tree_items t) ≤ 65536 → length t.branches.items ≤ 64
-few_in_tree t low =
-    let few = few_branches (map (arc_value {X = Branch}) t.branches.items) t.full low in
-    let len = length-map t.branches.items (arc_value {X = Branch}) in
-    omega arith
+pub few_in_tree : (t : Tree) → length (tree_items t) ≤ 65536 → length t.branches ≤ 64
+few_in_tree t low = few_branches t.branches t.full low

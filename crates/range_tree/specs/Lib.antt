@@ -3,6 +3,8 @@ pub use Rattle.definitions.specs.Sets
 pub use Rattle.definitions.specs.Fingerprints
 pub mod Parts
 pub mod Packs
+pub mod Heads
+pub mod Rows
 pub mod Grown
 pub mod Leaves
 pub mod Loads

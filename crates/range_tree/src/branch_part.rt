@@ -1,14 +1,16 @@
-ghost use Rattle.std.specs.Prelude.{◌≡◌, ◌≤◌, ◌<◌, length, map};
+ghost use Rattle.std.specs.Prelude.{◌≡◌, ◌≤◌, ◌<◌, length, map, IfOk};
 ghost use Rattle.std.specs.Arc.{arc_value};
-ghost use Rattle.range_tree.specs.Parts.{items_of, IsFull};
+ghost use Rattle.std.specs.List.{flat_map};
+ghost use Rattle.range_tree.specs.Parts.{IsFull};
+ghost use Rattle.range_tree.specs.Grown.{grown_parts, GrewWide};
 ghost use Rattle.range_tree.specs.Leaves.{leaf_items, leaf_width};
 ghost use Rattle.range_tree.specs.Branches.{branch_items, branch_width, branch_has_some};
 
 use crate::branch::Branch;
 use crate::leaf::Leaf;
 use crate::part::{Grown, Part};
-use crate::parts;
-use digest_core::{Fingerprint, Summary};
+use crate::row::Row;
+use digest_core::Fingerprint;
 use item_core::Item;
 use std::alloc::{AllocError, Global};
 use std::sync::Arc;
@@ -16,20 +18,37 @@ use store_core::Entry;
 
 impl Branch {
     /// The branch of these leaves.
-    pub fn of(leaves: Vec<Arc<Leaf>>) -> Branch
+    pub fn of(alloc: Global, leaves: Vec<Arc<Leaf>>) -> Result<Branch, AllocError>
         requires some { 0 < length leaves.items }
         requires small { length leaves.items ≤ 64 }
         requires full { IsFull leaf_width (map arc_value leaves.items) }
-        ensures leaves { result.leaves ≡ leaves }
-        ensures items { branch_items result ≡ items_of leaf_items leaves.items }
+        ensures { IfOk result (λ branch. branch.leaves ≡ map arc_value leaves.items) }
     {
-        let count = parts::count(&leaves);
-        let total = parts::total(&leaves);
-        Branch {
-            leaves,
-            count,
-            total,
-        }
+        Ok(Branch::over(Row::of(alloc, leaves)?))
+    }
+
+    /// The branch of the leaves of this row.
+    fn over(leaves: Row<Leaf>) -> Branch
+        requires some { 0 < length leaves }
+        requires small { length leaves ≤ 64 }
+        requires full { IsFull leaf_width leaves }
+        ensures { result.leaves ≡ leaves }
+    {
+        Branch { leaves }
+    }
+
+    /// The two branches of 65 leaves.
+    fn halves(alloc: Global, leaves: Row<Leaf>) -> Result<Grown<Branch>, AllocError>
+        requires more { 64 < length leaves }
+        requires few { length leaves ≤ 65 }
+        requires full { IsFull leaf_width leaves }
+        ensures items { IfOk result (λ g. flat_map branch_items (grown_parts g) ≡ flat_map leaf_items leaves) }
+        ensures widths { IfOk result (GrewWide branch_width 64) }
+    {
+        let mut parts = leaves.into_parts();
+        let back = parts.split_off(32)?;
+        let front = Branch::of(alloc, parts)?;
+        Ok(Grown::Two(front, Branch::of(alloc, back)?))
     }
 }
 
@@ -43,40 +62,31 @@ impl Part for Branch {
     ghost has_some = { branch_has_some };
 
     fn len(&self) -> usize {
-        self.count
+        self.leaves.len()
     }
 
     fn total(&self) -> Fingerprint {
-        self.total
+        self.leaves.total()
     }
 
     fn first(&self) -> &Item {
-        self.leaves[0].first()
+        self.leaves.first()
     }
 
     fn item_at(&self, place: usize) -> Item {
-        parts::item_at(&self.leaves, place)
+        self.leaves.item_at(place)
     }
 
-    fn sum_between(&self, from: usize, to: usize) -> Fingerprint {
-        if from == 0 && to >= self.count {
-            return self.total;
-        }
-        if from >= to || from >= self.count {
-            return Fingerprint::zero();
-        }
-        parts::sum_between(&self.leaves, from, to)
+    fn sum_before(&self, place: usize) -> Fingerprint {
+        self.leaves.sum_before(place)
     }
 
     fn push_between(&self, held: &mut Vec<Item>, from: usize, to: usize) -> Result<(), AllocError> {
-        if from >= to || from >= self.count {
-            return Ok(());
-        }
-        parts::push_between(&self.leaves, held, from, to)
+        self.leaves.push_between(held, from, to)
     }
 
     fn rank(&self, item: &Item) -> (usize, usize) {
-        parts::rank(&self.leaves, item)
+        self.leaves.rank(item)
     }
 
     fn with_at(
@@ -85,11 +95,10 @@ impl Part for Branch {
         place: usize,
         entry: Entry,
     ) -> Result<Grown<Branch>, AllocError> {
-        let mut leaves = parts::with_at(alloc, &self.leaves, place, entry)?;
-        if leaves.len() <= 64 {
-            return Ok(Grown::One(Branch::of(leaves)));
+        let leaves = self.leaves.with_at(alloc, place, entry)?;
+        if leaves.count_parts() <= 64 {
+            return Ok(Grown::One(Branch::over(leaves)));
         }
-        let back = leaves.split_off(32)?;
-        Ok(Grown::Two(Branch::of(leaves), Branch::of(back)))
+        Branch::halves(alloc, leaves)
     }
 }

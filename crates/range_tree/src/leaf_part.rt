@@ -18,12 +18,7 @@ impl Leaf {
         ensures { leaf_items result ≡ packed }
     {
         let first = packed.item(0);
-        let total = packed.sum_between(0, packed.len());
-        Leaf {
-            first,
-            packed,
-            total,
-        }
+        Leaf { first, packed }
     }
 }
 
@@ -41,7 +36,7 @@ impl Part for Leaf {
     }
 
     fn total(&self) -> Fingerprint {
-        self.total
+        self.packed.sum_before(self.packed.len())
     }
 
     fn first(&self) -> &Item {
@@ -52,11 +47,8 @@ impl Part for Leaf {
         self.packed.item(place)
     }
 
-    fn sum_between(&self, from: usize, to: usize) -> Fingerprint {
-        if from == 0 && to >= self.packed.len() {
-            return self.total;
-        }
-        self.packed.sum_between(from, to)
+    fn sum_before(&self, place: usize) -> Fingerprint {
+        self.packed.sum_before(place)
     }
 
     fn push_between(&self, held: &mut Vec<Item>, from: usize, to: usize) -> Result<(), AllocError> {

@@ -3,7 +3,7 @@
 
 mod branch;
 mod branch_part;
-mod edge;
+mod heads;
 mod leaf;
 mod leaf_part;
 mod loading;
@@ -11,8 +11,10 @@ mod packed;
 mod packing;
 mod part;
 mod parts;
+mod row;
+mod row_growth;
+mod row_reads;
 mod search;
-mod spans;
 mod tree;
 mod tree_reads;
 mod tree_store;

@@ -105,7 +105,7 @@ fn branch_of(alloc: Global, leaves: &[Arc<Leaf>]) -> Result<Arc<Branch>, AllocEr
 {
     let mut held = Vec::with_capacity(alloc, leaves.len())?;
     parts::share(&mut held, leaves)?;
-    Ok(Arc::new(alloc, Branch::of(held))?)
+    Ok(Arc::new(alloc, Branch::of(alloc, held)?)?)
 }
 
 /// The branches of these leaves.

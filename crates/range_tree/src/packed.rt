@@ -1,29 +1,28 @@
 //! Items that are kept packed.
 
-ghost use Rattle.std.specs.Prelude.{◌≡◌, ◌≤◌, ◌<◌, ◌++◌, List, length, take, map, Some, slice_get, OnOk};
+ghost use Rattle.std.specs.Prelude.{◌≡◌, ◌≤◌, ◌<◌, ◌++◌, length, take, Some, slice_get, OnOk};
 ghost use Rattle.std.specs.List.{AllByRecursion};
 ghost use Rattle.std.specs.List.Sorted.{IsPartitionedBy};
-ghost use Rattle.definitions.specs.Items as items;
 ghost use Rattle.definitions.specs.Items.{IsItem, comes_before};
 ghost use Rattle.definitions.specs.Fingerprints.{two_lanes};
 ghost use Rattle.range_tree.specs.Parts.{span, PassFirst};
-ghost use Rattle.range_tree.specs.Packs.{joined, own_print, IsPack};
+ghost use Rattle.range_tree.specs.Packs.{joined, IsPack};
 
 use crate::search::HasItems;
-use crate::spans::between;
-use digest_core::{Fingerprint, Summary, laws};
+use digest_core::Fingerprint;
 use item_core::Item;
 use std::alloc::AllocError;
 use std::marker::Model;
+use store_core::sums;
 
-/// Fewer than 1,024 items in order, each with its fingerprint. The bytes of all stand one after another. A contract
-/// sees the items.
+/// Fewer than 1,024 items in order. The bytes of all stand one after another. A contract sees the items.
 #[derive(Drop)]
 pub(crate) struct Packed {
     pub(crate) bytes: Vec<u8>,
     // Where each item ends.
     pub(crate) ends: Vec<u16>,
-    pub(crate) fingerprints: Vec<Fingerprint>,
+    // Of each item the fingerprint of all up to and with it.
+    pub(crate) sums: Vec<Fingerprint>,
 }
 
 impl Model for Packed {
@@ -36,19 +35,7 @@ impl Model for Packed {
     ghost view = { λ a. pieces 0 a.ends.items a.bytes.items };
 
     ghost invariant = { λ a.
-        IsPack (pieces 0 a.ends.items a.bytes.items) a.bytes.items a.ends.items a.fingerprints.items };
-}
-
-/// The fingerprint of the items of which these are the fingerprints.
-fn sum_of(fingerprints: &[Fingerprint]) -> Fingerprint
-    ensures { (A : List items.Item) → fingerprints.now ≡ map own_print A → result ≡ two_lanes.of A }
-{
-    laws::lists_add_up();
-    let mut sum = Fingerprint::zero();
-    for fingerprint in fingerprints {
-        sum = sum.join(*fingerprint);
-    }
-    sum
+        IsPack (pieces 0 a.ends.items a.bytes.items) a.bytes.items a.ends.items a.sums.items };
 }
 
 impl Packed {
@@ -89,11 +76,12 @@ impl Packed {
         Item::of(self.bytes(place))
     }
 
-    /// The fingerprint of the items from one place on and before another. A place past the end stands for the end.
-    pub(crate) fn sum_between(&self, from: usize, to: usize) -> Fingerprint
-        ensures { result ≡ two_lanes.of (span from to self.now) }
+    /// The fingerprint of the items before a place. A place past the end stands for the end.
+    pub(crate) fn sum_before(&self, place: usize) -> Fingerprint
+        ensures { result ≡ two_lanes.of (take place self.now) }
     {
-        sum_of(between(&self.fingerprints, from, to))
+        let fitted = place.min(self.len());
+        sums::before(&self.sums, fitted)
     }
 
     /// Puts the items from one place on and before another after what is held. A place past the end stands for the
@@ -122,7 +110,8 @@ impl HasItems for Packed {
         self.len()
     }
 
-    fn is_before(&self, place: usize, item: &Item) -> bool {
+    fn is_before(&self, place: usize, item: &Item, head: u64) -> bool {
+        let _ = head; // a leaf keeps none
         self.bytes(place).cmp(item.bytes()).is_lt()
     }
 }

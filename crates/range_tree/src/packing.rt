@@ -6,32 +6,18 @@ ghost use Rattle.definitions.specs.Items.{IsItem};
 ghost use Rattle.range_tree.specs.Parts.{span};
 
 use crate::packed::Packed;
-use digest_core::{Fingerprint, Summary};
 use item_core::Item;
 use std::alloc::{AllocError, Global};
-use store_core::Entry;
+use store_core::spans::bytes_in;
+use store_core::{Entry, sums};
 
-/// How many bytes the items have.
-fn bytes_of(items: &[Item]) -> usize {
-    let mut bytes = 0usize;
-    for item in items {
-        bytes = bytes.saturating_add(item.bytes().len());
-    }
-    bytes
-}
-
-/// The list with a run of elements at a place.
-fn with_run<T: Copy + Drop>(
-    alloc: Global,
-    list: &[T],
-    place: usize,
-    run: &[T],
-) -> Result<Vec<T>, AllocError>
-    requires { place ≤ length list.now }
-    ensures { IfOk result (λ held. held.items ≡ take place list.now ++ run.now ++ drop place list.now) }
+/// The bytes with a run of others at a place.
+fn with_run(alloc: Global, bytes: &[u8], place: usize, run: &[u8]) -> Result<Vec<u8>, AllocError>
+    requires { place ≤ length bytes.now }
+    ensures { IfOk result (λ held. held.items ≡ take place bytes.now ++ run.now ++ drop place bytes.now) }
 {
-    let (front, back) = list.split_at(place);
-    let mut held = Vec::with_capacity(alloc, list.len().saturating_add(run.len()))?;
+    let (front, back) = bytes.split_at(place);
+    let mut held = Vec::with_capacity(alloc, bytes.len().saturating_add(run.len()))?;
     held.extend_from_slice(front)?;
     held.extend_from_slice(run)?;
     held.extend_from_slice(back)?;
@@ -91,7 +77,7 @@ impl Packed {
         Packed {
             bytes: Vec::new(alloc),
             ends: Vec::new(alloc),
-            fingerprints: Vec::new(alloc),
+            sums: Vec::new(alloc),
         }
     }
 
@@ -101,18 +87,16 @@ impl Packed {
         ensures items { IfOk result (λ packed. packed ≡ items.now) }
         ensures are_items { IfOk result (λ _. AllByRecursion IsItem items.now) }
     {
-        let mut bytes = Vec::with_capacity(alloc, bytes_of(items))?;
+        let mut bytes = Vec::with_capacity(alloc, bytes_in(items))?;
         let mut ends = Vec::with_capacity(alloc, items.len())?;
-        let mut fingerprints = Vec::with_capacity(alloc, items.len())?;
         for item in items {
             bytes.extend_from_slice(item.bytes())?;
             ends.push(bytes.len() as u16)?;
-            fingerprints.push(Fingerprint::of_item(item))?;
         }
         Ok(Packed {
             bytes,
             ends,
-            fingerprints,
+            sums: sums::running(alloc, items)?,
         })
     }
 
@@ -132,7 +116,7 @@ impl Packed {
         Ok(Packed {
             bytes: with_run(alloc, &self.bytes, start, bytes)?,
             ends: ends_with(alloc, &self.ends, place, start as u16, bytes.len() as u16)?,
-            fingerprints: with_run(alloc, &self.fingerprints, place, &[entry.fingerprint()])?,
+            sums: sums::with_entry(alloc, &self.sums, place, entry)?,
         })
     }
 
@@ -147,7 +131,7 @@ impl Packed {
         Ok(Packed {
             bytes: Vec::from_slice(alloc, &self.bytes[start..end])?,
             ends: earlier(alloc, &self.ends[from..to], start as u16)?,
-            fingerprints: Vec::from_slice(alloc, &self.fingerprints[from..to])?,
+            sums: sums::part(alloc, &self.sums, from, to)?,
         })
     }
 }

@@ -48,9 +48,9 @@ pub trait Part: Drop + Sized {
         requires { place < length (content self.now) }
         ensures { slice_get (content self.now) place ≡ Some result };
 
-    /// The fingerprint of the items from one place on and before another.
-    fn sum_between(&self, from: usize, to: usize) -> Fingerprint
-        ensures { result ≡ two_lanes.of (span from to (content self.now)) };
+    /// The fingerprint of the items before a place. A place past the end stands for the end.
+    fn sum_before(&self, place: usize) -> Fingerprint
+        ensures { result ≡ two_lanes.of (take place (content self.now)) };
 
     /// Puts the items from one place on and before another after what is held.
     fn push_between(&self, held: &mut Vec<Item>, from: usize, to: usize) -> Result<(), AllocError>

@@ -3,9 +3,11 @@
 ghost use Rattle.std.specs.Prelude.{◌≡◌, ◌≤◌, ◌<◌, List, [], length, get_or};
 ghost use Rattle.std.specs.List.Sorted.{IsPartitionedBy};
 ghost use Rattle.definitions.specs.Items as items;
-ghost use Rattle.definitions.specs.Items.{comes_before};
+ghost use Rattle.definitions.specs.Items.{IsBytes, comes_before};
+ghost use Rattle.range_tree.specs.Heads.{head_number};
 ghost use Rattle.range_tree.specs.Parts.{PassFirst};
 
+use crate::heads::head_of;
 use item_core::Item;
 
 /// What has items at places.
@@ -17,9 +19,11 @@ pub trait HasItems {
     fn count(&self) -> usize
         ensures { result ≡ length (leads self.now) };
 
-    /// Whether the item at a place comes before this one.
-    fn is_before(&self, place: usize, item: &Item) -> bool
-        requires { place < length (leads self.now) }
+    /// Whether the item at a place comes before this one, whose first bytes are the head.
+    fn is_before(&self, place: usize, item: &Item, head: u64) -> bool
+        requires place { place < length (leads self.now) }
+        requires head { head ≡ head_number item.now }
+        requires bytes { IsBytes item.now }
         ensures { result ≡ comes_before (get_or (leads self.now) place []) item.now };
 }
 
@@ -30,12 +34,13 @@ pub fn search<L: HasItems>(list: &L, item: &Item) -> (usize, usize)
     ensures within { result.0 ≤ length (L.leads list.now) }
     ensures steps { length (L.leads list.now) ≤ 64 → result.1 ≤ 7 }
 {
+    let head = head_of(item);
     let mut low = 0;
     let mut high = list.count();
     let mut steps = 0;
     while low < high {
         let middle = low + (high - low) / 2;
-        if list.is_before(middle, item) {
+        if list.is_before(middle, item, head) {
             low = middle + 1;
         } else {
             high = middle;

@@ -1,6 +1,6 @@
 ghost use Rattle.std.specs.Prelude.{◌≡◌, ◌≤◌, ◌∷◌, ◌++◌, [], length, take, drop, map, IfOk};
 ghost use Rattle.std.specs.Arc.{arc_value};
-ghost use Rattle.std.specs.List.{AllByRecursion};
+ghost use Rattle.std.specs.List.{flat_map, AllByRecursion};
 ghost use Rattle.definitions.specs.Items.{IsItem};
 ghost use Rattle.definitions.specs.Sets.{IsSet, add_item};
 ghost use Rattle.range_tree.specs.Parts.{items_of, IsFull};
@@ -8,18 +8,17 @@ ghost use Rattle.range_tree.specs.Branches.{branch_items, branch_width};
 ghost use Rattle.range_tree.specs.Trees.{tree_items};
 
 use crate::branch::Branch;
-use crate::edge::Edge;
 use crate::leaf::Leaf;
 use crate::loading::{branches_of, branches_on};
 use crate::packed::Packed;
-use crate::parts;
+use crate::row::Row;
 use crate::tree::Tree;
-use digest_core::{Fingerprint, Summary, laws};
+use digest_core::Fingerprint;
 use item_core::{Item, Range};
 use std::alloc::{AllocError, Global};
 use std::sync::Arc;
 use std::thread::Threads;
-use store_core::{Entry, Insertion, RangeStore};
+use store_core::{Entry, Insertion, RangeStore, Span};
 
 /// The one branch of one leaf of one entry.
 fn branches_of_one(alloc: Global, entry: Entry) -> Result<Vec<Arc<Branch>>, AllocError>
@@ -30,44 +29,47 @@ fn branches_of_one(alloc: Global, entry: Entry) -> Result<Vec<Arc<Branch>>, Allo
     let mut leaves = Vec::new(alloc);
     leaves.push(Arc::new(alloc, Leaf::of(packed))?)?;
     let mut branches = Vec::new(alloc);
-    branches.push(Arc::new(alloc, Branch::of(leaves))?)?;
+    branches.push(Arc::new(alloc, Branch::of(alloc, leaves)?)?)?;
     Ok(branches)
 }
 
 /// The branches with an entry at a place.
 fn branches_with(
     alloc: Global,
-    branches: &[Arc<Branch>],
+    branches: &Row<Branch>,
     place: usize,
     entry: Entry,
-) -> Result<Vec<Arc<Branch>>, AllocError>
-    requires { place ≤ length (items_of branch_items branches.now) }
-    ensures full { IfOk result (λ held. IsFull branch_width (map arc_value branches.now) →
-        IsFull branch_width (map arc_value held.items)) }
-    ensures items { IfOk result (λ held. items_of branch_items held.items ≡
-        take place (items_of branch_items branches.now) ++ entry
-        ∷ drop place (items_of branch_items branches.now)) }
+) -> Result<Row<Branch>, AllocError>
+    requires { place ≤ length (flat_map branch_items branches.now) }
+    ensures full { IfOk result (λ row. IsFull branch_width branches.now → IsFull branch_width row) }
+    ensures items { IfOk result (λ row. flat_map branch_items row ≡
+        take place (flat_map branch_items branches.now) ++ entry
+        ∷ drop place (flat_map branch_items branches.now)) }
 {
     if branches.is_empty() {
-        return branches_of_one(alloc, entry);
+        return Row::of(alloc, branches_of_one(alloc, entry)?);
     }
-    parts::with_at(alloc, branches, place, entry)
+    branches.with_at(alloc, place, entry)
 }
 
-/// The tree of these branches, which hold `count` items.
-fn tree_over(branches: Vec<Arc<Branch>>, count: usize) -> Tree
+/// The tree of the branches of this row.
+fn tree_over(branches: Row<Branch>) -> Tree
+    requires rises { IsSet (flat_map branch_items branches) }
+    requires are_items { AllByRecursion IsItem (flat_map branch_items branches) }
+    requires full { IsFull branch_width branches }
+    ensures { tree_items result ≡ flat_map branch_items branches }
+{
+    Tree { branches }
+}
+
+/// The tree of these branches.
+fn tree_of(alloc: Global, branches: Vec<Arc<Branch>>) -> Result<Tree, AllocError>
     requires rises { IsSet (items_of branch_items branches.items) }
     requires are_items { AllByRecursion IsItem (items_of branch_items branches.items) }
     requires full { IsFull branch_width (map arc_value branches.items) }
-    requires count { count ≡ length (items_of branch_items branches.items) }
-    ensures { tree_items result ≡ items_of branch_items branches.items }
+    ensures { IfOk result (λ t. tree_items t ≡ items_of branch_items branches.items) }
 {
-    let total = parts::total(&branches);
-    Tree {
-        branches,
-        count,
-        total,
-    }
+    Ok(tree_over(Row::of(alloc, branches)?))
 }
 
 impl Tree {
@@ -84,7 +86,7 @@ impl Tree {
         ensures are_items { IfOk result (λ _. AllByRecursion IsItem items.now) }
     {
         let branches = branches_on(rt, alloc, items)?;
-        Ok(tree_over(branches, items.len()))
+        tree_of(alloc, branches)
     }
 }
 
@@ -97,68 +99,36 @@ impl RangeStore for Tree {
 
     fn empty(alloc: Global) -> Tree {
         Tree {
-            branches: Vec::new(alloc),
-            count: 0,
-            total: Fingerprint::zero(),
+            branches: Row::empty(alloc),
         }
     }
 
     fn from_rising(alloc: Global, items: &[Item]) -> Result<Tree, AllocError> {
         let branches = branches_of(alloc, items)?;
-        Ok(tree_over(branches, items.len()))
+        tree_of(alloc, branches)
     }
 
     fn len(&self) -> usize {
-        self.count
+        self.branches.len()
     }
 
-    fn count(&self, range: &Range) -> usize {
+    fn span_of(&self, range: &Range) -> Span {
         let (from, to, _) = self.places(range);
-        self.between(from, to)
+        Span { from, to }
     }
 
-    fn sum(&self, range: &Range) -> Fingerprint {
-        self.sum_counted(range).0
+    fn sum_before(&self, place: usize) -> Fingerprint {
+        self.branches.sum_before(place)
     }
 
-    fn count_and_sum(&self, range: &Range) -> (usize, Fingerprint) {
-        let (count, sum, _) = self.count_and_sum_counted(range);
-        (count, sum)
-    }
-
-    fn counts_and_sums(
-        &self,
-        alloc: Global,
-        ranges: &[Range],
-    ) -> Result<Vec<(Range, usize, Fingerprint)>, AllocError> {
-        let mut held = Vec::with_capacity(alloc, ranges.len())?;
-        let mut edge = Edge::start();
-        for range in ranges {
-            held.push(self.counted_from(&mut edge, range))?;
-        }
+    fn items_at(&self, alloc: Global, at: Span) -> Result<Vec<Item>, AllocError> {
+        let mut held = Vec::with_capacity(alloc, self.between(at.from, at.to))?;
+        self.branches.push_between(&mut held, at.from, at.to)?;
         Ok(held)
     }
 
-    fn nth(&self, range: &Range, place: usize) -> Item {
-        let (from, _, _) = self.places(range);
-        parts::item_at(&self.branches, from + place)
-    }
-
-    fn nths(
-        &self,
-        alloc: Global,
-        range: &Range,
-        places: &[usize],
-    ) -> Result<Vec<Item>, AllocError> {
-        let (from, to, _) = self.places(range);
-        self.items_within(alloc, from, to, places)
-    }
-
-    fn items(&self, alloc: Global, range: &Range) -> Result<Vec<Item>, AllocError> {
-        let (from, to, _) = self.places(range);
-        let mut held = Vec::new(alloc);
-        parts::push_between(&self.branches, &mut held, from, to)?;
-        Ok(held)
+    fn item_at(&self, place: usize) -> Item {
+        self.branches.item_at(place)
     }
 
     fn has(&self, item: &Item) -> bool {
@@ -169,26 +139,13 @@ impl RangeStore for Tree {
         let Some(place) = self.gap_for(&item) else {
             return Ok(Insertion::Already);
         };
-        let Some(count) = self.count.checked_add(1) else {
-            return Err(AllocError);
-        };
-        laws::new_item_adds();
-        let entry = Entry::new(item);
-        let total = self.total.join(entry.fingerprint());
-        Ok(Insertion::New(Tree {
-            branches: branches_with(alloc, &self.branches, place, entry)?,
-            count,
-            total,
-        }))
+        let branches = branches_with(alloc, &self.branches, place, Entry::new(item))?;
+        Ok(Insertion::New(tree_over(branches)))
     }
 
     fn copy(&self, alloc: Global) -> Result<Tree, AllocError> {
-        let mut branches = Vec::with_capacity(alloc, self.branches.len())?;
-        parts::share(&mut branches, &self.branches)?;
         Ok(Tree {
-            branches,
-            count: self.count,
-            total: self.total,
+            branches: self.branches.copy(alloc)?,
         })
     }
 }

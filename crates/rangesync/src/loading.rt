@@ -2,6 +2,7 @@
 
 ghost use Rattle.std.specs.Prelude.{◌≡◌, ◌≤◌, length, IfOk};
 ghost use Rattle.definitions.specs.Sets.{IsSet};
+ghost use Rattle.range_tree.specs.Trees.{tree_items};
 
 use crate::disk::{Opened, item_file, open_lines};
 use crate::reporting::Kept;
@@ -9,7 +10,7 @@ use item_core::Item;
 use item_files::{ItemForm, ReadFault, SettingsFault, read_input_items, read_items, read_strategy};
 use printing_core::{Fault, Refusal};
 use range_tree::Tree;
-use std::alloc::Global;
+use std::alloc::{AllocError, Global};
 use std::fs::File;
 use std::io::{Read, Write};
 use std::rt::Files;
@@ -179,6 +180,20 @@ fn joined_set<'a>(
     }
 }
 
+/// The store of the items of a set, which up to four threads hash, and how many bytes the items have. The list is given
+/// up here, so that it is not there any more when the history is made.
+fn stored<R: Threads + Sync>(
+    rt: &R,
+    alloc: Global,
+    items: Vec<Item>,
+) -> Result<(Tree, usize), AllocError>
+    requires { IsSet items.items }
+    ensures { IfOk result (λ o. tree_items o.0 ≡ items.items) }
+{
+    let store = Tree::from_rising_on(rt, alloc, &items)?;
+    Ok((store, spans::bytes_in(&items)))
+}
+
 /// The strategy in one file and a log of the items in the others, or in the input. Up to four threads hash the items.
 ///
 /// The strategy is judged first: 80, 30 to 35 or 29, then 37, 36 or 38. Then the items are: 80, 81, then 82 where there
@@ -200,10 +215,12 @@ pub fn load<'a, R: Files<File = File> + AllocGlobal + Threads + Sync, I: Read + 
         None => Vec::new(alloc),
     };
     let mut kept = open_kept(rt, sources, err)?;
-    let more = kept_set(alloc, sources, &mut kept.opened, cap)?;
-    let items = joined_set(alloc, items, &more, sources.keep, cap)?;
-    let store = Tree::from_rising_on(rt, alloc, &items)?;
-    let log = Log::of_store(alloc, accepted.cap(), &items, store)?;
+    let items = {
+        let more = kept_set(alloc, sources, &mut kept.opened, cap)?;
+        joined_set(alloc, items, &more, sources.keep, cap)?
+    };
+    let (store, bytes) = stored(rt, alloc, items)?;
+    let log = Log::of_store(alloc, accepted.cap(), store, bytes)?;
     Ok(Loaded {
         accepted,
         log,

@@ -5,4 +5,4 @@ use Rattle.store_core.specs.declared.flat_store.FlatStore.{FlatStore}
 
 -- the items, in rising order
 abbrev pub flat_items : FlatStore → List Item
-flat_items s = s.entries.items
+flat_items s = s.items.items

@@ -1,23 +1,14 @@
-ghost use Rattle.std.specs.Prelude.{◌≡◌};
 ghost use Rattle.definitions.specs.Sets.{items_in};
 ghost use Rattle.store_core.specs.Flat.{flat_items};
 
 use crate::entry::Entry;
 use crate::flat_store::FlatStore;
 use crate::range_store::{Insertion, RangeStore};
-use crate::spans;
+use crate::span::Span;
+use crate::{spans, sums};
 use digest_core::Fingerprint;
 use item_core::{Item, Range};
 use std::alloc::{AllocError, Global};
-
-impl FlatStore {
-    /// The items in the range with their fingerprints, in rising order. Nothing is copied.
-    pub fn entries_in(&self, range: &Range) -> &[Entry]
-        ensures { result.now ≡ items_in (flat_items self.now) range.now }
-    {
-        spans::within(&self.entries, range)
-    }
-}
 
 impl RangeStore for FlatStore {
     ghost content = { flat_items };
@@ -28,79 +19,61 @@ impl RangeStore for FlatStore {
 
     fn empty(alloc: Global) -> FlatStore {
         FlatStore {
-            entries: Vec::new(alloc),
+            items: Vec::new(alloc),
+            sums: Vec::new(alloc),
         }
     }
 
     fn from_rising(alloc: Global, items: &[Item]) -> Result<FlatStore, AllocError> {
         Ok(FlatStore {
-            entries: spans::digested(alloc, items)?,
+            items: Vec::from_slice(alloc, items)?,
+            sums: sums::running(alloc, items)?,
         })
     }
 
     fn len(&self) -> usize {
-        self.entries.len()
+        self.items.len()
     }
 
-    fn count(&self, range: &Range) -> usize {
-        self.entries_in(range).len()
+    fn span_of(&self, range: &Range) -> Span {
+        spans::within(&self.items, range)
     }
 
-    fn sum(&self, range: &Range) -> Fingerprint {
-        spans::total(self.entries_in(range))
+    fn sum_before(&self, place: usize) -> Fingerprint {
+        let fitted = place.min(self.items.len());
+        sums::before(&self.sums, fitted)
     }
 
-    fn count_and_sum(&self, range: &Range) -> (usize, Fingerprint) {
-        let entries = self.entries_in(range);
-        (entries.len(), spans::total(entries))
+    fn items_at(&self, alloc: Global, at: Span) -> Result<Vec<Item>, AllocError> {
+        let Span { from, to } = at.fitted(self.items.len());
+        Vec::from_slice(alloc, &self.items[from..to])
     }
 
-    fn counts_and_sums(
-        &self,
-        alloc: Global,
-        ranges: &[Range],
-    ) -> Result<Vec<(Range, usize, Fingerprint)>, AllocError> {
-        let mut held = Vec::with_capacity(alloc, ranges.len())?;
-        for range in ranges {
-            let (count, sum) = self.count_and_sum(range);
-            held.push((*range, count, sum))?;
-        }
-        Ok(held)
-    }
-
-    fn nth(&self, range: &Range, place: usize) -> Item {
-        *self.entries_in(range)[place].item()
-    }
-
-    fn nths(
-        &self,
-        alloc: Global,
-        range: &Range,
-        places: &[usize],
-    ) -> Result<Vec<Item>, AllocError> {
-        spans::items_at(alloc, self.entries_in(range), places)
-    }
-
-    fn items(&self, alloc: Global, range: &Range) -> Result<Vec<Item>, AllocError> {
-        spans::items(alloc, self.entries_in(range))
+    fn item_at(&self, place: usize) -> Item {
+        self.items[place]
     }
 
     fn has(&self, item: &Item) -> bool {
-        spans::gap_for(&self.entries, item).is_none()
+        spans::gap_for(&self.items, item).is_none()
     }
 
     fn with(&self, alloc: Global, item: Item) -> Result<Insertion<FlatStore>, AllocError> {
-        match spans::gap_for(&self.entries, &item) {
+        match spans::gap_for(&self.items, &item) {
             None => Ok(Insertion::Already),
-            Some(place) => Ok(Insertion::New(FlatStore {
-                entries: spans::with_entry(alloc, &self.entries, place, Entry::new(item))?,
-            })),
+            Some(place) => {
+                let entry = Entry::new(item);
+                Ok(Insertion::New(FlatStore {
+                    items: spans::with_item(alloc, &self.items, place, item)?,
+                    sums: sums::with_entry(alloc, &self.sums, place, &entry)?,
+                }))
+            }
         }
     }
 
     fn copy(&self, alloc: Global) -> Result<FlatStore, AllocError> {
         Ok(FlatStore {
-            entries: Vec::from_slice(alloc, &self.entries)?,
+            items: Vec::from_slice(alloc, &self.items)?,
+            sums: Vec::from_slice(alloc, &self.sums)?,
         })
     }
 }

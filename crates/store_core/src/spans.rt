@@ -1,120 +1,89 @@
-//! Sorted slices of entries: the part in a range, its fingerprint, and the slice with one more entry.
+//! Sorted slices of items: the part in a range, and the slice with one more item.
 
-ghost use Rattle.std.specs.Prelude.{◌≡◌, ◌≤◌, ◌∷◌, ◌++◌, true, false, take, drop, length, filter, not, is_none, IfOk};
-ghost use Rattle.std.specs.Prelude.{IfSome, ◌<◌, [], map, get_or};
-ghost use Rattle.std.specs.List.{AllByRecursion};
+ghost use Rattle.std.specs.Prelude.{◌≡◌, ◌≤◌, ◌-◌, ◌^◌, ◌∷◌, ◌++◌, true, false, take, drop, length, filter, min};
+ghost use Rattle.std.specs.Prelude.{sum_by, is_none, IfOk, IfSome};
 ghost use Rattle.std.specs.List.Sorted.{IsPartitionPoint};
-ghost use Rattle.definitions.specs.Items.{IsItem, comes_before, is_below};
+ghost use Rattle.definitions.specs.Items.{comes_before, is_below};
 ghost use Rattle.definitions.specs.Sets.{IsSet, has, items_in, add_item, set_of};
-ghost use Rattle.definitions.specs.Fingerprints.{two_lanes};
 ghost use Rattle.item_core.specs.Bounds.{upper_value};
+ghost use Rattle.store_core.specs.Stores.{span};
 
-use crate::entry::Entry;
-use digest_core::{Fingerprint, Summary, laws};
+use crate::span::Span;
 use item_core::{Item, Lower, Range, Upper};
 use std::alloc::{AllocError, Global};
 
-/// How many of the entries are before the bound.
-fn place(entries: &[Entry], lower: &Lower) -> usize
-    requires { IsSet entries.now }
-    ensures within { result ≤ length entries.now }
+/// How many of the items are before the bound.
+fn place(items: &[Item], lower: &Lower) -> usize
+    requires { IsSet items.now }
+    ensures within { result ≤ length items.now }
     ensures parted { IsPartitionPoint (λ z. comes_before z lower.now ≡ true) (λ z. comes_before z lower.now ≡ false)
-        entries.now result }
+        items.now result }
 {
-    entries.partition_point(|entry| lower.is_above(entry.item()))
+    items.partition_point(|item| lower.is_above(item))
 }
 
-/// The entries from the bound on.
-fn from_lower<'a>(entries: &'a [Entry], lower: &Lower) -> &'a [Entry]
-    requires { IsSet entries.now }
-    ensures { result.now ≡ filter (λ z. not (comes_before z lower.now)) entries.now }
+/// How many of the items are before the bound.
+fn end(items: &[Item], upper: &Upper) -> usize
+    requires { IsSet items.now }
+    ensures within { result ≤ length items.now }
+    ensures front { filter (λ z. is_below z (upper_value upper.now)) items.now ≡ take result items.now }
 {
-    &entries[place(entries, lower)..]
+    items.partition_point(|item| upper.is_above(item))
 }
 
-/// The entries before the bound.
-fn before_upper<'a>(entries: &'a [Entry], upper: &Upper) -> &'a [Entry]
-    requires { IsSet entries.now }
-    ensures { result.now ≡ filter (λ z. is_below z (upper_value upper.now)) entries.now }
+/// Where the items of the range stand.
+pub fn within(items: &[Item], range: &Range) -> Span
+    requires { IsSet items.now }
+    ensures order { result.from ≤ result.to }
+    ensures end { result.to ≤ length items.now }
+    ensures items { span result.from result.to items.now ≡ items_in items.now range.now }
 {
-    let end = entries.partition_point(|entry| upper.is_above(entry.item()));
-    &entries[..end]
-}
-
-/// The entries in the range.
-pub fn within<'a>(entries: &'a [Entry], range: &Range) -> &'a [Entry]
-    requires { IsSet entries.now }
-    ensures { result.now ≡ items_in entries.now range.now }
-{
-    before_upper(from_lower(entries, &range.lower()), &range.upper())
-}
-
-/// The fingerprint of the items.
-pub fn total(entries: &[Entry]) -> Fingerprint
-    ensures { result ≡ two_lanes.of entries.now }
-{
-    laws::lists_add_up();
-    let mut total = Fingerprint::zero();
-    for entry in entries {
-        total = total.join(entry.fingerprint());
-    }
-    total
-}
-
-/// The items.
-pub fn items(alloc: Global, entries: &[Entry]) -> Result<Vec<Item>, AllocError>
-    ensures { IfOk result (λ items. items.items ≡ entries.now) }
-{
-    let mut items = Vec::with_capacity(alloc, entries.len())?;
-    for entry in entries {
-        items.push(*entry.item())?;
-    }
-    Ok(items)
+    let from = place(items, &range.lower());
+    let to = from + end(&items[from..], &range.upper());
+    Span { from, to }
 }
 
 /// Where the item would go, unless it is there.
-pub fn gap_for(entries: &[Entry], item: &Item) -> Option<usize>
-    requires { IsSet entries.now }
-    ensures found { is_none result ≡ has entries.now item.now }
-    ensures gap { IfSome result (λ i. add_item entries.now item.now ≡ take i entries.now ++ item.now ∷ drop i
-        entries.now) }
-    ensures within { IfSome result (λ i. i ≤ length entries.now) }
+pub fn gap_for(items: &[Item], item: &Item) -> Option<usize>
+    requires { IsSet items.now }
+    ensures found { is_none result ≡ has items.now item.now }
+    ensures gap { IfSome result (λ i. add_item items.now item.now ≡ take i items.now ++ item.now ∷ drop i items.now) }
+    ensures within { IfSome result (λ i. i ≤ length items.now) }
 {
-    let place = place(entries, &Lower::from(*item));
-    match entries.get(place) {
-        Some(entry) if *item == *entry.item() => None,
+    let place = place(items, &Lower::from(*item));
+    match items.get(place) {
+        Some(other) if *item == *other => None,
         _ => Some(place),
     }
 }
 
-/// The entries with one more at a place.
-pub fn with_entry(
+/// The items with one more at a place.
+pub fn with_item(
     alloc: Global,
-    entries: &[Entry],
+    items: &[Item],
     place: usize,
-    entry: Entry,
-) -> Result<Vec<Entry>, AllocError>
-    requires { place ≤ length entries.now }
-    ensures { IfOk result (λ held. held.items ≡ take place entries.now ++ entry ∷ drop place entries.now) }
+    item: Item,
+) -> Result<Vec<Item>, AllocError>
+    requires { place ≤ length items.now }
+    ensures { IfOk result (λ held. held.items ≡ take place items.now ++ item ∷ drop place items.now) }
 {
-    let (front, back) = entries.split_at(place);
-    let mut held = Vec::with_capacity(alloc, entries.len() + 1)?;
+    let (front, back) = items.split_at(place);
+    let mut held = Vec::with_capacity(alloc, items.len() + 1)?;
     held.extend_from_slice(front)?;
-    held.push(entry)?;
+    held.push(item)?;
     held.extend_from_slice(back)?;
     Ok(held)
 }
 
-/// The items of the entries at these places.
-pub fn items_at(alloc: Global, entries: &[Entry], places: &[usize]) -> Result<Vec<Item>, AllocError>
-    requires { AllByRecursion (λ place. place < length entries.now) places.now }
-    ensures { IfOk result (λ held. held.items ≡ map (λ place. get_or entries.now place []) places.now) }
+/// How many bytes the items have, for which a caller makes room; 2^64 - 1 if they have more.
+pub fn bytes_in(items: &[Item]) -> usize
+    ensures { result ≡ min (2 ^ 64 - 1) (sum_by length items.now) }
 {
-    let mut held = Vec::with_capacity(alloc, places.len())?;
-    for place in places {
-        held.push(*entries[*place].item())?;
+    let mut bytes = 0usize;
+    for item in items {
+        bytes = bytes.saturating_add(item.bytes().len());
     }
-    Ok(held)
+    bytes
 }
 
 /// Each item once, in rising order.
@@ -124,16 +93,4 @@ pub fn distinct(mut items: Vec<Item>) -> Vec<Item>
     items.sort_unstable();
     items.dedup();
     items
-}
-
-/// The items, each hashed.
-pub fn digested(alloc: Global, items: &[Item]) -> Result<Vec<Entry>, AllocError>
-    ensures entries { IfOk result (λ entries. entries.items ≡ items.now) }
-    ensures are_items { IfOk result (λ entries. AllByRecursion IsItem entries.items) }
-{
-    let mut entries = Vec::with_capacity(alloc, items.len())?;
-    for item in items {
-        entries.push(Entry::new(*item))?;
-    }
-    Ok(entries)
 }

@@ -1,6 +1,8 @@
 -- What a log opens with where its items rise: an entry each, in their order.
-use Rattle.std.proofs.Common.{◌≡◌, false, List, [], ◌∷◌, ◌++◌, length, map, fold, refl, sym, ap, ◌∙◌}
-use Rattle.std.proofs.Common.{append_assoc}
+use Rattle.std.proofs.Common.{◌≡◌, ℕ, ◌+◌, ◌-◌, ◌≤◌, false, List, [], ◌∷◌, ◌++◌, length, map, fold, take, drop}
+use Rattle.std.proofs.Common.{append_assoc, refl, sym, ap, ◌∙◌, arith}
+use Rattle.std.proofs.Math.Seq.{take-add}
+use Rattle.std.proofs.lemmas.List.{drop-take, map-append}
 use Rattle.std.specs.List.{AllByRecursion, IsDistinct}
 use Rattle.std.specs.Ordering.{eq_by_cmp}
 use Rattle.std.proofs.lemmas.Map.Keys.{IsDistinct-from_sorted}
@@ -9,6 +11,7 @@ use Rattle.definitions.specs.Items.{Item, item_cmp, same_item}
 use Rattle.definitions.specs.Sets.{IsSet, has, set_of}
 use Rattle.definitions.specs.Histories.{History, content, items_of, opening_history, with_item}
 use Rattle.definitions.proofs.Lemmas.{All-both, All-every, append-nil, length-map, or_from, or_parts}
+use Rattle.store_core.specs.Stores.{span}
 use Rattle.store_core.proofs.Made.{same_set, set_of_is_set, has_set_of}
 use Rattle.version_log.proofs.Once.{differs_back, items_push}
 
@@ -72,3 +75,13 @@ content_with_all A set = ap set_of (items_of_entries A) ∙ set_again A set
 
 pub length_with_all : (A : List Item) → length (entries_of A) ≡ length A
 length_with_all A = length-map A (λ (x : Item). (0, x))
+
+-- the entries of the items before a place, and of those from there up to another
+pub entries_on : (A : List Item) (from to : ℕ) → from ≤ to →
+    entries_of (take from A) ++ entries_of (span from to A) ≡ entries_of (take to A)
+entries_on A from to order =
+    let rest : from + (to - from) ≡ to = omega (arith, order) in
+    sym (map-append (λ (x : Item). (0, x)) (take from A) (span from to A))
+    ∙ ap (λ xs. entries_of (take from A ++ xs))
+    (ap (λ n. drop from (take n A)) (sym rest) ∙ drop-take from (to - from) A)
+    ∙ ap entries_of (sym (take-add from (to - from) A) ∙ ap (λ n. take n A) rest)

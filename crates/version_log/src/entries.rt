@@ -47,12 +47,16 @@ fn writer_at(opening: usize, later: &[u32], place: usize) -> u32
 }
 
 impl Entries {
-    /// No entries, and room for those of just these items.
-    pub(crate) fn with_room_for(alloc: Global, items: &[Item]) -> Result<Entries, AllocError>
+    /// No entries, and room for so many, whose items have so many bytes in all.
+    pub(crate) fn with_room(
+        alloc: Global,
+        count: usize,
+        bytes: usize,
+    ) -> Result<Entries, AllocError>
         ensures { IfOk result (λ entries. entries ≡ []) }
     {
         Ok(Entries {
-            items: PackedItems::with_room_for(alloc, items)?,
+            items: PackedItems::with_room(alloc, count, bytes)?,
             opening: 0,
             later: Vec::new(alloc),
         })

@@ -8,11 +8,11 @@ ghost use Rattle.version_log.specs.Answers.{insertion_in};
 use crate::answer::{Added, LogFault, WritersSpent};
 use crate::entries::Entries;
 use crate::entry::Entry;
-use crate::first_entries::{first_entries, first_entries_of_set};
+use crate::first_entries::{first_entries, first_entries_of};
 use item_core::Item;
 use std::alloc::{AllocError, Global};
 use std::marker::Model;
-use store_core::{Insertion, RangeStore, laws};
+use store_core::{Insertion, RangeStore, laws, spans};
 
 /// Who brought which item, in order, and a store of the items. Each item stands once.
 ///
@@ -87,20 +87,20 @@ impl<S: RangeStore> Log<S> {
         requires fits { length items.now ≤ cap }
         ensures { IfOk result (λ p. p ≡ opened cap items.now 1) }
     {
-        Log::of_store(alloc, cap, items, S::from_rising(alloc, items)?)
+        let store = S::from_rising(alloc, items)?;
+        Log::of_store(alloc, cap, store, spans::bytes_in(items))
     }
 
-    /// The log of the items of a set, as `of_set` makes it, over a store of them that is there already.
-    pub fn of_store(alloc: Global, cap: u32, items: &[Item], store: S) -> Result<Log<S>, AllocError>
+    /// The log of the items of a store, as `of_set` makes it. The items have so many bytes in all, for which room is
+    /// made at once: another number takes more time or memory, and is no fault.
+    pub fn of_store(alloc: Global, cap: u32, store: S, bytes: usize) -> Result<Log<S>, AllocError>
         requires cap { IsCap cap }
-        requires set { IsSet items.now }
-        requires fits { length items.now ≤ cap }
-        requires store { S.content store ≡ items.now }
-        ensures { IfOk result (λ p. p ≡ opened cap items.now 1) }
+        requires fits { length (S.content store) ≤ cap }
+        ensures { IfOk result (λ p. p ≡ opened cap (S.content store) 1) }
     {
         Ok(Log {
             cap,
-            entries: first_entries_of_set(alloc, items)?,
+            entries: first_entries_of(alloc, &store, bytes)?,
             store,
             next_writer: 1,
         })

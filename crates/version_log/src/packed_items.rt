@@ -28,15 +28,6 @@ impl Model for PackedItems {
     ghost invariant = { λ a. IsRising 0 a.ends.items (length a.bytes.items) };
 }
 
-/// How many bytes the items have.
-fn bytes_of(items: &[Item]) -> usize {
-    let mut bytes = 0usize;
-    for item in items {
-        bytes = bytes.saturating_add(item.bytes().len());
-    }
-    bytes
-}
-
 /// Where the item at a place begins; at the end, where a next one would.
 fn start_of(ends: &[u32], place: usize) -> usize
     requires { place ≤ length ends.now }
@@ -49,13 +40,17 @@ fn start_of(ends: &[u32], place: usize) -> usize
 }
 
 impl PackedItems {
-    /// No items, and room for just these.
-    pub(crate) fn with_room_for(alloc: Global, items: &[Item]) -> Result<PackedItems, AllocError>
+    /// No items, and room for so many, which have so many bytes in all.
+    pub(crate) fn with_room(
+        alloc: Global,
+        count: usize,
+        bytes: usize,
+    ) -> Result<PackedItems, AllocError>
         ensures { IfOk result (λ packed. packed ≡ []) }
     {
         Ok(PackedItems {
-            bytes: Vec::with_capacity(alloc, bytes_of(items))?,
-            ends: Vec::with_capacity(alloc, items.len())?,
+            bytes: Vec::with_capacity(alloc, bytes)?,
+            ends: Vec::with_capacity(alloc, count)?,
         })
     }
 

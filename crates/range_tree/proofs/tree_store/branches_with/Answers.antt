@@ -1,4 +1,4 @@
-use Rattle.std.proofs.Common.{map, ◌∙◌}
+use Rattle.std.proofs.Common.{length, ap, ◌∙◌}
 use Rattle.std.specs.Arc.{arc_value}
 use Rattle.std.proofs.lemmas.List.{length-map}
 use Rattle.std.proofs.lemmas.Result.{IfOk-weaker}
@@ -9,5 +9,6 @@ use Rattle.range_tree.proofs.tree_store.branches_with.Goals as goal
 
 pub returns-then-is_empty-clause-full : goal.returns-then-is_empty-clause-full
 returns-then-is_empty-clause-full c =
-    IfOk-weaker c.branches_of_one.result _ _ (λ held h full. full_alone branch_width (map (arc_value {X = Branch})
-    held.items) (length-map held.items (arc_value {X = Branch}) ∙ h)) c.branches_of_one.ensures.one
+    let one = c.in_ok-branches_of_one.ensures.one in
+    IfOk-weaker c.of.result _ _ (λ row h full. full_alone branch_width row
+    (ap length h ∙ length-map _ (arc_value {X = Branch}) ∙ one)) c.of.ensures

@@ -19,7 +19,7 @@ pub slice_bounds-result-end : goal.slice_bounds-result-end
 slice_bounds-result-end c =
     let p = c.self.inside in
     let xs = c.args.self.now in
-    let pack = pack_now xs p.bytes.items p.ends.items p.fingerprints.items c.self.invariant c.self.view_is in
+    let pack = pack_now xs p.bytes.items p.ends.items p.sums.items c.self.invariant c.self.view_is in
     let all = ap length pack.are_joined in
     let part = start_within (c.args.place + 1) xs in
     let own = c.start-2.ensures in
@@ -32,7 +32,7 @@ returns-clause-bytes c =
     let p = c.self.inside in
     let xs = c.args.self.now in
     let k = c.args.place in
-    let pack = pack_now xs p.bytes.items p.ends.items p.fingerprints.items c.self.invariant c.self.view_is in
+    let pack = pack_now xs p.bytes.items p.ends.items p.sums.items c.self.invariant c.self.view_is in
     rw (c.start.ensures, c.start-2.ensures, c.deref.ensures.value, pack.are_joined, joined_one k xs [] c.requires)
     (slice_get-get_or xs k [] c.requires)
 
@@ -41,6 +41,6 @@ returns-clause-item c =
     let p = c.self.inside in
     let xs = c.args.self.now in
     let k = c.args.place in
-    let pack = pack_now xs p.bytes.items p.ends.items p.fingerprints.items c.self.invariant c.self.view_is in
+    let pack = pack_now xs p.bytes.items p.ends.items p.sums.items c.self.invariant c.self.view_is in
     rw (c.start.ensures, c.start-2.ensures, c.deref.ensures.value, pack.are_joined, joined_one k xs [] c.requires)
     (all_get IsItem xs k [] c.requires pack.are_items)

@@ -1,12 +1,10 @@
-use Rattle.std.proofs.Common.{◌≡◌, ◌<◌, ◌++◌, ◌∷◌, [], ◌^◌, ◌∙◌, ap, subst, length, arith, rules, take, take_all}
+use Rattle.std.proofs.Common.{◌≡◌, ◌<◌, ◌++◌, ◌∷◌, [], ◌^◌, ◌∙◌, ap, length, arith, rules, take}
 use Rattle.std.proofs.lemmas.List.{length-append, length-take-le}
-use Rattle.range_tree.specs.Packs.{IsPack}
-use Rattle.range_tree.proofs.Pieces.{pack_none, pack_more, pack_is, pack_whole, joined_most}
+use Rattle.range_tree.proofs.Pieces.{pack_none, pack_more, pack_all, pack_is, pack_whole, joined_most}
 use Rattle.range_tree.proofs.packed.Packed.digested.Goals as goal
 
 pub loop-item-init : goal.loop-item-init
-loop-item-init c =
-    rw (c.in_ok-bytes.ensures.items, c.in_ok-ends.ensures.items, c.in_ok-fingerprints.ensures.items) pack_none
+loop-item-init c = rw (c.in_ok-bytes.ensures.items, c.in_ok-ends.ensures.items) pack_none
 
 pub overflow_cast-len : goal.overflow_cast-len
 overflow_cast-len c =
@@ -30,25 +28,26 @@ pub loop-item-preserved : goal.loop-item-preserved
 loop-item-preserved c =
     let bytes = c.loop-item.bytes.items in
     let ends = c.loop-item.ends.items in
-    let prints = c.loop-item.fingerprints.items in
     let len : c.len.result ≡ length c.extend_from_slice.new.self.items = search rules in
     pack_more c.args.items.now c.loop-item.item-index c.item-item.result bytes ends c.extend_from_slice.new.self.items
-    c.push.new.self.items prints c.push-in-loop-item.new.self.items c.loop-item.invariant c.loop-item-test.true
-    c.requires c.item-item.is c.bytes.ensures.item
+    c.push.new.self.items c.loop-item.invariant c.loop-item-test.true c.requires c.item-item.is c.bytes.ensures.item
     (c.in_ok-extend_from_slice.ensures.items ∙ ap (λ b. bytes ++ b) c.bytes.ensures.bytes)
     (c.in_ok-push.ensures.items ∙ ap (λ n. ends ++ n ∷ []) len)
-    (c.in_ok-push-2.ensures.items ∙ ap (λ f. prints ++ f ∷ []) c.of_item.ensures)
 
 pub invariant_of-result : goal.invariant_of-result
 invariant_of-result c =
     let xs = c.args.items.now in
-    let pack = subst (λ ys. IsPack ys c.loop-item.bytes.items c.loop-item.ends.items c.loop-item.fingerprints.items)
-    (take_all c.loop-item.item-index xs c.loop-item-test.false) c.loop-item.invariant in
-    pack_whole xs c.loop-item.bytes.items c.loop-item.ends.items c.loop-item.fingerprints.items pack
+    let bytes = c.loop-item.bytes.items in
+    let ends = c.loop-item.ends.items in
+    let sums = c.in_ok-running.field-0.items in
+    pack_whole xs bytes ends sums (pack_all xs c.loop-item.item-index bytes ends sums c.loop-item.invariant
+    c.loop-item-test.false c.in_ok-running.ensures.sums)
 
 pub returns-clause-items : goal.returns-clause-items
 returns-clause-items c =
     let xs = c.args.items.now in
-    let pack = subst (λ ys. IsPack ys c.loop-item.bytes.items c.loop-item.ends.items c.loop-item.fingerprints.items)
-    (take_all c.loop-item.item-index xs c.loop-item-test.false) c.loop-item.invariant in
-    pack_is xs c.loop-item.bytes.items c.loop-item.ends.items c.loop-item.fingerprints.items pack
+    let bytes = c.loop-item.bytes.items in
+    let ends = c.loop-item.ends.items in
+    let sums = c.in_ok-running.field-0.items in
+    pack_is xs bytes ends sums (pack_all xs c.loop-item.item-index bytes ends sums c.loop-item.invariant
+    c.loop-item-test.false c.in_ok-running.ensures.sums)

@@ -7,7 +7,7 @@ use Rattle.range_tree.proofs.packed.Packed.len.Goals as goal
 pub returns-clause-length : goal.returns-clause-length
 returns-clause-length c =
     let p = c.self.inside in
-    let pack = pack_now c.args.self.now p.bytes.items p.ends.items p.fingerprints.items
+    let pack = pack_now c.args.self.now p.bytes.items p.ends.items p.sums.items
     c.self.invariant c.self.view_is in
     let own : c.len.result ≡ length p.ends.items = search rules in
     own ∙ ap length pack.are_ends ∙ length_ends 0 c.args.self.now

@@ -2,7 +2,7 @@ use Rattle.std.proofs.Common.{◌≤◌, ◌<◌, ◌-◌, ◌^◌, ◌∙◌, a
 use Rattle.range_tree.specs.Parts.{span}
 use Rattle.range_tree.specs.Packs.{IsPack}
 use Rattle.range_tree.proofs.Pieces.{pack_now, pack_part, pack_is, pack_whole, start_within, starts_rise, joined_most}
-use Rattle.range_tree.proofs.Pieces.{length_ends, part_above}
+use Rattle.range_tree.proofs.Pieces.{length_ends, part_above, sums_long}
 use Rattle.range_tree.proofs.packed.Packed.part.Goals as goal
 
 pub slice_bounds-from_slice-count : goal.slice_bounds-from_slice-count
@@ -19,7 +19,7 @@ pub slice_bounds-from_slice-end : goal.slice_bounds-from_slice-end
 slice_bounds-from_slice-end c =
     let p = c.self.inside in
     let xs = c.args.self.now in
-    let pack = pack_now xs p.bytes.items p.ends.items p.fingerprints.items c.self.invariant c.self.view_is in
+    let pack = pack_now xs p.bytes.items p.ends.items p.sums.items c.self.invariant c.self.view_is in
     let all = ap length pack.are_joined in
     let part = start_within c.args.to xs in
     let own = c.start-end.ensures in
@@ -31,7 +31,7 @@ pub slice_bounds-earlier-end : goal.slice_bounds-earlier-end
 slice_bounds-earlier-end c =
     let p = c.self.inside in
     let xs = c.args.self.now in
-    let pack = pack_now xs p.bytes.items p.ends.items p.fingerprints.items c.self.invariant c.self.view_is in
+    let pack = pack_now xs p.bytes.items p.ends.items p.sums.items c.self.invariant c.self.view_is in
     let all = ap length pack.are_ends ∙ length_ends 0 xs in
     let value = ap length c.deref-2.ensures.value in
     let high = c.requires.to in
@@ -42,7 +42,7 @@ pub overflow_cast-start : goal.overflow_cast-start
 overflow_cast-start c =
     let p = c.self.inside in
     let xs = c.args.self.now in
-    let pack = pack_now xs p.bytes.items p.ends.items p.fingerprints.items c.self.invariant c.self.view_is in
+    let pack = pack_now xs p.bytes.items p.ends.items p.sums.items c.self.invariant c.self.view_is in
     let few = pack.are_few in
     let most = joined_most xs pack.are_items in
     let part = start_within c.args.from xs in
@@ -54,9 +54,18 @@ pub earlier-requires : goal.earlier-requires
 earlier-requires c =
     let p = c.self.inside in
     let xs = c.args.self.now in
-    let pack = pack_now xs p.bytes.items p.ends.items p.fingerprints.items c.self.invariant c.self.view_is in
+    let pack = pack_now xs p.bytes.items p.ends.items p.sums.items c.self.invariant c.self.view_is in
     part_above xs c.args.from c.args.to c.deref-2.result.now c.start-start.result
     (c.deref-2.ensures.value ∙ pack.are_ends) c.start-start.ensures c.requires.from
+
+pub part-requires-clause-to : goal.part-requires-clause-to
+part-requires-clause-to c =
+    let p = c.self.inside in
+    let xs = c.args.self.now in
+    let pack = pack_now xs p.bytes.items p.ends.items p.sums.items c.self.invariant c.self.view_is in
+    let long = sums_long xs p.bytes.items p.ends.items p.sums.items c.deref-3.result.now pack c.deref-3.ensures.value in
+    let high = c.requires.to in
+    omega arith
 
 pub invariant_of-result : goal.invariant_of-result
 invariant_of-result c =
@@ -64,18 +73,18 @@ invariant_of-result c =
     let xs = c.args.self.now in
     let from = c.args.from in
     let to = c.args.to in
-    let pack = pack_now xs p.bytes.items p.ends.items p.fingerprints.items c.self.invariant c.self.view_is in
+    let pack = pack_now xs p.bytes.items p.ends.items p.sums.items c.self.invariant c.self.view_is in
     let bytes = c.in_ok-from_slice.field-0.items in
     let ends = c.in_ok-earlier.field-0.items in
-    let prints = c.in_ok-from_slice-2.field-0.items in
-    let part : IsPack (span from to xs) bytes ends prints = pack_part xs from to p.bytes.items p.ends.items bytes ends
-    p.fingerprints.items prints pack c.requires.from c.requires.to
+    let sums = c.in_ok-part.field-0.items in
+    let part : IsPack (span from to xs) bytes ends sums = pack_part xs from to p.bytes.items p.ends.items bytes ends
+    p.sums.items sums pack c.requires.from c.requires.to
     (c.in_ok-from_slice.ensures.items ∙ (λ j. take (c.start-end.ensures j - c.start-start.ensures j)
     (drop (c.start-start.ensures j) (c.deref.ensures.value j))))
     (c.in_ok-earlier.ensures ∙ (λ j. map (λ e. e - c.start-start.ensures j)
     (take (to - from) (drop from (c.deref-2.ensures.value j)))))
-    (c.in_ok-from_slice-2.ensures.items ∙ ap (λ ps. take (to - from) (drop from ps)) c.deref-3.ensures.value) in
-    pack_whole (span from to xs) bytes ends prints part
+    (c.in_ok-part.ensures xs (c.deref-3.ensures.value ∙ pack.are_sums)) in
+    pack_whole (span from to xs) bytes ends sums part
 
 pub returns : goal.returns
 returns c =
@@ -83,15 +92,15 @@ returns c =
     let xs = c.args.self.now in
     let from = c.args.from in
     let to = c.args.to in
-    let pack = pack_now xs p.bytes.items p.ends.items p.fingerprints.items c.self.invariant c.self.view_is in
+    let pack = pack_now xs p.bytes.items p.ends.items p.sums.items c.self.invariant c.self.view_is in
     let bytes = c.in_ok-from_slice.field-0.items in
     let ends = c.in_ok-earlier.field-0.items in
-    let prints = c.in_ok-from_slice-2.field-0.items in
-    let part : IsPack (span from to xs) bytes ends prints = pack_part xs from to p.bytes.items p.ends.items bytes ends
-    p.fingerprints.items prints pack c.requires.from c.requires.to
+    let sums = c.in_ok-part.field-0.items in
+    let part : IsPack (span from to xs) bytes ends sums = pack_part xs from to p.bytes.items p.ends.items bytes ends
+    p.sums.items sums pack c.requires.from c.requires.to
     (c.in_ok-from_slice.ensures.items ∙ (λ j. take (c.start-end.ensures j - c.start-start.ensures j)
     (drop (c.start-start.ensures j) (c.deref.ensures.value j))))
     (c.in_ok-earlier.ensures ∙ (λ j. map (λ e. e - c.start-start.ensures j)
     (take (to - from) (drop from (c.deref-2.ensures.value j)))))
-    (c.in_ok-from_slice-2.ensures.items ∙ ap (λ ps. take (to - from) (drop from ps)) c.deref-3.ensures.value) in
-    pack_is (span from to xs) bytes ends prints part
+    (c.in_ok-part.ensures xs (c.deref-3.ensures.value ∙ pack.are_sums)) in
+    pack_is (span from to xs) bytes ends sums part

@@ -6,7 +6,7 @@ use Rattle.range_tree.proofs.packed.Packed.start.Goals as goal
 pub index-requires : goal.index-requires
 index-requires c =
     let p = c.self.inside in
-    let pack = pack_now c.args.self.now p.bytes.items p.ends.items p.fingerprints.items
+    let pack = pack_now c.args.self.now p.bytes.items p.ends.items p.sums.items
     c.self.invariant c.self.view_is in
     let same = ap length pack.are_ends ∙ length_ends 0 c.args.self.now in
     let low = c.requires in
@@ -16,7 +16,7 @@ pub returns : goal.returns
 returns c =
     let p = c.self.inside in
     let xs = c.args.self.now in
-    let pack = pack_now xs p.bytes.items p.ends.items p.fingerprints.items c.self.invariant c.self.view_is in
+    let pack = pack_now xs p.bytes.items p.ends.items p.sums.items c.self.invariant c.self.view_is in
     let k = c.args.place - 1 in
     let low : k < length xs = let high = c.requires in omega arith in
     let next : suc k ≡ c.args.place = omega arith in

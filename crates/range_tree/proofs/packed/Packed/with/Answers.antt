@@ -1,16 +1,16 @@
-use Rattle.std.proofs.Common.{◌≡◌, ◌+◌, ◌<◌, ◌^◌, ◌∙◌, ◌∷◌, ◌++◌, [], ap, subst, length, map, take, drop, arith, rules, sym}
+use Rattle.std.proofs.Common.{◌≡◌, ◌+◌, ◌<◌, ◌^◌, ◌∙◌, ◌∷◌, ◌++◌, ap, subst, length, map, take, drop, arith, rules, sym}
 use Rattle.std.specs.List.{AllByRecursion}
 use Rattle.range_tree.specs.Packs.{IsPack}
 use Rattle.range_tree.proofs.Places.{put}
 use Rattle.range_tree.proofs.Pieces.{pack_now, pack_with, pack_is, pack_whole, start_within, joined_most}
-use Rattle.range_tree.proofs.Pieces.{length_ends, ends_fit}
+use Rattle.range_tree.proofs.Pieces.{length_ends, ends_fit, sums_long}
 use Rattle.range_tree.proofs.packed.Packed.with.Goals as goal
 
 pub with_run-requires : goal.with_run-requires
 with_run-requires c =
     let p = c.self.inside in
     let xs = c.args.self.now in
-    let pack = pack_now xs p.bytes.items p.ends.items p.fingerprints.items c.self.invariant c.self.view_is in
+    let pack = pack_now xs p.bytes.items p.ends.items p.sums.items c.self.invariant c.self.view_is in
     let all = ap length pack.are_joined in
     let part = start_within c.args.place xs in
     let own = c.start-start.ensures in
@@ -21,7 +21,7 @@ pub overflow_cast-start : goal.overflow_cast-start
 overflow_cast-start c =
     let p = c.self.inside in
     let xs = c.args.self.now in
-    let pack = pack_now xs p.bytes.items p.ends.items p.fingerprints.items c.self.invariant c.self.view_is in
+    let pack = pack_now xs p.bytes.items p.ends.items p.sums.items c.self.invariant c.self.view_is in
     let few = pack.are_few in
     let most = joined_most xs pack.are_items in
     let part = start_within c.args.place xs in
@@ -33,7 +33,7 @@ pub ends_with-requires-clause-place : goal.ends_with-requires-clause-place
 ends_with-requires-clause-place c =
     let p = c.self.inside in
     let xs = c.args.self.now in
-    let pack = pack_now xs p.bytes.items p.ends.items p.fingerprints.items c.self.invariant c.self.view_is in
+    let pack = pack_now xs p.bytes.items p.ends.items p.sums.items c.self.invariant c.self.view_is in
     let all = ap length pack.are_ends ∙ length_ends 0 xs in
     let value = ap length c.deref-2.ensures.value in
     let high = c.requires.place in
@@ -43,7 +43,7 @@ pub ends_with-requires-clause-start : goal.ends_with-requires-clause-start
 ends_with-requires-clause-start c =
     let p = c.self.inside in
     let xs = c.args.self.now in
-    let pack = pack_now xs p.bytes.items p.ends.items p.fingerprints.items c.self.invariant c.self.view_is in
+    let pack = pack_now xs p.bytes.items p.ends.items p.sums.items c.self.invariant c.self.view_is in
     let few = c.requires.few in
     let most = joined_most xs pack.are_items in
     let part = start_within c.args.place xs in
@@ -56,7 +56,7 @@ pub ends_with-requires-clause-later : goal.ends_with-requires-clause-later
 ends_with-requires-clause-later c =
     let p = c.self.inside in
     let xs = c.args.self.now in
-    let pack = pack_now xs p.bytes.items p.ends.items p.fingerprints.items c.self.invariant c.self.view_is in
+    let pack = pack_now xs p.bytes.items p.ends.items p.sums.items c.self.invariant c.self.view_is in
     let few = c.requires.few in
     let most = joined_most xs pack.are_items in
     let short = c.bytes-bytes.ensures.item.not_long in
@@ -65,26 +65,34 @@ ends_with-requires-clause-later c =
     subst (λ es. AllByRecursion (λ e. e + n < 2 ^ 16) es) (sym (c.deref-2.ensures.value ∙ pack.are_ends))
     (ends_fit 0 n xs (omega arith))
 
+pub with_entry-requires : goal.with_entry-requires
+with_entry-requires c =
+    let p = c.self.inside in
+    let xs = c.args.self.now in
+    let pack = pack_now xs p.bytes.items p.ends.items p.sums.items c.self.invariant c.self.view_is in
+    let long = sums_long xs p.bytes.items p.ends.items p.sums.items c.deref-3.result.now pack c.deref-3.ensures.value in
+    let high = c.requires.place in
+    omega arith
+
 pub invariant_of-result : goal.invariant_of-result
 invariant_of-result c =
     let p = c.self.inside in
     let xs = c.args.self.now in
     let place = c.args.place in
     let x = c.args.entry.now in
-    let pack = pack_now xs p.bytes.items p.ends.items p.fingerprints.items c.self.invariant c.self.view_is in
+    let pack = pack_now xs p.bytes.items p.ends.items p.sums.items c.self.invariant c.self.view_is in
     let bytes = c.in_ok-with_run.field-0.items in
     let ends = c.in_ok-ends_with.field-0.items in
-    let prints = c.in_ok-with_run-2.field-0.items in
+    let sums = c.in_ok-with_entry.field-0.items in
     let own : c.bytes-bytes.result.now ≡ x = c.bytes-bytes.ensures.bytes ∙ c.item.ensures.item in
-    let more : IsPack (put place x xs) bytes ends prints = pack_with xs place x p.bytes.items p.ends.items bytes ends
-    p.fingerprints.items prints pack c.requires.few c.item.ensures.is_item
+    let more : IsPack (put place x xs) bytes ends sums = pack_with xs place x p.bytes.items p.ends.items bytes ends
+    p.sums.items sums pack c.requires.few c.item.ensures.is_item
     (c.in_ok-with_run.ensures ∙ (λ j. take (c.start-start.ensures j) (c.deref.ensures.value j) ++ own j
     ++ drop (c.start-start.ensures j) (c.deref.ensures.value j)))
     (c.in_ok-ends_with.ensures ∙ (λ j. take place (c.deref-2.ensures.value j) ++ (c.start-start.ensures j
     + length (own j)) ∷ map (λ e. e + length (own j)) (drop place (c.deref-2.ensures.value j))))
-    (c.in_ok-with_run-2.ensures ∙ (λ j. take place (c.deref-3.ensures.value j) ++ (c.fingerprint.ensures j ∷ [])
-    ++ drop place (c.deref-3.ensures.value j))) in
-    pack_whole (put place x xs) bytes ends prints more
+    (c.in_ok-with_entry.ensures xs (c.deref-3.ensures.value ∙ pack.are_sums)) in
+    pack_whole (put place x xs) bytes ends sums more
 
 pub returns : goal.returns
 returns c =
@@ -92,17 +100,16 @@ returns c =
     let xs = c.args.self.now in
     let place = c.args.place in
     let x = c.args.entry.now in
-    let pack = pack_now xs p.bytes.items p.ends.items p.fingerprints.items c.self.invariant c.self.view_is in
+    let pack = pack_now xs p.bytes.items p.ends.items p.sums.items c.self.invariant c.self.view_is in
     let bytes = c.in_ok-with_run.field-0.items in
     let ends = c.in_ok-ends_with.field-0.items in
-    let prints = c.in_ok-with_run-2.field-0.items in
+    let sums = c.in_ok-with_entry.field-0.items in
     let own : c.bytes-bytes.result.now ≡ x = c.bytes-bytes.ensures.bytes ∙ c.item.ensures.item in
-    let more : IsPack (put place x xs) bytes ends prints = pack_with xs place x p.bytes.items p.ends.items bytes ends
-    p.fingerprints.items prints pack c.requires.few c.item.ensures.is_item
+    let more : IsPack (put place x xs) bytes ends sums = pack_with xs place x p.bytes.items p.ends.items bytes ends
+    p.sums.items sums pack c.requires.few c.item.ensures.is_item
     (c.in_ok-with_run.ensures ∙ (λ j. take (c.start-start.ensures j) (c.deref.ensures.value j) ++ own j
     ++ drop (c.start-start.ensures j) (c.deref.ensures.value j)))
     (c.in_ok-ends_with.ensures ∙ (λ j. take place (c.deref-2.ensures.value j) ++ (c.start-start.ensures j
     + length (own j)) ∷ map (λ e. e + length (own j)) (drop place (c.deref-2.ensures.value j))))
-    (c.in_ok-with_run-2.ensures ∙ (λ j. take place (c.deref-3.ensures.value j) ++ (c.fingerprint.ensures j ∷ [])
-    ++ drop place (c.deref-3.ensures.value j))) in
-    pack_is (put place x xs) bytes ends prints more
+    (c.in_ok-with_entry.ensures xs (c.deref-3.ensures.value ∙ pack.are_sums)) in
+    pack_is (put place x xs) bytes ends sums more

@@ -1,0 +1,142 @@
+//! Places in a row of parts, and the row's parts with one grown.
+
+ghost use Rattle.std.specs.Prelude.{◌≡◌, ◌<◌, ◌≤◌, ◌+◌, ◌∷◌, ◌++◌, leb, length, take, drop, map, Some, slice_get};
+ghost use Rattle.std.specs.Prelude.{IfOk, OnOk};
+ghost use Rattle.std.specs.List.{flat_map};
+ghost use Rattle.std.specs.List.Sorted.{IsNonDecreasingBy};
+ghost use Rattle.definitions.specs.Sets.{IsSet};
+ghost use Rattle.definitions.specs.Fingerprints.{two_lanes};
+ghost use Rattle.range_tree.specs.Parts.{span, first_item, count_before, IsSpot, IsGap, IsFull, PassFirst};
+
+use crate::part::Part;
+use crate::parts;
+use crate::row::Row;
+use crate::search::{HasItems, search};
+use digest_core::{Fingerprint, Summary};
+use item_core::Item;
+use std::alloc::{AllocError, Global};
+use store_core::Entry;
+
+/// The first item of each part.
+impl<P: Part> HasItems for Row<P> {
+    ghost leads = { λ ps. map (λ p. first_item (P.content p)) ps };
+
+    fn count(&self) -> usize {
+        self.parts.len()
+    }
+
+    fn is_before(&self, place: usize, item: &Item, head: u64) -> bool {
+        let own = self.heads[place];
+        if own != head {
+            return own < head;
+        }
+        self.parts[place].first().cmp(item).is_lt()
+    }
+}
+
+/// How many of the ends are not past a place.
+fn ended(ends: &[usize], place: usize) -> usize
+    requires { IsNonDecreasingBy (λ end. end) ends.now }
+    ensures parted { PassFirst (λ end. leb end place) ends.now result }
+    ensures within { result ≤ length ends.now }
+{
+    ends.partition_point(|end| *end <= place)
+}
+
+impl<P: Part> Row<P> {
+    /// Which part holds the item at a place, and at which place of its own.
+    fn spot(&self, place: usize) -> (usize, usize)
+        requires { place < length (flat_map P.content self.now) }
+        ensures { IsSpot P.content self.now place result.0 result.1 }
+    {
+        let index = ended(&self.ends, place);
+        (index, place - self.len_of_first(index))
+    }
+
+    /// Where an item goes that is to stand at a place: which part, and at which place of its own.
+    fn gap(&self, place: usize) -> (usize, usize)
+        requires some { 0 < length self.now }
+        requires within { place ≤ length (flat_map P.content self.now) }
+        ensures { IsGap P.content self.now place result.0 result.1 }
+    {
+        if place == 0 {
+            return (0, 0);
+        }
+        let (index, own) = self.spot(place - 1);
+        (index, own + 1)
+    }
+
+    /// The item at a place.
+    pub(crate) fn item_at(&self, place: usize) -> Item
+        requires { place < length (flat_map P.content self.now) }
+        ensures { slice_get (flat_map P.content self.now) place ≡ Some result }
+    {
+        let (index, own) = self.spot(place);
+        self.parts[index].item_at(own)
+    }
+
+    /// The fingerprint of the items before a place. A place past the end stands for the end.
+    pub(crate) fn sum_before(&self, place: usize) -> Fingerprint
+        ensures { result ≡ two_lanes.of (take place (flat_map P.content self.now)) }
+    {
+        if place >= self.len() {
+            return self.total();
+        }
+        let (index, own) = self.spot(place);
+        let front = self.total_of_first(index);
+        front.join(self.parts[index].sum_before(own))
+    }
+
+    /// Puts the items from one place on and before another after what is held.
+    pub(crate) fn push_between(
+        &self,
+        held: &mut Vec<Item>,
+        from: usize,
+        to: usize,
+    ) -> Result<(), AllocError>
+        ensures { OnOk result (held.new.items ≡ held.old.items ++ span from to (flat_map P.content self.now)) }
+    {
+        let index = ended(&self.ends, from);
+        let begun = self.len_of_first(index);
+        let end = to.saturating_sub(begun);
+        parts::push_between(&self.parts[index..], held, from - begun, end)
+    }
+
+    /// How many items come before this one, and how many comparisons with it were made.
+    pub(crate) fn rank(&self, item: &Item) -> (usize, usize)
+        requires { IsSet (flat_map P.content self.now) }
+        ensures place { result.0 ≡ count_before item.now (flat_map P.content self.now) }
+        ensures steps { length self.now ≤ 64 → result.1 ≤ 7 + P.most_steps }
+    {
+        let (begun, steps) = search(self, item);
+        if begun == 0 {
+            return (0, steps);
+        }
+        let _ = self.len(); // proof only: no place is past the greatest number
+        let (own, more) = self.parts[begun - 1].rank(item);
+        (
+            self.len_of_first(begun - 1) + own,
+            steps.saturating_add(more),
+        )
+    }
+
+    /// The row with an entry at a place. All parts but one are shared, and not read.
+    pub(crate) fn with_at(
+        &self,
+        alloc: Global,
+        place: usize,
+        entry: Entry,
+    ) -> Result<Row<P>, AllocError>
+        requires some { 0 < length self.now }
+        requires within { place ≤ length (flat_map P.content self.now) }
+        ensures length { IfOk result (λ row. length row ≤ length self.now + 1) }
+        ensures wider { IfOk result (λ row. length self.now ≤ length row) }
+        ensures full { IfOk result (λ row. IsFull P.width self.now → IsFull P.width row) }
+        ensures items { IfOk result (λ row. flat_map P.content row ≡
+            take place (flat_map P.content self.now) ++ entry ∷ drop place (flat_map P.content self.now)) }
+    {
+        let (index, own) = self.gap(place);
+        let grown = self.parts[index].with_at(alloc, own, entry)?;
+        self.renewed(alloc, index, grown)
+    }
+}
