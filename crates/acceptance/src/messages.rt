@@ -52,32 +52,35 @@ fn faults_of_items(rt: HostRuntime) -> Result<(), Fail> {
     Ok(())
 }
 
-/// So many marks.
-fn marks_of(rt: &impl Abort, alloc: Global, count: usize) -> Result<Marks, Fail> {
-    let mut marks: Vec<bool> = Vec::with_capacity(alloc, count)?;
-    for _ in 0..count {
-        marks.push(true)?;
-    }
+/// These marks.
+fn marks_of(rt: &impl Abort, alloc: Global, marks: &[bool]) -> Result<Marks, Fail> {
     assert!(rt; marks.len() < 4_294_967_296);
-    Ok(Marks::new(alloc, &marks)?)
+    Ok(Marks::new(alloc, marks)?)
 }
+
+/// One mark more than an Answer can have: a body has 11 bytes and a byte for each 8 marks.
+const TOO_MANY_MARKS: usize = 67_108_777;
 
 #[test]
 fn most_marks(rt: HostRuntime) -> Result<(), Fail> {
     let alloc = rt.alloc();
-    // A body of 11 bytes and a byte for each 8 marks.
-    let most = Part::<Fingerprint>::answer(
-        Range::whole(),
-        marks_of(&rt, alloc, 67_108_776)?,
-        Vec::new(alloc),
-    );
-    assert!(rt; most.is_ok());
+    let mut marks: Vec<bool> = Vec::with_capacity(alloc, TOO_MANY_MARKS)?;
+    for _ in 0..TOO_MANY_MARKS {
+        marks.push(true)?;
+    }
+    assert!(rt; marks.len() == TOO_MANY_MARKS);
     let more = Part::<Fingerprint>::answer(
         Range::whole(),
-        marks_of(&rt, alloc, 67_108_777)?,
+        marks_of(&rt, alloc, &marks)?,
         Vec::new(alloc),
     );
     assert_eq!(rt; more.err().map(PartFault::number), Some(2));
+    let most = Part::<Fingerprint>::answer(
+        Range::whole(),
+        marks_of(&rt, alloc, &marks[1..])?,
+        Vec::new(alloc),
+    );
+    assert!(rt; most.is_ok());
     Ok(())
 }
 
