@@ -138,7 +138,11 @@ impl Loop {
                 Accepting::More
             }
             Arrival::Gone => Accepting::More,
-            Arrival::Nobody => Accepting::Waits,
+            Arrival::Nobody => {
+                // the system looks for a descriptor before it looks for somebody
+                self.misses = 0;
+                Accepting::Waits
+            }
             Arrival::NoMore => Accepting::Done,
             Arrival::NoRoom => self.miss(site, desk),
         }

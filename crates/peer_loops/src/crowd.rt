@@ -224,6 +224,11 @@ impl<'a> Crowd<'a> {
         }
     }
 
+    /// The number of the loop that takes over a loop's peer of this key, if its messages are long.
+    pub(crate) fn taker_of(&self, key: usize) -> usize {
+        key.checked_rem(self.loops).unwrap_or(0)
+    }
+
     /// Whether the loop of this number runs.
     pub(crate) fn has_inlet(&self, index: usize) -> bool {
         self.inlets

@@ -78,16 +78,18 @@ impl Loop {
         match pause {
             StepPause::Opens => self.open(site, desk, key),
             StepPause::Over => self.let_go(site, desk, key, Parting::Over),
-            StepPause::More if self.is_long(key) => self.hand_over(site, desk, key),
+            StepPause::More if self.is_long(site, key) => self.hand_over(site, desk, key),
             StepPause::More => self.soon(site, desk, key),
-            StepPause::Waits if self.is_long(key) => self.hand_over(site, desk, key),
+            StepPause::Waits if self.is_long(site, key) => self.hand_over(site, desk, key),
             StepPause::Waits => {}
         }
     }
 
-    /// Whether another loop is to go on with this peer.
-    fn is_long(&self, key: usize) -> bool {
-        self.kind == Kind::Accepts && self.hub.get(key).is_some_and(|peer| peer.is_long())
+    /// Whether another loop is to go on with this peer, and runs. Else this loop goes on with it as with any other.
+    fn is_long<R, G>(&self, site: &Site<'_, R, G>, key: usize) -> bool {
+        self.kind == Kind::Accepts
+            && self.hub.get(key).is_some_and(|peer| peer.is_long())
+            && site.crowd.has_inlet(site.crowd.taker_of(key))
     }
 
     /// Notes that it goes on with this peer without waiting. Where memory runs out, the peer is let go.
@@ -174,7 +176,7 @@ impl Loop {
         true
     }
 
-    /// Hands this peer to a loop for those whose messages are long, if one runs.
+    /// Hands this peer to the loop for those whose messages are long.
     fn hand_over<R: Wait, G: PartGate>(
         &mut self,
         site: &Site<'_, R, G>,
@@ -183,11 +185,7 @@ impl Loop {
     )
         ensures shared { desk.new.shared ≡ desk.old.shared }
     {
-        let index = key.checked_rem(site.crowd.loops).unwrap_or(0);
-        if !site.crowd.has_inlet(index) {
-            self.soon(site, desk, key);
-            return;
-        }
+        let index = site.crowd.taker_of(key);
         let id = self.notes.id(key);
         let Some(peer) = self.hub.take(key) else {
             return;
