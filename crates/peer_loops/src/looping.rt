@@ -123,10 +123,7 @@ impl Loop {
         if !self.soon.is_empty() || self.accepting == Accepting::More {
             return 0;
         }
-        if !self.waiting.is_empty()
-            || !self.leavers.is_empty()
-            || self.accepting.has_no_room()
-        {
+        if !self.waiting.is_empty() || !self.leavers.is_empty() || self.accepting.has_no_room() {
             return PAUSE;
         }
         TICK
