@@ -16,7 +16,7 @@ use crate::sync::{Talk, converse};
 use item_core::Item;
 use item_files::WireProfile;
 use peer_threads::Outcome;
-use printing_core::{Fault, Refusal, Stats, refusal_of_session};
+use printing_core::{Fault, Refusal, Stats, learned_in};
 use shard_core::{
     Asked, ChoiceFault, DirectoryFault, SetName, Unequal, Which, asked_of, differing,
 };
@@ -102,11 +102,8 @@ fn told_of<'a>(
     asker: Asker<'a>,
     outcome: &Outcome,
 ) -> Result<Vec<Unequal>, Refusal<'a>> {
-    if let Outcome::Ended { learned, .. } = outcome {
-        return unequal_of(alloc, asker.set.bits, learned.ours(), learned.theirs());
-    }
-    match refusal_of_session(outcome) {
-        Ok(()) => Ok(Vec::new(alloc)),
+    match learned_in(outcome) {
+        Ok(learned) => unequal_of(alloc, asker.set.bits, learned.ours(), learned.theirs()),
         Err(fault) => Err(Refusal::of_session(asker.limits, fault)),
     }
 }
