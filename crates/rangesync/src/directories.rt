@@ -120,11 +120,7 @@ where
     R: Files + Net<Stream = TcpStream> + Wait + Clock + AllocGlobal,
 {
     let alloc = rt.alloc();
-    let patience = asker.limits.patience;
-    let stream = match connect_to(rt, address, patience) {
-        Ok(stream) => stream,
-        Err(fault) => return Err(Refusal::of_connect(address, fault, patience)),
-    };
+    let stream = connect_to(rt, address, asker.limits.patience)?;
     let log = Log::of_set(alloc, own.cap, own.entries)?;
     let talk = asker.talk(Which::Directory);
     let (outcome, stats) = converse(rt, alloc, own.accepted, log, talk, (&stream, &stream))?;

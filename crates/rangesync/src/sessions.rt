@@ -131,8 +131,8 @@ impl<'a> Batch<'a> {
         }
         match connect_to(rt, work.address, patience) {
             Ok(stream) => self.ready.push(Ready { work, stream })?,
-            Err(fault) => {
-                self.fault = Some(Refusal::of_connect(work.address, fault, patience));
+            Err(refusal) => {
+                self.fault = Some(refusal);
                 self.left.push(work.number)?;
             }
         }

@@ -179,12 +179,8 @@ where
         patience,
         most_bytes,
     } = asking.limits;
-    let address = asking.address;
     let file = create_file(rt, asking.out)?;
-    let stream = match connect_to(rt, address, patience) {
-        Ok(stream) => stream,
-        Err(fault) => return Err(Refusal::of_connect(address, fault, patience)),
-    };
+    let stream = connect_to(rt, asking.address, patience)?;
     let (outcome, stats) = ask(rt, loaded, asking, (&stream, &stream))?;
     let left = u64::from(most_bytes).saturating_sub(stats.received.bytes);
     finish(rt, &stream, left);
