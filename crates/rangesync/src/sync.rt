@@ -3,7 +3,7 @@
 ghost use Rattle.std.specs.Prelude.{◌≡◌, ◌≤◌};
 ghost use Rattle.std.specs.Arc.{arc_value};
 
-use crate::disk::create_file;
+use crate::disk::{create_file, print_to};
 use crate::loading::Loaded;
 use crate::metering::Metered;
 use crate::reaching::connect_to;
@@ -191,11 +191,5 @@ where
         Ok(text) => text,
         Err(fault) => return Err(Refusal::of_session(asking.limits, fault)),
     };
-    match file {
-        Some(file) => file.print(text.as_bytes()),
-        None => {
-            write_output(&mut Watched::new(out), text.as_bytes())?;
-            Ok(())
-        }
-    }
+    print_to(file, out, text.as_bytes())
 }

@@ -12,11 +12,10 @@ ghost use Rattle.shard_loading.specs.Sharded.{AreLogs};
 
 use crate::costs::Costs;
 use crate::directories::{Asker, Own, ask_directories, ask_whole};
-use crate::disk::{NewFile, create_file};
+use crate::disk::{create_file, print_to};
 use crate::loading_shards::LoadedShards;
 use crate::sessions::{Crew, Gathered, Work, run_sessions};
 use crate::sync::Asking;
-use io_core::{Watched, write_output};
 use item_files::ItemForm;
 use printing_core::{Fault, MergedCounts, Refusal, end_progress, merged_text, tell_undone};
 use shard_core::{Asked, Part, SetName, merge};
@@ -207,21 +206,6 @@ fn count_differing(bits: u8, asked: usize, parts: &[Part]) -> u32 {
     u32::try_from(differ).unwrap_or(u32::MAX)
 }
 
-/// Prints text to the file, or to the output where there is none.
-fn print<'a, O: Write + Drop>(
-    file: Option<NewFile<'a>>,
-    out: O,
-    text: &[u8],
-) -> Result<(), Refusal<'a>> {
-    match file {
-        Some(file) => file.print(text),
-        None => {
-            write_output(&mut Watched::new(out), text)?;
-            Ok(())
-        }
-    }
-}
-
 /// Says which shards were not done, if there are any. The refusal for that.
 fn ending<'a, E: Write>(
     alloc: Global,
@@ -288,6 +272,6 @@ where
         sent: costs.messages(),
     };
     let text = found_text(alloc, asking.asking.form, counts, &parts)?;
-    print(file, out, text.as_bytes())?;
+    print_to(file, out, text.as_bytes())?;
     ending(alloc, &undone, first, err)
 }
