@@ -138,9 +138,9 @@ fn unchosen<'a>(fault: ChoiceFault) -> Refusal<'a> {
     }
 }
 
-/// Asks each server for its directory. Which server is asked for which shard: each of ours that differs, of the one
-/// server that has it. Else as a session refuses, 57, 56 or 90.
-pub fn ask_directories<'a, R>(
+/// Which server is asked for which shard: where there are two shards or more each server is asked for its directory, and
+/// each of our shards that differs is asked for of the one server that has it. Else as a session refuses, 57, 56 or 90.
+pub fn choose<'a, R>(
     rt: &R,
     own: Own<'_>,
     asker: Asker<'a>,
@@ -149,9 +149,13 @@ pub fn ask_directories<'a, R>(
 ) -> Result<Vec<Asked>, Refusal<'a>>
 where
     R: Files + Net<Stream = TcpStream> + Wait + Clock + AllocGlobal,
+    requires { 0 < length addresses.now }
     ensures { IfOk result (λ v. AreBelow (length addresses.now) v.items) }
 {
     let alloc = rt.alloc();
+    if asker.set.bits == 0 {
+        return ask_whole(alloc, addresses);
+    }
     let mut directories = Vec::new(alloc);
     for address in addresses {
         directories.push(ask_directory(rt, own, asker, address, costs)?)?;
@@ -163,7 +167,7 @@ where
 }
 
 /// The one shard that is the whole set, of the only server. Else 56 or 90.
-pub fn ask_whole<'a>(alloc: Global, addresses: &[&str]) -> Result<Vec<Asked>, Refusal<'a>>
+fn ask_whole<'a>(alloc: Global, addresses: &[&str]) -> Result<Vec<Asked>, Refusal<'a>>
     requires { 0 < length addresses.now }
     ensures { IfOk result (λ v. AreBelow (length addresses.now) v.items) }
 {

@@ -11,7 +11,7 @@ ghost use Rattle.printing_core.specs.ShardTexts.{merged_text};
 ghost use Rattle.shard_loading.specs.Sharded.{AreLogs};
 
 use crate::costs::Costs;
-use crate::directories::{Asker, Own, ask_directories, ask_whole};
+use crate::directories::{Asker, Own, choose};
 use crate::disk::{create_file, print_to};
 use crate::loading_shards::LoadedShards;
 use crate::sessions::{Crew, Gathered, Work, run_sessions};
@@ -125,25 +125,6 @@ fn works_of<'a>(
         push_work(&mut works, accepted, address, log)?;
     }
     Ok(works)
-}
-
-/// Who is asked for which shard: the directories of the servers say it, where there are two shards or more.
-fn choose<'a, R>(
-    rt: &R,
-    own: Own<'_>,
-    asker: Asker<'a>,
-    addresses: &[&'a str],
-    costs: &mut Costs,
-) -> Result<Vec<Asked>, Refusal<'a>>
-where
-    R: Files + Net<Stream = TcpStream> + Wait + Clock + AllocGlobal,
-    requires { 0 < length addresses.now }
-    ensures { IfOk result (λ v. AreBelow (length addresses.now) v.items) }
-{
-    if asker.set.bits == 0 {
-        return ask_whole(rt.alloc(), addresses);
-    }
-    ask_directories(rt, own, asker, addresses, costs)
 }
 
 /// Asks for all shards that differ. How many these are; of the whole set, whether it is asked for.
