@@ -138,8 +138,9 @@ fn unchosen<'a>(fault: ChoiceFault) -> Refusal<'a> {
     }
 }
 
-/// Which server is asked for which shard: where there are two shards or more each server is asked for its directory, and
-/// each of our shards that differs is asked for of the one server that has it. Else as a session refuses, 57, 56 or 90.
+/// Which server is asked for which shard. Where there are two shards or more, each server is asked for its directory,
+/// and each of our shards that differs is asked for of the one server that has it. Else as a session refuses, 57, 56 or
+/// 90.
 pub fn choose<'a, R>(
     rt: &R,
     own: Own<'_>,
