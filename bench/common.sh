@@ -70,6 +70,12 @@ build_proved() {
     version_lock item_files settings_core
 }
 
+# Builds both.
+build_both() {
+  build_plain
+  build_proved
+}
+
 # Runs the proved program on these words in out/, from which it reads its files.
 run_proved() {
   (cd out && ./proved "$@")

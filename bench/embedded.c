@@ -4,6 +4,7 @@
  * with --wrap=malloc,--wrap=realloc,--wrap=free. */
 #define _GNU_SOURCE
 #include "rangesync.h"
+#include "wrapped.h"
 #include <malloc.h>
 #include <stdio.h>
 #include <stdlib.h>
@@ -12,13 +13,6 @@
 enum { ROUNDS = 21, OPENED = 1000, CALLS = 1000000 };
 
 /* ---- memory, as the C library gives it out */
-
-void *__real_malloc(size_t size);
-void *__real_realloc(void *old, size_t size);
-void __real_free(void *block);
-void *__wrap_malloc(size_t size);
-void *__wrap_realloc(void *old, size_t size);
-void __wrap_free(void *block);
 
 /* The bytes that are given out, and the most there were since this was set back. */
 static size_t held, most;

@@ -2,6 +2,7 @@
  * is linked with --wrap=malloc,--wrap=realloc,--wrap=free. Prints a line for each check that fails, and at the end
  * 'N passed, M failed'. */
 #include "rangesync.h"
+#include "wrapped.h"
 #include <stdio.h>
 #include <stdlib.h>
 #include <string.h>
@@ -124,13 +125,6 @@ static void other_kinds(rs_handle *handles[KINDS]) {
 }
 
 /* ---- memory that runs out */
-
-void *__real_malloc(size_t size);
-void *__real_realloc(void *old, size_t size);
-void __real_free(void *block);
-void *__wrap_malloc(size_t size);
-void *__wrap_realloc(void *old, size_t size);
-void __wrap_free(void *block);
 
 /* How many requests are served before one is refused; below 0 none is. */
 static long ahead = -1;

@@ -189,6 +189,17 @@ NUMBERS = itertools.count(1)
 
 
 ANY_PORT = "127.0.0.1:0"
+PORT = 7700
+"""Where `serve` listens and `sync` connects without --addr."""
+
+
+def port_is_free() -> bool:
+    """Whether nobody listens at the port that is taken without --addr."""
+    with contextlib.suppress(OSError), socket.socket() as one:
+        one.setsockopt(socket.SOL_SOCKET, socket.SO_REUSEADDR, 1)
+        one.bind(("127.0.0.1", PORT))
+        return True
+    return False
 
 
 class Server:

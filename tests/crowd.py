@@ -44,6 +44,19 @@ def descriptors(process: int) -> int:
     return len(os.listdir(wire.process_folder(process) / "fd"))
 
 
+def wrong_items(wanted: set[str], has: set[str], where: str) -> list[str]:
+    """What is lost there, and what nobody brought."""
+    lost, more = sorted(wanted - has), sorted(has - wanted)
+    return [f"not in {where}: {one}" for one in lost[:5]] + [f"in {where}, of nobody: {one}" for one in more[:5]]
+
+
+def shares(seconds: float, count: int) -> Iterator[str]:
+    """Waits these seconds in so many parts, and says after each how many are over."""
+    for share in range(1, count + 1):
+        time.sleep(seconds / count)
+        yield f"after {seconds * share / count:,.0f} s"
+
+
 @dataclass(frozen=True)
 class Served:
     """A server that runs: its process and its address."""

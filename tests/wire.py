@@ -7,6 +7,7 @@ from __future__ import annotations
 
 import bisect
 import contextlib
+import hashlib
 import os
 import socket
 from collections.abc import Sequence
@@ -25,6 +26,16 @@ row = [
   {upto = 65536, split = [1, 1, 1, 1, 1, 1, 1, 1, 1, 1, 1, 1, 1, 1, 1, 1, 1, 1, 1, 1, 1, 1, 1, 1, 1, 1, 1, 1, 1, 1, 1, 1]},
 ]
 """
+
+
+def set_in_files(folder: str, name: str, count: int) -> tuple[list[bytes], str, str]:
+    """So many items of 64 bytes, in order; the file of them, and that of TABLE, in the folder."""
+    os.makedirs(folder, exist_ok=True)
+    path, table = Path(folder, f"{name}.items"), Path(folder, f"{name}.toml")
+    items = sorted(hashlib.sha512(str(number).encode()).digest() for number in range(count))
+    path.write_text("".join(f"{item.hex()}\n" for item in items))
+    table.write_text(TABLE)
+    return items, str(path), str(table)
 
 
 def frame(body: bytes) -> bytes:

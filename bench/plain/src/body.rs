@@ -1,4 +1,4 @@
-//! What is read of the body of a frame.
+//! What is read of the body of a frame, and written.
 
 use crate::ranges::Range;
 use crate::refusal::Refusal;
@@ -81,4 +81,24 @@ impl<'a> Body<'a> {
     pub fn end<T>(self, value: T) -> Result<T, Refusal> {
         if self.rest.is_empty() { Ok(value) } else { Err(Refusal(11)) }
     }
+}
+
+/// Writes how many items these are, and each of them.
+pub fn write_items(items: &[Short], out: &mut Vec<u8>) {
+    out.extend_from_slice(&(items.len() as u32).to_be_bytes());
+    items.iter().for_each(|item| item.write(out));
+}
+
+/// Writes the body of a Sum.
+pub fn write_sum(range: &Range, sum: Sum, out: &mut Vec<u8>) {
+    out.push(1);
+    range.write(out);
+    sums::write(sum, out);
+}
+
+/// Writes the body of a List.
+pub fn write_list(range: &Range, items: &[Short], out: &mut Vec<u8>) {
+    out.push(2);
+    range.write(out);
+    write_items(items, out);
 }

@@ -1,10 +1,10 @@
 //! Messages of Sums and Lists, read and written.
 
-use plain::body::Body;
+use plain::body::{Body, write_list, write_sum};
 use plain::ranges::Range;
 use plain::refusal::Refusal;
 use plain::short::Short;
-use plain::sums::{self, Sum};
+use plain::sums::Sum;
 
 pub const MAX_BODY: usize = 8_388_608;
 pub const MAX_PARTS: usize = 131_072;
@@ -74,19 +74,8 @@ fn encode_part(part: &Part, out: &mut Vec<u8>) -> Result<(), Refusal> {
     out.reserve(4 + length);
     out.extend_from_slice(&(length as u32).to_be_bytes());
     match part {
-        Part::Sum(range, sum) => {
-            out.push(1);
-            range.write(out);
-            sums::write(*sum, out);
-        }
-        Part::List(range, items) => {
-            out.push(2);
-            range.write(out);
-            out.extend_from_slice(&(items.len() as u32).to_be_bytes());
-            for item in items {
-                item.write(out);
-            }
-        }
+        Part::Sum(range, sum) => write_sum(range, *sum, out),
+        Part::List(range, items) => write_list(range, items, out),
     }
     Ok(())
 }

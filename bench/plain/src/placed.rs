@@ -19,6 +19,14 @@ impl Part {
     }
 }
 
+/// The items of each List of these parts, in order.
+pub fn items_of_lists(parts: &[Part]) -> impl Iterator<Item = &Vec<Short>> {
+    parts.iter().filter_map(|part| match part {
+        Part::List(_, items) => Some(items),
+        _ => None,
+    })
+}
+
 /// What is still to come of a partition.
 type Step = Result<Option<Range>, Refusal>;
 

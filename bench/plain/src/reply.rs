@@ -1,7 +1,7 @@
 //! The responder's end of a session. Its set is a sorted vector with running sums, so the fingerprint of a range is one
 //! difference; it takes no item in.
 
-use plain::placed::{Part, place};
+use plain::placed::{Part, items_of_lists, place};
 use plain::ranges::Range;
 use plain::refusal::Refusal;
 use plain::short::Short;
@@ -65,10 +65,7 @@ struct End {
 impl End {
     fn learn(&self, message: &[Part]) -> (Vec<Short>, Vec<Short>) {
         let (mut ours, mut theirs) = (Vec::new(), Vec::new());
-        let mut lists = self.own.iter().filter_map(|part| match part {
-            Part::List(_, items) => Some(items),
-            _ => None,
-        });
+        let mut lists = items_of_lists(&self.own);
         for part in message {
             match part {
                 Part::Sum(..) => {}

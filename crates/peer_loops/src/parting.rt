@@ -27,6 +27,16 @@ use tcp_front::Half;
 /// The number of the refusal where memory runs out.
 const NO_MEMORY: u8 = 90;
 
+/// Ends the session in the table, and gives its place back.
+fn close_session<R: Wait, G: PartGate>(site: &Site<'_, R, G>, id: SessionId, outcome: &Outcome) {
+    let _closed = site
+        .shared
+        .sessions
+        .lock(site.rt)
+        .close(id, kind_of(outcome));
+    site.crowd.give_place_back();
+}
+
 /// Ends the session in the table, tells the gate how it ended, and puts in what was learned. Where the session never
 /// came into the table, nobody is told.
 fn conclude<R: Wait, G: PartGate>(
@@ -43,12 +53,7 @@ fn conclude<R: Wait, G: PartGate>(
         return;
     };
     let serial = id.serial();
-    let _closed = site
-        .shared
-        .sessions
-        .lock(site.rt)
-        .close(id, kind_of(outcome));
-    site.crowd.give_place_back();
+    close_session(site, id, outcome);
     site.shared.gate.ended(serial, outcome);
     if let Outcome::Ended { learned, .. } = outcome {
         desk.settle(site.rt, site.alloc, serial, learned);
@@ -67,12 +72,7 @@ fn conclude_part<R: Wait, G: PartGate>(
         return;
     };
     let serial = id.serial();
-    let _closed = site
-        .shared
-        .sessions
-        .lock(site.rt)
-        .close(id, kind_of(outcome));
-    site.crowd.give_place_back();
+    close_session(site, id, outcome);
     if let Some(which) = which {
         site.shared.gate.ended_in(serial, which, outcome);
         settle_part(site, shards, (which, serial), outcome);

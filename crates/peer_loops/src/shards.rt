@@ -140,7 +140,7 @@ impl Shards {
             return;
         };
         let left_out = put_learned(gate, alloc, &mut shard.lock(rt), serial, learned);
-        if !learned.theirs().is_empty() {
+        if left_out < learned.theirs().len() {
             *self.directory.lock(rt) = None;
         }
         gate.settled(serial, left_out);

@@ -27,7 +27,6 @@ abbrev pub unread_text : Unread → List ℕ
 unread_text unreads.Absent = codes "there is no such file"
 unread_text unreads.Forbidden = codes "this user may not read it"
 unread_text unreads.Folder = codes "this is a folder"
-unread_text unreads.NotAFile = codes "it is not a regular file"
 unread_text unreads.TooLong = codes "it has more than 16,777,216 bytes"
 unread_text unreads.TooLongForShards = codes "it has more than 16,777,216 bytes for each shard"
 unread_text unreads.NoLines = codes "it ends in 65,536 bytes without a line feed"

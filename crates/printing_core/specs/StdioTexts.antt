@@ -2,8 +2,10 @@
 --     peer_text f             what the peer did, or what failed of standard input and output
 --     peer_flaw fault most    what a refusal says of these, if it is about them; so many bytes may be read
 --     session_fault o         why a session did not end, if it did not
+--     session_learned o       what a session learned, if it ended
 use Rattle.std.specs.Prelude.{ℕ, List, ◌++◌, codes, ◌==◌, nat_lt, ◌&&◌, if◌then◌else◌, Option, Some, None}
 use Rattle.std.specs.Fmt.{decimal}
+use Rattle.definitions.specs.Talks.{Knowledge}
 use Rattle.outcome_core.specs.declared.outcome.Outcome.{Outcome}
 use Rattle.outcome_core.specs.declared.outcome.Outcome.TheVariants as outcomes
 use Rattle.printing_core.specs.Lines.{session_refusal_name}
@@ -45,3 +47,7 @@ session_fault (outcomes.Refused code sent) = Some (faults.Session code)
 session_fault (outcomes.PeerRefused code sent) = Some (faults.PeerRefused code)
 session_fault (outcomes.Io side sent) = Some (of_direction side)
 session_fault (outcomes.Memory sent) = Some faults.Memory
+
+abbrev pub session_learned : Outcome → Option Knowledge
+session_learned (outcomes.Ended learned sent version) = Some learned
+session_learned outcome = None

@@ -16,8 +16,6 @@ pub enum Unread {
     Forbidden,
     /// It is a folder.
     Folder,
-    /// It is a device, a pipe or something else.
-    NotAFile,
     /// It has more than 16,777,216 bytes.
     TooLong,
     /// It has more than 16,777,216 bytes for each shard.
@@ -57,7 +55,6 @@ impl fmt::Display for Unread {
             Unread::Absent => write!(f, "there is no such file"),
             Unread::Forbidden => write!(f, "this user may not read it"),
             Unread::Folder => write!(f, "this is a folder"),
-            Unread::NotAFile => write!(f, "it is not a regular file"),
             Unread::TooLong => write!(f, "it has more than 16,777,216 bytes"),
             Unread::TooLongForShards => {
                 write!(f, "it has more than 16,777,216 bytes for each shard")

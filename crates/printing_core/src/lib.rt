@@ -45,7 +45,7 @@ pub use shard_reports::shard_report_text;
 pub use shard_texts::{MergedCounts, merged_text, tell_undone, undone_text};
 pub use shown::shown_line;
 pub use stats::{Stats, Tally};
-pub use stdio::{PeerFlaw, refusal_of_session, tell_name_flaw, tell_stdio_flaw};
+pub use stdio::{PeerFlaw, learned_in, refusal_of_session, tell_name_flaw, tell_stdio_flaw};
 pub use told::{
     Cause, tell_full, tell_left_out, tell_left_waiting, tell_torn, tell_unwritten_cause,
     tell_written_again,

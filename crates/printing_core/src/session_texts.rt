@@ -7,10 +7,11 @@ ghost use Rattle.printing_core.specs.SessionTexts.{IsSyncOf};
 
 use crate::fault::Fault;
 use crate::item_text::push_item;
+use crate::reports::of_direction;
 use ends_core::Learned;
 use item_core::Item;
 use item_files::ItemForm;
-use outcome_core::{Direction, Outcome};
+use outcome_core::Outcome;
 use session_table::Totals;
 use std::alloc::{AllocError, Global};
 use store_core::spans::distinct;
@@ -135,10 +136,7 @@ pub fn outcome_text(alloc: Global, form: ItemForm, outcome: &Outcome) -> Result<
         }
         Outcome::Refused { code, .. } => Err(Fault::Session { code: *code }),
         Outcome::PeerRefused { code, .. } => Err(Fault::PeerRefused { code: *code }),
-        Outcome::Io { side, .. } => Err(match side {
-            Direction::Read => Fault::ReaderFailed,
-            Direction::Write => Fault::WriterFailed,
-        }),
+        Outcome::Io { side, .. } => Err(of_direction(*side)),
         Outcome::Memory { .. } => Err(Fault::Memory),
     }
 }

@@ -1,12 +1,15 @@
 //! What is said of a session over standard input and output.
 
-ghost use Rattle.std.specs.Prelude.{◌≡◌, Some};
+ghost use Rattle.std.specs.Prelude.{◌≡◌, Some, option_map};
+ghost use Rattle.std.specs.Result.{result_ok};
 ghost use Rattle.printing_core.specs.Endings.{fault_in};
-ghost use Rattle.printing_core.specs.StdioTexts.{peer_text, refused_for, peer_flaw, session_fault};
+ghost use Rattle.printing_core.specs.StdioTexts.{peer_text, refused_for, peer_flaw, session_fault, session_learned};
 
 use crate::fault::Fault;
 use crate::printed::session_refusal_name;
-use outcome_core::{Direction, Outcome};
+use crate::reports::of_direction;
+use ends_core::Learned;
+use outcome_core::Outcome;
 use settings_core::StdioFlaw;
 use std::fmt;
 use std::io::Write;
@@ -84,20 +87,26 @@ pub(crate) fn peer_flaw(fault: Fault, most_bytes: u32) -> Option<PeerFlaw>
     }
 }
 
+/// What a session learned, or why it did not end.
+pub fn learned_in(outcome: &Outcome) -> Result<&Learned, Fault>
+    ensures fault { fault_in result ≡ session_fault outcome.now }
+    ensures learned { option_map (λ learned. learned.now) (result_ok result) ≡ session_learned outcome.now }
+{
+    match outcome {
+        Outcome::Ended { learned, .. } => Ok(learned),
+        Outcome::Refused { code, .. } => Err(Fault::Session { code: *code }),
+        Outcome::PeerRefused { code, .. } => Err(Fault::PeerRefused { code: *code }),
+        Outcome::Io { side, .. } => Err(of_direction(*side)),
+        Outcome::Memory { .. } => Err(Fault::Memory),
+    }
+}
+
 /// Why a session did not end, if it did not.
 pub fn refusal_of_session(outcome: &Outcome) -> Result<(), Fault>
     ensures { fault_in result ≡ session_fault outcome.now }
 {
-    match outcome {
-        Outcome::Ended { .. } => Ok(()),
-        Outcome::Refused { code, .. } => Err(Fault::Session { code: *code }),
-        Outcome::PeerRefused { code, .. } => Err(Fault::PeerRefused { code: *code }),
-        Outcome::Io { side, .. } => match side {
-            Direction::Read => Err(Fault::ReaderFailed),
-            Direction::Write => Err(Fault::WriterFailed),
-        },
-        Outcome::Memory { .. } => Err(Fault::Memory),
-    }
+    learned_in(outcome)?;
+    Ok(())
 }
 
 /// The status of a call whose words ask for what is not done.

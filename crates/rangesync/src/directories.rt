@@ -16,7 +16,7 @@ use crate::sync::{Talk, converse};
 use item_core::Item;
 use item_files::WireProfile;
 use peer_threads::Outcome;
-use printing_core::{Fault, Refusal, Stats, refusal_of_session};
+use printing_core::{Fault, Refusal, Stats, learned_in};
 use shard_core::{
     Asked, ChoiceFault, DirectoryFault, SetName, Unequal, Which, asked_of, differing,
 };
@@ -102,11 +102,8 @@ fn told_of<'a>(
     asker: Asker<'a>,
     outcome: &Outcome,
 ) -> Result<Vec<Unequal>, Refusal<'a>> {
-    if let Outcome::Ended { learned, .. } = outcome {
-        return unequal_of(alloc, asker.set.bits, learned.ours(), learned.theirs());
-    }
-    match refusal_of_session(outcome) {
-        Ok(()) => Ok(Vec::new(alloc)),
+    match learned_in(outcome) {
+        Ok(learned) => unequal_of(alloc, asker.set.bits, learned.ours(), learned.theirs()),
         Err(fault) => Err(Refusal::of_session(asker.limits, fault)),
     }
 }
@@ -123,11 +120,7 @@ where
     R: Files + Net<Stream = TcpStream> + Wait + Clock + AllocGlobal,
 {
     let alloc = rt.alloc();
-    let patience = asker.limits.patience;
-    let stream = match connect_to(rt, address, patience) {
-        Ok(stream) => stream,
-        Err(fault) => return Err(Refusal::of_connect(address, fault, patience)),
-    };
+    let stream = connect_to(rt, address, asker.limits.patience)?;
     let log = Log::of_set(alloc, own.cap, own.entries)?;
     let talk = asker.talk(Which::Directory);
     let (outcome, stats) = converse(rt, alloc, own.accepted, log, talk, (&stream, &stream))?;
@@ -145,9 +138,10 @@ fn unchosen<'a>(fault: ChoiceFault) -> Refusal<'a> {
     }
 }
 
-/// Asks each server for its directory. Which server is asked for which shard: each of ours that differs, of the one
-/// server that has it. Else as a session refuses, 57, 56 or 90.
-pub fn ask_directories<'a, R>(
+/// Which server is asked for which shard. Where there are two shards or more, each server is asked for its directory,
+/// and each of our shards that differs is asked for of the one server that has it. Else as a session refuses, 57, 56 or
+/// 90.
+pub fn choose<'a, R>(
     rt: &R,
     own: Own<'_>,
     asker: Asker<'a>,
@@ -156,9 +150,13 @@ pub fn ask_directories<'a, R>(
 ) -> Result<Vec<Asked>, Refusal<'a>>
 where
     R: Files + Net<Stream = TcpStream> + Wait + Clock + AllocGlobal,
+    requires { 0 < length addresses.now }
     ensures { IfOk result (λ v. AreBelow (length addresses.now) v.items) }
 {
     let alloc = rt.alloc();
+    if asker.set.bits == 0 {
+        return ask_whole(alloc, addresses);
+    }
     let mut directories = Vec::new(alloc);
     for address in addresses {
         directories.push(ask_directory(rt, own, asker, address, costs)?)?;
@@ -170,7 +168,7 @@ where
 }
 
 /// The one shard that is the whole set, of the only server. Else 56 or 90.
-pub fn ask_whole<'a>(alloc: Global, addresses: &[&str]) -> Result<Vec<Asked>, Refusal<'a>>
+fn ask_whole<'a>(alloc: Global, addresses: &[&str]) -> Result<Vec<Asked>, Refusal<'a>>
     requires { 0 < length addresses.now }
     ensures { IfOk result (λ v. AreBelow (length addresses.now) v.items) }
 {

@@ -97,6 +97,21 @@ impl<'a> NewFile<'a> {
     }
 }
 
+/// Prints text to the file, or to the output where there is none. Else `io write`.
+pub fn print_to<'a, O: Write + Drop>(
+    file: Option<NewFile<'a>>,
+    out: O,
+    text: &[u8],
+) -> Result<(), Refusal<'a>> {
+    match file {
+        Some(file) => file.print(text),
+        None => {
+            write_output(&mut Watched::new(out), text)?;
+            Ok(())
+        }
+    }
+}
+
 /// Makes a file, or empties it if it is there, if a path is given. Else 80 or 90.
 pub fn create_file<'a, R: Files<File = File>>(
     rt: &R,

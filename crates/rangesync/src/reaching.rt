@@ -1,5 +1,6 @@
 //! Addresses as the words give them: over TCP, or a Unix socket.
 
+use printing_core::Refusal;
 use settings_core::{Address, address_of};
 use std::net::{Net, TcpListener, TcpStream};
 use std::rt::Files;
@@ -24,9 +25,8 @@ where
     }
 }
 
-/// Connects to the address of this word. A read or a write that takes longer than this many seconds fails, and so does
-/// a connect over TCP. Else 61 or 90.
-pub fn connect_to<R: Files + Net<Stream = TcpStream>>(
+/// Connects to the address of this word over TCP or to a Unix socket.
+fn connect_at<R: Files + Net<Stream = TcpStream>>(
     rt: &R,
     word: &str,
     patience: u32,
@@ -34,5 +34,18 @@ pub fn connect_to<R: Files + Net<Stream = TcpStream>>(
     match address_of(word) {
         Address::Tcp(address) => connect(rt, address, patience),
         Address::Unix(path) => connect_unix(rt, path, patience),
+    }
+}
+
+/// Connects to the address of this word. A read or a write that takes longer than this many seconds fails, and so does
+/// a connect over TCP. Else 61 or 90.
+pub fn connect_to<'a, R: Files + Net<Stream = TcpStream>>(
+    rt: &R,
+    word: &'a str,
+    patience: u32,
+) -> Result<Stream, Refusal<'a>> {
+    match connect_at(rt, word, patience) {
+        Ok(stream) => Ok(stream),
+        Err(fault) => Err(Refusal::of_connect(word, fault, patience)),
     }
 }

@@ -9,7 +9,8 @@ use line_file::Device;
 use peer_loops::PartGate;
 use peer_threads::{Gate, Outcome};
 use printing_core::{
-    Refusal, Reporting, learned_line, left_out_line, report_text, shard_report_text, tell_full,
+    Fault, Refusal, Reporting, learned_line, left_out_line, report_text, shard_report_text,
+    tell_full,
 };
 use shard_core::Which;
 use std::alloc::Global;
@@ -254,6 +255,17 @@ pub struct Closed {
     pub dropped: u64,
     /// Whether all that was to be written is written.
     pub is_written: bool,
+}
+
+impl Closed {
+    /// Refuses if lines are lost.
+    pub fn all_written(self) -> Result<(), Fault> {
+        if self.is_written {
+            Ok(())
+        } else {
+            Err(Fault::LinesLost)
+        }
+    }
 }
 
 /// A gate that lets every session go on, and writes what is asked for of each.

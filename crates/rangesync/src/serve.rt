@@ -336,11 +336,7 @@ where
 /// The refusal of a run whose workers ended so, and whose files were closed so.
 fn ending(report: Report, closed: Closed) -> Result<(), Fault> {
     refusal_of(report)?;
-    if closed.is_written {
-        Ok(())
-    } else {
-        Err(Fault::LinesLost)
-    }
+    closed.all_written()
 }
 
 /// These shards, as loops serve them.

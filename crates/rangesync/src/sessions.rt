@@ -8,8 +8,8 @@ use crate::directories::Asker;
 use crate::reaching::connect_to;
 use crate::sync::converse;
 use ends_core::Learned;
-use peer_threads::{Direction, Outcome};
-use printing_core::{Fault, Refusal, Stats, tell_progress, tell_stats};
+use peer_threads::Outcome;
+use printing_core::{Fault, Refusal, Stats, learned_in, tell_progress, tell_stats};
 use range_tree::Tree;
 use shard_core::{Part, Which};
 use std::alloc::{AllocError, Global};
@@ -67,16 +67,8 @@ fn learned_of(alloc: Global, number: u16, learned: &Learned) -> Result<Part, All
 
 /// What a session over a shard learned, if it ended.
 fn part_of(alloc: Global, number: u16, outcome: &Outcome) -> Result<Part, Fault> {
-    match outcome {
-        Outcome::Ended { learned, .. } => Ok(learned_of(alloc, number, learned)?),
-        Outcome::Refused { code, .. } => Err(Fault::Session { code: *code }),
-        Outcome::PeerRefused { code, .. } => Err(Fault::PeerRefused { code: *code }),
-        Outcome::Io { side, .. } => match side {
-            Direction::Read => Err(Fault::ReaderFailed),
-            Direction::Write => Err(Fault::WriterFailed),
-        },
-        Outcome::Memory { .. } => Err(Fault::Memory),
-    }
+    let learned = learned_in(outcome)?;
+    Ok(learned_of(alloc, number, learned)?)
 }
 
 /// Runs the session over a shard.
@@ -139,8 +131,8 @@ impl<'a> Batch<'a> {
         }
         match connect_to(rt, work.address, patience) {
             Ok(stream) => self.ready.push(Ready { work, stream })?,
-            Err(fault) => {
-                self.fault = Some(Refusal::of_connect(work.address, fault, patience));
+            Err(refusal) => {
+                self.fault = Some(refusal);
                 self.left.push(work.number)?;
             }
         }

@@ -263,11 +263,7 @@ fn log_answered<R: Clock + AllocGlobal, E: Write>(
 /// The refusal of a session that ended so, and whose files were closed so.
 fn ending(outcome: &Outcome, closed: Closed) -> Result<(), Fault> {
     refusal_of_session(outcome)?;
-    if closed.is_written {
-        Ok(())
-    } else {
-        Err(Fault::LinesLost)
-    }
+    closed.all_written()
 }
 
 /// Writes all of this to standard error. Else `io write`, of which there is nobody to tell more.

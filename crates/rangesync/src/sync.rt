@@ -3,7 +3,7 @@
 ghost use Rattle.std.specs.Prelude.{◌≡◌, ◌≤◌};
 ghost use Rattle.std.specs.Arc.{arc_value};
 
-use crate::disk::create_file;
+use crate::disk::{create_file, print_to};
 use crate::loading::Loaded;
 use crate::metering::Metered;
 use crate::reaching::connect_to;
@@ -179,12 +179,8 @@ where
         patience,
         most_bytes,
     } = asking.limits;
-    let address = asking.address;
     let file = create_file(rt, asking.out)?;
-    let stream = match connect_to(rt, address, patience) {
-        Ok(stream) => stream,
-        Err(fault) => return Err(Refusal::of_connect(address, fault, patience)),
-    };
+    let stream = connect_to(rt, asking.address, patience)?;
     let (outcome, stats) = ask(rt, loaded, asking, (&stream, &stream))?;
     let left = u64::from(most_bytes).saturating_sub(stats.received.bytes);
     finish(rt, &stream, left);
@@ -195,11 +191,5 @@ where
         Ok(text) => text,
         Err(fault) => return Err(Refusal::of_session(asking.limits, fault)),
     };
-    match file {
-        Some(file) => file.print(text.as_bytes()),
-        None => {
-            write_output(&mut Watched::new(out), text.as_bytes())?;
-            Ok(())
-        }
-    }
+    print_to(file, out, text.as_bytes())
 }

@@ -11,12 +11,11 @@ ghost use Rattle.printing_core.specs.ShardTexts.{merged_text};
 ghost use Rattle.shard_loading.specs.Sharded.{AreLogs};
 
 use crate::costs::Costs;
-use crate::directories::{Asker, Own, ask_directories, ask_whole};
-use crate::disk::{NewFile, create_file};
+use crate::directories::{Asker, Own, choose};
+use crate::disk::{create_file, print_to};
 use crate::loading_shards::LoadedShards;
 use crate::sessions::{Crew, Gathered, Work, run_sessions};
 use crate::sync::Asking;
-use io_core::{Watched, write_output};
 use item_files::ItemForm;
 use printing_core::{Fault, MergedCounts, Refusal, end_progress, merged_text, tell_undone};
 use shard_core::{Asked, Part, SetName, merge};
@@ -128,25 +127,6 @@ fn works_of<'a>(
     Ok(works)
 }
 
-/// Who is asked for which shard: the directories of the servers say it, where there are two shards or more.
-fn choose<'a, R>(
-    rt: &R,
-    own: Own<'_>,
-    asker: Asker<'a>,
-    addresses: &[&'a str],
-    costs: &mut Costs,
-) -> Result<Vec<Asked>, Refusal<'a>>
-where
-    R: Files + Net<Stream = TcpStream> + Wait + Clock + AllocGlobal,
-    requires { 0 < length addresses.now }
-    ensures { IfOk result (λ v. AreBelow (length addresses.now) v.items) }
-{
-    if asker.set.bits == 0 {
-        return ask_whole(rt.alloc(), addresses);
-    }
-    ask_directories(rt, own, asker, addresses, costs)
-}
-
 /// Asks for all shards that differ. How many these are; of the whole set, whether it is asked for.
 fn ask_all<'a, R, E: Write>(
     rt: &R,
@@ -205,21 +185,6 @@ fn count_differing(bits: u8, asked: usize, parts: &[Part]) -> u32 {
         asked
     };
     u32::try_from(differ).unwrap_or(u32::MAX)
-}
-
-/// Prints text to the file, or to the output where there is none.
-fn print<'a, O: Write + Drop>(
-    file: Option<NewFile<'a>>,
-    out: O,
-    text: &[u8],
-) -> Result<(), Refusal<'a>> {
-    match file {
-        Some(file) => file.print(text),
-        None => {
-            write_output(&mut Watched::new(out), text)?;
-            Ok(())
-        }
-    }
 }
 
 /// Says which shards were not done, if there are any. The refusal for that.
@@ -288,6 +253,6 @@ where
         sent: costs.messages(),
     };
     let text = found_text(alloc, asking.asking.form, counts, &parts)?;
-    print(file, out, text.as_bytes())?;
+    print_to(file, out, text.as_bytes())?;
     ending(alloc, &undone, first, err)
 }

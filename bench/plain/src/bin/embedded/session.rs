@@ -3,7 +3,7 @@
 use crate::set::Set;
 use crate::strategy::{Act, Strategy};
 use crate::wire::{read_body, write_part};
-use plain::placed::{Part, place};
+use plain::placed::{Part, items_of_lists, place};
 use plain::ranges::Range;
 use plain::refusal::Refusal;
 use plain::short::Short;
@@ -93,10 +93,7 @@ impl Session {
     }
 
     fn learn(&mut self, message: &[Part]) {
-        let mut lists = self.said.iter().filter_map(|part| match part {
-            Part::List(_, items) => Some(items),
-            _ => None,
-        });
+        let mut lists = items_of_lists(&self.said);
         for part in message {
             match part {
                 Part::Sum(..) => {}

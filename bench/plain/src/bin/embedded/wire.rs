@@ -1,30 +1,15 @@
 //! Parts, read and written.
 
-use plain::body::Body;
+use plain::body::{Body, write_items, write_list, write_sum};
 use plain::placed::Part;
 use plain::refusal::Refusal;
-use plain::short::Short;
-use plain::sums;
-
-fn write_items(items: &[Short], out: &mut Vec<u8>) {
-    out.extend_from_slice(&(items.len() as u32).to_be_bytes());
-    items.iter().for_each(|item| item.write(out));
-}
 
 pub fn write_part(part: &Part, out: &mut Vec<u8>) {
     let start = out.len();
     out.extend_from_slice(&[0; 4]);
     match part {
-        Part::Sum(range, sum) => {
-            out.push(1);
-            range.write(out);
-            sums::write(*sum, out);
-        }
-        Part::List(range, items) => {
-            out.push(2);
-            range.write(out);
-            write_items(items, out);
-        }
+        Part::Sum(range, sum) => write_sum(range, *sum, out),
+        Part::List(range, items) => write_list(range, items, out),
         Part::Answer(range, marks, items) => {
             out.push(3);
             range.write(out);
