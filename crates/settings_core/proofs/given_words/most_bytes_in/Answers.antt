@@ -1,0 +1,26 @@
+use Rattle.std.proofs.Common.{rules, arith, codes, subst, Some, None}
+use Rattle.clap.specs.Words.{found_of, one_of, rows_of}
+use Rattle.settings_core.specs.Spans.{IsByteCount}
+use Rattle.settings_core.proofs.Values.{kept, nothing, number_got, one_number}
+use Rattle.settings_core.proofs.given_words.most_bytes_in.Goals as goal
+
+pub returns-in_err-most_bytes : goal.returns-in_err-most_bytes
+returns-in_err-most_bytes c =
+    let got = number_got 32 (found_of c.args.matches.now) (codes "most-bytes") None c.in_err-most_bytes.ensures.none
+    c.in_err-most_bytes.ensures.value in
+    nothing _ c.from_residual.result (search rules) (λ n h. got n (omega (arith, h.1), h.0))
+
+pub returns : goal.returns
+returns c =
+    let got = number_got 32 (found_of c.args.matches.now) (codes "most-bytes") (Some c.in_ok-most_bytes.most_bytes)
+    c.in_ok-most_bytes.ensures.none
+    c.in_ok-most_bytes.ensures.value in
+    kept _ c.in_ok-most_bytes.most_bytes c.contains.result c.then_some.result c.then_some.ensures
+    (λ is. (got.1, search (rules, is)))
+    (λ is n h.
+    let same = one_number (one_of (codes "most-bytes") (rows_of (found_of c.args.matches.now)))
+    c.in_ok-most_bytes.most_bytes
+    (Some n) got.1 h.0 in
+    let in_span : IsByteCount c.in_ok-most_bytes.most_bytes = subst (λ o. Rattle.std.specs.Prelude.IfSome o IsByteCount)
+    same h.1 in
+    search (rules, is, in_span))
