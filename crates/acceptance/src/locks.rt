@@ -52,15 +52,31 @@ fn insert<R: Wait + Abort>(
     lock.insert(rt, alloc, seat, item(rt, bytes))
 }
 
-// A pin has one entry, the item x, and so has one by one try.
-fn pins_x<R: Wait + Abort>(rt: &R, alloc: Global, lock: &Lock, seat: &mut TreeSeat)
+// A pin has one entry, the item x.
+fn pins_by_waiting<R: Wait + Abort>(rt: &R, alloc: Global, lock: &Lock, seat: &mut TreeSeat)
     requires { seat.old.table_id ≡ lock.now }
     ensures { (seat.new.table_id ≡ lock.now) × (seat.new.view.writer ≡ seat.old.view.writer) }
 {
     let pin = lock.pin(rt, alloc, seat).ok().expect(rt, "a pin");
     assert!(rt; pin.version() == 1 && pin.store().has(&item(rt, b"x")));
-    let again = lock.try_pin(alloc, seat).ok().expect(rt, "one try");
-    assert!(rt; again.version() == 1 && again.into_store().len() == 1);
+}
+
+// A pin by one try has one entry.
+fn pins_by_one_try(rt: &impl Abort, alloc: Global, lock: &Lock, seat: &mut TreeSeat)
+    requires { seat.old.table_id ≡ lock.now }
+    ensures { (seat.new.table_id ≡ lock.now) × (seat.new.view.writer ≡ seat.old.view.writer) }
+{
+    let pin = lock.try_pin(alloc, seat).ok().expect(rt, "one try");
+    assert!(rt; pin.version() == 1 && pin.into_store().len() == 1);
+}
+
+// A pin has one entry, the item x, and so has one by one try.
+fn pins_x<R: Wait + Abort>(rt: &R, alloc: Global, lock: &Lock, seat: &mut TreeSeat)
+    requires { seat.old.table_id ≡ lock.now }
+    ensures { (seat.new.table_id ≡ lock.now) × (seat.new.view.writer ≡ seat.old.view.writer) }
+{
+    pins_by_waiting(rt, alloc, lock, seat);
+    pins_by_one_try(rt, alloc, lock, seat);
 }
 
 #[test]
