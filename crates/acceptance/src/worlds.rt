@@ -65,7 +65,9 @@ fn reads(rt: &impl Abort, alloc: Global, items: &[Item], text: &[u8]) -> bool {
 }
 
 fn learned(rt: &impl Abort, alloc: Global, lists: Lists<'_>, ours: &[u8], theirs: &[u8]) -> bool {
-    reads(rt, alloc, lists.ours, ours) && reads(rt, alloc, lists.theirs, theirs)
+    let own = lists.ours(alloc).ok().expect(rt, "memory");
+    let other = lists.theirs(alloc).ok().expect(rt, "memory");
+    reads(rt, alloc, &own, ours) && reads(rt, alloc, &other, theirs)
 }
 
 fn report<'b>(rt: &impl Abort, world: &'b World, session: usize) -> Report<'b> {

@@ -56,7 +56,7 @@ fn items_between(alloc: Global, first: u32, end: u32, size: usize) -> Result<Vec
 }
 
 /// The same as a set.
-#[tactic(auto, using(crate::proofs::Counts::set_few))]
+#[tactic(auto, using(definitions::proofs::Counts::set_few))]
 fn set_between(alloc: Global, first: u32, end: u32, size: usize) -> Result<Vec<Item>, AllocError>
     requires size { (4 ≤ size) × (size ≤ 64) }
     requires order { first ≤ end }

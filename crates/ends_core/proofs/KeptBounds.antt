@@ -7,88 +7,69 @@ use Rattle.definitions.specs.Items.{IsBytes, Item}
 use Rattle.definitions.specs.Sets.{IsSet}
 use Rattle.definitions.specs.Messages.{Message, RangesRise}
 use Rattle.definitions.specs.Ranks.{ranks_by, rank_by}
+use Rattle.definitions.specs.Replies.{Peer}
 use Rattle.definitions.specs.Wire.{Profile, IsMessage}
 use Rattle.definitions.specs.Ends.{Stage, Fresh, Waits, Over, Spent, is_over}
-use Rattle.definitions.specs.Engines.{initiating, responding, messages_in}
-use Rattle.definitions.specs.Theorems.{Ready, InitiatorStops, ResponderStops, EndsKeepLimits, InitiatorLearns}
-use Rattle.definitions.specs.Theorems.{ResponderLearns}
-use Rattle.laws.specs.Hearing.{OwnIsFew, OwnIsShort}
-use Rattle.codec_laws.specs.Parts.{HeardAreMessages}
+use Rattle.definitions.specs.Engines.{Speaker, initiating, responding, messages_in}
+use Rattle.definitions.specs.Theorems.{Ready, IsShort}
 use Rattle.strategy_check.specs.Checked.{Checked, IsChecked}
-use Rattle.ends_core.specs.Sides.{KeepsBounds, peer_of}
+use Rattle.ends_core.specs.Sides.{KeepsBounds, BoundLaws, peer_of, said_to, called_by, session_at, known_at}
 
-module _ {F : Type 0} (S : Summary F) (W : Profile F) where
-  abbrev pub HaveRanges : Type 0
-  HaveRanges = (M : Message F) → IsMessage W M → RangesRise M
+each-rises : {F : Type 0} (W : Profile F) (Ms : List (Message F)) →
+    ((M : Message F) → IsMessage W M → RangesRise M) → AllByRecursion (IsMessage W) Ms → AllByRecursion RangesRise Ms
+each-rises W [] law all = tt
+each-rises W (M ∷ Ms) law all = (law M all.0, each-rises W Ms law all.1)
 
-  abbrev pub ReadsRanks : Type 0
-  ReadsRanks = (steps : List ℕ) (cap n : ℕ) → n ≤ cap → slice_index (ranks_by steps cap) n ≡ rank_by steps n
+-- a session that is over was not refused
+not_spent : {F : Type 0} (s : Stage F) → IsTrue (is_over s) → s ≢ Spent
+not_spent Fresh over is = cc
+not_spent (Waits own) over is = cc
+not_spent Over over is = cc
+not_spent Spent over is = cc
 
-  each-rises : (Ms : List (Message F)) → HaveRanges → AllByRecursion (IsMessage W) Ms →
-      AllByRecursion RangesRise Ms
-  each-rises [] law all = tt
-  each-rises (M ∷ Ms) law all = (law M all.0, each-rises Ms law all.1)
+module _ {F : Type 0} (S : Summary F) (W : Profile F) (laws : BoundLaws S W) (a : Checked) (A : List Item)
+    (bytes : List ℕ) (checked : IsChecked a) (set : IsSet A) (are : IsBytes bytes) (room : length A ≤ a.table.cap) where
+  abbrev P : Peer
+  P = peer_of a A
+
+  abbrev f : List ℕ
+  f = ranks_by a.steps a.table.cap
+
+  abbrev Ms : List (Message F)
+  Ms = messages_in W bytes
+
+  ready : Ready P f
+  ready = record { ranks = checked.serving.ranks; set = set; room = room }
 
   -- the messages in bytes have ranges that rise
-  pub rise : (bytes : List ℕ) → HeardAreMessages W → HaveRanges → IsBytes bytes →
-      AllByRecursion RangesRise (messages_in W bytes)
-  rise bytes heard ranges are = each-rises (messages_in W bytes) ranges (heard bytes are)
+  rise : AllByRecursion RangesRise Ms
+  rise = each-rises W Ms laws.rise (laws.heard bytes are)
 
-  -- a session that is over was not refused
-  not_spent : (s : Stage F) → IsTrue (is_over s) → s ≢ Spent
-  not_spent Fresh over is = cc
-  not_spent (Waits own) over is = cc
-  not_spent Over over is = cc
-  not_spent Spent over is = cc
+  abbrev AreShort : List (Message F) → Type 0
+  AreShort Ns = AllByRecursion (AllByRecursion (IsShort a.table.limit)) Ns
 
-  pub ready : (a : Checked) (A : List Item) → IsChecked a → IsSet A → length A ≤ a.table.cap →
-      Ready (peer_of a A) (ranks_by a.steps a.table.cap)
-  ready a A checked set room = record { ranks = checked.serving.ranks; set = set; room = room }
-
-  pub first_keeps : (a : Checked) (A : List Item) (bytes : List ℕ) → IsChecked a → ReadsRanks →
-      HeardAreMessages W → HaveRanges → InitiatorStops S → EndsKeepLimits S →
-      InitiatorLearns S → OwnIsFew S → OwnIsShort S →
-      IsSet A → IsBytes bytes → length A ≤ a.table.cap →
-      KeepsBounds S W (initiating S (peer_of a A)) bytes (rank_by a.steps (length A) + 2) a.table.limit
-  first_keeps a A bytes checked read heard ranges stops limits learns own_few own_short set are room = record {
-    few = omega (
-      arith,
-      stops (peer_of a A) (ranks_by a.steps a.table.cap) (messages_in W bytes)
-          (ready a A checked set room) (rise bytes heard ranges are),
-      read a.steps a.table.cap (length A) room,
-    );
-    few_called = omega (
-      arith,
-      (own_few (peer_of a A) (ranks_by a.steps a.table.cap) (messages_in W bytes)
-          (ready a A checked set room) (rise bytes heard ranges are)).0,
-      read a.steps a.table.cap (length A) room,
-    );
-    short = (limits (peer_of a A) (messages_in W bytes) checked.is_table checked.accepted room).0;
-    short_called = (own_short (peer_of a A)
-        (messages_in W bytes) checked.is_table checked.accepted room).0;
-    learned = λ over. learns (peer_of a A) (messages_in W bytes) (not_spent _ over);
+  -- what the laws say of a side, read from the staircase
+  keeps : (s : Speaker F) (more : ℕ) → length (said_to S W s bytes) ≤ slice_index f (length A) + more →
+      length (called_by S W s bytes) ≤ slice_index f (length A) + more → AreShort (said_to S W s bytes) →
+      AreShort (called_by S W s bytes) →
+      ((session_at S W s bytes).stage ≢ Spent → (session_at S W s bytes).learned ≡ known_at S W s bytes) →
+      KeepsBounds S W s bytes (rank_by a.steps (length A) + more) a.table.limit
+  keeps s more few few_called short short_called learned = record {
+    few = omega (arith, few, laws.read a.steps a.table.cap (length A) room);
+    few_called = omega (arith, few_called, laws.read a.steps a.table.cap (length A) room);
+    short = short;
+    short_called = short_called;
+    learned = λ over. learned (not_spent _ over);
   }
 
-  pub second_keeps : (a : Checked) (A : List Item) (bytes : List ℕ) → IsChecked a → ReadsRanks →
-      HeardAreMessages W → HaveRanges → ResponderStops S → EndsKeepLimits S →
-      ResponderLearns S → OwnIsFew S → OwnIsShort S →
-      IsSet A → IsBytes bytes → length A ≤ a.table.cap →
-      KeepsBounds S W (responding (peer_of a A)) bytes (rank_by a.steps (length A) + 1) a.table.limit
-  second_keeps a A bytes checked read heard ranges stops limits learns own_few own_short set are room = record {
-    few = omega (
-      arith,
-      stops (peer_of a A) (ranks_by a.steps a.table.cap) (messages_in W bytes)
-          (ready a A checked set room) (rise bytes heard ranges are),
-      read a.steps a.table.cap (length A) room,
-    );
-    few_called = omega (
-      arith,
-      (own_few (peer_of a A) (ranks_by a.steps a.table.cap) (messages_in W bytes)
-          (ready a A checked set room) (rise bytes heard ranges are)).1,
-      read a.steps a.table.cap (length A) room,
-    );
-    short = (limits (peer_of a A) (messages_in W bytes) checked.is_table checked.accepted room).1;
-    short_called = (own_short (peer_of a A)
-        (messages_in W bytes) checked.is_table checked.accepted room).1;
-    learned = λ over. learns (peer_of a A) (messages_in W bytes) (not_spent _ over);
-  }
+  pub first_keeps : KeepsBounds S W (initiating S P) bytes (rank_by a.steps (length A) + 2) a.table.limit
+  first_keeps =
+      keeps (initiating S P) 2 (laws.first_stops P f Ms ready rise) (laws.few P f Ms ready rise).0
+      (laws.limits P Ms checked.is_table checked.accepted room).0
+      (laws.short P Ms checked.is_table checked.accepted room).0 (laws.first_learns P Ms)
+
+  pub second_keeps : KeepsBounds S W (responding P) bytes (rank_by a.steps (length A) + 1) a.table.limit
+  second_keeps =
+      keeps (responding P) 1 (laws.second_stops P f Ms ready rise) (laws.few P f Ms ready rise).1
+      (laws.limits P Ms checked.is_table checked.accepted room).1
+      (laws.short P Ms checked.is_table checked.accepted room).1 (laws.second_learns P Ms)

@@ -115,20 +115,29 @@ module _ (T : Table) (A : List Item) (X : Range) (from to : ℕ) (within : to �
   abbrev pub n : ℕ
   n = length (items_in A X)
 
-  pub span_count : length (span from to A) ≡ n
+  span_count : length (span from to A) ≡ n
   span_count = ap length at
 
-  pub place_count : to - from ≡ n
+  place_count : to - from ≡ n
   place_count = sym (length-span A from to within) ∙ span_count
 
   pub places_are : (m : ℕ) (ps : List ℕ) → m ≡ to - from → ps ≡ inner_cuts 0 (shares T m) →
       ps ≡ inner_cuts 0 (shares T n)
   places_are m ps same made = made ∙ ap (λ k. inner_cuts 0 (shares T k)) (same ∙ place_count)
 
-  pub places_within : (k : ℕ) (ps : List ℕ) → k ≡ n → ps ≡ inner_cuts 0 (shares T n) → IsCut n (shares T n) →
-      AllByRecursion (λ p. p < k) ps
-  places_within k ps same made cut =
+  places_within : (k m : ℕ) (ps : List ℕ) → k ≡ n → m ≡ to - from → ps ≡ inner_cuts 0 (shares T m) →
+      IsCut n (shares T n) → AllByRecursion (λ p. p < k) ps
+  places_within k m ps same count made cut =
       let total : 0 + sum (shares T n) ≡ k = omega (arith, cut.total) in
-      subst (λ qs. AllByRecursion (λ p. p < k) qs) (sym made)
-      (subst (λ m. AllByRecursion (λ p. p < m) (inner_cuts 0 (shares T n))) total
+      subst (λ qs. AllByRecursion (λ p. p < k) qs) (sym (places_are m ps count made))
+      (subst (λ q. AllByRecursion (λ p. p < q) (inner_cuts 0 (shares T n))) total
       (cuts_within 0 (shares T n) cut.positive))
+
+  -- they are below the number of the span's items, and below what it reaches over
+  pub within_items : (m : ℕ) (ps : List ℕ) → m ≡ to - from → ps ≡ inner_cuts 0 (shares T m) →
+      IsCut n (shares T n) → AllByRecursion (λ p. p < length (span from to A)) ps
+  within_items m ps = places_within (length (span from to A)) m ps span_count
+
+  pub within_reach : (m : ℕ) (ps : List ℕ) → m ≡ to - from → ps ≡ inner_cuts 0 (shares T m) →
+      IsCut n (shares T n) → AllByRecursion (λ p. p < to - from) ps
+  within_reach m ps = places_within (to - from) m ps place_count

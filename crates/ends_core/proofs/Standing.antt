@@ -33,46 +33,44 @@ abbrev pub ReadsRanks : Type 0
 ReadsRanks = (steps : List ℕ) (cap n : ℕ) → n ≤ cap → slice_index (ranks_by steps cap) n ≡ rank_by steps n
 
 -- either side
-pub sends_few : (side : Side) → most_of side ≤ 2
+sends_few : (side : Side) → most_of side ≤ 2
 sends_few Initiator = omega arith
 sends_few Responder = omega arith
 
 module _ {F : Type 0} (S : Summary F) (Q : Profile F) where
-  -- what the law says of an end with this start
-  abbrev pub IsFirm : (Peer → End F) → ℕ → Type 0
-  IsFirm start most = (P : Peer) (f : List ℕ) (Ms : List (Message F)) → Ready P f → AllByRecursion (AreParts Q) Ms →
-      StandsFirm P f most (heard S (start P) Ms)
-
-  pub keeps_firm : (side : Side) → EndsStandFirm S → IsFirm (start_of side S) (most_of side)
+  -- what the law says of either side
+  keeps_firm : (side : Side) → EndsStandFirm S → (P : Peer) (f : List ℕ) (Ms : List (Message F)) → Ready P f →
+      AllByRecursion (AreParts Q) Ms → StandsFirm P f (most_of side) (heard S (start_of side S P) Ms)
   keeps_firm Initiator law P f Ms r a = (law Q P f Ms r a).0
   keeps_firm Responder law P f Ms r a = (law Q P f Ms r a).1
 
-  pub firm : (start : Peer → End F) (most : ℕ) (h : EndState F) → IsFirm start most → Stands S Q start h →
-      StandsFirm h.end.peer (ranks_of h) most h.end
-  firm start most h law s =
-      subst (StandsFirm h.end.peer (ranks_of h) most) (sym s.came.2)
-      (law h.end.peer (ranks_of h) s.came.0 (record {
+  pub firm : (side : Side) (h : EndState F) → EndsStandFirm S → Stands S Q (start_of side S) h →
+      StandsFirm h.end.peer (ranks_of h) (most_of side) h.end
+  firm side h law s =
+      subst (StandsFirm h.end.peer (ranks_of h) (most_of side)) (sym s.came.2)
+      (keeps_firm side law h.end.peer (ranks_of h) s.came.0 (record {
         ranks = s.checked.serving.ranks;
         set = s.set;
         room = s.room;
       }) s.came.1)
 
-  pub few : (start : Peer → End F) (most : ℕ) (h : EndState F) → IsFirm start most → ReadsRanks → Stands S Q start h →
-      h.end.sent ≤ rank_by h.steps (length h.end.peer.items) + most
-  few start most h law read s =
-      omega (arith, (firm start most h law s).few, read h.steps h.end.peer.table.cap (length h.end.peer.items) s.room)
+  pub few : (side : Side) (h : EndState F) → EndsStandFirm S → ReadsRanks → Stands S Q (start_of side S) h →
+      h.end.sent ≤ rank_by h.steps (length h.end.peer.items) + most_of side
+  few side h law read s =
+      omega (arith, (firm side h law s).few, read h.steps h.end.peer.table.cap (length h.end.peer.items) s.room)
 
-  pub able : (start : Peer → End F) (most : ℕ) (h : EndState F) → IsFirm start most → Stands S Q start h → IsAble h
-  able start most h law s = record { checked = s.checked; room = s.room; apart = (firm start most h law s).apart }
+  pub able : (side : Side) (h : EndState F) → EndsStandFirm S → Stands S Q (start_of side S) h → IsAble h
+  able side h law s = record { checked = s.checked; room = s.room; apart = (firm side h law s).apart }
 
-  pub countable : (start : Peer → End F) (most : ℕ) (h : EndState F) → most ≤ 2 → IsFirm start most → ReadsRanks →
-      Stands S Q start h → h.end.sent < 4294967295
-  countable start most h small law read s =
+  pub countable : (side : Side) (h : EndState F) → EndsStandFirm S → ReadsRanks → Stands S Q (start_of side S) h →
+      h.end.sent < 4294967295
+  countable side h law read s =
       let n = length h.end.peer.items in
       let cap = h.end.peer.table.cap in
       omega (
         arith,
-        few start most h law read s,
+        few side h law read s,
+        sends_few side,
         s.checked.serving.ranks.rises n cap s.room
             (omega arith),
         read h.steps cap n s.room,

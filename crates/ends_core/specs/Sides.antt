@@ -5,17 +5,22 @@
 --     session_at s bytes             its end then
 --     known_at s bytes               what it learns from the messages that it takes, by what they say
 --     KeepsBounds s bytes bound limit       few messages of its own, short lists, and knowledge as told
-use Rattle.std.specs.Prelude.{◌≡◌, ℕ, ◌≤◌, List, [], ◌∷◌, length, IsTrue}
+--     BoundLaws                      the laws by which both sides do
+use Rattle.std.specs.Prelude.{◌≡◌, ℕ, ◌≤◌, List, [], ◌∷◌, length, slice_index, IsTrue}
 use Rattle.std.specs.List.{AllByRecursion}
 use Rattle.definitions.specs.Fingerprints.{Summary}
 use Rattle.definitions.specs.Items.{Item}
-use Rattle.definitions.specs.Messages.{Message}
+use Rattle.definitions.specs.Messages.{Message, RangesRise}
+use Rattle.definitions.specs.Ranks.{ranks_by, rank_by}
 use Rattle.definitions.specs.Replies.{Peer}
 use Rattle.definitions.specs.Talks.{Knowledge, knows}
-use Rattle.definitions.specs.Theorems.{IsShort}
-use Rattle.definitions.specs.Wire.{Profile}
+use Rattle.definitions.specs.Theorems.{IsShort, InitiatorStops, ResponderStops, EndsKeepLimits, InitiatorLearns}
+use Rattle.definitions.specs.Theorems.{ResponderLearns}
+use Rattle.definitions.specs.Wire.{Profile, IsMessage}
 use Rattle.definitions.specs.Ends.{End, Stage, Fresh, Waits, Over, Spent, is_over}
 use Rattle.definitions.specs.Engines.{Speaker, says, session, own, takes, messages_in}
+use Rattle.laws.specs.Hearing.{OwnIsFew, OwnIsShort}
+use Rattle.codec_laws.specs.Parts.{HeardAreMessages}
 use Rattle.strategy_check.specs.Checked.{Checked}
 
 abbrev pub peer_of : Checked → List Item → Peer
@@ -52,3 +57,15 @@ module _ {F : Type 0} (S : Summary F) (W : Profile F) where
     pub short : AllByRecursion (AllByRecursion (IsShort limit)) (said_to s bytes)
     pub short_called : AllByRecursion (AllByRecursion (IsShort limit)) (called_by s bytes)
     pub learned : IsTrue (is_over (session_at s bytes).stage) → (session_at s bytes).learned ≡ known_at s bytes
+
+  pub record BoundLaws : Type 0 where
+    pub heard : HeardAreMessages W
+    pub rise : (M : Message F) → IsMessage W M → RangesRise M
+    pub first_stops : InitiatorStops S
+    pub second_stops : ResponderStops S
+    pub limits : EndsKeepLimits S
+    pub first_learns : InitiatorLearns S
+    pub second_learns : ResponderLearns S
+    pub few : OwnIsFew S
+    pub short : OwnIsShort S
+    pub read : (steps : List ℕ) (cap n : ℕ) → n ≤ cap → slice_index (ranks_by steps cap) n ≡ rank_by steps n

@@ -5,10 +5,26 @@ ghost use Rattle.definitions.specs.Items.{Item, IsBytes};
 ghost use Rattle.definitions.specs.Sets.{IsSet};
 ghost use Rattle.definitions.specs.Ranks.{rank_by};
 ghost use Rattle.definitions.specs.Engines.{initiating, responding};
-ghost use Rattle.ends_core.specs.Sides.{KeepsBounds, peer_of};
+ghost use Rattle.ends_core.specs.Sides.{BoundLaws, KeepsBounds, peer_of};
 
 use digest_core::Summary;
 use strategy_check::Accepted;
+
+/// The laws by which both sides keep to their bounds.
+fn bound_laws<F: Summary>()
+    ensures { BoundLaws F.summary F.profile }
+{
+    codec_laws::heard_are_messages::<F>();
+    laws::messages_have_ranges::<F>();
+    laws::initiator_stops::<F>();
+    laws::responder_stops::<F>();
+    laws::ends_keep_limits::<F>();
+    laws::initiator_learns::<F>();
+    laws::responder_learns::<F>();
+    laws::own_is_few::<F>();
+    laws::own_is_short::<F>();
+    rank_laws::ranks_are_read();
+}
 
 /// A side that goes by an accepted strategy sends few messages and short lists, and learns just what the messages that
 /// it takes say, whatever the bytes are that it gets.
@@ -22,15 +38,6 @@ pub fn sides_keep_bounds<F: Summary>(accepted: &Accepted)
         KeepsBounds F.summary F.profile (responding (peer_of accepted.now items)) bytes
         (rank_by accepted.now.steps (length items) + 1) accepted.now.table.limit }
 {
-    codec_laws::heard_are_messages::<F>();
-    laws::messages_have_ranges::<F>();
-    laws::initiator_stops::<F>();
-    laws::responder_stops::<F>();
-    laws::ends_keep_limits::<F>();
-    laws::initiator_learns::<F>();
-    laws::responder_learns::<F>();
-    laws::own_is_few::<F>();
-    laws::own_is_short::<F>();
-    rank_laws::ranks_are_read();
+    bound_laws::<F>();
     let _ = accepted.cap(); // proof only: the strategy was checked
 }

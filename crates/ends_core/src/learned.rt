@@ -7,12 +7,14 @@ use item_core::Item;
 use std::alloc::{AllocError, Global};
 use std::marker::Model;
 use std::mem;
+use store_core::PackedItems;
 
-/// What a peer learned: own items that the other one lacks, and items of the other one that it lacks itself.
+/// What a peer learned: own items that the other one lacks, and items of the other one that it lacks itself. Both are
+/// kept packed, since the other one decides how many they are, and an item alone takes 65 bytes however short.
 #[derive(Debug, Drop)]
 pub struct Learned {
-    ours: Vec<Item>,
-    theirs: Vec<Item>,
+    ours: PackedItems,
+    theirs: PackedItems,
 }
 
 impl Model for Learned {
@@ -20,7 +22,7 @@ impl Model for Learned {
 
     ghost Value = { Knowledge };
 
-    ghost view = { λ a. record { ours = a.ours.items; theirs = a.theirs.items } };
+    ghost view = { λ a. record { ours = a.ours; theirs = a.theirs } };
 }
 
 impl Learned {
@@ -29,27 +31,27 @@ impl Learned {
         ensures { result ≡ nothing }
     {
         Learned {
-            ours: Vec::new(alloc),
-            theirs: Vec::new(alloc),
+            ours: PackedItems::new(alloc),
+            theirs: PackedItems::new(alloc),
         }
     }
 
     /// These items.
-    pub(crate) fn of(ours: Vec<Item>, theirs: Vec<Item>) -> Learned
-        ensures { result ≡ record { ours = ours.items; theirs = theirs.items } }
+    pub(crate) fn of(ours: PackedItems, theirs: PackedItems) -> Learned
+        ensures { result ≡ record { ours = ours; theirs = theirs } }
     {
         Learned { ours, theirs }
     }
 
     /// Own items that the other one lacks, in the order learned.
-    pub fn ours(&self) -> &[Item]
+    pub fn ours(&self) -> &PackedItems
         ensures { result.now ≡ self.now.ours }
     {
         &self.ours
     }
 
     /// Items of the other one that are lacked here, in the order learned.
-    pub fn theirs(&self) -> &[Item]
+    pub fn theirs(&self) -> &PackedItems
         ensures { result.now ≡ self.now.theirs }
     {
         &self.theirs
@@ -60,9 +62,15 @@ impl Learned {
         ensures ok { OnOk result (self.new ≡ and_then self.old later.now) }
         ensures err { OnErr result (self.new ≡ self.old) }
     {
-        self.ours.reserve(later.ours.len())?;
-        self.theirs.extend_from_slice(&later.theirs)?;
-        self.ours.extend_from_slice(&later.ours)
+        let theirs = self.theirs.len();
+        self.theirs.append(&later.theirs)?;
+        match self.ours.append(&later.ours) {
+            Ok(()) => Ok(()),
+            Err(AllocError) => {
+                self.theirs.truncate(theirs);
+                Err(AllocError)
+            }
+        }
     }
 
     /// Adds what was learned later, by moving it where nothing was learned before, so that it is not held twice. Both

@@ -10,7 +10,7 @@ use crate::learned::Learned;
 use digest_core::Summary;
 use item_core::{Item, is_listed};
 use std::alloc::{AllocError, Global};
-use store_core::RangeStore;
+use store_core::{PackedItems, RangeStore};
 use wire_core::{Marks, Part, PartKind};
 
 /// Appends the item where it is marked.
@@ -50,37 +50,36 @@ pub(crate) fn push_unlisted(
     Ok(())
 }
 
-/// Appends the listed items that the store lacks.
-fn push_lacked<S: RangeStore>(
-    theirs: &mut Vec<Item>,
+/// The listed items that the store lacks.
+fn lacked<S: RangeStore>(
+    alloc: Global,
     store: &S,
     listed: &[Item],
-) -> Result<(), AllocError>
-    ensures { OnOk result (theirs.new.items ≡ theirs.old.items ++ difference listed.now (S.content store.now)) }
+) -> Result<PackedItems, AllocError>
+    ensures { IfOk result (λ theirs. theirs ≡ difference listed.now (S.content store.now)) }
 {
+    let mut theirs = PackedItems::new(alloc);
     for item in listed {
         if !store.has(item) {
-            theirs.push(*item)?;
+            theirs.push(item)?;
         }
     }
-    Ok(())
+    Ok(theirs)
 }
 
-/// Appends what a part tells of items that the own peer lacks.
-fn push_theirs<S: RangeStore, F: Summary>(
-    theirs: &mut Vec<Item>,
+/// What a part tells of items that the own peer lacks, packed as soon as it is known.
+fn theirs_told<S: RangeStore, F: Summary>(
+    alloc: Global,
     store: &S,
     part: &Part<F>,
-) -> Result<(), AllocError>
-    ensures { OnOk result (theirs.new.items ≡ theirs.old.items ++ talks.theirs_by (S.content store.now) part.now) }
+) -> Result<PackedItems, AllocError>
+    ensures { IfOk result (λ theirs. theirs ≡ talks.theirs_by (S.content store.now) part.now) }
 {
-    let Some(items) = part.items() else {
-        return Ok(());
-    };
-    if part.kind() == PartKind::List {
-        return push_lacked(theirs, store, items);
+    match part.items() {
+        Some(items) if part.kind() == PartKind::List => lacked(alloc, store, items),
+        Some(items) => PackedItems::from_slice(alloc, items),
+        None => Ok(PackedItems::new(alloc)),
     }
-    theirs.extend_from_slice(items)
 }
 
 /// Appends what a part tells of items that the other peer lacks; an Answer answers this list.
@@ -113,8 +112,7 @@ pub(crate) fn learn_part<S: RangeStore, F: Summary>(
     ensures { IfOk result (λ k. k ≡ told (S.content store.now) listed.now part.now) }
 {
     let mut ours = Vec::new(alloc);
-    let mut theirs = Vec::new(alloc);
     push_ours(alloc, &mut ours, store, listed, part)?;
-    push_theirs(&mut theirs, store, part)?;
-    Ok(Learned::of(ours, theirs))
+    let ours = PackedItems::from_slice(alloc, &ours)?;
+    Ok(Learned::of(ours, theirs_told(alloc, store, part)?))
 }

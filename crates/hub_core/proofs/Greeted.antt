@@ -8,11 +8,12 @@ use Rattle.std.proofs.Common.{◌≡◌, ℕ, zero, suc, ◌+◌, ◌^◌, ◌<�
 use Rattle.std.proofs.Common.{take, drop}
 use Rattle.std.proofs.Common.{Option, Ok, Err, refl, sym, ap, ◌∙◌, subst, append_assoc, append-nil, arith}
 use Rattle.std.specs.Io.KnownBytes.{Consumes, Appends}
-use Rattle.std.proofs.KnownBytes.{Consumes-nil, Appends-nil, Consumes-trans, Appends-trans}
+use Rattle.std.proofs.KnownBytes.{Consumes-nil, Appends-nil, Appends-trans}
 use Rattle.std.proofs.lemmas.List.{take-append-le, length-take-le}
 use Rattle.std.proofs.Math.Seq.{take-add}
 use Rattle.link_core.specs.Links.{count_of}
 use Rattle.link_core.specs.declared.fault.LinkFault.{LinkFault}
+use Rattle.link_core.proofs.Moving.{reads-joined, counts-both}
 use Rattle.hub_core.specs.declared.step.Step.{Step}
 use Rattle.hub_core.specs.Greetings.{GreetingState, IsGreeting, Greets, own_hello, told}
 use Rattle.hub_core.specs.Steps.{GreetsSo, both_of}
@@ -91,11 +92,8 @@ pub greets-trans : (g h i : GreetingState) (unread mid left held half holds : Op
     Greets h i mid left half holds more tells lost →
     Greets g i unread left held holds (read ++ more) (said ++ tells) lost
 greets-trans g h i unread mid left held half holds read said more tells lost first second =
-    let front : Consumes unread mid read =
-    subst (λ (l : List ℕ). Consumes unread mid l) (append-nil read) first.consumed in
     record {
-      consumed = subst (λ (l : List ℕ). Consumes unread left l) (sym (append_assoc read more lost))
-          (Consumes-trans unread mid left read (more ++ lost) front second.consumed);
+      consumed = reads-joined unread mid left read more lost first.consumed second.consumed;
       appended = Appends-trans held half holds said tells first.appended second.appended;
       came = second.came ∙ ap (λ (l : List ℕ). l ++ more) first.came ∙ append_assoc g.came read more;
       writes = second.writes ∙ ap (λ (l : List ℕ). l ++ tells) first.writes ∙ append_assoc (told g) said tells;
@@ -105,21 +103,15 @@ pub GreetsSo-both : (s t : Step) (g h i : GreetingState) (unread mid left held h
     GreetsSo g h unread mid held half (Ok s) → GreetsSo h i mid left half holds (Ok t) →
     GreetsSo g i unread left held holds (Ok (both_of s t))
 GreetsSo-both s t g h i unread mid left held half holds (read, said, moves, reads, writes)
-    (more, tells, moves2, reads2, writes2) = (
-      read ++ more,
-      said ++ tells,
-      greets-trans g h i unread mid left held half holds read said more tells [] moves moves2,
-      omega (arith, reads, reads2, length-append read more),
-      omega (arith, writes, writes2, length-append said tells),
-    )
+    (more, tells, moves2, reads2, writes2) =
+    let both = greets-trans g h i unread mid left held half holds read said more tells [] moves moves2 in
+    let counts = counts-both _ _ _ _ read more said tells reads reads2 writes writes2 in
+    (read ++ more, said ++ tells, both, counts.0, counts.1)
 
 pub GreetsSo-failed : (s : Step) (f : LinkFault) (g h i : GreetingState)
     (unread mid left held half holds : Option (List ℕ)) → GreetsSo g h unread mid held half (Ok s) →
     GreetsSo h i mid left half holds (Err f) → GreetsSo g i unread left held holds (Err f)
 GreetsSo-failed s f g h i unread mid left held half holds (read, said, moves, reads, writes)
-    (more, tells, lost, moves2) = (
-      read ++ more,
-      said ++ tells,
-      lost,
-      greets-trans g h i unread mid left held half holds read said more tells lost moves moves2,
-    )
+    (more, tells, lost, moves2) =
+    let both = greets-trans g h i unread mid left held half holds read said more tells lost moves moves2 in
+    (read ++ more, said ++ tells, lost, both)

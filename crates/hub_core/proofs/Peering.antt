@@ -6,14 +6,15 @@ use Rattle.std.proofs.Common.{◌≡◌, ℕ, ◌+◌, false, List, [], ◌++◌
 use Rattle.std.proofs.Common.{refl, sym, ap, ◌∙◌, subst}
 use Rattle.std.specs.Box.{with_value}
 use Rattle.std.specs.declared.io.traits.Take.{Take}
-use Rattle.definitions.specs.Fingerprints.{Lanes, two_lanes, counted_lanes}
+use Rattle.definitions.specs.Fingerprints.{Lanes, Summary}
 use Rattle.definitions.specs.Fingerprints as prints
 use Rattle.definitions.specs.Ranks.{rank_by}
-use Rattle.definitions.specs.Wire.{two_lane_profile, counted_profile}
+use Rattle.definitions.specs.Replies.{Peer}
+use Rattle.definitions.specs.Wire.{Profile}
 use Rattle.definitions.specs.Engines.{responding}
 use Rattle.definitions.specs.Worlds.{Responder}
 use Rattle.ends_core.specs.Roles.{most_of}
-use Rattle.session_core.specs.Sessions.{SessionState}
+use Rattle.session_core.specs.Sessions.{SessionState, Knows}
 use Rattle.link_core.specs.Links.{Moves, MovesSo}
 use Rattle.link_core.specs.Polls.{Poll}
 use Rattle.link_core.specs.declared.polled.Last.TheVariants as lasts
@@ -21,7 +22,7 @@ use Rattle.link_core.specs.declared.fault.LinkFault.{LinkFault}
 use Rattle.link_core.specs.declared.pumped.Pumped.{Pumped}
 use Rattle.hub_core.specs.Greetings.{GreetingState, Greets}
 use Rattle.hub_core.specs.Steps.{GreetsSo, step_in}
-use Rattle.hub_core.specs.Peers.{Goes, GoesSo, PeerState, bound_in, fresh}
+use Rattle.hub_core.specs.Peers.{Goes, GoesSo, Knowing, PeerState, bound_in, fresh}
 use Rattle.hub_core.specs.declared.step.Step.{Step}
 use Rattle.hub_core.specs.declared.stage.Stage.{Stage}
 use Rattle.hub_core.specs.declared.stage.Stage.TheVariants as stages
@@ -58,65 +59,38 @@ greeting-goes (Ok s) old g h unread left held holds is (read, said, m, reads, wr
 greeting-goes (Err f) old g h unread left held holds is (read, said, lost, m) =
     rw is (read, said, lost, goes-greeting g h unread left held holds read said lost m)
 
-goes-plain : (c d : Box (SessionState Lanes) Global) (unread left held holds : Option (List ℕ))
-    (read said lost : List ℕ) →
-    Moves two_lanes two_lane_profile c.value d.value unread left held holds read said lost →
-    Goes (stages.Plain c) (stages.Plain d) unread left held holds read said lost
-goes-plain c d unread left held holds read said lost m = record {
-  consumed = m.consumed;
-  appended = m.appended;
-  knows = λ P pushed taken k. m.knows (responding P) pushed taken refl k;
-}
+-- a session in its box, in either profile, of which a stage says what is known of a responder
+module _ {F : Type 0} (S : Summary F) (W : Profile F) (at : Box (SessionState F) Global → Stage)
+    (known : (c d : Box (SessionState F) Global) (read said : List ℕ) → ((P : Peer) (pushed taken : List ℕ) →
+    Knows S W (responding P) c.value pushed taken →
+    Knows S W (responding P) d.value (pushed ++ read) (taken ++ said)) → (P : Peer) (pushed taken : List ℕ) →
+    Knowing P (at c) pushed taken → Knowing P (at d) (pushed ++ read) (taken ++ said)) where
+  goes-session : (c d : Box (SessionState F) Global) (unread left held holds : Option (List ℕ))
+      (read said lost : List ℕ) → Moves S W c.value d.value unread left held holds read said lost →
+      Goes (at c) (at d) unread left held holds read said lost
+  goes-session c d unread left held holds read said lost m = record {
+    consumed = m.consumed;
+    appended = m.appended;
+    knows = known c d read said (λ P pushed taken k. m.knows (responding P) pushed taken refl k);
+  }
 
-goes-counted : (c d : Box (SessionState prints.Counted) Global) (unread left held holds : Option (List ℕ))
-    (read said lost : List ℕ) →
-    Moves counted_lanes counted_profile c.value d.value unread left held holds read said lost →
-    Goes (stages.Counted c) (stages.Counted d) unread left held holds read said lost
-goes-counted c d unread left held holds read said lost m = record {
-  consumed = m.consumed;
-  appended = m.appended;
-  knows = λ P pushed taken k. m.knows (responding P) pushed taken refl k;
-}
+  session-so : (r : Result Pumped LinkFault) (c d : Box (SessionState F) Global)
+      (unread left held holds : Option (List ℕ)) → MovesSo S W c.value d.value unread left held holds r →
+      GoesSo (at c) (at d) unread left held holds (step_in r)
+  session-so (Ok p) c d unread left held holds (read, said, m, reads, writes) =
+      (read, said, goes-session c d unread left held holds read said [] m, reads, writes)
+  session-so (Err f) c d unread left held holds (read, said, lost, m) =
+      (read, said, lost, goes-session c d unread left held holds read said lost m)
 
-plain-so : (r : Result Pumped LinkFault) (c d : Box (SessionState Lanes) Global)
-    (unread left held holds : Option (List ℕ)) →
-    MovesSo two_lanes two_lane_profile c.value d.value unread left held holds r →
-    GoesSo (stages.Plain c) (stages.Plain d) unread left held holds (step_in r)
-plain-so (Ok p) c d unread left held holds (read, said, m, reads, writes) =
-    (read, said, goes-plain c d unread left held holds read said [] m, reads, writes)
-plain-so (Err f) c d unread left held holds (read, said, lost, m) =
-    (read, said, lost, goes-plain c d unread left held holds read said lost m)
-
-counted-so : (r : Result Pumped LinkFault) (c d : Box (SessionState prints.Counted) Global)
-    (unread left held holds : Option (List ℕ)) →
-    MovesSo counted_lanes counted_profile c.value d.value unread left held holds r →
-    GoesSo (stages.Counted c) (stages.Counted d) unread left held holds (step_in r)
-counted-so (Ok p) c d unread left held holds (read, said, m, reads, writes) =
-    (read, said, goes-counted c d unread left held holds read said [] m, reads, writes)
-counted-so (Err f) c d unread left held holds (read, said, lost, m) =
-    (read, said, lost, goes-counted c d unread left held holds read said lost m)
-
-pub plain-goes : (r : Result Pumped LinkFault) (t : Result Step LinkFault) (old : Stage)
-    (b : Box (SessionState Lanes) Global) (x y : SessionState Lanes) (unread left held holds : Option (List ℕ)) →
-    old ≡ stages.Plain b → x ≡ b.value → t ≡ step_in r →
-    MovesSo two_lanes two_lane_profile x y unread left held holds r →
-    GoesSo old (stages.Plain (with_value b y)) unread left held holds t
-plain-goes r t old b x y unread left held holds is same step m =
-    subst (λ u. GoesSo old (stages.Plain (with_value b y)) unread left held holds u) (sym step)
-    (subst (λ o. GoesSo o (stages.Plain (with_value b y)) unread left held holds (step_in r)) (sym is)
-    (plain-so r b (with_value b y) unread left held holds
-    (subst (λ z. MovesSo two_lanes two_lane_profile z y unread left held holds r) same m)))
-
-pub counted-goes : (r : Result Pumped LinkFault) (t : Result Step LinkFault) (old : Stage)
-    (b : Box (SessionState prints.Counted) Global) (x y : SessionState prints.Counted)
-    (unread left held holds : Option (List ℕ)) → old ≡ stages.Counted b → x ≡ b.value → t ≡ step_in r →
-    MovesSo counted_lanes counted_profile x y unread left held holds r →
-    GoesSo old (stages.Counted (with_value b y)) unread left held holds t
-counted-goes r t old b x y unread left held holds is same step m =
-    subst (λ u. GoesSo old (stages.Counted (with_value b y)) unread left held holds u) (sym step)
-    (subst (λ o. GoesSo o (stages.Counted (with_value b y)) unread left held holds (step_in r)) (sym is)
-    (counted-so r b (with_value b y) unread left held holds
-    (subst (λ z. MovesSo counted_lanes counted_profile z y unread left held holds r) same m)))
+  pub session-goes : (r : Result Pumped LinkFault) (t : Result Step LinkFault) (old : Stage)
+      (b : Box (SessionState F) Global) (x y : SessionState F) (unread left held holds : Option (List ℕ)) →
+      old ≡ at b → x ≡ b.value → t ≡ step_in r → MovesSo S W x y unread left held holds r →
+      GoesSo old (at (with_value b y)) unread left held holds t
+  session-goes r t old b x y unread left held holds is same step m =
+      subst (λ u. GoesSo old (at (with_value b y)) unread left held holds u) (sym step)
+      (subst (λ o. GoesSo o (at (with_value b y)) unread left held holds (step_in r)) (sym is)
+      (session-so r b (with_value b y) unread left held holds
+      (subst (λ z. MovesSo S W z y unread left held holds r) same m)))
 
 -- one that has just come
 pub fresh-made : {I O : Type 0} (way : Take I) (writer : O) (serial now : ℕ) (r : Poll (Take I)) (w : Poll O)

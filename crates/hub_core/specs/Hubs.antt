@@ -1,6 +1,7 @@
 -- The peers of a hub.
 --     HubState                     peers, each at its key, and their limits
 --     kept, silence                what is counted for a peer; how old its last byte is, as a number
+--     measured by p                one of the two
 --     held_by peers                what is counted for all peers
 --     OthersStay old new key       every other key has what it had
 --     is_late limits now p         whether its time is over
@@ -8,6 +9,8 @@ use Rattle.std.specs.Prelude.{◌≡◌, ◌≢◌, ◌||◌, ℕ, ◌-◌, ◌^
 use Rattle.slab.specs.Slab.{Slab, get}
 use Rattle.hub_core.specs.Peers.{PeerState, kept_in}
 use Rattle.hub_core.specs.Totals.{total}
+use Rattle.hub_core.specs.declared.best.Measure.{Measure}
+use Rattle.hub_core.specs.declared.best.Measure.TheVariants as measures
 use Rattle.hub_core.specs.declared.limits.HubLimits.{HubLimits}
 
 pub record HubState (I O : Type 0) : Type 0 where
@@ -23,6 +26,10 @@ held_by peers = total kept peers.slots
 -- the older its last byte, the greater
 abbrev pub silence : {I O : Type 0} → PeerState I O → ℕ
 silence p = 2 ^ 64 - 1 - p.heard
+
+abbrev pub measured : {I O : Type 0} → Measure → PeerState I O → ℕ
+measured measures.Kept p = kept p
+measured measures.Silence p = silence p
 
 abbrev pub OthersStay : {T : Type 0} → Slab T → Slab T → ℕ → Type 0
 OthersStay old new key = (other : ℕ) → other ≢ key → get new other ≡ get old other

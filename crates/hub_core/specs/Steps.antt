@@ -1,6 +1,6 @@
 -- What one call did.
---     both_of s t              two calls, one after the other
 --     pause_at last fault      how a read or a write leaves off
+--     both_of s t              two calls, one after the other
 --     pause_in, step_in        those of a session
 --     IsIdle, IsBusy, IsDone   a greeting that waits, that goes on soon, that asks for its session
 --     LeavesGreeting .. result why a greeting's call left off, and which way failed where one did
@@ -19,20 +19,17 @@ use Rattle.hub_core.specs.declared.step.StepPause.{StepPause}
 use Rattle.hub_core.specs.declared.step.StepPause.TheVariants as pauses
 use Rattle.hub_core.specs.declared.step.Step.{Step}
 
+abbrev pub pause_at : Last → LinkFault → Result StepPause LinkFault
+pause_at lasts.Waits fault = Ok pauses.Waits
+pause_at lasts.Failed fault = Err fault
+pause_at last fault = Ok pauses.More
+
 abbrev pub both_of : Step → Step → Step
 both_of s t = record {
   pause = t.pause;
   read = min (s.read + t.read) (2 ^ 64 - 1);
   written = min (s.written + t.written) (2 ^ 64 - 1);
 }
-
-abbrev pub pause_at : Last → LinkFault → Result StepPause LinkFault
-pause_at lasts.Unknown fault = Ok pauses.More
-pause_at lasts.Moved fault = Ok pauses.More
-pause_at lasts.Waits fault = Ok pauses.Waits
-pause_at lasts.Interrupted fault = Ok pauses.More
-pause_at lasts.Ended fault = Ok pauses.More
-pause_at lasts.Failed fault = Err fault
 
 abbrev pub GreetsSo : GreetingState → GreetingState → Option (List ℕ) → Option (List ℕ) → Option (List ℕ) →
     Option (List ℕ) → Result Step LinkFault → Type 0

@@ -3,6 +3,15 @@
 ghost use Rattle.std.specs.Prelude.{◌≡◌};
 ghost use Rattle.hub_core.specs.Totals.{better_of};
 
+/// By which number a peer is the most.
+#[derive(Clone, Copy)]
+pub(crate) enum Measure {
+    /// How much is kept of it.
+    Kept,
+    /// How old its last byte is.
+    Silence,
+}
+
 /// The first of the keys so far with the greatest number, where one more has this number.
 pub(crate) fn better(best: Option<(usize, u64)>, key: usize, number: u64) -> Option<(usize, u64)>
     ensures { result ≡ better_of best key number }

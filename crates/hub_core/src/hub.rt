@@ -12,7 +12,7 @@ ghost use Rattle.hub_core.specs.Hubs.{OthersStay, held_by, kept, silence};
 ghost use Rattle.hub_core.specs.Totals.{IsMost};
 ghost use Rattle.hub_core.specs.Peers.{CountsSo, GoesSo, LeavesOff, Opens};
 
-use crate::best::better;
+use crate::best::{Measure, better};
 use crate::limits::HubLimits;
 use crate::peer::Peer;
 use crate::step::Step;
@@ -50,6 +50,16 @@ fn is_late(limits: &HubLimits, now: u64, heard: u64, arrived: u64) -> bool
     ensures { result ≡ (nat_lt limits.now.idle (now - heard) || nat_lt limits.now.whole (now - arrived)) }
 {
     now.saturating_sub(heard) > limits.idle || now.saturating_sub(arrived) > limits.whole
+}
+
+/// The number of a peer by this measure.
+fn measured<I: Read, O: Write>(by: Measure, peer: &Peer<I, O>) -> u64
+    ensures { result ≡ hubs.measured by peer.now }
+{
+    match by {
+        Measure::Kept => peer.kept(),
+        Measure::Silence => u64::MAX - peer.heard(),
+    }
 }
 
 impl<I: Read, O: Write> Hub<I, O> {
@@ -198,17 +208,25 @@ impl<I: Read, O: Write> Hub<I, O> {
         Some(did)
     }
 
+    /// The peer that is the most by this measure.
+    fn greatest(&self, by: Measure) -> Option<usize>
+        ensures most { IfSome result (λ key. IsMost (hubs.measured by) self.now.peers key) }
+        ensures none { IfNone result ((key : ℕ) → get self.now.peers key ≡ None) }
+    {
+        let mut best = None;
+        for (key, peer) in self.peers.iter() {
+            best = better(best, key, measured(by, peer));
+        }
+        let (key, _) = best?;
+        Some(key)
+    }
+
     /// The peer of which most is kept.
     pub fn greediest(&self) -> Option<usize>
         ensures most { IfSome result (λ key. IsMost kept self.now.peers key) }
         ensures none { IfNone result ((key : ℕ) → get self.now.peers key ≡ None) }
     {
-        let mut best = None;
-        for (key, peer) in self.peers.iter() {
-            best = better(best, key, peer.kept());
-        }
-        let (key, _) = best?;
-        Some(key)
+        self.greatest(Measure::Kept)
     }
 
     /// The peer that has been silent for longest.
@@ -216,12 +234,7 @@ impl<I: Read, O: Write> Hub<I, O> {
         ensures most { IfSome result (λ key. IsMost silence self.now.peers key) }
         ensures none { IfNone result ((key : ℕ) → get self.now.peers key ≡ None) }
     {
-        let mut best = None;
-        for (key, peer) in self.peers.iter() {
-            best = better(best, key, u64::MAX - peer.heard());
-        }
-        let (key, _) = best?;
-        Some(key)
+        self.greatest(Measure::Silence)
     }
 
     /// A peer whose time is over: it was silent for longer than it may be, or it has been there for longer.

@@ -26,7 +26,7 @@ pub struct Short {
 
 impl Model for Short {
     ghost use Rattle.std.specs.Prelude.{◌≡◌, ℕ, ◌-◌, ◌≤◌, List, ◌++◌, length as len, take, replicate};
-    ghost use Rattle.std.proofs.Common.{sym, ap, ◌∙◌, arith, length-take-le};
+    ghost use Rattle.definitions.proofs.Padded.{padded_again};
     ghost use Rattle.definitions.specs.Items.{IsBytes};
 
     ghost Value = { List ℕ };
@@ -38,11 +38,8 @@ impl Model for Short {
 
     ghost inverse = { λ xs. record { bytes = xs ++ replicate (64 - len xs) 0; length = len xs } };
 
-    ghost inverse_ok = { λ a h i. record {
-      bytes = (ap (λ n. take a.length a.bytes ++ replicate (64 - n) 0)
-          (length-take-le a.length a.bytes (omega (arith, h.0, h.1))) ∙ sym h.2) i;
-      length = length-take-le a.length a.bytes (omega (arith, h.0, h.1)) i;
-    } };
+    ghost inverse_ok = { λ a h i. let again = padded_again 64 a.length a.bytes h.0 h.1 h.2 in
+        record { bytes = again.0 i; length = again.1 i } };
 }
 
 /// The bytes, and zeros up to 64.

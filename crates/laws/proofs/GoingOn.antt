@@ -71,7 +71,8 @@ module _ {F : Type 0} (S : Summary F) where
       hears S s events ≡ Goes_on e t → hears S s (events ++ event ∷ []) ≡ hear_now S e t event
   hears-next s events e t event at = fold-append (hear S) (begins s) events (event ∷ []) ∙ ap (λ h. hear S h event) at
 
-  stays : (h : Hearing F) (rest : List (Event F)) → has_stopped h ≡ true → fold (hear S) h rest ≡ h
+  -- a hearing that has stopped is the same, whatever comes
+  pub stays : (h : Hearing F) (rest : List (Event F)) → has_stopped h ≡ true → fold (hear S) h rest ≡ h
   stays h [] stopped = refl
   stays (Goes_on e t) (x ∷ rest) stopped = absurd cc
   stays (Over_at e) (x ∷ rest) stopped = stays (Over_at e) rest stopped

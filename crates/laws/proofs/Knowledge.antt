@@ -32,76 +32,87 @@ use Rattle.laws.proofs.Tallies.{NoneWhereSame-difference, reply-marked, reply-of
 abbrev following : {F : Type 0} → Summary F → Peer → Peer → Message F → ℕ → List (Message F)
 following S P Q M k = if has_open M then talk_from S Q P (reply S Q M) k else []
 
--- What the speaker learns after its message M, to which Ms follow, and what the hearer learns from M on.
-record Learns {F : Type 0} (x : Item) (A B : List Item) (M : Message F) (Ms : List (Message F)) : Type 0 where
-  speaker_ours : times x (knows A (of_first (M ∷ Ms)) (of_first Ms)).ours
-      ≡ tally (in_open x (times x (difference A B))) M
-  speaker_theirs : times x (knows A (of_first (M ∷ Ms)) (of_first Ms)).theirs
-      ≡ tally (in_open x (times x (difference B A))) M
-  hearer_ours : (sent : Message F) → times x (knows B (sent ∷ of_first Ms) (of_first (M ∷ Ms))).ours
-      ≡ tally (marked x sent) M + tally (in_open x (times x (difference B A))) M
-  hearer_theirs : (sent : Message F) → times x (knows B (sent ∷ of_first Ms) (of_first (M ∷ Ms))).theirs
-      ≡ tally (offered x) M + tally (in_open x (times x (difference A B))) M
+-- What the speaker learns after its message M, to which Ms follow, and what the hearer learns from M on: R of what is
+-- open, which is as much or at most as much.
+record Learns {F : Type 0} (R : ℕ → ℕ → Type 0) (x : Item) (A B : List Item) (M : Message F) (Ms : List (Message F)) :
+    Type 0 where
+  speaker_ours : R (times x (knows A (of_first (M ∷ Ms)) (of_first Ms)).ours)
+      (tally (in_open x (times x (difference A B))) M)
+  speaker_theirs : R (times x (knows A (of_first (M ∷ Ms)) (of_first Ms)).theirs)
+      (tally (in_open x (times x (difference B A))) M)
+  hearer_ours : (sent : Message F) → R (times x (knows B (sent ∷ of_first Ms) (of_first (M ∷ Ms))).ours)
+      (tally (marked x sent) M + tally (in_open x (times x (difference B A))) M)
+  hearer_theirs : (sent : Message F) → R (times x (knows B (sent ∷ of_first Ms) (of_first (M ∷ Ms))).theirs)
+      (tally (offered x) M + tally (in_open x (times x (difference A B))) M)
 
--- nothing is open, so nothing follows
-Learns-last : {F : Type 0} (S : Summary F) (x : Item) (A B : List Item) (M : Message F) →
-    AllByRecursion (IsHonest S A) M → has_open M ≡ false → Learns x A B M []
-Learns-last S x A B M honest closed =
-    let a : ℕ = times x (difference A B) in
-    let b : ℕ = times x (difference B A) in
-    record {
-      speaker_ours = sym (tally-no_open x a M closed);
-      speaker_theirs = sym (tally-no_open x b M closed);
-      hearer_ours = λ sent. omega (
-        arith,
-        times-append x (learn B sent M).ours [],
-        learn-ours S x B A sent M honest,
-        tally-in_open x b M,
-        tally-no_open x b M closed,
-      );
-      hearer_theirs = λ sent. omega (
-        arith,
-        times-append x (learn B sent M).theirs [],
-        learn-theirs S x B A sent M honest,
-        tally-in_open x a M,
-        tally-no_open x a M closed,
-      );
-    }
+-- what was said counts on as it is: what one speaker learns is what the other hears in the reply, and what a hearer
+-- learns is what M tells and what it learns as the next speaker
+record CountsOn (R : ℕ → ℕ → Type 0) : Type 0 where
+  speaks : (k m o l s t : ℕ) → R k (m + o) → m ≡ l → R o s → t ≡ s + l → R k t
+  hears : (k l n m i o s t : ℕ) → k ≡ l + n → l ≡ m + i → R n o → R o s → t ≡ s + i → R k (m + t)
+
+abbrev Exactly : ℕ → ℕ → Type 0
+Exactly m n = m ≡ n
+
+exactly : CountsOn Exactly
+exactly = record {
+  speaks = λ k m o l s t later in_reply opens all. omega (arith, later, in_reply, opens, all);
+  hears = λ k l n m i o s t parts here later opens all. omega (arith, parts, here, later, opens, all);
+}
+
+abbrev AtMost : ℕ → ℕ → Type 0
+AtMost m n = m ≤ n
+
+at_most : CountsOn AtMost
+at_most = record {
+  speaks = λ k m o l s t later in_reply opens all. omega (arith, later, in_reply, opens, all);
+  hears = λ k l n m i o s t parts here later opens all. omega (arith, parts, here, later, opens, all);
+}
+
+module _ {F : Type 0} (S : Summary F) (R : ℕ → ℕ → Type 0) (on : CountsOn R) (x : Item) where
+  -- nothing is learned of what is open, and nothing follows
+  Learns-last : (A B : List Item) (M : Message F) → AllByRecursion (IsHonest S A) M → R 0 0 →
+      ((n : ℕ) → R 0 (tally (in_open x n) M)) → ((n : ℕ) → R 0 (tally (in_sum x n) M)) → Learns R x A B M []
+  Learns-last A B M honest none opens sums =
+      let a : ℕ = times x (difference A B) in
+      let b : ℕ = times x (difference B A) in
+      record {
+        speaker_ours = opens a;
+        speaker_theirs = opens b;
+        hearer_ours = λ sent. on.hears _ _ _ _ _ _ _ _ (times-append x (learn B sent M).ours [])
+            (learn-ours S x B A sent M honest) none (sums b) (tally-in_open x b M);
+        hearer_theirs = λ sent. on.hears _ _ _ _ _ _ _ _ (times-append x (learn B sent M).theirs [])
+            (learn-theirs S x B A sent M honest) none (sums a) (tally-in_open x a M);
+      }
+
+  -- the reply N to M, and what is learned from N on
+  Learns-more : (P Q : Peer) (M : Message F) (Ms : List (Message F)) → AllByRecursion (IsHonest S P.items) M →
+      R (tally (in_open x (times x (difference P.items Q.items))) (reply S Q M))
+      (tally (in_sum x (times x (difference P.items Q.items))) M) →
+      R (tally (in_open x (times x (difference Q.items P.items))) (reply S Q M))
+      (tally (in_sum x (times x (difference Q.items P.items))) M) →
+      Learns R x Q.items P.items (reply S Q M) Ms → Learns R x P.items Q.items M (reply S Q M ∷ Ms)
+  Learns-more P Q M Ms honest open_a open_b later =
+      let a : ℕ = times x (difference P.items Q.items) in
+      let b : ℕ = times x (difference Q.items P.items) in
+      let known = knows Q.items (of_first (reply S Q M ∷ Ms)) (of_first Ms) in
+      record {
+        speaker_ours = on.speaks _ _ _ _ _ _ (later.hearer_ours M) (reply-marked S P Q x M honest) open_a
+            (tally-in_open x a M);
+        speaker_theirs = on.speaks _ _ _ _ _ _ (later.hearer_theirs M) (reply-offered S P Q x M honest) open_b
+            (tally-in_open x b M);
+        hearer_ours = λ sent. on.hears _ _ _ _ _ _ _ _ (times-append x (learn Q.items sent M).ours known.ours)
+            (learn-ours S x Q.items P.items sent M honest) later.speaker_ours open_b (tally-in_open x b M);
+        hearer_theirs = λ sent. on.hears _ _ _ _ _ _ _ _ (times-append x (learn Q.items sent M).theirs known.theirs)
+            (learn-theirs S x Q.items P.items sent M honest) later.speaker_theirs open_a (tally-in_open x a M);
+      }
+
+-- where nothing is open, there is no Sum
+no_sums : {F : Type 0} (x : Item) (n : ℕ) (M : Message F) → has_open M ≡ false → 0 ≡ tally (in_sum x n) M
+no_sums x n M closed = omega (arith, tally-in_open x n M, tally-no_open x n M closed)
 
 NoneWhereSame-flip : (x : Item) (A B : List Item) → NoneWhereSame x (times x (difference B A)) A B
 NoneWhereSame-flip x A B X e = NoneWhereSame-difference x B A X (sym e)
-
--- the reply N to M, and what is learned from N on
-Learns-more : {F : Type 0} (S : Summary F) (x : Item) (P Q : Peer) (M : Message F) (Ms : List (Message F)) → IsExact S →
-    IsSet Q.items →
-    AllByRecursion (IsHonest S P.items) M → AllByRecursion (IsClearAt S P.items Q.items) M →
-    Learns x Q.items P.items (reply S Q M) Ms → Learns x P.items Q.items M (reply S Q M ∷ Ms)
-Learns-more S x P Q M Ms exact set honest clear later =
-    let a : ℕ = times x (difference P.items Q.items) in
-    let b : ℕ = times x (difference Q.items P.items) in
-    let open_a = reply-in_open S P Q x a exact set (NoneWhereSame-difference x P.items Q.items) M honest clear in
-    let open_b = reply-in_open S P Q x b exact set (NoneWhereSame-flip x P.items Q.items) M honest clear in
-    record {
-      speaker_ours = omega (arith, later.hearer_ours M, reply-marked S P Q x M honest, open_a, tally-in_open x a M);
-      speaker_theirs =
-          omega (arith, later.hearer_theirs M, reply-offered S P Q x M honest, open_b, tally-in_open x b M);
-      hearer_ours = λ sent. omega (
-        arith,
-        times-append x (learn Q.items sent M).ours (knows Q.items (of_first (reply S Q M ∷ Ms)) (of_first Ms)).ours,
-        learn-ours S x Q.items P.items sent M honest,
-        later.speaker_ours,
-        open_b,
-        tally-in_open x b M,
-      );
-      hearer_theirs = λ sent. omega (
-        arith,
-        times-append x (learn Q.items sent M).theirs (knows Q.items (of_first (reply S Q M ∷ Ms)) (of_first Ms)).theirs,
-        learn-theirs S x Q.items P.items sent M honest,
-        later.speaker_theirs,
-        open_a,
-        tally-in_open x a M,
-      );
-    }
 
 IsClear-flip : {F : Type 0} (S : Summary F) (A B : List Item) (Ms : List (Message F)) → IsClear S A B Ms →
     IsClear S B A Ms
@@ -113,18 +124,21 @@ Learns-talk : {F : Type 0} (S : Summary F) (x : Item) → IsExact S → (k : ℕ
     IsSet P.items → IsSet Q.items →
     AllByRecursion (IsHonest S P.items) M → length (following S P Q M k) < k →
     IsClear S P.items Q.items (M ∷ following S P Q M k) →
-    Learns x P.items Q.items M (following S P Q M k)
+    Learns Exactly x P.items Q.items M (following S P Q M k)
 Learns-talk S x exact zero P Q M own other honest ended clear = absurd (omega arith)
 Learns-talk S x exact (suc k) P Q M own other honest ended clear =
     let N = reply S Q M in
     let either : (b : Bool) → has_open M ≡ b → length (if b then talk_from S Q P N (suc k) else []) < suc k →
-    IsClear S P.items Q.items (M ∷ (if b then talk_from S Q P N (suc k) else [])) → Learns x P.items Q.items M (if b
-    then talk_from S Q P N (suc k) else []) =
+    IsClear S P.items Q.items (M ∷ (if b then talk_from S Q P N (suc k) else [])) →
+    Learns Exactly x P.items Q.items M (if b then talk_from S Q P N (suc k) else []) =
     elim [
-      | true ↦ λ e ended clear. Learns-more S x P Q M (following S Q P N k) exact other honest clear.0
+      | true ↦ λ e ended clear. Learns-more S Exactly exactly x P Q M (following S Q P N k) honest
+          (reply-in_open S P Q x _ exact other (NoneWhereSame-difference x P.items Q.items) M honest clear.0)
+          (reply-in_open S P Q x _ exact other (NoneWhereSame-flip x P.items Q.items) M honest clear.0)
           (Learns-talk S x exact k Q P N other own (replies_are_honest S Q M) (omega arith)
           (IsClear-flip S P.items Q.items (N ∷ following S Q P N k) clear.1))
-      | false ↦ λ e ended clear. Learns-last S x P.items Q.items M honest e
+      | false ↦ λ e ended clear. Learns-last S Exactly exactly x P.items Q.items M honest refl
+          (λ n. sym (tally-no_open x n M e)) (λ n. no_sums x n M e)
     ] in
     either (has_open M) refl ended clear
 
@@ -142,7 +156,7 @@ pub exact_knowledge : {F : Type 0} (S : Summary F) → KnowledgeIsExact S
 exact_knowledge S exact I R zero left right ended clear = absurd (omega arith)
 exact_knowledge S exact I R (suc k) left right ended clear =
     let M = opening S I.items in
-    let learns : (x : Item) → Learns x I.items R.items M (following S I R M k) =
+    let learns : (x : Item) → Learns Exactly x I.items R.items M (following S I R M k) =
     λ x. Learns-talk S x exact k I R M left right (ap S.of (sym (items_in-whole I.items)), tt) (omega arith) clear in
     let all : (x : Item) (n : ℕ) → tally (in_open x n) M ≡ n =
     λ x n. omega (arith, ap (λ b. when b n) (contains-whole x)) in (
@@ -184,78 +198,24 @@ reply-in_open_le S Q x n set [] = omega arith
 reply-in_open_le S Q x n set (p ∷ ps) =
     grind (arith, reply-in_open_le S Q x n set ps, tally-append, reply_to-in_open_le)
 
--- as Learns of Talk, but at most
-record LearnsSome {F : Type 0} (x : Item) (A B : List Item) (M : Message F) (Ms : List (Message F)) : Type 0 where
-  speaker_ours : times x (knows A (of_first (M ∷ Ms)) (of_first Ms)).ours
-      ≤ tally (in_open x (times x (difference A B))) M
-  speaker_theirs : times x (knows A (of_first (M ∷ Ms)) (of_first Ms)).theirs
-      ≤ tally (in_open x (times x (difference B A))) M
-  hearer_ours : (sent : Message F) → times x (knows B (sent ∷ of_first Ms) (of_first (M ∷ Ms))).ours
-      ≤ tally (marked x sent) M + tally (in_open x (times x (difference B A))) M
-  hearer_theirs : (sent : Message F) → times x (knows B (sent ∷ of_first Ms) (of_first (M ∷ Ms))).theirs
-      ≤ tally (offered x) M + tally (in_open x (times x (difference A B))) M
+some-last : {F : Type 0} (S : Summary F) (x : Item) (A B : List Item) (M : Message F) →
+    AllByRecursion (IsHonest S A) M → Learns AtMost x A B M []
+some-last S x A B M honest =
+    Learns-last S AtMost at_most x A B M honest (omega arith) (λ n. omega arith) (λ n. omega arith)
 
-LearnsSome-last : {F : Type 0} (S : Summary F) (x : Item) (A B : List Item) (M : Message F) →
-    AllByRecursion (IsHonest S A) M → LearnsSome x A B M []
-LearnsSome-last S x A B M honest = record {
-  speaker_ours = omega arith;
-  speaker_theirs = omega arith;
-  hearer_ours = λ sent. omega (
-    arith,
-    times-append x (learn B sent M).ours [],
-    learn-ours S x B A sent M honest,
-    tally-in_open x (times x (difference B A)) M,
-  );
-  hearer_theirs = λ sent. omega (
-    arith,
-    times-append x (learn B sent M).theirs [],
-    learn-theirs S x B A sent M honest,
-    tally-in_open x (times x (difference A B)) M,
-  );
-}
-
-LearnsSome-more : {F : Type 0} (S : Summary F) (x : Item) (P Q : Peer) (M : Message F) (Ms : List (Message F)) →
-    IsSet Q.items →
-    AllByRecursion (IsHonest S P.items) M → LearnsSome x Q.items P.items (reply S Q M) Ms →
-    LearnsSome x P.items Q.items M (reply S Q M ∷ Ms)
-LearnsSome-more S x P Q M Ms set honest later =
-    let a : ℕ = times x (difference P.items Q.items) in
-    let b : ℕ = times x (difference Q.items P.items) in
-    let open_a = reply-in_open_le S Q x a set M in
-    let open_b = reply-in_open_le S Q x b set M in
-    record {
-      speaker_ours = omega (arith, later.hearer_ours M, reply-marked S P Q x M honest, open_a, tally-in_open x a M);
-      speaker_theirs =
-          omega (arith, later.hearer_theirs M, reply-offered S P Q x M honest, open_b, tally-in_open x b M);
-      hearer_ours = λ sent. omega (
-        arith,
-        times-append x (learn Q.items sent M).ours (knows Q.items (of_first (reply S Q M ∷ Ms)) (of_first Ms)).ours,
-        learn-ours S x Q.items P.items sent M honest,
-        later.speaker_ours,
-        open_b,
-        tally-in_open x b M,
-      );
-      hearer_theirs = λ sent. omega (
-        arith,
-        times-append x (learn Q.items sent M).theirs (knows Q.items (of_first (reply S Q M ∷ Ms)) (of_first Ms)).theirs,
-        learn-theirs S x Q.items P.items sent M honest,
-        later.speaker_theirs,
-        open_a,
-        tally-in_open x a M,
-      );
-    }
-
+-- as Learns-talk, but at most
 LearnsSome-talk : {F : Type 0} (S : Summary F) (x : Item) (k : ℕ) (P Q : Peer) (M : Message F) → IsSet P.items →
     IsSet Q.items → AllByRecursion (IsHonest S P.items) M →
-    LearnsSome x P.items Q.items M (if has_open M then talk_from S Q P (reply S Q M) k else [])
-LearnsSome-talk S x zero P Q M own other honest = grind (arith, LearnsSome-last S x P.items Q.items M honest)
+    Learns AtMost x P.items Q.items M (if has_open M then talk_from S Q P (reply S Q M) k else [])
+LearnsSome-talk S x zero P Q M own other honest = grind (arith, some-last S x P.items Q.items M honest)
 LearnsSome-talk S x (suc k) P Q M own other honest =
-    let more = LearnsSome-more S x P Q M _ other honest
+    let more = Learns-more S AtMost at_most x P Q M _ honest (reply-in_open_le S Q x _ other M)
+    (reply-in_open_le S Q x _ other M)
     (LearnsSome-talk S x k Q P (reply S Q M) other own (replies_are_honest S Q M)) in
     elim (has_open M)
-    as (λ b. LearnsSome x P.items Q.items M (if b then talk_from S Q P (reply S Q M) (suc k) else [])) [
+    as (λ b. Learns AtMost x P.items Q.items M (if b then talk_from S Q P (reply S Q M) (suc k) else [])) [
       | true ↦ more
-      | false ↦ LearnsSome-last S x P.items Q.items M honest
+      | false ↦ some-last S x P.items Q.items M honest
     ]
 
 pub sound_knowledge : {F : Type 0} (S : Summary F) → KnowledgeIsSound S
@@ -266,7 +226,7 @@ sound_knowledge S I R zero left right =
 sound_knowledge S I R (suc k) left right =
     let M = opening S I.items in
     let Ms = talk_from S R I (reply S R M) k in
-    let learns : (x : Item) → LearnsSome x I.items R.items M Ms =
+    let learns : (x : Item) → Learns AtMost x I.items R.items M Ms =
     λ x. LearnsSome-talk S x k I R M left right (ap S.of (sym (items_in-whole I.items)), tt) in
     let all : (x : Item) (n : ℕ) → tally (in_open x n) M ≡ n =
     λ x n. omega (arith, ap (λ b. when b n) (contains-whole x)) in (

@@ -7,7 +7,7 @@ use digest_core::{Fingerprint, Summary};
 use item_core::{Item, Lower, Range, Upper};
 use std::alloc::Global;
 use std::process::Abort;
-use store_core::{FlatStore, Insertion, RangeStore, Span};
+use store_core::{FlatStore, Insertion, PackedItems, RangeStore, Span};
 
 // What generic code learns of any store.
 
@@ -99,4 +99,24 @@ fn items_given_twice(rt: HostRuntime) {
     let store = FlatStore::from_items(rt.alloc(), items).expect(&rt, "memory");
     assert!(rt; store.count(&Range::whole()) == 2);
     assert!(rt; store.nth(&Range::whole(), 0) == item(&rt, b"a"));
+}
+
+// Items that are kept packed, call by call: pushed, put after others, cut, read and copied.
+#[test]
+fn packed_items(rt: HostRuntime) {
+    let rt = &rt;
+    let alloc = rt.alloc();
+    let (b, a) = (item(rt, b"bcd"), item(rt, b"a"));
+    let mut packed = PackedItems::with_room(alloc, 2, 4).expect(rt, "memory");
+    assert!(rt; packed.is_empty() && packed.get(0).is_none());
+    packed.push(&b).expect(rt, "memory");
+    packed.push(&a).expect(rt, "memory");
+    let others = PackedItems::from_slice(alloc, &[a]).expect(rt, "memory");
+    packed.append(&others).expect(rt, "memory");
+    assert!(rt; packed.len() == 3 && packed.get(0) == Some(b) && packed.get(2) == Some(a));
+    let copy = packed.copy(alloc).expect(rt, "memory");
+    packed.truncate(1);
+    let left = packed.to_vec(alloc).expect(rt, "memory");
+    assert!(rt; left.len() == 1 && left[0] == b && packed.get(1).is_none());
+    assert!(rt; copy.len() == 3 && copy.get(1) == Some(a));
 }

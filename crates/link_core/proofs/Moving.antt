@@ -5,8 +5,8 @@
 -- first ends, make one: the bytes are joined, on the reader's side, on the writer's side, and in what is known of the
 -- session. Counts that stop at the greatest number join too. Why a call left off speaks of its end alone, so it is that
 -- of the last read or write.
-use Rattle.std.proofs.Common.{◌≡◌, ℕ, ◌≤◌, ◌<◌, true, false, List, [], ◌++◌, length, length-append, take, drop}
-use Rattle.std.proofs.Common.{min, length-take-le, ◌^◌}
+use Rattle.std.proofs.Common.{◌≡◌, ℕ, ◌+◌, ◌-◌, ◌≤◌, ◌<◌, true, false, List, [], ◌++◌, length, take, drop}
+use Rattle.std.proofs.Common.{min, length-append, length-take-le, ◌^◌}
 use Rattle.std.proofs.Common.{Option, Result, Ok, Err, inl, inr}
 use Rattle.std.proofs.Common.{sym, ap, ◌∙◌, subst, append_assoc, append-nil, arith}
 use Rattle.std.specs.Io.KnownBytes.{Consumes, Appends}
@@ -18,6 +18,7 @@ use Rattle.definitions.specs.Wire.{Profile}
 use Rattle.definitions.specs.Ends.{is_live}
 use Rattle.definitions.specs.Engines.{Speaker}
 use Rattle.session_core.specs.Sessions.{SessionState, Knows, Goes, GoesOn, Pushes, Takes, is_open}
+use Rattle.session_core.proofs.Calls.{knows-same, knows-joined}
 use Rattle.link_core.specs.declared.fault.LinkFault.{LinkFault}
 use Rattle.link_core.specs.declared.polled.Last.{Last}
 use Rattle.link_core.specs.declared.pumped.Pause.{Pause}
@@ -25,15 +26,25 @@ use Rattle.link_core.specs.declared.pumped.Pause.TheVariants as pauses
 use Rattle.link_core.specs.declared.pumped.Pumped.{Pumped}
 use Rattle.link_core.specs.Links.{Moves, MovesSo, Stands, StandsAt, both_of, count_of}
 
+-- what two calls read, of which the first lost nothing
+pub reads-joined : (unread mid left : Option (List ℕ)) (read more lost : List ℕ) → Consumes unread mid (read ++ []) →
+    Consumes mid left (more ++ lost) → Consumes unread left ((read ++ more) ++ lost)
+reads-joined unread mid left read more lost first second =
+    subst (λ (l : List ℕ). Consumes unread left l) (sym (append_assoc read more lost))
+    (Consumes-trans unread mid left read (more ++ lost)
+    (subst (λ (l : List ℕ). Consumes unread mid l) (append-nil read) first) second)
+
+-- what two calls read and wrote is counted together
+pub counts-both : (n m k l : ℕ) (read more said tells : List ℕ) → n ≡ count_of read → m ≡ count_of more →
+    k ≡ count_of said → l ≡ count_of tells → (min (n + m) (2 ^ 64 - 1) ≡ count_of (read ++ more))
+    × (min (k + l) (2 ^ 64 - 1) ≡ count_of (said ++ tells))
+counts-both n m k l read more said tells reads reads2 writes writes2 = (
+  omega (arith, reads, reads2, length-append read more),
+  omega (arith, writes, writes2, length-append said tells),
+)
+
 module _ {F : Type 0} (S : Summary F) (W : Profile F) where
   -- ---- one call
-
-  -- nothing was pushed or taken
-  knows-same : (c : SessionState F) (s : Speaker F) (pushed taken : List ℕ) →
-      Knows S W s c pushed taken → Knows S W s c (pushed ++ []) (taken ++ [])
-  knows-same c s pushed taken k =
-      subst (λ (l : List ℕ). Knows S W s c l (taken ++ [])) (sym (append-nil pushed))
-      (subst (λ (l : List ℕ). Knows S W s c pushed l) (sym (append-nil taken)) k)
 
   -- bytes were lost, if any were read
   pub Moves-lost : (c : SessionState F) (unread left held : Option (List ℕ)) (lost : List ℕ) →
@@ -41,7 +52,7 @@ module _ {F : Type 0} (S : Summary F) (W : Profile F) where
   Moves-lost c unread left held lost consumed = record {
     consumed = consumed;
     appended = Appends-nil held;
-    knows = λ s pushed taken live k. knows-same c s pushed taken k;
+    knows = λ s pushed taken live k. knows-same S W s c pushed taken k;
   }
 
   pub Moves-none : (c : SessionState F) (unread held : Option (List ℕ)) →
@@ -173,16 +184,12 @@ module _ {F : Type 0} (S : Summary F) (W : Profile F) where
       Moves S W d e mid left half holds more tells lost →
       Moves S W c e unread left held holds (read ++ more) (said ++ tells) lost
   Moves-trans c d e unread mid left held half holds read said more tells lost first second =
-      let front : Consumes unread mid read =
-      subst (λ (l : List ℕ). Consumes unread mid l) (append-nil read) first.consumed in
       record {
-        consumed = subst (λ (l : List ℕ). Consumes unread left l) (sym (append_assoc read more lost))
-            (Consumes-trans unread mid left read (more ++ lost) front second.consumed);
+        consumed = reads-joined unread mid left read more lost first.consumed second.consumed;
         appended = Appends-trans held half holds said tells first.appended second.appended;
         knows = λ s pushed taken live k.
-            let after = second.knows s (pushed ++ read) (taken ++ said) live (first.knows s pushed taken live k) in
-            subst (λ (l : List ℕ). Knows S W s e l (taken ++ (said ++ tells))) (append_assoc pushed read more)
-            (subst (λ (l : List ℕ). Knows S W s e ((pushed ++ read) ++ more) l) (append_assoc taken said tells) after);
+            knows-joined S W s e pushed read more taken said tells
+            (second.knows s (pushed ++ read) (taken ++ said) live (first.knows s pushed taken live k));
       }
 
   -- texts were made first
@@ -208,25 +215,19 @@ module _ {F : Type 0} (S : Summary F) (W : Profile F) where
       MovesSo S W c d unread mid held half (Ok p) → MovesSo S W d e mid left half holds (Ok q) →
       MovesSo S W c e unread left held holds (Ok (both_of p q))
   MovesSo-both p q c d e unread mid left held half holds (read, said, moves, reads, writes)
-      (more, tells, moves2, reads2, writes2) = (
-        read ++ more,
-        said ++ tells,
-        Moves-trans c d e unread mid left held half holds read said more tells [] moves moves2,
-        omega (arith, reads, reads2, length-append read more),
-        omega (arith, writes, writes2, length-append said tells),
-      )
+      (more, tells, moves2, reads2, writes2) =
+      let both = Moves-trans c d e unread mid left held half holds read said more tells [] moves moves2 in
+      let counts = counts-both _ _ _ _ read more said tells reads reads2 writes writes2 in
+      (read ++ more, said ++ tells, both, counts.0, counts.1)
 
   pub MovesSo-failed : (p : Pumped) (f : LinkFault) (c d e : SessionState F)
       (unread mid left held half holds : Option (List ℕ)) →
       MovesSo S W c d unread mid held half (Ok p) → MovesSo S W d e mid left half holds (Err f) →
       MovesSo S W c e unread left held holds (Err f)
   MovesSo-failed p f c d e unread mid left held half holds (read, said, moves, reads, writes)
-      (more, tells, lost, moves2) = (
-        read ++ more,
-        said ++ tells,
-        lost,
-        Moves-trans c d e unread mid left held half holds read said more tells lost moves moves2,
-      )
+      (more, tells, lost, moves2) =
+      let both = Moves-trans c d e unread mid left held half holds read said more tells lost moves moves2 in
+      (read ++ more, said ++ tells, lost, both)
 
   -- ---- why a call left off
 

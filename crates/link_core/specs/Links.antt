@@ -34,12 +34,9 @@ both_of p q = record {
 }
 
 abbrev pub pause_at : Last → LinkFault → Result Pause LinkFault
-pause_at lasts.Unknown fault = Ok pauses.More
-pause_at lasts.Moved fault = Ok pauses.More
 pause_at lasts.Waits fault = Ok pauses.Waits
-pause_at lasts.Interrupted fault = Ok pauses.More
-pause_at lasts.Ended fault = Ok pauses.More
 pause_at lasts.Failed fault = Err fault
+pause_at last fault = Ok pauses.More
 
 -- the way whose call failed; where memory ran out, neither
 abbrev pub Fails : {X : Type 0} → Result X LinkFault → Last → Last → Type 0

@@ -1,9 +1,9 @@
 -- What comes of a peer that is let go.
 --     broken_by parting owes sent        the outcome of a session that did not come to its end
 --     TellsOf state parting stage v o    the outcome of a session that stands so
---     Tells parting stage version o      a session that refused, or whose peer did, says so, whatever came after it; one
---                                        that ended and was said whole says what it has learned, and of which version;
---                                        any other is broken, and says as sent what was written whole
+--     Tells parting stage version o      a session that refused, or whose peer did, says so, whatever came after it;
+--                                        one that ended and was said whole says what it has learned, and of which
+--                                        version; any other is broken, and says as sent what was written whole
 --     PutsInOf id lets_in o v w          what was learned is put into the log, where the session is in the table
 --     shown_in which o                   the outcome of which the board is told: over the directory no items are found
 use Rattle.std.specs.Prelude.{◌≡◌, ℕ, ◌-◌, Bool, Option, Some, None, if◌then◌else◌}

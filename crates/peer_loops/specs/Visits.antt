@@ -1,6 +1,7 @@
 -- What those who watch are told of a peer that is gone.
 --     profile_in stage       the wire profile of its session, if that was opened
---     ours_in o, theirs_in o how many own items its peer lacked, and of the peer's were lacked here, if it came to its end
+--     ours_in o, theirs_in o how many own items its peer lacked, and of the peer's were lacked here, if it came to its
+--                            end
 --     IsTold l o v           what is told of a peer of which this is known, and whose session ended so
 use Rattle.std.specs.Prelude.{◌≡◌, ℕ, ◌-◌, length, Option, Some, None}
 use Rattle.outcome_core.specs.Sent.{sent_in}

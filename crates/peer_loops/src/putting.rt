@@ -11,6 +11,7 @@ use peer_threads::Gate;
 use shard_core::Which;
 use shard_log::{Put, ShardLog};
 use std::alloc::{AllocError, Global};
+use store_core::PackedItems;
 use version_log::LogFault;
 
 /// The number of the shard into whose log that is put which a session over this part learned. Of the directory nothing
@@ -61,18 +62,25 @@ fn put_one<G: Gate>(
     tell(gate, item, put)
 }
 
-/// Puts items into the log, in order. Where memory runs out, that item and all that are left are left out. How many
-/// were left out.
-fn put_all<G: Gate>(gate: &G, alloc: Global, log: &mut ShardLog, items: &[Item]) -> usize
-    ensures few { result ≤ length items.now }
-    ensures put { PutsAll items.now log.old log.new result }
+/// Puts the first so many of the items into the log, in order. Where memory runs out, that item and all that are left
+/// of them are left out. How many were left out.
+fn put_first<G: Gate>(
+    gate: &G,
+    alloc: Global,
+    log: &mut ShardLog,
+    items: &PackedItems,
+    first: usize,
+) -> usize
+    requires { first ≤ length items.now }
+    ensures few { result ≤ first }
+    ensures put { PutsAll (take first items.now) log.old log.new result }
 {
     let mut left_out = 0;
-    for (index, item) in items.iter().enumerate() {
-        match put_one(gate, alloc, log, item) {
+    for place in 0..first {
+        match put_one(gate, alloc, log, &items.item(place)) {
             Ok(count) => left_out += count,
             Err(AllocError) => {
-                let left = items.len() - index;
+                let left = first - place;
                 gate.dropped(LogFault::Memory, left);
                 return left_out + left;
             }
@@ -81,12 +89,13 @@ fn put_all<G: Gate>(gate: &G, alloc: Global, log: &mut ShardLog, items: &[Item])
     left_out
 }
 
-/// The first so many items, or all where there are no more.
-fn first_items(items: &[Item], count: usize) -> &[Item]
-    ensures first { result.now ≡ take count items.now }
-    ensures few { length result.now ≤ length items.now }
+/// How many the first so many items are: all where there are no more.
+fn count_of_first(items: &PackedItems, count: usize) -> usize
+    ensures first { take result items.now ≡ take count items.now }
+    ensures size { result ≡ length (take count items.now) }
+    ensures few { result ≤ length items.now }
 {
-    &items[..count.min(items.len())]
+    count.min(items.len())
 }
 
 /// Puts into the log of a shard what the gate admits of the items that the session with this serial learned of its
@@ -102,7 +111,8 @@ pub(crate) fn put_learned<G: Gate>(
     ensures { PutsLearned (G.lets_in gate.now serial) learned.now.theirs log.old log.new result }
 {
     let theirs = learned.theirs();
-    let admitted = first_items(theirs, gate.admits(serial, theirs.len()));
-    let left_out = put_all(gate, alloc, log, admitted);
-    theirs.len() - admitted.len() + left_out
+    let count = theirs.len();
+    let admitted = count_of_first(theirs, gate.admits(serial, count));
+    let left_out = put_first(gate, alloc, log, theirs, admitted);
+    count - admitted + left_out
 }

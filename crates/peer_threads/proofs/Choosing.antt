@@ -33,7 +33,8 @@ use Rattle.outcome_core.specs.Sent.{sent_in}
 use Rattle.peer_threads.specs.Stops.{outcome_of}
 use Rattle.peer_threads.specs.Underway.{WhyStopped, IsNone, Leaves, first_held}
 use Rattle.peer_threads.proofs.Endings.{anyhow, bears, bears-unopened}
-use Rattle.peer_threads.proofs.Exchanges.{Laws, why-unheard}
+use Rattle.peer_threads.specs.Laws.{Laws}
+use Rattle.peer_threads.proofs.Exchanges.{why-unheard}
 use Rattle.peer_threads.proofs.Origins.{takes-all, begins-alike}
 
 -- ---- what an outcome says is said of what was written, wherever the bytes read come from

@@ -28,13 +28,14 @@ use Rattle.definitions.specs.Hearing.{Hearing, Goes_on, Over_at, Peer_refused, R
 use Rattle.definitions.specs.Hearing.{ended_by, hear_now, hear, begins, hears, stop_at, with_end}
 use Rattle.definitions.specs.Hearing.{hearing_to}
 use Rattle.definitions.specs.Accounts.{Seen}
-use Rattle.laws.specs.Hearing.{has_stopped, HearingsGoOn, OwnBegins, SaidBut, AgreesBy, BytesAgree}
+use Rattle.laws.specs.Hearing.{has_stopped, SaidBut, AgreesBy}
 use Rattle.wire_core.specs.Feeds.{fault_at}
 use Rattle.ends_core.specs.EndStates.{EndState}
 use Rattle.peer_threads.specs.declared.stop.Stop.{Stop}
 use Rattle.peer_threads.specs.declared.stop.Stop.TheVariants as stops
 use Rattle.peer_threads.specs.Outcomes.{Traffic, Takes, traffic_of, SaidAll, IsTimely, IsCut}
 use Rattle.ends_core.specs.Sides.{said_to, called_by}
+use Rattle.peer_threads.specs.Laws.{Laws}
 use Rattle.peer_threads.specs.Inboxes.{InboxState, HasRead, IsFaulty, StopsAt}
 use Rattle.peer_threads.specs.Outboxes.{OutboxState, HasWritten, Adds}
 use Rattle.peer_threads.specs.Underway.{heard_as, said_by, Underway, Unsaid, Refuses, StopsBy, WroteFirst}
@@ -45,12 +46,6 @@ use Rattle.peer_threads.proofs.Hearings.{heard-goes, heard-over, first-frame}
 use Rattle.peer_threads.proofs.Breaks.{breaks-after, breaks-in-message, cut-in-message}
 
 module _ {F : Type 0} (S : Summary F) (W : Profile F) where
-  -- the laws that are cited, in one place
-  pub record Laws : Type 0 where
-    pub go_on : HearingsGoOn S
-    pub begin : OwnBegins S
-    pub agree : BytesAgree S W
-
   abbrev so_far : Speaker F → List (Event F) → List (Message F)
   so_far s es = says S s (messages_of [] es)
 
@@ -84,7 +79,7 @@ module _ {F : Type 0} (S : Summary F) (W : Profile F) where
   }
 
   -- the first fault, where nothing more is said
-  pub first-at : Laws → (s : Speaker F) (over : Bool) (bytes : List ℕ) (said : List (Message F)) (k code : ℕ) →
+  pub first-at : Laws S W → (s : Speaker F) (over : Bool) (bytes : List ℕ) (said : List (Message F)) (k code : ℕ) →
       is_live s.start.stage ≡ true →
       hearing_to S W s over bytes ≡ Refused_for code →
       says S s (messages_in W bytes) ≡ said → k ≡ length said → IsFirst S W s over bytes k code
@@ -178,7 +173,7 @@ module _ {F : Type 0} (S : Summary F) (W : Profile F) where
       }
 
   -- it is heard, and the session goes on
-  pub goes-on : Laws →
+  pub goes-on : Laws S W →
       (s : Speaker F) (h g : EndState F) (c : InboxState) (o p : OutboxState) (t : Traffic) (holds : Option (List ℕ))
       (e : Event F) →
       is_live s.start.stage ≡ true →
@@ -213,14 +208,14 @@ module _ {F : Type 0} (S : Summary F) (W : Profile F) where
     by (answered.Refuses n) is = refl
 
   -- what was said before begins what is called for
-  begun : Laws → (s : Speaker F) (h : EndState F) (o : OutboxState) (t : Traffic) (e : Event F) (x : At s h o t e) →
+  begun : Laws S W → (s : Speaker F) (h : EndState F) (o : OutboxState) (t : Traffic) (e : Event F) (x : At s h o t e) →
       (more : List (Message F)) × (called_by S W s x.bytes ≡ so_far s x.es ++ more)
   begun laws s h o t e x =
       let r = laws.begin s x.es (e ∷ x.rest) in
       (r.0, ap (λ l. own S s (messages_of [] l)) (x.all ∙ append_assoc x.es (e ∷ []) x.rest) ∙ r.1)
 
   -- no message more was written
-  first-kept : Laws →
+  first-kept : Laws S W →
       (s : Speaker F) (h : EndState F) (o p : OutboxState) (t : Traffic) (holds : Option (List ℕ)) (e : Event F)
       (x : At s h o t e) →
       Adds W o p t.holds holds [] →
@@ -235,7 +230,7 @@ module _ {F : Type 0} (S : Summary F) (W : Profile F) where
   heard-next s h o t e x = fold-append (hear S) (begins s) x.es (e ∷ []) ∙ ap (λ y. hear S y e) x.heard
 
   -- after a stop at the event nothing more is said
-  nothing-more : Laws → (s : Speaker F) (h : EndState F) (o : OutboxState) (t : Traffic) (e : Event F) →
+  nothing-more : Laws S W → (s : Speaker F) (h : EndState F) (o : OutboxState) (t : Traffic) (e : Event F) →
       is_live s.start.stage ≡ true → (x : At s h o t e) →
       has_stopped (hear_now S h.end h.taken e) ≡ true → said_by h e ≡ [] → said_to S W s x.bytes ≡ so_far s x.es
   nothing-more laws s h o t e live x stopped none =
@@ -246,7 +241,7 @@ module _ {F : Type 0} (S : Summary F) (W : Profile F) where
       ∙ append-nil (so_far s x.es)
 
   -- the event itself stops the session
-  pub stops-refusing : (T : ℕ → ℕ → Type 0) → Laws →
+  pub stops-refusing : (T : ℕ → ℕ → Type 0) → Laws S W →
       (s : Speaker F) (h : EndState F) (o p : OutboxState) (t : Traffic) (holds : Option (List ℕ)) (r : Seen)
       (broken : Bool) (e : Event F) (stop : Stop) →
       is_live s.start.stage ≡ true → At s h o t e → Refuses S h e stop → Adds W o p t.holds holds [] →
@@ -296,7 +291,7 @@ module _ {F : Type 0} (S : Summary F) (W : Profile F) where
         by (stops.Io side) is = absurd is
 
   -- its reply is not said
-  stops-unsaid : Laws →
+  stops-unsaid : Laws S W →
       (s : Speaker F) (h : EndState F) (o p : OutboxState) (t : Traffic) (holds : Option (List ℕ)) (r : Seen)
       (broken : Bool) (e : Event F) (stop : Stop) →
       is_live s.start.stage ≡ true → At s h o t e → Unsaid W o p t.holds holds broken (said_by h e) stop →
@@ -354,7 +349,7 @@ module _ {F : Type 0} (S : Summary F) (W : Profile F) where
               subst (IsCut (length broke.all) (length (session_text W (called_by S W s x.bytes)))) (sym write) cut,
             )
 
-  pub stops-event : Laws →
+  pub stops-event : Laws S W →
       (s : Speaker F) (h : EndState F) (o p : OutboxState) (t : Traffic) (holds : Option (List ℕ)) (r : Seen)
       (broken : Bool) (e : Event F) (stop : Stop) →
       is_live s.start.stage ≡ true → At s h o t e → StopsBy S W h e o p t.holds holds broken stop →
@@ -390,7 +385,7 @@ module _ {F : Type 0} (S : Summary F) (W : Profile F) where
             ∙ ap (λ b. if b then Refused_for truncated else Goes_on e t) end ∙ ap Refused_for (sym three)
 
   -- all events handed out were heard, and no more comes; what was written is a beginning of what all events call for
-  pub why-unheard : (T : ℕ → ℕ → Type 0) → Laws →
+  pub why-unheard : (T : ℕ → ℕ → Type 0) → Laws S W →
       (s : Speaker F) (h : EndState F) (o : OutboxState) (t : Traffic) (r : Seen) (broken : Bool) (stop : Stop)
       (bytes : List ℕ) (es : List (Event F)) →
       is_live s.start.stage ≡ true → o.sent ≡ length (so_far s es) →
@@ -411,7 +406,7 @@ module _ {F : Type 0} (S : Summary F) (W : Profile F) where
         subst (IsCut (length broke.all) (length (session_text W (called_by S W s bytes)))) (sym read) tt,
       )
 
-  pub stops-unheard-by : (T : ℕ → ℕ → Type 0) → Laws →
+  pub stops-unheard-by : (T : ℕ → ℕ → Type 0) → Laws S W →
       (s : Speaker F) (h : EndState F) (o : OutboxState) (t : Traffic) (r : Seen) (broken : Bool) (stop : Stop)
       (bytes : List ℕ) (es : List (Event F)) →
       is_live s.start.stage ≡ true →
@@ -425,7 +420,7 @@ module _ {F : Type 0} (S : Summary F) (W : Profile F) where
     why = why-unheard T laws s h o t r broken stop bytes es live count wrote heard unheard;
   }
 
-  pub stops-unheard : (T : ℕ → ℕ → Type 0) → Laws →
+  pub stops-unheard : (T : ℕ → ℕ → Type 0) → Laws S W →
       (s : Speaker F) (h : EndState F) (o : OutboxState) (t : Traffic) (r : Seen) (broken : Bool) (stop : Stop)
       (bytes : List ℕ) (es : List (Event F)) →
       is_live s.start.stage ≡ true →
@@ -439,7 +434,7 @@ module _ {F : Type 0} (S : Summary F) (W : Profile F) where
             inl (wrote-first s o t bytes (so_far s es) first.0
             (ap (λ l. own S s (messages_of [] l)) all ∙ first.1) written)
 
-  pub stops-underway : Laws →
+  pub stops-underway : Laws S W →
       (s : Speaker F) (h : EndState F) (b : InboxState) (o : OutboxState) (t : Traffic) (left : Option (List ℕ))
       (r : Seen) (broken : Bool) (stop : Stop) →
       is_live s.start.stage ≡ true →
@@ -456,7 +451,7 @@ module _ {F : Type 0} (S : Summary F) (W : Profile F) where
 
   -- ---- the session is over
 
-  pub finished : Laws → (s : Speaker F) (h : EndState F) (b : InboxState) (o : OutboxState) (t : Traffic) →
+  pub finished : Laws S W → (s : Speaker F) (h : EndState F) (b : InboxState) (o : OutboxState) (t : Traffic) →
       is_live s.start.stage ≡ true → Underway S W s h b o t → is_over h.end.stage ≡ true → Finished S W s h.end o t
   finished laws s h b o t live u over =
       let Ms = messages_in W u.bytes in

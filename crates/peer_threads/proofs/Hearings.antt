@@ -15,6 +15,7 @@ use Rattle.definitions.specs.Taking.{Taken, taken, ended}
 use Rattle.definitions.specs.Hearing.{Hearing, Goes_on, Over_at, Peer_refused, Refused_for, goes_unless, ended_by}
 use Rattle.definitions.specs.Hearing.{hear_now, hear}
 use Rattle.laws.specs.Hearing.{has_stopped}
+use Rattle.laws.proofs.GoingOn.{stays}
 use Rattle.ends_core.specs.EndStates.{EndState}
 use Rattle.ends_core.specs.Turns.{told_in, refusal_of, answer_of, after_part, after_end, messages_in}
 use Rattle.ends_core.specs.declared.turn.Turn.{Turn}
@@ -53,13 +54,6 @@ module _ {F : Type 0} (S : Summary F) (W : Profile F) where
   -- ---- a fault frame
 
   -- a side that still hears has heard no fault frame, so the one that comes is the first
-  stays : (h : Hearing F) (rest : List (Event F)) → has_stopped h ≡ true → fold (hear S) h rest ≡ h
-  stays h [] stopped = refl
-  stays (Goes_on e t) (x ∷ rest) stopped = absurd cc
-  stays (Over_at e) (x ∷ rest) stopped = stays (Over_at e) rest stopped
-  stays (Peer_refused code) (x ∷ rest) stopped = stays (Peer_refused code) rest stopped
-  stays (Refused_for code) (x ∷ rest) stopped = stays (Refused_for code) rest stopped
-
   pub first-frame : (h : Hearing F) (es rest : List (Event F)) (e : End F) (t : Taken F) (code : ℕ) →
       fold (hear S) h es ≡ Goes_on e t → fault_of (es ++ Failed code ∷ rest) ≡ Some code
   first-frame h [] rest e t code at = refl
@@ -69,7 +63,7 @@ module _ {F : Type 0} (S : Summary F) (W : Profile F) where
     goes : (h : Hearing F) → has_stopped h ≡ true → fold (hear S) h es ≡ Goes_on e t → ⊥
     goes h stopped at =
         let same : h ≡ Goes_on e t =
-        sym (stays h es stopped) ∙ at in let wrong = sym stopped ∙ ap has_stopped same in absurd cc
+        sym (stays S h es stopped) ∙ at in let wrong = sym stopped ∙ ap has_stopped same in absurd cc
 
     stopped : (h : Hearing F) → fold (hear S) (hear S h (Failed n)) es ≡ Goes_on e t → ⊥
     stopped (Goes_on f x) at = goes (Peer_refused n) refl at

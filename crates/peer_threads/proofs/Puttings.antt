@@ -2,12 +2,12 @@
 --
 -- Whatever the items that are left come to, the items so far come to it from the start on, with what was dropped so
 -- far. So one insert more is one step of the same, by cases on what it did.
-use Rattle.std.proofs.Common.{◌≡◌, ℕ, ◌+◌, List, [], ◌∷◌, length, drop, inl, inr, refl, sym, ap, subst, ◌∙◌, arith}
+use Rattle.std.proofs.Common.{◌≡◌, ℕ, ◌+◌, List, [], ◌∷◌, length, take, inl, inr, refl, sym, ap, subst, ◌∙◌, arith}
 use Rattle.definitions.specs.Items.{Item}
 use Rattle.version_log.specs.declared.answer.LogFault.TheVariants.{Memory}
 use Rattle.version_lock.specs.declared.view.View.{View}
 use Rattle.version_lock.specs.Calls.{DidNotInsert}
-use Rattle.peer_threads.specs.Workers.{PutInOrDropped, PutInAll}
+use Rattle.peer_threads.specs.Workers.{PutInOrDropped, PutInAll, IsSettled}
 
 -- what the rest comes to, all come to
 abbrev pub Puts : List Item → List Item → View → View → ℕ → Type 0
@@ -35,3 +35,16 @@ pub puts-all : (xs rest : List Item) (old now : View) (dropped : ℕ) → rest �
     PutInAll xs old now dropped
 puts-all xs rest old now dropped none so =
     subst (PutInAll xs old now) (omega arith) (so now 0 (subst (λ l. PutInAll l now now 0) (sym none) (refl, refl)))
+
+-- the first of what was learned, as many as are let in
+pub settled : (lets_in : ℕ → ℕ → ℕ → Type 0) (xs ys : List Item) (v w : View)
+    (serial size count first dropped : ℕ) → ys ≡ xs → size ≡ length ys → lets_in serial size count →
+    take first ys ≡ take count ys → PutInAll (take first ys) v w dropped → IsSettled lets_in xs v w
+settled lets_in xs ys v w serial size count first dropped same sized admits front puts =
+    subst (λ (zs : List Item). IsSettled lets_in zs v w) same (
+      serial,
+      count,
+      dropped,
+      subst (λ (n : ℕ). lets_in serial n count) sized admits,
+      subst (λ (zs : List Item). PutInAll zs v w dropped) front puts,
+    )

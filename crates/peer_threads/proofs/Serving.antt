@@ -52,7 +52,8 @@ use Rattle.peer_threads.specs.Underway.{WhyStopped, Stopped, Leaves, Spoke}
 use Rattle.peer_threads.proofs.Origins.{takes-on, takes-front}
 use Rattle.peer_threads.proofs.Hearings.{adds-none, heard-goes}
 use Rattle.peer_threads.proofs.Breaks.{breaks-in-hello, cut-in-hello}
-use Rattle.peer_threads.proofs.Exchanges.{Laws, More, At, all-events, wrote-first, goes-on, stops-refusing}
+use Rattle.peer_threads.specs.Laws.{Laws}
+use Rattle.peer_threads.proofs.Exchanges.{More, At, all-events, wrote-first, goes-on, stops-refusing}
 use Rattle.peer_threads.proofs.Exchanges.{stops-unheard, stops-unheard-by}
 use Rattle.peer_threads.proofs.Endings.{stopped-speaks, stopped-unopened, of-pin}
 

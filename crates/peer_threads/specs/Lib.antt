@@ -30,3 +30,4 @@ pub mod Outboxes
 pub mod Underway
 pub mod Listening
 pub mod Workers
+pub mod Laws

@@ -38,7 +38,7 @@ use crate::outbox::Outbox;
 use crate::pinned_ends::{new_initiator, new_responder};
 use crate::shared::Shared;
 use crate::stop::Stop;
-use crate::talk::{end, say, take, talk};
+use crate::talk::{end, exchange_laws, say, take, talk};
 use digest_core::{Counted, Fingerprint, Summary};
 use ends_core::{Role, SessionEnd};
 use io_core::Watched;
@@ -167,9 +167,7 @@ fn first_message<R: Read, W: Write, F: Summary>(
     ensures step { (start : ℕ) → InStep start connection.old.reader.reads hello.reads →
         IfOk result (λ o. InStep start connection.new.reader.reads o.inbox.reads) }
 {
-    laws::hearings_go_on::<F>();
-    laws::own_begins::<F>();
-    laws::bytes_agree::<F>();
+    exchange_laws::<F>();
     let mut inbox = Inbox::<F>::after(alloc, hello)?;
     outbox.greet(&mut connection.writer)?;
     let first = first_part(alloc, &mut inbox, &mut connection.reader)?;
@@ -208,9 +206,7 @@ fn answer<T: Wait, G: Gate, P: Role, S: RangeStore, R: Read, W: Write, F: Summar
     ensures fared { (start : ℕ) → InStep start connection.old.reader.reads begun.inbox.reads →
         Fares start connection.new.reader.failed connection.new.reader.reads result }
 {
-    laws::hearings_go_on::<F>();
-    laws::own_begins::<F>();
-    laws::bytes_agree::<F>();
+    exchange_laws::<F>();
     let Begun { mut inbox, first } = begun;
     let _ = party.sent(); // proof only: no more messages than the bound
     take(booking, party, &first)?;
@@ -429,9 +425,7 @@ pub fn serve_one<T: Wait, S: RangeStore, G: Gate, R: Read, W: Write>(
     ensures fared { HasFared connection.old.reader.reads connection.new.reader.failed connection.new.reader.reads
         result }
 {
-    laws::hearings_go_on::<Fingerprint>();
-    laws::own_begins::<Fingerprint>();
-    laws::bytes_agree::<Fingerprint>();
+    exchange_laws::<Fingerprint>();
     sides_keep_bounds::<Fingerprint>(shared.accepted);
     let hello = match read_hello(&mut connection.reader) {
         Ok(hello) => hello,

@@ -9,6 +9,7 @@ ghost use Rattle.ends_core.specs.Roles.{most_of};
 ghost use Rattle.ends_core.specs.Turns.{answer_of, messages_in};
 ghost use Rattle.wire_core.specs.Events.{event_value};
 ghost use Rattle.peer_threads.specs.Inboxes.{Counts, ReadOn};
+ghost use Rattle.peer_threads.specs.Laws.{Laws};
 ghost use Rattle.peer_threads.specs.Outcomes.{Origin, traffic_of, seen};
 ghost use Rattle.peer_threads.specs.Outboxes.{Adds};
 ghost use Rattle.peer_threads.specs.Listening.{InStep, Fares};
@@ -28,6 +29,15 @@ use std::io::{Read, Write};
 use std::sync::Wait;
 use store_core::RangeStore;
 use wire_core::{Event, Message, Part, encode_message};
+
+/// The laws of an exchange of messages, in one place.
+pub(crate) fn exchange_laws<F: Summary>()
+    ensures { Laws F.summary F.profile }
+{
+    laws::hearings_go_on::<F>();
+    laws::own_begins::<F>();
+    laws::bytes_agree::<F>();
+}
 
 /// Says one message: takes all memory for it, counts it in the table, writes it, and asks the gate.
 pub(crate) fn say<T: Wait, G: Gate, W: Write, F: Summary>(
@@ -125,27 +135,27 @@ fn hear<T: Wait, G: Gate, P: Role, S: RangeStore, W: Write, F: Summary>(
     party: &mut SessionEnd<P, S, F>,
     outbox: &mut Outbox<F>,
     writer: &mut Watched<W>,
-    event: &Event<F>,
+    event: Event<F>,
 ) -> Result<(), Stop>
     requires fine { writer.old.failed ≡ false }
     requires count { outbox.old.sent ≡ party.old.end.sent }
     requires goes { is_over party.old.end.stage ≡ false }
     ensures heard { OnOk result (heard_as party.new
-        ≡ hear_now F.summary party.old.end party.old.taken (event_value event.now)) }
+        ≡ hear_now F.summary party.old.end party.old.taken (event_value event)) }
     ensures said { OnOk result (Adds F.profile outbox.old outbox.new (W.contents writer.old.inner)
-        (W.contents writer.new.inner) (said_by party.old (event_value event.now))) }
+        (W.contents writer.new.inner) (said_by party.old (event_value event))) }
     ensures fine { OnOk result (writer.new.failed ≡ false) }
     ensures count { OnOk result (outbox.new.sent ≡ party.new.end.sent) }
     ensures most { OnOk result (most_sent (most_of P.side) party.new ≡ most_sent (most_of P.side) party.old) }
-    ensures stopped { IfErr result (λ stop. StopsBy F.summary F.profile party.old (event_value event.now) outbox.old
+    ensures stopped { IfErr result (λ stop. StopsBy F.summary F.profile party.old (event_value event) outbox.old
         outbox.new (W.contents writer.old.inner) (W.contents writer.new.inner) writer.new.failed stop) }
     ensures few { outbox.new.sent ≤ most_sent (most_of P.side) party.old }
 {
     let _ = party.sent(); // proof only: no more messages than the bound
     match event {
-        Event::Part(part) => take(booking, party, part),
+        Event::Part(part) => take(booking, party, &part),
         Event::End => end(booking, party, outbox, writer),
-        Event::Fault(code) => Err(Stop::PeerRefused(*code)),
+        Event::Fault(code) => Err(Stop::PeerRefused(code)),
     }
 }
 
@@ -176,15 +186,13 @@ pub(crate) fn talk<T: Wait, G: Gate, P: Role, S: RangeStore, R: Read, W: Write, 
     ensures fared { (start : ℕ) → InStep start connection.old.reader.reads inbox.old.reads →
         Fares start connection.new.reader.failed connection.new.reader.reads result }
 {
-    laws::hearings_go_on::<F>();
-    laws::own_begins::<F>();
-    laws::bytes_agree::<F>();
+    exchange_laws::<F>();
     let _ = party.sent(); // proof only: no more messages than the bound
     'turns: loop {
         if party.is_over() {
             return Ok(());
         }
         let event = inbox.next(booking.alloc(), &mut connection.reader)?;
-        hear(booking, party, outbox, &mut connection.writer, &event)?;
+        hear(booking, party, outbox, &mut connection.writer, event)?;
     }
 }

@@ -24,7 +24,7 @@ use outcome_core::{Outcome, Source, SourceFault};
 use std::alloc::{AllocError, Global};
 use std::io::{Read, Write};
 use std::sync::{OnceLock, Wait};
-use store_core::RangeStore;
+use store_core::{PackedItems, RangeStore};
 use version_lock::Seat;
 use version_log::{Added, LogFault};
 
@@ -203,43 +203,44 @@ pub fn settle<T: Wait, S: RangeStore, G: Gate>(
     ensures put { IsSettled (G.lets_in shared.now.gate.now) learned.now.theirs seat.old.view seat.new.view }
 {
     let theirs = learned.theirs();
-    let admitted = first_items(theirs, shared.gate.admits(serial, theirs.len()));
-    let dropped = add_all(rt, alloc, shared, seat, admitted);
-    shared
-        .gate
-        .settled(serial, theirs.len() - admitted.len() + dropped);
+    let count = theirs.len();
+    let admitted = count_of_first(theirs, shared.gate.admits(serial, count));
+    let dropped = add_first(rt, alloc, shared, seat, theirs, admitted);
+    shared.gate.settled(serial, count - admitted + dropped);
 }
 
-// The first so many items, or all where there are no more.
-fn first_items(items: &[Item], count: usize) -> &[Item]
-    ensures first { result.now ≡ take count items.now }
-    ensures few { length result.now ≤ length items.now }
+// How many the first so many items are: all where there are no more.
+fn count_of_first(items: &PackedItems, count: usize) -> usize
+    ensures first { take result items.now ≡ take count items.now }
+    ensures few { result ≤ length items.now }
 {
-    &items[..count.min(items.len())]
+    count.min(items.len())
 }
 
-// Adds the items to the log, in order. An item for which there is no room is dropped. Where memory runs out it stops,
-// and all that are left are dropped. How many were dropped, of which the gate is told.
-fn add_all<T: Wait, S: RangeStore, G: Gate>(
+// Adds the first so many of the items to the log, in order. An item for which there is no room is dropped. Where memory
+// runs out it stops, and all that are left of them are dropped. How many were dropped, of which the gate is told.
+fn add_first<T: Wait, S: RangeStore, G: Gate>(
     rt: &T,
     alloc: Global,
     shared: &Shared<'_, S, G>,
     seat: &mut Seat<S>,
-    items: &[Item],
+    items: &PackedItems,
+    first: usize,
 ) -> usize
     requires lock { seat.old.table_id ≡ shared.now.lock.now }
     requires enrolled { IsSome seat.old.view.writer }
+    requires within { first ≤ length items.now }
     ensures seat { seat.new.table_id ≡ seat.old.table_id }
     ensures kept { (seat.new.view.writer ≡ seat.old.view.writer) × (seat.new.view.cap ≡ seat.old.view.cap) }
-    ensures dropped { result ≤ length items.now }
-    ensures put { PutInAll items.now seat.old.view seat.new.view result }
+    ensures dropped { result ≤ first }
+    ensures put { PutInAll (take first items.now) seat.old.view seat.new.view result }
 {
     let mut dropped = 0;
-    for (index, item) in items.iter().enumerate() {
-        match add_or_drop(rt, alloc, shared, seat, item) {
+    for place in 0..first {
+        match add_or_drop(rt, alloc, shared, seat, &items.item(place)) {
             Ok(count) => dropped += count,
             Err(AllocError) => {
-                let left = items.len() - index;
+                let left = first - place;
                 shared.gate.dropped(LogFault::Memory, left);
                 return dropped + left;
             }

@@ -2,12 +2,13 @@
 use Rattle.std.proofs.Common.{◌≡◌, ◌∙◌, ◌<◌, ◌^◌, ℕ, suc, List, [], ◌∷◌, ◌++◌, length, take, drop, get_or, refl, sym}
 use Rattle.std.proofs.Common.{ap, Bool, true, false, Some, None, Result, Ok, Err, take-append-drop, subst, arith}
 use Rattle.std.specs.Prelude.{◌≢◌, nat_lt, is_err}
-use Rattle.std.specs.Char.{is_ascii_digit, digit_value}
+use Rattle.std.specs.Char.{is_ascii_digit}
 use Rattle.std.specs.List.{list_all}
 use Rattle.std.specs.Str.Pattern.{RFindsChar}
-use Rattle.std.specs.Str.Parse.{digits_value, ParsesUnsigned, IsNumeral, AllDigits, without_leading_plus}
-use Rattle.std.proofs.lemmas.Bool.{and_parts, ltb-false}
+use Rattle.std.specs.Str.Parse.{digits_value, ParsesUnsigned, IsNumeral, without_leading_plus}
+use Rattle.std.proofs.lemmas.Bool.{ltb-false}
 use Rattle.std.proofs.lemmas.Str.Pattern.{NoCharPasses-char, drop_at_char}
+use Rattle.definitions.proofs.Digits.{all_small, unsigned}
 use Rattle.printing_core.specs.AddressTexts.{port_of, is_too_high}
 
 lacks : (bs : List ℕ) → ((i : ℕ) → i < length bs → get_or bs i 0 ≢ 58) → port_of bs ≡ None
@@ -33,24 +34,12 @@ port_some address i j port h is =
     ∙ take-append-drop i address in
     ap Some is ∙ sym (found (take i address) (drop j address) none) ∙ ap port_of parts
 
-digit_small : (d : ℕ) → is_ascii_digit d ≡ true → digit_value d < 10
-digit_small d h = grind arith
-
-all_small : (ds : List ℕ) → list_all is_ascii_digit ds ≡ true → AllDigits 10 ds
-all_small [] h = tt
-all_small (d ∷ ds) h = let both = and_parts (is_ascii_digit d) (list_all is_ascii_digit ds) h in
-    (digit_small d both.0, all_small ds both.1)
-
-digits_unsigned : (ds : List ℕ) → list_all is_ascii_digit ds ≡ true → without_leading_plus ds ≡ ds
-digits_unsigned [] h = refl
-digits_unsigned (d ∷ ds) h = grind arith
-
 -- digits that are read as no number of sixteen bits are too high, and others are not
 pub too_high : {E : Type 0} (ds : List ℕ) (r : Result ℕ E) → list_all is_ascii_digit ds ≡ true → 0 < length ds →
     ParsesUnsigned 16 10 ds r → is_err r ≡ is_too_high ds
 too_high ds (Ok n) h some p =
     let low : digits_value 10 (without_leading_plus ds) < 2 ^ 16 = p.0.1 in
-    let same = digits_unsigned ds h in
+    let same = unsigned ds h in
     let below : digits_value 10 ds < 65536 = subst (λ bs. digits_value 10 bs < 65536) same low in
     rw h (grind (arith, below))
 too_high ds (Err e) h some p = given (nat_lt 65535 (digits_value 10 ds)) refl
@@ -60,5 +49,5 @@ too_high ds (Err e) h some p = given (nat_lt 65535 (digits_value 10 ds)) refl
     given false low =
         let great = ltb-false 65535 (digits_value 10 ds) low in
         let refused : IsNumeral 10 ds × (digits_value 10 ds < 2 ^ 16) → ⊥ =
-        subst (λ bs. IsNumeral 10 bs × (digits_value 10 bs < 2 ^ 16) → ⊥) (digits_unsigned ds h) p in
+        subst (λ bs. IsNumeral 10 bs × (digits_value 10 bs < 2 ^ 16) → ⊥) (unsigned ds h) p in
         absurd (refused ((some, all_small ds h), omega (arith, great)))

@@ -13,7 +13,8 @@ use Rattle.printing_core.specs.SessionTexts.{of_direction}
 use Rattle.printing_core.specs.declared.fault.Fault.{Fault}
 use Rattle.printing_core.specs.declared.fault.Fault.TheVariants as faults
 use Rattle.printing_core.specs.declared.stdio.PeerFlaw.{PeerFlaw}
-use Rattle.printing_core.specs.declared.stdio.PeerFlaw.TheVariants.{Cut, Stranger, OtherSet, Unruly, TooManyParts, Refusing}
+use Rattle.printing_core.specs.declared.stdio.PeerFlaw.TheVariants.{Cut, Stranger, OtherSet, Unruly, TooManyParts}
+use Rattle.printing_core.specs.declared.stdio.PeerFlaw.TheVariants.{Refusing}
 use Rattle.printing_core.specs.declared.stdio.PeerFlaw.TheVariants.{Unread, NotTaking}
 
 abbrev pub peer_text : PeerFlaw → List ℕ

@@ -225,16 +225,21 @@ fn why_serving<'a>(address: &'a str, fault: Fault) -> Option<Why<'a>>
 }
 
 impl<'a> Refusal<'a> {
+    /// The refusal for this fault, with this second line.
+    pub(crate) fn new(fault: Fault, why: Option<Why<'a>>) -> Refusal<'a>
+        ensures fault { result.fault ≡ fault }
+        ensures why { result.why ≡ why.entry }
+    {
+        Refusal { fault, why }
+    }
+
     /// The refusal of a file of items, or of a strategy.
     pub fn of_file(alloc: Global, file: &'a str, fault: SettingsFault) -> Refusal<'a>
         ensures fault { result.fault ≡ of_settings fault }
         ensures why { IsSaidOfFile file.now fault result.why }
     {
         let why = why_file(alloc, file, &fault);
-        Refusal {
-            fault: Fault::from(fault),
-            why,
-        }
+        Refusal::new(Fault::from(fault), why)
     }
 
     /// The refusal of items of standard input.
@@ -243,10 +248,7 @@ impl<'a> Refusal<'a> {
         ensures why { IsSaidOfInput fault result.why }
     {
         let why = why_input(alloc, &fault);
-        Refusal {
-            fault: Fault::from(fault),
-            why,
-        }
+        Refusal::new(Fault::from(fault), why)
     }
 
     /// The refusal of a file that is not opened.
@@ -254,10 +256,7 @@ impl<'a> Refusal<'a> {
         ensures fault { result.fault ≡ Fault.CannotRead }
         ensures why { IsSaid result.why (Some (unread_line file.now cause)) }
     {
-        Refusal {
-            fault: Fault::CannotRead,
-            why: Some(Why::Unread { file, cause }),
-        }
+        Refusal::new(Fault::CannotRead, Some(Why::Unread { file, cause }))
     }
 
     /// The refusal of the input of `answer`, as hex or as bytes, or of its output.
@@ -265,10 +264,7 @@ impl<'a> Refusal<'a> {
         ensures fault { result.fault ≡ fault }
         ensures why { IsSaid result.why (message_text is_hexed fault) }
     {
-        Refusal {
-            fault,
-            why: why_message(is_hexed, fault),
-        }
+        Refusal::new(fault, why_message(is_hexed, fault))
     }
 
     /// The refusal of a session with a server, within these limits.
@@ -276,10 +272,7 @@ impl<'a> Refusal<'a> {
         ensures fault { result.fault ≡ fault }
         ensures why { IsSaid result.why (session_text limits fault) }
     {
-        Refusal {
-            fault,
-            why: why_session(limits, fault),
-        }
+        Refusal::new(fault, why_session(limits, fault))
     }
 
     /// The refusal of a session over standard input and output, of which so many bytes may be read.
@@ -287,10 +280,7 @@ impl<'a> Refusal<'a> {
         ensures fault { result.fault ≡ fault }
         ensures why { IsSaid result.why (peer_line fault most_bytes) }
     {
-        Refusal {
-            fault,
-            why: why_peer(fault, most_bytes),
-        }
+        Refusal::new(fault, why_peer(fault, most_bytes))
     }
 
     /// The refusal of a file that takes no more.
@@ -298,13 +288,8 @@ impl<'a> Refusal<'a> {
         ensures fault { result.fault ≡ Fault.WriterFailed }
         ensures why { IsSaid result.why (Some (unread_line file.now unreads.Unwritable)) }
     {
-        Refusal {
-            fault: Fault::WriterFailed,
-            why: Some(Why::Unread {
-                file,
-                cause: Unread::Unwritable,
-            }),
-        }
+        let cause = Unread::Unwritable;
+        Refusal::new(Fault::WriterFailed, Some(Why::Unread { file, cause }))
     }
 
     /// The refusal of a listener at this address.
@@ -312,10 +297,8 @@ impl<'a> Refusal<'a> {
         ensures fault { result.fault ≡ of_listen fault }
         ensures why { IsSaid result.why (listen_text address.now fault) }
     {
-        Refusal {
-            fault: Fault::from(fault),
-            why: why_address(address, listen_cause(address, fault)),
-        }
+        let why = why_address(address, listen_cause(address, fault));
+        Refusal::new(Fault::from(fault), why)
     }
 
     /// The refusal of a connection to this address, for which there were so many seconds.
@@ -323,10 +306,8 @@ impl<'a> Refusal<'a> {
         ensures fault { result.fault ≡ of_connect fault }
         ensures why { IsSaid result.why (connect_text address.now fault seconds) }
     {
-        Refusal {
-            fault: Fault::from(fault),
-            why: why_address(address, connect_cause(address, fault, seconds)),
-        }
+        let why = why_address(address, connect_cause(address, fault, seconds));
+        Refusal::new(Fault::from(fault), why)
     }
 
     /// The refusal of a server at this address whose workers ended.
@@ -334,10 +315,7 @@ impl<'a> Refusal<'a> {
         ensures fault { result.fault ≡ fault }
         ensures why { IsSaid result.why (accept_text address.now fault) }
     {
-        Refusal {
-            fault,
-            why: why_serving(address, fault),
-        }
+        Refusal::new(fault, why_serving(address, fault))
     }
 }
 
@@ -357,10 +335,7 @@ impl From<ScenarioError> for Refusal<'_> {
             ScenarioError::Fault(fault) => Some(why_scenario(fault)),
             ScenarioError::Memory => None,
         };
-        Refusal {
-            fault: Fault::from(error),
-            why,
-        }
+        Refusal::new(Fault::from(error), why)
     }
 }
 
@@ -372,10 +347,7 @@ impl From<InputFault> for Refusal<'_> {
             InputFault::CannotRead => Some(Why::Input(InputFlaw::CannotRead)),
             InputFault::Memory => None,
         };
-        Refusal {
-            fault: Fault::from(fault),
-            why,
-        }
+        Refusal::new(Fault::from(fault), why)
     }
 }
 
@@ -391,10 +363,7 @@ impl From<WriterFailed> for Refusal<'_> {
     ghost from_gives = { λ _ r. (r.fault ≡ faults.WriterFailed) × IsSaid r.why (Some output_text) };
 
     fn from(failed: WriterFailed) -> Self {
-        Refusal {
-            fault: Fault::from(failed),
-            why: Some(Why::Output),
-        }
+        Refusal::new(Fault::from(failed), Some(Why::Output))
     }
 }
 

@@ -15,6 +15,7 @@ use item_core::Item;
 use item_files::ItemForm;
 use outcome_core::{Direction, Outcome};
 use std::alloc::{AllocError, Global};
+use store_core::PackedItems;
 use store_core::spans::distinct;
 
 /// How sessions are reported.
@@ -61,10 +62,10 @@ fn first_of(items: &[Item], most: usize) -> &[Item]
 }
 
 /// These items in rising order, each once.
-fn rising(alloc: Global, items: &[Item]) -> Result<Vec<Item>, AllocError>
+fn rising(alloc: Global, items: &PackedItems) -> Result<Vec<Item>, AllocError>
     ensures { IfOk result (λ rising. rising.items ≡ set_of items.now) }
 {
-    Ok(distinct(Vec::from_slice(alloc, items)?))
+    Ok(distinct(items.to_vec(alloc)?))
 }
 
 /// Appends the first so many lines of both differences, and how many were left out, if any were.

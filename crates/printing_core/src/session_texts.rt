@@ -14,6 +14,7 @@ use item_files::ItemForm;
 use outcome_core::Outcome;
 use session_table::Totals;
 use std::alloc::{AllocError, Global};
+use store_core::PackedItems;
 use store_core::spans::distinct;
 
 /// The line that says that this address is listened at.
@@ -86,12 +87,12 @@ fn push_rising(
     alloc: Global,
     text: &mut String,
     naming: Naming<'_>,
-    items: &[Item],
+    items: &PackedItems,
 ) -> Result<(), AllocError>
     ensures { OnOk result (string_bytes text.new ≡ string_bytes text.old
         ++ flat_map (named_line naming.entry.form naming.entry.name.now) (set_of items.now)) }
 {
-    let rising = distinct(Vec::from_slice(alloc, items)?);
+    let rising = distinct(items.to_vec(alloc)?);
     push_lines(alloc, text, naming, &rising)
 }
 

@@ -59,6 +59,14 @@ fn why_shards_input(alloc: Global, cap: usize, fault: &LoadFault) -> Option<Why<
     }
 }
 
+/// The refusal with this number of servers of shards that have this flaw.
+fn of_directory<'a>(code: u8, flaw: ShardsFlaw) -> Refusal<'a>
+    ensures fault { result.fault ≡ Fault.Session code }
+    ensures why { IsSaid result.why (Some (shards_flaw_text flaw)) }
+{
+    Refusal::new(Fault::Session { code }, Some(Why::Shards(flaw)))
+}
+
 impl<'a> Refusal<'a> {
     /// The refusal of a file of items of shards, of at most `cap` items each.
     pub fn of_shards_file(alloc: Global, file: &'a str, cap: usize, fault: LoadFault) -> Refusal<'a>
@@ -66,10 +74,7 @@ impl<'a> Refusal<'a> {
         ensures why { IsSaidOfShardsFile file.now cap fault result.why }
     {
         let why = why_shards_file(alloc, file, cap, &fault);
-        Refusal {
-            fault: Fault::from(fault),
-            why,
-        }
+        Refusal::new(Fault::from(fault), why)
     }
 
     /// The refusal of such items of standard input.
@@ -78,10 +83,7 @@ impl<'a> Refusal<'a> {
         ensures why { IsSaidOfShardsInput cap fault result.why }
     {
         let why = why_shards_input(alloc, cap, &fault);
-        Refusal {
-            fault: Fault::from(fault),
-            why,
-        }
+        Refusal::new(Fault::from(fault), why)
     }
 
     /// The refusal of a strategy whose cap is below the number of shards, 2 to the power of `bits`.
@@ -90,13 +92,8 @@ impl<'a> Refusal<'a> {
         ensures fault { result.fault ≡ Fault.TooManyItems }
         ensures why { IsSaid result.why (Some (few_places_text file.now (2 ^ bits))) }
     {
-        Refusal {
-            fault: Fault::TooManyItems,
-            why: Some(Why::FewPlaces {
-                file,
-                shards: 1 << bits,
-            }),
-        }
+        let shards = 1 << bits;
+        Refusal::new(Fault::TooManyItems, Some(Why::FewPlaces { file, shards }))
     }
 
     /// The refusal of servers of which none has this shard.
@@ -104,10 +101,7 @@ impl<'a> Refusal<'a> {
         ensures fault { result.fault ≡ Fault.Session 56 }
         ensures why { IsSaid result.why (Some (shards_flaw_text (flaws.NoServer shard))) }
     {
-        Refusal {
-            fault: Fault::Session { code: NO_SHARD },
-            why: Some(Why::Shards(ShardsFlaw::NoServer { shard })),
-        }
+        of_directory(NO_SHARD, ShardsFlaw::NoServer { shard })
     }
 
     /// The refusal of servers of which two have this shard.
@@ -115,10 +109,7 @@ impl<'a> Refusal<'a> {
         ensures fault { result.fault ≡ Fault.Session 56 }
         ensures why { IsSaid result.why (Some (shards_flaw_text (flaws.TwoServers shard))) }
     {
-        Refusal {
-            fault: Fault::Session { code: NO_SHARD },
-            why: Some(Why::Shards(ShardsFlaw::TwoServers { shard })),
-        }
+        of_directory(NO_SHARD, ShardsFlaw::TwoServers { shard })
     }
 
     /// The refusal of a server whose directory has an item that is no entry.
@@ -126,9 +117,6 @@ impl<'a> Refusal<'a> {
         ensures fault { result.fault ≡ Fault.Session 57 }
         ensures why { IsSaid result.why (Some (shards_flaw_text flaws.BadEntry)) }
     {
-        Refusal {
-            fault: Fault::Session { code: BAD_ENTRY },
-            why: Some(Why::Shards(ShardsFlaw::BadEntry)),
-        }
+        of_directory(BAD_ENTRY, ShardsFlaw::BadEntry)
     }
 }

@@ -13,6 +13,7 @@ ghost use Rattle.version_log.specs.Logs.{IsCap};
 use crate::costs::Costs;
 use crate::reaching::connect_to;
 use crate::sync::{Talk, converse};
+use ends_core::Learned;
 use item_core::Item;
 use item_files::WireProfile;
 use peer_threads::Outcome;
@@ -95,6 +96,15 @@ fn unequal_of(
     }
 }
 
+/// Both lists of what was learned.
+fn lists_of(alloc: Global, learned: &Learned) -> Result<(Vec<Item>, Vec<Item>), Fault>
+    ensures { IfOk result (λ lists. (lists.0.items ≡ learned.now.ours) × (lists.1.items ≡ learned.now.theirs)) }
+{
+    let ours = learned.ours().to_vec(alloc)?;
+    let theirs = learned.theirs().to_vec(alloc)?;
+    Ok((ours, theirs))
+}
+
 /// What a session over both directories says of the server's shards. Else the number of the refusal of this side or of
 /// the peer, `io read` or `io write`, 57 or 90.
 fn told_of<'a>(
@@ -103,7 +113,10 @@ fn told_of<'a>(
     outcome: &Outcome,
 ) -> Result<Vec<Unequal>, Refusal<'a>> {
     match learned_in(outcome) {
-        Ok(learned) => unequal_of(alloc, asker.set.bits, learned.ours(), learned.theirs()),
+        Ok(learned) => {
+            let (ours, theirs) = lists_of(alloc, learned)?;
+            unequal_of(alloc, asker.set.bits, &ours, &theirs)
+        }
         Err(fault) => Err(Refusal::of_session(asker.limits, fault)),
     }
 }

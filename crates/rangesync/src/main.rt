@@ -11,6 +11,7 @@ mod limits;
 mod loading;
 mod loading_shards;
 mod logging;
+mod loops;
 mod metering;
 mod naming;
 mod planning;

@@ -8,6 +8,7 @@ use crate::checking::{Pricing, check_table};
 use crate::limits::{PeerWords, limits_of};
 use crate::loading::{Sources, items_of, load};
 use crate::loading_shards::load_shards;
+use crate::loops::Loops;
 use crate::naming::{set_of, told_of};
 use crate::planning::{Planning, plan};
 use crate::reporting::{Paths, Rules};
@@ -32,11 +33,7 @@ use std::convert::AsStr;
 use std::fs::File;
 use std::io;
 use std::io::{Read, Write};
-use std::net::{Net, TcpListener, TcpStream};
 use std::rt::Files;
-use std::sync::Wait;
-use std::thread::Threads;
-use std::time::Clock;
 use store_core::{FlatStore, RangeStore};
 use tcp_front::Limits;
 use wire_core::decode_message;
@@ -46,22 +43,6 @@ const MAX_ITEMS: usize = 65_536;
 
 /// How many sessions over shards run at once, if no number is given.
 const AT_ONCE: u32 = 8;
-
-/// Answers hex text with hex text.
-fn answer_hex<I: Read + Drop, O: Write + Drop>(
-    alloc: Global,
-    store: &FlatStore,
-    reader: I,
-    out: O,
-) -> Result<(), Fault>
-    requires few { length (flat_items store.now) ≤ 65536 }
-{
-    let text = read_input(alloc, &mut Watched::new(reader))?;
-    let message = decode_message(alloc, &decode_text(alloc, &text)?)?;
-    let reply = list_reply(alloc, store, &message)?;
-    write_output(&mut Watched::new(out), &encode_lines(alloc, &reply)?)?;
-    Ok(())
-}
 
 /// Answers bytes with bytes, or hex text with hex text.
 fn answer_in<I: Read + Drop, O: Write + Drop>(
@@ -73,17 +54,17 @@ fn answer_in<I: Read + Drop, O: Write + Drop>(
 ) -> Result<(), Fault>
     requires few { length (flat_items store.now) ≤ 65536 }
 {
-    if hexed {
-        answer_hex(alloc, store, reader, out)
-    } else {
-        answer(
-            alloc,
-            store,
-            &mut Watched::new(reader),
-            &mut Watched::new(out),
-        )?;
-        Ok(())
+    let mut reader = Watched::new(reader);
+    let mut out = Watched::new(out);
+    if !hexed {
+        answer(alloc, store, &mut reader, &mut out)?;
+        return Ok(());
     }
+    let text = read_input(alloc, &mut reader)?;
+    let message = decode_message(alloc, &decode_text(alloc, &text)?)?;
+    let reply = list_reply(alloc, store, &message)?;
+    write_output(&mut out, &encode_lines(alloc, &reply)?)?;
+    Ok(())
 }
 
 /// Answers the message of the input, in hex or in bytes, for the items of the file.
@@ -134,13 +115,7 @@ fn obey<'a, R, I: Read + Drop, O: Write + Drop, E: Write + Drop + Send>(
     err: &mut E,
 ) -> Result<(), Refusal<'a>>
 where
-    R: Files<File = File>
-        + Net<Listener = TcpListener, Stream = TcpStream>
-        + Threads
-        + Wait
-        + Clock
-        + AllocGlobal
-        + Sync,
+    R: Files<File = File> + Loops,
     requires { AreInSpan task.command }
 {
     let Task {
@@ -189,9 +164,6 @@ where
             table,
             address,
             stdio,
-            set: _,
-            shards: _,
-            only: _,
             workers,
             sessions,
             patience,
@@ -210,6 +182,7 @@ where
             log,
             form,
             items,
+            ..
         } => {
             let serving = Serving {
                 address,
@@ -256,9 +229,6 @@ where
             table,
             address,
             stdio,
-            set: _,
-            shards: _,
-            only: _,
             at_once,
             out: file,
             profile,
@@ -267,6 +237,7 @@ where
             stats,
             form,
             items,
+            ..
         } => {
             let asking = Asking {
                 address,
@@ -347,13 +318,7 @@ pub fn run<R, W: AsStr, I: Read + Drop, O: Write + Drop, E: Write + Drop + Send>
     err: StandardError<E>,
 ) -> u8
 where
-    R: Files<File = File>
-        + Net<Listener = TcpListener, Stream = TcpStream>
-        + Threads
-        + Wait
-        + Clock
-        + AllocGlobal
-        + Sync,
+    R: Files<File = File> + Loops,
     ensures known { result ≤ 3 }
 {
     let StandardError {

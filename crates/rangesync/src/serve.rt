@@ -8,6 +8,7 @@ use crate::disk::Disk;
 use crate::limits::places;
 use crate::loading::Loaded;
 use crate::logging::log_all;
+use crate::loops::Loops;
 use crate::reaching::listen_at;
 use crate::reporting::{Closed, Paths, Reporter, Rules, open_books};
 use crate::watching::{Beginning, Window, open_window, watch};
@@ -27,7 +28,7 @@ use std::io::Write;
 use std::net::{Net, SocketAddr, TcpListener, TcpStream};
 use std::rt::Files;
 use std::sync::{Arc, Mutex, Wait};
-use std::thread::{Threads, join};
+use std::thread::join;
 use std::time::Clock;
 use tcp_front::{Limits, Listener};
 use version_lock::{Seat, VersionLock};
@@ -179,20 +180,13 @@ fn remove_files<R, F: Files>(rt: &F, listener: &Listener<'_, R>, window: Option<
 type Desk<'r, 'a, R, E> = Reporter<'r, 'a, R, Disk<File>, E>;
 
 /// Serves by loops, who are lent this seat, until the source has no more.
-fn work<R, E: Write + Drop + Send>(
+fn work<R: Loops, E: Write + Drop + Send>(
     rt: &R,
     shared: &Shared<'_, Tree, Desk<'_, '_, R, E>>,
     seat: Seat<Tree>,
     listener: &Listener<'_, R>,
     service: Service<'_>,
 ) -> Report
-where
-    R: Net<Listener = TcpListener, Stream = TcpStream>
-        + Threads
-        + Wait
-        + Clock
-        + AllocGlobal
-        + Sync,
     requires lock { seat.table_id ≡ shared.now.lock.now }
     requires fits { seat.view.cap ≤ (arc_value shared.now.accepted.now).table.cap }
     requires workers { IsWorkerCount service.loops }
@@ -205,20 +199,13 @@ where
 }
 
 /// Serves by loops until the source has no more; beside them what could not be written is tried again each second.
-fn work_beside<R, E: Write + Drop + Send>(
+fn work_beside<R: Loops, E: Write + Drop + Send>(
     rt: &R,
     shared: &Shared<'_, Tree, Desk<'_, '_, R, E>>,
     seat: Seat<Tree>,
     listener: &Listener<'_, R>,
     service: Service<'_>,
 ) -> Report
-where
-    R: Net<Listener = TcpListener, Stream = TcpStream>
-        + Threads
-        + Wait
-        + Clock
-        + AllocGlobal
-        + Sync,
     requires lock { seat.table_id ≡ shared.now.lock.now }
     requires fits { seat.view.cap ≤ (arc_value shared.now.accepted.now).table.cap }
     requires workers { IsWorkerCount service.loops }
@@ -237,20 +224,13 @@ where
 }
 
 /// Serves by loops until the source has no more, and sees that what is written to files is tried again, if anything is.
-fn work_and_write<R, E: Write + Drop + Send>(
+fn work_and_write<R: Loops, E: Write + Drop + Send>(
     rt: &R,
     shared: &Shared<'_, Tree, Desk<'_, '_, R, E>>,
     seat: Seat<Tree>,
     listener: &Listener<'_, R>,
     service: Service<'_>,
 ) -> Report
-where
-    R: Net<Listener = TcpListener, Stream = TcpStream>
-        + Threads
-        + Wait
-        + Clock
-        + AllocGlobal
-        + Sync,
     requires lock { seat.table_id ≡ shared.now.lock.now }
     requires fits { seat.view.cap ≤ (arc_value shared.now.accepted.now).table.cap }
     requires workers { IsWorkerCount service.loops }
@@ -263,7 +243,7 @@ where
 }
 
 /// The same; beside it a line is printed for each session, if that is asked for.
-fn work_and_log<R, E: Write + Drop + Send, L: Write + Drop + Send>(
+fn work_and_log<R: Loops, E: Write + Drop + Send, L: Write + Drop + Send>(
     rt: &R,
     shared: &Shared<'_, Tree, Desk<'_, '_, R, E>>,
     seat: Seat<Tree>,
@@ -271,13 +251,6 @@ fn work_and_log<R, E: Write + Drop + Send, L: Write + Drop + Send>(
     service: Service<'_>,
     log: Option<L>,
 ) -> Report
-where
-    R: Net<Listener = TcpListener, Stream = TcpStream>
-        + Threads
-        + Wait
-        + Clock
-        + AllocGlobal
-        + Sync,
     requires lock { seat.table_id ≡ shared.now.lock.now }
     requires fits { seat.view.cap ≤ (arc_value shared.now.accepted.now).table.cap }
     requires workers { IsWorkerCount service.loops }
@@ -298,7 +271,7 @@ where
 }
 
 /// The same; beside it those are answered who watch the server, if there is a window.
-fn work_and_show<R, E: Write + Drop + Send, L: Write + Drop + Send>(
+fn work_and_show<R: Loops, E: Write + Drop + Send, L: Write + Drop + Send>(
     rt: &R,
     shared: &Shared<'_, Tree, Desk<'_, '_, R, E>>,
     seat: Seat<Tree>,
@@ -306,13 +279,6 @@ fn work_and_show<R, E: Write + Drop + Send, L: Write + Drop + Send>(
     service: Service<'_>,
     log: Option<L>,
 ) -> Report
-where
-    R: Net<Listener = TcpListener, Stream = TcpStream>
-        + Threads
-        + Wait
-        + Clock
-        + AllocGlobal
-        + Sync,
     requires lock { seat.table_id ≡ shared.now.lock.now }
     requires fits { seat.view.cap ≤ (arc_value shared.now.accepted.now).table.cap }
     requires workers { IsWorkerCount service.loops }
@@ -376,21 +342,13 @@ fn items_in<R: Wait>(rt: &R, items: usize, shards: Option<&Shards>) -> usize {
 ///
 /// Else 90, 80, 60, or `io write`; and after what was counted 62, or 90 where no worker started, or `io write` where
 /// lines of a file are lost.
-pub fn serve<'a, R, O: Write + Drop, E: Write + Drop + Send>(
+pub fn serve<'a, R: Files<File = File> + Loops, O: Write + Drop, E: Write + Drop + Send>(
     rt: &'a R,
     stock: Stock,
     serving: Serving<'a>,
     outputs: Outputs<O, E>,
     err: &mut E,
 ) -> Result<(), Refusal<'a>>
-where
-    R: Files<File = File>
-        + Net<Listener = TcpListener, Stream = TcpStream>
-        + Threads
-        + Wait
-        + Clock
-        + AllocGlobal
-        + Sync,
     requires cap { stock.loaded.log.cap ≡ stock.loaded.accepted.table.cap }
     requires workers { IsWorkerCount serving.workers }
 {

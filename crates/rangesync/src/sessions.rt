@@ -60,8 +60,8 @@ fn learned_of(alloc: Global, number: u16, learned: &Learned) -> Result<Part, All
 {
     Ok(Part {
         number,
-        ours: Vec::from_slice(alloc, learned.ours())?,
-        theirs: Vec::from_slice(alloc, learned.theirs())?,
+        ours: learned.ours().to_vec(alloc)?,
+        theirs: learned.theirs().to_vec(alloc)?,
     })
 }
 

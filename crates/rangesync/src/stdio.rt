@@ -164,14 +164,14 @@ fn refused<O: Write + Drop>(writer: O, hello: &[u8], received: Tally, code: u8) 
     }
 }
 
-/// Answers a peer over this reader and this writer, if it speaks of the set of this name, and counts what goes through
-/// them.
-fn answer_named<T: Wait + Clock + AllocGlobal, G: Gate, I: Read + Drop, O: Write + Drop>(
+/// Answers a peer over this reader and this writer, and counts what goes through them. One that speaks of another set
+/// is refused, if the set has a name.
+fn answer_one<T: Wait + Clock + AllocGlobal, G: Gate, I: Read + Drop, O: Write + Drop>(
     rt: &T,
     shared: &Shared<'_, Tree, G>,
     seat: &mut Seat<Tree>,
-    set: SetName<'_>,
     ends: (I, O),
+    set: Option<SetName<'_>>,
 ) -> Answered
     requires lock { seat.old.table_id ≡ shared.now.lock.now }
     requires fits { seat.old.view.cap ≤ (arc_value shared.now.accepted.now).table.cap }
@@ -179,6 +179,9 @@ fn answer_named<T: Wait + Clock + AllocGlobal, G: Gate, I: Read + Drop, O: Write
     ensures { seat.new.table_id ≡ seat.old.table_id }
 {
     let alloc = rt.alloc();
+    let Some(set) = set else {
+        return answer_counted(rt, alloc, shared, seat, ends);
+    };
     let (reader, writer) = ends;
     let mut reader = AfterSelector::new(Metered::new(reader));
     let hello = hello_of(alloc, &mut reader);
@@ -191,25 +194,6 @@ fn answer_named<T: Wait + Clock + AllocGlobal, G: Gate, I: Read + Drop, O: Write
     let received = &mut answered.stats.received;
     received.bytes = received.bytes.saturating_add(selector);
     answered
-}
-
-/// Answers a peer over this reader and this writer; one that speaks of another set is refused, if the set has a name.
-fn answer_one<T: Wait + Clock + AllocGlobal, G: Gate, I: Read + Drop, O: Write + Drop>(
-    rt: &T,
-    shared: &Shared<'_, Tree, G>,
-    seat: &mut Seat<Tree>,
-    set: Option<SetName<'_>>,
-    ends: (I, O),
-) -> Answered
-    requires lock { seat.old.table_id ≡ shared.now.lock.now }
-    requires fits { seat.old.view.cap ≤ (arc_value shared.now.accepted.now).table.cap }
-    requires enrolled { IsSome seat.old.view.writer }
-    ensures { seat.new.table_id ≡ seat.old.table_id }
-{
-    match set {
-        Some(set) => answer_named(rt, shared, seat, set, ends),
-        None => answer_counted(rt, rt.alloc(), shared, seat, ends),
-    }
 }
 
 /// Answers a peer over this reader and this writer, and counts what goes through them.
@@ -312,7 +296,7 @@ where
     };
     let (reader, writer) = ends;
     let ends = (limited(reader, serving.limits.most_bytes), writer);
-    let answered = answer_one(rt, &shared, &mut seat, serving.set, ends);
+    let answered = answer_one(rt, &shared, &mut seat, ends, serving.set);
     let closed = reporter.close();
     let totals = sessions.into_inner().totals();
     if serving.watching.log {

@@ -35,75 +35,51 @@ use Rattle.rangesync_c.specs.declared.held.Thing.TheVariants as things
 
 abbrev pub IfStrategy : Thing → (Checked → Type 0) → Type 0
 IfStrategy (things.Strategy x) P = P (arc_value x)
-IfStrategy (things.Set x) P = ⊤
-IfStrategy (things.Version x) P = ⊤
-IfStrategy (things.Session x) P = ⊤
+IfStrategy other P = ⊤
 
 abbrev pub IsStrategy : Thing → (Checked → Type 0) → Type 0
 IsStrategy (things.Strategy x) P = P (arc_value x)
-IsStrategy (things.Set x) P = ⊥
-IsStrategy (things.Version x) P = ⊥
-IsStrategy (things.Session x) P = ⊥
+IsStrategy other P = ⊥
 
 abbrev pub no_strategy : Thing → Bool
 no_strategy (things.Strategy x) = false
-no_strategy (things.Set x) = true
-no_strategy (things.Version x) = true
-no_strategy (things.Session x) = true
+no_strategy other = true
 
 abbrev pub IfSet : Thing → (SetState → Type 0) → Type 0
-IfSet (things.Strategy x) P = ⊤
 IfSet (things.Set x) P = P x
-IfSet (things.Version x) P = ⊤
-IfSet (things.Session x) P = ⊤
+IfSet other P = ⊤
 
 abbrev pub IsSet : Thing → (SetState → Type 0) → Type 0
-IsSet (things.Strategy x) P = ⊥
 IsSet (things.Set x) P = P x
-IsSet (things.Version x) P = ⊥
-IsSet (things.Session x) P = ⊥
+IsSet other P = ⊥
 
 abbrev pub no_set : Thing → Bool
-no_set (things.Strategy x) = true
 no_set (things.Set x) = false
-no_set (things.Version x) = true
-no_set (things.Session x) = true
+no_set other = true
 
 abbrev pub IfVersion : Thing → (VersionState → Type 0) → Type 0
-IfVersion (things.Strategy x) P = ⊤
-IfVersion (things.Set x) P = ⊤
 IfVersion (things.Version x) P = P x
-IfVersion (things.Session x) P = ⊤
+IfVersion other P = ⊤
 
 abbrev pub IsVersion : Thing → (VersionState → Type 0) → Type 0
-IsVersion (things.Strategy x) P = ⊥
-IsVersion (things.Set x) P = ⊥
 IsVersion (things.Version x) P = P x
-IsVersion (things.Session x) P = ⊥
+IsVersion other P = ⊥
 
 abbrev pub no_version : Thing → Bool
-no_version (things.Strategy x) = true
-no_version (things.Set x) = true
 no_version (things.Version x) = false
-no_version (things.Session x) = true
+no_version other = true
 
 abbrev pub IfSession : Thing → (AnySession → Type 0) → Type 0
-IfSession (things.Strategy x) P = ⊤
-IfSession (things.Set x) P = ⊤
-IfSession (things.Version x) P = ⊤
 IfSession (things.Session x) P = P x
+IfSession other P = ⊤
 
 abbrev pub IsSession : Thing → (AnySession → Type 0) → Type 0
-IsSession (things.Strategy x) P = ⊥
-IsSession (things.Set x) P = ⊥
-IsSession (things.Version x) P = ⊥
 IsSession (things.Session x) P = P x
+IsSession other P = ⊥
 
 abbrev pub no_session : Thing → Bool
-no_session (things.Strategy x) = true
-no_session (things.Set x) = true
-no_session (things.Version x) = true
 no_session (things.Session x) = false
+no_session other = true
 
 abbrev pub form_number : ItemForm → ℕ
 form_number forms.Hex = 0

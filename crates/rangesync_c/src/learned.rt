@@ -79,7 +79,7 @@ fn own_at(thing: &Thing, place: usize) -> Result<Item, u32>
         return Err(NOT_THERE);
     };
     match learned.ours().get(place) {
-        Some(item) => Ok(*item),
+        Some(item) => Ok(item),
         None => Err(NOT_THERE),
     }
 }
@@ -100,7 +100,7 @@ fn other_at(thing: &Thing, place: usize) -> Result<Item, u32>
         return Err(NOT_THERE);
     };
     match learned.theirs().get(place) {
-        Some(item) => Ok(*item),
+        Some(item) => Ok(item),
         None => Err(NOT_THERE),
     }
 }

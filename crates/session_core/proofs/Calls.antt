@@ -26,7 +26,8 @@ use Rattle.ends_core.specs.EndStates.{EndState}
 use Rattle.session_core.specs.Outboxes.{OutboxState, outbox_state}
 use Rattle.session_core.specs.Sessions.{TalkState, SessionState, is_open, frame_due, due, IsBegun, Begins, beginning}
 use Rattle.session_core.specs.Sessions.{opened, with_outbox, with_talk, GoesOn, Knows, Pushes, Takes}
-use Rattle.session_core.proofs.Steps.{Laws, later}
+use Rattle.session_core.specs.Laws.{Laws}
+use Rattle.session_core.proofs.Steps.{later}
 
 module _ {F : Type 0} (S : Summary F) (W : Profile F) where
   -- ---- the beginning
@@ -73,6 +74,22 @@ module _ {F : Type 0} (S : Summary F) (W : Profile F) where
   } where
     heard : Goes_on s.start (nothing_taken s.start) ≡ Goes_on h.end h.taken
     heard = ap (λ (e : End F). Goes_on e (nothing_taken s.start)) (sym end) ∙ ap (Goes_on h.end) (sym taken)
+
+  -- ---- one call after another
+
+  -- of nothing
+  pub knows-same : (s : Speaker F) (c : SessionState F) (pushed taken : List ℕ) → Knows S W s c pushed taken →
+      Knows S W s c (pushed ++ []) (taken ++ [])
+  knows-same s c pushed taken k =
+      subst (λ (l : List ℕ). Knows S W s c l (taken ++ [])) (sym (append-nil pushed))
+      (subst (λ (l : List ℕ). Knows S W s c pushed l) (sym (append-nil taken)) k)
+
+  pub knows-joined : (s : Speaker F) (c : SessionState F) (pushed read more taken said tells : List ℕ) →
+      Knows S W s c ((pushed ++ read) ++ more) ((taken ++ said) ++ tells) →
+      Knows S W s c (pushed ++ (read ++ more)) (taken ++ (said ++ tells))
+  knows-joined s c pushed read more taken said tells k =
+      subst (λ (l : List ℕ). Knows S W s c l (taken ++ (said ++ tells))) (append_assoc pushed read more)
+      (subst (λ (l : List ℕ). Knows S W s c ((pushed ++ read) ++ more) l) (append_assoc taken said tells) k)
 
   -- ---- what is taken, and texts that are made
 

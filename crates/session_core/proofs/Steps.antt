@@ -23,8 +23,8 @@ use Rattle.definitions.specs.Streams.{Standing, Before_hello, In_message, Meanin
 use Rattle.definitions.specs.Ends.{End, is_live, is_over}
 use Rattle.definitions.specs.Engines.{Speaker, says, own, session, messages_in}
 use Rattle.definitions.specs.Hearing.{Hearing, Goes_on, Over_at, hears, hearing_to, goes_unless}
-use Rattle.laws.specs.Hearing.{has_stopped, HearingsGoOn, BytesAgree, AgreesBy}
-use Rattle.codec_laws.specs.Parts.{FeedsJoin, joined}
+use Rattle.laws.specs.Hearing.{has_stopped, AgreesBy}
+use Rattle.codec_laws.specs.Parts.{joined}
 use Rattle.codec_laws.proofs.Fields.{IsBytes-both}
 use Rattle.wire_core.specs.Feeds.{StreamState, Holds, fed_into, fault_at}
 use Rattle.ends_core.specs.EndStates.{EndState}
@@ -34,10 +34,11 @@ use Rattle.session_core.specs.Sessions.{TalkState, SessionState, is_open, frame_
 use Rattle.wire_core.specs.Events.{event_value}
 use Rattle.wire_core.specs.declared.event.Event as declared
 use Rattle.session_core.specs.Sessions.{HearsIf, IsFed, IsBegun, begun_after}
+use Rattle.session_core.specs.Laws.{Laws}
 use Rattle.session_core.specs.Sizes.{plus, parts_after}
 use Rattle.session_core.specs.Sessions.{finished, hearing_at, said_by, Hears}
 use Rattle.ends_core.specs.Sides.{said_to}
-use Rattle.session_core.specs.Sessions.{IsEnd, Goes, Lasts, Stays, GoesOn, Knows, Pushes}
+use Rattle.session_core.specs.Sessions.{IsEnd, Tells, Goes, Lasts, Stays, GoesOn, Knows, Pushes}
 use Rattle.ends_core.specs.Sides.{session_at}
 use Rattle.session_core.proofs.Heard.{so_far, events_in, hearing-on, hearing-fault, said-of}
 
@@ -80,15 +81,9 @@ regroup a b c d =
     ∙ sym (append_assoc a (b ++ c) d)
 
 module _ {F : Type 0} (S : Summary F) (W : Profile F) where
-  -- the laws that are cited, in one place
-  pub record Laws : Type 0 where
-    pub go_on : HearingsGoOn S
-    pub agree : BytesAgree S W
-    pub join : FeedsJoin W
-
   -- ---- the stream
 
-  pub holds-on : Laws → (f g : StreamState) (bytes piece : List ℕ) (es new : List (Event F)) →
+  pub holds-on : Laws S W → (f g : StreamState) (bytes piece : List ℕ) (es new : List (Event F)) →
       IsBytes bytes → IsBytes piece →
       Holds W f bytes es → feed W f.standing (f.kept ++ piece) ≡ fed_into new g →
       Holds W g (bytes ++ piece) (es ++ new)
@@ -97,6 +92,19 @@ module _ {F : Type 0} (S : Summary F) (W : Profile F) where
       ∙ ap (λ (a : Fed F). joined a (feed W a.to (a.kept ++ piece))) holds
       ∙ ap (λ (b : Fed F). joined (fed_into es f) b) step
 
+  -- the same of a piece that completes no event
+  holds-same : Laws S W → (f g : StreamState) (bytes piece : List ℕ) (es : List (Event F)) → IsBytes bytes →
+      IsBytes piece → Holds W f bytes es → feed W f.standing (f.kept ++ piece) ≡ fed_into [] g →
+      Holds W g (bytes ++ piece) es
+  holds-same laws f g bytes piece es fits more holds step =
+      subst (Holds W g (bytes ++ piece)) (append-nil es) (holds-on laws f g bytes piece es [] fits more holds step)
+
+  said-same : (s : Speaker F) (f g : StreamState) (bytes more : List ℕ) (es : List (Event F)) → Holds W f bytes es →
+      Holds W g more es → said_to S W s more ≡ said_to S W s bytes
+  said-same s f g bytes more es holds now =
+      said-of S W s more es (ap (λ (a : Fed F). a.events) now)
+      ∙ sym (said-of S W s bytes es (ap (λ (a : Fed F). a.events) holds))
+
   -- ---- what a session that goes on, or has stopped, says
 
   abbrev Text : Speaker F → SessionState F → List ℕ → List ℕ → Type 0
@@ -104,7 +112,7 @@ module _ {F : Type 0} (S : Summary F) (W : Profile F) where
       taken ++ due W c.talk ≡ session_text W (said_to S W s pushed) ++ frame_of c.talk.state
 
   -- the end is the one that the messages make
-  end-of : Laws → (s : Speaker F) (over : Bool) (bytes : List ℕ) (x : State) (h : EndState F) →
+  end-of : Laws S W → (s : Speaker F) (over : Bool) (bytes : List ℕ) (x : State) (h : EndState F) →
       is_live s.start.stage ≡ true → hearing_to S W s over bytes ≡ hearing_at x h →
       IsEnd S W x h.end (session_at S W s bytes)
   end-of laws s over bytes x h live heard = by x heard where
@@ -124,7 +132,16 @@ module _ {F : Type 0} (S : Summary F) (W : Profile F) where
     by (states.Refused code) heard = tt
     by (states.PeerRefused code) heard = tt
 
-  pub knows-open : Laws → (s : Speaker F) (c : SessionState F) (pushed taken : List ℕ) →
+  told : Laws S W → (s : Speaker F) (c : SessionState F) (pushed taken : List ℕ) → is_live s.start.stage ≡ true →
+      hearing_to S W s c.over pushed ≡ hearing_at c.talk.state c.talk.held → Text s c pushed taken →
+      Tells S W s c pushed taken
+  told laws s c pushed taken live heard text = record {
+    heard = heard;
+    end = end-of laws s c.over pushed c.talk.state c.talk.held live heard;
+    text = text;
+  }
+
+  pub knows-open : Laws S W → (s : Speaker F) (c : SessionState F) (pushed taken : List ℕ) →
       is_live s.start.stage ≡ true → IsBytes pushed → is_open c.talk.state ≡ true → Goes S W s c pushed →
       Text s c pushed taken → Knows S W s c pushed taken
   knows-open laws s c pushed taken live fits is goes text =
@@ -134,16 +151,12 @@ module _ {F : Type 0} (S : Summary F) (W : Profile F) where
       ∙ sym (open-hears c.talk.state c.talk.held is) in
       record {
         are_bytes = fits;
-        tells = record {
-          heard = heard;
-          end = end-of laws s c.over pushed c.talk.state c.talk.held live heard;
-          text = text;
-        };
+        tells = told laws s c pushed taken live heard text;
         goes_on = subst (λ (b : Bool). GoesOn S W b s c pushed) (sym is) goes;
         ended = λ over. let wrong = sym is ∙ ap is_open over in absurd cc;
       }
 
-  pub knows-closed : Laws → (s : Speaker F) (c : SessionState F) (pushed taken : List ℕ) →
+  pub knows-closed : Laws S W → (s : Speaker F) (c : SessionState F) (pushed taken : List ℕ) →
       is_live s.start.stage ≡ true → IsBytes pushed → is_open c.talk.state ≡ false →
       Lasts S W s c.talk pushed → Text s c pushed taken → (c.talk.state ≡ states.Ended → c.talk.parts ≡ 0) →
       Knows S W s c pushed taken
@@ -152,11 +165,7 @@ module _ {F : Type 0} (S : Summary F) (W : Profile F) where
       ∙ (lasts [] c.over tt).0 in
       record {
         are_bytes = fits;
-        tells = record {
-          heard = heard;
-          end = end-of laws s c.over pushed c.talk.state c.talk.held live heard;
-          text = text;
-        };
+        tells = told laws s c pushed taken live heard text;
         goes_on = subst (λ (b : Bool). GoesOn S W b s c pushed) (sym closed) (inr lasts);
         ended = ended;
       }
@@ -205,7 +214,7 @@ module _ {F : Type 0} (S : Summary F) (W : Profile F) where
 
   -- ---- a piece that completes no event
 
-  pub quiet : Laws → (s : Speaker F) (c d : SessionState F) (piece pushed taken : List ℕ) →
+  pub quiet : Laws S W → (s : Speaker F) (c d : SessionState F) (piece pushed taken : List ℕ) →
       is_live s.start.stage ≡ true → is_open c.talk.state ≡ true → IsBytes piece →
       d.talk ≡ c.talk → d.over ≡ c.over → d.begun ≡ plus c.begun (length piece) →
       feed W c.feed.standing (c.feed.kept ++ piece) ≡ fed_into [] d.feed → fault_at d.feed.standing ≡ None →
@@ -233,12 +242,10 @@ module _ {F : Type 0} (S : Summary F) (W : Profile F) where
         g = goes-of s c pushed taken goes k
 
         on : Holds W d.feed (pushed ++ piece) g.events
-        on = subst (Holds W d.feed (pushed ++ piece)) (append-nil g.events)
-            (holds-on laws c.feed d.feed pushed piece g.events [] k.are_bytes more g.holds step)
+        on = holds-same laws c.feed d.feed pushed piece g.events k.are_bytes more g.holds step
 
         same : said_to S W s (pushed ++ piece) ≡ said_to S W s pushed
-        same = said-of S W s (pushed ++ piece) g.events (ap (λ (f : Fed F). f.events) on)
-            ∙ sym (said-of S W s pushed g.events (ap (λ (f : Fed F). f.events) g.holds))
+        same = said-same s c.feed d.feed pushed (pushed ++ piece) g.events g.holds on
 
   -- ---- an event
 
@@ -256,7 +263,7 @@ module _ {F : Type 0} (S : Summary F) (W : Profile F) where
   ended-none t u (Failed code) h is =
       let over = ap (λ (x : State). hearing_at x u.held) (sym is) ∙ h.heard in absurd cc
 
-  pub one-event : Laws → (s : Speaker F) (c d : SessionState F) (e : Event F) (piece pushed taken : List ℕ) →
+  pub one-event : Laws S W → (s : Speaker F) (c d : SessionState F) (e : Event F) (piece pushed taken : List ℕ) →
       is_live s.start.stage ≡ true → is_open c.talk.state ≡ true → IsBytes piece →
       Hears S W c.talk e d.talk → d.over ≡ c.over → d.begun ≡ 0 →
       feed W c.feed.standing (c.feed.kept ++ piece) ≡ fed_into (e ∷ []) d.feed → fault_at d.feed.standing ≡ None →
@@ -355,7 +362,7 @@ module _ {F : Type 0} (S : Summary F) (W : Profile F) where
       ∙ ap (λ (l : List (Message F)). session_text W l ++ fault_text code) (sym same)
       ∙ ap (λ (t : TalkState F). session_text W (said_to S W s more) ++ frame_of t.state) (sym talk)
 
-  pub faulty : Laws → (s : Speaker F) (c d : SessionState F) (code : ℕ) (piece pushed taken : List ℕ) →
+  pub faulty : Laws S W → (s : Speaker F) (c d : SessionState F) (code : ℕ) (piece pushed taken : List ℕ) →
       is_live s.start.stage ≡ true → is_open c.talk.state ≡ true → IsBytes piece →
       d.talk ≡ refused_by c.talk code → d.over ≡ c.over →
       feed W c.feed.standing (c.feed.kept ++ piece) ≡ fed_into [] d.feed → Some code ≡ fault_at d.feed.standing →
@@ -374,12 +381,10 @@ module _ {F : Type 0} (S : Summary F) (W : Profile F) where
         at = fault-is d.feed.standing code fault
 
         on : Holds W d.feed (pushed ++ piece) g.events
-        on = subst (Holds W d.feed (pushed ++ piece)) (append-nil g.events)
-            (holds-on laws c.feed d.feed pushed piece g.events [] k.are_bytes more g.holds step)
+        on = holds-same laws c.feed d.feed pushed piece g.events k.are_bytes more g.holds step
 
         same : said_to S W s (pushed ++ piece) ≡ said_to S W s pushed
-        same = said-of S W s (pushed ++ piece) g.events (ap (λ (f : Fed F). f.events) on)
-            ∙ sym (said-of S W s pushed g.events (ap (λ (f : Fed F). f.events) g.holds))
+        same = said-same s c.feed d.feed pushed (pushed ++ piece) g.events g.holds on
 
         lasts : Lasts S W s d.talk (pushed ++ piece)
         lasts later end bytes =
@@ -398,7 +403,7 @@ module _ {F : Type 0} (S : Summary F) (W : Profile F) where
 
   -- ---- what comes later
 
-  pub later : Laws → (s : Speaker F) (c : SessionState F) (more pushed taken : List ℕ) →
+  pub later : Laws S W → (s : Speaker F) (c : SessionState F) (more pushed taken : List ℕ) →
       is_live s.start.stage ≡ true → is_open c.talk.state ≡ false → c.over ≡ false → IsBytes more →
       Knows S W s c pushed taken → Knows S W s c (pushed ++ more) taken
   later laws s c more pushed taken live closed listens bytes k =
@@ -421,7 +426,7 @@ module _ {F : Type 0} (S : Summary F) (W : Profile F) where
   -- ---- the end of the bytes
 
   -- the session has stopped, or it is refused
-  pub finish : Laws → (s : Speaker F) (c : SessionState F) (pushed taken : List ℕ) →
+  pub finish : Laws S W → (s : Speaker F) (c : SessionState F) (pushed taken : List ℕ) →
       is_live s.start.stage ≡ true → Knows S W s c pushed taken → Knows S W s (finished c) pushed taken
   finish laws s c pushed taken live k = by (is_open c.talk.state) refl where
     d : SessionState F
@@ -442,11 +447,8 @@ module _ {F : Type 0} (S : Summary F) (W : Profile F) where
         ∙ ap (λ (t : TalkState F). hearing_at t.state t.held) (sym talk) in
         record {
           are_bytes = k.are_bytes;
-          tells = record {
-            heard = heard;
-            end = end-of laws s true pushed d.talk.state d.talk.held live heard;
-            text = refused-text s c d truncated pushed pushed taken goes talk refl k;
-          };
+          tells = told laws s d pushed taken live heard
+              (refused-text s c d truncated pushed pushed taken goes talk refl k);
           goes_on = subst (λ (b : Bool). GoesOn S W b s d pushed)
               (sym (ap (λ (t : TalkState F). is_open t.state) talk)) (inl refl);
           ended = λ over. let wrong = sym (ap (λ (t : TalkState F). t.state) talk) ∙ over in absurd cc;
@@ -458,12 +460,9 @@ module _ {F : Type 0} (S : Summary F) (W : Profile F) where
         ∙ ap (λ (t : TalkState F). hearing_at t.state t.held) (sym talk) in
         record {
           are_bytes = k.are_bytes;
-          tells = record {
-            heard = heard;
-            end = end-of laws s true pushed d.talk.state d.talk.held live heard;
-            text = ap (λ (t : TalkState F). taken ++ due W t) talk ∙ k.tells.text
-                ∙ ap (λ (x : State). session_text W (said_to S W s pushed) ++ frame_of x) (sym state);
-          };
+          tells = told laws s d pushed taken live heard
+              (ap (λ (t : TalkState F). taken ++ due W t) talk ∙ k.tells.text
+              ∙ ap (λ (x : State). session_text W (said_to S W s pushed) ++ frame_of x) (sym state));
           goes_on = subst (λ (b : Bool). GoesOn S W b s d pushed) (sym (ap is_open state ∙ closed)) (inl refl);
           ended = λ over. ap (λ (t : TalkState F). t.parts) talk ∙ k.ended (sym state ∙ over);
         } where
@@ -475,7 +474,7 @@ module _ {F : Type 0} (S : Summary F) (W : Profile F) where
   -- ---- one piece
 
   -- the feed took the piece, and its event, if there is one, was heard
-  pub piece-heard : Laws → (s : Speaker F) (c d : SessionState F) (event : Option (declared.Event F))
+  pub piece-heard : Laws S W → (s : Speaker F) (c d : SessionState F) (event : Option (declared.Event F))
       (piece pushed taken : List ℕ) → is_live s.start.stage ≡ true → is_open c.talk.state ≡ true → IsBytes piece →
       HearsIf S W c.talk event d.talk → d.over ≡ c.over → d.begun ≡ begun_after event c.begun (length piece) →
       IsFed W c.feed piece event d.feed →
@@ -486,7 +485,7 @@ module _ {F : Type 0} (S : Summary F) (W : Profile F) where
       one-event laws s c d (event_value e) piece pushed taken live goes bytes heard over begun step fine none k
 
   -- it was kept, since it completes no event
-  pub piece-kept : Laws → (c d : SessionState F) (piece : List ℕ) →
+  pub piece-kept : Laws S W → (c d : SessionState F) (piece : List ℕ) →
       is_open c.talk.state ≡ true → IsBytes piece → d.talk ≡ c.talk → d.over ≡ c.over →
       d.begun ≡ plus c.begun (length piece) →
       feed W c.feed.standing (c.feed.kept ++ piece) ≡ fed_into [] d.feed → fault_at d.feed.standing ≡ None →

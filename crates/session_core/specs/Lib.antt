@@ -19,3 +19,4 @@ pub mod Sizes
 pub mod Outboxes
 pub mod Sessions
 pub mod Kept
+pub mod Laws

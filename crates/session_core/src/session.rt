@@ -13,6 +13,7 @@ ghost use Rattle.wire_core.specs.Refused.{fault_number};
 ghost use Rattle.wire_core.specs.Feeds.{fed_into, fault_at};
 ghost use Rattle.ends_core.specs.Roles.{most_of};
 ghost use Rattle.session_core.specs.Kept.{kept_by};
+ghost use Rattle.session_core.specs.Laws.{Laws};
 ghost use Rattle.session_core.specs.Outboxes.{outbox_state};
 ghost use Rattle.session_core.specs.Sizes.{message_size};
 ghost use Rattle.session_core.specs.Sessions.{begun_after, due, opened, with_talk, finished, with_outbox};
@@ -58,6 +59,15 @@ fn are_bytes(bytes: &[u8])
 {
     codec_laws::reads_are_bytes();
     let _ = bytes;
+}
+
+/// The laws of bytes that are pushed in pieces, in one place.
+fn stream_laws<F: Summary>()
+    ensures { Laws F.summary F.profile }
+{
+    codec_laws::feeds_join::<F>();
+    laws::hearings_go_on::<F>();
+    laws::bytes_agree::<F>();
 }
 
 /// How many bytes came after the last whole frame, where so many did before a piece of this length.
@@ -163,9 +173,7 @@ impl<R: Role, S: RangeStore, F: Summary> Session<R, S, F> {
         ensures all { IfOk result (λ n. is_open self.new.talk.state ≡ false → n ≡ length piece.now) }
         ensures memory { OnErr result (self.new ≡ self.old) }
     {
-        codec_laws::feeds_join::<F>();
-        laws::hearings_go_on::<F>();
-        laws::bytes_agree::<F>();
+        stream_laws::<F>();
         are_bytes(piece);
         if self.over {
             return Ok(piece.len());
@@ -237,9 +245,7 @@ impl<R: Role, S: RangeStore, F: Summary> Session<R, S, F> {
         ensures over { self.new.over ≡ self.old.over }
         ensures memory { OnErr result (self.new ≡ self.old) }
     {
-        codec_laws::feeds_join::<F>();
-        laws::hearings_go_on::<F>();
-        laws::bytes_agree::<F>();
+        stream_laws::<F>();
         if !self.feed.keep(piece)? {
             return Ok(false);
         }
@@ -262,9 +268,7 @@ impl<R: Role, S: RangeStore, F: Summary> Session<R, S, F> {
         ensures over { self.new.over ≡ self.old.over }
         ensures memory { OnErr result (self.new ≡ self.old) }
     {
-        codec_laws::feeds_join::<F>();
-        laws::hearings_go_on::<F>();
-        laws::bytes_agree::<F>();
+        stream_laws::<F>();
         let begun = bytes_begun(self.begun, piece.len(), &event);
         self.talk.hear_if(alloc, event)?;
         self.feed = feed;
@@ -281,9 +285,7 @@ impl<R: Role, S: RangeStore, F: Summary> Session<R, S, F> {
         ensures pushes { Pushes F.summary F.profile self.old piece.now self.new }
         ensures over { self.new.over ≡ self.old.over }
     {
-        codec_laws::feeds_join::<F>();
-        laws::hearings_go_on::<F>();
-        laws::bytes_agree::<F>();
+        stream_laws::<F>();
         let _ = piece; // proof only
         self.talk.refuse(fault.number());
         self.feed = feed;
@@ -296,9 +298,7 @@ impl<R: Role, S: RangeStore, F: Summary> Session<R, S, F> {
         ensures knows { (s : Speaker F) (pushed taken : List ℕ) → is_live s.start.stage ≡ true →
             Knows F.summary F.profile s self.old pushed taken → Knows F.summary F.profile s self.new pushed taken }
     {
-        codec_laws::feeds_join::<F>();
-        laws::hearings_go_on::<F>();
-        laws::bytes_agree::<F>();
+        stream_laws::<F>();
         self.cut_off();
     }
 

@@ -3,24 +3,13 @@ use Rattle.std.proofs.Common.{◌≡◌, ◌<◌, ◌≤◌, ◌^◌, ℕ, List,
 use Rattle.std.proofs.Common.{Result, Ok, Err, arith, subst}
 use Rattle.std.specs.Prelude.{nat_lt, ◌&&◌, if◌then◌else◌}
 use Rattle.std.specs.Result.{result_ok}
-use Rattle.std.specs.Char.{is_ascii_digit, digit_value}
+use Rattle.std.specs.Char.{is_ascii_digit}
 use Rattle.std.specs.List.{list_all}
-use Rattle.std.specs.Str.Parse.{digits_value, ParsesUnsigned, IsNumeral, AllDigits, without_leading_plus}
-use Rattle.std.proofs.lemmas.Bool.{and_parts, ltb-true}
+use Rattle.std.specs.Str.Parse.{digits_value, ParsesUnsigned, IsNumeral}
+use Rattle.std.proofs.lemmas.Bool.{ltb-true}
 use Rattle.std.proofs.Math.Pow.{pow_mono}
+use Rattle.definitions.proofs.Digits.{all_small, unsigned}
 use Rattle.settings_core.specs.ShardWords.{are_digits, shard_in}
-
-digit_small : (d : ℕ) → is_ascii_digit d ≡ true → digit_value d < 10
-digit_small d h = grind arith
-
-all_small : (ds : List ℕ) → list_all is_ascii_digit ds ≡ true → AllDigits 10 ds
-all_small [] h = tt
-all_small (d ∷ ds) h = let both = and_parts (is_ascii_digit d) (list_all is_ascii_digit ds) h in
-    (digit_small d both.0, all_small ds both.1)
-
-unsigned : (ds : List ℕ) → list_all is_ascii_digit ds ≡ true → without_leading_plus ds ≡ ds
-unsigned [] h = refl
-unsigned (d ∷ ds) h = grind arith
 
 none_if : (a b : Bool) (n : ℕ) → b ≡ false → None ≡ (if a && b then Some n else None)
 none_if true b n is = rw is refl

@@ -91,12 +91,6 @@ pub small : (least most : ℕ) → most < 2 ^ 32 → (x : Option ℕ) → IfSome
 small least most fits None span = tt
 small least most fits (Some n) span = let high = span.1 in omega (arith, fits, high)
 
--- another number names no profile
-pub no_profile : (text : Option Text) (n : ℕ) → IsWritten text (Some n) → (n ≡ 1 → ⊥) → (n ≡ 2 → ⊥) →
-    (p : WireProfile) → IsWritten text (Some (profile_number p)) → ⊥
-no_profile text n written one two profiles.One other = one (same_number text n 1 written other)
-no_profile text n written one two profiles.Two other = two (same_number text n 2 written other)
-
-pub small_profile : (p : WireProfile) → profile_number p < 2 ^ 8
-small_profile profiles.One = omega arith
-small_profile profiles.Two = omega arith
+pub profile_within : (p : WireProfile) → IsWithin 1 2 (profile_number p)
+profile_within profiles.One = (omega arith, omega arith)
+profile_within profiles.Two = (omega arith, omega arith)

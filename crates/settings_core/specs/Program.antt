@@ -41,7 +41,7 @@ number name least most = record (valued name) { parser = Some (Signed (pos least
 abbrev pub defaulting : Rule → Text → Rule
 defaulting r value = record r { defaults = value ∷ [] }
 
--- ---- arguments
+-- ---- arguments of several commands
 
 -- `ITEMS`, and whether it must be given
 abbrev pub items : Bool → Rule
@@ -59,81 +59,13 @@ address = defaulting (valued (codes "addr")) default_address
 abbrev pub stdio : Rule
 stdio = flag (codes "stdio")
 
--- `--out FILE`
-abbrev pub out : Rule
-out = valued (codes "out")
-
--- `--workers N`, of 1 to 16
-abbrev pub workers : Rule
-workers = defaulting (number (codes "workers") 1 16) (codes "4")
-
--- `--sessions N`, of 1 to 1,000,000
-abbrev pub sessions : Rule
-sessions = number (codes "sessions") 1 1000000
-
--- `--profile P`, of 1 or 2
-abbrev pub profile : Rule
-profile = defaulting (number (codes "profile") 1 2) (codes "1")
-
--- `--patience SECONDS`, of 1 to 86,400
-abbrev pub patience : Rule
-patience = defaulting (number (codes "patience") 1 86400) (codes "60")
-
--- `--most-bytes N`, of 1,024 to 4,294,967,295
-abbrev pub most_bytes : Rule
-most_bytes = defaulting (number (codes "most-bytes") 1024 4294967295) (codes "33554432")
-
--- `--peers N`, of 1 to 65,535
-abbrev pub peers : Rule
-peers = number (codes "peers") 1 65535
-
--- `--session-seconds SECONDS`, of 1 to 604,800
-abbrev pub session_seconds : Rule
-session_seconds = number (codes "session-seconds") 1 604800
-
--- `--memory MIB`, of 1 to 1,048,576
-abbrev pub memory : Rule
-memory = number (codes "memory") 1 1048576
-
--- `--hex`
-abbrev pub hex : Rule
-hex = flag (codes "hex")
-
 -- `--text`
 abbrev pub text : Rule
 text = flag (codes "text")
 
--- `--stats`
-abbrev pub stats : Rule
-stats = flag (codes "stats")
-
--- `--report FILE`
-abbrev pub report : Rule
-report = valued (codes "report")
-
--- `--learned FILE`
-abbrev pub learned : Rule
-learned = valued (codes "learned")
-
--- `--keep FILE`
-abbrev pub keep : Rule
-keep = valued (codes "keep")
-
--- `--durable`
-abbrev pub durable : Rule
-durable = flag (codes "durable")
-
--- `--most-learned N`, of 1 to 4,294,967,295
-abbrev pub most_learned : Rule
-most_learned = number (codes "most-learned") 1 4294967295
-
--- `--read-only`
-abbrev pub read_only : Rule
-read_only = flag (codes "read-only")
-
--- `--report-items N`, of 0 to 4,294,967,295
-abbrev pub report_items : Rule
-report_items = number (codes "report-items") 0 4294967295
+-- `--why`
+abbrev pub why : Rule
+why = flag (codes "why")
 
 -- `--set NAME`
 abbrev pub set_name : Rule
@@ -147,25 +79,13 @@ shard_bits = number (codes "shards") 0 12
 abbrev pub only : Rule
 only = valued (codes "only")
 
--- `--at-once N`, of 1 to 64
-abbrev pub at_once : Rule
-at_once = number (codes "at-once") 1 64
+-- `--patience SECONDS`, of 1 to 86,400
+abbrev pub patience : Rule
+patience = defaulting (number (codes "patience") 1 86400) (codes "60")
 
--- `--metrics A`
-abbrev pub metrics : Rule
-metrics = valued (codes "metrics")
-
--- `--log`
-abbrev pub log : Rule
-log = flag (codes "log")
-
--- `--why`
-abbrev pub why : Rule
-why = flag (codes "why")
-
--- `--cost`
-abbrev pub cost : Rule
-cost = flag (codes "cost")
+-- `--most-bytes N`, of 1,024 to 4,294,967,295
+abbrev pub most_bytes : Rule
+most_bytes = defaulting (number (codes "most-bytes") 1024 4294967295) (codes "33554432")
 
 -- `--items N`, of 1 to 65,536
 abbrev pub item_count : Rule
@@ -175,26 +95,6 @@ item_count = number (codes "items") 1 65536
 abbrev pub item_length : Rule
 item_length = number (codes "length") 4 64
 
--- `--differences D`, of 0 to 65,536
-abbrev pub differences : Rule
-differences = number (codes "differences") 0 65536
-
--- `--round-trip MS`, of 0 to 60,000
-abbrev pub round_trip : Rule
-round_trip = number (codes "round-trip") 0 60000
-
--- `--rate MBIT`, of 1 to 100,000
-abbrev pub rate : Rule
-rate = number (codes "rate") 1 100000
-
--- `--search SECONDS`, of 1 to 3,600
-abbrev pub search_time : Rule
-search_time = number (codes "search") 1 3600
-
--- `FILE`
-abbrev pub file : Rule
-file = placed (codes "FILE") true
-
 -- ---- commands
 
 -- the command with these arguments after its own
@@ -202,14 +102,16 @@ abbrev pub with_rules : App → List Rule → App
 with_rules a rules = on_top (λ s. record s { rules = s.rules ++ rules }) a
 
 abbrev pub answer : App
-answer = with_rules (new_app (codes "answer")) (hex ∷ text ∷ why ∷ items true ∷ [])
+answer = with_rules (new_app (codes "answer")) (flag (codes "hex") ∷ text ∷ why ∷ items true ∷ [])
 
 abbrev pub check : App
-check = with_rules (new_app (codes "check")) (cost ∷ item_count ∷ item_length ∷ why ∷ file ∷ [])
+check = with_rules (new_app (codes "check"))
+    (flag (codes "cost") ∷ item_count ∷ item_length ∷ why ∷ placed (codes "FILE") true ∷ [])
 
 abbrev pub plan : App
 plan = with_rules (new_app (codes "plan"))
-    (item_count ∷ differences ∷ item_length ∷ round_trip ∷ rate ∷ search_time ∷ why ∷ [])
+    (item_count ∷ number (codes "differences") 0 65536 ∷ item_length ∷ number (codes "round-trip") 0 60000
+    ∷ number (codes "rate") 1 100000 ∷ number (codes "search") 1 3600 ∷ why ∷ [])
 
 abbrev pub sim : App
 sim = with_rules (new_app (codes "sim")) (why ∷ [])
@@ -217,17 +119,21 @@ sim = with_rules (new_app (codes "sim")) (why ∷ [])
 -- `serve` without its ITEMS
 abbrev pub served : App
 served = with_rules (new_app (codes "serve"))
-    (table ∷ address ∷ stdio ∷ set_name ∷ shard_bits ∷ only ∷ workers ∷ sessions ∷ patience ∷ most_bytes ∷ peers
-    ∷ session_seconds ∷ memory ∷ report ∷ learned ∷ keep ∷ durable ∷ most_learned ∷ read_only ∷ report_items ∷ metrics
-    ∷ log ∷ text ∷ why ∷ [])
+    (table ∷ address ∷ stdio ∷ set_name ∷ shard_bits ∷ only ∷ defaulting (number (codes "workers") 1 16) (codes "4")
+    ∷ number (codes "sessions") 1 1000000 ∷ patience ∷ most_bytes ∷ number (codes "peers") 1 65535
+    ∷ number (codes "session-seconds") 1 604800 ∷ number (codes "memory") 1 1048576 ∷ valued (codes "report")
+    ∷ valued (codes "learned") ∷ valued (codes "keep") ∷ flag (codes "durable")
+    ∷ number (codes "most-learned") 1 4294967295 ∷ flag (codes "read-only")
+    ∷ number (codes "report-items") 0 4294967295 ∷ valued (codes "metrics") ∷ flag (codes "log") ∷ text ∷ why ∷ [])
 
 abbrev pub serve : Bool → App
 serve must = with_rules served (items must ∷ [])
 
 abbrev pub sync : App
 sync = with_rules (new_app (codes "sync"))
-    (table ∷ address ∷ stdio ∷ set_name ∷ shard_bits ∷ only ∷ at_once ∷ out ∷ profile ∷ patience ∷ most_bytes ∷ stats
-    ∷ text ∷ why ∷ items true ∷ [])
+    (table ∷ address ∷ stdio ∷ set_name ∷ shard_bits ∷ only ∷ number (codes "at-once") 1 64 ∷ valued (codes "out")
+    ∷ defaulting (number (codes "profile") 1 2) (codes "1") ∷ patience ∷ most_bytes ∷ flag (codes "stats") ∷ text ∷ why
+    ∷ items true ∷ [])
 
 -- the program itself, which has a version and asks for a command
 abbrev pub top : App

@@ -3,10 +3,7 @@
 ghost use Rattle.std.specs.Prelude.{◌≡◌, ◌≤◌, codes, option_map, IfSome, IsSomeAnd, Some};
 ghost use Rattle.clap.specs.Words.{first_of, found_of, rows_of, subcommand_rows_of};
 ghost use Rattle.settings_core.specs.Calls.{AsksFor, CallsFor, Finds, IsFlag, IsNumber, is_text, profile_number};
-ghost use Rattle.settings_core.specs.Spans.{IsByteCount, IsLearnedCount, IsPatience, IsReportedCount, IsSessionCount};
-ghost use Rattle.settings_core.specs.Spans.{IsWithin, IsWorkerCount};
-ghost use Rattle.settings_core.specs.Spans.{IsItemCount, IsItemLength, IsDifferenceCount, IsRoundTrip, IsRate};
-ghost use Rattle.settings_core.specs.Spans.{IsSearch, IsPeerCount, IsSessionTime, IsMemory, IsShardBits, IsAtOnce};
+ghost use Rattle.settings_core.specs.Spans.{IsLearnedCount, IsReportedCount, IsWithin, IsWorkerCount};
 
 use crate::known_words::{
     MAX_AT_ONCE, MAX_ITEM_LENGTH, MAX_ITEMS, MAX_MEMORY, MAX_PATIENCE, MAX_PEERS, MAX_RATE,
@@ -37,54 +34,6 @@ fn number_in(matches: &ArgMatches<'_>, id: &str, least: u32, most: u32) -> Optio
     }
 }
 
-/// The number of connections, if one is given.
-fn sessions_in(matches: &ArgMatches<'_>) -> Option<Option<u32>>
-    ensures { Finds (λ n. IsNumber (codes "sessions") (rows_of (found_of matches.now)) n
-        × IfSome n IsSessionCount) result }
-{
-    number_in(matches, "sessions", 1, MAX_SESSIONS)
-}
-
-/// The bits of the shards, if they are given.
-fn shards_in(matches: &ArgMatches<'_>) -> Option<Option<u32>>
-    ensures { Finds (λ n. IsNumber (codes "shards") (rows_of (found_of matches.now)) n
-        × IfSome n IsShardBits) result }
-{
-    number_in(matches, "shards", 0, MAX_SHARD_BITS)
-}
-
-/// How many sessions there are at once, if it is given.
-fn at_once_in(matches: &ArgMatches<'_>) -> Option<Option<u32>>
-    ensures { Finds (λ n. IsNumber (codes "at-once") (rows_of (found_of matches.now)) n
-        × IfSome n IsAtOnce) result }
-{
-    number_in(matches, "at-once", 1, MAX_AT_ONCE)
-}
-
-/// How many peers there are at once, if it is given.
-fn peers_in(matches: &ArgMatches<'_>) -> Option<Option<u32>>
-    ensures { Finds (λ n. IsNumber (codes "peers") (rows_of (found_of matches.now)) n
-        × IfSome n IsPeerCount) result }
-{
-    number_in(matches, "peers", 1, MAX_PEERS)
-}
-
-/// The seconds that a session may go on, if they are given.
-fn session_seconds_in(matches: &ArgMatches<'_>) -> Option<Option<u32>>
-    ensures { Finds (λ n. IsNumber (codes "session-seconds") (rows_of (found_of matches.now)) n
-        × IfSome n IsSessionTime) result }
-{
-    number_in(matches, "session-seconds", 1, MAX_SESSION_SECONDS)
-}
-
-/// The MiB of memory that are counted for all peers at most, if they are given.
-fn memory_in(matches: &ArgMatches<'_>) -> Option<Option<u32>>
-    ensures { Finds (λ n. IsNumber (codes "memory") (rows_of (found_of matches.now)) n
-        × IfSome n IsMemory) result }
-{
-    number_in(matches, "memory", 1, MAX_MEMORY)
-}
-
 /// How many items of one session are put into the set, if it is given.
 fn most_learned_in(matches: &ArgMatches<'_>) -> Option<Option<u32>>
     ensures { Finds (λ n. IsNumber (codes "most-learned") (rows_of (found_of matches.now)) n
@@ -101,52 +50,13 @@ fn report_items_in(matches: &ArgMatches<'_>) -> Option<Option<u32>>
     number_in(matches, "report-items", 0, u32::MAX)
 }
 
-/// How many items a set has, if it is given.
-fn item_count_in(matches: &ArgMatches<'_>) -> Option<Option<u32>>
-    ensures { Finds (λ n. IsNumber (codes "items") (rows_of (found_of matches.now)) n
-        × IfSome n IsItemCount) result }
+/// A number that has a value where none is given, which `clap` has read in this span.
+fn default_in(matches: &ArgMatches<'_>, id: &str, least: u32, most: u32) -> Option<u32>
+    ensures { Finds (λ n. IsNumber id.now (rows_of (found_of matches.now)) (Some n)
+        × IsWithin least most n) result }
 {
-    number_in(matches, "items", 1, MAX_ITEMS)
-}
-
-/// In how many items two sets differ, if it is given.
-fn differences_in(matches: &ArgMatches<'_>) -> Option<Option<u32>>
-    ensures { Finds (λ n. IsNumber (codes "differences") (rows_of (found_of matches.now)) n
-        × IfSome n IsDifferenceCount) result }
-{
-    number_in(matches, "differences", 0, MAX_ITEMS)
-}
-
-/// How many bytes an item has, if it is given.
-fn item_length_in(matches: &ArgMatches<'_>) -> Option<Option<u32>>
-    ensures { Finds (λ n. IsNumber (codes "length") (rows_of (found_of matches.now)) n
-        × IfSome n IsItemLength) result }
-{
-    number_in(matches, "length", MIN_ITEM_LENGTH, MAX_ITEM_LENGTH)
-}
-
-/// The milliseconds of a round trip, if they are given.
-fn round_trip_in(matches: &ArgMatches<'_>) -> Option<Option<u32>>
-    ensures { Finds (λ n. IsNumber (codes "round-trip") (rows_of (found_of matches.now)) n
-        × IfSome n IsRoundTrip) result }
-{
-    number_in(matches, "round-trip", 0, MAX_ROUND_TRIP)
-}
-
-/// The megabits in a second, if they are given.
-fn rate_in(matches: &ArgMatches<'_>) -> Option<Option<u32>>
-    ensures { Finds (λ n. IsNumber (codes "rate") (rows_of (found_of matches.now)) n
-        × IfSome n IsRate) result }
-{
-    number_in(matches, "rate", 1, MAX_RATE)
-}
-
-/// The seconds that are spent on a search, if they are given.
-fn search_in(matches: &ArgMatches<'_>) -> Option<Option<u32>>
-    ensures { Finds (λ n. IsNumber (codes "search") (rows_of (found_of matches.now)) n
-        × IfSome n IsSearch) result }
-{
-    number_in(matches, "search", 1, MAX_SEARCH)
+    let number = matches.get_one::<u32>(id)?;
+    (least..=most).contains(&number).then_some(number)
 }
 
 /// The wire profile, which `clap` has read as 1 or 2.
@@ -154,32 +64,11 @@ fn profile_in(matches: &ArgMatches<'_>) -> Option<WireProfile>
     ensures { Finds
         (λ p. IsNumber (codes "profile") (rows_of (found_of matches.now)) (Some (profile_number p))) result }
 {
-    let number = matches.get_one::<u8>("profile")?;
-    match number {
+    match default_in(matches, "profile", 1, 2)? {
         1 => Some(WireProfile::One),
         2 => Some(WireProfile::Two),
         _ => None,
     }
-}
-
-/// The seconds that are waited, which `clap` has read in their span.
-fn patience_in(matches: &ArgMatches<'_>) -> Option<u32>
-    ensures { Finds (λ n. IsNumber (codes "patience") (rows_of (found_of matches.now)) (Some n)
-        × IsPatience n) result }
-{
-    let patience = matches.get_one::<u32>("patience")?;
-    (1..=MAX_PATIENCE).contains(&patience).then_some(patience)
-}
-
-/// The bytes that are read, which `clap` has read in their span.
-fn most_bytes_in(matches: &ArgMatches<'_>) -> Option<u32>
-    ensures { Finds (λ n. IsNumber (codes "most-bytes") (rows_of (found_of matches.now)) (Some n)
-        × IsByteCount n) result }
-{
-    let most_bytes = matches.get_one::<u32>("most-bytes")?;
-    (MIN_BYTES..=u32::MAX)
-        .contains(&most_bytes)
-        .then_some(most_bytes)
 }
 
 /// The text that is given for an argument.
@@ -224,8 +113,8 @@ fn check_in<'a>(matches: &ArgMatches<'a>) -> Option<Command<'a>>
 {
     Some(Command::Check {
         cost: flag_in(matches, "cost"),
-        items: item_count_in(matches)?,
-        item_length: item_length_in(matches)?,
+        items: number_in(matches, "items", 1, MAX_ITEMS)?,
+        item_length: number_in(matches, "length", MIN_ITEM_LENGTH, MAX_ITEM_LENGTH)?,
         file: text_in(matches, "FILE")?,
     })
 }
@@ -235,12 +124,12 @@ fn plan_in<'a>(matches: &ArgMatches<'a>) -> Option<Command<'a>>
     ensures { Finds (AsksFor (codes "plan") (rows_of (found_of matches.now))) result }
 {
     Some(Command::Plan {
-        items: item_count_in(matches)?,
-        differences: differences_in(matches)?,
-        item_length: item_length_in(matches)?,
-        round_trip: round_trip_in(matches)?,
-        rate: rate_in(matches)?,
-        search: search_in(matches)?,
+        items: number_in(matches, "items", 1, MAX_ITEMS)?,
+        differences: number_in(matches, "differences", 0, MAX_ITEMS)?,
+        item_length: number_in(matches, "length", MIN_ITEM_LENGTH, MAX_ITEM_LENGTH)?,
+        round_trip: number_in(matches, "round-trip", 0, MAX_ROUND_TRIP)?,
+        rate: number_in(matches, "rate", 1, MAX_RATE)?,
+        search: number_in(matches, "search", 1, MAX_SEARCH)?,
     })
 }
 
@@ -258,15 +147,15 @@ fn serve_in<'a>(matches: &ArgMatches<'a>) -> Option<Command<'a>>
         address: text_in(matches, "addr")?,
         stdio: flag_in(matches, "stdio"),
         set: text_in(matches, "set"),
-        shards: shards_in(matches)?,
+        shards: number_in(matches, "shards", 0, MAX_SHARD_BITS)?,
         only: text_in(matches, "only"),
         workers: workers_in(matches)?,
-        sessions: sessions_in(matches)?,
-        patience: patience_in(matches)?,
-        most_bytes: most_bytes_in(matches)?,
-        peers: peers_in(matches)?,
-        session_seconds: session_seconds_in(matches)?,
-        memory: memory_in(matches)?,
+        sessions: number_in(matches, "sessions", 1, MAX_SESSIONS)?,
+        patience: default_in(matches, "patience", 1, MAX_PATIENCE)?,
+        most_bytes: default_in(matches, "most-bytes", MIN_BYTES, u32::MAX)?,
+        peers: number_in(matches, "peers", 1, MAX_PEERS)?,
+        session_seconds: number_in(matches, "session-seconds", 1, MAX_SESSION_SECONDS)?,
+        memory: number_in(matches, "memory", 1, MAX_MEMORY)?,
         report: text_in(matches, "report"),
         learned: text_in(matches, "learned"),
         keep,
@@ -289,14 +178,14 @@ fn sync_in<'a>(matches: &ArgMatches<'a>) -> Option<Command<'a>>
         table: text_in(matches, "table")?,
         address: text_in(matches, "addr")?,
         stdio: flag_in(matches, "stdio"),
-        set: text_in(matches, "set"),
-        shards: shards_in(matches)?,
-        only: text_in(matches, "only"),
-        at_once: at_once_in(matches)?,
         out: text_in(matches, "out"),
+        set: text_in(matches, "set"),
+        shards: number_in(matches, "shards", 0, MAX_SHARD_BITS)?,
+        only: text_in(matches, "only"),
+        at_once: number_in(matches, "at-once", 1, MAX_AT_ONCE)?,
         profile: profile_in(matches)?,
-        patience: patience_in(matches)?,
-        most_bytes: most_bytes_in(matches)?,
+        patience: default_in(matches, "patience", 1, MAX_PATIENCE)?,
+        most_bytes: default_in(matches, "most-bytes", MIN_BYTES, u32::MAX)?,
         stats: flag_in(matches, "stats"),
         form: form_in(matches),
         items: text_in(matches, "ITEMS")?,

@@ -119,6 +119,13 @@ const SHARDS: Argument<'static> = Argument::Number {
     help: "Cut the set into 2 to the power of B shards, 0 to 12",
 };
 
+/// The items.
+const ITEMS: Argument<'static> = Argument::Placed {
+    id: "ITEMS",
+    must: true,
+    help: ITEMS_HELP,
+};
+
 /// The arguments of `answer`.
 const ANSWER: [Argument<'static>; 4] = [
     Argument::Flag {
@@ -127,11 +134,7 @@ const ANSWER: [Argument<'static>; 4] = [
     },
     TEXT,
     WHY,
-    Argument::Placed {
-        id: "ITEMS",
-        must: true,
-        help: ITEMS_HELP,
-    },
+    ITEMS,
 ];
 
 /// The words of `answer`.
@@ -444,11 +447,7 @@ const SYNC: [Argument<'static>; 15] = [
     },
     TEXT,
     WHY,
-    Argument::Placed {
-        id: "ITEMS",
-        must: true,
-        help: ITEMS_HELP,
-    },
+    ITEMS,
 ];
 
 /// The words of `sync`.

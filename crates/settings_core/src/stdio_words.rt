@@ -59,7 +59,8 @@ fn are_piped(items: Option<&str>) -> bool
 /// Why such a call does not speak over standard input and output, the first of these that holds: it has another address
 /// than the default one, its items are to be read from standard input, or that is a terminal.
 pub fn stdio_flaw(words: StdioWords<'_>, is_terminal: bool) -> Option<StdioFlaw>
-    ensures { result ≡ stdio_flaw words.entry.address.now (option_map (λ text. text.now) words.entry.items) is_terminal }
+    ensures { result
+        ≡ stdio_flaw words.entry.address.now (option_map (λ text. text.now) words.entry.items) is_terminal }
 {
     if words.address != DEFAULT_ADDRESS {
         return Some(StdioFlaw::Address);

@@ -17,7 +17,8 @@ use Rattle.shard_core.specs.Splits.{held}
 use Rattle.shard_core.proofs.Numbers.{few}
 use Rattle.shard_core.proofs.Cut.{set_shard}
 use Rattle.shard_core.proofs.Lists.{replicate_is}
-use Rattle.std.proofs.lemmas.List.{append-nil, take_more, take_all, drop_more, length-map, length-take, get_or-map, take-map}
+use Rattle.std.proofs.lemmas.List.{append-nil, take_more, take_all, drop_more, length-map, length-take, get_or-map}
+use Rattle.std.proofs.lemmas.List.{take-map}
 use Rattle.std.proofs.lemmas.List.{map_more}
 use Rattle.std.proofs.lemmas.List.Edits.{map_over_more}
 use Rattle.std.proofs.lemmas.List.Elements.{filter-append}

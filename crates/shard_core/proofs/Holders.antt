@@ -1,5 +1,6 @@
 -- Which servers have a shard, and who is asked for it.
-use Rattle.std.proofs.Common.{◌≡◌, ℕ, zero, suc, ◌+◌, ◌-◌, ◌<◌, ◌≤◌, Bool, true, false, List, [], ◌∷◌, ◌++◌, length, map, drop}
+use Rattle.std.proofs.Common.{◌≡◌, ℕ, zero, suc, ◌+◌, ◌-◌, ◌<◌, ◌≤◌, Bool, true, false, List, [], ◌∷◌, ◌++◌, length}
+use Rattle.std.proofs.Common.{map, drop}
 use Rattle.std.proofs.Common.{not, ◌&&◌, ◌||◌, ◌==◌, true≢false}
 use Rattle.std.proofs.Common.{get_or, cond, refl, sym, ap, subst, ◌∙◌, arith, append_assoc, append-nil, inl, inr}
 use Rattle.std.specs.Prelude.{Vec, filter, flat_map, is_some}
@@ -11,7 +12,8 @@ use Rattle.std.proofs.lemmas.List.{drop_more, get_or-map, length-map, length-app
 use Rattle.shard_core.specs.declared.unequal.Unequal.{Unequal}
 use Rattle.shard_core.specs.declared.choice.Asked.{Asked}
 use Rattle.shard_core.specs.Directories.{unequal_numbers}
-use Rattle.shard_core.specs.Choices.{is_lacked, has_shard, differs, told, holders_from, holders, asked_at, chosen, HasOne, HaveOne}
+use Rattle.shard_core.specs.Choices.{is_lacked, has_shard, differs, told, holders_from, holders, asked_at, chosen}
+use Rattle.shard_core.specs.Choices.{HasOne, HaveOne}
 use Rattle.shard_core.proofs.Told.{not_equal}
 
 abbrev Lists : Type 0
@@ -107,7 +109,8 @@ any_range : {X : Type 0} (p : X → Bool) (f : ℕ → List X) (a n s : ℕ) →
 any_range p f a zero s low high is = absurd (omega arith)
 any_range p f a (suc n) s low high is =
     list_any-append p (f a) (flat_map f (range_with_len (a + 1) n)) ∙ elim (cases_eq a s) [
-      | inl same ↦ ap (λ b. b || list_any p (flat_map f (range_with_len (a + 1) n))) (ap (λ k. list_any p (f k)) same ∙ is)
+      | inl same ↦ ap (λ b. b || list_any p (flat_map f (range_with_len (a + 1) n)))
+          (ap (λ k. list_any p (f k)) same ∙ is)
       | inr apart ↦ ap (λ b. list_any p (f a) || b) (any_range p f (a + 1) n s (omega (arith, apart)) (omega arith) is)
           ∙ or_true (list_any p (f a))
     ]

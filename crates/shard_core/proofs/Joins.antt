@@ -113,7 +113,8 @@ pub joined_many : (b first last cap : ℕ) (A B : List Item) (lists more all : L
     (fault told : SplitFault) → held all ≡ joined_to (length lists) (held lists) (held more) →
     held lists ≡ span_shards b first last A → held more ≡ span_shards b first last B → first + length lists ≤ 4096 →
     IsFull cap (map set_of (held all)) fault →
-    ((most : ℕ) (Xs : List (List Item)) → first + length Xs ≤ 4096 → IsFull most Xs fault → IsFullFrom first most Xs told) →
+    ((most : ℕ) (Xs : List (List Item)) → first + length Xs ≤ 4096 → IsFull most Xs fault →
+    IsFullFrom first most Xs told) →
     IsFullFrom first cap (span_shards b first last (set_of (A ++ B))) told
 joined_many b first last cap A B lists more all fault told joined ours theirs few full counted =
     let is : map set_of (held all) ≡ span_shards b first last (set_of (A ++ B)) =

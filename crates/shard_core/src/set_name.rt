@@ -41,8 +41,9 @@ impl<'a> SetName<'a> {
         read_selector(bytes, self.name, self.bits)
     }
 
-    /// The number of the refusal of a peer of whose input this much came before its hello: 1 if that is no selector, and
-    /// 55 if it is that of another set. Input that ended inside a selector of this set is for the session to refuse.
+    /// The number of the refusal of a peer of whose input this much came before its hello: 1 if that is no selector,
+    /// and 55 if it is that of another set. Input that ended inside a selector of this set is for the session to
+    /// refuse.
     pub fn refusal(&self, came: &[u8]) -> Option<u8>
         ensures { result ≡ refusal_of (selecting self.now.name.now self.now.bits came.now) }
     {

@@ -1,38 +1,20 @@
--- A set has no more items than the list that it is made of, and a list no more than the text has lines.
-use Rattle.std.proofs.Common.{ℕ, ◌≡◌, ◌+◌, ◌≤◌, ◌<◌, Bool, true, false, List, [], ◌∷◌, ◌++◌, length, arith, subst, sym, refl}
+-- A list has no more items than its text has lines.
+use Rattle.std.proofs.Common.{ℕ, ◌≡◌, ◌+◌, ◌≤◌, ◌<◌, Bool, true, false, List, [], ◌∷◌, ◌++◌, length, arith, subst, sym}
+use Rattle.std.proofs.Common.{refl}
 use Rattle.std.proofs.Common.{Option, Some, None, cond, ◌==◌}
 use Rattle.std.specs.Prelude.{Result, Ok, Err, option_map}
 use Rattle.std.proofs.lemmas.List.{length-append}
 use Rattle.std.proofs.lemmas.List.Splits.{length-slice_split}
 use Rattle.std.proofs.lemmas.List.Sums.{count_by-le-length}
-use Rattle.std.specs.Ordering.{match_ordering}
-use Rattle.std.specs.declared.cmp.Ordering.{Ordering}
-use Rattle.std.specs.declared.cmp.Ordering.TheVariants.{Less, Equal, Greater}
-use Rattle.definitions.specs.Items.{Item, item_cmp}
-use Rattle.definitions.specs.Sets.{add_item, set_of, union}
+use Rattle.definitions.specs.Items.{Item}
+use Rattle.definitions.specs.Sets.{set_of}
+use Rattle.definitions.proofs.Counts.{set_few}
 use Rattle.item_files.specs.ItemFiles.{lines, items_from, file_items, line_before, line_items, content_items, bad_line}
 use Rattle.item_files.specs.ItemFiles.{line_flaw, has_byte_order_mark, spelled, content_of, first_of}
 use Rattle.item_files.specs.declared.form.ItemForm.{ItemForm}
 use Rattle.item_files.specs.declared.bad_line.BadLine.{BadLine}
 use Rattle.item_files.specs.declared.bad_line.LineFlaw.TheVariants as flaws
 use Rattle.shard_loading.specs.Texts.{feeds}
-
-put_few : (x y : Item) (ys : List Item) (o : Ordering) → length (add_item ys x) ≤ length ys + 1 →
-    length (match_ordering o (x ∷ y ∷ ys) (y ∷ ys) (y ∷ add_item ys x)) ≤ length (y ∷ ys) + 1
-put_few x y ys Less rest = omega arith
-put_few x y ys Equal rest = omega arith
-put_few x y ys Greater rest = omega (arith, rest)
-
-add_few : (A : List Item) (x : Item) → length (add_item A x) ≤ length A + 1
-add_few [] x = omega arith
-add_few (y ∷ ys) x = put_few x y ys (item_cmp x y) (add_few ys x)
-
-union_few : (A xs : List Item) → length (union A xs) ≤ length A + length xs
-union_few A [] = omega arith
-union_few A (x ∷ xs) = omega (arith, union_few (add_item A x) xs, add_few A x)
-
-pub set_few : (xs : List Item) → length (set_of xs) ≤ length xs
-set_few xs = omega (arith, union_few [] xs)
 
 -- ---- lines
 
@@ -80,8 +62,8 @@ numbers_few : (form : ItemForm) (n : ℕ) (ls : List (List ℕ)) (b : BadLine) �
     b.number < n + length ls
 numbers_few form n [] b e = absurd cc
 numbers_few form n (l ∷ ls) b e =
-    number_few (bad_line (line_flaw form l) n l) (line_items form l) (items_from form (n + 1) ls) b (n + length (l ∷ ls))
-    (omega arith) (λ c is. let few = numbers_few form (n + 1) ls c is in omega (arith, few)) e
+    number_few (bad_line (line_flaw form l) n l) (line_items form l) (items_from form (n + 1) ls) b
+    (n + length (l ∷ ls)) (omega arith) (λ c is. let few = numbers_few form (n + 1) ls c is in omega (arith, few)) e
 
 -- ---- texts
 

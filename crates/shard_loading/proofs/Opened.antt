@@ -91,8 +91,8 @@ map_drop f zero xs = refl
 map_drop f (suc n) [] = refl
 map_drop f (suc n) (x ∷ xs) = map_drop f n xs
 
-module _ (lists front back : List (Vec Item Global)) (n : ℕ) (inside : n ≤ length lists) (first_is : front ≡ take n lists)
-    (others : back ≡ drop n lists) where
+module _ (lists front back : List (Vec Item Global)) (n : ℕ) (inside : n ≤ length lists)
+    (first_is : front ≡ take n lists) (others : back ≡ drop n lists) where
   held_front : held front ≡ take n (held lists)
   held_front = ap held first_is ∙ sym (take-map listed n lists)
 

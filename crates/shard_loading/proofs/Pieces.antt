@@ -2,7 +2,8 @@
 use Rattle.std.proofs.Common.{get_or, take, drop, true, ◌==◌, ◌<◌, length, subst}
 use Rattle.std.proofs.lemmas.Bool.{eqb-true}
 use Rattle.std.proofs.lemmas.List.{drop_more, take-append-drop}
-use Rattle.std.proofs.Common.{ℕ, ◌≡◌, ◌+◌, Bool, List, [], ◌∷◌, ◌++◌, sym, refl, ap, ◌∙◌, append_assoc, append-nil, arith}
+use Rattle.std.proofs.Common.{ℕ, ◌≡◌, ◌+◌, Bool, List, [], ◌∷◌, ◌++◌, sym, refl, ap, ◌∙◌, append_assoc, append-nil}
+use Rattle.std.proofs.Common.{arith}
 use Rattle.std.specs.Prelude.{Result, Ok, Err, Vec}
 use Rattle.std.specs.declared.alloc.Global.{Global}
 use Rattle.definitions.specs.Items.{Item}
@@ -33,8 +34,8 @@ module _ (o : LoadOptions) (read waiting : List ℕ) (k : ℕ) (lists : Lists)
   }
 
   -- what waits is a piece: a line feed comes after it
-  pub piece_done : (xs : List Item) (new : Lists) (q : List ℕ) → file_items o.form waiting ≡ Ok xs → Deals o lists new xs →
-      IsDealt o (read ++ 10 ∷ q) (10 ∷ q) (k + feeds waiting) new
+  pub piece_done : (xs : List Item) (new : Lists) (q : List ℕ) → file_items o.form waiting ≡ Ok xs →
+      Deals o lists new xs → IsDealt o (read ++ 10 ∷ q) (10 ∷ q) (k + feeds waiting) new
   piece_done xs new q is deals = record {
     items = so_far.items ++ xs;
     goes_on = λ later. ap (file_items o.form) (append_assoc read (10 ∷ q) later) ∙ so_far.goes_on (10 ∷ (q ++ later))
@@ -92,8 +93,8 @@ module _ (o : LoadOptions) (read waiting : List ℕ) (k : ℕ) (lists : Lists)
   whole : (read ++ front) ++ 10 ∷ q ≡ read ++ bytes
   whole = append_assoc read front (10 ∷ q) ∙ ap (λ t. read ++ t) (sym cut_is)
 
-  pub add_done : (xs : List Item) (new : Lists) (j : ℕ) (w : List ℕ) → file_items o.form p ≡ Ok xs → Deals o lists new xs →
-      j ≡ k + feeds p → w ≡ 10 ∷ q → IsDealt o (read ++ bytes) w j new
+  pub add_done : (xs : List Item) (new : Lists) (j : ℕ) (w : List ℕ) → file_items o.form p ≡ Ok xs →
+      Deals o lists new xs → j ≡ k + feeds p → w ≡ 10 ∷ q → IsDealt o (read ++ bytes) w j new
   add_done xs new j w is deals j_is w_is =
       let done : IsDealt o ((read ++ front) ++ 10 ∷ q) (10 ∷ q) (k + feeds (waiting ++ front)) new =
       piece_done o (read ++ front) (waiting ++ front) k lists

@@ -1,6 +1,7 @@
 //! The items of a text that comes in pieces, dealt to their shards.
 
-ghost use Rattle.std.specs.Prelude.{◌≡◌, ◌+◌, ◌<◌, ◌≤◌, ◌^◌, ℕ, List, [], ◌∷◌, ◌++◌, length, IfOk, IfErr, OnOk, Ok, Err};
+ghost use Rattle.std.specs.Prelude.{◌≡◌, ◌+◌, ◌<◌, ◌≤◌, ◌^◌, ℕ, List, [], ◌∷◌, ◌++◌, length, IfOk, IfErr, OnOk, Ok};
+ghost use Rattle.std.specs.Prelude.{Err};
 ghost use Rattle.definitions.specs.Items.{Item as Bytes};
 ghost use Rattle.shard_core.specs.Shards.{max_bits};
 ghost use Rattle.item_files.specs.ItemFiles.{file_items};

@@ -90,8 +90,8 @@ fn read_more<R: Read>(
     Ok(count)
 }
 
-/// The items of each shard that is loaded, as the text has them, and empty lists of the others. At most `piece` bytes are
-/// asked for at a time.
+/// The items of each shard that is loaded, as the text has them, and empty lists of the others. At most `piece` bytes
+/// are asked for at a time.
 fn read_lists<R: Read>(
     alloc: Global,
     reader: &mut Watched<R>,

@@ -2,19 +2,12 @@
 use Rattle.std.proofs.Common.{◌≡◌, ◌<◌, ◌^◌, ℕ, List, [], ◌∷◌, length, Bool, true, false, None, Result, Err, refl}
 use Rattle.std.proofs.Common.{subst, arith}
 use Rattle.std.specs.Prelude.{nat_lt}
-use Rattle.std.specs.Char.{is_ascii_digit, digit_value}
+use Rattle.std.specs.Char.{is_ascii_digit}
 use Rattle.std.specs.List.{list_all}
-use Rattle.std.specs.Str.Parse.{digits_value, ParsesUnsigned, IsNumeral, AllDigits, without_leading_plus}
-use Rattle.std.proofs.lemmas.Bool.{and_parts, ltb-true}
+use Rattle.std.specs.Str.Parse.{digits_value, ParsesUnsigned, IsNumeral, without_leading_plus}
+use Rattle.std.proofs.lemmas.Bool.{ltb-true}
+use Rattle.definitions.proofs.Digits.{all_small}
 use Rattle.sim_core.specs.StepTexts.{is_plain, number_of}
-
-digit_small : (d : ℕ) → is_ascii_digit d ≡ true → digit_value d < 10
-digit_small d h = grind arith
-
-all_small : (ds : List ℕ) → list_all is_ascii_digit ds ≡ true → AllDigits 10 ds
-all_small [] h = tt
-all_small (d ∷ ds) h = let both = and_parts (is_ascii_digit d) (list_all is_ascii_digit ds) h in
-    (digit_small d both.0, all_small ds both.1)
 
 plain_digits : (ds : List ℕ) → is_plain ds ≡ true → list_all is_ascii_digit ds ≡ true
 plain_digits [] h = refl

@@ -20,13 +20,17 @@ pub items_next : (xs : List Value) (i : ℕ) (v : Value) → i < length xs → v
 items_next xs i v here is =
     ap items_view (drop_more xs i v here) ∙ ap (λ (u : Value). item (view u) (items_view (drop (i + 1) xs))) (sym is)
 
-pub count_items : (xs : List Value) → items_count (items_view xs) ≡ length xs
+count_items : (xs : List Value) → items_count (items_view xs) ≡ length xs
 count_items [] = refl
 count_items (x ∷ xs) = ap suc (count_items xs)
 
-pub all_items : (test : Data → Bool) (xs : List Value) → all_are test (items_view xs) ≡ list_all (λ v. test (view v)) xs
+all_items : (test : Data → Bool) (xs : List Value) → all_are test (items_view xs) ≡ list_all (λ v. test (view v)) xs
 all_items test [] = refl
 all_items test (x ∷ xs) = ap (λ b. test (view x) && b) (all_items test xs)
+
+pub judged : (test : Data → Bool) (xs : List Value)
+    → (items_count (items_view xs) ≡ length xs) × (all_are test (items_view xs) ≡ list_all (λ v. test (view v)) xs)
+judged test xs = (count_items xs, all_items test xs)
 
 -- ---- each in order
 

@@ -3,7 +3,7 @@
 --     scenario_in members        the scenario of a table, or the fault
 --     Gives, Reads               what the readers return: the same, unless memory ran out
 use Rattle.std.specs.Prelude.{◌≡◌, ◌⊎◌, ℕ, ◌+◌, codes, Bool, true, false, ◌&&◌, nat_le, List, [], ◌∷◌, length, Option}
-use Rattle.std.specs.Prelude.{Some, None, is_some, Result, Ok, Err, ⊤}
+use Rattle.std.specs.Prelude.{Some, None, is_some, ok_or, Result, Ok, Err, MatchResult, ⊤}
 use Rattle.toml.specs.Data.{Data, Items, no_items, item, Members, get_member, as_str, as_array, as_table}
 use Rattle.definitions.specs.Items.{Item}
 use Rattle.definitions.specs.Sets.{set_of}
@@ -32,11 +32,6 @@ abbrev pub ◌>>=◌ : {A B : Type 0} → Result A ScenarioFault → (A → Resu
 (Ok x) >>= f = f x
 (Err e) >>= f = Err e
 
--- the value that is there, else this fault
-abbrev pub present : {A : Type 0} → ScenarioFault → Option A → Result A ScenarioFault
-present fault None = Err fault
-present fault (Some x) = Ok x
-
 -- the value, if the test holds, else this fault
 abbrev pub provided : {A : Type 0} → Bool → ScenarioFault → A → Result A ScenarioFault
 provided true fault x = Ok x
@@ -55,7 +50,7 @@ all_are test (item d ds) = test d && all_are test ds
 
 -- the array under a key
 abbrev pub array_at : List ℕ → Members → Result Items ScenarioFault
-array_at key ms = present BadScenario (get_member key ms) >>= λ d. present BadScenario (as_array d)
+array_at key ms = ok_or (get_member key ms) BadScenario >>= λ d. ok_or (as_array d) BadScenario
 
 abbrev pub is_table : Data → Bool
 is_table d = is_some (as_table d)
@@ -107,7 +102,7 @@ abbrev pub accepted_in : ℕ → Members → Result Checked ScenarioFault
 accepted_in n ms = of_strategy n ms (table_in ms) >>= checked n
 
 abbrev pub item_in : Data → Result Item ScenarioFault
-item_in d = present BadScenario (as_str d) >>= λ digits. present BadScenario (decoded (decode_of digits))
+item_in d = ok_or (as_str d) BadScenario >>= λ digits. ok_or (decoded (decode_of digits)) BadScenario
 
 -- `items`: texts that are each an item in hex; the set of these has at most this many
 abbrev pub items_in : ℕ → ℕ → Members → Result (List Item) ScenarioFault
@@ -122,13 +117,13 @@ node_at n ms = do
 
 -- the node of this number
 abbrev pub node_in : ℕ → Data → Result NodeText ScenarioFault
-node_in n d = present BadScenario (as_table d) >>= node_at n
+node_in n d = ok_or (as_table d) BadScenario >>= node_at n
 
 -- ---- a scenario
 
 -- the step of this number
 abbrev pub step_in : ℕ → Data → Result ScenarioStep ScenarioFault
-step_in number d = present BadScenario (as_str d) >>= λ text. present (BadStep number) (step_of text)
+step_in number d = ok_or (as_str d) BadScenario >>= λ text. ok_or (step_of text) (BadStep number)
 
 abbrev pub scenario_in : Members → Result ScenarioText ScenarioFault
 scenario_in ms = do
@@ -141,16 +136,14 @@ scenario_in ms = do
 -- ---- what the readers return
 
 abbrev pub GivesField : {X Y : Type 0} → (X → Y) → Result X ScenarioFault → Result Y ScenarioFault → Type 0
-GivesField view (Ok x) said = said ≡ Ok (view x)
-GivesField view (Err f) said = said ≡ Err f
+GivesField view read said = MatchResult read (λ x. said ≡ Ok (view x)) (λ f. said ≡ Err f)
 
 abbrev pub Fails : {Y : Type 0} → ScenarioError → Result Y ScenarioFault → Type 0
 Fails errors.Memory said = ⊤
 Fails (errors.Fault f) said = said ≡ Err f
 
 abbrev pub Gives : {X Y : Type 0} → (X → Y) → Result X ScenarioError → Result Y ScenarioFault → Type 0
-Gives view (Ok x) said = said ≡ Ok (view x)
-Gives view (Err e) said = Fails e said
+Gives view read said = MatchResult read (λ x. said ≡ Ok (view x)) (λ e. Fails e said)
 
 -- the text has a table, which says this
 abbrev pub IsTextOf : List ℕ → Result ScenarioText ScenarioFault → Type 0

@@ -57,10 +57,10 @@ fn push_each(alloc: Global, text: &mut String, items: &[Item]) -> Result<(), All
 }
 
 /// Appends the items in rising order, with a space before each, or a space and a dash where there is none.
-fn push_items(alloc: Global, text: &mut String, items: &[Item]) -> Result<(), AllocError>
-    ensures { OnOk result (string_bytes text.new ≡ string_bytes text.old ++ items_text (set_of items.now)) }
+fn push_items(alloc: Global, text: &mut String, items: Vec<Item>) -> Result<(), AllocError>
+    ensures { OnOk result (string_bytes text.new ≡ string_bytes text.old ++ items_text (set_of items.items)) }
 {
-    let rising = distinct(Vec::from_slice(alloc, items)?);
+    let rising = distinct(items);
     if rising.is_empty() {
         text.push_str(" -")
     } else {
@@ -80,9 +80,9 @@ fn push_side(
 {
     text.push_str(name)?;
     text.push_str(" ours")?;
-    push_items(alloc, text, learned.ours)?;
+    push_items(alloc, text, learned.ours(alloc)?)?;
     text.push_str(" theirs")?;
-    push_items(alloc, text, learned.theirs)?;
+    push_items(alloc, text, learned.theirs(alloc)?)?;
     text.push_str("\n")
 }
 

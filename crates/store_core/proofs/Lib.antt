@@ -1,3 +1,4 @@
 pub mod Fronts
 pub mod Made
+pub mod Packs
 pub mod Running

@@ -4,3 +4,4 @@ pub use Rattle.definitions.specs.Fingerprints
 pub mod Stores
 pub mod Sums
 pub mod Flat
+pub mod Packs

@@ -1,16 +1,20 @@
-//! Sets of items from which the items of a range are counted, summed and read.
+//! Sets of items from which the items of a range are counted, summed and read, and lists of items that are kept packed.
 #![tactic(auto)]
 
 mod entry;
 mod flat;
 mod flat_store;
 pub mod laws;
+mod packed_items;
 mod range_store;
+mod room;
 mod span;
 pub mod spans;
 pub mod sums;
 
 pub use entry::Entry;
 pub use flat_store::FlatStore;
+pub use packed_items::PackedItems;
 pub use range_store::{Insertion, RangeStore};
+pub use room::make_room;
 pub use span::Span;

@@ -1,9 +1,9 @@
 //! A connection that is made.
 
-ghost use Rattle.std.specs.Prelude.{◌≡◌, ◌≢◌};
 ghost use Rattle.std.specs.IoError.{error_kind};
+ghost use Rattle.tcp_front.specs.Faults.{IsToldAs};
 
-use crate::fault::ConnectFault;
+use crate::fault::{ConnectFault, told};
 use crate::patience::{bounded, seconds};
 use crate::stream::Stream;
 use std::io;
@@ -12,26 +12,16 @@ use std::net::{Net, SocketAddr, TcpStream, ToSocketAddrs};
 
 /// Why the text of an address was not looked up.
 fn unknown(error: &io::Error) -> ConnectFault
-    ensures memory { error_kind error.now ≡ ErrorKind.OutOfMemory → result ≡ ConnectFault.Memory }
-    ensures unknown { error_kind error.now ≢ ErrorKind.OutOfMemory →
-        result ≡ ConnectFault.NoAddress (error_kind error.now) }
+    ensures { IsToldAs (error_kind error.now) ConnectFault.Memory ConnectFault.NoAddress result }
 {
-    match error.kind() {
-        ErrorKind::OutOfMemory => ConnectFault::Memory,
-        kind => ConnectFault::NoAddress(kind),
-    }
+    told(error).map_or(ConnectFault::Memory, ConnectFault::NoAddress)
 }
 
 /// Why a connection was not made.
 fn fault_of(error: &io::Error) -> ConnectFault
-    ensures memory { error_kind error.now ≡ ErrorKind.OutOfMemory → result ≡ ConnectFault.Memory }
-    ensures connect { error_kind error.now ≢ ErrorKind.OutOfMemory →
-        result ≡ ConnectFault.Connect (error_kind error.now) }
+    ensures { IsToldAs (error_kind error.now) ConnectFault.Memory ConnectFault.Connect result }
 {
-    match error.kind() {
-        ErrorKind::OutOfMemory => ConnectFault::Memory,
-        kind => ConnectFault::Connect(kind),
-    }
+    told(error).map_or(ConnectFault::Memory, ConnectFault::Connect)
 }
 
 /// A connection to this address, none of whose calls takes longer.

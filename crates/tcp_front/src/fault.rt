@@ -1,9 +1,12 @@
 //! Why there is no listener, or no connection.
 
 ghost use Rattle.std.specs.Prelude.{◌≡◌};
-ghost use Rattle.tcp_front.specs.Faults.{listen_fault_number, connect_fault_number};
+ghost use Rattle.std.specs.Prelude.{None, Some};
+ghost use Rattle.std.specs.IoError.{error_kind};
+ghost use Rattle.tcp_front.specs.Faults.{IsToldAs, listen_fault_number, connect_fault_number};
 
 use crate::at_path::AtPath;
+use std::io;
 use std::io::ErrorKind;
 
 /// Why there is no listener.
@@ -54,5 +57,15 @@ impl ConnectFault {
                 61,
             ConnectFault::Memory => 90,
         }
+    }
+}
+
+/// What the system said, unless memory ran out.
+pub(crate) fn told(error: &io::Error) -> Option<ErrorKind>
+    ensures { IsToldAs (error_kind error.now) None (λ kind. Some kind) result }
+{
+    match error.kind() {
+        ErrorKind::OutOfMemory => None,
+        kind => Some(kind),
     }
 }

@@ -1,10 +1,10 @@
 //! A listener that workers share.
 
-ghost use Rattle.std.specs.Prelude.{◌≡◌, ◌≢◌};
 ghost use Rattle.std.specs.IoError.{error_kind};
+ghost use Rattle.tcp_front.specs.Faults.{IsToldAs};
 
 use crate::closing::finish;
-use crate::fault::ListenFault;
+use crate::fault::{ListenFault, told};
 use crate::half::{Half, halves};
 use crate::limits::{Limits, limited};
 use crate::patience::bounded;
@@ -41,37 +41,23 @@ pub struct Listener<'a, C> {
 
 /// Why the text of an address was not looked up.
 fn unknown(error: &io::Error) -> ListenFault
-    ensures memory { error_kind error.now ≡ ErrorKind.OutOfMemory → result ≡ ListenFault.Memory }
-    ensures unknown { error_kind error.now ≢ ErrorKind.OutOfMemory →
-        result ≡ ListenFault.NoAddress (error_kind error.now) }
+    ensures { IsToldAs (error_kind error.now) ListenFault.Memory ListenFault.NoAddress result }
 {
-    match error.kind() {
-        ErrorKind::OutOfMemory => ListenFault::Memory,
-        kind => ListenFault::NoAddress(kind),
-    }
+    told(error).map_or(ListenFault::Memory, ListenFault::NoAddress)
 }
 
 /// Why a listener was not made.
 fn listen_fault(error: &io::Error) -> ListenFault
-    ensures memory { error_kind error.now ≡ ErrorKind.OutOfMemory → result ≡ ListenFault.Memory }
-    ensures bind { error_kind error.now ≢ ErrorKind.OutOfMemory →
-        result ≡ ListenFault.Bind (error_kind error.now) }
+    ensures { IsToldAs (error_kind error.now) ListenFault.Memory ListenFault.Bind result }
 {
-    match error.kind() {
-        ErrorKind::OutOfMemory => ListenFault::Memory,
-        kind => ListenFault::Bind(kind),
-    }
+    told(error).map_or(ListenFault::Memory, ListenFault::Bind)
 }
 
 /// Why a connection was not accepted.
 pub(crate) fn accept_fault(error: &io::Error) -> SourceFault
-    ensures memory { error_kind error.now ≡ ErrorKind.OutOfMemory → result ≡ SourceFault.Memory }
-    ensures accept { error_kind error.now ≢ ErrorKind.OutOfMemory → result ≡ SourceFault.Accept }
+    ensures { IsToldAs (error_kind error.now) SourceFault.Memory (λ _. SourceFault.Accept) result }
 {
-    match error.kind() {
-        ErrorKind::OutOfMemory => SourceFault::Memory,
-        _ => SourceFault::Accept,
-    }
+    told(error).map_or(SourceFault::Memory, |_| SourceFault::Accept)
 }
 
 /// A socket that listens at the first address of the text at which it may.

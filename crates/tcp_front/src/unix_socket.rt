@@ -1,10 +1,10 @@
 //! Unix sockets: the file that one has is made, a stale one is replaced, and it is removed at the end.
 
-ghost use Rattle.std.specs.Prelude.{◌≡◌, ◌≢◌};
 ghost use Rattle.std.specs.IoError.{error_kind};
+ghost use Rattle.tcp_front.specs.Faults.{IsToldAs};
 
 use crate::at_path::{AtPath, at_path};
-use crate::fault::{ConnectFault, ListenFault};
+use crate::fault::{ConnectFault, ListenFault, told};
 use crate::limits::Limits;
 use crate::listener::Listener;
 use crate::patience::bounded;
@@ -64,26 +64,19 @@ impl<'a> SocketFile<'a> {
 
 /// Why no socket was made at a path at which this stands.
 fn listen_fault(at: AtPath, error: &io::Error) -> ListenFault
-    ensures memory { error_kind error.now ≡ ErrorKind.OutOfMemory → result ≡ ListenFault.Memory }
-    ensures socket { error_kind error.now ≢ ErrorKind.OutOfMemory →
-        result ≡ ListenFault.Socket at (error_kind error.now) }
+    ensures { IsToldAs (error_kind error.now) ListenFault.Memory (ListenFault.Socket at) result }
 {
-    match error.kind() {
-        ErrorKind::OutOfMemory => ListenFault::Memory,
-        kind => ListenFault::Socket { at, kind },
-    }
+    told(error).map_or(ListenFault::Memory, |kind| ListenFault::Socket { at, kind })
 }
 
 /// Why nobody was reached at a path at which this stands.
 fn connect_fault(at: AtPath, error: &io::Error) -> ConnectFault
-    ensures memory { error_kind error.now ≡ ErrorKind.OutOfMemory → result ≡ ConnectFault.Memory }
-    ensures socket { error_kind error.now ≢ ErrorKind.OutOfMemory →
-        result ≡ ConnectFault.Socket at (error_kind error.now) }
+    ensures { IsToldAs (error_kind error.now) ConnectFault.Memory (ConnectFault.Socket at) result }
 {
-    match error.kind() {
-        ErrorKind::OutOfMemory => ConnectFault::Memory,
-        kind => ConnectFault::Socket { at, kind },
-    }
+    told(error).map_or(
+        ConnectFault::Memory,
+        |kind| ConnectFault::Socket { at, kind },
+    )
 }
 
 /// A path that may be a socket's: the system gives an empty one a name of its own choice.

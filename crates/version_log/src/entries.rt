@@ -6,11 +6,10 @@ ghost use Rattle.definitions.specs.Histories.{items_of};
 ghost use Rattle.version_log.specs.Packs.{writers_of};
 
 use crate::entry::Entry;
-use crate::packed_items::PackedItems;
-use crate::room::make_room;
 use item_core::Item;
 use std::alloc::{AllocError, Global};
 use std::marker::Model;
+use store_core::{PackedItems, make_room};
 
 /// At most 65,536 entries, in the order in which they came. A contract sees the history.
 #[derive(Drop)]

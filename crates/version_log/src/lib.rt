@@ -6,8 +6,6 @@ mod entries;
 mod entry;
 mod first_entries;
 mod log;
-mod packed_items;
-mod room;
 
 pub use answer::{Added, LogFault, WritersSpent};
 pub use entry::Entry;

@@ -15,7 +15,8 @@ own endings.Ended c has is = refl
 own (endings.Refused code) c has is =
     get_or-set_same c.refused code (plus (slice_index c.refused code) 1) 0 (subst (λ n. code < n) (sym has.0) is)
 own (endings.PeerRefused code) c has is =
-    get_or-set_same c.peer_refused code (plus (slice_index c.peer_refused code) 1) 0 (subst (λ n. code < n) (sym has.1) is)
+    get_or-set_same c.peer_refused code (plus (slice_index c.peer_refused code) 1) 0
+    (subst (λ n. code < n) (sym has.1) is)
 own (endings.Io Read) c has is = refl
 own (endings.Io Write) c has is = refl
 own endings.Memory c has is = refl
@@ -37,7 +38,8 @@ others (endings.Refused a) endings.Memory c differ = refl
 others (endings.PeerRefused a) endings.Ended c differ = refl
 others (endings.PeerRefused a) (endings.Refused b) c differ = refl
 others (endings.PeerRefused a) (endings.PeerRefused b) c differ =
-    get_or-set_other c.peer_refused a b (plus (slice_index c.peer_refused a) 1) 0 (λ same. differ (ap endings.PeerRefused (sym same)))
+    get_or-set_other c.peer_refused a b (plus (slice_index c.peer_refused a) 1) 0
+    (λ same. differ (ap endings.PeerRefused (sym same)))
 others (endings.PeerRefused a) (endings.Io Read) c differ = refl
 others (endings.PeerRefused a) (endings.Io Write) c differ = refl
 others (endings.PeerRefused a) endings.Memory c differ = refl

@@ -5,8 +5,8 @@ ghost use Rattle.watch_core.specs.Counting.{HasNumbers, IsEnding, count_of, plus
 ghost use Rattle.watch_core.specs.declared.endings.Ending.{Ending};
 ghost use Rattle.watch_core.specs.declared.endings.EndingCounts.{EndingCounts};
 
-/// A visit is counted once: the count of its ending rises by one, until that stops at 2^64 - 1, and no other count of an
-/// ending changes.
+/// A visit is counted once: the count of its ending rises by one, until that stops at 2^64 - 1, and no other count of
+/// an ending changes.
 #[tactic(auto, using(crate::proofs::Once::own, crate::proofs::Once::others))]
 pub fn visits_count_once()
     ensures own { (e : Ending) (c : EndingCounts) → HasNumbers c → IsEnding e →

@@ -6,7 +6,7 @@ use Rattle.std.specs.Prelude.{Result, Ok, Err, IfOk, OnOk, OnErr}
 use Rattle.std.proofs.lemmas.List.{map-set, set-get_or}
 use Rattle.std.proofs.lemmas.Option.{slice_get-map, slice_get_read}
 use Rattle.std.proofs.lemmas.Bool.{ne_eqb}
-use Rattle.definitions.proofs.Words.{AllByRecursion, World, Node, node_at, no_node, has_ended, IsExact, Message}
+use Rattle.definitions.proofs.Words.{AllByRecursion, World, Node, node_at, no_node, has_ended, Message}
 use Rattle.definitions.proofs.Words.{has_open, answer, after, Replies, Ends, Refuses, responder, reply}
 use Rattle.definitions.proofs.Lemmas.{cond-true, cond-false, eq-eqb, get_or_from_slice_get}
 use Rattle.definitions.specs.Ends.{Answer}
@@ -14,10 +14,10 @@ use Rattle.definitions.specs.Worlds.{Deliver, deliver_at, after_delivery}
 use Rattle.definitions.specs.Worlds as worlds
 use Rattle.definitions.specs.Fingerprints.{Summary}
 use Rattle.laws.specs.Growing.{is_even}
-use Rattle.laws.specs.Sessions.{Kept, Keeps, GoesOnBy, Tells, SessionsGoOn, SessionsKeepNodes, SessionsTell, hearer_now}
-use Rattle.laws.specs.Sessions.{kept_after}
+use Rattle.laws.specs.Sessions.{Kept, Keeps, GoesOnBy, Tells, hearer_now, kept_after}
 use Rattle.ends_core.specs.EndStates.{EndState, HasNone}
 use Rattle.world_core.specs.declared.session.Session.{Session}
+use Rattle.world_core.specs.Laws.{Laws, DeliveryLaws}
 use Rattle.world_core.specs.Nodes.{newest}
 use Rattle.world_core.specs.Live.{session_of, kept_of, made, IsKept, world_of, IsRunning, IsTaken, last_by, parts_by}
 use Rattle.world_core.specs.Live.{did_by, responder_from, hearer, heard_by}
@@ -41,17 +41,6 @@ set_found : {X : Type 0} (xs : List X) (k : ℕ) (x : X) → slice_get xs k ≡ 
 set_found xs k x e = ap (set xs k) (sym (get_or_from_slice_get xs k x x e)) ∙ set-get_or xs k x
 
 module _ {F : Type 0} (S : Summary F) where
-  -- what the laws say of a session that is looked at
-  pub record Laws : Type 0 where
-    pub exact : IsExact S
-    pub tell : SessionsTell S
-
-  -- and of one whose message is delivered
-  pub record DeliveryLaws : Type 0 where
-    pub look : Laws
-    pub go_on : SessionsGoOn S
-    pub keep : SessionsKeepNodes S
-
   -- ==== The session after a delivery
 
   from_same : (node : Node) (o : Option (EndState F)) →
@@ -157,7 +146,7 @@ module _ {F : Type 0} (S : Summary F) where
       slice_get lives k ≡ Some l → IsKept S (world_of nodes lives) l
   kept_at nodes lives k l runs here = All-found (IsKept S (world_of nodes lives)) lives k l here runs.kept
 
-  pub tells_at : Laws → (nodes : List Node) (lives : List (Session F)) (k : ℕ) (l : Session F) →
+  pub tells_at : Laws S → (nodes : List Node) (lives : List (Session F)) (k : ℕ) (l : Session F) →
       IsRunning S nodes lives → slice_get lives k ≡ Some l →
       Tells S (world_of nodes lives) (session_of l) (kept_of l)
   tells_at laws nodes lives k l runs here =
@@ -165,18 +154,18 @@ module _ {F : Type 0} (S : Summary F) where
       (kept_at nodes lives k l runs here).keeps
 
   -- by the number of messages it is seen whether it has ended
-  pub ended_at : Laws → (nodes : List Node) (lives : List (Session F)) (k : ℕ) (l : Session F) →
+  pub ended_at : Laws S → (nodes : List Node) (lives : List (Session F)) (k : ℕ) (l : Session F) →
       IsRunning S nodes lives → slice_get lives k ≡ Some l →
       has_ended S (world_of nodes lives) (session_of l) ≡ (made l == l.delivered)
   ended_at laws nodes lives k l runs here =
       ap (λ n. n == l.delivered) (sym (tells_at laws nodes lives k l runs here).count)
 
-  pub few_at : Laws → (nodes : List Node) (lives : List (Session F)) (k : ℕ) (l : Session F) → IsRunning S nodes lives →
-      slice_get lives k ≡ Some l → l.delivered ≤ made l
+  pub few_at : Laws S → (nodes : List Node) (lives : List (Session F)) (k : ℕ) (l : Session F) →
+      IsRunning S nodes lives → slice_get lives k ≡ Some l → l.delivered ≤ made l
   few_at laws nodes lives k l runs here =
       let t = tells_at laws nodes lives k l runs here in omega (arith, t.count, t.delivered)
 
-  goes_at : DeliveryLaws → (nodes : List Node) (lives : List (Session F)) (k : ℕ) (l : Session F) (node : Node) →
+  goes_at : DeliveryLaws S → (nodes : List Node) (lives : List (Session F)) (k : ℕ) (l : Session F) (node : Node) →
       IsAt nodes lives k l node → l.delivered < made l →
       Goes (world_of nodes lives) (session_of l) (kept_of l) (answer S (hearer l node).end l.last)
       × IsHeard (world_of nodes lives) l node
@@ -192,7 +181,7 @@ module _ {F : Type 0} (S : Summary F) where
         is,
       )
 
-  pub deliver_taken : DeliveryLaws → (nodes : List Node) (lives : List (Session F)) (k : ℕ) (l : Session F)
+  pub deliver_taken : DeliveryLaws S → (nodes : List Node) (lives : List (Session F)) (k : ℕ) (l : Session F)
       (node : Node) → IsAt nodes lives k l node → l.delivered < made l →
       IsTaken (answer S (hearer l node).end l.last)
   deliver_taken laws nodes lives k l node at more = (goes_at laws nodes lives k l node at more).0.taken
@@ -222,7 +211,7 @@ module _ {F : Type 0} (S : Summary F) where
   abbrev with_sessions : List Node → List worlds.Session → World
   with_sessions nodes ss = record { nodes = nodes; sessions = ss }
 
-  both_made : DeliveryLaws → (nodes : List Node) (lives : List (Session F)) (k : ℕ) (l : Session F) (node : Node) →
+  both_made : DeliveryLaws S → (nodes : List Node) (lives : List (Session F)) (k : ℕ) (l : Session F) (node : Node) →
       IsAt nodes lives k l node → l.delivered < made l →
       deliver_at S (world_of nodes lives) k (slice_get (world_of nodes lives).sessions k)
       ≡ (world_of nodes (set lives k (heard_by S l node)), did_by (answer S (hearer l node).end l.last))
@@ -238,7 +227,7 @@ module _ {F : Type 0} (S : Summary F) where
       ∙ ap (λ d. (delivered_to w k (session_of l), d)) (sym both.0.did)
       ∙ ap (λ ss. (with_sessions nodes ss, did_by (answer S (hearer l node).end l.last))) (sym same)
 
-  heard_runs : DeliveryLaws → (nodes : List Node) (lives : List (Session F)) (k : ℕ) (l : Session F) (node : Node) →
+  heard_runs : DeliveryLaws S → (nodes : List Node) (lives : List (Session F)) (k : ℕ) (l : Session F) (node : Node) →
       IsAt nodes lives k l node → l.delivered < made l →
       IsRunning S nodes (set lives k (heard_by S l node))
   heard_runs laws nodes lives k l node at more =
@@ -266,7 +255,7 @@ module _ {F : Type 0} (S : Summary F) where
             came_on S w v (Deliver k) (sym (ap (λ p. p.0) (both_made laws nodes lives k l node at more))) at.runs.came;
       }
 
-  pub deliver_runs : {D E : Type 0} (r : Result D E) → DeliveryLaws →
+  pub deliver_runs : {D E : Type 0} (r : Result D E) → DeliveryLaws S →
       (nodes : List Node) (lives : List (Session F)) (k : ℕ) (l m : Session F) (node : Node) →
       IsAt nodes lives k l node → l.delivered < made l →
       OnOk r (m ≡ heard_by S l node) → OnErr r (m ≡ l) → IsRunning S nodes (set lives k m)
@@ -275,7 +264,7 @@ module _ {F : Type 0} (S : Summary F) where
   deliver_runs (Err d) laws nodes lives k l m node at more ok err =
       subst (IsRunning S nodes) (sym (ap (set lives k) err ∙ set_found lives k l at.here)) at.runs
 
-  pub deliver_world : {D E : Type 0} (r : Result D E) → DeliveryLaws →
+  pub deliver_world : {D E : Type 0} (r : Result D E) → DeliveryLaws S →
       (w : World) (nodes : List Node) (lives : List (Session F)) (k : ℕ) (l m : Session F) (node : Node) →
       world_of nodes lives ≡ w →
       IsAt nodes lives k l node → l.delivered < made l → OnOk r (m ≡ heard_by S l node) →
@@ -285,7 +274,7 @@ module _ {F : Type 0} (S : Summary F) where
       (ap (λ z. world_of nodes (set lives k z)) ok ∙ sym (ap (λ p. p.0) (both_made laws nodes lives k l node at more)))
   deliver_world (Err d) laws w nodes lives k l m node v at more ok = tt
 
-  pub deliver_did : {D E : Type 0} (f : D → worlds.Did) (r : Result D E) → DeliveryLaws →
+  pub deliver_did : {D E : Type 0} (f : D → worlds.Did) (r : Result D E) → DeliveryLaws S →
       (w : World) (nodes : List Node) (lives : List (Session F)) (k : ℕ) (l : Session F) (node : Node) →
       world_of nodes lives ≡ w →
       IsAt nodes lives k l node → l.delivered < made l →
@@ -303,7 +292,7 @@ module _ {F : Type 0} (S : Summary F) where
   deliver_same (Err d) w nodes lives k l m v here err =
       ap (world_of nodes) (ap (set lives k) err ∙ set_found lives k l here) ∙ v
 
-  pub deliver_idle : Laws → (w : World) (nodes : List Node) (lives : List (Session F)) (k : ℕ) (l : Session F) →
+  pub deliver_idle : Laws S → (w : World) (nodes : List Node) (lives : List (Session F)) (k : ℕ) (l : Session F) →
       world_of nodes lives ≡ w → IsRunning S nodes lives → slice_get lives k ≡ Some l →
       made l ≤ l.delivered → deliver_at S w k (slice_get w.sessions k) ≡ (w, worlds.Idle)
   deliver_idle laws w nodes lives k l v runs here less =
@@ -313,7 +302,7 @@ module _ {F : Type 0} (S : Summary F) where
       subst (λ t. deliver_at S t k (slice_get t.sessions k) ≡ (t, worlds.Idle)) v
       (ap (deliver_at S u k) (found_at nodes lives k l here) ∙ cond-true (has_ended S u (session_of l)) _ _ over)
 
-  pub idle_world : Laws → (w : World) (nodes : List Node) (lives : List (Session F)) (k : ℕ) (l : Session F) →
+  pub idle_world : Laws S → (w : World) (nodes : List Node) (lives : List (Session F)) (k : ℕ) (l : Session F) →
       world_of nodes lives ≡ w → IsRunning S nodes lives → slice_get lives k ≡ Some l →
       made l ≤ l.delivered → world_of nodes (set lives k l) ≡ (deliver_at S w k (slice_get w.sessions k)).0
   idle_world laws w nodes lives k l v runs here less =

@@ -1,9 +1,10 @@
 -- What is seen of a session by what is kept of it: its report, and what its sides learned.
-use Rattle.std.proofs.Common.{◌≡◌, refl, sym, ap, ◌∙◌, subst, arith, ℕ, ◌<◌, ◌≤◌, List, Option, Some, None, take}
+use Rattle.std.proofs.Common.{◌≡◌, refl, sym, ap, ◌∙◌, subst, arith, ℕ, ◌<◌, ◌≤◌, List, Option, Some, None}
+use Rattle.std.proofs.Common.{get_or, take}
 use Rattle.std.specs.Prelude.{slice_get, IfSome, IfOk, OnOk, OnErr, Result, Ok, Err, option_map, length, true, false}
 use Rattle.std.specs.Prelude.{◌==◌}
 use Rattle.std.proofs.lemmas.List.{set-get_or}
-use Rattle.std.proofs.lemmas.Option.{slice_get-map}
+use Rattle.std.proofs.lemmas.Option.{slice_get-map, slice_get_read}
 use Rattle.std.proofs.lemmas.Bool.{ne_eqb}
 use Rattle.definitions.proofs.Words.{World, Node, Item, End, node_at, no_node, has_ended, initiator_of, responder_of}
 use Rattle.definitions.proofs.Words.{absorb_at, absorb_side, set_of, message_bound, rank_of, responder_at}
@@ -19,7 +20,14 @@ use Rattle.world_core.specs.declared.session.Session.{Session}
 use Rattle.world_core.specs.Live.{session_of, kept_of, made, IsKept, world_of, IsRunning}
 use Rattle.world_core.specs.Steps.{absorbing, absorbed_at, theirs_of, AbsorbsSome}
 use Rattle.world_core.specs.Shown.{learned_by, bound_by, rank_held, shown}
-use Rattle.world_core.proofs.Delivering.{Laws, kept_at, tells_at, ended_at, few_at}
+use Rattle.world_core.specs.Laws.{Laws}
+use Rattle.world_core.proofs.Delivering.{kept_at, tells_at, ended_at, few_at}
+
+-- what a look into a slice of the sessions found
+pub looked_at : {F : Type 0} (lives seen : List (Session F)) (k : ℕ) (l : Session F) → seen ≡ lives → k < length seen →
+    l ≡ get_or seen k l → slice_get lives k ≡ Some l
+looked_at lives seen k l same low read =
+    subst (λ xs. slice_get xs k ≡ Some l) same (slice_get_read seen _ k l refl low read)
 
 module _ {F : Type 0} (S : Summary F) where
   -- ==== What is learned

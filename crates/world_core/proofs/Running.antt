@@ -149,21 +149,6 @@ module _ {F : Type 0} (S : Summary F) where
 
   -- ==== A session that is opened
 
-  open_there : (w : World) (i r : ℕ) (a b : Node) → (i ≡ r → ⊥) →
-      open_at w i r (Some a) (Some b) ≡ (
-        record w {
-          sessions = w.sessions ++ record {
-            initiator_node = i;
-            responder_node = r;
-            initiator_version = length a.history;
-            responder_version = None;
-            delivered = 0;
-          } ∷ [];
-        },
-        worlds.Opened (length w.sessions),
-      )
-  open_there w i r a b apart = cond-false (i == r) _ _ (ne_eqb i r apart)
-
   -- what an open makes of the world
   pub open_world : (w : World) (nodes : List Node) (lives : List (Session F)) (i r : ℕ) (node : Node) →
       world_of nodes lives ≡ w →
@@ -180,7 +165,7 @@ module _ {F : Type 0} (S : Summary F) where
       let opened : open_at u i r (slice_get nodes i) (slice_get nodes r)
       ≡ (world_of nodes (lives ++ beginning S i r node ∷ []), worlds.Opened (length lives)) =
       ap (λ o. open_at u i r o (slice_get nodes r)) e ∙ ap (λ o. open_at u i r (Some node) o) f
-      ∙ open_there u i r node b apart
+      ∙ cond-false (i == r) _ _ (ne_eqb i r apart)
       ∙ ap (λ ss. (the_world nodes ss, worlds.Opened (length (map session_of lives)))) joined
       ∙ ap (λ n. (world_of nodes (lives ++ beginning S i r node ∷ []), worlds.Opened n))
       (length-map lives session_of) in

@@ -10,3 +10,4 @@ pub mod Live
 pub mod Reports
 pub mod Shown
 pub mod Runs
+pub mod Laws

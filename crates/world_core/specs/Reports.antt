@@ -1,11 +1,14 @@
 -- What is shown of a session, as the definitions have it.
-use Rattle.definitions.specs.Talks.{Knowledge}
+use Rattle.std.specs.Prelude.{unwrap_or}
+use Rattle.std.specs.Option.{option_copied}
+use Rattle.definitions.specs.Talks.{Knowledge, nothing}
 use Rattle.definitions.specs.Worlds as worlds
 use Rattle.world_core.specs.declared.report.Lists.{Lists}
 use Rattle.world_core.specs.declared.report.Report.{Report}
 
+-- a side that has not begun has learned nothing
 abbrev pub knowledge_of : Lists → Knowledge
-knowledge_of k = record { ours = k.ours.now; theirs = k.theirs.now }
+knowledge_of k = unwrap_or (option_copied k.learned) nothing
 
 abbrev pub report_of : Report → worlds.Report
 report_of r = record {

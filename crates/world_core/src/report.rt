@@ -1,17 +1,16 @@
-ghost use Rattle.std.specs.Prelude.{◌≡◌};
+ghost use Rattle.std.specs.Prelude.{◌≡◌, IfOk};
 ghost use Rattle.definitions.specs.Talks.{nothing};
 ghost use Rattle.world_core.specs.Reports.{knowledge_of};
 
 use ends_core::Learned;
 use item_core::Item;
+use std::alloc::{AllocError, Global};
 
 /// What a side of a session learned.
 #[derive(Clone, Copy, Debug)]
 pub struct Lists<'a> {
-    /// Own items that the other lacks, in the order learned.
-    pub ours: &'a [Item],
-    /// Items of the other that are lacked here, in the order learned.
-    pub theirs: &'a [Item],
+    // None of a side that has not begun.
+    learned: Option<&'a Learned>,
 }
 
 impl<'a> Lists<'a> {
@@ -20,8 +19,7 @@ impl<'a> Lists<'a> {
         ensures { knowledge_of result ≡ learned.now }
     {
         Lists {
-            ours: learned.ours(),
-            theirs: learned.theirs(),
+            learned: Some(learned),
         }
     }
 
@@ -29,9 +27,26 @@ impl<'a> Lists<'a> {
     pub(crate) fn nothing() -> Lists<'a>
         ensures { knowledge_of result ≡ nothing }
     {
-        Lists {
-            ours: &[],
-            theirs: &[],
+        Lists { learned: None }
+    }
+
+    /// Own items that the other lacks, in the order learned.
+    pub fn ours(self, alloc: Global) -> Result<Vec<Item>, AllocError>
+        ensures { IfOk result (λ items. items.items ≡ (knowledge_of self.entry).ours) }
+    {
+        match self.learned {
+            Some(learned) => learned.ours().to_vec(alloc),
+            None => Ok(Vec::new(alloc)),
+        }
+    }
+
+    /// Items of the other that are lacked here, in the order learned.
+    pub fn theirs(self, alloc: Global) -> Result<Vec<Item>, AllocError>
+        ensures { IfOk result (λ items. items.items ≡ (knowledge_of self.entry).theirs) }
+    {
+        match self.learned {
+            Some(learned) => learned.theirs().to_vec(alloc),
+            None => Ok(Vec::new(alloc)),
         }
     }
 }

@@ -4,9 +4,10 @@ ghost use Rattle.std.specs.Prelude.{◌≡◌, ◌<◌, ℕ, length, slice_get, 
 ghost use Rattle.std.specs.List.{AllByRecursion};
 ghost use Rattle.definitions.specs.Theorems.{IsNode};
 ghost use Rattle.definitions.specs.Worlds as worlds;
+ghost use Rattle.world_core.specs.Laws.{DeliveryLaws, Laws};
 ghost use Rattle.world_core.specs.Live.{IsRunning, world_of};
 ghost use Rattle.definitions.specs.Sets.{set_of};
-ghost use Rattle.world_core.specs.Reports.{report_of};
+ghost use Rattle.world_core.specs.Reports.{knowledge_of, report_of};
 ghost use Rattle.world_core.specs.Runs.{HasFewMessages, IsWithinBound, KeepsLimits, LearnsBoth, LearnsNothingWrong};
 ghost use Rattle.world_core.specs.Runs.{HasFewParts, Holds, Came, ComesFrom, HasItemsOfRuns, EndsByDeliveries};
 ghost use Rattle.world_core.specs.Runs.{AbsorbsAll};
@@ -14,7 +15,7 @@ ghost use Rattle.world_core.specs.Steps.{did_of, side_of, step_of, added_in, abs
 ghost use Rattle.world_core.specs.Steps.{IsCutShort};
 
 use crate::node::Node;
-use crate::report::Report;
+use crate::report::{Lists, Report};
 use crate::session::Session;
 use crate::setup::{Prepared, Setup};
 use crate::step::{Did, Side, Step};
@@ -40,6 +41,22 @@ impl<F: Summary> Model for World<F> {
     ghost view = { λ a. world_of a.nodes.items a.sessions.items };
 
     ghost invariant = { λ a. IsRunning F.summary a.nodes.items a.sessions.items };
+}
+
+/// What the laws say of a session that is looked at.
+fn look_laws<F: Summary>()
+    ensures { Laws F.summary }
+{
+    laws::sessions_tell::<F>();
+}
+
+/// And of one whose message is delivered.
+fn delivery_laws<F: Summary>()
+    ensures { DeliveryLaws F.summary }
+{
+    look_laws::<F>();
+    laws::sessions_go_on::<F>();
+    laws::sessions_keep_nodes::<F>();
 }
 
 /// The nodes of a run that begins.
@@ -138,9 +155,7 @@ impl<F: Summary> World<F> {
             (slice_get self.old.sessions number)).1) }
         ensures memory { OnErr result (self.new ≡ self.old) }
     {
-        laws::sessions_go_on::<F>();
-        laws::sessions_keep_nodes::<F>();
-        laws::sessions_tell::<F>();
+        delivery_laws::<F>();
         let Some(session) = self.sessions.get_mut(number) else {
             return Ok(Did::Idle);
         };
@@ -186,7 +201,7 @@ impl<F: Summary> World<F> {
             (slice_get self.old.sessions number)).1) }
         ensures memory { OnErr result (AbsorbsSome F.summary self.old number (side_of side) self.new) }
     {
-        laws::sessions_tell::<F>();
+        look_laws::<F>();
         let Some(session) = self.sessions.get(number) else {
             return Ok(Did::Idle);
         };
@@ -194,7 +209,7 @@ impl<F: Summary> World<F> {
             return Ok(Did::Idle);
         }
         let node = session.node(side);
-        let items = rising(alloc, session.learned(side).theirs)?;
+        let items = rising(alloc, session.learned(side))?;
         self.absorb_items(alloc, node, &items)
     }
 
@@ -238,7 +253,7 @@ impl<F: Summary> World<F> {
         ensures items { HasItemsOfRuns F.summary self.now }
     {
         let _ = self.sessions(); // proof only: what holds of each session
-        laws::sessions_tell::<F>();
+        look_laws::<F>();
         let session = self.sessions.get(session)?;
         Some(session.report())
     }
@@ -255,11 +270,11 @@ fn added_by(did: Did) -> Option<usize>
     }
 }
 
-/// The items in rising order, each one once.
-fn rising(alloc: Global, items: &[Item]) -> Result<Vec<Item>, AllocError>
-    ensures { IfOk result (λ sorted. sorted.items ≡ set_of items.now) }
+/// The items of the other side in rising order, each one once.
+fn rising(alloc: Global, learned: Lists<'_>) -> Result<Vec<Item>, AllocError>
+    ensures { IfOk result (λ sorted. sorted.items ≡ set_of (knowledge_of learned.entry).theirs) }
 {
-    Ok(distinct(Vec::from_slice(alloc, items)?))
+    Ok(distinct(learned.theirs(alloc)?))
 }
 
 /// The world after these steps, from the setup on.

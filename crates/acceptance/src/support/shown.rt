@@ -82,8 +82,8 @@ pub(crate) fn shown(alloc: Global, messages: &[Message]) -> Result<String, Alloc
 pub(crate) fn shown_learned(alloc: Global, learned: &Learned) -> Result<String, AllocError> {
     let mut text = String::new(alloc);
     text.push_str("ours ")?;
-    push_items(&mut text, learned.ours())?;
+    push_items(&mut text, &learned.ours().to_vec(alloc)?)?;
     text.push_str(" theirs ")?;
-    push_items(&mut text, learned.theirs())?;
+    push_items(&mut text, &learned.theirs().to_vec(alloc)?)?;
     Ok(text)
 }

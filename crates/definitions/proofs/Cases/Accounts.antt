@@ -239,24 +239,22 @@ read_failed n = call Initiates no_items broken fine (take n initiator_reads) dia
 pub none_came_whole : map (λ n. calls_for (read_failed n)) (range_with_len 0 24) ≡ replicate 24 1
 none_came_whole = refl
 
-pub reader_fails_at_once : IsIo two_lanes two_lane_profile (read_failed 0) 1 Reading
-reader_fails_at_once = record {
+reader_fails : (n : ℕ) → calls_for (read_failed n) ≡ 1 →
+    IsBeginningOf dialed (said two_lanes two_lane_profile (read_failed n) 2) →
+    IsBeginningOf (said two_lanes two_lane_profile (read_failed n) 1) dialed →
+    IsIo two_lanes two_lane_profile (read_failed n) 1 Reading
+reader_fails n one front all = record {
   wrote = record {
-    count = omega arith;
-    front = ([], refl);
-    no_less = λ some. ([], refl);
-    no_more = λ more. absurd (omega arith);
+    count = omega (arith, one);
+    front = front;
+    no_less = λ some. all;
+    no_more = λ more. absurd (omega (arith, one));
   };
   failed = inl refl;
 }
 
+pub reader_fails_at_once : IsIo two_lanes two_lane_profile (read_failed 0) 1 Reading
+reader_fails_at_once = reader_fails 0 refl ([], refl) ([], refl)
+
 pub reader_fails_in_the_reply : IsIo two_lanes two_lane_profile (read_failed 23) 1 Reading
-reader_fails_in_the_reply = record {
-  wrote = record {
-    count = omega arith;
-    front = ([], refl);
-    no_less = λ some. ([], refl);
-    no_more = λ more. absurd (omega arith);
-  };
-  failed = inl refl;
-}
+reader_fails_in_the_reply = reader_fails 23 refl ([], refl) ([], refl)

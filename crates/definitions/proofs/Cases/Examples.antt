@@ -5,6 +5,7 @@ use Rattle.definitions.specs.Items.{Item, Range, same_item}
 use Rattle.definitions.specs.Fingerprints.{Summary}
 use Rattle.definitions.specs.Strategies.{Table, Row, Act, List_items, Split, Peel, At_items}
 use Rattle.definitions.specs.Replies.{Peer}
+use Rattle.definitions.specs.Talks.{Knowledge}
 
 -- the fingerprint of a set is the set: no two sets share one
 abbrev pub itself : Summary (List Item)
@@ -16,14 +17,13 @@ row_upto n act = record { upto = n; act = act }
 abbrev pub halves : Act
 halves = Split (1 ∷ 1 ∷ [])
 
+-- a table that cuts at items
+abbrev pub table_of : ℕ → ℕ → ℕ → List Row → Table
+table_of cap limit rounds rows =
+    record { cap = cap; limit = limit; rounds = rounds; rows = rows; bounds = At_items }
+
 abbrev pub binary : ℕ → ℕ → Table
-binary cap rounds = record {
-  cap = cap;
-  limit = 1;
-  rounds = rounds;
-  rows = row_upto 1 List_items ∷ row_upto cap halves ∷ [];
-  bounds = At_items;
-}
+binary cap rounds = table_of cap 1 rounds (row_upto 1 List_items ∷ row_upto cap halves ∷ [])
 
 abbrev pub binary8 : Table
 binary8 = binary 8 3
@@ -32,17 +32,14 @@ abbrev pub binary16 : Table
 binary16 = binary 16 4
 
 abbrev pub peeling : ℕ → ℕ → Table
-peeling rounds front = record {
-  cap = 10;
-  limit = 3;
-  rounds = rounds;
-  rows = row_upto 3 List_items ∷ row_upto 10 (Peel front) ∷ [];
-  bounds = At_items;
-}
+peeling rounds front = table_of 10 3 rounds (row_upto 3 List_items ∷ row_upto 10 (Peel front) ∷ [])
 
 -- the one-byte items of a text
 abbrev pub letters : List ℕ → List Item
 letters bytes = map (λ b. b ∷ []) bytes
+
+abbrev pub knows_letters : List ℕ → List ℕ → Knowledge
+knows_letters ours theirs = record { ours = letters ours; theirs = letters theirs }
 
 abbrev pub peer : Table → List ℕ → Peer
 peer T bytes = record { table = T; items = letters bytes }

@@ -5,13 +5,10 @@ use Rattle.definitions.specs.Talks.{Knowledge}
 use Rattle.definitions.specs.Histories.{History, opening_history, insertion, New, Already, Full, version}
 use Rattle.definitions.specs.Worlds.{World, Node, Step, Report, Insert, Open, Deliver, Absorb, Initiator, Responder}
 use Rattle.definitions.specs.Worlds.{Idle, Added, Opened, Sent, Over, Absorbed, run, start, answers, report}
-use Rattle.definitions.proofs.Cases.Examples.{itself, letters, binary, binary16}
+use Rattle.definitions.proofs.Cases.Examples.{itself, letters, knows_letters, binary, binary16}
 
 abbrev pub node : Table → List ℕ → List ℕ → Node
 node T steps bytes = record { table = T; steps = steps; history = opening_history (letters bytes) }
-
-abbrev pub knows_letters : List ℕ → List ℕ → Knowledge
-knows_letters ours theirs = record { ours = letters ours; theirs = letters theirs }
 
 -- a report of a session that node 0 opened with node 1
 abbrev pub reports : ℕ → Option ℕ → ℕ → Bool → Knowledge → Knowledge → Option Report

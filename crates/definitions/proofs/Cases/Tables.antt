@@ -1,10 +1,10 @@
 -- What the checker answers.
 use Rattle.std.specs.Prelude.{◌≡◌, ℕ, ◌+◌, List, [], ◌∷◌, Some, None, Ok, refl, map, sum, take, length}
-use Rattle.definitions.specs.Strategies.{Table, List_items, Split, At_items, shares, width}
+use Rattle.definitions.specs.Strategies.{Table, List_items, Split, shares, width}
 use Rattle.definitions.specs.Ranks.{check_fault, check_with_fault, List_too_long, No_descent, Too_deep, Bad_certificate}
 use Rattle.definitions.specs.Ranks.{least_ranks, first_stuck, found, rank_by, steps_fault}
 use Rattle.definitions.specs.Climbs.{find_steps, check_by_steps}
-use Rattle.definitions.proofs.Cases.Examples.{row_upto, halves, binary, binary8, binary16, peeling}
+use Rattle.definitions.proofs.Cases.Examples.{table_of, row_upto, halves, binary, binary8, binary16, peeling}
 
 pub binary_eight_accepted : check_fault binary8 ≡ None
 binary_eight_accepted = refl
@@ -19,13 +19,7 @@ pub binary_eight_steps_by_the_loop : find_steps binary8 ≡ Ok (1 ∷ 2 ∷ 4 �
 binary_eight_steps_by_the_loop = refl
 
 abbrev pub skewed : Table
-skewed = record {
-  cap = 8;
-  limit = 1;
-  rounds = 3;
-  rows = row_upto 1 List_items ∷ row_upto 8 (Split (1 ∷ 15 ∷ [])) ∷ [];
-  bounds = At_items;
-}
+skewed = table_of 8 1 3 (row_upto 1 List_items ∷ row_upto 8 (Split (1 ∷ 15 ∷ [])) ∷ [])
 
 pub a_share_of_all : check_fault skewed ≡ Some (No_descent 2)
 a_share_of_all = refl
@@ -40,13 +34,7 @@ pub one_round_too_few_by_the_loop : check_by_steps (binary 8 2) ≡ Some (Too_de
 one_round_too_few_by_the_loop = refl
 
 abbrev pub long_lists : Table
-long_lists = record {
-  cap = 8;
-  limit = 3;
-  rounds = 3;
-  rows = row_upto 4 List_items ∷ row_upto 8 (Split (1 ∷ 1024 ∷ [])) ∷ [];
-  bounds = At_items;
-}
+long_lists = table_of 8 3 3 (row_upto 4 List_items ∷ row_upto 8 (Split (1 ∷ 1024 ∷ [])) ∷ [])
 
 pub list_row_above_the_limit : check_fault long_lists ≡ Some (List_too_long 4)
 list_row_above_the_limit = refl
@@ -55,13 +43,8 @@ pub though_five_has_no_descent : first_stuck long_lists ≡ Some 5
 though_five_has_no_descent = refl
 
 abbrev pub list_between : Table
-list_between = record {
-  cap = 6;
-  limit = 4;
-  rounds = 3;
-  rows = row_upto 1 List_items ∷ row_upto 3 halves ∷ row_upto 4 List_items ∷ row_upto 6 halves ∷ [];
-  bounds = At_items;
-}
+list_between =
+    table_of 6 4 3 (row_upto 1 List_items ∷ row_upto 3 halves ∷ row_upto 4 List_items ∷ row_upto 6 halves ∷ [])
 
 pub a_list_row_keeps_its_rank : least_ranks list_between ≡ 0 ∷ 0 ∷ 1 ∷ 2 ∷ 2 ∷ 3 ∷ 3 ∷ []
 a_list_row_keeps_its_rank = refl
@@ -73,13 +56,7 @@ pub a_list_row_keeps_its_rank_steps : found list_between ≡ Ok (1 ∷ 2 ∷ 4 �
 a_list_row_keeps_its_rank_steps = refl
 
 abbrev pub one_to_three : Table
-one_to_three = record {
-  cap = 8;
-  limit = 1;
-  rounds = 9;
-  rows = row_upto 1 List_items ∷ row_upto 8 (Split (1 ∷ 3 ∷ [])) ∷ [];
-  bounds = At_items;
-}
+one_to_three = table_of 8 1 9 (row_upto 1 List_items ∷ row_upto 8 (Split (1 ∷ 3 ∷ [])) ∷ [])
 
 pub no_descent_at_two : check_fault one_to_three ≡ Some (No_descent 2)
 no_descent_at_two = refl
@@ -87,9 +64,7 @@ no_descent_at_two = refl
 pub though_eight_has_two_shares : shares one_to_three 8 ≡ 2 ∷ 6 ∷ []
 though_eight_has_two_shares = refl
 
-pub a_split_of_nothing :
-    check_fault (record { cap = 4; limit = 0; rounds = 9; rows = row_upto 4 halves ∷ []; bounds = At_items })
-    ≡ Some (No_descent 0)
+pub a_split_of_nothing : check_fault (table_of 4 0 9 (row_upto 4 halves ∷ [])) ≡ Some (No_descent 0)
 a_split_of_nothing = refl
 
 -- certificates
@@ -121,8 +96,7 @@ steps_that_do_not_rise = refl
 -- shares
 
 abbrev pub three_one_one : Table
-three_one_one =
-    record { cap = 8; limit = 0; rounds = 9; rows = row_upto 8 (Split (3 ∷ 1 ∷ 1 ∷ [])) ∷ []; bounds = At_items }
+three_one_one = table_of 8 0 9 (row_upto 8 (Split (3 ∷ 1 ∷ 1 ∷ [])) ∷ [])
 
 -- the sums of ever more shares
 abbrev pub cut_at : ℕ → ℕ → ℕ

@@ -1,5 +1,5 @@
 -- Talks of two peers, message by message, and what each side learns. The fingerprint of a set is the set.
-use Rattle.std.specs.Prelude.{◌≡◌, ℕ, true, List, [], ◌∷◌, refl, codes}
+use Rattle.std.specs.Prelude.{◌≡◌, ℕ, true, List, [], ◌∷◌, ◌++◌, refl, codes}
 use Rattle.definitions.specs.Items.{Item, Range, whole}
 use Rattle.definitions.specs.Messages.{Part, Sum, Listing, Answer, Message}
 use Rattle.definitions.specs.Replies.{Peer}
@@ -10,8 +10,8 @@ use Rattle.definitions.specs.Ends.{Over, Spent, Replies, Refuses, answer, after,
 use Rattle.definitions.specs.Cost.{part_bound, most_parts}
 use Rattle.definitions.specs.Theorems.{rank}
 use Rattle.definitions.specs.Worlds.{message_bound}
-use Rattle.definitions.proofs.Cases.Examples.{itself, binary, binary8, binary16, peeling, letters, peer, abc, no_items}
-use Rattle.definitions.proofs.Cases.Examples.{has_abc, from_to, below, from}
+use Rattle.definitions.proofs.Cases.Examples.{itself, binary, binary8, binary16, peeling, letters, knows_letters, peer}
+use Rattle.definitions.proofs.Cases.Examples.{abc, no_items, has_abc, from_to, below, from}
 
 -- the whole talk: none of these has more than 20 messages
 abbrev pub talk_of : Peer → Peer → List (Message (List Item))
@@ -32,12 +32,21 @@ with_letters X bytes = Answer X [] (letters bytes)
 abbrev pub first : List ℕ → Message (List Item)
 first bytes = sum whole bytes ∷ []
 
-abbrev pub knows_letters : List ℕ → List ℕ → Knowledge
-knows_letters ours theirs = record { ours = letters ours; theirs = letters theirs }
+-- the Sums of a first range and of what comes after it
+abbrev pub sums : Range → List ℕ → List ℕ → List ℕ → Message (List Item)
+sums X bytes bound later = sum X bytes ∷ sum (from bound) later ∷ []
 
--- the bound by the least ranks
-abbrev pub bound_of : Peer → Peer → ℕ
-bound_of I R = message_bound (rank (least_ranks I.table) I) (rank (least_ranks R.table) R)
+-- the bound of the messages by the least ranks, the bound of the parts, and the most parts that a message has
+abbrev pub counts_of : Peer → Peer → ℕ × ℕ × ℕ
+counts_of I R = (
+  message_bound (rank (least_ranks I.table) I) (rank (least_ranks R.table) R),
+  part_bound I R,
+  most_parts (talk_of I R),
+)
+
+-- what the initiator learns, and what the responder does
+abbrev pub both_know : Peer → Peer → Knowledge × Knowledge
+both_know I R = (initiator_knows I.items (talk_of I R), responder_knows R.items (talk_of I R))
 
 pub both_empty : talk_of no_items no_items ≡ first [] ∷ [] ∷ []
 both_empty = refl
@@ -46,11 +55,9 @@ pub empty_meets_abc : talk_of no_items has_abc
     ≡ first [] ∷ (Listing whole abc ∷ []) ∷ (Answer whole (true ∷ []) [] ∷ []) ∷ []
 empty_meets_abc = refl
 
-pub empty_meets_abc_initiator : initiator_knows [] (talk_of no_items has_abc) ≡ record { ours = []; theirs = abc }
-empty_meets_abc_initiator = refl
-
-pub empty_meets_abc_responder : responder_knows abc (talk_of no_items has_abc) ≡ record { ours = abc; theirs = [] }
-empty_meets_abc_responder = refl
+pub empty_meets_abc_knowledge : both_know no_items has_abc
+    ≡ (record { ours = []; theirs = abc }, record { ours = abc; theirs = [] })
+empty_meets_abc_knowledge = refl
 
 pub equal_singletons : talk_of has_abc has_abc ≡ (Sum whole abc ∷ []) ∷ [] ∷ []
 equal_singletons = refl
@@ -65,7 +72,7 @@ ab = peer (binary 2 1) (codes "ab")
 
 pub two_pairs_that_cross : talk_of cd ab ≡
     first (codes "cd")
-    ∷ (sum (below (codes "b")) (codes "a") ∷ sum (from (codes "b")) (codes "b") ∷ [])
+    ∷ sums (below (codes "b")) (codes "a") (codes "b") (codes "b")
     ∷ (list (below (codes "b")) [] ∷ sum (from_to (codes "b") (codes "d")) (codes "c")
     ∷ sum (from (codes "d")) (codes "d") ∷ [])
     ∷ (with_letters (below (codes "b")) (codes "a") ∷ list (from_to (codes "b") (codes "d")) (codes "b")
@@ -75,19 +82,13 @@ pub two_pairs_that_cross : talk_of cd ab ≡
     ∷ []
 two_pairs_that_cross = refl
 
-pub two_pairs_that_cross_bound : bound_of cd ab ≡ 5
-two_pairs_that_cross_bound = refl
-
-pub two_pairs_that_cross_parts : part_bound cd ab ≡ 8
-two_pairs_that_cross_parts = refl
-
-pub two_pairs_that_cross_most : most_parts (talk_of cd ab) ≡ 3
-two_pairs_that_cross_most = refl
+pub two_pairs_that_cross_counts : counts_of cd ab ≡ (5, 8, 3)
+two_pairs_that_cross_counts = refl
 
 -- the same by two ends
 
 pub the_responder_replies : answer itself (responder_at itself cd ab 0) (first (codes "cd"))
-    ≡ Replies (sum (below (codes "b")) (codes "a") ∷ sum (from (codes "b")) (codes "b") ∷ [])
+    ≡ Replies (sums (below (codes "b")) (codes "a") (codes "b") (codes "b"))
 the_responder_replies = refl
 
 pub the_initiator_ends : initiator_at itself cd ab 5
@@ -116,52 +117,41 @@ seven = peer binary8 (codes "abcdefg")
 
 pub one_missing_of_eight : talk_of eight seven ≡
     first (codes "abcdefgh")
-    ∷ (sum (below (codes "d")) (codes "abc") ∷ sum (from (codes "d")) (codes "defg") ∷ [])
-    ∷ (sum (from_to (codes "d") (codes "f")) (codes "de") ∷ sum (from (codes "f")) (codes "fgh") ∷ [])
-    ∷ (sum (from_to (codes "f") (codes "g")) (codes "f") ∷ sum (from (codes "g")) (codes "g") ∷ [])
-    ∷ (sum (from_to (codes "g") (codes "h")) (codes "g") ∷ sum (from (codes "h")) (codes "h") ∷ [])
+    ∷ sums (below (codes "d")) (codes "abc") (codes "d") (codes "defg")
+    ∷ sums (from_to (codes "d") (codes "f")) (codes "de") (codes "f") (codes "fgh")
+    ∷ sums (from_to (codes "f") (codes "g")) (codes "f") (codes "g") (codes "g")
+    ∷ sums (from_to (codes "g") (codes "h")) (codes "g") (codes "h") (codes "h")
     ∷ (list (from (codes "h")) [] ∷ [])
     ∷ (with_letters (from (codes "h")) (codes "h") ∷ [])
     ∷ []
 one_missing_of_eight = refl
 
-pub one_missing_of_eight_bound : bound_of eight seven ≡ 9
-one_missing_of_eight_bound = refl
+pub one_missing_of_eight_counts : counts_of eight seven ≡ (9, 2, 2)
+one_missing_of_eight_counts = refl
 
-pub one_missing_of_eight_parts : part_bound eight seven ≡ 2
-one_missing_of_eight_parts = refl
-
-pub one_missing_of_eight_most : most_parts (talk_of eight seven) ≡ 2
-one_missing_of_eight_most = refl
-
-pub one_missing_of_eight_initiator : initiator_knows eight.items (talk_of eight seven) ≡ knows_letters (codes "h") []
-one_missing_of_eight_initiator = refl
-
-pub one_missing_of_eight_responder : responder_knows seven.items (talk_of eight seven) ≡ knows_letters [] (codes "h")
-one_missing_of_eight_responder = refl
+pub one_missing_of_eight_knowledge : both_know eight seven
+    ≡ (knows_letters (codes "h") [], knows_letters [] (codes "h"))
+one_missing_of_eight_knowledge = refl
 
 pub equal_eights : talk_of eight eight ≡ first (codes "abcdefgh") ∷ [] ∷ []
 equal_eights = refl
 
-pub equal_eights_parts : part_bound eight eight ≡ 1
-equal_eights_parts = refl
-
-pub equal_eights_most : most_parts (talk_of eight eight) ≡ 1
-equal_eights_most = refl
+pub equal_eights_counts : counts_of eight eight ≡ (9, 1, 1)
+equal_eights_counts = refl
 
 -- inserts between sessions: the second session
 
 abbrev pub nine : Peer
-nine = peer binary16 (codes "abcdefghi")
+nine = record { table = binary16; items = eight.items ++ letters (codes "i") }
 
 abbrev pub other_eight : Peer
-other_eight = peer binary16 (codes "abcdefgj")
+other_eight = record { table = binary16; items = seven.items ++ letters (codes "j") }
 
 pub inserts_between_sessions : talk_of nine other_eight ≡
     first (codes "abcdefghi")
-    ∷ (sum (below (codes "e")) (codes "abcd") ∷ sum (from (codes "e")) (codes "efgj") ∷ [])
-    ∷ (sum (from_to (codes "e") (codes "g")) (codes "ef") ∷ sum (from (codes "g")) (codes "ghi") ∷ [])
-    ∷ (sum (from_to (codes "g") (codes "j")) (codes "g") ∷ sum (from (codes "j")) (codes "j") ∷ [])
+    ∷ sums (below (codes "e")) (codes "abcd") (codes "e") (codes "efgj")
+    ∷ sums (from_to (codes "e") (codes "g")) (codes "ef") (codes "g") (codes "ghi")
+    ∷ sums (from_to (codes "g") (codes "j")) (codes "g") (codes "j") (codes "j")
     ∷ (sum (from_to (codes "g") (codes "h")) (codes "g") ∷ sum (from_to (codes "h") (codes "j")) (codes "hi")
     ∷ list (from (codes "j")) [] ∷ [])
     ∷ (list (from_to (codes "h") (codes "j")) [] ∷ with_letters (from (codes "j")) (codes "j") ∷ [])
@@ -169,53 +159,30 @@ pub inserts_between_sessions : talk_of nine other_eight ≡
     ∷ []
 inserts_between_sessions = refl
 
-pub inserts_between_sessions_bound : bound_of nine other_eight ≡ 9
-inserts_between_sessions_bound = refl
+pub inserts_between_sessions_counts : counts_of nine other_eight ≡ (9, 6, 3)
+inserts_between_sessions_counts = refl
 
-pub inserts_between_sessions_parts : part_bound nine other_eight ≡ 6
-inserts_between_sessions_parts = refl
-
-pub inserts_between_sessions_most : most_parts (talk_of nine other_eight) ≡ 3
-inserts_between_sessions_most = refl
-
-pub inserts_between_sessions_initiator : initiator_knows nine.items (talk_of nine other_eight)
-    ≡ knows_letters (codes "hi") (codes "j")
-inserts_between_sessions_initiator = refl
-
-pub inserts_between_sessions_responder : responder_knows other_eight.items (talk_of nine other_eight)
-    ≡ knows_letters (codes "j") (codes "hi")
-inserts_between_sessions_responder = refl
+pub inserts_between_sessions_knowledge : both_know nine other_eight
+    ≡ (knows_letters (codes "hi") (codes "j"), knows_letters (codes "j") (codes "hi"))
+inserts_between_sessions_knowledge = refl
 
 -- rows that peel
 
-abbrev pub peeled_seven : Peer
-peeled_seven = peer (peeling 3 3) (codes "abcdefg")
+abbrev pub peeled : List ℕ → Peer
+peeled bytes = peer (peeling 3 3) bytes
 
-abbrev pub peeled_six : Peer
-peeled_six = peer (peeling 3 3) (codes "abcdef")
-
-pub peeling_by_threes : talk_of peeled_seven peeled_six ≡
+pub peeling_by_threes : talk_of (peeled (codes "abcdefg")) (peeled (codes "abcdef")) ≡
     first (codes "abcdefg")
-    ∷ (sum (below (codes "d")) (codes "abc") ∷ sum (from (codes "d")) (codes "def") ∷ [])
-    ∷ (sum (from_to (codes "d") (codes "g")) (codes "def") ∷ sum (from (codes "g")) (codes "g") ∷ [])
+    ∷ sums (below (codes "d")) (codes "abc") (codes "d") (codes "def")
+    ∷ sums (from_to (codes "d") (codes "g")) (codes "def") (codes "g") (codes "g")
     ∷ (list (from (codes "g")) [] ∷ [])
     ∷ (with_letters (from (codes "g")) (codes "g") ∷ [])
     ∷ []
 peeling_by_threes = refl
 
-pub peeling_by_threes_bound : bound_of peeled_seven peeled_six ≡ 5
-peeling_by_threes_bound = refl
+pub peeling_by_threes_counts : counts_of (peeled (codes "abcdefg")) (peeled (codes "abcdef")) ≡ (5, 2, 2)
+peeling_by_threes_counts = refl
 
-pub peeling_by_threes_parts : part_bound peeled_seven peeled_six ≡ 2
-peeling_by_threes_parts = refl
-
-pub peeling_by_threes_most : most_parts (talk_of peeled_seven peeled_six) ≡ 2
-peeling_by_threes_most = refl
-
-pub peeling_by_threes_initiator : initiator_knows peeled_seven.items (talk_of peeled_seven peeled_six)
-    ≡ knows_letters (codes "g") []
-peeling_by_threes_initiator = refl
-
-pub peeling_by_threes_responder : responder_knows peeled_six.items (talk_of peeled_seven peeled_six)
-    ≡ knows_letters [] (codes "g")
-peeling_by_threes_responder = refl
+pub peeling_by_threes_knowledge : both_know (peeled (codes "abcdefg")) (peeled (codes "abcdef"))
+    ≡ (knows_letters (codes "g") [], knows_letters [] (codes "g"))
+peeling_by_threes_knowledge = refl

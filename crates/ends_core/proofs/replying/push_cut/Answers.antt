@@ -7,7 +7,7 @@ use Rattle.definitions.specs.Replies.{inner_cuts, bound_at}
 use Rattle.definitions.specs.Sets.{items_in}
 use Rattle.definitions.specs.Strategies.{shares}
 use Rattle.laws.specs.Cutting.{pieces_at}
-use Rattle.ends_core.proofs.Pieces.{places_are, places_within, span_count, place_count}
+use Rattle.ends_core.proofs.Pieces.{places_are, within_items, within_reach}
 use Rattle.ends_core.proofs.RunningSums.{cuts_order}
 use Rattle.ends_core.proofs.replying.push_cut.Goals as goal
 
@@ -15,15 +15,9 @@ pub bounds_at-requires : goal.bounds_at-requires
 bounds_at-requires g c =
     let A = g.S.RangeStore.content c.args.store.now in
     let X = c.args.range.now in
-    let T = c.args.strategy.now in
-    let at = c.args.at in
-    let n = length (items_in A X) in
-    let places : c.deref.result.now ≡ inner_cuts 0 (shares T n) = places_are T A X at.from at.to c.requires.end
-    c.requires.at c.count_at.result c.deref.result.now c.count_at.ensures.count
-    (c.deref.ensures.value ∙ c.in_ok-places.ensures) in
-    places_within T A X at.from at.to c.requires.end c.requires.at _ c.deref.result.now
-    (span_count T A X at.from at.to c.requires.end c.requires.at) places
-    (c.shares_are_parts.ensures T c.count_at.ensures.table n c.requires.split)
+    within_items c.args.strategy.now A X c.args.at.from c.args.at.to c.requires.end c.requires.at c.count_at.result
+    c.deref.result.now c.count_at.ensures.count (c.deref.ensures.value ∙ c.in_ok-places.ensures)
+    (c.shares_are_parts.ensures c.args.strategy.now c.count_at.ensures.table (length (items_in A X)) c.requires.split)
 
 pub cut_range-requires : goal.cut_range-requires
 cut_range-requires g c =
@@ -46,15 +40,9 @@ pub push_sums-requires-clause-within : goal.push_sums-requires-clause-within
 push_sums-requires-clause-within g c =
     let A = g.S.RangeStore.content c.args.store.now in
     let X = c.args.range.now in
-    let T = c.args.strategy.now in
-    let at = c.args.at in
-    let n = length (items_in A X) in
-    let places : c.deref-3.result.now ≡ inner_cuts 0 (shares T n) = places_are T A X at.from at.to c.requires.end
-    c.requires.at c.count_at.result c.deref-3.result.now c.count_at.ensures.count
-    (c.deref-3.ensures.value ∙ c.in_ok-places.ensures) in
-    places_within T A X at.from at.to c.requires.end c.requires.at _ c.deref-3.result.now
-    (place_count T A X at.from at.to c.requires.end c.requires.at) places
-    (c.shares_are_parts.ensures T c.count_at.ensures.table n c.requires.split)
+    within_reach c.args.strategy.now A X c.args.at.from c.args.at.to c.requires.end c.requires.at c.count_at.result
+    c.deref-3.result.now c.count_at.ensures.count (c.deref-3.ensures.value ∙ c.in_ok-places.ensures)
+    (c.shares_are_parts.ensures c.args.strategy.now c.count_at.ensures.table (length (items_in A X)) c.requires.split)
 
 pub push_sums-requires-clause-rise : goal.push_sums-requires-clause-rise
 push_sums-requires-clause-rise g c =

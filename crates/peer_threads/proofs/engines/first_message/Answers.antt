@@ -6,7 +6,6 @@ use Rattle.outcome_core.specs.declared.outcome.Direction.TheVariants as directio
 use Rattle.peer_threads.specs.Outcomes.{seen}
 use Rattle.peer_threads.specs.Listening.{InStep}
 use Rattle.peer_threads.specs.Underway.{IsNone}
-use Rattle.peer_threads.proofs.Exchanges.{Laws}
 use Rattle.peer_threads.proofs.Listenings.{fares-by, unbroken}
 use Rattle.peer_threads.proofs.Serving.{greeted, reads-on, stops-ungreeted, stops-broken-after, stops-partless}
 use Rattle.peer_threads.proofs.Serving.{stops-endless, told}
@@ -15,13 +14,8 @@ use Rattle.peer_threads.proofs.engines.first_message.Goals as goal
 pub returns-in_err-inbox-clause-stopped : goal.returns-in_err-inbox-clause-stopped
 returns-in_err-inbox-clause-stopped g c =
     told c.from_residual.result c.in_err-inbox.field-0.0 _ (search rules) (λ P.
-    let laws : Laws g.F.Summary.summary g.F.Summary.profile = record {
-      go_on = c.hearings_go_on.ensures g.F.Summary.summary;
-      begin = c.own_begins.ensures g.F.Summary.summary;
-      agree = c.bytes_agree.ensures g.F.Summary.summary g.F.Summary.profile;
-    } in
     let r = seen c.args.connection.now.reader.failed c.args.connection.now.reader.ended in
-    let stopped = stops-ungreeted g.F.Summary.summary g.F.Summary.profile laws P _ c.args.hello.bytes
+    let stopped = stops-ungreeted g.F.Summary.summary g.F.Summary.profile c.exchange_laws.ensures P _ c.args.hello.bytes
     (g.R.Read.remaining c.args.connection.now.reader.inner)
     (g.W.Write.contents c.args.connection.now.writer.inner) r c.args.connection.now.writer.failed
     c.in_err-inbox.field-0.0 c.requires.new
@@ -44,16 +38,11 @@ pub returns-in_err-first-clause-stopped : goal.returns-in_err-first-clause-stopp
 returns-in_err-first-clause-stopped g c =
     let is = err_from_is_err_and c.from_residual-in_err-first.result c.from_residual-in_err-first.ensures.1 in
     told c.from_residual-in_err-first.result c.in_err-first.field-0.0 _ (is.1 ∙ ap Err is.2) (λ P.
-    let laws : Laws g.F.Summary.summary g.F.Summary.profile = record {
-      go_on = c.hearings_go_on.ensures g.F.Summary.summary;
-      begin = c.own_begins.ensures g.F.Summary.summary;
-      agree = c.bytes_agree.ensures g.F.Summary.summary g.F.Summary.profile;
-    } in
     let x = greeted g.F.Summary.summary g.F.Summary.profile _ _ _ _ _ _ _ c.requires.new c.in_ok-greet.ensures.greeted
     c.in_ok-greet.ensures.whole
     c.requires.hello.fits c.in_ok-inbox.ensures.read in
-    let stopped = stops-partless g.F.Summary.summary g.F.Summary.profile laws P _ _ _ _ _ _ c.greet.new.writer.failed
-    c.in_err-first.field-0.0 x
+    let stopped = stops-partless g.F.Summary.summary g.F.Summary.profile c.exchange_laws.ensures P _ _ _ _ _ _
+    c.greet.new.writer.failed c.in_err-first.field-0.0 x
     (c.in_err-first.ensures.read x.bytes [] x.are_bytes x.came) in
     search (rules, stopped))
 
@@ -61,11 +50,6 @@ pub returns-in_err-first_end-clause-stopped : goal.returns-in_err-first_end-clau
 returns-in_err-first_end-clause-stopped g c =
     let is = err_from_is_err_and c.from_residual-in_err-first_end.result c.from_residual-in_err-first_end.ensures.1 in
     told c.from_residual-in_err-first_end.result c.in_err-first_end.field-0.0 _ (is.1 ∙ ap Err is.2) (λ P.
-    let laws : Laws g.F.Summary.summary g.F.Summary.profile = record {
-      go_on = c.hearings_go_on.ensures g.F.Summary.summary;
-      begin = c.own_begins.ensures g.F.Summary.summary;
-      agree = c.bytes_agree.ensures g.F.Summary.summary g.F.Summary.profile;
-    } in
     let p = c.in_ok-first.first in
     let x = greeted g.F.Summary.summary g.F.Summary.profile _ _ _ _ _ _ _ c.requires.new c.in_ok-greet.ensures.greeted
     c.in_ok-greet.ensures.whole
@@ -73,8 +57,8 @@ returns-in_err-first_end-clause-stopped g c =
     let one = c.in_ok-first.ensures.read x.bytes [] x.are_bytes x.came in
     let y = reads-on g.F.Summary.summary g.F.Summary.profile _ _ _ _ _ [] (Came p ∷ []) x
     (one.0, one.1, one.2, one.3.1) in
-    let stopped = stops-endless g.F.Summary.summary g.F.Summary.profile laws P p _ _ _ _ _ _ c.greet.new.writer.failed
-    c.in_err-first_end.field-0.0 one.3.0 y
+    let stopped = stops-endless g.F.Summary.summary g.F.Summary.profile c.exchange_laws.ensures P p _ _ _ _ _ _
+    c.greet.new.writer.failed c.in_err-first_end.field-0.0 one.3.0 y
     (c.in_err-first_end.ensures.read p one.3.0 y.bytes (Came p ∷ []) y.are_bytes y.came) in
     search (rules, stopped))
 

@@ -1,7 +1,7 @@
 use Rattle.std.proofs.Common.{◌≡◌, ◌≤◌, false, true, Err, rules, arith, subst, ◌∙◌}
 use Rattle.definitions.specs.Ends.{is_over}
 use Rattle.peer_threads.specs.Outcomes.{seen}
-use Rattle.peer_threads.proofs.Exchanges.{Laws, at-event, goes-on, stops-event, stops-underway}
+use Rattle.peer_threads.proofs.Exchanges.{at-event, goes-on, stops-event, stops-underway}
 use Rattle.peer_threads.proofs.Exchanges.{finished}
 use Rattle.peer_threads.proofs.Origins.{on-further}
 use Rattle.peer_threads.proofs.Listenings.{event-fares, fares-by}
@@ -10,25 +10,15 @@ use Rattle.peer_threads.proofs.talk.talk.Goals as goal
 
 pub returns-then-is_over-clause-talked : goal.returns-then-is_over-clause-talked
 returns-then-is_over-clause-talked g c = λ s unread held live start.
-    let laws : Laws g.F.Summary.summary g.F.Summary.profile = record {
-      go_on = c.hearings_go_on.ensures g.F.Summary.summary;
-      begin = c.own_begins.ensures g.F.Summary.summary;
-      agree = c.bytes_agree.ensures g.F.Summary.summary g.F.Summary.profile;
-    } in
     let over : is_over c.turns.party.end.stage ≡ true = search rules in
-    finished g.F.Summary.summary g.F.Summary.profile laws s _ _ _ _ live (c.turns.invariant.goes s unread held live
-    start).0 over
+    finished g.F.Summary.summary g.F.Summary.profile c.exchange_laws.ensures s _ _ _ _ live
+    (c.turns.invariant.goes s unread held live start).0 over
 
 pub returns-in_err-event-clause-talked : goal.returns-in_err-event-clause-talked
 returns-in_err-event-clause-talked g c = λ s unread held live start.
-    let laws : Laws g.F.Summary.summary g.F.Summary.profile = record {
-      go_on = c.hearings_go_on.ensures g.F.Summary.summary;
-      begin = c.own_begins.ensures g.F.Summary.summary;
-      agree = c.bytes_agree.ensures g.F.Summary.summary g.F.Summary.profile;
-    } in
     let u = (c.turns.invariant.goes s unread held live start).0 in
     let goes : is_over c.turns.party.end.stage ≡ false = search rules in
-    let stops = stops-underway g.F.Summary.summary g.F.Summary.profile laws s _ _ _ _ _
+    let stops = stops-underway g.F.Summary.summary g.F.Summary.profile c.exchange_laws.ensures s _ _ _ _ _
     (seen c.next.new.reader.failed c.next.new.reader.ended)
     c.turns.connection.writer.failed c.in_err-event.field-0.0 live u goes
     (c.in_err-event.ensures.read u.bytes u.events u.are_bytes u.came) in
@@ -36,18 +26,13 @@ returns-in_err-event-clause-talked g c = λ s unread held live start.
 
 pub returns-in_err-hear-clause-talked : goal.returns-in_err-hear-clause-talked
 returns-in_err-hear-clause-talked g c = λ s unread held live start.
-    let laws : Laws g.F.Summary.summary g.F.Summary.profile = record {
-      go_on = c.hearings_go_on.ensures g.F.Summary.summary;
-      begin = c.own_begins.ensures g.F.Summary.summary;
-      agree = c.bytes_agree.ensures g.F.Summary.summary g.F.Summary.profile;
-    } in
     let u = (c.turns.invariant.goes s unread held live start).0 in
     let goes : is_over c.turns.party.end.stage ≡ false = search rules in
     let x = at-event g.F.Summary.summary g.F.Summary.profile s _ _ _ _ _ _ _ u (c.in_ok-event.ensures.read u.bytes
     u.events u.are_bytes u.came) goes in
     let stops =
-    stops-event g.F.Summary.summary g.F.Summary.profile laws s _ _ _ _ _ (seen c.next.new.reader.failed
-    c.next.new.reader.ended) c.hear.new.writer.failed _
+    stops-event g.F.Summary.summary g.F.Summary.profile c.exchange_laws.ensures s _ _ _ _ _
+    (seen c.next.new.reader.failed c.next.new.reader.ended) c.hear.new.writer.failed _
     c.in_err-hear.field-0.0 live x c.in_err-hear.ensures.stopped in
     search (rules, stops)
 
@@ -64,104 +49,12 @@ turns-preserved g c = record {
       let now = c.in_ok-event.ensures.reads in
       (omega (arith, so.0, now.0), now.1);
   goes = λ s unread held live start.
-      let laws : Laws g.F.Summary.summary g.F.Summary.profile = record {
-        go_on = c.hearings_go_on.ensures g.F.Summary.summary;
-        begin = c.own_begins.ensures g.F.Summary.summary;
-        agree = c.bytes_agree.ensures g.F.Summary.summary g.F.Summary.profile;
-      } in
       let u = (c.turns.invariant.goes s unread held live start).0 in
       let goes : is_over c.turns.party.end.stage ≡ false = search rules in
       let more = c.in_ok-event.ensures.read u.bytes u.events u.are_bytes u.came in
       let x = at-event g.F.Summary.summary g.F.Summary.profile s _ _ _ _ _ _ _ u more goes in
       let next =
-      goes-on g.F.Summary.summary g.F.Summary.profile laws s _ _ _ _ _ _ _ _ live x more.3
-      c.in_ok-hear.ensures.heard c.in_ok-hear.ensures.said in
-      let on = (c.turns.invariant.goes s unread held live start).1 in
-      (next, on-further _ _ _ on (more.0, more.1, more.2));
-}
-
-pub turns-preserved-in_ok-hear : goal.turns-preserved-in_ok-hear
-turns-preserved-in_ok-hear g c = record {
-  fine = c.in_ok-hear.ensures.fine;
-  listens = c.in_ok-event.ensures.listens;
-  step = λ start step. c.in_ok-event.ensures.step start (c.turns.invariant.step start step);
-  count = c.in_ok-hear.ensures.count;
-  most = c.in_ok-hear.ensures.most ∙ c.turns.invariant.most;
-  few = subst (λ n. c.hear.new.outbox.sent ≤ n) c.turns.invariant.most c.in_ok-hear.ensures.few;
-  reads = λ few.
-      let so = c.turns.invariant.reads few in
-      let now = c.in_ok-event.ensures.reads in
-      (omega (arith, so.0, now.0), now.1);
-  goes = λ s unread held live start.
-      let laws : Laws g.F.Summary.summary g.F.Summary.profile = record {
-        go_on = c.hearings_go_on.ensures g.F.Summary.summary;
-        begin = c.own_begins.ensures g.F.Summary.summary;
-        agree = c.bytes_agree.ensures g.F.Summary.summary g.F.Summary.profile;
-      } in
-      let u = (c.turns.invariant.goes s unread held live start).0 in
-      let goes : is_over c.turns.party.end.stage ≡ false = search rules in
-      let more = c.in_ok-event.ensures.read u.bytes u.events u.are_bytes u.came in
-      let x = at-event g.F.Summary.summary g.F.Summary.profile s _ _ _ _ _ _ _ u more goes in
-      let next =
-      goes-on g.F.Summary.summary g.F.Summary.profile laws s _ _ _ _ _ _ _ _ live x more.3
-      c.in_ok-hear.ensures.heard c.in_ok-hear.ensures.said in
-      let on = (c.turns.invariant.goes s unread held live start).1 in
-      (next, on-further _ _ _ on (more.0, more.1, more.2));
-}
-
-pub turns-preserved-in_ok-hear-2 : goal.turns-preserved-in_ok-hear-2
-turns-preserved-in_ok-hear-2 g c = record {
-  fine = c.in_ok-hear.ensures.fine;
-  listens = c.in_ok-event.ensures.listens;
-  step = λ start step. c.in_ok-event.ensures.step start (c.turns.invariant.step start step);
-  count = c.in_ok-hear.ensures.count;
-  most = c.in_ok-hear.ensures.most ∙ c.turns.invariant.most;
-  few = subst (λ n. c.hear.new.outbox.sent ≤ n) c.turns.invariant.most c.in_ok-hear.ensures.few;
-  reads = λ few.
-      let so = c.turns.invariant.reads few in
-      let now = c.in_ok-event.ensures.reads in
-      (omega (arith, so.0, now.0), now.1);
-  goes = λ s unread held live start.
-      let laws : Laws g.F.Summary.summary g.F.Summary.profile = record {
-        go_on = c.hearings_go_on.ensures g.F.Summary.summary;
-        begin = c.own_begins.ensures g.F.Summary.summary;
-        agree = c.bytes_agree.ensures g.F.Summary.summary g.F.Summary.profile;
-      } in
-      let u = (c.turns.invariant.goes s unread held live start).0 in
-      let goes : is_over c.turns.party.end.stage ≡ false = search rules in
-      let more = c.in_ok-event.ensures.read u.bytes u.events u.are_bytes u.came in
-      let x = at-event g.F.Summary.summary g.F.Summary.profile s _ _ _ _ _ _ _ u more goes in
-      let next =
-      goes-on g.F.Summary.summary g.F.Summary.profile laws s _ _ _ _ _ _ _ _ live x more.3
-      c.in_ok-hear.ensures.heard c.in_ok-hear.ensures.said in
-      let on = (c.turns.invariant.goes s unread held live start).1 in
-      (next, on-further _ _ _ on (more.0, more.1, more.2));
-}
-
-pub turns-preserved-in_ok-hear-3 : goal.turns-preserved-in_ok-hear-3
-turns-preserved-in_ok-hear-3 g c = record {
-  fine = c.in_ok-hear.ensures.fine;
-  listens = c.in_ok-event.ensures.listens;
-  step = λ start step. c.in_ok-event.ensures.step start (c.turns.invariant.step start step);
-  count = c.in_ok-hear.ensures.count;
-  most = c.in_ok-hear.ensures.most ∙ c.turns.invariant.most;
-  few = subst (λ n. c.hear.new.outbox.sent ≤ n) c.turns.invariant.most c.in_ok-hear.ensures.few;
-  reads = λ few.
-      let so = c.turns.invariant.reads few in
-      let now = c.in_ok-event.ensures.reads in
-      (omega (arith, so.0, now.0), now.1);
-  goes = λ s unread held live start.
-      let laws : Laws g.F.Summary.summary g.F.Summary.profile = record {
-        go_on = c.hearings_go_on.ensures g.F.Summary.summary;
-        begin = c.own_begins.ensures g.F.Summary.summary;
-        agree = c.bytes_agree.ensures g.F.Summary.summary g.F.Summary.profile;
-      } in
-      let u = (c.turns.invariant.goes s unread held live start).0 in
-      let goes : is_over c.turns.party.end.stage ≡ false = search rules in
-      let more = c.in_ok-event.ensures.read u.bytes u.events u.are_bytes u.came in
-      let x = at-event g.F.Summary.summary g.F.Summary.profile s _ _ _ _ _ _ _ u more goes in
-      let next =
-      goes-on g.F.Summary.summary g.F.Summary.profile laws s _ _ _ _ _ _ _ _ live x more.3
+      goes-on g.F.Summary.summary g.F.Summary.profile c.exchange_laws.ensures s _ _ _ _ _ _ _ _ live x more.3
       c.in_ok-hear.ensures.heard c.in_ok-hear.ensures.said in
       let on = (c.turns.invariant.goes s unread held live start).1 in
       (next, on-further _ _ _ on (more.0, more.1, more.2));

@@ -1,4 +1,5 @@
-use Rattle.std.proofs.Common.{rules, refl, sym, subst, ap, ◌≡◌, ◌∙◌, arith, ◌+◌, ◌++◌, ◌∷◌, [], cond, drop, length, List, ℕ, Err}
+use Rattle.std.proofs.Common.{rules, refl, sym, subst, ap, ◌≡◌, ◌∙◌, arith, ◌+◌, ◌++◌, ◌∷◌, [], cond, drop, length}
+use Rattle.std.proofs.Common.{List, ℕ, Err}
 use Rattle.std.specs.Prelude.{IfErr}
 use Rattle.shard_core.specs.Choices.{told, has_shard, found_list, holders_from, holders, IsUnheld}
 use Rattle.shard_core.proofs.Holders.{holders_more, two_found}
@@ -8,8 +9,9 @@ pub loop-server-preserved : goal.loop-server-preserved
 loop-server-preserved c = record {
   so_far = holders_more c.args.directories.now c.loop-server.server c.args.shard c.index-directories-server.result
       c.has_shard-has_it.result (found_list c.loop-server.found) (found_list c.in_ok-found.found)
-      (omega arith) c.index-directories-server.is (c.has_shard-has_it.ensures ∙ ap (λ us. has_shard us c.args.shard) c.deref.ensures.value) c.loop-server.invariant.so_far
-      c.in_ok-found.ensures.one;
+      (omega arith) c.index-directories-server.is
+      (c.has_shard-has_it.ensures ∙ ap (λ us. has_shard us c.args.shard) c.deref.ensures.value)
+      c.loop-server.invariant.so_far c.in_ok-found.ensures.one;
   within = c.in_ok-found.ensures.place (length c.args.directories.now) (omega arith)
       c.loop-server.invariant.within;
 }
@@ -21,7 +23,8 @@ returns-in_err-found-clause-none c =
     ++ cond c.has_shard-has_it.result (c.loop-server.server ∷ []) [] in
     let all = holders_more c.args.directories.now c.loop-server.server c.args.shard c.index-directories-server.result
     c.has_shard-has_it.result (found_list c.loop-server.found) both (omega arith) c.index-directories-server.is
-    (c.has_shard-has_it.ensures ∙ ap (λ us. has_shard us c.args.shard) c.deref.ensures.value) c.loop-server.invariant.so_far refl in
+    (c.has_shard-has_it.ensures ∙ ap (λ us. has_shard us c.args.shard) c.deref.ensures.value)
+    c.loop-server.invariant.so_far refl in
     subst (λ r. IfErr r (λ e. IsUnheld (told c.args.directories.now) c.args.shard e)) (sym is)
     (subst (λ e. IsUnheld (told c.args.directories.now) c.args.shard e) (sym c.in_err-found.ensures.two.0) (
       refl,

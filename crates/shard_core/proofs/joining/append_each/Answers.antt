@@ -10,6 +10,8 @@ loop-place-preserved c =
     let others : length (held c.args.more.now) ≡ length c.args.more.now = length-map c.args.more.now listed in
     join_more (held c.args.lists.now) (held c.args.more.now) c.loop-place.lists c.loop-place.place
     c.index-lists-place.result c.append_items.new.items c.index-more-place.result.items (omega (arith, many))
-    (omega (arith, others)) c.loop-place.invariant (c.in_ok-append_items.ensures ∙ ap (λ m. (get_or c.loop-place.lists c.loop-place.place
-    c.index-lists-place.result).items ++ m) c.deref.ensures.value)
+    (omega (arith, others)) c.loop-place.invariant
+    (c.in_ok-append_items.ensures
+    ∙ ap (λ m. (get_or c.loop-place.lists c.loop-place.place c.index-lists-place.result).items ++ m)
+    c.deref.ensures.value)
     (read_list c.args.more.now c.loop-place.place c.index-more-place.result (omega arith) c.index-more-place.is)

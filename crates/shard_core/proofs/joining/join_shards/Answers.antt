@@ -26,7 +26,8 @@ returns-in-Ok-clause-kept c = λ b last ours theirs.
 
 pub returns-in-Err-clause-many : goal.returns-in-Err-clause-many
 returns-in-Err-clause-many c = λ b last A B ours theirs.
+    let (bits, end, low, rises, within, own, others) = c.requires.spans in
+    let few = spans_few bits c.args.first end c.args.cap c.args.lists.items low rises within own in
     joined_many b c.args.first last c.args.cap A B c.args.lists.items c.args.more.now c.in_ok-joined.field-0.items
-    c.in-Err.fault c.counted_from.result c.in_ok-joined.ensures.joined ours theirs (let (bits, end, low, rises, within, own, others) = c.requires.spans in
-    spans_few bits c.args.first end c.args.cap c.args.lists.items low rises within own) c.in-Err.ensures.full
+    c.in-Err.fault c.counted_from.result c.in_ok-joined.ensures.joined ours theirs few c.in-Err.ensures.full
     c.counted_from.ensures

@@ -7,7 +7,8 @@ use Rattle.shard_core.proofs.span.deal_span.Goals as goal
 
 pub returns-clause-dealt : goal.returns-clause-dealt
 returns-clause-dealt c = λ xs ys is (dealt, lists, same).
-    let left = c.deref.ensures.value ∙ c.retain_span.ensures ∙ ap (λ A. kept c.args.bits c.args.first c.args.last A) is in
+    let left =
+    c.deref.ensures.value ∙ c.retain_span.ensures ∙ ap (λ A. kept c.args.bits c.args.first c.args.last A) is in
     on_ok_weaker c.deal.result
     (λ more. (
       dealt ++ c.deref.result.now,

@@ -6,7 +6,8 @@ use Rattle.shard_core.proofs.Spanned.{into_kept}
 use Rattle.shard_core.proofs.span.into_span.Goals as goal
 
 pub keep_span-requires : goal.keep_span-requires
-keep_span-requires c = (c.requires.span.0, subst (λ n. c.args.last < n) (sym c.in_ok-sets.ensures.all) c.requires.span.1)
+keep_span-requires c =
+    (c.requires.span.0, subst (λ n. c.args.last < n) (sym c.in_ok-sets.ensures.all) c.requires.span.1)
 
 pub returns-clause-kept : goal.returns-clause-kept
 returns-clause-kept c = λ b xs all holds.

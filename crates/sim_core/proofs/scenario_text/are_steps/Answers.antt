@@ -1,12 +1,10 @@
 use Rattle.std.proofs.Common.{rules}
 use Rattle.sim_core.specs.Scenarios.{is_text}
-use Rattle.sim_core.proofs.ScenarioReadings.{count_items, all_items}
+use Rattle.sim_core.proofs.ScenarioReadings.{judged}
 use Rattle.sim_core.proofs.scenario_text.are_steps.Goals as goal
 
 pub returns-then-len-le-MAX_STEPS : goal.returns-then-len-le-MAX_STEPS
-returns-then-len-le-MAX_STEPS c =
-    search (rules, count_items c.args.array.now.items, all_items is_text c.args.array.now.items)
+returns-then-len-le-MAX_STEPS c = search (rules, judged is_text c.args.array.now.items)
 
 pub returns-else-len-le-MAX_STEPS : goal.returns-else-len-le-MAX_STEPS
-returns-else-len-le-MAX_STEPS c =
-    search (rules, count_items c.args.array.now.items, all_items is_text c.args.array.now.items)
+returns-else-len-le-MAX_STEPS c = search (rules, judged is_text c.args.array.now.items)

@@ -5,4 +5,6 @@ use Rattle.watch_core.proofs.metrics.push_all_endings.Goals as goal
 
 pub returns : goal.returns
 unfolding all_endings_text
-returns c = on_ok_weaker c.push_endings-2.result (λ d. joined _ _ _ _ _ c.in_ok-push_endings.ensures d) c.push_endings-2.ensures
+returns c = on_ok_weaker c.push_endings-2.result
+    (λ d. joined _ _ _ _ _ c.in_ok-push_endings.ensures d)
+    c.push_endings-2.ensures

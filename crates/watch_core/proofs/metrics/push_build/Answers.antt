@@ -5,4 +5,6 @@ use Rattle.watch_core.proofs.metrics.push_build.Goals as goal
 
 pub returns : goal.returns
 unfolding build_text
-returns c = on_ok_weaker c.push_build_line.result (λ d. joined _ _ _ _ _ c.in_ok-push_head.ensures d) c.push_build_line.ensures
+returns c = on_ok_weaker c.push_build_line.result
+    (λ d. joined _ _ _ _ _ c.in_ok-push_head.ensures d)
+    c.push_build_line.ensures

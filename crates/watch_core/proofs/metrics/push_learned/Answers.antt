@@ -5,4 +5,6 @@ use Rattle.watch_core.proofs.metrics.push_learned.Goals as goal
 
 pub returns : goal.returns
 unfolding learned_text
-returns c = on_ok_weaker c.push_counter-2.result (λ d. joined _ _ _ _ _ c.in_ok-push_counter.ensures d) c.push_counter-2.ensures
+returns c = on_ok_weaker c.push_counter-2.result
+    (λ d. joined _ _ _ _ _ c.in_ok-push_counter.ensures d)
+    c.push_counter-2.ensures

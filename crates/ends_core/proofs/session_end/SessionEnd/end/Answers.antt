@@ -1,16 +1,14 @@
 use Rattle.ends_core.specs.Turns.{answer_in}
 use Rattle.std.proofs.Common.{rules}
 use Rattle.ends_core.proofs.Short.{ended-short}
-use Rattle.ends_core.proofs.Standing.{countable, stands-ended, keeps_firm, sends_few}
-use Rattle.ends_core.specs.Roles.{start_of, most_of}
+use Rattle.ends_core.proofs.Standing.{countable, stands-ended}
+use Rattle.ends_core.specs.Roles.{start_of}
 use Rattle.ends_core.proofs.session_end.SessionEnd.end.Goals as goal
 
 pub end-requires : goal.end-requires
 end-requires g c =
-    countable g.F.Summary.summary g.F.Summary.profile (start_of g.R.Role.side g.F.Summary.summary)
-    (most_of g.R.Role.side) c.self.inside.end (sends_few g.R.Role.side)
-    (keeps_firm g.F.Summary.summary g.F.Summary.profile g.R.Role.side (c.ends_stand_firm.ensures g.F.Summary.summary))
-    c.ranks_are_read.ensures c.self.invariant
+    countable g.F.Summary.summary g.F.Summary.profile g.R.Role.side c.self.inside.end
+    (c.ends_stand_firm.ensures g.F.Summary.summary) c.ranks_are_read.ensures c.self.invariant
 
 pub returns-clause-short : goal.returns-clause-short
 returns-clause-short g c =

@@ -4,24 +4,20 @@ use Rattle.ends_core.specs.EndStates.{HasNone}
 use Rattle.ends_core.specs.Turns.{IsJudged, answer_in, end_after}
 use Rattle.ends_core.proofs.Short.{message-short}
 use Rattle.ends_core.proofs.Judging.{judged}
-use Rattle.ends_core.proofs.Standing.{able, countable, stands-received, keeps_firm, sends_few}
+use Rattle.ends_core.proofs.Standing.{able, countable, stands-received}
 use Rattle.ends_core.proofs.Parts_taken.{whole-answer, whole-after, whole-memory}
-use Rattle.ends_core.specs.Roles.{start_of, most_of}
+use Rattle.ends_core.specs.Roles.{start_of}
 use Rattle.ends_core.proofs.session_end.SessionEnd.receive.Goals as goal
 
 pub receive-requires-clause-able : goal.receive-requires-clause-able
 receive-requires-clause-able g c =
-    able g.F.Summary.summary g.F.Summary.profile (start_of g.R.Role.side g.F.Summary.summary) (most_of g.R.Role.side)
-    c.self.inside.end
-    (keeps_firm g.F.Summary.summary g.F.Summary.profile g.R.Role.side (c.ends_stand_firm.ensures g.F.Summary.summary))
-    c.self.invariant
+    able g.F.Summary.summary g.F.Summary.profile g.R.Role.side c.self.inside.end
+    (c.ends_stand_firm.ensures g.F.Summary.summary) c.self.invariant
 
 pub receive-requires-clause-room : goal.receive-requires-clause-room
 receive-requires-clause-room g c =
-    countable g.F.Summary.summary g.F.Summary.profile (start_of g.R.Role.side g.F.Summary.summary)
-    (most_of g.R.Role.side) c.self.inside.end (sends_few g.R.Role.side)
-    (keeps_firm g.F.Summary.summary g.F.Summary.profile g.R.Role.side (c.ends_stand_firm.ensures g.F.Summary.summary))
-    c.ranks_are_read.ensures c.self.invariant
+    countable g.F.Summary.summary g.F.Summary.profile g.R.Role.side c.self.inside.end
+    (c.ends_stand_firm.ensures g.F.Summary.summary) c.ranks_are_read.ensures c.self.invariant
 
 pub returns-clause-short : goal.returns-clause-short
 returns-clause-short g c =
@@ -69,11 +65,8 @@ invariant_of-self g c =
 pub returns-clause-judged : goal.returns-clause-judged
 returns-clause-judged g c =
     let rise = c.messages_have_ranges.ensures g.F.Summary.profile c.args.message.now c.parts.ensures.message in
-    let has =
-    able g.F.Summary.summary g.F.Summary.profile (start_of g.R.Role.side g.F.Summary.summary) (most_of g.R.Role.side)
-    c.self.inside.end
-    (keeps_firm g.F.Summary.summary g.F.Summary.profile g.R.Role.side (c.ends_stand_firm.ensures g.F.Summary.summary))
-    c.self.invariant in
+    let has = able g.F.Summary.summary g.F.Summary.profile g.R.Role.side c.self.inside.end
+    (c.ends_stand_firm.ensures g.F.Summary.summary) c.self.invariant in
     subst (λ h. HasNone h → IsJudged h c.args.message.now c.receive.result) c.self.view_is
     (λ none. judged g.F.Summary.summary c.self.inside.end c.args.message.now c.receive.result c.placing_is_exact.ensures
     c.opening_is_exact.ensures

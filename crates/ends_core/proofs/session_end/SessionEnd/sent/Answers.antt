@@ -1,12 +1,9 @@
 use Rattle.std.proofs.Common.{rules}
-use Rattle.ends_core.proofs.Standing.{few, keeps_firm}
-use Rattle.ends_core.specs.Roles.{start_of, most_of}
+use Rattle.ends_core.proofs.Standing.{few}
 use Rattle.ends_core.proofs.session_end.SessionEnd.sent.Goals as goal
 
 pub returns-clause-few : goal.returns-clause-few
 returns-clause-few g c =
-    let bound = few g.F.Summary.summary g.F.Summary.profile (start_of g.R.Role.side g.F.Summary.summary)
-    (most_of g.R.Role.side) c.self.inside.end
-    (keeps_firm g.F.Summary.summary g.F.Summary.profile g.R.Role.side (c.ends_stand_firm.ensures g.F.Summary.summary))
-    c.ranks_are_read.ensures c.self.invariant in
+    let bound = few g.F.Summary.summary g.F.Summary.profile g.R.Role.side c.self.inside.end
+    (c.ends_stand_firm.ensures g.F.Summary.summary) c.ranks_are_read.ensures c.self.invariant in
     search (rules, bound)

@@ -1,14 +1,12 @@
 use Rattle.ends_core.specs.Turns.{told_in}
-use Rattle.ends_core.proofs.Standing.{able, stands-taken, keeps_firm}
-use Rattle.ends_core.specs.Roles.{start_of, most_of}
+use Rattle.ends_core.proofs.Standing.{able, stands-taken}
+use Rattle.ends_core.specs.Roles.{start_of}
 use Rattle.ends_core.proofs.session_end.SessionEnd.take.Goals as goal
 
 pub take-requires : goal.take-requires
 take-requires g c =
-    able g.F.Summary.summary g.F.Summary.profile (start_of g.R.Role.side g.F.Summary.summary) (most_of g.R.Role.side)
-    c.self.inside.end
-    (keeps_firm g.F.Summary.summary g.F.Summary.profile g.R.Role.side (c.ends_stand_firm.ensures g.F.Summary.summary))
-    c.self.invariant
+    able g.F.Summary.summary g.F.Summary.profile g.R.Role.side c.self.inside.end
+    (c.ends_stand_firm.ensures g.F.Summary.summary) c.self.invariant
 
 pub invariant_of-self : goal.invariant_of-self
 invariant_of-self g c =

@@ -1,15 +1,10 @@
 use Rattle.std.proofs.Common.{rules, ◌≡◌, length, ap, refl}
 use Rattle.session_core.specs.Sessions.{SessionState, HearsIf, begun_after, is_open}
-use Rattle.session_core.proofs.Steps.{Laws, piece-heard}
+use Rattle.session_core.proofs.Steps.{piece-heard}
 use Rattle.session_core.proofs.session.Session.go_on.Goals as goal
 
 pub returns-clause-pushes : goal.returns-clause-pushes
 returns-clause-pushes g c = λ s pushed taken live k.
-    let laws : Laws g.F.Summary.summary g.F.Summary.profile = record {
-      go_on = c.hearings_go_on.ensures g.F.Summary.summary;
-      agree = c.bytes_agree.ensures g.F.Summary.summary g.F.Summary.profile;
-      join = c.feeds_join.ensures g.F.Summary.profile g.met.F.Summary.real;
-    } in
     let d : SessionState g.row.F.Denot =
     record {
       talk = c.hear_if.new.self;
@@ -21,7 +16,7 @@ returns-clause-pushes g c = λ s pushed taken live k.
     search rules in
     let begun : c.bytes_begun-begun.result ≡ begun_after c.args.event c.args.self.now.begun (length c.args.piece.now) =
     search rules in
-    let after = piece-heard g.F.Summary.summary g.F.Summary.profile laws s c.args.self.now d c.args.event
-    c.args.piece.now pushed taken live (ap is_open c.requires.open) c.requires.bytes heard refl begun c.requires.fed k
-    in
+    let after = piece-heard g.F.Summary.summary g.F.Summary.profile c.stream_laws.ensures s c.args.self.now d
+    c.args.event c.args.piece.now pushed taken live (ap is_open c.requires.open) c.requires.bytes heard refl begun
+    c.requires.fed k in
     search (rules, after)

@@ -2,16 +2,11 @@ use Rattle.std.proofs.Common.{rules, ◌≡◌, true, [], length, ap, refl}
 use Rattle.wire_core.specs.Feeds.{fed_into}
 use Rattle.session_core.specs.Sizes.{plus}
 use Rattle.session_core.specs.Sessions.{SessionState, feed_of, is_open}
-use Rattle.session_core.proofs.Steps.{Laws, piece-kept}
+use Rattle.session_core.proofs.Steps.{piece-kept}
 use Rattle.session_core.proofs.session.Session.keep.Goals as goal
 
 pub returns-clause-pushes : goal.returns-clause-pushes
 returns-clause-pushes g c = λ kept.
-    let laws : Laws g.F.Summary.summary g.F.Summary.profile = record {
-      go_on = c.hearings_go_on.ensures g.F.Summary.summary;
-      agree = c.bytes_agree.ensures g.F.Summary.summary g.F.Summary.profile;
-      join = c.feeds_join.ensures g.F.Summary.profile g.met.F.Summary.real;
-    } in
     let d : SessionState g.row.F.Denot = record {
       talk = c.args.self.now.talk;
       feed = c.keep.new.self;
@@ -24,6 +19,6 @@ returns-clause-pushes g c = λ kept.
     let step = c.in_ok-keep.ensures.kept yes in
     let fed : feed_of g.F.Summary.profile c.args.self.now.feed c.args.piece.now ≡ fed_into [] c.keep.new.self =
     search (rules, step.0) in
-    let after = piece-kept g.F.Summary.summary g.F.Summary.profile laws c.args.self.now d c.args.piece.now
-    (ap is_open c.requires.open) c.requires.bytes refl refl begun fed step.1 in
+    let after = piece-kept g.F.Summary.summary g.F.Summary.profile c.stream_laws.ensures c.args.self.now d
+    c.args.piece.now (ap is_open c.requires.open) c.requires.bytes refl refl begun fed step.1 in
     search (rules, after)

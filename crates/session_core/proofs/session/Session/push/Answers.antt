@@ -1,17 +1,11 @@
 use Rattle.std.proofs.Common.{rules, ◌≡◌, false, ◌∙◌}
 use Rattle.session_core.specs.Sessions.{is_open}
-use Rattle.session_core.proofs.Steps.{Laws}
 use Rattle.session_core.proofs.Calls.{push-ends}
 use Rattle.session_core.proofs.session.Session.push.Goals as goal
 
 pub returns-clause-pushes : goal.returns-clause-pushes
 returns-clause-pushes g c = λ listens s pushed taken live k.
-    let laws : Laws g.F.Summary.summary g.F.Summary.profile = record {
-      go_on = c.hearings_go_on.ensures g.F.Summary.summary;
-      agree = c.bytes_agree.ensures g.F.Summary.summary g.F.Summary.profile;
-      join = c.feeds_join.ensures g.F.Summary.profile g.met.F.Summary.real;
-    } in
     let closed : is_open c.hear_all.new.self.talk.state ≡ false = search rules in
-    push-ends g.F.Summary.summary g.F.Summary.profile laws s c.hear_all.new.self c.args.piece.now c.in_ok-taken.taken
-    pushed taken live closed (c.in_ok-taken.ensures.over ∙ listens) c.are_bytes.ensures
+    push-ends g.F.Summary.summary g.F.Summary.profile c.stream_laws.ensures s c.hear_all.new.self c.args.piece.now
+    c.in_ok-taken.taken pushed taken live closed (c.in_ok-taken.ensures.over ∙ listens) c.are_bytes.ensures
     (c.in_ok-taken.ensures.pushes s pushed taken live k)

@@ -1,20 +1,15 @@
 use Rattle.std.proofs.Common.{rules, ◌≡◌, ap, refl}
 use Rattle.wire_core.specs.Refused.{fault_number}
 use Rattle.session_core.specs.Sessions.{SessionState, is_open, refused_by}
-use Rattle.session_core.proofs.Steps.{Laws, faulty}
+use Rattle.session_core.proofs.Steps.{faulty}
 use Rattle.session_core.proofs.session.Session.refuse_for.Goals as goal
 
 pub returns-clause-pushes : goal.returns-clause-pushes
 returns-clause-pushes g c = λ s pushed taken live k.
-    let laws : Laws g.F.Summary.summary g.F.Summary.profile = record {
-      go_on = c.hearings_go_on.ensures g.F.Summary.summary;
-      agree = c.bytes_agree.ensures g.F.Summary.summary g.F.Summary.profile;
-      join = c.feeds_join.ensures g.F.Summary.profile g.met.F.Summary.real;
-    } in
     let d : SessionState g.row.F.Denot =
     record { talk = c.refuse.new.self; feed = c.args.feed; over = c.args.self.now.over; begun = 0 } in
     let talk : c.refuse.new.self ≡ refused_by c.args.self.now.talk (fault_number c.args.fault) = search rules in
-    let after = faulty g.F.Summary.summary g.F.Summary.profile laws s c.args.self.now d (fault_number c.args.fault)
-    c.args.piece.now pushed taken live (ap is_open c.requires.open) c.requires.bytes talk refl c.requires.fed
-    c.requires.fault k in
+    let after = faulty g.F.Summary.summary g.F.Summary.profile c.stream_laws.ensures s c.args.self.now d
+    (fault_number c.args.fault) c.args.piece.now pushed taken live (ap is_open c.requires.open) c.requires.bytes talk
+    refl c.requires.fed c.requires.fault k in
     search (rules, after)

@@ -12,7 +12,8 @@ returns-clause-bytes g c =
     let long : length c.copy_from_slice.new.self ≡ n =
     c.copy_from_slice.ensures.len ∙ length-take-le n c.args.buf.now room in
     let front : c.copy_from_slice.new.self ≡ take n (drop old.passed old.came) = search rules in
-    let is = copied n c.copy_from_slice.new.self (drop n c.args.buf.now) (take n (drop old.passed old.came)) long front in
+    let is =
+    copied n c.copy_from_slice.new.self (drop n c.args.buf.now) (take n (drop old.passed old.came)) long front in
     let passed : c.self.inside.passed + n ≡ old.passed + n = search rules in
     let got = gives old new n (take n (c.copy_from_slice.new.self ++ drop n c.args.buf.now)) c.requires.whole refl refl
     passed is in

@@ -8,8 +8,8 @@ returns-then-self-len-clause-bytes g c =
     let mid = c.make_whole.new.self in
     let new = record mid { inner = c.read.new.self } in
     let all : mid.passed ≡ length mid.came = search rules in
-    let read : ReadConsumes (g.R.Read.remaining mid.inner) (g.R.Read.remaining c.read.new.self) c.read.result c.read.new.buf
-    = search rules in
+    let read : ReadConsumes (g.R.Read.remaining mid.inner) (g.R.Read.remaining c.read.new.self) c.read.result
+    c.read.new.buf = search rules in
     let got = reads_on c.args.self.now mid new (g.R.Read.remaining c.args.self.now.inner)
     (g.R.Read.remaining mid.inner) (g.R.Read.remaining c.read.new.self) c.read.result c.read.new.buf
     c.make_whole.ensures.kept (c.in_ok-make_whole.ensures.whole) all refl refl refl read in

@@ -4,14 +4,6 @@ use Rattle.version_log.proofs.Packs.{length_entries, length_writers, entries_pus
 use Rattle.version_log.specs.Packs.{writers_of}
 use Rattle.version_log.proofs.entries.Entries.push.Goals as goal
 
-pub push-requires : goal.push-requires
-push-requires c =
-    let p = c.self.inside in
-    let count = length_entries p.opening p.later.items p.items c.self.invariant in
-    let same = ap length c.self.view_is in
-    let few = c.requires in
-    omega arith
-
 pub overflow_add-self : goal.overflow_add-self
 overflow_add-self c =
     let p = c.self.inside in

@@ -1,6 +1,5 @@
-use Rattle.std.proofs.Common.{◌≡◌, refl, sym, ap, ◌∙◌, subst, arith, ◌<◌, ◌≤◌}
-use Rattle.std.specs.Prelude.{slice_get, Some}
-use Rattle.std.proofs.lemmas.Option.{slice_get_read}
+use Rattle.std.proofs.Common.{◌≡◌, sym, ap, ◌∙◌, arith, ◌<◌, ◌≤◌}
+use Rattle.std.specs.Prelude.{slice_get}
 use Rattle.definitions.specs.Sets.{set_of}
 use Rattle.definitions.specs.Theorems.{node_of}
 use Rattle.definitions.specs.Worlds as worlds
@@ -8,67 +7,43 @@ use Rattle.world_core.specs.Live.{made, session_of}
 use Rattle.world_core.specs.Steps.{did_of, side_of, AbsorbsSome}
 use Rattle.world_core.specs.Reports.{knowledge_of}
 use Rattle.world_core.specs.Shown.{learned_by}
-use Rattle.world_core.proofs.Delivering.{Laws}
 use Rattle.world_core.proofs.Ended.{absorb_idle, absorb_is, absorbs_none, absorbed_world, absorbed_did, absorbed_memory}
-use Rattle.world_core.proofs.Ended.{same_theirs, OnErr-any}
+use Rattle.world_core.proofs.Ended.{looked_at, same_theirs, OnErr-any}
 use Rattle.world_core.proofs.world.World.absorb.Goals as goal
 
 pub returns-then-session-messages-clause-world : goal.returns-then-session-messages-clause-world
 returns-then-session-messages-clause-world g c =
-    let laws : Laws g.F.Summary.summary = record {
-      exact = g.met.F.Summary.exact;
-      tell = c.sessions_tell.ensures g.F.Summary.summary;
-    } in
-    let there : slice_get c.self.inside.sessions.items c.args.number ≡ Some c.in-Some.session.now =
-    subst (λ xs. slice_get xs c.args.number ≡ Some c.in-Some.session.now) c.deref.ensures.value
-    (slice_get_read c.deref.result.now _ c.args.number c.in-Some.session.now refl c.in-Some.ensures.lookup.3.0
-    c.in-Some.ensures.lookup.1) in
+    let there = looked_at c.self.inside.sessions.items c.deref.result.now c.args.number c.in-Some.session.now
+    c.deref.ensures.value c.in-Some.ensures.lookup.3.0 c.in-Some.ensures.lookup.1 in
     let more : c.in-Some.session.now.delivered < made c.in-Some.session.now = omega (arith, c.messages.ensures.made) in
-    sym (ap (λ p. p.0) (absorb_idle g.F.Summary.summary laws c.args.self.now c.self.inside.nodes.items
+    sym (ap (λ p. p.0) (absorb_idle g.F.Summary.summary c.look_laws.ensures c.args.self.now c.self.inside.nodes.items
     c.self.inside.sessions.items c.args.number c.in-Some.session.now
     (side_of c.args.side) c.self.view_is c.self.invariant there more))
 
 pub returns-then-session-messages-clause-did : goal.returns-then-session-messages-clause-did
 returns-then-session-messages-clause-did g c =
-    let laws : Laws g.F.Summary.summary = record {
-      exact = g.met.F.Summary.exact;
-      tell = c.sessions_tell.ensures g.F.Summary.summary;
-    } in
-    let there : slice_get c.self.inside.sessions.items c.args.number ≡ Some c.in-Some.session.now =
-    subst (λ xs. slice_get xs c.args.number ≡ Some c.in-Some.session.now) c.deref.ensures.value
-    (slice_get_read c.deref.result.now _ c.args.number c.in-Some.session.now refl c.in-Some.ensures.lookup.3.0
-    c.in-Some.ensures.lookup.1) in
+    let there = looked_at c.self.inside.sessions.items c.deref.result.now c.args.number c.in-Some.session.now
+    c.deref.ensures.value c.in-Some.ensures.lookup.3.0 c.in-Some.ensures.lookup.1 in
     let more : c.in-Some.session.now.delivered < made c.in-Some.session.now = omega (arith, c.messages.ensures.made) in
-    sym (ap (λ p. p.1) (absorb_idle g.F.Summary.summary laws c.args.self.now c.self.inside.nodes.items
+    sym (ap (λ p. p.1) (absorb_idle g.F.Summary.summary c.look_laws.ensures c.args.self.now c.self.inside.nodes.items
     c.self.inside.sessions.items c.args.number c.in-Some.session.now
     (side_of c.args.side) c.self.view_is c.self.invariant there more))
 
 pub returns-in_err-items-clause-memory : goal.returns-in_err-items-clause-memory
 returns-in_err-items-clause-memory g c =
-    let laws : Laws g.F.Summary.summary = record {
-      exact = g.met.F.Summary.exact;
-      tell = c.sessions_tell.ensures g.F.Summary.summary;
-    } in
-    let there : slice_get c.self.inside.sessions.items c.args.number ≡ Some c.in-Some.session.now =
-    subst (λ xs. slice_get xs c.args.number ≡ Some c.in-Some.session.now) c.deref.ensures.value
-    (slice_get_read c.deref.result.now _ c.args.number c.in-Some.session.now refl c.in-Some.ensures.lookup.3.0
-    c.in-Some.ensures.lookup.1) in
+    let there = looked_at c.self.inside.sessions.items c.deref.result.now c.args.number c.in-Some.session.now
+    c.deref.ensures.value c.in-Some.ensures.lookup.3.0 c.in-Some.ensures.lookup.1 in
     let less : made c.in-Some.session.now ≤ c.in-Some.session.now.delivered = omega (arith, c.messages.ensures.made) in
     OnErr-any c.from_residual.result
     (AbsorbsSome g.F.Summary.summary c.args.self.now c.args.number (side_of c.args.side) c.args.self.now)
-    (absorbs_none g.F.Summary.summary laws c.args.self.now c.self.inside.nodes.items c.self.inside.sessions.items
-    c.args.number c.in-Some.session.now (side_of c.args.side) c.self.view_is c.self.invariant there less)
+    (absorbs_none g.F.Summary.summary c.look_laws.ensures c.args.self.now c.self.inside.nodes.items
+    c.self.inside.sessions.items c.args.number c.in-Some.session.now (side_of c.args.side) c.self.view_is
+    c.self.invariant there less)
 
 pub returns-clause-world : goal.returns-clause-world
 returns-clause-world g c =
-    let laws : Laws g.F.Summary.summary = record {
-      exact = g.met.F.Summary.exact;
-      tell = c.sessions_tell.ensures g.F.Summary.summary;
-    } in
-    let there : slice_get c.self.inside.sessions.items c.args.number ≡ Some c.in-Some.session.now =
-    subst (λ xs. slice_get xs c.args.number ≡ Some c.in-Some.session.now) c.deref.ensures.value
-    (slice_get_read c.deref.result.now _ c.args.number c.in-Some.session.now refl c.in-Some.ensures.lookup.3.0
-    c.in-Some.ensures.lookup.1) in
+    let there = looked_at c.self.inside.sessions.items c.deref.result.now c.args.number c.in-Some.session.now
+    c.deref.ensures.value c.in-Some.ensures.lookup.3.0 c.in-Some.ensures.lookup.1 in
     let less : made c.in-Some.session.now ≤ c.in-Some.session.now.delivered = omega (arith, c.messages.ensures.made) in
     let learned : c.in_ok-items.items.items ≡ set_of (learned_by c.in-Some.session.now (side_of c.args.side)).theirs =
     same_theirs c.in_ok-items.items.items (knowledge_of c.learned.result)
@@ -77,20 +52,14 @@ returns-clause-world g c =
     (node_of (session_of c.in-Some.session.now) (side_of c.args.side)) c.deref-2.result.now c.in_ok-items.items.items
     (worlds.absorb_at g.F.Summary.summary c.args.self.now (side_of c.args.side)
     (slice_get c.args.self.now.sessions c.args.number)) c.absorb_items.ensures.world c.node-node.ensures
-    c.deref-2.ensures.value (absorb_is g.F.Summary.summary laws c.args.self.now c.self.inside.nodes.items
+    c.deref-2.ensures.value (absorb_is g.F.Summary.summary c.look_laws.ensures c.args.self.now c.self.inside.nodes.items
     c.self.inside.sessions.items c.args.number c.in-Some.session.now (side_of c.args.side) c.in_ok-items.items.items
     c.self.view_is c.self.invariant there less learned)
 
 pub returns-clause-did : goal.returns-clause-did
 returns-clause-did g c =
-    let laws : Laws g.F.Summary.summary = record {
-      exact = g.met.F.Summary.exact;
-      tell = c.sessions_tell.ensures g.F.Summary.summary;
-    } in
-    let there : slice_get c.self.inside.sessions.items c.args.number ≡ Some c.in-Some.session.now =
-    subst (λ xs. slice_get xs c.args.number ≡ Some c.in-Some.session.now) c.deref.ensures.value
-    (slice_get_read c.deref.result.now _ c.args.number c.in-Some.session.now refl c.in-Some.ensures.lookup.3.0
-    c.in-Some.ensures.lookup.1) in
+    let there = looked_at c.self.inside.sessions.items c.deref.result.now c.args.number c.in-Some.session.now
+    c.deref.ensures.value c.in-Some.ensures.lookup.3.0 c.in-Some.ensures.lookup.1 in
     let less : made c.in-Some.session.now ≤ c.in-Some.session.now.delivered = omega (arith, c.messages.ensures.made) in
     let learned : c.in_ok-items.items.items ≡ set_of (learned_by c.in-Some.session.now (side_of c.args.side)).theirs =
     same_theirs c.in_ok-items.items.items (knowledge_of c.learned.result)
@@ -99,25 +68,19 @@ returns-clause-did g c =
     (node_of (session_of c.in-Some.session.now) (side_of c.args.side)) c.deref-2.result.now c.in_ok-items.items.items
     (worlds.absorb_at g.F.Summary.summary c.args.self.now (side_of c.args.side)
     (slice_get c.args.self.now.sessions c.args.number)) c.absorb_items.ensures.added c.node-node.ensures
-    c.deref-2.ensures.value (absorb_is g.F.Summary.summary laws c.args.self.now c.self.inside.nodes.items
+    c.deref-2.ensures.value (absorb_is g.F.Summary.summary c.look_laws.ensures c.args.self.now c.self.inside.nodes.items
     c.self.inside.sessions.items c.args.number c.in-Some.session.now (side_of c.args.side) c.in_ok-items.items.items
     c.self.view_is c.self.invariant there less learned)
 
 pub returns-clause-memory : goal.returns-clause-memory
 returns-clause-memory g c =
-    let laws : Laws g.F.Summary.summary = record {
-      exact = g.met.F.Summary.exact;
-      tell = c.sessions_tell.ensures g.F.Summary.summary;
-    } in
-    let there : slice_get c.self.inside.sessions.items c.args.number ≡ Some c.in-Some.session.now =
-    subst (λ xs. slice_get xs c.args.number ≡ Some c.in-Some.session.now) c.deref.ensures.value
-    (slice_get_read c.deref.result.now _ c.args.number c.in-Some.session.now refl c.in-Some.ensures.lookup.3.0
-    c.in-Some.ensures.lookup.1) in
+    let there = looked_at c.self.inside.sessions.items c.deref.result.now c.args.number c.in-Some.session.now
+    c.deref.ensures.value c.in-Some.ensures.lookup.3.0 c.in-Some.ensures.lookup.1 in
     let less : made c.in-Some.session.now ≤ c.in-Some.session.now.delivered = omega (arith, c.messages.ensures.made) in
     let learned : c.in_ok-items.items.items ≡ set_of (learned_by c.in-Some.session.now (side_of c.args.side)).theirs =
     same_theirs c.in_ok-items.items.items (knowledge_of c.learned.result)
     (learned_by c.in-Some.session.now (side_of c.args.side)) c.in_ok-items.ensures c.learned.ensures in
-    absorbed_memory g.F.Summary.summary c.absorb_items.result laws c.args.self.now c.absorb_items.new.self
-    c.self.inside.nodes.items c.self.inside.sessions.items c.args.number c.in-Some.session.now
+    absorbed_memory g.F.Summary.summary c.absorb_items.result c.look_laws.ensures c.args.self.now
+    c.absorb_items.new.self c.self.inside.nodes.items c.self.inside.sessions.items c.args.number c.in-Some.session.now
     (side_of c.args.side) c.node-node.result c.deref-2.result.now c.self.view_is c.self.invariant there less
     (c.deref-2.ensures.value ∙ learned) c.node-node.ensures c.absorb_items.ensures.memory

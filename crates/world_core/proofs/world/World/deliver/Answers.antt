@@ -3,12 +3,9 @@ use Rattle.std.specs.Prelude.{slice_get, Some}
 use Rattle.std.proofs.lemmas.Option.{slice_get_read}
 use Rattle.world_core.specs.Live.{made}
 use Rattle.world_core.specs.Steps.{did_of}
-use Rattle.world_core.proofs.Delivering.{Laws, DeliveryLaws, IsAt, at_node, deliver_none, deliver_taken, deliver_runs}
+use Rattle.world_core.proofs.Delivering.{IsAt, at_node, deliver_none, deliver_taken, deliver_runs}
 use Rattle.world_core.proofs.Delivering.{deliver_world, deliver_did, deliver_same, deliver_idle, idle_world}
 use Rattle.world_core.proofs.world.World.deliver.Goals as goal
-
-idle_laws : (g : _) (c : goal.After-self-then-session-messages-1 g) → Laws g.F.Summary.summary
-idle_laws g c = record { exact = g.met.F.Summary.exact; tell = c.sessions_tell.ensures g.F.Summary.summary }
 
 idle_there : (g : _) (c : goal.After-self-then-session-messages-1 g) →
     slice_get c.self.inside.sessions.items c.args.number ≡ Some c.in-Some.session.now
@@ -18,27 +15,15 @@ idle_there g c =
 
 pub returns-then-session-messages-clause-world : goal.returns-then-session-messages-clause-world
 returns-then-session-messages-clause-world g c =
-    idle_world g.F.Summary.summary (idle_laws g c) c.args.self.now c.self.inside.nodes.items
+    idle_world g.F.Summary.summary c.delivery_laws.ensures.look c.args.self.now c.self.inside.nodes.items
     c.self.inside.sessions.items c.args.number c.in-Some.session.now c.self.view_is c.self.invariant (idle_there g c)
     (omega arith)
 
 pub returns-then-session-messages-clause-did : goal.returns-then-session-messages-clause-did
 returns-then-session-messages-clause-did g c =
     sym (ap (λ p. p.1) (deliver_idle g.F.Summary.summary
-    (idle_laws g c) c.args.self.now c.self.inside.nodes.items c.self.inside.sessions.items c.args.number
+    c.delivery_laws.ensures.look c.args.self.now c.self.inside.nodes.items c.self.inside.sessions.items c.args.number
     c.in-Some.session.now c.self.view_is c.self.invariant (idle_there g c) (omega arith)))
-
-laws : (g : _) (c : goal.After-index g) → DeliveryLaws g.F.Summary.summary
-laws g c =
-    record {
-      look = record {
-        exact = g.met.F.Summary.exact;
-        tell = c.sessions_tell.ensures g.F.Summary.summary;
-      };
-      go_on = c.sessions_go_on.ensures g.F.Summary.summary;
-      keep =
-          c.sessions_keep_nodes.ensures g.F.Summary.summary;
-    }
 
 there : (g : _) (c : goal.After-index g) →
     slice_get c.self.inside.sessions.items c.args.number ≡ Some c.in-Some.session.now
@@ -66,20 +51,8 @@ deliver-requires-clause-none g c =
 
 pub deliver-requires-clause-taken : goal.deliver-requires-clause-taken
 deliver-requires-clause-taken g c =
-    deliver_taken g.F.Summary.summary (laws g c) c.self.inside.nodes.items c.self.inside.sessions.items c.args.number
-    c.in-Some.session.now c.index.result.now (at g c) (more g c)
-
-last_laws : (g : _) (c : goal.After-self-2-1 g) → DeliveryLaws g.F.Summary.summary
-last_laws g c =
-    record {
-      look = record {
-        exact = g.met.F.Summary.exact;
-        tell = c.sessions_tell.ensures g.F.Summary.summary;
-      };
-      go_on = c.sessions_go_on.ensures g.F.Summary.summary;
-      keep =
-          c.sessions_keep_nodes.ensures g.F.Summary.summary;
-    }
+    deliver_taken g.F.Summary.summary c.delivery_laws.ensures c.self.inside.nodes.items
+    c.self.inside.sessions.items c.args.number c.in-Some.session.now c.index.result.now (at g c) (more g c)
 
 last_there : (g : _) (c : goal.After-self-2-1 g) →
     slice_get c.self.inside.sessions.items c.args.number ≡ Some c.in-Some.session.now
@@ -103,21 +76,21 @@ last_more g c = subst (λ n. c.in-Some.session.now.delivered < n) c.messages.ens
 
 pub invariant_of-self-2 : goal.invariant_of-self-2
 invariant_of-self-2 g c =
-    deliver_runs g.F.Summary.summary c.deliver.result (last_laws g c) c.self.inside.nodes.items
+    deliver_runs g.F.Summary.summary c.deliver.result c.delivery_laws.ensures c.self.inside.nodes.items
     c.self.inside.sessions.items c.args.number c.in-Some.session.now c.deliver.new.self c.index.result.now (last_at g c)
     (last_more g c)
     c.deliver.ensures.session c.deliver.ensures.memory
 
 pub returns-clause-world : goal.returns-clause-world
 returns-clause-world g c =
-    deliver_world g.F.Summary.summary c.deliver.result (last_laws g c) c.args.self.now c.self.inside.nodes.items
+    deliver_world g.F.Summary.summary c.deliver.result c.delivery_laws.ensures c.args.self.now c.self.inside.nodes.items
     c.self.inside.sessions.items c.args.number c.in-Some.session.now c.deliver.new.self c.index.result.now
     c.self.view_is (last_at g c) (last_more g c) c.deliver.ensures.session
 
 pub returns-clause-did : goal.returns-clause-did
 returns-clause-did g c =
-    deliver_did g.F.Summary.summary did_of c.deliver.result (last_laws g c) c.args.self.now c.self.inside.nodes.items
-    c.self.inside.sessions.items c.args.number c.in-Some.session.now c.index.result.now
+    deliver_did g.F.Summary.summary did_of c.deliver.result c.delivery_laws.ensures c.args.self.now
+    c.self.inside.nodes.items c.self.inside.sessions.items c.args.number c.in-Some.session.now c.index.result.now
     c.self.view_is (last_at g c) (last_more g c) c.deliver.ensures.did
 
 pub returns-clause-memory : goal.returns-clause-memory

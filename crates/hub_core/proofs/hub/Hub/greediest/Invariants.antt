@@ -1,9 +1,0 @@
-use Rattle.hub_core.specs.Hubs.{kept}
-use Rattle.hub_core.proofs.Walks.{Walks}
-use Rattle.hub_core.proofs.hub.Hub.greediest.Given as goal
-
-abbrev pub invariant-loop-key : goal.invariant-loop-key
-invariant-loop-key g l =
-    (goal.iterator-loop-key g).can_next l.key-iterator ×
-    (goal.iterator-loop-key g).is_finite l.key-iterator ×
-    Walks kept l.self.peers l.key-iterator l.best

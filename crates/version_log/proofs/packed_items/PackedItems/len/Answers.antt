@@ -1,9 +1,0 @@
-use Rattle.std.proofs.Common.{rules, ◌≡◌, ◌∙◌, sym, ap, length}
-use Rattle.version_log.proofs.Packs.{length_pieces}
-use Rattle.version_log.proofs.packed_items.PackedItems.len.Goals as goal
-
-pub returns : goal.returns
-returns c =
-    let p = c.self.inside in
-    let own : c.len.result ≡ length p.ends.items = search rules in
-    own ∙ sym (length_pieces 0 p.ends.items p.bytes.items) ∙ ap length c.self.view_is
