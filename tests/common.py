@@ -20,12 +20,23 @@ from dataclasses import dataclass
 from pathlib import Path
 
 TOP = Path(__file__).resolve().parent.parent
-PROGRAM = os.environ.get("RANGESYNC") or str(TOP / "crates/rangesync/out/rangesync")
 EIGHT = TOP / "examples/eight.toml"
 ALL_ROUND = TOP / "examples/all-round.toml"
 WHOLE_LIST = TOP / "examples/whole-list.toml"
 SECONDS = 20.0
 """How long anything is waited for that has no time of its own."""
+
+
+
+def program() -> str:
+    """The path of the program that is tested: $RANGESYNC, or that of ./rangesync, which is built if there is none."""
+    if given := os.environ.get("RANGESYNC"):
+        return str(Path(given).resolve())
+    return subprocess.run([TOP / "release", "--program"], stdout=subprocess.PIPE, text=True, check=False).stdout.strip()
+
+
+# Scripts that this one starts test the same one.
+PROGRAM = os.environ["RANGESYNC"] = program()
 
 # A network and mounts of its own.
 
