@@ -22,39 +22,54 @@ build_plain() {
   ln -sf target/release/plain out/plain
 }
 
-# Copies a folder, by hard links where the file system has them: what rt keeps of the crates takes gigabytes.
-copy() {
-  cp -al "$1" "$2" 2> /dev/null || { rm -rf "$2" && cp -a "$1" "$2"; }
+# The names of these crates and of all that are below them.
+crates_below() {
+  awk -v names="$*" '
+    { sub(/#.*/, "") }
+    split($0, sides, ":") == 2 && split(sides[1], head, " ") { uses[head[1]] = sides[2] }
+    END {
+      count = split(names, left, " ")
+      for (i = 1; i <= count; i++) {
+        if (!(left[i] in uses) || seen[left[i]]++) continue
+        print left[i]
+        more = split(uses[left[i]], used, " ")
+        for (j = 1; j <= more; j++) left[++count] = used[j]
+      }
+    }' "$top/crates.txt"
 }
 
-# A copy of the repository in an empty folder, in which the program of the folder NAME is a crate over these crates.
-# Each module of it is a file NAME/*.rt.in.
-copy_with_program() {
-  local room=$1 name=$2 file
+# A repository of its own in an empty folder: the program of the folder NAME as a crate, and the crates below it. Each
+# module of the program is a file NAME/*.rt.in.
+make_repository() {
+  local room=$1 name=$2 crate file
   shift 2
   rm -rf "$room"
-  mkdir -p "$room"
-  copy "$top/crates" "$room/crates"
-  mkdir -p "$room/crates/$name/src"
+  mkdir -p "$room/.git" "$room/crates/$name/src"
+  for crate in $(crates_below "$@"); do
+    mkdir "$room/crates/$crate"
+    (cd "$top/crates/$crate" && cp -a src "$room/crates/$crate" && for file in specs proofs; do
+      [ ! -d $file ] || cp -a $file "$room/crates/$crate"
+    done)
+    grep "^$crate:" "$top/crates.txt" >> "$room/crates.txt"
+  done
   for file in "$name"/*.rt.in; do
     cp "$file" "$room/crates/$name/src/$(basename "$file" .in)"
   done
-  cp "$top/crates.txt" "$top/HANDLES" "$room"
+  cp "$top/HANDLES" "$room"
   echo "$name: $*" >> "$room/crates.txt"
 }
 
 # Proves and builds the program of the folder NAME over these crates, as out/NAME, unless it was built of the same
 # sources before. Its repository is in .git: rt ci reads every other folder, and takes no crates.txt below the top. What
-# rt prints is in out/NAME.log.
+# the gate proved on this machine is not proved again. What rt prints is in out/NAME.log.
 build_program() {
   local name=$1 room sources
   room=$(git rev-parse --absolute-git-dir)/bench/$name
   sources=$("$top/release" --sources && sha256sum "$name"/*.rt.in && echo "$@")
   mkdir -p out
   if [ "$(cat "$room/sources" 2> /dev/null)" != "$sources" ]; then
-    copy_with_program "$room" "$@"
-    # Without words the program does nothing.
-    if ! (cd "$room/crates/$name" && rt run > /dev/null) 2> "out/$name.log"; then
+    make_repository "$room" "$@"
+    if ! (cd "$room" && rt ci) > "out/$name.log" 2>&1; then
       echo "$0: $name was not proved or not built; out/$name.log says why" >&2
       return 1
     fi
