@@ -38,7 +38,7 @@ use Rattle.printing_core.specs.FlawTexts.{unread_of, unread_text, server_text}
 use Rattle.printing_core.specs.FlawTexts as flaws
 use Rattle.printing_core.specs.StdioTexts.{peer_text, peer_flaw}
 use Rattle.printing_core.specs.ShownLines.{shown_line}
-use Rattle.printing_core.specs.Whys.{check_text, want_text, said_of, place_in, row_in, place_text, why_text}
+use Rattle.printing_core.specs.Whys.{check_text, want_text, said_of, place_in, row_in, origin_text, why_text}
 use Rattle.printing_core.specs.declared.why.Why.{Why}
 use Rattle.printing_core.specs.declared.unreached.Unreached.TheVariants as causes
 use Rattle.printing_core.specs.declared.flaws.Unread.{Unread}
@@ -103,15 +103,15 @@ unread_input_text reading.CannotRead = Some (flaws.input_text inputs.CannotRead)
 unread_input_text reading.Memory = None
 
 -- a node of the scenario
-abbrev pub node_place : ℕ → List ℕ
-node_place node = place_text standard_input (Some node)
+abbrev pub node_origin : ℕ → List ℕ
+node_origin node = origin_text standard_input (Some node)
 
 abbrev pub scenario_text : ScenarioFault → List ℕ
 scenario_text scenarios.NotToml =
     flaw_text standard_input (record { fault = strategies.NotToml; row = None; number = None })
-scenario_text (scenarios.Strategy node flaw) = flaw_text (node_place node) flaw
-scenario_text (scenarios.Check node f) = said_of (node_place node) (check_text f)
-scenario_text (scenarios.TooManyItems node cap) = many_text (node_place node) cap
+scenario_text (scenarios.Strategy node flaw) = flaw_text (node_origin node) flaw
+scenario_text (scenarios.Check node f) = said_of (node_origin node) (check_text f)
+scenario_text (scenarios.TooManyItems node cap) = many_text (node_origin node) cap
 scenario_text scenarios.BadScenario = flaws.input_text inputs.NotScenario
 scenario_text (scenarios.BadStep step) = flaws.input_text (inputs.NotStep step)
 

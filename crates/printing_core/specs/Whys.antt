@@ -3,7 +3,7 @@
 --     check_text f         why a strategy is not accepted
 --     span_text s          what a number of a strategy may be
 --     want_text s f        the one where a number is refused, else the other
---     place_text file n    a file or standard input, and a node of it if there is one
+--     origin_text file n   a file or standard input, and a node of it if there is one
 --     why_text w           the whole line
 use Rattle.std.specs.Prelude.{ℕ, List, ◌∷◌, ◌++◌, codes, string_bytes, Option, Some, None}
 use Rattle.std.specs.Fmt.{decimal}
@@ -65,9 +65,9 @@ abbrev pub place_in : List ℕ → List ℕ → ℕ → List ℕ
 place_in place thing n = place ++ (32 ∷ (thing ++ (32 ∷ decimal n)))
 
 -- a file or standard input, and the number of a node in it if there is one
-abbrev pub place_text : List ℕ → Option ℕ → List ℕ
-place_text file None = file
-place_text file (Some node) = place_in file (codes "node") node
+abbrev pub origin_text : List ℕ → Option ℕ → List ℕ
+origin_text file None = file
+origin_text file (Some node) = place_in file (codes "node") node
 
 -- a place, and the number of a row in it if there is one
 abbrev pub row_in : List ℕ → Option ℕ → List ℕ
@@ -80,13 +80,13 @@ why_text (whys.BadLine file line shown) = said_of (place_in file.now (codes "lin
 why_text (whys.LongLine file line shown) = file.now ++ (codes " line " ++ (decimal line
     ++ (codes ": an item has at most 64 bytes: " ++ string_bytes shown)))
 why_text (whys.ByteOrderMark file) = file.now ++ codes " line 1: the file begins with a byte order mark"
-why_text (whys.TooManyItems place cap) = place_text place.file.now place.node
+why_text (whys.TooManyItems origin cap) = origin_text origin.file.now origin.node
     ++ (codes ": more than " ++ (decimal cap ++ codes " different items"))
 why_text (whys.FullShard file shard cap) = full_shard_text file.now shard cap
 why_text (whys.FewPlaces file shards) = few_places_text file.now shards
-why_text (whys.Strategy place flaw) =
-    said_of (row_in (place_text place.file.now place.node) flaw.row) (want_text flaw.number flaw.fault)
-why_text (whys.NotAccepted place fault) = said_of (place_text place.file.now place.node) (check_text fault)
+why_text (whys.Strategy origin flaw) =
+    said_of (row_in (origin_text origin.file.now origin.node) flaw.row) (want_text flaw.number flaw.fault)
+why_text (whys.NotAccepted origin fault) = said_of (origin_text origin.file.now origin.node) (check_text fault)
 why_text (whys.Address address cause) = unreached_text address.now cause
 why_text (whys.Input flaw) = input_text flaw
 why_text whys.Output = codes "standard output is closed or full"

@@ -51,4 +51,4 @@ pub use told::{
     tell_written_again,
 };
 pub use unreached::Unreached;
-pub use why::{Place, Why, tell_why};
+pub use why::{Origin, Why, tell_why};

@@ -16,7 +16,7 @@ use crate::flaws::{InputFlaw, ServerFlaw, Unread};
 use crate::shown::shown_line;
 use crate::stdio::peer_flaw;
 use crate::unreached::{Unreached, connect_cause, listen_cause};
-use crate::why::{Place, Why};
+use crate::why::{Origin, Why};
 use io_core::{InputFault, WriterFailed};
 use item_files::{BadLine, LineFlaw, SettingsFault, StrategyFlaw};
 use sim_core::{ScenarioError, ScenarioFault};
@@ -60,17 +60,20 @@ pub(crate) fn why_bad_line<'a>(alloc: Global, file: &'a str, bad: &BadLine) -> O
 fn why_file<'a>(alloc: Global, file: &'a str, fault: &SettingsFault) -> Option<Why<'a>>
     ensures { IsSaidOfFile file.now fault.now result }
 {
-    let place = Place { file, node: None };
+    let origin = Origin { file, node: None };
     match fault {
         SettingsFault::CannotRead(fault) => {
             let cause = Unread::from(*fault);
             Some(Why::Unread { file, cause })
         }
         SettingsFault::BadItemLine(bad) => why_bad_line(alloc, file, bad),
-        SettingsFault::TooManyItems { cap } => Some(Why::TooManyItems { place, cap: *cap }),
-        SettingsFault::Strategy(flaw) => Some(Why::Strategy { place, flaw: *flaw }),
+        SettingsFault::TooManyItems { cap } => Some(Why::TooManyItems { origin, cap: *cap }),
+        SettingsFault::Strategy(flaw) => Some(Why::Strategy {
+            origin,
+            flaw: *flaw,
+        }),
         SettingsFault::Check(fault) => Some(Why::NotAccepted {
-            place,
+            origin,
             fault: *fault,
         }),
         SettingsFault::Memory => None,
@@ -94,7 +97,7 @@ fn why_scenario(fault: ScenarioFault) -> Why<'static>
     let file = STANDARD_INPUT;
     match fault {
         ScenarioFault::NotToml => Why::Strategy {
-            place: Place { file, node: None },
+            origin: Origin { file, node: None },
             flaw: StrategyFlaw {
                 fault: StrategyFault::NotToml,
                 row: None,
@@ -102,21 +105,21 @@ fn why_scenario(fault: ScenarioFault) -> Why<'static>
             },
         },
         ScenarioFault::Strategy { node, flaw } => Why::Strategy {
-            place: Place {
+            origin: Origin {
                 file,
                 node: Some(node),
             },
             flaw,
         },
         ScenarioFault::Check { node, fault } => Why::NotAccepted {
-            place: Place {
+            origin: Origin {
                 file,
                 node: Some(node),
             },
             fault,
         },
         ScenarioFault::TooManyItems { node, cap } => Why::TooManyItems {
-            place: Place {
+            origin: Origin {
                 file,
                 node: Some(node),
             },

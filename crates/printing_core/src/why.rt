@@ -1,7 +1,7 @@
 //! The second line of a refusal: what it speaks of, and the usual cause.
 
 ghost use Rattle.std.specs.Prelude.{◌≡◌, Some};
-ghost use Rattle.printing_core.specs.Whys.{key_name, strategy_text, check_text, span_text, want_text, place_text};
+ghost use Rattle.printing_core.specs.Whys.{key_name, strategy_text, check_text, span_text, want_text, origin_text};
 ghost use Rattle.printing_core.specs.Whys.{row_in, why_text};
 
 use crate::flaws::{InputFlaw, ServerFlaw, Unread};
@@ -113,13 +113,13 @@ impl fmt::Display for FlawWant {
 
 /// Where a strategy, or items, stand: a file or standard input, and the node of a scenario, from 0, if it is one's.
 #[derive(Clone, Copy, Debug, PartialEq, Eq)]
-pub struct Place<'a> {
+pub struct Origin<'a> {
     pub file: &'a str,
     pub node: Option<usize>,
 }
 
-impl fmt::Display for Place<'_> {
-    ghost output = { λ p. Some (place_text p.file.now p.node) };
+impl fmt::Display for Origin<'_> {
+    ghost output = { λ p. Some (origin_text p.file.now p.node) };
 
     fn fmt<W: fmt::Write>(&self, f: &mut fmt::Formatter<W>) -> fmt::Result {
         let file = self.file;
@@ -130,21 +130,21 @@ impl fmt::Display for Place<'_> {
     }
 }
 
-/// A place, and the number of a row in it, from 1, if it is a row.
+/// An origin, and the number of a row in it, from 1, if it is a row.
 #[derive(Clone, Copy)]
-struct RowPlace<'a> {
-    place: Place<'a>,
+struct RowOrigin<'a> {
+    origin: Origin<'a>,
     row: Option<usize>,
 }
 
-impl fmt::Display for RowPlace<'_> {
-    ghost output = { λ p. Some (row_in (place_text p.place.file.now p.place.node) p.row) };
+impl fmt::Display for RowOrigin<'_> {
+    ghost output = { λ p. Some (row_in (origin_text p.origin.file.now p.origin.node) p.row) };
 
     fn fmt<W: fmt::Write>(&self, f: &mut fmt::Formatter<W>) -> fmt::Result {
-        let place = self.place;
+        let origin = self.origin;
         match self.row {
-            Some(row) => write!(f, "{place} row {row}"),
-            None => write!(f, "{place}"),
+            Some(row) => write!(f, "{origin} row {row}"),
+            None => write!(f, "{origin}"),
         }
     }
 }
@@ -175,7 +175,7 @@ pub enum Why<'a> {
     },
     /// There are more different items than this.
     TooManyItems {
-        place: Place<'a>,
+        origin: Origin<'a>,
         cap: usize,
     },
     /// A shard has more different items than this.
@@ -191,12 +191,12 @@ pub enum Why<'a> {
     },
     /// There is no strategy.
     Strategy {
-        place: Place<'a>,
+        origin: Origin<'a>,
         flaw: StrategyFlaw,
     },
     /// A strategy is not accepted.
     NotAccepted {
-        place: Place<'a>,
+        origin: Origin<'a>,
         fault: CheckFault,
     },
     /// An address is not listened at, or not reached.
@@ -232,8 +232,8 @@ impl fmt::Display for Why<'_> {
             Why::ByteOrderMark { file } => {
                 write!(f, "{file} line 1: the file begins with a byte order mark")
             }
-            Why::TooManyItems { place, cap } => {
-                write!(f, "{place}: more than {cap} different items")
+            Why::TooManyItems { origin, cap } => {
+                write!(f, "{origin}: more than {cap} different items")
             }
             Why::FullShard { file, shard, cap } => {
                 write!(
@@ -244,15 +244,15 @@ impl fmt::Display for Why<'_> {
             Why::FewPlaces { file, shards } => {
                 write!(f, "{file}: {shards} shards need a cap of at least {shards}")
             }
-            Why::Strategy { place, flaw } => {
-                let place = RowPlace {
-                    place: *place,
+            Why::Strategy { origin, flaw } => {
+                let origin = RowOrigin {
+                    origin: *origin,
                     row: flaw.row,
                 };
                 let want = FlawWant(*flaw);
-                write!(f, "{place}: {want}")
+                write!(f, "{origin}: {want}")
             }
-            Why::NotAccepted { place, fault } => write!(f, "{place}: {}", CheckWant(*fault)),
+            Why::NotAccepted { origin, fault } => write!(f, "{origin}: {}", CheckWant(*fault)),
             Why::Address { address, cause } => write!(f, "{}", AddressLine(address, *cause)),
             Why::Input(flaw) => write!(f, "{flaw}"),
             Why::Output => write!(f, "standard output is closed or full"),

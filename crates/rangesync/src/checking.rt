@@ -8,6 +8,7 @@ use crate::loading::strategy_of;
 use cost_core::{Sample, cost_of};
 use io_core::{Watched, write_output};
 use printing_core::{Fault, Refusal, accepted_text, push_cost, push_sample};
+use settings_core::CheckWords;
 use std::alloc::Global;
 use std::io::Write;
 use std::rt::Files;
@@ -19,17 +20,6 @@ const DIFFERENCES: [u32; 5] = [1, 10, 100, 1_000, 10_000];
 
 /// The bytes of an item, where they are not given.
 pub(crate) const ITEM_LENGTH: u32 = 16;
-
-/// The sets between which sessions are priced.
-#[derive(Clone, Copy)]
-pub(crate) struct Pricing {
-    /// Whether any are.
-    pub is_wanted: bool,
-    /// How many items a set has; `None` for the cap of the strategy.
-    pub items: Option<u32>,
-    /// How many bytes an item has, 4 to 64; `None` for 16.
-    pub item_length: Option<u32>,
-}
 
 /// The length that is given, or 16.
 pub(crate) fn length_of(item_length: Option<u32>) -> u32
@@ -71,15 +61,15 @@ fn push_costs(
 /// What `check` prints of a strategy that is accepted, and then what sessions under it cost.
 ///
 /// Refused 82 where a set is to have more items than the strategy's cap.
-fn costs_text(alloc: Global, accepted: Accepted, pricing: Pricing) -> Result<String, Fault>
-    requires { IfSome pricing.item_length IsItemLength }
+fn costs_text(alloc: Global, accepted: Accepted, words: CheckWords<'_>) -> Result<String, Fault>
+    requires { IfSome words.item_length IsItemLength }
 {
     let cap = accepted.cap();
-    let items = pricing.items.unwrap_or(cap);
+    let items = words.items.unwrap_or(cap);
     if items > cap {
         return Err(Fault::TooManyItems);
     }
-    let length = length_of(pricing.item_length);
+    let length = length_of(words.item_length);
     let mut text = accepted_text(alloc, accepted.steps())?;
     push_sample(&mut text, items, length)?;
     let accepted = Arc::new(alloc, accepted)?;
@@ -89,26 +79,25 @@ fn costs_text(alloc: Global, accepted: Accepted, pricing: Pricing) -> Result<Str
 
 /// What `check` prints of a strategy that is accepted: the steps of its least ranks, and what sessions cost where that
 /// is wanted.
-fn table_text(alloc: Global, accepted: Accepted, pricing: Pricing) -> Result<String, Fault>
-    requires { IfSome pricing.item_length IsItemLength }
+fn table_text(alloc: Global, accepted: Accepted, words: CheckWords<'_>) -> Result<String, Fault>
+    requires { IfSome words.item_length IsItemLength }
 {
-    if pricing.is_wanted {
-        costs_text(alloc, accepted, pricing)
+    if words.cost {
+        costs_text(alloc, accepted, words)
     } else {
         Ok(accepted_text(alloc, accepted.steps())?)
     }
 }
 
-/// Checks the strategy in the file, and prints what is to be printed of it where it is accepted.
+/// Checks the strategy in the file that is named, and prints what is to be printed of it where it is accepted.
 pub(crate) fn check_table<'a, R: Files + AllocGlobal, O: Write + Drop>(
     rt: &R,
-    path: &'a str,
-    pricing: Pricing,
+    words: CheckWords<'a>,
     out: O,
 ) -> Result<(), Refusal<'a>>
-    requires { IfSome pricing.item_length IsItemLength }
+    requires { IfSome words.item_length IsItemLength }
 {
-    let text = table_text(rt.alloc(), strategy_of(rt, path)?, pricing)?;
+    let text = table_text(rt.alloc(), strategy_of(rt, words.file)?, words)?;
     write_output(&mut Watched::new(out), text.as_bytes())?;
     Ok(())
 }

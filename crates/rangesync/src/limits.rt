@@ -4,6 +4,7 @@ ghost use Rattle.std.specs.Prelude.{◌≤◌};
 ghost use Rattle.session_table.specs.Tables.{IsCapacity};
 
 use peer_loops::PeerLimits;
+use settings_core::ServeWords;
 
 /// How many peers there may be at once, if no number is given.
 const PEERS: u32 = 1_024;
@@ -20,23 +21,8 @@ const MIB: u64 = 1_048_576;
 /// How many places the table of sessions has at most.
 const MOST_PLACES: usize = 1_024;
 
-/// The words of a call that say what peers may cost.
-#[derive(Clone, Copy)]
-pub struct PeerWords {
-    /// How many seconds a peer may be silent.
-    pub patience: u32,
-    /// How many bytes are read of one peer.
-    pub most_bytes: u32,
-    /// How many peers there are at once, if it is given.
-    pub peers: Option<u32>,
-    /// How many seconds a session may go on, if they are given.
-    pub session_seconds: Option<u32>,
-    /// How many MiB of memory are counted for all peers at most, if they are given.
-    pub memory: Option<u32>,
-}
-
-/// What peers may cost.
-pub fn limits_of(words: PeerWords) -> PeerLimits {
+/// What peers may cost a server that is asked for in these words.
+pub fn limits_of(words: ServeWords<'_>) -> PeerLimits {
     let peers = words.peers.unwrap_or(PEERS);
     PeerLimits {
         peers,

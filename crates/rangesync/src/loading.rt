@@ -10,6 +10,7 @@ use item_core::Item;
 use item_files::{ItemForm, ReadFault, SettingsFault, read_input_items, read_items, read_strategy};
 use printing_core::{Fault, Refusal};
 use range_tree::Tree;
+use settings_core::{ServeWords, SyncWords};
 use std::alloc::{AllocError, Global};
 use std::fs::File;
 use std::io::{Read, Write};
@@ -71,6 +72,26 @@ pub struct Sources<'a> {
 }
 
 impl<'a> Sources<'a> {
+    /// Where a server begins from that is asked for in these words.
+    pub fn of_server(words: ServeWords<'a>) -> Sources<'a> {
+        Sources {
+            table: words.table,
+            form: words.form,
+            items: words.items,
+            keep: words.keep,
+        }
+    }
+
+    /// Where a `sync` begins from that is asked for in these words.
+    pub fn of_asker(words: SyncWords<'a>) -> Sources<'a> {
+        Sources {
+            table: words.table,
+            form: words.form,
+            items: Some(words.items),
+            keep: None,
+        }
+    }
+
     /// The path of the item file, if the items are in a file.
     fn item_path(&self) -> Option<&'a str> {
         self.items.filter(|path| *path != "-")

@@ -7,7 +7,7 @@ use std::io::{Read, Write};
 
 /// Where in the bytes of one side a byte stands.
 #[derive(Clone, Copy, Debug, PartialEq, Eq)]
-enum Place {
+enum Within {
     /// In the hello, with so many bytes of it to come.
     Hello(u8),
     /// In the length of a frame, with so many bytes of it to come.
@@ -24,20 +24,20 @@ const END: u8 = 4;
 /// What was counted of one side's bytes.
 #[derive(Clone, Copy, Debug, PartialEq, Eq)]
 struct Meter {
-    place: Place,
+    within: Within,
     /// The number that the bytes of the hello spell, as far as they were seen.
     hello: u32,
     tally: Tally,
 }
 
-/// The place after a whole frame, or after the hello.
-const NEXT: Place = Place::Length { left: 4, length: 0 };
+/// Where the byte after a whole frame stands, or the one after the hello.
+const NEXT: Within = Within::Length { left: 4, length: 0 };
 
 impl Meter {
     /// Nothing was seen so far.
     fn new() -> Meter {
         Meter {
-            place: Place::Hello(4),
+            within: Within::Hello(4),
             hello: 0,
             tally: Tally {
                 messages: 0,
@@ -56,37 +56,37 @@ impl Meter {
         }
     }
 
-    /// The place after this byte, at which a frame may be whole.
+    /// Goes on past this byte, with which a frame may be whole.
     fn step(&mut self, byte: u8) {
-        self.place = match self.place {
-            Place::Hello(left) => {
+        self.within = match self.within {
+            Within::Hello(left) => {
                 self.hello = self.hello << 8 | u32::from(byte);
                 if left > 1 {
-                    Place::Hello(left - 1)
+                    Within::Hello(left - 1)
                 } else {
                     NEXT
                 }
             }
-            Place::Length { left, length } => {
+            Within::Length { left, length } => {
                 let length = length << 8 | u32::from(byte);
                 if left > 1 {
-                    Place::Length {
+                    Within::Length {
                         left: left - 1,
                         length,
                     }
                 } else {
-                    Place::Kind { length }
+                    Within::Kind { length }
                 }
             }
-            Place::Kind { length } => self.after(length.saturating_sub(1), byte),
-            Place::Body { left, kind } => self.after(left.saturating_sub(1), kind),
+            Within::Kind { length } => self.after(length.saturating_sub(1), byte),
+            Within::Body { left, kind } => self.after(left.saturating_sub(1), kind),
         };
     }
 
-    /// The place in a frame of this kind that has so many bytes to come.
-    fn after(&mut self, left: u32, kind: u8) -> Place {
+    /// Where the next byte stands, if a frame of this kind has so many bytes to come.
+    fn after(&mut self, left: u32, kind: u8) -> Within {
         if left > 0 {
-            return Place::Body { left, kind };
+            return Within::Body { left, kind };
         }
         self.frame(kind);
         NEXT

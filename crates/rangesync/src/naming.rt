@@ -12,7 +12,8 @@ pub struct BadName;
 /// The name that a command is given, if it is given one, and the form of its items.
 fn named(command: Command<'_>) -> Option<(&str, ItemForm)> {
     match command {
-        Command::Serve { set, form, .. } | Command::Sync { set, form, .. } => Some((set?, form)),
+        Command::Serve(words) => Some((words.set?, words.form)),
+        Command::Sync(words) => Some((words.set?, words.form)),
         _ => None,
     }
 }

@@ -9,6 +9,7 @@ use crate::checking::length_of;
 use cost_core::{Line, Planned, Sample, Task, quickest, searched};
 use io_core::{Watched, write_output};
 use printing_core::{Fault, Refusal, push_plan};
+use settings_core::PlanWords;
 use std::io::Write;
 use std::time::Clock;
 
@@ -23,23 +24,6 @@ const ROUND_TRIP: u32 = 100;
 
 /// The megabits in a second, where they are not given.
 const RATE: u32 = 10;
-
-/// What a strategy is chosen for; `None` for the usual number.
-#[derive(Clone, Copy)]
-pub(crate) struct Planning {
-    /// How many items a set has, 1 to 65,536.
-    pub items: Option<u32>,
-    /// In how many items the sets differ: all, where it is more.
-    pub differences: Option<u32>,
-    /// How many bytes an item has, 4 to 64.
-    pub item_length: Option<u32>,
-    /// The milliseconds of a round trip.
-    pub round_trip: Option<u32>,
-    /// The megabits in a second, 1 to 100,000.
-    pub rate: Option<u32>,
-    /// How many seconds are spent on a search for a quicker table; `None` for no search.
-    pub search: Option<u32>,
-}
 
 /// The items that are given, or 65,536.
 fn items_of(items: Option<u32>) -> u32
@@ -85,33 +69,33 @@ fn planned<R: Clock + AllocGlobal>(
 }
 
 /// What a strategy is chosen for: what is given, and the usual numbers for the rest.
-fn task_of(planning: Planning) -> Task
-    requires items { IfSome planning.items IsItemCount }
-    requires item_length { IfSome planning.item_length IsItemLength }
-    requires rate { IfSome planning.rate IsRate }
+fn task_of(words: PlanWords) -> Task
+    requires items { IfSome words.items IsItemCount }
+    requires item_length { IfSome words.item_length IsItemLength }
+    requires rate { IfSome words.rate IsRate }
     ensures sample { IsSample result.sample }
     ensures rate { 1 ≤ result.line.rate }
 {
-    let items = items_of(planning.items);
+    let items = items_of(words.items);
     let sample = Sample {
         items,
-        differences: planning.differences.unwrap_or(DIFFERENCES).min(items),
-        length: length_of(planning.item_length),
+        differences: words.differences.unwrap_or(DIFFERENCES).min(items),
+        length: length_of(words.item_length),
     };
     let line = Line {
-        round_trip: planning.round_trip.unwrap_or(ROUND_TRIP),
-        rate: rate_of(planning.rate),
+        round_trip: words.round_trip.unwrap_or(ROUND_TRIP),
+        rate: rate_of(words.rate),
     };
     Task { sample, line }
 }
 
 /// The strategy that is planned as a text that `check` accepts, with its name and its cost in comments above it.
-fn plan_text<R: Clock + AllocGlobal>(rt: &R, planning: Planning) -> Result<String, Fault>
-    requires items { IfSome planning.items IsItemCount }
-    requires item_length { IfSome planning.item_length IsItemLength }
-    requires rate { IfSome planning.rate IsRate }
+fn plan_text<R: Clock + AllocGlobal>(rt: &R, words: PlanWords) -> Result<String, Fault>
+    requires items { IfSome words.items IsItemCount }
+    requires item_length { IfSome words.item_length IsItemLength }
+    requires rate { IfSome words.rate IsRate }
 {
-    let planned = planned(rt, task_of(planning), planning.search)?;
+    let planned = planned(rt, task_of(words), words.search)?;
     let millis = planned.micros.saturating_add(500) / 1_000;
     let mut text = String::new(rt.alloc());
     push_plan(
@@ -128,14 +112,14 @@ fn plan_text<R: Clock + AllocGlobal>(rt: &R, planning: Planning) -> Result<Strin
 /// Prints the quickest of the strategies that are shipped, or what a search has found.
 pub(crate) fn plan<R: Clock + AllocGlobal, O: Write + Drop>(
     rt: &R,
-    planning: Planning,
+    words: PlanWords,
     out: O,
 ) -> Result<(), Refusal<'static>>
-    requires items { IfSome planning.items IsItemCount }
-    requires item_length { IfSome planning.item_length IsItemLength }
-    requires rate { IfSome planning.rate IsRate }
+    requires items { IfSome words.items IsItemCount }
+    requires item_length { IfSome words.item_length IsItemLength }
+    requires rate { IfSome words.rate IsRate }
 {
-    let text = plan_text(rt, planning)?;
+    let text = plan_text(rt, words)?;
     write_output(&mut Watched::new(out), text.as_bytes())?;
     Ok(())
 }

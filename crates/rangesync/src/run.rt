@@ -2,17 +2,15 @@
 
 ghost use Rattle.std.specs.Prelude.{◌≤◌, length};
 ghost use Rattle.store_core.specs.Flat.{flat_items};
-ghost use Rattle.settings_core.specs.Spans.{AreInSpan};
+ghost use Rattle.settings_core.specs.Spans.{AreInSpan, IsWorkerCount};
 
-use crate::checking::{Pricing, check_table};
-use crate::limits::{PeerWords, limits_of};
+use crate::checking::check_table;
 use crate::loading::{Sources, items_of, load};
 use crate::loading_shards::load_shards;
 use crate::loops::Loops;
 use crate::naming::{set_of, told_of};
-use crate::planning::{Planning, plan};
-use crate::reporting::{Paths, Rules};
-use crate::serve::{Outputs, Serving, Stock, Watching, serve};
+use crate::planning::plan;
+use crate::serve::{Outputs, Serving, Stock, serve};
 use crate::sharding::shards_of;
 use crate::stdio::{flaw_of, serve_stdio, sync_stdio};
 use crate::stocking::stock_of;
@@ -20,12 +18,11 @@ use crate::sync::{Asking, sync};
 use crate::sync_shards::{AskingShards, sync_shards};
 use answer_core::{answer, list_reply};
 use io_core::{Watched, read_input, write_output};
-use item_files::ItemForm;
 use printing_core::{
-    Fault, Refusal, Reporting, Why, decode_text, encode_lines, tell, tell_name_flaw,
-    tell_shard_flaw, tell_stdio_flaw, tell_why, tell_words,
+    Fault, Refusal, Why, decode_text, encode_lines, tell, tell_name_flaw, tell_shard_flaw,
+    tell_stdio_flaw, tell_why, tell_words,
 };
-use settings_core::{Call, Command, Sharding, read_words};
+use settings_core::{AnswerWords, Call, Command, ServeWords, Sharding, SyncWords, read_words};
 use shard_core::SetName;
 use sim_core::{scenario_of, sim_text};
 use std::alloc::Global;
@@ -35,7 +32,6 @@ use std::io;
 use std::io::{Read, Write};
 use std::rt::Files;
 use store_core::{FlatStore, RangeStore};
-use tcp_front::Limits;
 use wire_core::decode_message;
 
 /// The greatest number of different items of `answer`.
@@ -70,16 +66,15 @@ fn answer_in<I: Read + Drop, O: Write + Drop>(
 /// Answers the message of the input, in hex or in bytes, for the items of the file.
 fn answer_for<'a, R: Files + AllocGlobal, I: Read + Drop, O: Write + Drop>(
     rt: &R,
-    hexed: bool,
-    (form, path): (ItemForm, &'a str),
+    words: AnswerWords<'a>,
     reader: I,
     out: O,
 ) -> Result<(), Refusal<'a>> {
-    let items = items_of(rt, form, path, MAX_ITEMS)?;
+    let items = items_of(rt, words.form, words.items, MAX_ITEMS)?;
     let store = FlatStore::from_rising(rt.alloc(), &items)?;
-    match answer_in(rt.alloc(), hexed, &store, reader, out) {
+    match answer_in(rt.alloc(), words.hexed, &store, reader, out) {
         Ok(()) => Ok(()),
-        Err(fault) => Err(Refusal::of_message(hexed, fault)),
+        Err(fault) => Err(Refusal::of_message(words.hexed, fault)),
     }
 }
 
@@ -95,185 +90,93 @@ fn sim<I: Read + Drop, O: Write + Drop>(
     Ok(())
 }
 
-/// What is to be done, and the name of the set that it is done with, as the other side is told it; and which shards of
-/// the set are meant, if it is cut into shards.
+/// The set that `serve` or `sync` is about.
 #[derive(Clone, Copy)]
-struct Task<'a> {
-    command: Command<'a>,
+struct Target<'a> {
+    /// Its name as the other side is told it, if it has one.
     set: Option<SetName<'a>>,
+    /// Which of its shards are meant, if it is cut into shards.
     sharding: Option<Sharding>,
     /// Whether standard error is a terminal, and may be shown how far all is.
     shows: bool,
 }
 
-/// Does what the words ask for.
-fn obey<'a, R, I: Read + Drop, O: Write + Drop, E: Write + Drop + Send>(
+/// Does what `serve` is asked for: one session over standard input and output, or sessions with those who connect.
+fn serve_as_asked<'a, R, I: Read + Drop, O: Write + Drop, E: Write + Drop + Send>(
     rt: &'a R,
-    task: Task<'a>,
-    reader: I,
-    outputs: Outputs<O, E>,
+    words: ServeWords<'a>,
+    target: Target<'a>,
+    ends: (I, Outputs<O, E>),
     err: &mut E,
 ) -> Result<(), Refusal<'a>>
 where
     R: Files<File = File> + Loops,
-    requires { AreInSpan task.command }
+    requires { IsWorkerCount words.workers }
 {
-    let Task {
-        command,
-        set,
-        sharding,
-        shows,
-    } = task;
+    let (reader, outputs) = ends;
+    let serving = Serving::asked(words, target.set);
+    let sources = Sources::of_server(words);
+    if words.stdio {
+        let loaded = load(rt, sources, io::empty(), err)?;
+        serve_stdio(rt, loaded, serving, (reader, outputs.out), err)
+    } else {
+        let stock = stock_of(rt, sources, target.sharding, reader, err)?;
+        serve(rt, stock, serving, outputs, err)
+    }
+}
+
+/// Does what `sync` is asked for: one session, over standard input and output or with who listens; or one for each
+/// shard that differs.
+fn sync_as_asked<'a, R, I: Read + Drop, O: Write + Drop, E: Write + Drop>(
+    rt: &R,
+    words: SyncWords<'a>,
+    target: Target<'a>,
+    (reader, out): (I, O),
+    err: &mut E,
+) -> Result<(), Refusal<'a>>
+where
+    R: Files<File = File> + Loops,
+{
+    let asking = Asking::asked(words, target.set);
+    let sources = Sources::of_asker(words);
+    if words.stdio {
+        let loaded = load(rt, sources, io::empty(), err)?;
+        sync_stdio(rt, loaded, asking, (reader, out), err)
+    } else if let (Some(sharding), Some(set)) = (target.sharding, target.set) {
+        let loaded = load_shards(rt, sources, sharding, reader, err)?;
+        let asking = AskingShards {
+            asking,
+            set,
+            at_once: words.at_once.unwrap_or(AT_ONCE) as usize,
+            shows: target.shows,
+        };
+        sync_shards(rt, loaded, asking, out, err)
+    } else {
+        let loaded = load(rt, sources, reader, err)?;
+        sync(rt, loaded, asking, out, err)
+    }
+}
+
+/// Does what the words ask for.
+fn obey<'a, R, I: Read + Drop, O: Write + Drop, E: Write + Drop + Send>(
+    rt: &'a R,
+    command: Command<'a>,
+    target: Target<'a>,
+    ends: (I, Outputs<O, E>),
+    err: &mut E,
+) -> Result<(), Refusal<'a>>
+where
+    R: Files<File = File> + Loops,
+    requires { AreInSpan command }
+{
+    let (reader, outputs) = ends;
     match command {
-        Command::Answer { hexed, form, items } => {
-            answer_for(rt, hexed, (form, items), reader, outputs.out)
-        }
-        Command::Check {
-            cost,
-            items,
-            item_length,
-            file,
-        } => {
-            let pricing = Pricing {
-                is_wanted: cost,
-                items,
-                item_length,
-            };
-            check_table(rt, file, pricing, outputs.out)
-        }
-        Command::Plan {
-            items,
-            differences,
-            item_length,
-            round_trip,
-            rate,
-            search,
-        } => {
-            let planning = Planning {
-                items,
-                differences,
-                item_length,
-                round_trip,
-                rate,
-                search,
-            };
-            plan(rt, planning, outputs.out)
-        }
+        Command::Answer(words) => answer_for(rt, words, reader, outputs.out),
+        Command::Check(words) => check_table(rt, words, outputs.out),
+        Command::Plan(words) => plan(rt, words, outputs.out),
         Command::Sim => sim(rt.alloc(), reader, outputs.out),
-        Command::Serve {
-            table,
-            address,
-            stdio,
-            workers,
-            sessions,
-            patience,
-            most_bytes,
-            peers,
-            session_seconds,
-            memory,
-            report,
-            learned,
-            keep,
-            durable,
-            most_learned,
-            read_only,
-            report_items,
-            metrics,
-            log,
-            form,
-            items,
-            ..
-        } => {
-            let serving = Serving {
-                address,
-                workers,
-                sessions,
-                limits: limits_of(PeerWords {
-                    patience,
-                    most_bytes,
-                    peers,
-                    session_seconds,
-                    memory,
-                }),
-                paths: Paths {
-                    report,
-                    learned,
-                    keep,
-                },
-                rules: Rules {
-                    reporting: Reporting {
-                        form,
-                        most: report_items,
-                    },
-                    most_learned: if read_only { Some(0) } else { most_learned },
-                    is_durable: durable,
-                },
-                watching: Watching { metrics, log },
-                set,
-            };
-            let sources = Sources {
-                table,
-                form,
-                items,
-                keep,
-            };
-            if stdio {
-                let loaded = load(rt, sources, io::empty(), err)?;
-                serve_stdio(rt, loaded, serving, (reader, outputs.out), err)
-            } else {
-                let stock = stock_of(rt, sources, sharding, reader, err)?;
-                serve(rt, stock, serving, outputs, err)
-            }
-        }
-        Command::Sync {
-            table,
-            address,
-            stdio,
-            at_once,
-            out: file,
-            profile,
-            patience,
-            most_bytes,
-            stats,
-            form,
-            items,
-            ..
-        } => {
-            let asking = Asking {
-                address,
-                profile,
-                form,
-                limits: Limits {
-                    patience,
-                    most_bytes,
-                },
-                stats,
-                out: file,
-                set,
-            };
-            let sources = Sources {
-                table,
-                form,
-                items: Some(items),
-                keep: None,
-            };
-            if stdio {
-                let loaded = load(rt, sources, io::empty(), err)?;
-                sync_stdio(rt, loaded, asking, (reader, outputs.out), err)
-            } else if let (Some(sharding), Some(set)) = (sharding, set) {
-                let loaded = load_shards(rt, sources, sharding, reader, err)?;
-                let asking = AskingShards {
-                    asking,
-                    set,
-                    at_once: at_once.unwrap_or(AT_ONCE) as usize,
-                    shows,
-                };
-                sync_shards(rt, loaded, asking, outputs.out, err)
-            } else {
-                let loaded = load(rt, sources, reader, err)?;
-                sync(rt, loaded, asking, outputs.out, err)
-            }
-        }
+        Command::Serve(words) => serve_as_asked(rt, words, target, (reader, outputs), err),
+        Command::Sync(words) => sync_as_asked(rt, words, target, (reader, outputs.out), err),
     }
 }
 
@@ -344,13 +247,13 @@ where
     let Ok(set) = set_of(&told, sharding.map(|sharding| sharding.bits)) else {
         return tell_name_flaw(err);
     };
-    let task = Task {
-        command,
+    let target = Target {
         set,
         sharding,
         shows: is_terminal,
     };
-    match obey(rt, task, input.reader, Outputs { out, log }, &mut err) {
+    let ends = (input.reader, Outputs { out, log });
+    match obey(rt, command, target, ends, &mut err) {
         Ok(()) => 0,
         Err(Refusal { fault, why }) => {
             let status = tell(&mut err, fault);

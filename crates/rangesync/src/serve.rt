@@ -5,7 +5,7 @@ ghost use Rattle.std.specs.Arc.{arc_value};
 ghost use Rattle.settings_core.specs.Spans.{IsWorkerCount};
 
 use crate::disk::Disk;
-use crate::limits::places;
+use crate::limits::{limits_of, places};
 use crate::loading::Loaded;
 use crate::logging::log_all;
 use crate::loops::Loops;
@@ -16,10 +16,11 @@ use io_core::{Watched, WriterFailed, write_output};
 use peer_loops::{Board, PeerLimits, Service, Shards, serve_peers};
 use peer_threads::{Report, Shared};
 use printing_core::{
-    Fault, Refusal, listening_line, refusal_of, served_text, tell_address, tell_dropped,
+    Fault, Refusal, Reporting, listening_line, refusal_of, served_text, tell_address, tell_dropped,
 };
 use range_tree::Tree;
 use session_table::SessionTable;
+use settings_core::ServeWords;
 use shard_core::SetName;
 use shard_log::ShardLog;
 use std::alloc::{AllocError, Global};
@@ -52,6 +53,43 @@ pub struct Serving<'a> {
     pub watching: Watching<'a>,
     /// What the set is called, if peers have to say it.
     pub set: Option<SetName<'a>>,
+}
+
+impl<'a> Serving<'a> {
+    /// What is asked for in these words, of a set that is called so.
+    pub fn asked(words: ServeWords<'a>, set: Option<SetName<'a>>) -> Serving<'a>
+        ensures workers { result.workers ≡ words.entry.workers }
+    {
+        let most_learned = if words.read_only {
+            Some(0)
+        } else {
+            words.most_learned
+        };
+        Serving {
+            address: words.address,
+            workers: words.workers,
+            sessions: words.sessions,
+            limits: limits_of(words),
+            paths: Paths {
+                report: words.report,
+                learned: words.learned,
+                keep: words.keep,
+            },
+            rules: Rules {
+                reporting: Reporting {
+                    form: words.form,
+                    most: words.report_items,
+                },
+                most_learned,
+                is_durable: words.durable,
+            },
+            watching: Watching {
+                metrics: words.metrics,
+                log: words.log,
+            },
+            set,
+        }
+    }
 }
 
 /// What a server serves: the log that was loaded; or the shards of a set, beside an empty log.
@@ -198,80 +236,54 @@ fn work<R: Loops, E: Write + Drop + Send>(
     report
 }
 
-/// Serves by loops until the source has no more; beside them what could not be written is tried again each second.
-fn work_beside<R: Loops, E: Write + Drop + Send>(
+/// Prints a line for each session, if that is asked for, and answers those who watch the server, if there is a window,
+/// until the server is done.
+fn log_and_show<R: Loops, E: Write + Drop + Send, L: Write + Drop + Send>(
     rt: &R,
     shared: &Shared<'_, Tree, Desk<'_, '_, R, E>>,
-    seat: Seat<Tree>,
-    listener: &Listener<'_, R>,
-    service: Service<'_>,
-) -> Report
-    requires lock { seat.table_id ≡ shared.now.lock.now }
-    requires fits { seat.view.cap ≤ (arc_value shared.now.accepted.now).table.cap }
-    requires workers { IsWorkerCount service.loops }
-{
-    let gate = shared.gate;
-    // If no thread can be made for the first, it runs after the second, and returns at once.
-    let (_tried, report) = join(
-        rt,
-        move || gate.keep_trying(),
-        move || -> Report
-            requires { (seat.table_id ≡ shared.now.lock.now)
-                × (seat.view.cap ≤ (arc_value shared.now.accepted.now).table.cap) × IsWorkerCount service.loops }
-        { work(rt, shared, seat, listener, service) },
-    );
-    report
-}
-
-/// Serves by loops until the source has no more, and sees that what is written to files is tried again, if anything is.
-fn work_and_write<R: Loops, E: Write + Drop + Send>(
-    rt: &R,
-    shared: &Shared<'_, Tree, Desk<'_, '_, R, E>>,
-    seat: Seat<Tree>,
-    listener: &Listener<'_, R>,
-    service: Service<'_>,
-) -> Report
-    requires lock { seat.table_id ≡ shared.now.lock.now }
-    requires fits { seat.view.cap ≤ (arc_value shared.now.accepted.now).table.cap }
-    requires workers { IsWorkerCount service.loops }
-{
-    if shared.gate.may_wait() {
-        work_beside(rt, shared, seat, listener, service)
-    } else {
-        work(rt, shared, seat, listener, service)
-    }
-}
-
-/// The same; beside it a line is printed for each session, if that is asked for.
-fn work_and_log<R: Loops, E: Write + Drop + Send, L: Write + Drop + Send>(
-    rt: &R,
-    shared: &Shared<'_, Tree, Desk<'_, '_, R, E>>,
-    seat: Seat<Tree>,
-    listener: &Listener<'_, R>,
-    service: Service<'_>,
+    window: Option<&Window<'_, R>>,
+    board: &Board,
     log: Option<L>,
-) -> Report
-    requires lock { seat.table_id ≡ shared.now.lock.now }
-    requires fits { seat.view.cap ≤ (arc_value shared.now.accepted.now).table.cap }
-    requires workers { IsWorkerCount service.loops }
-{
-    let Some(log) = log else {
-        return work_and_write(rt, shared, seat, listener, service);
-    };
-    let board = service.board;
-    let (_logged, report) = join(
+) {
+    let (_shown, _logged) = join(
         rt,
-        move || log_all(rt, rt.alloc(), board, log),
-        move || -> Report
-            requires { (seat.table_id ≡ shared.now.lock.now)
-                × (seat.view.cap ≤ (arc_value shared.now.accepted.now).table.cap) × IsWorkerCount service.loops }
-        { work_and_write(rt, shared, seat, listener, service) },
+        move || {
+            if let Some(window) = window {
+                watch(rt, window, shared, board);
+            }
+        },
+        move || {
+            if let Some(log) = log {
+                log_all(rt, rt.alloc(), board, log);
+            }
+        },
     );
-    report
 }
 
-/// The same; beside it those are answered who watch the server, if there is a window.
-fn work_and_show<R: Loops, E: Write + Drop + Send, L: Write + Drop + Send>(
+/// Does what is asked for beside the loops, until the server is done: what could not be written is tried again each
+/// second, a line is printed for each session, and those are answered who watch.
+fn attend<R: Loops, E: Write + Drop + Send, L: Write + Drop + Send>(
+    rt: &R,
+    shared: &Shared<'_, Tree, Desk<'_, '_, R, E>>,
+    window: Option<&Window<'_, R>>,
+    board: &Board,
+    log: Option<L>,
+) {
+    let gate = shared.gate;
+    let (_tried, _told) = join(
+        rt,
+        move || {
+            if gate.may_wait() {
+                gate.keep_trying();
+            }
+        },
+        move || log_and_show(rt, shared, window, board, log),
+    );
+}
+
+/// Serves by loops until the source has no more; beside them a thread does what else is asked for, if anything is. If
+/// no thread can be made, that is done after them, and ends at once.
+fn work_attended<R: Loops, E: Write + Drop + Send, L: Write + Drop + Send>(
     rt: &R,
     shared: &Shared<'_, Tree, Desk<'_, '_, R, E>>,
     seat: Seat<Tree>,
@@ -284,17 +296,17 @@ fn work_and_show<R: Loops, E: Write + Drop + Send, L: Write + Drop + Send>(
     requires workers { IsWorkerCount service.loops }
 {
     let (listener, window) = doors;
-    let Some(window) = window else {
-        return work_and_log(rt, shared, seat, listener, service, log);
-    };
+    if window.is_none() && log.is_none() && !shared.gate.may_wait() {
+        return work(rt, shared, seat, listener, service);
+    }
     let board = service.board;
-    let (_shown, report) = join(
+    let (_attended, report) = join(
         rt,
-        move || watch(rt, window, shared, board),
+        move || attend(rt, shared, window, board, log),
         move || -> Report
             requires { (seat.table_id ≡ shared.now.lock.now)
                 × (seat.view.cap ≤ (arc_value shared.now.accepted.now).table.cap) × IsWorkerCount service.loops }
-        { work_and_log(rt, shared, seat, listener, service, log) },
+        { work(rt, shared, seat, listener, service) },
     );
     report
 }
@@ -388,7 +400,7 @@ pub fn serve<'a, R: Files<File = File> + Loops, O: Write + Drop, E: Write + Drop
     };
     let log = serving.watching.log.then_some(lines);
     let doors = (&listener, window.as_ref());
-    let report = work_and_show(rt, &shared, own, doors, service, log);
+    let report = work_attended(rt, &shared, own, doors, service, log);
     remove_files(rt, &listener, window.as_ref());
     let closed = reporter.close();
     tell_dropped(err, closed.dropped);

@@ -19,28 +19,17 @@ fn shard_words(command: Command<'_>) -> ShardWords<'_>
     ensures { IfSome result.shards IsShardBits }
 {
     match command {
-        Command::Serve {
-            shards,
-            only,
-            stdio,
-            ..
-        } => ShardWords {
-            shards,
-            only,
+        Command::Serve(words) => ShardWords {
+            shards: words.shards,
+            only: words.only,
             at_once: None,
-            is_stdio: stdio,
+            is_stdio: words.stdio,
         },
-        Command::Sync {
-            shards,
-            only,
-            at_once,
-            stdio,
-            ..
-        } => ShardWords {
-            shards,
-            only,
-            at_once,
-            is_stdio: stdio,
+        Command::Sync(words) => ShardWords {
+            shards: words.shards,
+            only: words.only,
+            at_once: words.at_once,
+            is_stdio: words.stdio,
         },
         _ => NO_SHARDS,
     }

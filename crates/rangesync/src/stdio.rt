@@ -50,20 +50,13 @@ const WRITERS_SPENT: u8 = 42;
 /// Why a command does not speak over standard input and output, if it is to and does not.
 pub fn flaw_of(command: Command<'_>, is_terminal: bool) -> Option<StdioFlaw> {
     let words = match command {
-        Command::Serve {
-            stdio: true,
-            address,
-            items,
-            ..
-        } => StdioWords { address, items },
-        Command::Sync {
-            stdio: true,
-            address,
-            items,
-            ..
-        } => StdioWords {
-            address,
-            items: Some(items),
+        Command::Serve(words) if words.stdio => StdioWords {
+            address: words.address,
+            items: words.items,
+        },
+        Command::Sync(words) if words.stdio => StdioWords {
+            address: words.address,
+            items: Some(words.items),
         },
         _ => return None,
     };

@@ -14,6 +14,7 @@ use peer_threads::{Connection, OpenGate, Outcome, Shared, dial_one};
 use printing_core::{Fault, Refusal, Stats, outcome_text, tell_stats};
 use range_tree::Tree;
 use session_table::SessionTable;
+use settings_core::SyncWords;
 use shard_core::{SetName, Which};
 use std::alloc::Global;
 use std::fs::File;
@@ -44,6 +45,24 @@ pub struct Asking<'a> {
     pub out: Option<&'a str>,
     /// What the set is called, if the other side is to be told.
     pub set: Option<SetName<'a>>,
+}
+
+impl<'a> Asking<'a> {
+    /// What is asked for in these words, of a set that is called so.
+    pub fn asked(words: SyncWords<'a>, set: Option<SetName<'a>>) -> Asking<'a> {
+        Asking {
+            address: words.address,
+            profile: words.profile,
+            form: words.form,
+            limits: Limits {
+                patience: words.patience,
+                most_bytes: words.most_bytes,
+            },
+            stats: words.stats,
+            out: words.out,
+            set,
+        }
+    }
 }
 
 /// The milliseconds since then, where the clock tells.

@@ -11,7 +11,7 @@ use Rattle.std_heap.specs.contracts.GlobalAllocator.TheImpl as allocator
 use Rattle.std_heap.proofs.Global.TheLaws as of_global
 use Rattle.rangesync_c.specs.contracts.held.Thing as thing
 use Rattle.rangesync_c.specs.contracts.held.Held as held
-use Rattle.rangesync_c.specs.contracts.held.Place as place
+use Rattle.rangesync_c.specs.contracts.held.Slot as slot
 use Rattle.rangesync_c.proofs.held.Thing.TheLaws as of_thing
 use Rattle.loose.specs.contracts.Loose as loose
 
@@ -42,8 +42,8 @@ loose_name = (loose.struct thing.the_row global.the_row allocator.ghosts).name
 abbrev pub handle_name : Sym
 handle_name = held.struct.name
 
-abbrev pub place_name : Sym
-place_name = place.struct.name
+abbrev pub slot_name : Sym
+slot_name = slot.struct.name
 
 -- the handle's box, and the handle with the parts of a box
 abbrev pub boxed : Handle.Denot → D E
@@ -52,6 +52,6 @@ boxed h = record { ptr = h.at; alloc = h.alloc; value = h.value }
 abbrev pub handle_of : D E → Handle.Denot
 handle_of b = record { at = b.ptr; alloc = b.alloc; value = b.value }
 
--- and the place where a handle is
-abbrev pub place_of : D E → place.the_row.Denot
-place_of b = record { at = b.ptr; alloc = b.alloc; value = Some b.value }
+-- and the slot where a handle is
+abbrev pub slot_of : D E → slot.the_row.Denot
+slot_of b = record { at = b.ptr; alloc = b.alloc; value = Some b.value }

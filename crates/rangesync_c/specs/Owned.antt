@@ -10,7 +10,7 @@ use Rattle.rangesync_c.specs.contracts.held.Thing.{the_row}
 abbrev pub held_owns : Global → Ptr → the_row.Denot → Fml
 held_owns alloc = box_owns (ghosts.dealloc_token alloc) the_row
 
--- and what a place owns: the same once a handle is there, and nothing before
-abbrev pub place_owns : Global → Ptr → Option the_row.Denot → Fml
-place_owns alloc at (Some value) = held_owns alloc at value
-place_owns alloc at None = ftrue
+-- and what a slot owns: the same once a handle is there, and nothing before
+abbrev pub slot_owns : Global → Ptr → Option the_row.Denot → Fml
+slot_owns alloc at (Some value) = held_owns alloc at value
+slot_owns alloc at None = ftrue

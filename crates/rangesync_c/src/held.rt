@@ -2,7 +2,7 @@
 
 ghost use Rattle.std.specs.Prelude.{◌≡◌, ◌≢◌, Option, Some};
 ghost use Rattle.rangesync_c.specs.declared.held.Thing.{Thing};
-ghost use Rattle.rangesync_c.specs.Owned.{held_owns, place_owns};
+ghost use Rattle.rangesync_c.specs.Owned.{held_owns, slot_owns};
 
 use embedded_core::{AnySession, Set, Version};
 use loose::Loose;
@@ -84,23 +84,23 @@ fn for_any_thread<T: Send>(value: T) -> T
 /// Where C has room for a handle. It owns none before one is made there.
 #[repr(C)]
 #[derive(Drop)]
-pub struct Place {
+pub struct Slot {
     at: *mut u8,
     alloc: Global,
     ghost value: { Option Thing },
 }
 
-impl Model for Place {
-    ghost also_owns = { λ p. place_owns p.alloc p.at p.value };
+impl Model for Slot {
+    ghost also_owns = { λ p. slot_owns p.alloc p.at p.value };
 }
 
-impl Place {
-    /// The place of a handle.
-    pub fn of(held: Held) -> Place
+impl Slot {
+    /// The slot that this handle stands in.
+    pub fn of(held: Held) -> Slot
         ensures { result.value ≡ Some held.value }
     {
         let Held { at, alloc } = held;
-        Place {
+        Slot {
             at: at as *mut u8,
             alloc,
         }
@@ -108,13 +108,13 @@ impl Place {
 }
 
 /// Makes a handle where C has room for one.
-pub fn thing_out(alloc: Global, thing: Thing, out: &mut Place) -> u32
+pub fn thing_out(alloc: Global, thing: Thing, out: &mut Slot) -> u32
     ensures made { result ≡ 0 → out.new.value ≡ Some thing }
     ensures failed { result ≢ 0 → (result ≡ 90) × (out.new.value ≡ out.old.value) }
 {
     match Box::new(alloc, thing) {
         Ok(thing) => {
-            *out = Place::of(for_any_thread(Held::of(thing)));
+            *out = Slot::of(for_any_thread(Held::of(thing)));
             0
         }
         Err(_) => 90,

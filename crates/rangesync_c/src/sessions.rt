@@ -10,7 +10,7 @@ ghost use Rattle.rangesync_c.specs.Meaning.{opening_number, profile_number, stat
 ghost use Rattle.rangesync_c.specs.Meaning.{NamesBoth, NamesNone, IsUnopened};
 
 use crate::codes::{FINE, MEMORY, NOT_THERE, OTHER_KIND};
-use crate::held::{Held, Place, Thing, thing_out};
+use crate::held::{Held, Slot, Thing, thing_out};
 use core::mem::replace_with;
 use embedded_core::{AnySession, Opening, WireProfile};
 use std::alloc::{AllocError, Global};
@@ -82,7 +82,7 @@ pub extern "C" fn rs_session_open(
     version: &mut Held,
     role: u32,
     profile: u32,
-    out: &mut Place,
+    out: &mut Slot,
 ) -> u32
     ensures opened { result ≡ 0 → IfVersion version.old.value (λ v. IsSomeAnd out.new.value (λ made.
         IsSession made (λ s. (opening : _) × (wire : _) × (opening_number opening ≡ role)

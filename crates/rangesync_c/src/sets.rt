@@ -10,7 +10,7 @@ ghost use Rattle.rangesync_c.specs.Meaning.{IfStrategy, IfSet, IsSet, IsVersion,
 ghost use Rattle.rangesync_c.specs.Meaning.{IsNoSetIn, IsItemLength, IsNotPut};
 
 use crate::codes::{FINE, MEMORY, NOT_THERE, OTHER_KIND};
-use crate::held::{Held, Place, Thing, thing_out};
+use crate::held::{Held, Slot, Thing, thing_out};
 use crate::items::item_of;
 use core::mem::replace_with;
 use embedded_core::{EmbeddedFault, Set, Version};
@@ -70,7 +70,7 @@ fn owner_at(strategy: &mut Held, number: u32) -> Result<(Arc<Accepted>, ItemForm
 }
 
 /// Makes a handle of a set that was read, or says why there is none.
-fn set_out(alloc: Global, set: Result<Set, EmbeddedFault>, out: &mut Place) -> u32
+fn set_out(alloc: Global, set: Result<Set, EmbeddedFault>, out: &mut Slot) -> u32
     ensures made { result ≡ 0 → IsSomeAnd out.new.value (λ made. IsSet made (λ s. set ≡ Ok s)) }
     ensures refused { IfErr set (λ f. result ≡ embedded_fault_number f) }
     ensures memory { IfOk set (λ _. result ≢ 0 → result ≡ 90) }
@@ -90,7 +90,7 @@ pub extern "C" fn rs_set_read(
     strategy: &mut Held,
     form: u32,
     text: &[u8],
-    out: &mut Place,
+    out: &mut Slot,
 ) -> u32
     ensures read { result ≡ 0 → IfStrategy strategy.old.value (λ a. IsSomeAnd out.new.value (λ made.
         IsSet made (λ s. (kind : _) × (form_number kind ≡ form) × IsSetFrom kind text.now a (Ok s)))) }
@@ -209,7 +209,7 @@ fn version_of(alloc: Global, thing: &Thing) -> Result<Version, u32>
 
 /// Makes a handle of the newest version of a set, which stays as it is. It may be given to another thread.
 #[unsafe(no_mangle)]
-pub extern "C" fn rs_set_share(alloc: Global, set: &mut Held, out: &mut Place) -> u32
+pub extern "C" fn rs_set_share(alloc: Global, set: &mut Held, out: &mut Slot) -> u32
     ensures version { result ≡ 0 → IfSet set.old.value (λ s. IsSomeAnd out.new.value (λ made.
         IsVersion made (λ v. v ≡ newest s))) }
     ensures memory { result ≢ 0 → IfSet set.old.value (λ _. result ≡ 90) }

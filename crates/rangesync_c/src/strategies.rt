@@ -6,7 +6,7 @@ ghost use Rattle.embedded_core.specs.Faults as faults;
 ghost use Rattle.embedded_core.specs.Faults.{embedded_fault_number};
 ghost use Rattle.rangesync_c.specs.Meaning.{IsStrategy, IsRefusal};
 
-use crate::held::{Place, Thing, thing_out};
+use crate::held::{Slot, Thing, thing_out};
 use embedded_core::{EmbeddedFault, read_strategy};
 use std::alloc::Global;
 use std::sync::Arc;
@@ -16,7 +16,7 @@ use strategy_check::Accepted;
 fn strategy_out(
     alloc: Global,
     strategy: Result<Arc<Accepted>, EmbeddedFault>,
-    out: &mut Place,
+    out: &mut Slot,
 ) -> u32
     ensures made { result ≡ 0 → IsSomeAnd out.new.value (λ made. IsStrategy made (λ a.
         IsOkAnd strategy (λ b. arc_value b ≡ a))) }
@@ -33,7 +33,7 @@ fn strategy_out(
 /// Reads the strategy of a TOML text, and checks it. 29 to 35 where it is no strategy, 37, 36 or 38 where it is not
 /// accepted, 90.
 #[unsafe(no_mangle)]
-pub extern "C" fn rs_strategy_read(alloc: Global, text: &[u8], out: &mut Place) -> u32
+pub extern "C" fn rs_strategy_read(alloc: Global, text: &[u8], out: &mut Slot) -> u32
     ensures read { result ≡ 0 → IsSomeAnd out.new.value (λ made. IsStrategy made (λ a.
         faults.IsStrategy (λ b. b) text.now (Ok a))) }
     ensures refused { result ≢ 0 → IsRefusal (faults.IsUnfit text.now) result }

@@ -13,13 +13,13 @@ use Rattle.std.specs.Str.Parse.{IsNumeral, digits_value, without_leading_plus}
 use Rattle.clap.specs.Words.{Row, Text, fault_of, first_of, one_of, subcommand_of}
 use Rattle.settings_core.specs.Program.{program}
 use Rattle.settings_core.specs.Spans.{AreInSpan}
-use Rattle.settings_core.specs.declared.words.Call.{Call}
-use Rattle.settings_core.specs.declared.words.Command.{Command}
+use Rattle.settings_core.specs.declared.commands.Call.{Call}
+use Rattle.settings_core.specs.declared.commands.Command.{Command}
 use Rattle.item_files.specs.declared.form.ItemForm.{ItemForm}
 use Rattle.item_files.specs.declared.form.ItemForm.TheVariants as forms
 use Rattle.item_files.specs.declared.profile.WireProfile.{WireProfile}
 use Rattle.item_files.specs.declared.profile.WireProfile.TheVariants as profiles
-use Rattle.settings_core.specs.declared.words.Command.TheVariants.{Answer, Check, Plan, Sim, Serve, Sync}
+use Rattle.settings_core.specs.declared.commands.Command.TheVariants.{Answer, Check, Plan, Sim, Serve, Sync}
 
 -- the value of an argument
 abbrev pub IsText : Text → List Row → Text → Type 0
@@ -59,54 +59,49 @@ IsAnyText id rows text = text ≡ first_of id rows
 
 -- the values are those of the command
 abbrev pub HasValues : List Row → Command → Type 0
-HasValues rows (Answer hexed form items) = IsFlag (codes "hex") rows hexed
-    × IsFlag (codes "text") rows (is_text form) × IsText (codes "ITEMS") rows items.now
-HasValues rows (Check cost items item_length file) = IsFlag (codes "cost") rows cost
-    × IsNumber (codes "items") rows items × IsNumber (codes "length") rows item_length
-    × IsText (codes "FILE") rows file.now
-HasValues rows (Plan items differences item_length round_trip rate search) = IsNumber (codes "items") rows items
-    × IsNumber (codes "differences") rows differences × IsNumber (codes "length") rows item_length
-    × IsNumber (codes "round-trip") rows round_trip × IsNumber (codes "rate") rows rate
-    × IsNumber (codes "search") rows search
+HasValues rows (Answer w) = IsFlag (codes "hex") rows w.hexed
+    × IsFlag (codes "text") rows (is_text w.form) × IsText (codes "ITEMS") rows w.items.now
+HasValues rows (Check w) = IsFlag (codes "cost") rows w.cost
+    × IsNumber (codes "items") rows w.items × IsNumber (codes "length") rows w.item_length
+    × IsText (codes "FILE") rows w.file.now
+HasValues rows (Plan w) = IsNumber (codes "items") rows w.items
+    × IsNumber (codes "differences") rows w.differences × IsNumber (codes "length") rows w.item_length
+    × IsNumber (codes "round-trip") rows w.round_trip × IsNumber (codes "rate") rows w.rate
+    × IsNumber (codes "search") rows w.search
 HasValues rows Sim = ⊤
-HasValues rows (Serve table address stdio set shards only workers sessions patience most_bytes peers session_seconds
-    memory report learned keep durable most_learned read_only report_items metrics log form items) =
-    IsText (codes "table") rows table.now × IsText (codes "addr") rows address.now
-    × IsFlag (codes "stdio") rows stdio × IsAnyText (codes "set") rows (option_map (λ text. text.now) set)
-    × IsNumber (codes "shards") rows shards × IsAnyText (codes "only") rows (option_map (λ text. text.now) only)
-    × IsNumber (codes "workers") rows (Some workers)
-    × IsNumber (codes "sessions") rows sessions
-    × IsNumber (codes "patience") rows (Some patience) × IsNumber (codes "most-bytes") rows (Some most_bytes)
-    × IsNumber (codes "peers") rows peers × IsNumber (codes "session-seconds") rows session_seconds
-    × IsNumber (codes "memory") rows memory
-    × IsAnyText (codes "report") rows (option_map (λ text. text.now) report)
-    × IsAnyText (codes "learned") rows (option_map (λ text. text.now) learned)
-    × IsAnyText (codes "keep") rows (option_map (λ text. text.now) keep)
-    × IsFlag (codes "durable") rows durable × IsNumber (codes "most-learned") rows most_learned
-    × IsFlag (codes "read-only") rows read_only × IsNumber (codes "report-items") rows report_items
-    × IsAnyText (codes "metrics") rows (option_map (λ text. text.now) metrics) × IsFlag (codes "log") rows log
-    × IsFlag (codes "text") rows (is_text form)
-    × IsAnyText (codes "ITEMS") rows (option_map (λ text. text.now) items)
-HasValues rows (Sync table address stdio set shards only at_once out profile patience most_bytes stats form items) =
-    IsText (codes "table") rows table.now × IsText (codes "addr") rows address.now
-    × IsFlag (codes "stdio") rows stdio × IsAnyText (codes "set") rows (option_map (λ text. text.now) set)
-    × IsNumber (codes "shards") rows shards × IsAnyText (codes "only") rows (option_map (λ text. text.now) only)
-    × IsNumber (codes "at-once") rows at_once
-    × IsAnyText (codes "out") rows (option_map (λ text. text.now) out)
-    × IsNumber (codes "profile") rows (Some (profile_number profile))
-    × IsNumber (codes "patience") rows (Some patience) × IsNumber (codes "most-bytes") rows (Some most_bytes)
-    × IsFlag (codes "stats") rows stats × IsFlag (codes "text") rows (is_text form)
-    × IsText (codes "ITEMS") rows items.now
+HasValues rows (Serve w) = IsText (codes "table") rows w.table.now × IsText (codes "addr") rows w.address.now
+    × IsFlag (codes "stdio") rows w.stdio × IsAnyText (codes "set") rows (option_map (λ text. text.now) w.set)
+    × IsNumber (codes "shards") rows w.shards × IsAnyText (codes "only") rows (option_map (λ text. text.now) w.only)
+    × IsNumber (codes "workers") rows (Some w.workers)
+    × IsNumber (codes "sessions") rows w.sessions
+    × IsNumber (codes "patience") rows (Some w.patience) × IsNumber (codes "most-bytes") rows (Some w.most_bytes)
+    × IsNumber (codes "peers") rows w.peers × IsNumber (codes "session-seconds") rows w.session_seconds
+    × IsNumber (codes "memory") rows w.memory
+    × IsAnyText (codes "report") rows (option_map (λ text. text.now) w.report)
+    × IsAnyText (codes "learned") rows (option_map (λ text. text.now) w.learned)
+    × IsAnyText (codes "keep") rows (option_map (λ text. text.now) w.keep)
+    × IsFlag (codes "durable") rows w.durable × IsNumber (codes "most-learned") rows w.most_learned
+    × IsFlag (codes "read-only") rows w.read_only × IsNumber (codes "report-items") rows w.report_items
+    × IsAnyText (codes "metrics") rows (option_map (λ text. text.now) w.metrics) × IsFlag (codes "log") rows w.log
+    × IsFlag (codes "text") rows (is_text w.form)
+    × IsAnyText (codes "ITEMS") rows (option_map (λ text. text.now) w.items)
+HasValues rows (Sync w) = IsText (codes "table") rows w.table.now × IsText (codes "addr") rows w.address.now
+    × IsFlag (codes "stdio") rows w.stdio × IsAnyText (codes "set") rows (option_map (λ text. text.now) w.set)
+    × IsNumber (codes "shards") rows w.shards × IsAnyText (codes "only") rows (option_map (λ text. text.now) w.only)
+    × IsNumber (codes "at-once") rows w.at_once
+    × IsAnyText (codes "out") rows (option_map (λ text. text.now) w.out)
+    × IsNumber (codes "profile") rows (Some (profile_number w.profile))
+    × IsNumber (codes "patience") rows (Some w.patience) × IsNumber (codes "most-bytes") rows (Some w.most_bytes)
+    × IsFlag (codes "stats") rows w.stats × IsFlag (codes "text") rows (is_text w.form)
+    × IsText (codes "ITEMS") rows w.items.now
 
 abbrev pub name_of : Command → Text
-name_of (Answer hexed form items) = codes "answer"
-name_of (Check cost items item_length file) = codes "check"
-name_of (Plan items differences item_length round_trip rate search) = codes "plan"
+name_of (Answer w) = codes "answer"
+name_of (Check w) = codes "check"
+name_of (Plan w) = codes "plan"
 name_of Sim = codes "sim"
-name_of (Serve table address stdio set shards only workers sessions patience most_bytes peers session_seconds memory
-    report learned keep durable most_learned read_only report_items metrics log form items) = codes "serve"
-name_of (Sync table address stdio set shards only at_once out profile patience most_bytes stats form items) =
-    codes "sync"
+name_of (Serve w) = codes "serve"
+name_of (Sync w) = codes "sync"
 
 abbrev pub AsksFor : Text → List Row → Command → Type 0
 AsksFor name rows c = (name_of c ≡ name) × HasValues rows c × AreInSpan c

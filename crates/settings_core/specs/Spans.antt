@@ -4,8 +4,8 @@
 --     IsWithin least most n  the number is in this span
 --     IsAnyGiven x y         one of the two is given, or both are
 use Rattle.std.specs.Prelude.{ℕ, ◌≤◌, IfSome, Option, Some, None, ⊤}
-use Rattle.settings_core.specs.declared.words.Command.{Command}
-use Rattle.settings_core.specs.declared.words.Command.TheVariants.{Answer, Check, Plan, Sim, Serve, Sync}
+use Rattle.settings_core.specs.declared.commands.Command.{Command}
+use Rattle.settings_core.specs.declared.commands.Command.TheVariants.{Answer, Check, Plan, Sim, Serve, Sync}
 
 abbrev pub IsWithin : ℕ → ℕ → ℕ → Type 0
 IsWithin least most n = (least ≤ n) × (n ≤ most)
@@ -83,16 +83,15 @@ IsAnyGiven None (Some y) = ⊤
 IsAnyGiven (Some x) y = ⊤
 
 abbrev pub AreInSpan : Command → Type 0
-AreInSpan (Answer hexed form items) = ⊤
-AreInSpan (Check cost items item_length file) = IfSome items IsItemCount × IfSome item_length IsItemLength
-AreInSpan (Plan items differences item_length round_trip rate search) = IfSome items IsItemCount
-    × IfSome differences IsDifferenceCount × IfSome item_length IsItemLength × IfSome round_trip IsRoundTrip
-    × IfSome rate IsRate × IfSome search IsSearch
+AreInSpan (Answer w) = ⊤
+AreInSpan (Check w) = IfSome w.items IsItemCount × IfSome w.item_length IsItemLength
+AreInSpan (Plan w) = IfSome w.items IsItemCount × IfSome w.differences IsDifferenceCount
+    × IfSome w.item_length IsItemLength × IfSome w.round_trip IsRoundTrip × IfSome w.rate IsRate
+    × IfSome w.search IsSearch
 AreInSpan Sim = ⊤
-AreInSpan (Serve table address stdio set shards only workers sessions patience most_bytes peers session_seconds memory
-    report learned keep durable most_learned read_only report_items metrics log form items) =
-    IfSome shards IsShardBits × IsWorkerCount workers × IfSome sessions IsSessionCount × IsPatience patience
-    × IsByteCount most_bytes × IfSome peers IsPeerCount × IfSome session_seconds IsSessionTime × IfSome memory IsMemory
-    × IfSome most_learned IsLearnedCount × IfSome report_items IsReportedCount × IsAnyGiven keep items
-AreInSpan (Sync table address stdio set shards only at_once out profile patience most_bytes stats form items) =
-    IfSome shards IsShardBits × IfSome at_once IsAtOnce × IsPatience patience × IsByteCount most_bytes
+AreInSpan (Serve w) = IfSome w.shards IsShardBits × IsWorkerCount w.workers × IfSome w.sessions IsSessionCount
+    × IsPatience w.patience × IsByteCount w.most_bytes × IfSome w.peers IsPeerCount
+    × IfSome w.session_seconds IsSessionTime × IfSome w.memory IsMemory × IfSome w.most_learned IsLearnedCount
+    × IfSome w.report_items IsReportedCount × IsAnyGiven w.keep w.items
+AreInSpan (Sync w) = IfSome w.shards IsShardBits × IfSome w.at_once IsAtOnce × IsPatience w.patience
+    × IsByteCount w.most_bytes

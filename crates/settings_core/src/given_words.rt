@@ -5,12 +5,12 @@ ghost use Rattle.clap.specs.Words.{first_of, found_of, rows_of, subcommand_rows_
 ghost use Rattle.settings_core.specs.Calls.{AsksFor, CallsFor, Finds, IsFlag, IsNumber, is_text, profile_number};
 ghost use Rattle.settings_core.specs.Spans.{IsLearnedCount, IsReportedCount, IsWithin, IsWorkerCount};
 
+use crate::commands::{AnswerWords, Call, CheckWords, Command, PlanWords, ServeWords, SyncWords};
 use crate::known_words::{
     MAX_AT_ONCE, MAX_ITEM_LENGTH, MAX_ITEMS, MAX_MEMORY, MAX_PATIENCE, MAX_PEERS, MAX_RATE,
     MAX_ROUND_TRIP, MAX_SEARCH, MAX_SESSION_SECONDS, MAX_SESSIONS, MAX_SHARD_BITS, MAX_WORKERS,
     MIN_BYTES, MIN_ITEM_LENGTH,
 };
-use crate::words::{Call, Command};
 use clap::ArgMatches;
 use item_files::{ItemForm, WireProfile};
 
@@ -100,37 +100,37 @@ fn form_in(matches: &ArgMatches<'_>) -> ItemForm
 fn answer_in<'a>(matches: &ArgMatches<'a>) -> Option<Command<'a>>
     ensures { Finds (AsksFor (codes "answer") (rows_of (found_of matches.now))) result }
 {
-    Some(Command::Answer {
+    Some(Command::Answer(AnswerWords {
         hexed: flag_in(matches, "hex"),
         form: form_in(matches),
         items: text_in(matches, "ITEMS")?,
-    })
+    }))
 }
 
 /// What the words of `check` ask for.
 fn check_in<'a>(matches: &ArgMatches<'a>) -> Option<Command<'a>>
     ensures { Finds (AsksFor (codes "check") (rows_of (found_of matches.now))) result }
 {
-    Some(Command::Check {
+    Some(Command::Check(CheckWords {
         cost: flag_in(matches, "cost"),
         items: number_in(matches, "items", 1, MAX_ITEMS)?,
         item_length: number_in(matches, "length", MIN_ITEM_LENGTH, MAX_ITEM_LENGTH)?,
         file: text_in(matches, "FILE")?,
-    })
+    }))
 }
 
 /// What the words of `plan` ask for.
 fn plan_in<'a>(matches: &ArgMatches<'a>) -> Option<Command<'a>>
     ensures { Finds (AsksFor (codes "plan") (rows_of (found_of matches.now))) result }
 {
-    Some(Command::Plan {
+    Some(Command::Plan(PlanWords {
         items: number_in(matches, "items", 1, MAX_ITEMS)?,
         differences: number_in(matches, "differences", 0, MAX_ITEMS)?,
         item_length: number_in(matches, "length", MIN_ITEM_LENGTH, MAX_ITEM_LENGTH)?,
         round_trip: number_in(matches, "round-trip", 0, MAX_ROUND_TRIP)?,
         rate: number_in(matches, "rate", 1, MAX_RATE)?,
         search: number_in(matches, "search", 1, MAX_SEARCH)?,
-    })
+    }))
 }
 
 /// What the words of `serve` ask for: nothing, where neither ITEMS nor a file that keeps the set is given.
@@ -142,7 +142,7 @@ fn serve_in<'a>(matches: &ArgMatches<'a>) -> Option<Command<'a>>
     if keep.is_none() && items.is_none() {
         return None;
     }
-    Some(Command::Serve {
+    Some(Command::Serve(ServeWords {
         table: text_in(matches, "table")?,
         address: text_in(matches, "addr")?,
         stdio: flag_in(matches, "stdio"),
@@ -167,29 +167,29 @@ fn serve_in<'a>(matches: &ArgMatches<'a>) -> Option<Command<'a>>
         log: flag_in(matches, "log"),
         form: form_in(matches),
         items,
-    })
+    }))
 }
 
 /// What the words of `sync` ask for.
 fn sync_in<'a>(matches: &ArgMatches<'a>) -> Option<Command<'a>>
     ensures { Finds (AsksFor (codes "sync") (rows_of (found_of matches.now))) result }
 {
-    Some(Command::Sync {
+    Some(Command::Sync(SyncWords {
         table: text_in(matches, "table")?,
         address: text_in(matches, "addr")?,
         stdio: flag_in(matches, "stdio"),
-        out: text_in(matches, "out"),
         set: text_in(matches, "set"),
         shards: number_in(matches, "shards", 0, MAX_SHARD_BITS)?,
         only: text_in(matches, "only"),
         at_once: number_in(matches, "at-once", 1, MAX_AT_ONCE)?,
+        out: text_in(matches, "out"),
         profile: profile_in(matches)?,
         patience: default_in(matches, "patience", 1, MAX_PATIENCE)?,
         most_bytes: default_in(matches, "most-bytes", MIN_BYTES, u32::MAX)?,
         stats: flag_in(matches, "stats"),
         form: form_in(matches),
         items: text_in(matches, "ITEMS")?,
-    })
+    }))
 }
 
 /// What the command of this name, with these values, is asked to do.

@@ -10,7 +10,7 @@ use crate::arguments::{Argument, command_of, with_arguments};
 use std::alloc::{AllocError, Global};
 
 /// The version of the program.
-pub const VERSION: &str = "0.1.0";
+pub const VERSION: &str = "0.2.0";
 
 /// The greatest number of workers.
 pub(crate) const MAX_WORKERS: u8 = 16;

@@ -3,6 +3,7 @@
 
 mod addresses;
 mod arguments;
+mod commands;
 mod given_words;
 mod known_words;
 mod shard_words;
@@ -11,6 +12,7 @@ mod stdio_words;
 mod words;
 
 pub use addresses::{Address, DEFAULT_ADDRESS, address_of};
+pub use commands::{AnswerWords, Call, CheckWords, Command, PlanWords, ServeWords, SyncWords};
 pub use item_files::{
     ItemForm, SettingsFault, WireProfile, has_byte_order_mark, item_of, item_set, read_input_items,
     read_items, read_strategy,
@@ -19,4 +21,4 @@ pub use known_words::VERSION;
 pub use shard_words::{ShardFlaw, ShardWords, sharding_of};
 pub use sharding::Sharding;
 pub use stdio_words::{StdioFlaw, StdioWords, stdio_flaw};
-pub use words::{Call, Command, WordsFault, read_words};
+pub use words::{WordsFault, read_words};

@@ -1,6 +1,6 @@
--- `Place::of` writes the two words of a handle where C has room for one. What a place owns once a handle is there is
+-- `Slot::of` writes the two words of a handle where C has room for one. What a slot owns once a handle is there is
 -- what the handle owned, which is what a box owns, and the code only moves the words (`remakes`). That a handle is
--- there, and of which value, is what the walk says of the place that it makes.
+-- there, and of which value, is what the walk says of the slot that it makes.
 use mathlib.Core.List.{List, [], ◌∷◌}
 use mathlib.Core.Path.{◌≡◌, refl, ap}
 use seplogic.Ra.Ura.{Ura}
@@ -24,11 +24,11 @@ use Rattle.std.specs.Prelude.{Some}
 use Rattle.std.proofs.raw_atomic.Walks.{proved_at}
 use Rattle.std_alloc.proofs.BoxSteps.Form.{D, word}
 use Rattle.loose.proofs.AsBox.{Owns, in_one_word, from_the_word}
-use Rattle.rangesync_c.proofs.ThingBox.{E, Handle, boxed, place_of, handle_name, place_name}
+use Rattle.rangesync_c.proofs.ThingBox.{E, Handle, boxed, slot_of, handle_name, slot_name}
 use Rattle.rangesync_c.proofs.Remade.{remakes}
-use Rattle.rangesync_c.specs.contracts.held.Place.of as f
-use Rattle.rangesync_c.proofs.held.Place.of.Statement.{statement}
-use Rattle.rangesync_c.proofs.held.Place.of.Code as code
+use Rattle.rangesync_c.specs.contracts.held.Slot.of as f
+use Rattle.rangesync_c.proofs.held.Slot.of.Statement.{statement}
+use Rattle.rangesync_c.proofs.held.Slot.of.Code as code
 
 abbrev stayed : Stays f.ended.signature.params f.ended.kept
 stayed = (stay_dropped (plain (λ _. Handle)) yes, tt)
@@ -46,7 +46,7 @@ module _ {M : Type 1} {𝓤 : Ura M} (𝓛 : Logic 𝓤) (𝓜 : Model 𝓤 𝓛
   left : (y : W.Ghost) (d : D E) (w : Val) → d.value ≡ y.0.3.0.value → ent 𝓤 (sem 𝓛 (Owns E d (w ∷ []))) (W.post y w)
   left y d w same =
       qed 𝓛 (‵ (Owns E d (w ∷ [])) ∷ []) ∵
-      suffices ! _ (ends_at 𝓛 f.ended stayed c y w (place_of d) (tt, tt) (tt, tt)) $ says ! (ap Some same) $
+      suffices ! _ (ends_at 𝓛 f.ended stayed c y w (slot_of d) (tt, tt) (tt, tt)) $ says ! (ap Some same) $
       nothing ! $ nothing ! $ fjoin ! $ join ! $ nothing ! $ join ! $ done !
 
   moved : (y : W.Ghost) → ent 𝓤 (W.pre y) (WpFn 𝓤 𝓛.H 𝓣.C 𝓣.Λ code.function (W.args y) (W.post y))
@@ -58,7 +58,7 @@ module _ {M : Type 1} {𝓤 : Ura M} (𝓛 : Logic 𝓤) (𝓜 : Model 𝓤 𝓛
       in_one_word E ! v y.0.4.0 (λ b o h is fits.
       let d : D E = record v { ptr = block_ptr b o } in
       from_the_word ! Run is $ keep ! (0 ∷ []) $
-      by ! (remakes 𝓛 𝓣.C 𝓣.Λ place_name handle_name b o h fits (Owns E d (word E h b o ∷ [])) (W.post y)
+      by ! (remakes 𝓛 𝓣.C 𝓣.Λ slot_name handle_name b o h fits (Owns E d (word E h b o ∷ [])) (W.post y)
       (left y d (word E h b o) refl)))
 
 pub of_spec : {M : Type 1} → statement M
