@@ -11,7 +11,7 @@ use crate::support::frames::{
 use crate::support::letters::{item, items};
 use crate::support::tables::{BINARY_EIGHT, accepted};
 use item_core::Item;
-use peer_threads::{Report, Shared, Source, SourceFault, run_workers};
+use peer_threads::{Shared, Source, SourceFault, WorkersReport, run_workers};
 use range_tree::Tree;
 use session_table::SessionTable;
 use std::alloc::Global;
@@ -112,7 +112,7 @@ fn worked<T: Threads + Wait + Abort + Sync>(
     next_writer: u64,
     peers: &Peers<'_>,
     workers: u8,
-) -> Result<(Report, Log<Tree>), Fail> {
+) -> Result<(WorkersReport, Log<Tree>), Fail> {
     assert!(rt; 1 <= workers && workers <= 16);
     let accepted = accepted(rt, alloc, BINARY_EIGHT);
     let (lock, mut seat) = opened(rt, alloc, &accepted, items, next_writer);
@@ -171,8 +171,8 @@ const NOTHING: Kept = Kept {
 };
 
 /// Compares a report.
-fn reports(rt: &impl Abort, report: Report, started: u8, fault: Option<SourceFault>) {
-    assert_eq!(rt; report, Report { started, fault });
+fn reports(rt: &impl Abort, report: WorkersReport, started: u8, fault: Option<SourceFault>) {
+    assert_eq!(rt; report, WorkersReport { started, fault });
 }
 
 /// Compares how many entries the log has, one at least, and the last of them.

@@ -2,11 +2,12 @@
 
 use crate::support::letters::{item, items};
 use crate::support::tables::checked;
+use ends_core::Side;
 use item_core::Item;
 use std::alloc::Global;
 use std::process::Abort;
 use std::test::Fail;
-use world_core::{Did, Lists, Report, Setup, Side, Step, World, run};
+use world_core::{Did, Lists, Report, Setup, Step, World, run};
 
 const HALVES: &[u8] =
     b"cap = 16\nlimit = 1\nrounds = 4\nrow = [{upto = 1, list = true}, {upto = 16, split = [1, 1]}]";

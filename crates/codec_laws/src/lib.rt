@@ -21,6 +21,15 @@ pub fn reads_are_bytes()
     ensures { (bytes : List ℕ) → IsBytes bytes ↔ ((i : ℕ) → slice_index bytes i < 256) }
 {}
 
+/// Each number of these bytes is below 256.
+/// docs/LAWS.md: *Marks*.
+pub fn are_bytes(bytes: &[u8])
+    ensures { IsBytes bytes.now }
+{
+    reads_are_bytes();
+    let _ = bytes;
+}
+
 /// A lower bound is read exactly if one is spelled, and otherwise its fault is.
 /// docs/LAWS.md: *Reading is exact*.
 #[tactic(auto, using(crate::proofs::Messages::lower_exact))]

@@ -1,5 +1,5 @@
 ghost use Rattle.std.specs.Prelude.{◌≡◌, ◌++◌, List, length};
-ghost use Rattle.std.specs.Int.{w128, from_be_bytes};
+ghost use Rattle.std.specs.Int.{w64, w128, from_be_bytes, to_be_bytes};
 ghost use Rattle.definitions.specs.Items as items;
 ghost use Rattle.definitions.specs.Fingerprints.{join_lanes, two_lanes};
 ghost use Rattle.definitions.specs.Wire.{IsFingerprint, lanes_text, lanes_read, two_lane_profile};
@@ -31,14 +31,36 @@ impl Model for Fingerprint {
     ghost inverse = { λ f. record { first = f.first; second = f.second } };
 }
 
+/// 2 to the power of 64. A lane is read and written by halves: each is turned round by one instruction, where the bytes
+/// of a `u128` are taken one by one.
+const HALF: u128 = 18_446_744_073_709_551_616;
+
+/// The number that 8 bytes spell, the highest first.
+fn half(bytes: &[u8]) -> u64
+    requires { length bytes.now ≡ 8 }
+    ensures { result ≡ from_be_bytes w64 bytes.now }
+{
+    let mut own = [0u8; 8];
+    own.copy_from_slice(bytes);
+    u64::from_be_bytes(own)
+}
+
 /// The number that 16 bytes spell, the highest first.
 fn lane(bytes: &[u8]) -> u128
     requires { length bytes.now ≡ 16 }
     ensures { result ≡ from_be_bytes w128 bytes.now }
 {
-    let mut own = [0u8; 16];
-    own.copy_from_slice(bytes);
-    u128::from_be_bytes(own)
+    u128::from(half(&bytes[..8])) * HALF + u128::from(half(&bytes[8..]))
+}
+
+/// The 16 bytes of a number, the highest first.
+fn lane_bytes(lane: u128) -> [u8; 16]
+    ensures { result ≡ to_be_bytes w128 lane }
+{
+    let mut bytes = [0u8; 16];
+    bytes[..8].copy_from_slice(&((lane / HALF) as u64).to_be_bytes());
+    bytes[8..].copy_from_slice(&((lane % HALF) as u64).to_be_bytes());
+    bytes
 }
 
 impl Fingerprint {
@@ -48,8 +70,8 @@ impl Fingerprint {
         ensures spelled { IsFingerprint two_lane_profile self }
     {
         let mut bytes = [0u8; 32];
-        bytes[..16].copy_from_slice(&self.first.to_be_bytes());
-        bytes[16..].copy_from_slice(&self.second.to_be_bytes());
+        bytes[..16].copy_from_slice(&lane_bytes(self.first));
+        bytes[16..].copy_from_slice(&lane_bytes(self.second));
         bytes
     }
 

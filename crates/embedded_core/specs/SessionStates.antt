@@ -1,6 +1,6 @@
 -- A session in either role and profile, and what calls make of it: each relation is the one of session_core, in the
 -- session's own profile.
---     Opens v opening profile s      a session over a version, in this role and profile, to which nothing was pushed:
+--     Opens v side profile s      a session over a version, in this role and profile, to which nothing was pushed:
 --                                    it is open, and it listens
 --     Changes s t R                  both are of one role and profile, and R holds of them
 --     Listens c d                    the one still hears its peer where the other did
@@ -19,8 +19,8 @@ use Rattle.session_core.specs.declared.state.State.{State}
 use Rattle.embedded_core.specs.SetStates.{VersionState}
 use Rattle.embedded_core.specs.declared.any_session.AnySession.{AnySession}
 use Rattle.embedded_core.specs.declared.any_session.AnySession.TheVariants as any
-use Rattle.embedded_core.specs.declared.any_session.Opening.{Opening}
-use Rattle.embedded_core.specs.declared.any_session.Opening.TheVariants as openings
+use Rattle.ends_core.specs.declared.side.Side.{Side}
+use Rattle.ends_core.specs.declared.side.Side.TheVariants as sides
 use Rattle.item_files.specs.declared.profile.WireProfile.{WireProfile}
 use Rattle.item_files.specs.declared.profile.WireProfile.TheVariants as profiles
 
@@ -82,14 +82,14 @@ TakesOff count F S W c d = Takes S W c (take count c.talk.outbox.ready) d × Lis
 abbrev pub Pulls : List ℕ → Relation
 Pulls bytes F S W c d = Takes S W c bytes d × Listens c d
 
-abbrev pub Opens : VersionState → Opening → WireProfile → AnySession → Type 0
-Opens v openings.Initiator profiles.One s = IsFirst s (λ c.
+abbrev pub Opens : VersionState → Side → WireProfile → AnySession → Type 0
+Opens v sides.Initiator profiles.One s = IsFirst s (λ c.
     Begins two_lanes two_lane_profile v.accepted (initiating two_lanes (peer_of v.accepted v.items)) c)
-Opens v openings.Responder profiles.One s = IsSecond s (λ c.
+Opens v sides.Responder profiles.One s = IsSecond s (λ c.
     Begins two_lanes two_lane_profile v.accepted (responding (peer_of v.accepted v.items)) c)
-Opens v openings.Initiator profiles.Two s = IsFirstCounted s (λ c.
+Opens v sides.Initiator profiles.Two s = IsFirstCounted s (λ c.
     Begins counted_lanes counted_profile v.accepted (initiating counted_lanes (peer_of v.accepted v.items)) c)
-Opens v openings.Responder profiles.Two s = IsSecondCounted s (λ c.
+Opens v sides.Responder profiles.Two s = IsSecondCounted s (λ c.
     Begins counted_lanes counted_profile v.accepted (responding (peer_of v.accepted v.items)) c)
 
 abbrev pub ready_of : AnySession → List ℕ

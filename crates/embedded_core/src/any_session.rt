@@ -11,20 +11,11 @@ ghost use Rattle.session_core.specs.declared.state.State.TheVariants as states;
 
 use crate::set::Version;
 use digest_core::{Counted, Fingerprint, Summary};
-use ends_core::{Initiating, Learned, Responding};
+use ends_core::{Initiating, Learned, Responding, Side};
 use item_files::WireProfile;
 use range_tree::Tree;
 use session_core::{Session, State};
 use std::alloc::{AllocError, Global};
-
-/// Which side of a session speaks first.
-#[derive(Clone, Copy, Debug, PartialEq, Eq)]
-pub enum Opening {
-    /// This one.
-    Initiator,
-    /// The other one.
-    Responder,
-}
 
 /// A session in either role and in either profile.
 #[derive(Drop)]
@@ -74,17 +65,17 @@ impl AnySession {
     pub fn open(
         alloc: Global,
         version: Version,
-        opening: Opening,
+        side: Side,
         profile: WireProfile,
     ) -> Result<AnySession, AllocError>
-        ensures { IfOk result (λ s. Opens version opening profile s) }
+        ensures { IfOk result (λ s. Opens version side profile s) }
     {
-        Ok(match opening {
-            Opening::Initiator => match profile {
+        Ok(match side {
+            Side::Initiator => match profile {
                 WireProfile::One => AnySession::First(first(alloc, version)?),
                 WireProfile::Two => AnySession::FirstCounted(first(alloc, version)?),
             },
-            Opening::Responder => match profile {
+            Side::Responder => match profile {
                 WireProfile::One => AnySession::Second(second(alloc, version)?),
                 WireProfile::Two => AnySession::SecondCounted(second(alloc, version)?),
             },

@@ -7,7 +7,7 @@ mod fault;
 mod set;
 mod strategy;
 
-pub use any_session::{AnySession, Opening};
+pub use any_session::AnySession;
 pub use between::range_between;
 pub use fault::EmbeddedFault;
 pub use item_files::WireProfile;

@@ -7,6 +7,7 @@
 --     CountsSo p q now result             when it was heard, and how many bytes came since our last message
 --     IsChosen stage came                 the session is of the profile that these bytes choose
 --     Opens P old new                     the session of a greeting was opened
+--     version_after stage was given       the version that a peer's session speaks of then
 --     kept_in, sent_in, bound_in          what it keeps in memory, how many messages were said to it, and may be
 --     owes, state_in, goes_on, Learns     whether text is made and not written, how its session stands, whether it goes
 --                                         on, and what it has learned
@@ -87,6 +88,12 @@ abbrev pub Opens : Peer → Stage → Stage → Type 0
 Opens P (stages.Greeting g) new = Knowing P new g.came (told g) × IsChosen new g.came
 Opens P (stages.Plain c) new = new ≡ stages.Plain c
 Opens P (stages.Counted c) new = new ≡ stages.Counted c
+
+-- a session that is opened speaks of this version, and one that was open of the one it spoke of
+abbrev pub version_after : Stage → ℕ → ℕ → ℕ
+version_after (stages.Greeting g) was given = given
+version_after (stages.Plain c) was given = was
+version_after (stages.Counted c) was given = was
 
 -- ---- what a peer has
 

@@ -10,7 +10,7 @@ ghost use Rattle.range_tree.specs.Trees.{tree_items};
 ghost use Rattle.hub_core.specs.Hubs as hubs;
 ghost use Rattle.hub_core.specs.Hubs.{OthersStay, held_by, kept, silence};
 ghost use Rattle.hub_core.specs.Totals.{IsMost};
-ghost use Rattle.hub_core.specs.Peers.{CountsSo, GoesSo, LeavesOff, Opens};
+ghost use Rattle.hub_core.specs.Peers.{CountsSo, GoesSo, LeavesOff, Opens, version_after};
 
 use crate::best::{Measure, better};
 use crate::limits::HubLimits;
@@ -193,6 +193,8 @@ impl<I: Read, O: Write> Hub<I, O> {
         ensures opens { IfSome result (λ did. OnOk did ((p q : _) → get self.old.peers key ≡ Some p →
             get self.new.peers key ≡ Some q →
             Opens (peer_of (arc_value accepted.now) (tree_items store)) p.stage q.stage)) }
+        ensures version { IfSome result (λ did. OnOk did ((p q : _) → get self.old.peers key ≡ Some p →
+            get self.new.peers key ≡ Some q → q.version ≡ version_after p.stage p.version version)) }
         ensures memory { IfSome result (λ did. OnErr did (get self.new.peers key ≡ get self.old.peers key)) }
         ensures there { IsSome (get self.new.peers key) ↔ IsSome (get self.old.peers key) }
         ensures others { OthersStay self.old.peers self.new.peers key }

@@ -7,7 +7,7 @@ ghost use Rattle.std.specs.Io.Take.{take_inner, take_limit, take_remaining};
 ghost use Rattle.ends_core.specs.Sides.{peer_of};
 ghost use Rattle.range_tree.specs.Trees.{tree_items};
 ghost use Rattle.hub_core.specs.Peers.{CountsSo, GoesSo, IsFresh, LeavesOff, Learns, Opens, heard_by, kept_in};
-ghost use Rattle.hub_core.specs.Peers.{long_by, sent_in, state_in, woken};
+ghost use Rattle.hub_core.specs.Peers.{long_by, sent_in, state_in, version_after, woken};
 
 use crate::greeting::Greeting;
 use crate::opening::opened;
@@ -241,6 +241,7 @@ impl<I: Read, O: Write> Peer<I, O> {
         requires { length (tree_items store) ≤ (arc_value accepted.now).table.cap }
         ensures opens { OnOk result (Opens (peer_of (arc_value accepted.now) (tree_items store)) self.old.stage
             self.new.stage) }
+        ensures version { OnOk result (self.new.version ≡ version_after self.old.stage self.old.version version) }
         ensures same { self.new ≡ record self.old { stage = self.new.stage; version = self.new.version } }
         ensures memory { OnErr result (self.new ≡ self.old) }
     {

@@ -1,10 +1,11 @@
 -- What is read and written in turns.
 use Rattle.std.proofs.Common.{◌≡◌, Bool, false, zero, suc, ◌<◌, arith, rules, List, [], ◌++◌, ℕ, ◌+◌, ◌-◌, length, take}
-use Rattle.std.proofs.Common.{drop, Option, Some, None, refl, sym, ap, ◌∙◌, append_assoc}
+use Rattle.std.proofs.Common.{drop, Option, Some, None, refl, sym, ap, subst, ◌∙◌, append_assoc}
 use Rattle.std.specs.Prelude.{◌||◌, ◌&&◌, ◌==◌}
 use Rattle.std.specs.Io.KnownBytes.{Consumes, Appends}
 use Rattle.std.proofs.Math.Seq.{take-add}
 use Rattle.std.proofs.lemmas.List.{take_rest}
+use Rattle.io_core.specs.Inputs.{ReadsMore}
 
 -- nothing was read
 pub consumes_nothing : (a : Option (List ℕ)) → Consumes a a []
@@ -18,6 +19,12 @@ consumes_more None b c xs ys p q = tt
 consumes_more (Some a) None c xs ys p q = absurd p
 consumes_more (Some a) (Some b) None xs ys p q = absurd q
 consumes_more (Some a) (Some b) (Some c) xs ys p q = p ∙ ap (λ (l : List ℕ). xs ++ l) q ∙ sym (append_assoc xs ys c)
+
+-- .. by one read
+pub read_on : (a b c : Option (List ℕ)) (before after : List ℕ) (n : ℕ) → Consumes a b before →
+    ReadsMore b c before after n → Consumes a c after
+read_on a b c before after n p more =
+    subst (Consumes a c) (sym more.follows) (consumes_more a b c before more.front p more.read)
 
 -- two appends, of the first i bytes and of the n after them, are one of i + n
 pub appends_more : (a b c : Option (List ℕ)) (bs : List ℕ) (i n : ℕ) → Appends a b (take i bs) →

@@ -1,7 +1,6 @@
 //! Reading files.
 
 ghost use Rattle.std.specs.Prelude.{IfOk, IfErr};
-ghost use Rattle.definitions.specs.Items.{IsBytes};
 ghost use Rattle.item_files.specs.Files.{IsFileText, IsAllOf, IsUnread};
 
 use crate::fault::SettingsFault;
@@ -11,14 +10,6 @@ use std::alloc::Global;
 use std::io::Read;
 use std::rt::Files;
 use std::{fs, io};
-
-/// Tells that each number of the bytes is below 256; nothing is done.
-fn are_bytes(bytes: &[u8])
-    ensures { IsBytes bytes.now }
-{
-    codec_laws::reads_are_bytes();
-    let _ = bytes;
-}
 
 /// Why an input was not read: what its reader said, or that it is too long.
 fn unread(fault: InputFault, said: Option<ReadFault>) -> SettingsFault
@@ -43,7 +34,7 @@ pub fn read_text<R: Read + Drop>(alloc: Global, reader: R) -> Result<Vec<u8>, Se
     });
     match read_input(alloc, &mut reader) {
         Ok(text) => {
-            are_bytes(&text);
+            codec_laws::are_bytes(&text);
             Ok(text)
         }
         Err(fault) => Err(unread(fault, reader.into_inner().fault)),

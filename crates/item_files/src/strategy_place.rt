@@ -3,17 +3,15 @@
 //! The tests are those of `strategy_core`, in their order. Nothing is made of what they read: they say of a row whether
 //! it is refused, and the first one that is refused is the place.
 
-ghost use Rattle.std.specs.Prelude.{◌≡◌, ◌≤◌, IfOk, length, option_map};
+ghost use Rattle.std.specs.Prelude.{◌≡◌, option_map};
 ghost use Rattle.toml.specs.View.{table_view, view, array_view};
-ghost use Rattle.toml.specs.Data.{get_member, as_table};
-ghost use Rattle.strategy_core.specs.Texts.{number_in, number_at, member_at, weights_in, few_in, array_in, split_in};
-ghost use Rattle.strategy_core.specs.Texts.{list_in, peel_in, act_at, row_in, upto_in};
-ghost use Rattle.strategy_core.specs.Refused.{GivesField};
+ghost use Rattle.toml.specs.Data.{as_table};
+ghost use Rattle.strategy_core.specs.Texts.{weights_in, split_in, list_in, peel_in, act_at, row_in};
 ghost use Rattle.item_files.specs.StrategyFlaws.{Judges, JudgesRow, whole, headed, span, number_span, row_place};
 ghost use Rattle.item_files.specs.StrategyFlaws.{rows_place, rows_at, placed, flaw_in};
 
 use crate::strategy_flaw::{Key, NumberSpan, StrategyFlaw};
-use strategy_core::{Field, StrategyFault};
+use strategy_core::{Field, StrategyFault, few_of, member, number, number_of, upto_of};
 use toml::value::{Array, Table, Value};
 
 /// The greatest cap of a strategy.
@@ -22,70 +20,11 @@ const MAX_CAP: u32 = 65_536;
 /// The most rounds of a strategy.
 const MAX_ROUNDS: u32 = 255;
 
-/// The most weights of a row.
-const MAX_WEIGHTS: usize = 64;
-
 /// The greatest weight.
 const MAX_WEIGHT: u32 = 1_024;
 
 /// The most items that a row cuts off the front.
 const MAX_FRONT: u32 = 65_536;
-
-/// The value under a key.
-fn member<'a>(table: &'a Table, key: &str) -> Option<&'a Value>
-    ensures { option_map (λ v. view v.now) result ≡ get_member key.now (table_view table.now) }
-{
-    table.get(key)
-}
-
-/// The value under a key that must be there.
-fn field(table: &Table, field: Field) -> Result<&Value, StrategyFault>
-    ensures { GivesField (λ v. view v.now) result (member_at (table_view table.now) field) }
-{
-    match member(table, field.key()) {
-        Some(value) => Ok(value),
-        None => Err(StrategyFault::Missing(field)),
-    }
-}
-
-/// A whole number of `low` to `high`.
-fn number_of(value: &Value, low: u32, high: u32) -> Result<u32, StrategyFault>
-    ensures { result ≡ number_in low high (view value.now) }
-{
-    let Some(whole) = value.as_integer() else {
-        return Err(StrategyFault::BadNumber);
-    };
-    if i64::from(low) <= whole && whole <= i64::from(high) {
-        return Ok(whole as u32);
-    }
-    Err(StrategyFault::BadNumber)
-}
-
-/// A whole number of `low` to `high` under a key.
-fn number(table: &Table, key: Field, low: u32, high: u32) -> Result<u32, StrategyFault>
-    ensures { result ≡ number_at (table_view table.now) key low high }
-{
-    number_of(field(table, key)?, low, high)
-}
-
-/// The array that a value is.
-fn array_of(value: &Value) -> Result<&Array, StrategyFault>
-    ensures { GivesField (λ array. array_view array.now) result (array_in (view value.now)) }
-{
-    value.as_array().ok_or(StrategyFault::RowAction)
-}
-
-/// The array of 2 to 64 values that a value is.
-fn few_of(value: &Value) -> Result<&Array, StrategyFault>
-    ensures array { GivesField (λ array. array_view array.now) result (few_in (view value.now)) }
-    ensures few { IfOk result (λ array. (2 ≤ length array.now.items) × (length array.now.items ≤ 64)) }
-{
-    let array = array_of(value)?;
-    if array.len() < 2 || array.len() > MAX_WEIGHTS {
-        return Err(StrategyFault::RowAction);
-    }
-    Ok(array)
-}
 
 /// Whether all values of an array are weights.
 fn judge_weights(array: &Array) -> Result<(), StrategyFault>
@@ -136,17 +75,6 @@ fn judge_act(entry: &Table) -> Result<(), StrategyFault>
         (None, None, Some(front)) => judge_peel(front),
         _ => Err(StrategyFault::RowAction),
     }
-}
-
-/// The `upto` of a row after one of this `upto`.
-fn upto_of(entry: &Table, cap: u32, before: Option<u32>) -> Result<u32, StrategyFault>
-    ensures { result ≡ upto_in cap before (table_view entry.now) }
-{
-    let upto = number(entry, Field::Upto, 0, cap)?;
-    if before.is_some_and(|before| upto <= before) {
-        return Err(StrategyFault::RowOrder);
-    }
-    Ok(upto)
 }
 
 /// The `upto` of a row after one of this `upto`, or why the row is refused.

@@ -3,9 +3,9 @@
 use digest_core::Fingerprint;
 use item_core::Item;
 use shard_core::{
-    BadEntry, DirectoryFault, Part, Selecting, ShardSum, SplitFault, Unequal, Which, differing,
-    directory_of, entry_of, merge, push_selector, read_entry, read_selector, shard_count, shard_of,
-    split,
+    BadEntry, DirectoryFault, Selecting, ShardPart, ShardSum, SplitFault, Unequal, Which,
+    differing, directory_of, entry_of, merge, push_selector, read_entry, read_selector,
+    shard_count, shard_of, split,
 };
 use std::alloc::Global;
 use std::process::Abort;
@@ -156,12 +156,12 @@ fn two_parts(rt: HostRuntime) {
     let a = item(&rt, b"a");
     let b = item(&rt, b"b");
     let c = item(&rt, b"c");
-    let first = Part {
+    let first = ShardPart {
         number: 0,
         ours: Vec::from_slice(rt.alloc(), &[c, b]).expect(&rt, "memory"),
         theirs: Vec::new(rt.alloc()),
     };
-    let second = Part {
+    let second = ShardPart {
         number: 3,
         ours: Vec::from_slice(rt.alloc(), &[a]).expect(&rt, "memory"),
         theirs: Vec::new(rt.alloc()),

@@ -6,5 +6,5 @@ mod report;
 mod source;
 
 pub use outcome::{Direction, Outcome};
-pub use report::Report;
+pub use report::WorkersReport;
 pub use source::{Source, SourceFault};

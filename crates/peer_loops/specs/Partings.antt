@@ -15,7 +15,7 @@ use Rattle.outcome_core.specs.declared.outcome.Direction.TheVariants as directio
 use Rattle.outcome_core.specs.declared.outcome.Outcome.{Outcome}
 use Rattle.outcome_core.specs.declared.outcome.Outcome.TheVariants as outcomes
 use Rattle.version_lock.specs.declared.view.View.{View}
-use Rattle.peer_threads.specs.Workers.{PutsInLearned}
+use Rattle.peer_threads.specs.Workers.{PutsInBy}
 use Rattle.session_core.specs.declared.state.State.{State}
 use Rattle.session_core.specs.declared.state.State.TheVariants as states
 use Rattle.link_core.specs.declared.fault.LinkFault.TheVariants as faults
@@ -59,7 +59,7 @@ Tells parting stage version o = TellsOf (state_in stage) parting stage version o
 
 abbrev pub PutsInOf : Option SessionId → (ℕ → ℕ → ℕ → Type 0) → Outcome → View → View → Type 0
 PutsInOf None lets_in o v w = w ≡ v
-PutsInOf (Some id) lets_in o v w = PutsInLearned lets_in o v w
+PutsInOf (Some id) lets_in o v w = PutsInBy lets_in id.serial o v w
 
 abbrev pub found_none : Outcome → Outcome
 found_none (outcomes.Ended learned sent version) = outcomes.Ended nothing sent version

@@ -1,10 +1,10 @@
 //! A loop's seat at the log.
 
-ghost use Rattle.std.specs.Prelude.{◌≡◌, ◌≤◌, IsSome, IfOk, OnOk, Some};
+ghost use Rattle.std.specs.Prelude.{◌≡◌, ◌≤◌, length, IsSome, IfOk, OnOk, Some};
 ghost use Rattle.std.specs.Arc.{arc_value};
 ghost use Rattle.slab.specs.Slab.{get};
 ghost use Rattle.hub_core.specs.Hubs.{OthersStay};
-ghost use Rattle.hub_core.specs.Peers.{Opens};
+ghost use Rattle.hub_core.specs.Peers.{Opens, version_after};
 ghost use Rattle.peer_threads.specs.Outcomes.{peer_at};
 ghost use Rattle.peer_threads.specs.Workers.{IsSettled, LookedOrNot, MayWork};
 
@@ -57,6 +57,8 @@ impl<'a, G: Gate> Desk<'a, G> {
         ensures view { LookedOrNot self.old.seat.view self.new.seat.view }
         ensures opens { OnOk result ((p q : _) → get hub.old.peers key ≡ Some p → get hub.new.peers key ≡ Some q →
             Opens (peer_at (arc_value self.old.shared.now.accepted.now) self.new.seat.view) p.stage q.stage) }
+        ensures version { OnOk result ((p q : _) → get hub.old.peers key ≡ Some p → get hub.new.peers key ≡ Some q →
+            q.version ≡ version_after p.stage p.version (length self.new.seat.view.base)) }
         ensures others { OthersStay hub.old.peers hub.new.peers key }
     {
         let pin = self.shared.lock.pin(rt, alloc, &mut self.seat)?;
@@ -68,7 +70,7 @@ impl<'a, G: Gate> Desk<'a, G> {
     /// Puts into the log what a session learned of its peer, as far as the gate admits it.
     pub(crate) fn settle<T: Wait>(&mut self, rt: &T, alloc: Global, serial: u64, learned: &Learned)
         ensures shared { self.new.shared ≡ self.old.shared }
-        ensures put { IsSettled (G.lets_in self.old.shared.now.gate.now) learned.now.theirs self.old.seat.view
+        ensures put { IsSettled (G.lets_in self.old.shared.now.gate.now) serial learned.now.theirs self.old.seat.view
             self.new.seat.view }
     {
         settle(rt, alloc, self.shared, &mut self.seat, serial, learned);

@@ -6,7 +6,7 @@ ghost use Rattle.slab.specs.Slab.{get};
 ghost use Rattle.ends_core.specs.Sides.{peer_of};
 ghost use Rattle.range_tree.specs.Trees.{tree_items};
 ghost use Rattle.hub_core.specs.Hubs.{OthersStay};
-ghost use Rattle.hub_core.specs.Peers.{Opens};
+ghost use Rattle.hub_core.specs.Peers.{Opens, version_after};
 
 use crate::chosen::{Reader, part_of};
 use crate::desk::Desk;
@@ -34,6 +34,8 @@ fn open_over(
 ) -> Result<(), AllocError>
     ensures opens { OnOk result ((p q : _) → get hub.old.peers key ≡ Some p → get hub.new.peers key ≡ Some q →
         Opens (peer_of (arc_value accepted.now) (tree_items pinned.store)) p.stage q.stage) }
+    ensures version { OnOk result ((p q : _) → get hub.old.peers key ≡ Some p → get hub.new.peers key ≡ Some q →
+        q.version ≡ version_after p.stage p.version pinned.version) }
     ensures others { OthersStay hub.old.peers hub.new.peers key }
 {
     let Pinned { store, version } = pinned;

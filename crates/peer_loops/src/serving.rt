@@ -10,7 +10,7 @@ use crate::desk::Desk;
 use crate::looping::{Kind, Loop};
 use crate::part_gate::PartGate;
 use crate::site::Site;
-use outcome_core::Report;
+use outcome_core::WorkersReport;
 use peer_threads::Shared;
 use range_tree::Tree;
 use std::net::Net;
@@ -137,7 +137,7 @@ pub fn serve_peers<R: Net + Threads + Clock + Wait + AllocGlobal + Sync, G: Part
     seat: &mut Seat<Tree>,
     listener: &Listener<'_, R>,
     service: Service<'_>,
-) -> Report
+) -> WorkersReport
     requires lock { seat.old.table_id ≡ shared.now.lock.now }
     requires fits { seat.old.view.cap ≤ (arc_value shared.now.accepted.now).table.cap }
     requires count { (1 ≤ service.loops) × (service.loops ≤ 16) }
@@ -149,7 +149,7 @@ pub fn serve_peers<R: Net + Threads + Clock + Wait + AllocGlobal + Sync, G: Part
     let crowd = match Crowd::new(rt, alloc, service) {
         Ok(crowd) if listener.never_wait().is_ok() => crowd,
         _ => {
-            return Report {
+            return WorkersReport {
                 started: 0,
                 fault: None,
             };
@@ -161,7 +161,7 @@ pub fn serve_peers<R: Net + Threads + Clock + Wait + AllocGlobal + Sync, G: Part
         count: loops * 2,
     };
     let started = run_half(rt, shared, &crowd, listener, first, span);
-    Report {
+    WorkersReport {
         started,
         fault: crowd.into_fault(),
     }

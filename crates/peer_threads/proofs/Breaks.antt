@@ -17,7 +17,7 @@ use Rattle.definitions.specs.Messages.{Message}
 use Rattle.definitions.specs.Wire.{Profile, part_text, end_text, message_text, session_text}
 use Rattle.peer_threads.specs.Outcomes.{Traffic, call_of}
 use Rattle.ends_core.specs.Sides.{called_by}
-use Rattle.peer_threads.specs.Outboxes.{OutboxState, HasWritten, BreaksIn}
+use Rattle.peer_threads.specs.Senders.{SenderState, HasWritten, BreaksIn}
 use Rattle.peer_threads.specs.Underway.{WroteUpTo, BreaksOff}
 
 module _ {F : Type 0} (S : Summary F) (W : Profile F) where
@@ -155,7 +155,7 @@ module _ {F : Type 0} (S : Summary F) (W : Profile F) where
   -- ---- what was written of a session
 
   -- whole messages, or nothing
-  pub breaks-after : (s : Speaker F) (o : OutboxState) (t : Traffic) (bytes : List ℕ) →
+  pub breaks-after : (s : Speaker F) (o : SenderState) (t : Traffic) (bytes : List ℕ) →
       WroteUpTo S W s o t bytes → BreaksOff S W s o.sent t bytes
   breaks-after s o t bytes (inl wrote) = record {
     all = first o.sent (called_by S W s bytes);
@@ -169,18 +169,18 @@ module _ {F : Type 0} (S : Summary F) (W : Profile F) where
   }
 
   -- a part of a message, after those that were said
-  pub breaks-in-message : (s : Speaker F) (o p : OutboxState) (t : Traffic) (holds : Option (List ℕ)) (bytes : List ℕ)
+  pub breaks-in-message : (s : Speaker F) (o p : SenderState) (t : Traffic) (holds : Option (List ℕ)) (bytes : List ℕ)
       (front more : Messages) (M : Message F) →
       called_by S W s bytes ≡ front ++ M ∷ more → HasWritten W o t.held holds front → p ≡ o →
       BreaksIn holds t.holds (message_text W M) → BreaksOff S W s p.sent t bytes
   breaks-in-message s o p t holds bytes front more M is w same (n, part, begins) = record {
     all = said front ++ take n (spelling M);
     written = Appends-trans t.held holds t.holds (said front) (take n (spelling M)) w.written begins;
-    broke = broke-message s p.sent n bytes front more M is (ap (λ (x : OutboxState). x.sent) same ∙ w.count) part;
+    broke = broke-message s p.sent n bytes front more M is (ap (λ (x : SenderState). x.sent) same ∙ w.count) part;
   }
 
   -- a part of the hello
-  pub breaks-in-hello : (s : Speaker F) (o : OutboxState) (t : Traffic) (bytes : List ℕ) → o.sent ≡ 0 →
+  pub breaks-in-hello : (s : Speaker F) (o : SenderState) (t : Traffic) (bytes : List ℕ) → o.sent ≡ 0 →
       BreaksIn t.held t.holds W.hello → BreaksOff S W s o.sent t bytes
   breaks-in-hello s o t bytes none (n, part, begins) = record {
     all = take n hello;
@@ -206,7 +206,7 @@ module _ {F : Type 0} (S : Summary F) (W : Profile F) where
       )
 
   -- the writer failed in a message
-  pub cut-in-message : (s : Speaker F) (o p : OutboxState) (t : Traffic) (holds : Option (List ℕ)) (bytes : List ℕ)
+  pub cut-in-message : (s : Speaker F) (o p : SenderState) (t : Traffic) (holds : Option (List ℕ)) (bytes : List ℕ)
       (front more : Messages) (M : Message F) (is : called_by S W s bytes ≡ front ++ M ∷ more)
       (w : HasWritten W o t.held holds front) (same : p ≡ o) (begins : BreaksIn holds t.holds (message_text W M)) →
       length (breaks-in-message s o p t holds bytes front more M is w same begins).all < length (all_text s bytes)
@@ -215,7 +215,7 @@ module _ {F : Type 0} (S : Summary F) (W : Profile F) where
       cut-message n (called_by S W s bytes) front more M is part
 
   -- in the hello
-  pub cut-in-hello : (s : Speaker F) (o : OutboxState) (t : Traffic) (bytes : List ℕ) (none : o.sent ≡ 0)
+  pub cut-in-hello : (s : Speaker F) (o : SenderState) (t : Traffic) (bytes : List ℕ) (none : o.sent ≡ 0)
       (begins : BreaksIn t.held t.holds W.hello) →
       length (breaks-in-hello s o t bytes none begins).all < length (all_text s bytes)
   unfolding breaks-in-hello

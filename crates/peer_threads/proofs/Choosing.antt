@@ -25,7 +25,7 @@ use Rattle.peer_threads.specs.declared.stop.Stop.TheVariants as stops
 use Rattle.peer_threads.specs.Choices.{is_counted, ChosenSpeaks, ChosenUnopened, ChosenFirst}
 use Rattle.peer_threads.specs.Hellos.{NoHello}
 use Rattle.peer_threads.specs.Inboxes.{StopsAt}
-use Rattle.peer_threads.specs.Outboxes.{OutboxState, outbox_state}
+use Rattle.peer_threads.specs.Senders.{SenderState, sender_state}
 use Rattle.peer_threads.specs.Outcomes.{Origin, Reader, After, traffic, traffic_after}
 use Rattle.peer_threads.specs.Outcomes.{Speaks, SpeaksUnopened, Unopened, CameFirst}
 use Rattle.ends_core.specs.Sides.{KeepsBounds}
@@ -106,8 +106,8 @@ module _ {F : Type 0} (S : Summary F) (W : Profile F) where
       (x.why.0, inl x.why.1, ([], ap (λ (f : Fed F). f.events) (short-feed bytes x.less)))
   unheard-stops r bytes stops.Memory x = absurd x.why
 
-  why-short : Laws S W → (P : Peer) (o : OutboxState) (bytes : List ℕ) (unread left held : Option (List ℕ)) (r : Seen)
-      (broken : Bool) (stop : Stop) → o ≡ outbox_state false 0 → NoHello r bytes stop →
+  why-short : Laws S W → (P : Peer) (o : SenderState) (bytes : List ℕ) (unread left held : Option (List ℕ)) (r : Seen)
+      (broken : Bool) (stop : Stop) → o ≡ sender_state false 0 → NoHello r bytes stop →
       WhyStopped S W IsNone (responding P) o (traffic unread left held held) r broken bytes stop
   why-short laws P o bytes unread left held r broken stop new x =
       why-unheard S W IsNone laws (responding P) (first_held S P []) o (traffic unread left held held) r broken stop
@@ -196,8 +196,8 @@ two-lanes-first front unread mid left four first is x =
 -- ---- the hello did not come
 
 pub short-speaks : Laws two_lanes two_lane_profile → (fits : Type 0) (p : Peer) (version bound limit : ℕ)
-    (x : OutboxState) (bytes : List ℕ) (unread left held holds : Option (List ℕ)) (r w : Seen) (broken : Bool)
-    (stop : Stop) (o : Outcome) → x ≡ outbox_state false 0 → NoHello r bytes stop → Consumes unread left bytes →
+    (x : SenderState) (bytes : List ℕ) (unread left held holds : Option (List ℕ)) (r w : Seen) (broken : Bool)
+    (stop : Stop) (o : Outcome) → x ≡ sender_state false 0 → NoHello r bytes stop → Consumes unread left bytes →
     Leaves two_lane_profile x held holds broken w.failed stop → o ≡ outcome_of x.sent stop →
     (IsBytes bytes → fits → KeepsBounds two_lanes two_lane_profile (responding p) bytes bound limit) →
     ChosenSpeaks fits p version bound limit (traffic unread left held holds) r w o
@@ -225,9 +225,9 @@ short-speaks laws fits p version bound limit x bytes unread left held holds r w 
       few stops.Memory = omega (arith, ap (λ y. y.sent) new)
       few (stops.Io side) = omega (arith, ap (λ y. y.sent) new)
 
-pub short-unopened : Laws two_lanes two_lane_profile → (x : OutboxState) (bytes : List ℕ)
+pub short-unopened : Laws two_lanes two_lane_profile → (x : SenderState) (bytes : List ℕ)
     (unread left held holds : Option (List ℕ)) (r w : Seen) (broken : Bool) (stop : Stop) (o : Outcome) →
-    x ≡ outbox_state false 0 → NoHello r bytes stop → Consumes unread left bytes →
+    x ≡ sender_state false 0 → NoHello r bytes stop → Consumes unread left bytes →
     Leaves two_lane_profile x held holds broken w.failed stop → o ≡ outcome_of x.sent stop →
     ChosenUnopened (traffic unread left held holds) r w o
 short-unopened laws x bytes unread left held holds r w broken stop o new none read leaves is =

@@ -30,7 +30,7 @@ use Rattle.peer_threads.specs.declared.stop.Stop.TheVariants as stops
 use Rattle.peer_threads.specs.Outcomes.{Traffic, traffic, Speaks, IsTimely, IsCut, peer_at}
 use Rattle.ends_core.specs.Sides.{KeepsBounds, called_by, peer_of}
 use Rattle.peer_threads.specs.Inboxes.{InboxState, HasRead}
-use Rattle.peer_threads.specs.Outboxes.{OutboxState, outbox_state, hello_due, HasWritten, Adds, BreaksIn}
+use Rattle.peer_threads.specs.Senders.{SenderState, sender_state, hello_due, HasWritten, Adds, BreaksIn}
 use Rattle.peer_threads.specs.Stops.{outcome_of}
 use Rattle.peer_threads.specs.Underway.{heard_as, Underway, Unsaid, WroteFirst, HasBroken, WhyStopped, Stopped}
 use Rattle.peer_threads.specs.Underway.{Leaves}
@@ -45,8 +45,8 @@ found-fits v w cap looked fits = omega (arith, looked.once.fits, looked.once.cap
 
 module _ {F : Type 0} (S : Summary F) (W : Profile F) where
   -- the hello was written, and nothing else
-  pub greets : (o p : OutboxState) (held holds : Option (List ℕ)) → o ≡ outbox_state false 0 →
-      Appends held holds (hello_due W o) → p ≡ outbox_state true o.sent → HasWritten W p held holds []
+  pub greets : (o p : SenderState) (held holds : Option (List ℕ)) → o ≡ sender_state false 0 →
+      Appends held holds (hello_due W o) → p ≡ sender_state true o.sent → HasWritten W p held holds []
   greets o p held holds new whole greeted = record {
     greeted = ap (λ x. x.greeted) greeted;
     count = ap (λ x. x.sent) greeted ∙ ap (λ x. x.sent) new;
@@ -54,10 +54,10 @@ module _ {F : Type 0} (S : Summary F) (W : Profile F) where
   }
 
   -- the first message too
-  pub begun-first : (p : Peer) (h : EndState F) (steps : List ℕ) (b : InboxState) (o q r : OutboxState)
+  pub begun-first : (p : Peer) (h : EndState F) (steps : List ℕ) (b : InboxState) (o q r : SenderState)
       (unread held holds more : Option (List ℕ)) (first : Message F) →
       h ≡ fresh steps (initiator S p) → first ≡ opening S p.items → HasRead W b [] [] →
-      o ≡ outbox_state false 0 → Appends held holds (hello_due W o) → q ≡ outbox_state true o.sent →
+      o ≡ sender_state false 0 → Appends held holds (hello_due W o) → q ≡ sender_state true o.sent →
       Adds W q r holds more (first ∷ []) →
       Underway S W (initiating S p) h b r (traffic unread unread held more)
   begun-first p h steps b o q r unread held holds more first is opens came new whole greeted added = record {
@@ -72,9 +72,9 @@ module _ {F : Type 0} (S : Summary F) (W : Profile F) where
   }
 
   -- memory ran out before anything was written
-  pub stops-silent : (T : ℕ → ℕ → Type 0) (s : Speaker F) (o : OutboxState) (unread held : Option (List ℕ))
+  pub stops-silent : (T : ℕ → ℕ → Type 0) (s : Speaker F) (o : SenderState) (unread held : Option (List ℕ))
       (r : Seen) (broken : Bool) →
-      o ≡ outbox_state false 0 → Stopped S W T s o (traffic unread unread held held) r broken stops.Memory
+      o ≡ sender_state false 0 → Stopped S W T s o (traffic unread unread held held) r broken stops.Memory
   stops-silent T s o unread held r broken new = record {
     bytes = [];
     are_bytes = tt;
@@ -83,9 +83,9 @@ module _ {F : Type 0} (S : Summary F) (W : Profile F) where
   }
 
   -- the writer failed before the hello was written
-  pub stops-broken : (T : ℕ → ℕ → Type 0) (s : Speaker F) (o p : OutboxState) (unread held holds : Option (List ℕ))
+  pub stops-broken : (T : ℕ → ℕ → Type 0) (s : Speaker F) (o p : SenderState) (unread held holds : Option (List ℕ))
       (r : Seen) (broken : Bool) →
-      o ≡ outbox_state false 0 → p ≡ o → IsTrue broken → BreaksIn held holds (hello_due W o) →
+      o ≡ sender_state false 0 → p ≡ o → IsTrue broken → BreaksIn held holds (hello_due W o) →
       Stopped S W T s p (traffic unread unread held holds) r broken (stops.Io directions.Write)
   stops-broken T s o p unread held holds r broken new same failed front = record {
     bytes = [];
@@ -101,10 +101,10 @@ module _ {F : Type 0} (S : Summary F) (W : Profile F) where
   }
 
   -- the first message was not said
-  pub stops-first : (p : Peer) (o q r : OutboxState) (unread held holds more : Option (List ℕ)) (input : Seen)
+  pub stops-first : (p : Peer) (o q r : SenderState) (unread held holds more : Option (List ℕ)) (input : Seen)
       (broken : Bool) (first : Message F) (stop : Stop) →
       first ≡ opening S p.items →
-      o ≡ outbox_state false 0 → Appends held holds (hello_due W o) → q ≡ outbox_state true o.sent →
+      o ≡ sender_state false 0 → Appends held holds (hello_due W o) → q ≡ sender_state true o.sent →
       Unsaid W q r holds more broken (first ∷ []) stop →
       Stopped S W (IsTimely r.sent) (initiating S p) r (traffic unread unread held more) input broken stop
   stops-first p o q r unread held holds more input broken first stop opens new whole greeted unsaid =
@@ -145,9 +145,9 @@ module _ {F : Type 0} (S : Summary F) (W : Profile F) where
             )
 
   -- the table of sessions refused before anything was written
-  pub stops-unbooked : (s : Speaker F) (o : OutboxState) (unread held : Option (List ℕ)) (input : Seen)
+  pub stops-unbooked : (s : Speaker F) (o : SenderState) (unread held : Option (List ℕ)) (input : Seen)
       (broken : Bool) (code : ℕ) →
-      o ≡ outbox_state false 0 → (code ≡ table_full) ⊎ (code ≡ serials_spent) →
+      o ≡ sender_state false 0 → (code ≡ table_full) ⊎ (code ≡ serials_spent) →
       Stopped S W (IsTimely o.sent) s o (traffic unread unread held held) input broken (stops.Refused code)
   stops-unbooked s o unread held input broken code new table = record {
     bytes = [];
@@ -161,9 +161,9 @@ module _ {F : Type 0} (S : Summary F) (W : Profile F) where
   }
 
   -- a session that stopped before anything was written: by memory, or by the table of sessions
-  pub speaks-unsaid : (s : Speaker F) (version bound : ℕ) (x : OutboxState) (unread held holds : Option (List ℕ))
+  pub speaks-unsaid : (s : Speaker F) (version bound : ℕ) (x : SenderState) (unread held holds : Option (List ℕ))
       (r w : Seen) (broken : Bool) (stop : Stop) (o : Outcome) →
-      x ≡ outbox_state false 0 →
+      x ≡ sender_state false 0 →
       Stopped S W (IsTimely x.sent) s x (traffic unread unread held held) r broken stop →
       Leaves W x held holds broken w.failed stop →
       o ≡ outcome_of x.sent stop → Spoke S W s version bound (traffic unread unread held holds) r w o

@@ -34,7 +34,7 @@ use Rattle.ends_core.specs.Sides.{KeepsBounds}
 use Rattle.peer_threads.specs.Outcomes.{BearsUnopened, IsTimely, call_of, failing, peer_at}
 use Rattle.outcome_core.specs.Sent.{sent_in}
 use Rattle.ends_core.specs.Sides.{called_by, said_to, peer_of}
-use Rattle.peer_threads.specs.Outboxes.{OutboxState, refusal_text, Begins, WroteSo}
+use Rattle.peer_threads.specs.Senders.{SenderState, refusal_text, Begins, WroteSo}
 use Rattle.peer_threads.specs.Stops.{outcome_of}
 use Rattle.peer_threads.specs.Underway.{WroteFirst, WroteUpTo, IsLong, IsFirst, IsNone, HasBroken}
 use Rattle.peer_threads.specs.Underway.{WhyStopped}
@@ -54,20 +54,20 @@ wrote-nothing a b failed xs broke none = inr (broke, (0, none))
 module _ {F : Type 0} (S : Summary F) (W : Profile F) where
   -- ---- the fault frame after what was written
 
-  abbrev first_text : Speaker F → OutboxState → List ℕ → List ℕ
+  abbrev first_text : Speaker F → SenderState → List ℕ → List ℕ
   first_text s o bytes = text W o.sent (called_by S W s bytes)
 
   -- the hello was written before
-  frame-alone : (o : OutboxState) (code : ℕ) → IsTrue o.greeted → refusal_text W o code ≡ fault_text code
+  frame-alone : (o : SenderState) (code : ℕ) → IsTrue o.greeted → refusal_text W o code ≡ fault_text code
   frame-alone o code greeted = ap (λ b. (if b then [] else W.hello) ++ fault_text code) greeted
 
-  record FrameAfter (s : Speaker F) (version : ℕ) (o : OutboxState) (t : Traffic) (holds : Option (List ℕ))
+  record FrameAfter (s : Speaker F) (version : ℕ) (o : SenderState) (t : Traffic) (holds : Option (List ℕ))
       (bytes : List ℕ) (r w : Seen) (code : ℕ) : Type 0 where
     written : List ℕ
     wrote : Appends t.held holds written
     account : WroteFault S W (call_of s version bytes written r w) o.sent code
 
-  frame-after-first : (s : Speaker F) (version : ℕ) (o : OutboxState) (t : Traffic) (holds : Option (List ℕ))
+  frame-after-first : (s : Speaker F) (version : ℕ) (o : SenderState) (t : Traffic) (holds : Option (List ℕ))
       (bytes : List ℕ) (r w : Seen) (code : ℕ) →
       WroteFirst S W s o t bytes → WroteSo t.holds holds w.failed (refusal_text W o code) →
       FrameAfter s version o t holds bytes r w code
@@ -98,14 +98,14 @@ module _ {F : Type 0} (S : Summary F) (W : Profile F) where
       }
 
   -- nothing was written before: the hello, and the frame
-  alone-is : (s : Speaker F) (o : OutboxState) (bytes : List ℕ) (code : ℕ) → o.greeted ≡ false → o.sent ≡ 0 →
+  alone-is : (s : Speaker F) (o : SenderState) (bytes : List ℕ) (code : ℕ) → o.greeted ≡ false → o.sent ≡ 0 →
       refusal_text W o code ≡ first_text s o bytes ++ fault_text code
   alone-is s o bytes code greeted none =
       ap (λ b. (if b then [] else W.hello) ++ fault_text code) greeted
       ∙ ap (λ (l : List ℕ). l ++ fault_text code)
       (sym (ap (λ n. text W n (called_by S W s bytes)) none ∙ append-nil W.hello))
 
-  frame-after : (s : Speaker F) (version : ℕ) (o : OutboxState) (t : Traffic) (holds : Option (List ℕ))
+  frame-after : (s : Speaker F) (version : ℕ) (o : SenderState) (t : Traffic) (holds : Option (List ℕ))
       (bytes : List ℕ) (r w : Seen) (code : ℕ) →
       WroteUpTo S W s o t bytes → WroteSo t.holds holds w.failed (refusal_text W o code) →
       FrameAfter s version o t holds bytes r w code
@@ -188,7 +188,7 @@ module _ {F : Type 0} (S : Summary F) (W : Profile F) where
     account = record { count = ap (λ (l : List (Message F)). length l) called ∙ said.count; written = refl };
   }
 
-  pub bears : (s : Speaker F) (version : ℕ) (o : OutboxState) (t : Traffic) (holds : Option (List ℕ)) (r w : Seen)
+  pub bears : (s : Speaker F) (version : ℕ) (o : SenderState) (t : Traffic) (holds : Option (List ℕ)) (r w : Seen)
       (broken : Bool) (bytes : List ℕ) (stop : Stop) →
       WhyStopped S W (IsTimely o.sent) s o t r broken bytes stop → Leaves W o t.holds holds broken w.failed stop →
       Bears S W s version (traffic_of t.unread t.left t.held holds) r w bytes (outcome_of o.sent stop)
@@ -214,7 +214,7 @@ module _ {F : Type 0} (S : Summary F) (W : Profile F) where
     by directions.Write failed = subst (λ b. IsTrue b) (sym leaves.1) failed
 
   -- a session that stopped
-  pub stopped-speaks : (s : Speaker F) (version bound : ℕ) (o : OutboxState) (t : Traffic) (holds : Option (List ℕ))
+  pub stopped-speaks : (s : Speaker F) (version bound : ℕ) (o : SenderState) (t : Traffic) (holds : Option (List ℕ))
       (r w : Seen) (broken : Bool) (stop : Stop) →
       Stopped S W (IsTimely o.sent) s o t r broken stop →
       Leaves W o t.holds holds broken w.failed stop → o.sent ≤ bound →
@@ -233,7 +233,7 @@ module _ {F : Type 0} (S : Summary F) (W : Profile F) where
     by (stops.Io side) = few
 
   -- one that was talked to its end
-  pub finished-speaks : (s : Speaker F) (e : End F) (version bound : ℕ) (o : OutboxState) (t : Traffic)
+  pub finished-speaks : (s : Speaker F) (e : End F) (version bound : ℕ) (o : SenderState) (t : Traffic)
       (r w : Seen) →
       Finished S W s e o t → o.sent ≤ bound →
       Spoke S W s version bound t r w (outcomes.Ended e.learned o.sent version)
@@ -260,7 +260,7 @@ module _ {F : Type 0} (S : Summary F) (W : Profile F) where
 
   -- ---- before a history is looked at
 
-  pub anyhow : (s : Speaker F) (o : OutboxState) (t : Traffic) (r : Seen) (broken : Bool) (bytes : List ℕ)
+  pub anyhow : (s : Speaker F) (o : SenderState) (t : Traffic) (r : Seen) (broken : Bool) (bytes : List ℕ)
       (stop : Stop) →
       WhyStopped S W IsNone s o t r broken bytes stop → WhyStopped S W (IsTimely o.sent) s o t r broken bytes stop
   anyhow s o t r broken bytes (stops.Refused code) (wrote, inl first) = (wrote, inl first)
@@ -269,7 +269,7 @@ module _ {F : Type 0} (S : Summary F) (W : Profile F) where
   anyhow s o t r broken bytes stops.Memory x = x
   anyhow s o t r broken bytes (stops.Io side) x = x
 
-  pub stopped-anyhow : (s : Speaker F) (o : OutboxState) (t : Traffic) (r : Seen) (broken : Bool) (stop : Stop) →
+  pub stopped-anyhow : (s : Speaker F) (o : SenderState) (t : Traffic) (r : Seen) (broken : Bool) (stop : Stop) →
       Stopped S W IsNone s o t r broken stop → Stopped S W (IsTimely o.sent) s o t r broken stop
   stopped-anyhow s o t r broken stop x =
       record { bytes = x.bytes; are_bytes = x.are_bytes; read = x.read; why = anyhow s o t r broken x.bytes stop x.why }
@@ -283,7 +283,7 @@ module _ {F : Type 0} (S : Summary F) (W : Profile F) where
     by (inl first) = first
     by (inr none) = absurd none
 
-  pub bears-unopened : (s : Speaker F) (version : ℕ) (o : OutboxState) (t : Traffic) (holds : Option (List ℕ))
+  pub bears-unopened : (s : Speaker F) (version : ℕ) (o : SenderState) (t : Traffic) (holds : Option (List ℕ))
       (r w : Seen) (broken : Bool) (bytes : List ℕ) (stop : Stop) →
       WhyStopped S W IsNone s o t r broken bytes stop → Leaves W o t.holds holds broken w.failed stop →
       BearsUnopened S W s version (traffic_of t.unread t.left t.held holds) r w bytes (outcome_of o.sent stop)
@@ -299,7 +299,7 @@ module _ {F : Type 0} (S : Summary F) (W : Profile F) where
   bears-unopened s version o t holds r w broken bytes (stops.Io side) y l =
       bears s version o t holds r w broken bytes (stops.Io side) y l
 
-  pub stopped-unopened : (s : Speaker F) (version : ℕ) (o : OutboxState) (t : Traffic) (holds : Option (List ℕ))
+  pub stopped-unopened : (s : Speaker F) (version : ℕ) (o : SenderState) (t : Traffic) (holds : Option (List ℕ))
       (r w : Seen) (broken : Bool) (stop : Stop) →
       Stopped S W IsNone s o t r broken stop →
       Leaves W o t.holds holds broken w.failed stop →

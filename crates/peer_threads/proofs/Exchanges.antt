@@ -37,7 +37,7 @@ use Rattle.peer_threads.specs.Outcomes.{Traffic, Takes, traffic_of, SaidAll, IsT
 use Rattle.ends_core.specs.Sides.{said_to, called_by}
 use Rattle.peer_threads.specs.Laws.{Laws}
 use Rattle.peer_threads.specs.Inboxes.{InboxState, HasRead, IsFaulty, StopsAt}
-use Rattle.peer_threads.specs.Outboxes.{OutboxState, HasWritten, Adds}
+use Rattle.peer_threads.specs.Senders.{SenderState, HasWritten, Adds}
 use Rattle.peer_threads.specs.Underway.{heard_as, said_by, Underway, Unsaid, Refuses, StopsBy, WroteFirst}
 use Rattle.peer_threads.specs.Underway.{WroteUpTo, IsLong, IsFirst, HasBroken, WhyStopped}
 use Rattle.peer_threads.specs.Underway.{Stopped, Finished}
@@ -67,7 +67,7 @@ module _ {F : Type 0} (S : Summary F) (W : Profile F) where
   slice_last [] N = refl
   slice_last (x ∷ xs) N = slice_last xs N
 
-  pub wrote-first : (s : Speaker F) (o : OutboxState) (t : Traffic) (bytes : List ℕ)
+  pub wrote-first : (s : Speaker F) (o : SenderState) (t : Traffic) (bytes : List ℕ)
       (said more : List (Message F)) →
       called_by S W s bytes ≡ said ++ more → HasWritten W o t.held t.holds said → WroteFirst S W s o t bytes
   wrote-first s o t bytes said more is w = record {
@@ -110,7 +110,7 @@ module _ {F : Type 0} (S : Summary F) (W : Profile F) where
     })
 
   -- all that was said, as a text of so many messages
-  pub said-all : (s : Speaker F) (o : OutboxState) (t : Traffic) (bytes : List ℕ) (said : List (Message F)) →
+  pub said-all : (s : Speaker F) (o : SenderState) (t : Traffic) (bytes : List ℕ) (said : List (Message F)) →
       said_to S W s bytes ≡ said → HasWritten W o t.held t.holds said → SaidAll S W s t bytes o.sent
   said-all s o t bytes said is w = record {
     written =
@@ -122,7 +122,7 @@ module _ {F : Type 0} (S : Summary F) (W : Profile F) where
 
   -- ---- what was written, and then more
 
-  pub adds : (o p : OutboxState) (a b c : Option (List ℕ)) (Ms Ns : List (Message F)) → HasWritten W o a b Ms →
+  pub adds : (o p : SenderState) (a b c : Option (List ℕ)) (Ms Ns : List (Message F)) → HasWritten W o a b Ms →
       Adds W o p b c Ns → HasWritten W p a c (Ms ++ Ns)
   adds o p a b c Ms Ns w more = record {
     greeted = more.greeted ∙ w.greeted;
@@ -134,7 +134,7 @@ module _ {F : Type 0} (S : Summary F) (W : Profile F) where
         (Appends-trans a b c (session_text W Ms) (flat_map f Ns) w.written more.written);
   }
 
-  pub adds-nothing : (o p : OutboxState) (a b c : Option (List ℕ)) (Ms : List (Message F)) → HasWritten W o a b Ms →
+  pub adds-nothing : (o p : SenderState) (a b c : Option (List ℕ)) (Ms : List (Message F)) → HasWritten W o a b Ms →
       Adds W o p b c [] → HasWritten W p a c Ms
   adds-nothing o p a b c Ms w more = subst (HasWritten W p a c) (append-nil Ms) (adds o p a b c Ms [] w more)
 
@@ -145,7 +145,7 @@ module _ {F : Type 0} (S : Summary F) (W : Profile F) where
       × HasRead W c (before ++ bytes) es
 
   -- the event e came after es, which the end h has heard; all that was said to these was written
-  pub record At (s : Speaker F) (h : EndState F) (o : OutboxState) (t : Traffic) (e : Event F) : Type 0 where
+  pub record At (s : Speaker F) (h : EndState F) (o : SenderState) (t : Traffic) (e : Event F) : Type 0 where
     pub bytes : List ℕ
     pub are_bytes : IsBytes bytes
     pub read : Takes t.unread t.left bytes
@@ -155,7 +155,7 @@ module _ {F : Type 0} (S : Summary F) (W : Profile F) where
     pub written : HasWritten W o t.held t.holds (so_far s es)
     pub heard : hears S s es ≡ Goes_on h.end h.taken
 
-  abbrev pub at-event : (s : Speaker F) (h : EndState F) (b c : InboxState) (o : OutboxState) (t : Traffic)
+  abbrev pub at-event : (s : Speaker F) (h : EndState F) (b c : InboxState) (o : SenderState) (t : Traffic)
       (left : Option (List ℕ)) (e : Event F) →
       (u : Underway S W s h b o t) → More t.left left c u.bytes (u.events ++ e ∷ []) → is_over h.end.stage ≡ false →
       At s h o (traffic_of t.unread left t.held t.holds) e
@@ -174,7 +174,7 @@ module _ {F : Type 0} (S : Summary F) (W : Profile F) where
 
   -- it is heard, and the session goes on
   pub goes-on : Laws S W →
-      (s : Speaker F) (h g : EndState F) (c : InboxState) (o p : OutboxState) (t : Traffic) (holds : Option (List ℕ))
+      (s : Speaker F) (h g : EndState F) (c : InboxState) (o p : SenderState) (t : Traffic) (holds : Option (List ℕ))
       (e : Event F) →
       is_live s.start.stage ≡ true →
       (x : At s h o t e) → HasRead W c x.bytes (x.es ++ e ∷ []) → heard_as g ≡ hear_now S h.end h.taken e →
@@ -208,7 +208,7 @@ module _ {F : Type 0} (S : Summary F) (W : Profile F) where
     by (answered.Refuses n) is = refl
 
   -- what was said before begins what is called for
-  begun : Laws S W → (s : Speaker F) (h : EndState F) (o : OutboxState) (t : Traffic) (e : Event F) (x : At s h o t e) →
+  begun : Laws S W → (s : Speaker F) (h : EndState F) (o : SenderState) (t : Traffic) (e : Event F) (x : At s h o t e) →
       (more : List (Message F)) × (called_by S W s x.bytes ≡ so_far s x.es ++ more)
   begun laws s h o t e x =
       let r = laws.begin s x.es (e ∷ x.rest) in
@@ -216,7 +216,7 @@ module _ {F : Type 0} (S : Summary F) (W : Profile F) where
 
   -- no message more was written
   first-kept : Laws S W →
-      (s : Speaker F) (h : EndState F) (o p : OutboxState) (t : Traffic) (holds : Option (List ℕ)) (e : Event F)
+      (s : Speaker F) (h : EndState F) (o p : SenderState) (t : Traffic) (holds : Option (List ℕ)) (e : Event F)
       (x : At s h o t e) →
       Adds W o p t.holds holds [] →
       WroteFirst S W s p (traffic_of t.unread t.left t.held holds) x.bytes
@@ -225,12 +225,12 @@ module _ {F : Type 0} (S : Summary F) (W : Profile F) where
       wrote-first s p (traffic_of t.unread t.left t.held holds) x.bytes (so_far s x.es) b.0 b.1
       (adds-nothing o p t.held t.holds holds (so_far s x.es) x.written added)
 
-  heard-next : (s : Speaker F) (h : EndState F) (o : OutboxState) (t : Traffic) (e : Event F) (x : At s h o t e) →
+  heard-next : (s : Speaker F) (h : EndState F) (o : SenderState) (t : Traffic) (e : Event F) (x : At s h o t e) →
       hears S s (x.es ++ e ∷ []) ≡ hear_now S h.end h.taken e
   heard-next s h o t e x = fold-append (hear S) (begins s) x.es (e ∷ []) ∙ ap (λ y. hear S y e) x.heard
 
   -- after a stop at the event nothing more is said
-  nothing-more : Laws S W → (s : Speaker F) (h : EndState F) (o : OutboxState) (t : Traffic) (e : Event F) →
+  nothing-more : Laws S W → (s : Speaker F) (h : EndState F) (o : SenderState) (t : Traffic) (e : Event F) →
       is_live s.start.stage ≡ true → (x : At s h o t e) →
       has_stopped (hear_now S h.end h.taken e) ≡ true → said_by h e ≡ [] → said_to S W s x.bytes ≡ so_far s x.es
   nothing-more laws s h o t e live x stopped none =
@@ -242,7 +242,7 @@ module _ {F : Type 0} (S : Summary F) (W : Profile F) where
 
   -- the event itself stops the session
   pub stops-refusing : (T : ℕ → ℕ → Type 0) → Laws S W →
-      (s : Speaker F) (h : EndState F) (o p : OutboxState) (t : Traffic) (holds : Option (List ℕ)) (r : Seen)
+      (s : Speaker F) (h : EndState F) (o p : SenderState) (t : Traffic) (holds : Option (List ℕ)) (r : Seen)
       (broken : Bool) (e : Event F) (stop : Stop) →
       is_live s.start.stage ≡ true → At s h o t e → Refuses S h e stop → Adds W o p t.holds holds [] →
       Stopped S W T s p (traffic_of t.unread t.left t.held holds) r broken stop
@@ -292,7 +292,7 @@ module _ {F : Type 0} (S : Summary F) (W : Profile F) where
 
   -- its reply is not said
   stops-unsaid : Laws S W →
-      (s : Speaker F) (h : EndState F) (o p : OutboxState) (t : Traffic) (holds : Option (List ℕ)) (r : Seen)
+      (s : Speaker F) (h : EndState F) (o p : SenderState) (t : Traffic) (holds : Option (List ℕ)) (r : Seen)
       (broken : Bool) (e : Event F) (stop : Stop) →
       is_live s.start.stage ≡ true → At s h o t e → Unsaid W o p t.holds holds broken (said_by h e) stop →
       Stopped S W (IsTimely p.sent) s p (traffic_of t.unread t.left t.held holds) r broken stop
@@ -350,7 +350,7 @@ module _ {F : Type 0} (S : Summary F) (W : Profile F) where
             )
 
   pub stops-event : Laws S W →
-      (s : Speaker F) (h : EndState F) (o p : OutboxState) (t : Traffic) (holds : Option (List ℕ)) (r : Seen)
+      (s : Speaker F) (h : EndState F) (o p : SenderState) (t : Traffic) (holds : Option (List ℕ)) (r : Seen)
       (broken : Bool) (e : Event F) (stop : Stop) →
       is_live s.start.stage ≡ true → At s h o t e → StopsBy S W h e o p t.holds holds broken stop →
       Stopped S W (IsTimely p.sent) s p (traffic_of t.unread t.left t.held holds) r broken stop
@@ -386,7 +386,7 @@ module _ {F : Type 0} (S : Summary F) (W : Profile F) where
 
   -- all events handed out were heard, and no more comes; what was written is a beginning of what all events call for
   pub why-unheard : (T : ℕ → ℕ → Type 0) → Laws S W →
-      (s : Speaker F) (h : EndState F) (o : OutboxState) (t : Traffic) (r : Seen) (broken : Bool) (stop : Stop)
+      (s : Speaker F) (h : EndState F) (o : SenderState) (t : Traffic) (r : Seen) (broken : Bool) (stop : Stop)
       (bytes : List ℕ) (es : List (Event F)) →
       is_live s.start.stage ≡ true → o.sent ≡ length (so_far s es) →
       ((rest : List (Event F)) → events_in bytes ≡ es ++ rest → WroteUpTo S W s o t bytes) →
@@ -407,7 +407,7 @@ module _ {F : Type 0} (S : Summary F) (W : Profile F) where
       )
 
   pub stops-unheard-by : (T : ℕ → ℕ → Type 0) → Laws S W →
-      (s : Speaker F) (h : EndState F) (o : OutboxState) (t : Traffic) (r : Seen) (broken : Bool) (stop : Stop)
+      (s : Speaker F) (h : EndState F) (o : SenderState) (t : Traffic) (r : Seen) (broken : Bool) (stop : Stop)
       (bytes : List ℕ) (es : List (Event F)) →
       is_live s.start.stage ≡ true →
       IsBytes bytes → Takes t.unread t.left bytes → o.sent ≡ length (so_far s es) →
@@ -421,7 +421,7 @@ module _ {F : Type 0} (S : Summary F) (W : Profile F) where
   }
 
   pub stops-unheard : (T : ℕ → ℕ → Type 0) → Laws S W →
-      (s : Speaker F) (h : EndState F) (o : OutboxState) (t : Traffic) (r : Seen) (broken : Bool) (stop : Stop)
+      (s : Speaker F) (h : EndState F) (o : SenderState) (t : Traffic) (r : Seen) (broken : Bool) (stop : Stop)
       (bytes : List ℕ) (es : List (Event F)) →
       is_live s.start.stage ≡ true →
       IsBytes bytes → Takes t.unread t.left bytes → HasWritten W o t.held t.holds (so_far s es) →
@@ -435,7 +435,7 @@ module _ {F : Type 0} (S : Summary F) (W : Profile F) where
             (ap (λ l. own S s (messages_of [] l)) all ∙ first.1) written)
 
   pub stops-underway : Laws S W →
-      (s : Speaker F) (h : EndState F) (b : InboxState) (o : OutboxState) (t : Traffic) (left : Option (List ℕ))
+      (s : Speaker F) (h : EndState F) (b : InboxState) (o : SenderState) (t : Traffic) (left : Option (List ℕ))
       (r : Seen) (broken : Bool) (stop : Stop) →
       is_live s.start.stage ≡ true →
       (u : Underway S W s h b o t) → is_over h.end.stage ≡ false →
@@ -451,7 +451,7 @@ module _ {F : Type 0} (S : Summary F) (W : Profile F) where
 
   -- ---- the session is over
 
-  pub finished : Laws S W → (s : Speaker F) (h : EndState F) (b : InboxState) (o : OutboxState) (t : Traffic) →
+  pub finished : Laws S W → (s : Speaker F) (h : EndState F) (b : InboxState) (o : SenderState) (t : Traffic) →
       is_live s.start.stage ≡ true → Underway S W s h b o t → is_over h.end.stage ≡ true → Finished S W s h.end o t
   finished laws s h b o t live u over =
       let Ms = messages_in W u.bytes in

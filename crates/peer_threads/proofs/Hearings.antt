@@ -24,7 +24,7 @@ use Rattle.ends_core.specs.declared.turn.EndFault.{EndFault}
 use Rattle.ends_core.specs.declared.turn.EndFault.TheVariants as faults
 use Rattle.peer_threads.specs.declared.stop.Stop.{Stop}
 use Rattle.peer_threads.specs.Stops.{of_end}
-use Rattle.peer_threads.specs.Outboxes.{OutboxState, outbox_state, Adds}
+use Rattle.peer_threads.specs.Senders.{SenderState, sender_state, Adds}
 use Rattle.peer_threads.specs.Underway.{heard_as, most_sent, Unsaid, Refuses, StopsBy}
 
 module _ {F : Type 0} (S : Summary F) (W : Profile F) where
@@ -104,8 +104,8 @@ module _ {F : Type 0} (S : Summary F) (W : Profile F) where
   -- ---- what was written
 
   -- one message was written
-  pub adds-one : (o p : OutboxState) (a b : Option (List ℕ)) (M : Message F) (text : List ℕ) →
-      text ≡ message_text W M → p ≡ outbox_state o.greeted (o.sent + 1) → Appends a b text →
+  pub adds-one : (o p : SenderState) (a b : Option (List ℕ)) (M : Message F) (text : List ℕ) →
+      text ≡ message_text W M → p ≡ sender_state o.greeted (o.sent + 1) → Appends a b text →
       Adds W o p a b (M ∷ [])
   adds-one o p a b M text is counted w = record {
     greeted = ap (λ x. x.greeted) counted;
@@ -114,15 +114,15 @@ module _ {F : Type 0} (S : Summary F) (W : Profile F) where
   }
 
   -- none was
-  pub adds-none : (o : OutboxState) (a : Option (List ℕ)) → Adds W o o a a []
+  pub adds-none : (o : SenderState) (a : Option (List ℕ)) → Adds W o o a a []
   adds-none o a = record { greeted = refl; count = omega arith; written = Appends-nil a }
 
-  pub refuses-stops : (h : EndState F) (e : Event F) (o : OutboxState) (a : Option (List ℕ)) (broken : Bool)
+  pub refuses-stops : (h : EndState F) (e : Event F) (o : SenderState) (a : Option (List ℕ)) (broken : Bool)
       (stop : Stop) →
       Refuses S h e stop → StopsBy S W h e o o a a broken stop
   refuses-stops h e o a broken stop r = inl (r, adds-none o a)
 
-  pub unsaid-stops : (h : EndState F) (x : Answer F) (o p : OutboxState) (a b : Option (List ℕ)) (broken : Bool)
+  pub unsaid-stops : (h : EndState F) (x : Answer F) (o p : SenderState) (a b : Option (List ℕ)) (broken : Bool)
       (stop : Stop) →
       x ≡ ended h.taken → Unsaid W o p a b broken (replied x) stop → StopsBy S W h Ended o p a b broken stop
   unsaid-stops h x o p a b broken stop is r = inr (subst (λ y. Unsaid W o p a b broken (replied y) stop) is r)

@@ -17,7 +17,7 @@ use Rattle.wire_core.specs.declared.event.Event as declared
 use Rattle.peer_threads.specs.declared.stop.Stop.{Stop}
 use Rattle.peer_threads.specs.declared.stop.Stop.TheVariants as stops
 use Rattle.peer_threads.specs.Stops.{outcome_of}
-use Rattle.peer_threads.specs.Outboxes.{OutboxState}
+use Rattle.peer_threads.specs.Senders.{SenderState}
 use Rattle.peer_threads.specs.Underway.{Unsaid, Refuses, StopsBy}
 use Rattle.peer_threads.specs.Listening.{WasReadOut, SideFares, HasFared, InStep, IsNoBreak, StopFares, Fares}
 
@@ -55,7 +55,7 @@ refuses-fares S h e (stops.PeerRefused code) start reads failed x fine = fine
 refuses-fares S h e stops.Memory start reads failed x fine = fine
 refuses-fares S h e (stops.Io side) start reads failed x fine = absurd x
 
-pub unsaid-fares : {F : Type 0} (W : Profile F) (o p : OutboxState) (held holds : Option (List ℕ)) (broken : Bool)
+pub unsaid-fares : {F : Type 0} (W : Profile F) (o p : SenderState) (held holds : Option (List ℕ)) (broken : Bool)
     (Ms : List (Message F)) (stop : Stop) (start reads : ℕ) (failed : Bool) →
     Unsaid W o p held holds broken Ms stop → failed ≡ false → StopFares start failed reads stop
 unsaid-fares W o p held holds broken Ms (stops.Refused code) start reads failed x fine = fine
@@ -64,7 +64,7 @@ unsaid-fares W o p held holds broken Ms stops.Memory start reads failed x fine =
 unsaid-fares W o p held holds broken Ms (stops.Io side) start reads failed x fine =
     subst (SideFares start failed reads) (sym x.0) fine
 
-pub event-fares : {F : Type 0} (S : Summary F) (W : Profile F) (h : EndState F) (e : Event F) (o p : OutboxState)
+pub event-fares : {F : Type 0} (S : Summary F) (W : Profile F) (h : EndState F) (e : Event F) (o p : SenderState)
     (held holds : Option (List ℕ)) (broken : Bool) (stop : Stop) (start reads : ℕ) (failed : Bool) →
     StopsBy S W h e o p held holds broken stop → failed ≡ false → StopFares start failed reads stop
 event-fares S W h e o p held holds broken stop start reads failed (inl x) fine =

@@ -39,10 +39,9 @@ puts-all xs rest old now dropped none so =
 -- the first of what was learned, as many as are let in
 pub settled : (lets_in : ℕ → ℕ → ℕ → Type 0) (xs ys : List Item) (v w : View)
     (serial size count first dropped : ℕ) → ys ≡ xs → size ≡ length ys → lets_in serial size count →
-    take first ys ≡ take count ys → PutInAll (take first ys) v w dropped → IsSettled lets_in xs v w
+    take first ys ≡ take count ys → PutInAll (take first ys) v w dropped → IsSettled lets_in serial xs v w
 settled lets_in xs ys v w serial size count first dropped same sized admits front puts =
-    subst (λ (zs : List Item). IsSettled lets_in zs v w) same (
-      serial,
+    subst (λ (zs : List Item). IsSettled lets_in serial zs v w) same (
       count,
       dropped,
       subst (λ (n : ℕ). lets_in serial n count) sized admits,

@@ -44,7 +44,7 @@ use Rattle.ends_core.specs.Sides.{peer_of}
 use Rattle.peer_threads.specs.Outcomes.{peer_at}
 use Rattle.outcome_core.specs.Sent.{sent_in}
 use Rattle.peer_threads.specs.Inboxes.{InboxState, HasRead, StopsAt, ReadOn}
-use Rattle.peer_threads.specs.Outboxes.{OutboxState, outbox_state, hello_due, HasWritten, Adds, BreaksIn}
+use Rattle.peer_threads.specs.Senders.{SenderState, sender_state, hello_due, HasWritten, Adds, BreaksIn}
 use Rattle.peer_threads.specs.Stops.{outcome_of}
 use Rattle.peer_threads.specs.Underway.{heard_as, most_sent, said_by, first_held, Underway, Exchanged, StopsFirst}
 use Rattle.peer_threads.specs.Underway.{FirstCame, EndCame, IsFirstPart, Refuses, IsNone, WroteUpTo}
@@ -68,8 +68,8 @@ module _ {F : Type 0} (S : Summary F) (W : Profile F) where
   -- ---- the hello
 
   -- a hello was read, and the own one written
-  pub greeted : (front : List ℕ) (unread w x : Option (List ℕ)) (b : InboxState) (o p : OutboxState) →
-      o ≡ outbox_state false 0 → p ≡ outbox_state true o.sent → Appends w x (hello_due W o) →
+  pub greeted : (front : List ℕ) (unread w x : Option (List ℕ)) (b : InboxState) (o p : SenderState) →
+      o ≡ sender_state false 0 → p ≡ sender_state true o.sent → Appends w x (hello_due W o) →
       IsBytes front → HasRead W b front [] → Exchanged W b p (traffic_after front unread unread w x) []
   greeted front unread w x b o p new now written fits came = record {
     bytes = front;
@@ -85,8 +85,8 @@ module _ {F : Type 0} (S : Summary F) (W : Profile F) where
 
   -- it is another, or memory runs out after it
   pub stops-ungreeted : Laws S W →
-      (P : Peer) (o : OutboxState) (front : List ℕ) (unread held : Option (List ℕ)) (r : Seen) (broken : Bool)
-      (stop : Stop) → o ≡ outbox_state false 0 → IsBytes front → StopsAt W r front [] stop →
+      (P : Peer) (o : SenderState) (front : List ℕ) (unread held : Option (List ℕ)) (r : Seen) (broken : Bool)
+      (stop : Stop) → o ≡ sender_state false 0 → IsBytes front → StopsAt W r front [] stop →
       Stopped S W IsNone (responding P) o (traffic_after front unread unread held held) r broken stop
   stops-ungreeted laws P o front unread held r broken stop new fits stopped =
       stops-unheard-by S W IsNone laws (responding P) (first_held S P []) o
@@ -97,7 +97,7 @@ module _ {F : Type 0} (S : Summary F) (W : Profile F) where
 
   -- ---- the first message
 
-  pub reads-on : (t : Traffic) (left : Option (List ℕ)) (b c : InboxState) (o : OutboxState) (es fs : List (Event F))
+  pub reads-on : (t : Traffic) (left : Option (List ℕ)) (b c : InboxState) (o : SenderState) (es fs : List (Event F))
       (x : Exchanged W b o t es) →
       More S W t.left left c x.bytes fs →
       Exchanged W c o (traffic_of t.unread left t.held t.holds) fs
@@ -163,7 +163,7 @@ module _ {F : Type 0} (S : Summary F) (W : Profile F) where
       inr (record { event = e; came = has; refuses = λ P. refused P p fits })
 
   stops-there : Laws S W →
-      (P : Peer) (M : Message F) (b c : InboxState) (o : OutboxState) (t : Traffic) (left : Option (List ℕ))
+      (P : Peer) (M : Message F) (b c : InboxState) (o : SenderState) (t : Traffic) (left : Option (List ℕ))
       (r : Seen) (broken : Bool) (stop : Stop) (es : List (Event F)) →
       says S (responding P) (messages_of [] es) ≡ [] →
       hears S (responding P) es ≡ Goes_on (first_held S P M).end (first_held S P M).taken →
@@ -205,7 +205,7 @@ module _ {F : Type 0} (S : Summary F) (W : Profile F) where
 
   -- its first part does not come, or may not
   pub stops-partless : Laws S W →
-      (P : Peer) (b c : InboxState) (o : OutboxState) (t : Traffic) (left : Option (List ℕ)) (r : Seen) (broken : Bool)
+      (P : Peer) (b c : InboxState) (o : SenderState) (t : Traffic) (left : Option (List ℕ)) (r : Seen) (broken : Bool)
       (stop : Stop) (x : Exchanged W b o t []) →
       ((bytes : List ℕ) × IsBytes bytes × Consumes t.left left bytes × StopsFirst S W [] r c (x.bytes ++ bytes) []
       stop) →
@@ -215,7 +215,7 @@ module _ {F : Type 0} (S : Summary F) (W : Profile F) where
 
   -- its end does not come
   pub stops-endless : Laws S W →
-      (P : Peer) (p : Part F) (b c : InboxState) (o : OutboxState) (t : Traffic) (left : Option (List ℕ))
+      (P : Peer) (p : Part F) (b c : InboxState) (o : SenderState) (t : Traffic) (left : Option (List ℕ))
       (r : Seen) (broken : Bool) (stop : Stop) →
       IsFirstPart p → (x : Exchanged W b o t (Came p ∷ [])) →
       ((bytes : List ℕ) × IsBytes bytes × Consumes t.left left bytes
@@ -227,7 +227,7 @@ module _ {F : Type 0} (S : Summary F) (W : Profile F) where
   -- ---- after the pin
 
   -- the hello was written, and no more: memory runs out, or the table of sessions refuses
-  stops-after : (T : ℕ → ℕ → Type 0) (P : Peer) (b : InboxState) (o : OutboxState) (t : Traffic) (r : Seen)
+  stops-after : (T : ℕ → ℕ → Type 0) (P : Peer) (b : InboxState) (o : SenderState) (t : Traffic) (r : Seen)
       (broken : Bool) (es : List (Event F)) (stop : Stop) (x : Exchanged W b o t es) →
       (WroteUpTo S W (responding P) o t x.bytes → WhyStopped S W T (responding P) o t r broken x.bytes stop) →
       Stopped S W T (responding P) o t r broken stop
@@ -238,12 +238,12 @@ module _ {F : Type 0} (S : Summary F) (W : Profile F) where
     why = why (inl (wrote-first S W (responding P) o t x.bytes [] _ refl x.written));
   }
 
-  pub stops-poor : (P : Peer) (b : InboxState) (o : OutboxState) (t : Traffic) (r : Seen) (broken : Bool)
+  pub stops-poor : (P : Peer) (b : InboxState) (o : SenderState) (t : Traffic) (r : Seen) (broken : Bool)
       (es : List (Event F)) →
       Exchanged W b o t es → Stopped S W (IsTimely o.sent) (responding P) o t r broken stops.Memory
   stops-poor P b o t r broken es x = stops-after (IsTimely o.sent) P b o t r broken es stops.Memory x (λ wrote. wrote)
 
-  pub stops-unlisted : (P : Peer) (b : InboxState) (o : OutboxState) (t : Traffic) (r : Seen) (broken : Bool)
+  pub stops-unlisted : (P : Peer) (b : InboxState) (o : SenderState) (t : Traffic) (r : Seen) (broken : Bool)
       (es : List (Event F))
       (code : ℕ) →
       Exchanged W b o t es → (code ≡ table_full) ⊎ (code ≡ serials_spent) → o.sent ≡ 0 →
@@ -253,7 +253,7 @@ module _ {F : Type 0} (S : Summary F) (W : Profile F) where
       (λ wrote. (wrote, inr (inl (table, none))))
 
   -- the part waits for the end that was made
-  abbrev pub at-part : (P : Peer) (steps : List ℕ) (h : EndState F) (b : InboxState) (o : OutboxState) (t : Traffic)
+  abbrev pub at-part : (P : Peer) (steps : List ℕ) (h : EndState F) (b : InboxState) (o : SenderState) (t : Traffic)
       (p : Part F) →
       h ≡ fresh steps (responder P) →
       Exchanged W b o t (Came p ∷ Ended ∷ []) → At S W (responding P) h o t (Came p)
@@ -271,7 +271,7 @@ module _ {F : Type 0} (S : Summary F) (W : Profile F) where
       }
 
   -- it was heard, and the end of the message waits
-  abbrev pub at-end : (P : Peer) (steps : List ℕ) (h g : EndState F) (b : InboxState) (o : OutboxState) (t : Traffic)
+  abbrev pub at-end : (P : Peer) (steps : List ℕ) (h g : EndState F) (b : InboxState) (o : SenderState) (t : Traffic)
       (p : Part F) →
       h ≡ fresh steps (responder P) →
       heard_as g ≡ hear_now S h.end h.taken (Came p) → g.end ≡ h.end → Exchanged W b o t (Came p ∷ Ended ∷ []) →
@@ -291,7 +291,7 @@ module _ {F : Type 0} (S : Summary F) (W : Profile F) where
       }
 
   pub answers-first : Laws S W →
-      (P : Peer) (steps : List ℕ) (h g k : EndState F) (b : InboxState) (o q : OutboxState) (t : Traffic)
+      (P : Peer) (steps : List ℕ) (h g k : EndState F) (b : InboxState) (o q : SenderState) (t : Traffic)
       (holds : Option (List ℕ)) (p : Part F) →
       h ≡ fresh steps (responder P) →
       heard_as g ≡ hear_now S h.end h.taken (Came p) → g.end ≡ h.end →
@@ -305,9 +305,9 @@ module _ {F : Type 0} (S : Summary F) (W : Profile F) where
   -- ---- all that is said of it
 
   -- the writer failed after the hello that was read, before the own one was written
-  pub stops-broken-after : (T : ℕ → ℕ → Type 0) (P : Peer) (o p : OutboxState) (front : List ℕ)
+  pub stops-broken-after : (T : ℕ → ℕ → Type 0) (P : Peer) (o p : SenderState) (front : List ℕ)
       (unread held holds : Option (List ℕ)) (r : Seen) (broken : Bool) →
-      o ≡ outbox_state false 0 → p ≡ o → IsTrue broken → BreaksIn held holds (hello_due W o) → IsBytes front →
+      o ≡ sender_state false 0 → p ≡ o → IsTrue broken → BreaksIn held holds (hello_due W o) → IsBytes front →
       Stopped S W T (responding P) p (traffic_after front unread unread held holds) r broken
       (stops.Io directions.Write)
   stops-broken-after T P o p front unread held holds r broken new same failed begins fits = record {
@@ -325,7 +325,7 @@ module _ {F : Type 0} (S : Summary F) (W : Profile F) where
   }
 
   -- a session that stopped before it said anything
-  pub speaks-stopped : (P : Peer) (version bound : ℕ) (x : OutboxState) (t : Traffic) (holds : Option (List ℕ))
+  pub speaks-stopped : (P : Peer) (version bound : ℕ) (x : SenderState) (t : Traffic) (holds : Option (List ℕ))
       (r w : Seen) (broken : Bool) (stop : Stop) (o : Outcome) →
       x.sent ≡ 0 →
       Stopped S W (IsTimely x.sent) (responding P) x t r broken stop → Leaves W x t.holds holds broken w.failed stop →
@@ -337,7 +337,7 @@ module _ {F : Type 0} (S : Summary F) (W : Profile F) where
       (stopped-speaks S W (responding P) version bound x t holds r w broken stop stopped leaves few)
 
   -- it was not opened
-  pub unopened : (x : OutboxState) (t : Traffic) (holds : Option (List ℕ)) (r w : Seen) (broken : Bool) (stop : Stop)
+  pub unopened : (x : SenderState) (t : Traffic) (holds : Option (List ℕ)) (r w : Seen) (broken : Bool) (stop : Stop)
       (o : Outcome) →
       x.sent ≡ 0 →
       ((P : Peer) → Stopped S W IsNone (responding P) x t r broken stop) →
@@ -372,7 +372,7 @@ module _ {F : Type 0} (S : Summary F) (W : Profile F) where
 
   -- a first message was handed out, and more was read or not
   pub came-first : FeedsJoin W →
-      (b : InboxState) (o : OutboxState) (unread : Origin) (left last held holds : Option (List ℕ)) (p : Part F) →
+      (b : InboxState) (o : SenderState) (unread : Origin) (left last held holds : Option (List ℕ)) (p : Part F) →
       IsFirstPart p → Exchanged W b o (traffic_of unread left held holds) (Came p ∷ Ended ∷ []) → ReadOn left last →
       CameFirst W unread last
   came-first join b o unread left last held holds p fits x on =

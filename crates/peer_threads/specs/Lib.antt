@@ -26,7 +26,7 @@ pub mod Choices
 pub mod Stops
 pub mod Inboxes
 pub mod Hellos
-pub mod Outboxes
+pub mod Senders
 pub mod Underway
 pub mod Listening
 pub mod Workers

@@ -44,7 +44,7 @@ use Rattle.peer_threads.specs.Outcomes.{Traffic, Takes, SaidAll, Bears, call_of,
 use Rattle.outcome_core.specs.Sent.{sent_in}
 use Rattle.ends_core.specs.Sides.{called_by, said_to, session_at}
 use Rattle.peer_threads.specs.Inboxes.{InboxState, HasRead, StopsAt}
-use Rattle.peer_threads.specs.Outboxes.{OutboxState, HasWritten, Adds, BreaksIn, WroteSo, refusal_text}
+use Rattle.peer_threads.specs.Senders.{SenderState, HasWritten, Adds, BreaksIn, WroteSo, refusal_text}
 
 abbrev pub most_sent : {F : Type 0} → ℕ → EndState F → ℕ
 most_sent most h = rank_by h.steps (length h.end.peer.items) + most
@@ -70,14 +70,14 @@ IsUncounted code = (code ≡ unknown) ⊎ (code ≡ over_bound)
 
 module _ {F : Type 0} (W : Profile F) where
   -- of the one message a proper beginning was written
-  pub record BreaksSaying (o p : OutboxState) (held holds : Option (List ℕ)) (Ms : List (Message F)) : Type 0 where
+  pub record BreaksSaying (o p : SenderState) (held holds : Option (List ℕ)) (Ms : List (Message F)) : Type 0 where
     pub same : p ≡ o
     pub message : Message F
     pub one : Ms ≡ message ∷ []
     pub front : BreaksIn held holds (message_text W message)
 
   -- why a message is not said: it was not counted, and nothing was written; or the gate closed after it
-  abbrev pub Unsaid : OutboxState → OutboxState → Option (List ℕ) → Option (List ℕ) → Bool → List (Message F) → Stop →
+  abbrev pub Unsaid : SenderState → SenderState → Option (List ℕ) → Option (List ℕ) → Bool → List (Message F) → Stop →
       Type 0
   Unsaid o p held holds broken Ms (stops.Refused code) =
       (IsUncounted code × (0 < length Ms) × Adds W o p held holds [])
@@ -98,7 +98,7 @@ abbrev pub IsFirstPart : {F : Type 0} → Part F → Type 0
 IsFirstPart p = refusal (next First p) ≡ None
 
 module _ {F : Type 0} (W : Profile F) where
-  pub record Exchanged (b : InboxState) (o : OutboxState) (t : Traffic) (es : List (Event F)) : Type 0 where
+  pub record Exchanged (b : InboxState) (o : SenderState) (t : Traffic) (es : List (Event F)) : Type 0 where
     pub bytes : List ℕ
     pub are_bytes : IsBytes bytes
     pub read : Takes t.unread t.left bytes
@@ -108,7 +108,7 @@ module _ {F : Type 0} (W : Profile F) where
 -- ---- the end of a session
 
 -- nothing was written, not the hello either
-pub record WroteNone (o : OutboxState) (t : Traffic) : Type 0 where
+pub record WroteNone (o : SenderState) (t : Traffic) : Type 0 where
   pub greeted : o.greeted ≡ false
   pub none : o.sent ≡ 0
   pub written : Appends t.held t.holds []
@@ -132,14 +132,14 @@ IsNone called code = ⊥
 
 module _ {F : Type 0} (W : Profile F) where
   -- what a refusal writes after all else: nothing where the connection failed, or the peer refused
-  abbrev pub Leaves : OutboxState → Option (List ℕ) → Option (List ℕ) → Bool → Bool → Stop → Type 0
+  abbrev pub Leaves : SenderState → Option (List ℕ) → Option (List ℕ) → Bool → Bool → Stop → Type 0
   Leaves o held holds broken failed (stops.Refused code) = WroteSo held holds failed (refusal_text W o code)
   Leaves o held holds broken failed stops.Memory = WroteSo held holds failed (refusal_text W o no_memory)
   Leaves o held holds broken failed (stops.PeerRefused code) = Keeps held holds
   Leaves o held holds broken failed (stops.Io side) = Keeps held holds × (failed ≡ broken)
 
 module _ {F : Type 0} (S : Summary F) (W : Profile F) where
-  pub record Underway (s : Speaker F) (h : EndState F) (b : InboxState) (o : OutboxState) (t : Traffic) : Type 0 where
+  pub record Underway (s : Speaker F) (h : EndState F) (b : InboxState) (o : SenderState) (t : Traffic) : Type 0 where
     pub events : List (Event F)
     pub bytes : List ℕ
     pub are_bytes : IsBytes bytes
@@ -151,7 +151,7 @@ module _ {F : Type 0} (S : Summary F) (W : Profile F) where
   -- ---- one event
 
   -- so it stops, and writes no message; or its reply is not said
-  abbrev pub StopsBy : EndState F → Event F → OutboxState → OutboxState → Option (List ℕ) → Option (List ℕ) → Bool →
+  abbrev pub StopsBy : EndState F → Event F → SenderState → SenderState → Option (List ℕ) → Option (List ℕ) → Bool →
       Stop →
       Type 0
   StopsBy h e o p held holds broken stop =
@@ -180,12 +180,12 @@ module _ {F : Type 0} (S : Summary F) (W : Profile F) where
   -- ---- the end of a session
 
   -- the first messages that the bytes call for were written, after the hello: so many
-  pub record WroteFirst (s : Speaker F) (o : OutboxState) (t : Traffic) (bytes : List ℕ) : Type 0 where
+  pub record WroteFirst (s : Speaker F) (o : SenderState) (t : Traffic) (bytes : List ℕ) : Type 0 where
     pub greeted : IsTrue o.greeted
     pub count : o.sent ≤ length (called_by S W s bytes)
     pub written : Appends t.held t.holds (text W o.sent (called_by S W s bytes))
 
-  abbrev pub WroteUpTo : Speaker F → OutboxState → Traffic → List ℕ → Type 0
+  abbrev pub WroteUpTo : Speaker F → SenderState → Traffic → List ℕ → Type 0
   WroteUpTo s o t bytes = WroteFirst s o t bytes ⊎ WroteNone o t
 
   -- the first fault in the bytes, after all that they call for and may be said
@@ -194,7 +194,7 @@ module _ {F : Type 0} (S : Summary F) (W : Profile F) where
     pub after : (length (called_by S W s bytes) ≡ k) ⊎ IsLong (called_by S W s bytes) k code
 
   -- a fault frame stands after all that was answered
-  pub record IsTold (s : Speaker F) (o : OutboxState) (t : Traffic) (over : Bool) (bytes : List ℕ)
+  pub record IsTold (s : Speaker F) (o : SenderState) (t : Traffic) (over : Bool) (bytes : List ℕ)
       (code : ℕ) : Type 0 where
     pub said : SaidAll S W s t bytes o.sent
     pub frame : fault_frame W bytes ≡ Some code
@@ -208,7 +208,7 @@ module _ {F : Type 0} (S : Summary F) (W : Profile F) where
     pub written : Appends t.held t.holds all
     pub broke : (version : ℕ) (r w : Seen) → BrokeOff S W (call_of s version bytes all r w) k
 
-  abbrev pub WhyStopped : (ℕ → ℕ → Type 0) → Speaker F → OutboxState → Traffic → Seen → Bool → List ℕ → Stop → Type 0
+  abbrev pub WhyStopped : (ℕ → ℕ → Type 0) → Speaker F → SenderState → Traffic → Seen → Bool → List ℕ → Stop → Type 0
   WhyStopped T s o t r broken bytes (stops.Refused code) =
       WroteUpTo s o t bytes × (IsFirst s r.ended bytes o.sent code ⊎ T (length (called_by S W s bytes)) code)
   WhyStopped T s o t r broken bytes (stops.PeerRefused code) = IsTold s o t r.ended bytes code
@@ -217,7 +217,7 @@ module _ {F : Type 0} (S : Summary F) (W : Profile F) where
       (b : BreaksOff s o.sent t bytes) × HasBroken r broken bytes side
       × IsCut (length b.all) (length (session_text W (called_by S W s bytes))) side
 
-  pub record Stopped (T : ℕ → ℕ → Type 0) (s : Speaker F) (o : OutboxState) (t : Traffic) (r : Seen) (broken : Bool)
+  pub record Stopped (T : ℕ → ℕ → Type 0) (s : Speaker F) (o : SenderState) (t : Traffic) (r : Seen) (broken : Bool)
       (stop : Stop) : Type 0 where
     pub bytes : List ℕ
     pub are_bytes : IsBytes bytes
@@ -225,7 +225,7 @@ module _ {F : Type 0} (S : Summary F) (W : Profile F) where
     pub why : WhyStopped T s o t r broken bytes stop
 
   -- the session is over, and all was said
-  pub record Finished (s : Speaker F) (e : End F) (o : OutboxState) (t : Traffic) : Type 0 where
+  pub record Finished (s : Speaker F) (e : End F) (o : SenderState) (t : Traffic) : Type 0 where
     pub bytes : List ℕ
     pub are_bytes : IsBytes bytes
     pub read : Takes t.unread t.left bytes
@@ -234,7 +234,7 @@ module _ {F : Type 0} (S : Summary F) (W : Profile F) where
     pub over : IsTrue (is_over e.stage)
     pub called : called_by S W s bytes ≡ said_to S W s bytes
 
-  abbrev pub Talked : Speaker F → End F → OutboxState → Traffic → Seen → Bool → Result (Unit {0}) Stop → Type 0
+  abbrev pub Talked : Speaker F → End F → SenderState → Traffic → Seen → Bool → Result (Unit {0}) Stop → Type 0
   Talked s e o t r broken (Ok x) = Finished s e o t
   Talked s e o t r broken (Err stop) = Stopped (IsTimely o.sent) s o t r broken stop
 

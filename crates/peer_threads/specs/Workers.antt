@@ -5,8 +5,10 @@
 --     PutIn x v w                the seat has put the item into the log, or found it there
 --     PutInOrDropped x v w dropped   .. or dropped it, since there was no room
 --     PutInAll xs v w dropped    it has done so with each of these, in order, but for so many that were dropped
---     IsSettled lets_in xs v w   it has done so with the first of these, as many as the gate lets in
---     PutsInLearned lets_in o v w    .. of what the outcome says was learned of the peer; nothing where it did not end
+--     IsSettled lets_in serial xs v w   it has done so with the first of these, as many as the gate lets in of the
+--                                session with this serial
+--     PutsInBy lets_in serial o v w  .. of what the outcome says was learned of the peer; nothing where it did not end
+--     PutsInLearned lets_in o v w    the same of a session whose serial is not said
 --     LookedOrNot v w            the seat was used for one `pin`, or is as before
 --     Taught spoke learned       what was learned of a session that ended; or none, of one that did not
 use Rattle.std.specs.Prelude.{◌≡◌, ◌≤◌, ◌⊎◌, ◌+◌, ℕ, List, [], ◌∷◌, length, take, Option, Some, None, ⊤}
@@ -49,12 +51,21 @@ PutInAll (x ∷ xs) v w dropped =
     ⊎ (DidNotInsert x v Memory w × (dropped ≡ length (x ∷ xs)))
 
 -- `lets_in` is what the gate says of a session: of so many items it lets in so many
-abbrev pub IsSettled : (ℕ → ℕ → ℕ → Type 0) → List Item → View → View → Type 0
-IsSettled lets_in xs v w = (serial count dropped : ℕ) × lets_in serial (length xs) count
+abbrev pub IsSettled : (ℕ → ℕ → ℕ → Type 0) → ℕ → List Item → View → View → Type 0
+IsSettled lets_in serial xs v w = (count dropped : ℕ) × lets_in serial (length xs) count
     × PutInAll (take count xs) v w dropped
 
+abbrev pub PutsInBy : (ℕ → ℕ → ℕ → Type 0) → ℕ → Outcome → View → View → Type 0
+PutsInBy lets_in serial (outcomes.Ended learned sent version) v w = IsSettled lets_in serial learned.theirs v w
+PutsInBy lets_in serial (outcomes.Refused code sent) v w = w ≡ v
+PutsInBy lets_in serial (outcomes.PeerRefused code sent) v w = w ≡ v
+PutsInBy lets_in serial (outcomes.Io side sent) v w = w ≡ v
+PutsInBy lets_in serial (outcomes.Memory sent) v w = w ≡ v
+
+-- .. of a session whose serial is not said
 abbrev pub PutsInLearned : (ℕ → ℕ → ℕ → Type 0) → Outcome → View → View → Type 0
-PutsInLearned lets_in (outcomes.Ended learned sent version) v w = IsSettled lets_in learned.theirs v w
+PutsInLearned lets_in (outcomes.Ended learned sent version) v w =
+    (serial : ℕ) × IsSettled lets_in serial learned.theirs v w
 PutsInLearned lets_in (outcomes.Refused code sent) v w = w ≡ v
 PutsInLearned lets_in (outcomes.PeerRefused code sent) v w = w ≡ v
 PutsInLearned lets_in (outcomes.Io side sent) v w = w ≡ v

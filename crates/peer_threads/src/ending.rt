@@ -8,7 +8,7 @@ ghost use Rattle.peer_threads.specs.Stops.{outcome_of};
 ghost use Rattle.peer_threads.specs.Listening.{Fares, HasFared, StopFares};
 ghost use Rattle.peer_threads.specs.Underway.{Talked, Spoke, Leaves};
 
-use crate::outbox::Outbox;
+use crate::sender::Sender;
 use crate::stop::Stop;
 use digest_core::Summary;
 use ends_core::{Role, SessionEnd};
@@ -22,24 +22,24 @@ const NO_MEMORY: u8 = 90;
 
 /// The outcome of a session that stopped. Where this side refuses, one fault frame is written.
 pub(crate) fn stopped<W: Write, F: Summary>(
-    outbox: Outbox<F>,
+    sender: Sender<F>,
     writer: &mut Watched<W>,
     stop: Stop,
 ) -> Outcome
-    ensures outcome { result ≡ outcome_of outbox.sent stop }
-    ensures leaves { Leaves F.profile outbox (W.contents writer.old.inner) (W.contents writer.new.inner)
+    ensures outcome { result ≡ outcome_of sender.sent stop }
+    ensures leaves { Leaves F.profile sender (W.contents writer.old.inner) (W.contents writer.new.inner)
         writer.old.failed writer.new.failed stop }
     ensures fared { (start reads : ℕ) (failed : Bool) → StopFares start failed reads stop →
         HasFared start failed reads result }
 {
-    let sent = outbox.sent();
+    let sent = sender.sent();
     match stop {
         Stop::Refused(code) => {
-            outbox.refuse(writer, code);
+            sender.refuse(writer, code);
             Outcome::Refused { code, sent }
         }
         Stop::Memory => {
-            outbox.refuse(writer, NO_MEMORY);
+            sender.refuse(writer, NO_MEMORY);
             Outcome::Memory { sent }
         }
         Stop::PeerRefused(code) => Outcome::PeerRefused { code, sent },
@@ -51,14 +51,14 @@ pub(crate) fn stopped<W: Write, F: Summary>(
 pub(crate) fn concluded<P: Role, S: RangeStore, W: Write, F: Summary>(
     party: SessionEnd<P, S, F>,
     version: usize,
-    outbox: Outbox<F>,
+    sender: Sender<F>,
     writer: &mut Watched<W>,
     talked: Result<(), Stop>,
 ) -> Outcome
     ensures bytes { (s : Speaker F) (bound : ℕ) (unread : Origin) (left held : Option (List ℕ)) (r : Seen) →
-        Talked F.summary F.profile s party.end outbox
+        Talked F.summary F.profile s party.end sender
         (traffic_of unread left held (W.contents writer.old.inner)) r writer.old.failed talked →
-        outbox.sent ≤ bound → Spoke F.summary F.profile s version bound
+        sender.sent ≤ bound → Spoke F.summary F.profile s version bound
         (traffic_of unread left held (W.contents writer.new.inner)) r
         (seen writer.new.failed writer.new.ended) result }
     ensures version { HasVersion result version }
@@ -68,9 +68,9 @@ pub(crate) fn concluded<P: Role, S: RangeStore, W: Write, F: Summary>(
     match talked {
         Ok(()) => Outcome::Ended {
             learned: party.into_learned(),
-            sent: outbox.sent(),
+            sent: sender.sent(),
             version,
         },
-        Err(stop) => stopped(outbox, writer, stop),
+        Err(stop) => stopped(sender, writer, stop),
     }
 }

@@ -23,7 +23,7 @@ ghost use Rattle.peer_threads.specs.Hellos.{IsHello};
 ghost use Rattle.peer_threads.specs.Outcomes.{Origin, Reader, After, traffic, traffic_of, traffic_after, seen};
 ghost use Rattle.peer_threads.specs.Outcomes.{Speaks, Unopened, CameFirst, HasVersion, peer_at};
 ghost use Rattle.ends_core.specs.Sides.{peer_of};
-ghost use Rattle.peer_threads.specs.Outboxes.{outbox_state};
+ghost use Rattle.peer_threads.specs.Senders.{sender_state};
 ghost use Rattle.peer_threads.specs.Underway.{Exchanged, FirstCame, EndCame, IsFirstPart, first_held, most_sent};
 ghost use Rattle.peer_threads.specs.Underway.{IsNone, Refuses, Stopped, Talked, Spoke};
 
@@ -34,8 +34,8 @@ use crate::ending::{concluded, stopped};
 use crate::gate::Gate;
 use crate::hello::{Hello, read_hello};
 use crate::inbox::Inbox;
-use crate::outbox::Outbox;
 use crate::pinned_ends::{new_initiator, new_responder};
+use crate::sender::Sender;
 use crate::shared::Shared;
 use crate::stop::Stop;
 use crate::talk::{end, exchange_laws, say, take, talk};
@@ -138,24 +138,24 @@ fn first_end<R: Read, F: Summary>(
 fn first_message<R: Read, W: Write, F: Summary>(
     alloc: Global,
     hello: Hello,
-    outbox: &mut Outbox<F>,
+    sender: &mut Sender<F>,
     connection: &mut Connection<R, W>,
 ) -> Result<Begun<F>, Stop>
     requires hello { IsHello hello }
     requires fine { connection.old.writer.failed ≡ false }
     requires listens { connection.old.reader.failed ≡ false }
-    requires new { outbox.old ≡ outbox_state false 0 }
-    ensures met { IfOk result (λ o. IsFirstPart o.first × Exchanged F.profile o.inbox outbox.new
+    requires new { sender.old ≡ sender_state false 0 }
+    ensures met { IfOk result (λ o. IsFirstPart o.first × Exchanged F.profile o.inbox sender.new
         (traffic_after hello.bytes (R.remaining connection.old.reader.inner) (R.remaining connection.new.reader.inner)
         (W.contents connection.old.writer.inner) (W.contents connection.new.writer.inner))
         (Came o.first ∷ Ended ∷ [])) }
     ensures fine { IfOk result (λ _. connection.new.writer.failed ≡ false) }
-    ensures stopped { IfErr result (λ stop. (P : Peer) → Stopped F.summary F.profile IsNone (responding P) outbox.new
+    ensures stopped { IfErr result (λ stop. (P : Peer) → Stopped F.summary F.profile IsNone (responding P) sender.new
         (traffic_after hello.bytes (R.remaining connection.old.reader.inner) (R.remaining connection.new.reader.inner)
         (W.contents connection.old.writer.inner) (W.contents connection.new.writer.inner))
         (seen connection.new.reader.failed connection.new.reader.ended)
         connection.new.writer.failed stop) }
-    ensures none { outbox.new.sent ≡ 0 }
+    ensures none { sender.new.sent ≡ 0 }
     ensures reads { IfOk result
         (λ o. (connection.new.reader.reads + hello.reads ≤ connection.old.reader.reads + o.inbox.reads)
         × (o.inbox.reads ≤ 2 ^ 32)) }
@@ -169,7 +169,7 @@ fn first_message<R: Read, W: Write, F: Summary>(
 {
     exchange_laws::<F>();
     let mut inbox = Inbox::<F>::after(alloc, hello)?;
-    outbox.greet(&mut connection.writer)?;
+    sender.greet(&mut connection.writer)?;
     let first = first_part(alloc, &mut inbox, &mut connection.reader)?;
     first_end(alloc, &mut inbox, &mut connection.reader)?;
     Ok(Begun { inbox, first })
@@ -180,27 +180,27 @@ fn answer<T: Wait, G: Gate, P: Role, S: RangeStore, R: Read, W: Write, F: Summar
     booking: &Booking<'_, T, G>,
     party: &mut SessionEnd<P, S, F>,
     begun: Begun<F>,
-    outbox: &mut Outbox<F>,
+    sender: &mut Sender<F>,
     connection: &mut Connection<R, W>,
 ) -> Result<(), Stop>
     requires fine { connection.old.writer.failed ≡ false }
     requires listens { connection.old.reader.failed ≡ false }
     requires booked { booking.now.booked.bound ≡ most_sent (most_of P.side) party.old }
-    requires count { outbox.old.sent ≡ party.old.end.sent }
+    requires count { sender.old.sent ≡ party.old.end.sent }
     requires goes { is_over party.old.end.stage ≡ false }
     ensures talked { (p : Peer) (steps : List ℕ) (unread : Origin) (held : Option (List ℕ)) →
         party.old ≡ fresh steps (ends.responder p) →
-        Exchanged F.profile begun.inbox outbox.old (traffic_of unread (R.remaining connection.old.reader.inner) held
+        Exchanged F.profile begun.inbox sender.old (traffic_of unread (R.remaining connection.old.reader.inner) held
         (W.contents connection.old.writer.inner)) (Came begun.first ∷ Ended ∷ []) →
-        Talked F.summary F.profile (responding p) party.new.end outbox.new
+        Talked F.summary F.profile (responding p) party.new.end sender.new
         (traffic_of unread (R.remaining connection.new.reader.inner) held (W.contents connection.new.writer.inner))
         (seen connection.new.reader.failed connection.new.reader.ended) connection.new.writer.failed result }
     ensures on { (p : Peer) (steps : List ℕ) (unread : Origin) (held : Option (List ℕ)) →
         party.old ≡ fresh steps (ends.responder p) →
-        Exchanged F.profile begun.inbox outbox.old (traffic_of unread (R.remaining connection.old.reader.inner) held
+        Exchanged F.profile begun.inbox sender.old (traffic_of unread (R.remaining connection.old.reader.inner) held
         (W.contents connection.old.writer.inner)) (Came begun.first ∷ Ended ∷ []) →
         ReadOn (R.remaining connection.old.reader.inner) (R.remaining connection.new.reader.inner) }
-    ensures few { outbox.new.sent ≤ most_sent (most_of P.side) party.old }
+    ensures few { sender.new.sent ≤ most_sent (most_of P.side) party.old }
     ensures reads { begun.inbox.reads ≤ 2 ^ 32 →
         connection.new.reader.reads + begun.inbox.reads ≤ connection.old.reader.reads + 2 ^ 32 }
     ensures fared { (start : ℕ) → InStep start connection.old.reader.reads begun.inbox.reads →
@@ -210,8 +210,8 @@ fn answer<T: Wait, G: Gate, P: Role, S: RangeStore, R: Read, W: Write, F: Summar
     let Begun { mut inbox, first } = begun;
     let _ = party.sent(); // proof only: no more messages than the bound
     take(booking, party, &first)?;
-    end(booking, party, outbox, &mut connection.writer)?;
-    talk(booking, party, &mut inbox, outbox, connection)
+    end(booking, party, sender, &mut connection.writer)?;
+    talk(booking, party, &mut inbox, sender, connection)
 }
 
 /// The side that is spoken to first, with the version that it speaks of.
@@ -219,15 +219,15 @@ fn respond<T: Wait, S: RangeStore, G: Gate, R: Read, W: Write, F: Summary>(
     host: &Host<'_, T, G>,
     pin: Pin<S>,
     begun: Begun<F>,
-    mut outbox: Outbox<F>,
+    mut sender: Sender<F>,
     connection: &mut Connection<R, W>,
 ) -> Outcome
     requires fits { length pin.items ≤ (arc_value host.now.accepted.now).table.cap }
     requires fine { connection.old.writer.failed ≡ false }
     requires listens { connection.old.reader.failed ≡ false }
-    requires none { outbox.sent ≡ 0 }
+    requires none { sender.sent ≡ 0 }
     ensures bytes { (unread : Origin) (held : Option (List ℕ)) →
-        Exchanged F.profile begun.inbox outbox (traffic_of unread (R.remaining connection.old.reader.inner) held
+        Exchanged F.profile begun.inbox sender (traffic_of unread (R.remaining connection.old.reader.inner) held
         (W.contents connection.old.writer.inner)) (Came begun.first ∷ Ended ∷ []) →
         Spoke F.summary F.profile (responding (peer_of (arc_value host.now.accepted.now) pin.items)) pin.version
         (rank_by (arc_value host.now.accepted.now).steps (length pin.items) + 1)
@@ -235,7 +235,7 @@ fn respond<T: Wait, S: RangeStore, G: Gate, R: Read, W: Write, F: Summary>(
         (seen connection.new.reader.failed connection.new.reader.ended)
         (seen connection.new.writer.failed connection.new.writer.ended) result }
     ensures on { (unread : Origin) (held : Option (List ℕ)) →
-        Exchanged F.profile begun.inbox outbox (traffic_of unread (R.remaining connection.old.reader.inner) held
+        Exchanged F.profile begun.inbox sender (traffic_of unread (R.remaining connection.old.reader.inner) held
         (W.contents connection.old.writer.inner)) (Came begun.first ∷ Ended ∷ []) →
         ReadOn (R.remaining connection.old.reader.inner) (R.remaining connection.new.reader.inner) }
     ensures version { HasVersion result pin.version }
@@ -247,14 +247,14 @@ fn respond<T: Wait, S: RangeStore, G: Gate, R: Read, W: Write, F: Summary>(
     let version = pin.version();
     let mut party = match new_responder(host, pin) {
         Ok(party) => party,
-        Err(AllocError) => return stopped(outbox, &mut connection.writer, Stop::Memory),
+        Err(AllocError) => return stopped(sender, &mut connection.writer, Stop::Memory),
     };
     let booking = match Booking::open(host, party.bound()) {
         Ok(booking) => booking,
-        Err(fault) => return stopped(outbox, &mut connection.writer, Stop::from(fault)),
+        Err(fault) => return stopped(sender, &mut connection.writer, Stop::from(fault)),
     };
-    let talked = answer(&booking, &mut party, begun, &mut outbox, connection);
-    let outcome = concluded(party, version, outbox, &mut connection.writer, talked);
+    let talked = answer(&booking, &mut party, begun, &mut sender, connection);
+    let outcome = concluded(party, version, sender, &mut connection.writer, talked);
     booking.close(&outcome);
     outcome
 }
@@ -264,30 +264,30 @@ fn speak<T: Wait, G: Gate, P: Role, S: RangeStore, R: Read, W: Write, F: Summary
     booking: &Booking<'_, T, G>,
     party: &mut SessionEnd<P, S, F>,
     first: &Message<F>,
-    outbox: &mut Outbox<F>,
+    sender: &mut Sender<F>,
     connection: &mut Connection<R, W>,
 ) -> Result<(), Stop>
     requires fine { connection.old.writer.failed ≡ false }
     requires listens { connection.old.reader.failed ≡ false }
     requires booked { booking.now.booked.bound ≡ most_sent (most_of P.side) party.old }
-    requires new { outbox.old ≡ outbox_state false 0 }
+    requires new { sender.old ≡ sender_state false 0 }
     requires one { party.old.end.sent ≡ 1 }
     ensures talked { (p : Peer) (steps : List ℕ) → party.old ≡ fresh steps (ends.initiator F.summary p) →
         first.now ≡ opening F.summary p.items →
-        Talked F.summary F.profile (initiating F.summary p) party.new.end outbox.new
+        Talked F.summary F.profile (initiating F.summary p) party.new.end sender.new
         (traffic (R.remaining connection.old.reader.inner) (R.remaining connection.new.reader.inner)
         (W.contents connection.old.writer.inner)
         (W.contents connection.new.writer.inner))
         (seen connection.new.reader.failed connection.new.reader.ended) connection.new.writer.failed result }
-    ensures few { outbox.new.sent ≤ most_sent (most_of P.side) party.old }
+    ensures few { sender.new.sent ≤ most_sent (most_of P.side) party.old }
     ensures reads { connection.new.reader.reads ≤ connection.old.reader.reads + 2 ^ 32 }
     ensures fared { Fares connection.old.reader.reads connection.new.reader.failed connection.new.reader.reads result }
 {
     let mut inbox = Inbox::new(booking.alloc())?;
-    outbox.greet(&mut connection.writer)?;
+    sender.greet(&mut connection.writer)?;
     let _ = party.sent(); // proof only: no more messages than the bound
-    say(booking, outbox, &mut connection.writer, first)?;
-    talk(booking, party, &mut inbox, outbox, connection)
+    say(booking, sender, &mut connection.writer, first)?;
+    talk(booking, party, &mut inbox, sender, connection)
 }
 
 /// The side that speaks first, with the version that it speaks of.
@@ -312,17 +312,17 @@ fn initiate<T: Wait, S: RangeStore, G: Gate, R: Read, W: Write, F: Summary>(
         result }
 {
     let version = pin.version();
-    let mut outbox = Outbox::<F>::new();
+    let mut sender = Sender::<F>::new();
     let (mut party, first) = match new_initiator(host, pin) {
         Ok(started) => started,
-        Err(AllocError) => return stopped(outbox, &mut connection.writer, Stop::Memory),
+        Err(AllocError) => return stopped(sender, &mut connection.writer, Stop::Memory),
     };
     let booking = match Booking::open(host, party.bound()) {
         Ok(booking) => booking,
-        Err(fault) => return stopped(outbox, &mut connection.writer, Stop::from(fault)),
+        Err(fault) => return stopped(sender, &mut connection.writer, Stop::from(fault)),
     };
-    let talked = speak(&booking, &mut party, &first, &mut outbox, connection);
-    let outcome = concluded(party, version, outbox, &mut connection.writer, talked);
+    let talked = speak(&booking, &mut party, &first, &mut sender, connection);
+    let outcome = concluded(party, version, sender, &mut connection.writer, talked);
     booking.close(&outcome);
     outcome
 }
@@ -371,14 +371,14 @@ fn serve_after<T: Wait, S: RangeStore, G: Gate, R: Read, W: Write, F: Summary>(
     codec_laws::feeds_join::<F>();
     sides_keep_bounds::<F>(shared.accepted);
     let host = Host::of(rt, alloc, shared);
-    let mut outbox = Outbox::<F>::new();
-    let begun = match first_message(alloc, hello, &mut outbox, connection) {
+    let mut sender = Sender::<F>::new();
+    let begun = match first_message(alloc, hello, &mut sender, connection) {
         Ok(begun) => begun,
-        Err(stop) => return stopped(outbox, &mut connection.writer, stop),
+        Err(stop) => return stopped(sender, &mut connection.writer, stop),
     };
     match shared.lock.pin(rt, alloc, seat) {
-        Ok(pin) => respond(&host, pin, begun, outbox, connection),
-        Err(AllocError) => stopped(outbox, &mut connection.writer, Stop::Memory),
+        Ok(pin) => respond(&host, pin, begun, sender, connection),
+        Err(AllocError) => stopped(sender, &mut connection.writer, Stop::Memory),
     }
 }
 
@@ -429,7 +429,7 @@ pub fn serve_one<T: Wait, S: RangeStore, G: Gate, R: Read, W: Write>(
     sides_keep_bounds::<Fingerprint>(shared.accepted);
     let hello = match read_hello(&mut connection.reader) {
         Ok(hello) => hello,
-        Err(stop) => return stopped(Outbox::<Fingerprint>::new(), &mut connection.writer, stop),
+        Err(stop) => return stopped(Sender::<Fingerprint>::new(), &mut connection.writer, stop),
     };
     if hello.bytes == Counted::hello() {
         serve_after::<T, S, G, R, W, Counted>(rt, alloc, shared, seat, hello, connection)
@@ -471,6 +471,6 @@ pub fn dial_one<T: Wait, S: RangeStore, G: Gate, R: Read, W: Write, F: Summary>(
     let host = Host::of(rt, alloc, shared);
     match shared.lock.pin(rt, alloc, seat) {
         Ok(pin) => initiate::<T, S, G, R, W, F>(&host, pin, connection),
-        Err(AllocError) => stopped(Outbox::<F>::new(), &mut connection.writer, Stop::Memory),
+        Err(AllocError) => stopped(Sender::<F>::new(), &mut connection.writer, Stop::Memory),
     }
 }

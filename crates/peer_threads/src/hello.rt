@@ -5,7 +5,6 @@ ghost use Rattle.peer_threads.specs.Outcomes.{seen};
 ghost use Rattle.peer_threads.specs.Hellos.{HelloRead};
 ghost use Rattle.peer_threads.specs.Listening.{InStep, Fares};
 
-use crate::piece::are_bytes;
 use crate::stop::Stop;
 use io_core::Watched;
 use outcome_core::Direction;
@@ -38,7 +37,7 @@ pub(crate) fn read_hello<R: Read>(reader: &mut Watched<R>) -> Result<Hello, Stop
     };
     let mut came = 0;
     'reads: while came < LENGTH {
-        are_bytes(&hello.bytes);
+        codec_laws::are_bytes(&hello.bytes);
         hello.reads += 1;
         let Ok(count) = reader.read(&mut hello.bytes[came..]) else {
             return Err(Stop::Io(Direction::Read));
@@ -48,6 +47,6 @@ pub(crate) fn read_hello<R: Read>(reader: &mut Watched<R>) -> Result<Hello, Stop
         }
         came += count;
     }
-    are_bytes(&hello.bytes);
+    codec_laws::are_bytes(&hello.bytes);
     Ok(hello)
 }

@@ -42,14 +42,6 @@ fn room_for(alloc: Global, length: usize) -> Result<Vec<u8>, AllocError>
     vec![in alloc; 0u8; length]
 }
 
-/// Tells that each number of the bytes is below 256; nothing is done.
-pub(crate) fn are_bytes(bytes: &[u8])
-    ensures { IsBytes bytes.now }
-{
-    codec_laws::reads_are_bytes();
-    let _ = bytes;
-}
-
 impl Piece {
     /// Nothing was read.
     pub(crate) fn new(alloc: Global) -> Result<Piece, AllocError>
@@ -92,7 +84,7 @@ impl Piece {
         self.from = 0;
         self.end = 0;
         self.end = reader.read(&mut self.room)?;
-        are_bytes(self.rest());
+        codec_laws::are_bytes(self.rest());
         Ok(self.end)
     }
 }

@@ -200,7 +200,7 @@ pub fn settle<T: Wait, S: RangeStore, G: Gate>(
     requires enrolled { IsSome seat.old.view.writer }
     ensures seat { seat.new.table_id ≡ seat.old.table_id }
     ensures kept { (seat.new.view.writer ≡ seat.old.view.writer) × (seat.new.view.cap ≡ seat.old.view.cap) }
-    ensures put { IsSettled (G.lets_in shared.now.gate.now) learned.now.theirs seat.old.view seat.new.view }
+    ensures put { IsSettled (G.lets_in shared.now.gate.now) serial learned.now.theirs seat.old.view seat.new.view }
 {
     let theirs = learned.theirs();
     let count = theirs.len();

@@ -9,7 +9,7 @@ ghost use Rattle.peer_threads.specs.Workers.{Outlives, MayWork};
 use crate::gate::Gate;
 use crate::shared::Shared;
 use crate::worker::{Intake, work};
-use outcome_core::{Report, Source, SourceFault};
+use outcome_core::{Source, SourceFault, WorkersReport};
 use std::alloc::Global;
 use std::sync::Wait;
 use std::thread::{Threads, join};
@@ -35,7 +35,7 @@ pub fn run_workers<
     seat: &mut Seat<S>,
     source: &C,
     workers: u8,
-) -> Report
+) -> WorkersReport
     requires lock { seat.old.table_id ≡ shared.now.lock.now }
     requires fits { seat.old.view.cap ≤ (arc_value shared.now.accepted.now).table.cap }
     requires count { (1 ≤ workers) × (workers ≤ 16) }
@@ -48,7 +48,7 @@ pub fn run_workers<
     let team = run_half(rt, alloc, shared, &intake, first, workers);
     let started = team.started;
     join_in(rt, shared, seat, team.seat);
-    Report {
+    WorkersReport {
         started,
         fault: intake.into_fault(),
     }

@@ -4,10 +4,10 @@ ghost use Rattle.std.specs.Prelude.{◌≡◌};
 ghost use Rattle.printing_core.specs.Endings.{report_fault, fault_in};
 
 use crate::fault::Fault;
-use outcome_core::Report;
+use outcome_core::WorkersReport;
 
 /// The refusal of a run whose workers ended so: the source's fault, or 90 where no worker started.
-pub fn refusal_of(report: Report) -> Result<(), Fault>
+pub fn refusal_of(report: WorkersReport) -> Result<(), Fault>
     ensures { fault_in result ≡ report_fault report }
 {
     match report.fault {

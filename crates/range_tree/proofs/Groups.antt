@@ -5,7 +5,7 @@ use Rattle.std.specs.List.{flat_map}
 use Rattle.std.proofs.lemmas.List.{map-append, take-append-drop, append-nil}
 use Rattle.std.proofs.lemmas.Grind.{flat_map-append}
 use Rattle.std.proofs.lemmas.Bool.{ltb-true, ltb-false}
-use Rattle.range_tree.specs.Parts.{IsFull}
+use Rattle.range_tree.specs.Nodes.{IsFull}
 use Rattle.range_tree.proofs.Widths.{IsWide, wide_append, full_from_wide}
 
 -- so many are left, and they make a group or there is none before them
@@ -37,7 +37,7 @@ grouped_more {P} width ps p left n rest grouped some few many wide after = by_le
       let all : IsWide width (ps ++ p ∷ []) = wide_append width ps (p ∷ []) (grouped.1 some) (omega arith, tt) in
       (full_from_wide width (ps ++ p ∷ []) all, (λ more. all), (λ more held. enough))
 
--- a part of a list of which all are wide, or one alone
+-- a node of a list of which all are wide, or one alone
 pub full_front : {P : Type 0} (width : P → ℕ) (ps qs : List P) → IsFull width (ps ++ qs) → IsFull width ps
 full_front width [] qs full = tt
 full_front width (p ∷ []) qs full = tt

@@ -7,7 +7,7 @@ use Rattle.std.proofs.lemmas.List.{map-append}
 use Rattle.std.proofs.lemmas.List.Concat.{flat_map-append}
 use Rattle.definitions.specs.Items.{Item, IsItem}
 use Rattle.range_tree.specs.declared.leaf.Leaf.{Leaf}
-use Rattle.range_tree.specs.Parts.{IsFull}
+use Rattle.range_tree.specs.Nodes.{IsFull}
 use Rattle.range_tree.specs.Leaves.{leaf_items, leaf_width}
 use Rattle.range_tree.specs.Loads.{AreLeavesOf}
 use Rattle.range_tree.proofs.Fits.{leaves_most}

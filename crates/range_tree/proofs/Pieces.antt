@@ -11,7 +11,7 @@ use Rattle.definitions.specs.Items.{Item, IsItem}
 use Rattle.definitions.specs.Fingerprints.{Lanes, two_lanes}
 use Rattle.store_core.specs.Sums.{running_sums}
 use Rattle.store_core.proofs.Running.{sums-length}
-use Rattle.range_tree.specs.Parts.{span, first_item}
+use Rattle.range_tree.specs.Nodes.{span, first_item}
 use Rattle.range_tree.specs.Packs.{joined, ends_from, pieces, IsPack}
 use Rattle.range_tree.proofs.Places.{put, length_put}
 

@@ -1,4 +1,4 @@
--- Spans of lists, and lists that are kept in parts.
+-- Spans of lists, and lists that are kept in nodes.
 use Rattle.std.proofs.Common.{◌≡◌, ℕ, None, Some, zero, suc, ◌+◌, ◌-◌, ◌<◌, ◌≤◌, Bool, not, ◌&&◌, filter, List, [], ◌∷◌}
 use Rattle.std.proofs.Common.{◌++◌}
 use Rattle.std.proofs.Common.{take, drop, map, length, get_or, refl, sym, ap, ◌∙◌, arith}
@@ -9,7 +9,7 @@ use Rattle.std.proofs.lemmas.Option.{get_or_from_slice_get}
 use Rattle.std.proofs.lemmas.List.{append-nil, map-append, length-append, length-take}
 use Rattle.std.proofs.lemmas.List.Concat.{flat_map-append}
 use Rattle.definitions.proofs.Partitions.{later}
-use Rattle.range_tree.specs.Parts.{span, PassFirst}
+use Rattle.range_tree.specs.Nodes.{span, PassFirst}
 
 pub drop_none : {X : Type 0} (n : ℕ) → drop {A = X} n [] ≡ []
 drop_none {X} zero = refl
@@ -48,13 +48,13 @@ map_drop f zero xs = refl
 map_drop f (suc n) [] = refl
 map_drop f (suc n) (x ∷ xs) = map_drop f n xs
 
--- what the parts hold, cut before and after one of them
+-- what the nodes hold, cut before and after one of them
 pub flat_cut : {P A : Type 0} (f : P → List A) (ps : List P) (k : ℕ) (d : P) → k < length ps →
     flat_map f ps ≡ flat_map f (take k ps) ++ (f (get_or ps k d) ++ flat_map f (drop (k + 1) ps))
 flat_cut f ps k d low = ap (flat_map f) (sym (take-append-drop k ps)) ∙ flat_map-append f (take k ps) (drop k ps)
     ∙ ap (λ qs. flat_map f (take k ps) ++ flat_map f qs) (drop_more ps k d low)
 
--- the rest of the parts, where x is the first one of it
+-- the rest of the nodes, where x is the first one of it
 pub flat_rest : {T P A : Type 0} (f : P → List A) (v : T → P) (xs : List T) (i : ℕ) (x : T) → i < length xs →
     x ≡ get_or xs i x → flat_map f (map v (drop i xs)) ≡ f (v x) ++ flat_map f (map v (drop (i + 1) xs))
 flat_rest f v xs i x low e = ap (λ ys. flat_map f (map v ys)) (drop_more xs i x low)
@@ -86,15 +86,15 @@ length_take_more f ps k d low =
     ∙ length-append (flat_map f (take k ps)) (f (get_or ps k d) ++ [])
     ∙ ap (λ xs. length (flat_map f (take k ps)) + length xs) (append-nil (f (get_or ps k d)))
 
--- the value of a part that is read
+-- the value of a node that is read
 pub value_read : {T P : Type 0} (v : T → P) (xs : List T) (i : ℕ) (x : T) → x ≡ get_or xs i x →
     get_or (map v xs) i (v x) ≡ v x
 value_read v xs i x e = map_get v xs i x ∙ ap v (sym e)
 
 -- the same, of a reference to the value, where the values are known
-pub part_read : {T P : Type 0} (v : T → P) (xs : List T) (ps : List P) (i : ℕ) (x : T) (p : P) → map v xs ≡ ps →
+pub node_read : {T P : Type 0} (v : T → P) (xs : List T) (ps : List P) (i : ℕ) (x : T) (p : P) → map v xs ≡ ps →
     x ≡ get_or xs i x → p ≡ v x → p ≡ get_or ps i p
-part_read v xs ps i x p values e is =
+node_read v xs ps i x p values e is =
     is ∙ sym (value_read v xs i x e) ∙ (λ j. get_or (values j) i (sym is j))
 
 pub get_front : {X : Type 0} (xs ys : List X) (n : ℕ) → n < length xs → slice_get (xs ++ ys) n ≡ slice_get xs n
@@ -106,10 +106,10 @@ pub get_back : {X : Type 0} (xs ys : List X) (n : ℕ) → slice_get (xs ++ ys) 
 get_back [] ys n = let e : 0 + n ≡ n = omega arith in rw e refl
 get_back (x ∷ xs) ys n = let e : suc (length xs) + n ≡ suc (length xs + n) = omega arith in rw e (get_back xs ys n)
 
-pub get_part : {P A : Type 0} (f : P → List A) (ps : List P) (k own : ℕ) (d : P) →
+pub get_node : {P A : Type 0} (f : P → List A) (ps : List P) (k own : ℕ) (d : P) →
     k < length ps → own < length (f (get_or ps k d)) →
     slice_get (flat_map f ps) (length (flat_map f (take k ps)) + own) ≡ slice_get (f (get_or ps k d)) own
-get_part f ps k own d low within =
+get_node f ps k own d low within =
     ap (λ xs. slice_get xs (length (flat_map f (take k ps)) + own)) (flat_cut f ps k d low)
     ∙ get_back (flat_map f (take k ps)) (f (get_or ps k d) ++ flat_map f (drop (k + 1) ps)) own
     ∙ get_front (f (get_or ps k d)) (flat_map f (drop (k + 1) ps)) own within
@@ -127,10 +127,10 @@ put_back [] ys n x = let e : 0 + n ≡ n = omega arith in rw e refl
 put_back (y ∷ xs) ys n x = let e : suc (length xs) + n ≡ suc (length xs + n) = omega arith in
     rw e (ap (λ zs. y ∷ zs) (put_back xs ys n x))
 
-pub put_part : {P A : Type 0} (f : P → List A) (ps : List P) (k own : ℕ) (d : P) (x : A) (gs : List P) →
+pub put_node : {P A : Type 0} (f : P → List A) (ps : List P) (k own : ℕ) (d : P) (x : A) (gs : List P) →
     k < length ps → own ≤ length (f (get_or ps k d)) → flat_map f gs ≡ put own x (f (get_or ps k d)) →
     flat_map f (take k ps ++ gs ++ drop (k + 1) ps) ≡ put (length (flat_map f (take k ps)) + own) x (flat_map f ps)
-put_part f ps k own d x gs low within e =
+put_node f ps k own d x gs low within e =
     let front = flat_map f (take k ps) in
     let back = flat_map f (drop (k + 1) ps) in
     flat_map-append f (take k ps ++ gs) (drop (k + 1) ps)
@@ -140,7 +140,7 @@ put_part f ps k own d x gs low within e =
     ∙ sym (put_back front (f (get_or ps k d) ++ back) own x)
     ∙ ap (put (length front + own) x) (sym (flat_cut f ps k d low))
 
--- two halves of the parts hold what all hold
+-- two halves of the nodes hold what all hold
 pub flat_halves : {T P A : Type 0} (f : P → List A) (v : T → P) (n : ℕ) (xs : List T) →
     flat_map f (map v (take n xs)) ++ (flat_map f (map v (drop n xs)) ++ []) ≡ flat_map f (map v xs)
 flat_halves f v n xs =

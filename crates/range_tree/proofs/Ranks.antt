@@ -1,4 +1,4 @@
--- How many items of a set come before an item, where the set is kept in parts.
+-- How many items of a set come before an item, where the set is kept in nodes.
 use Rattle.std.proofs.Common.{◌≡◌, ℕ, zero, suc, ◌+◌, ◌<◌, ◌≤◌, Bool, true, false, List, [], ◌∷◌, ◌++◌, take, drop, map}
 use Rattle.std.proofs.Common.{length, get_or, refl, sym, ap, subst, ◌∙◌, arith}
 use Rattle.std.specs.List.{flat_map, AllByRecursion}
@@ -11,7 +11,7 @@ use Rattle.std.proofs.lemmas.Map.Keys.{sorted_head, sorted_tail, Less-from_sorte
 use Rattle.definitions.specs.Items.{Item, item_cmp, comes_before}
 use Rattle.definitions.specs.Sets.{IsSet}
 use Rattle.definitions.proofs.Partitions.{PassFirst, later, less_of, filter_is_front}
-use Rattle.range_tree.specs.Parts.{first_item, count_before}
+use Rattle.range_tree.specs.Nodes.{first_item, count_before}
 use Rattle.range_tree.proofs.Places.{map_get, flat_cut}
 
 -- ---- what is before an item, and what is not
@@ -105,7 +105,7 @@ count_passes [] x set = ((λ k d low high. absurd (omega arith)), (λ k d low hi
 count_passes (y ∷ ys) x set =
     pass_by y x ys (comes_before y x) refl set (count_passes ys x (sorted_tail item_cmp y ys set))
 
--- ---- a set in parts, each of which has an item
+-- ---- a set in nodes, each of which has an item
 
 module _ {P : Type 0} (f : P → List Item) (some : (p : P) → 0 < length (f p)) where
   first_of_flat : (p : P) (ps : List P) (A : List Item) → f p ≡ A → 0 < length A →
@@ -132,7 +132,7 @@ module _ {P : Type 0} (f : P → List Item) (some : (p : P) → 0 < length (f p)
   lead_rises p ps (y ∷ ys) one set = all_leads (λ z. item_cmp y z ≡ Less) ps
       (all_back (λ z. item_cmp y z ≡ Less) ys (flat_map f ps) (sorted_head item_cmp y (ys ++ flat_map f ps) set))
 
-  -- the first items of the parts rise
+  -- the first items of the nodes rise
   pub leads_set : (ps : List P) → IsSet (flat_map f ps) → IsSet (map (λ p. first_item (f p)) ps)
   unfolding IsStrictlySortedBy
   leads_set [] set = tt
@@ -148,7 +148,7 @@ module _ {P : Type 0} (f : P → List Item) (some : (p : P) → 0 < length (f p)
     rank_none (p ∷ ps) set parted = none_before (flat_map f (p ∷ ps)) x set
         (ap (λ z. comes_before z x) (first_flat p ps) ∙ parted.1 zero p (omega arith) (omega arith))
 
-    -- where the part at k is the last one that begins before x
+    -- where the node at k is the last one that begins before x
     pub rank_some : (ps : List P) (k : ℕ) (d : P) → suc k ≤ length ps →
         IsSet (flat_map f ps) → PassFirst is_before ps (suc k) →
         count_before x (flat_map f ps) ≡ length (flat_map f (take k ps)) + count_before x (f (get_or ps k d))
@@ -187,9 +187,9 @@ unfolding IsStrictlySortedBy
 set_front [] B set = tt
 set_front (y ∷ ys) B set = (all_front (λ z. item_cmp y z ≡ Less) ys B set.0, set_front ys B set.1)
 
-pub set_part : {P : Type 0} (f : P → List Item) (ps : List P) (k : ℕ) (d : P) → k < length ps → IsSet (flat_map f ps) →
+pub set_node : {P : Type 0} (f : P → List Item) (ps : List P) (k : ℕ) (d : P) → k < length ps → IsSet (flat_map f ps) →
     IsSet (f (get_or ps k d))
-set_part f ps k d low set =
+set_node f ps k d low set =
     set_front (f (get_or ps k d)) (flat_map f (drop (k + 1) ps)) (set_back (flat_map f (take k ps))
     (f (get_or ps k d) ++ flat_map f (drop (k + 1) ps)) (subst IsSet (flat_cut f ps k d low) set))
 

@@ -1,7 +1,7 @@
--- What stands beside the parts of a row of which one grew. A count or a fingerprint at a place is that of all parts up
--- to there. In front of the part that grew it stays. Behind it, what the part and those before it held goes off, and
+-- What stands beside the nodes of a row of which one grew. A count or a fingerprint at a place is that of all nodes up
+-- to there. In front of the node that grew it stays. Behind it, what the node and those before it held goes off, and
 -- what they hold now comes on: so the count is moved by their difference, and the fingerprint is that of the new front
--- joined with the old one without that of the old front. The number of a part's first item depends on no other part.
+-- joined with the old one without that of the old front. The number of a node's first item depends on no other node.
 use Rattle.std.proofs.Common.{◌≡◌, ℕ, zero, suc, ◌+◌, ◌-◌, ◌<◌, ◌≤◌, Bool, true, false, List, [], ◌∷◌, ◌++◌}
 use Rattle.std.proofs.Common.{take, drop, map, length, get_or, refl, sym, ap, subst, ◌∙◌, arith, nat_lt}
 use Rattle.std.specs.List.{flat_map}
@@ -14,7 +14,7 @@ use Rattle.std.proofs.lemmas.List.Concat.{flat_map-append}
 use Rattle.definitions.specs.Items.{Item, IsBytes}
 use Rattle.definitions.specs.Fingerprints.{Lanes, two_lanes, join_lanes}
 use Rattle.digest_core.specs.Laws.{adds_up}
-use Rattle.range_tree.specs.Parts.{first_item}
+use Rattle.range_tree.specs.Nodes.{first_item}
 use Rattle.range_tree.specs.Rows.{IsRow, AreHeads}
 use Rattle.range_tree.specs.Heads.{head_number}
 use Rattle.range_tree.proofs.Pieces.{all_append, all_take, all_drop}
@@ -87,7 +87,7 @@ heads_append xs ys heads more first second = record {
   are_bytes = all_append IsBytes xs ys first.are_bytes second.are_bytes;
 }
 
--- ---- the lists beside the parts
+-- ---- the lists beside the nodes
 
 module _ {P : Type 0} (content : P → List Item) where
   abbrev pub lead : P → Item
@@ -96,7 +96,7 @@ module _ {P : Type 0} (content : P → List Item) where
   abbrev pub AreBeside : List P → List ℕ → List Lanes → List ℕ → Type 0
   AreBeside ps ends sums heads = IsRow content ps ends sums × AreHeads (map lead ps) heads
 
-  -- what the first part holds, what the first two hold, and so on
+  -- what the first node holds, what the first two hold, and so on
   abbrev pub fronts : List P → List (List Item)
   fronts [] = []
   fronts (p ∷ ps) = content p ∷ map (λ B. content p ++ B) (fronts ps)
@@ -123,7 +123,7 @@ module _ {P : Type 0} (content : P → List Item) where
       ap (λ n. flat_map content (take n ps)) next ∙ ap (flat_map content) (take-add k (j + 1) ps)
       ∙ flat_map-append content (take k ps) (take (j + 1) (drop k ps))
 
-  -- from a place on, the fingerprints are those of the parts before it and of the fronts of the rest
+  -- from a place on, the fingerprints are those of the nodes before it and of the fronts of the rest
   pub sums_from : (ps : List P) (ends : List ℕ) (sums : List Lanes) (k : ℕ) → IsRow content ps ends sums →
       k ≤ length ps →
       drop k sums ≡ map (λ B. two_lanes.of (flat_map content (take k ps) ++ B)) (fronts (drop k ps))
@@ -159,12 +159,12 @@ module _ {P : Type 0} (content : P → List Item) where
             ∙ ap (λ qs. two_lanes.of (flat_map content qs)) (sym (take-take (i + 1) k ps (omega arith)));
       }
 
-  -- the lists beside the first parts
+  -- the lists beside the first nodes
   pub front_beside : (ps qs : List P) (ends es : List ℕ) (sums ss : List Lanes) (heads hs : List ℕ) (k : ℕ) →
       AreBeside ps ends sums heads → k ≤ length ps → qs ≡ take k ps → es ≡ take k ends → ss ≡ take k sums →
       hs ≡ take k heads → AreBeside qs es ss hs
-  front_beside ps qs ends es sums ss heads hs k beside within in_parts in_ends in_sums in_heads =
-      rw (in_parts, in_ends, in_sums, in_heads) (
+  front_beside ps qs ends es sums ss heads hs k beside within in_nodes in_ends in_sums in_heads =
+      rw (in_nodes, in_ends, in_sums, in_heads) (
         row_front ps ends sums k beside.0 within,
         rw (map_take lead k ps) (heads_front k (map lead ps) heads beside.1),
       )
@@ -229,7 +229,7 @@ module _ {P : Type 0} (content : P → List Item) where
             (sym (append-nil (content p)))
         at_sum (suc j) d low = absurd (omega arith)
 
-  -- the lists beside the parts and one more
+  -- the lists beside the nodes and one more
   pub more_beside : (qs now : List P) (p : P) (ends es : List ℕ) (sums ss : List Lanes) (heads hs : List ℕ) (end : ℕ)
       (sum : Lanes) (head : ℕ) (first : Item) → AreBeside qs ends sums heads →
       end ≡ length (flat_map content qs) + length (content p) →
@@ -237,14 +237,14 @@ module _ {P : Type 0} (content : P → List Item) where
       first ≡ lead p → head ≡ head_number first → IsBytes first →
       now ≡ qs ++ p ∷ [] → es ≡ ends ++ end ∷ [] → ss ≡ sums ++ sum ∷ [] → hs ≡ heads ++ head ∷ [] →
       AreBeside now es ss hs
-  more_beside qs now p ends es sums ss heads hs end sum head first beside in_end in_sum is in_head bytes in_parts
+  more_beside qs now p ends es sums ss heads hs end sum head first beside in_end in_sum is in_head bytes in_nodes
       in_ends in_sums in_heads =
       let own : AreHeads (lead p ∷ []) (head ∷ []) =
       subst (λ x. AreHeads (x ∷ []) (head ∷ [])) is (record {
         are_numbers = ap (λ n. n ∷ []) in_head;
         are_bytes = (bytes, tt);
       }) in
-      rw (in_parts, in_ends, in_sums, in_heads) (
+      rw (in_nodes, in_ends, in_sums, in_heads) (
         row_more qs p ends sums end sum beside.0 in_end in_sum,
         rw (map-append lead qs (p ∷ [])) (heads_append (map lead qs) (lead p ∷ []) heads (head ∷ []) beside.1 own),
       )
@@ -274,7 +274,7 @@ module _ {P : Type 0} (content : P → List Item) where
         get_or-map (λ B. join_lanes start_sum (two_lanes.of B)) (fronts (drop k ps)) j [] d (omega arith)
         ∙ (λ i. join_lanes (in_sum i) (two_lanes.of (fronts_get (drop k ps) j [] (omega arith) i))))
 
-    -- the lists beside the parts and the rest of others
+    -- the lists beside the nodes and the rest of others
     pub rest_beside : (now : List P) (es : List ℕ) (ss : List Lanes) (heads old_heads hs : List ℕ) →
         AreBeside qs ends sums heads → AreBeside ps old_ends old_sums old_heads → k ≤ length ps →
         begun ≡ length (flat_map content (take k ps)) → start ≡ length (flat_map content qs) →
@@ -282,11 +282,11 @@ module _ {P : Type 0} (content : P → List Item) where
         es ≡ ends ++ map (λ end. start + (end - begun)) (drop k old_ends) →
         ss ≡ sums ++ map (λ B. join_lanes start_sum (two_lanes.of B)) (fronts (drop k ps)) →
         hs ≡ heads ++ drop k old_heads → AreBeside now es ss hs
-    rest_beside now es ss heads old_heads hs beside old within in_begun in_start in_sum in_parts in_ends in_sums
+    rest_beside now es ss heads old_heads hs beside old within in_begun in_start in_sum in_nodes in_ends in_sums
         in_heads =
         let leads : map lead (qs ++ drop k ps) ≡ map lead qs ++ drop k (map lead ps) =
         map-append lead qs (drop k ps) ∙ ap (λ xs. map lead qs ++ xs) (map_drop lead k ps) in
-        rw (in_parts, in_ends, in_sums, in_heads) (
+        rw (in_nodes, in_ends, in_sums, in_heads) (
           row_rest beside.0 old.0 within in_begun in_start in_sum,
           rw leads (heads_append (map lead qs) (drop k (map lead ps)) heads (drop k old_heads) beside.1
               (heads_back k (map lead ps) old_heads old.1)),

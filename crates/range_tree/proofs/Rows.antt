@@ -1,7 +1,7 @@
--- Running counts and fingerprints beside the parts of a row. A running list is right where its element at each place is
--- that of the parts up to there; one element more keeps it so. The counts never fall, so the number of them that are
--- not past a place is the number of parts that end before it, and the next part holds the place. What stands before
--- a place is then what the parts before that one hold, and a front of its own items.
+-- Running counts and fingerprints beside the nodes of a row. A running list is right where its element at each place is
+-- that of the nodes up to there; one element more keeps it so. The counts never fall, so the number of them that are
+-- not past a place is the number of nodes that end before it, and the next node holds the place. What stands before
+-- a place is then what the nodes before that one hold, and a front of its own items.
 use Rattle.std.proofs.Common.{◌≡◌, ℕ, zero, suc, ◌+◌, ◌-◌, ◌<◌, ◌≤◌, Bool, true, false, List, [], ◌∷◌, ◌++◌}
 use Rattle.std.proofs.Common.{take, drop, map, length, get_or, refl, sym, ap, subst, ◌∙◌, ◌≢◌, arith, nat_lt}
 use Rattle.std.proofs.Math.Dec.{leb}
@@ -17,7 +17,7 @@ use Rattle.std.proofs.lemmas.List.Concat.{flat_map-append}
 use Rattle.definitions.specs.Items.{Item, IsBytes}
 use Rattle.definitions.specs.Fingerprints.{Lanes, two_lanes, join_lanes}
 use Rattle.digest_core.specs.Laws.{adds_up}
-use Rattle.range_tree.specs.Parts.{span, IsSpot, PassFirst}
+use Rattle.range_tree.specs.Nodes.{span, IsSpot, PassFirst}
 use Rattle.range_tree.specs.Rows.{IsRow, AreHeads}
 use Rattle.range_tree.specs.Heads.{head_number}
 use Rattle.range_tree.proofs.Pieces.{all_append}
@@ -71,13 +71,13 @@ pub heads_all : (xs : List Item) (i : ℕ) (heads : List ℕ) → length xs ≤ 
     AreHeads xs heads
 heads_all xs i heads past all = subst (λ ys. AreHeads ys heads) (take_all i xs past) all
 
--- ---- the first parts of a row
+-- ---- the first nodes of a row
 
 module _ {P : Type 0} (content : P → List Item) (ps : List P) where
   abbrev pub items_before : ℕ → List Item
   items_before k = flat_map content (take k ps)
 
-  -- the lists beside the first n parts
+  -- the lists beside the first n nodes
   pub record IsBegun (n : ℕ) (ends : List ℕ) (sums : List Lanes) : Type 0 where
     pub as_many_ends : length ends ≡ n
     pub as_many_sums : length sums ≡ n
@@ -174,7 +174,7 @@ module _ {P : Type 0} (content : P → List Item) (ps : List P) where
         let rise = before_rises (i + 1) (j + 1) (omega arith) in
         omega arith)
 
-    -- where the parts before k are those that end before a place
+    -- where the nodes before k are those that end before a place
     module _ (place k : ℕ) (parted : PassFirst (λ e. leb e place) ends k) (most : k ≤ length ends) where
       pub begins_before : length (items_before k) ≤ place
       begins_before = by_count k refl where
@@ -210,7 +210,7 @@ module _ {P : Type 0} (content : P → List Item) (ps : List P) where
           let low = there within in
           let begun = begins_before in
           record {
-            part_there = low;
+            node_there = low;
             place_is = omega arith;
             own_fits = λ p.
                 let next = ends_after low in
@@ -223,7 +223,7 @@ module _ {P : Type 0} (content : P → List Item) (ps : List P) where
   cut_at : (k : ℕ) → flat_map content ps ≡ items_before k ++ flat_map content (drop k ps)
   cut_at k = ap (flat_map content) (sym (take-append-drop k ps)) ∙ flat_map-append content (take k ps) (drop k ps)
 
-  -- from a place that no part before k holds
+  -- from a place that no node before k holds
   pub span_past : (k from to : ℕ) → length (items_before k) ≤ from → span from to (flat_map content ps)
       ≡ span (from - length (items_before k)) (to - length (items_before k)) (flat_map content (drop k ps))
   span_past k from to past =
@@ -234,7 +234,7 @@ module _ {P : Type 0} (content : P → List Item) (ps : List P) where
       ap (span from to) (cut_at k) ∙ span_append from to front back
       ∙ ap (λ xs. xs ++ span (from - length front) (to - length front) back) none
 
-  -- the same, of the shared parts that are left
+  -- the same, of the shared nodes that are left
   pub span_shared : {T : Type 0} (v : T → P) (xs ys : List T) (k begun from to end : ℕ) → ys ≡ xs → map v xs ≡ ps →
       begun ≡ length (items_before k) → begun ≤ from → end ≡ to - begun →
       span (from - begun) end (flat_map content (map v (take (length ys - k) (drop k ys))))
@@ -254,10 +254,10 @@ module _ {P : Type 0} (content : P → List Item) (ps : List P) where
         omega arith
 
     rest_here : flat_map content (drop k ps) ≡ content p ++ flat_map content (drop (k + 1) ps)
-    rest_here = ap (flat_map content) (drop_more ps k p spot.part_there)
+    rest_here = ap (flat_map content) (drop_more ps k p spot.node_there)
         ∙ ap (λ q. content q ++ flat_map content (drop (k + 1) ps)) (sym read)
 
-    -- before the place stand the parts before, and a front of this one
+    -- before the place stand the nodes before, and a front of this one
     take_here : take place (flat_map content ps) ≡ items_before k ++ take own (content p)
     take_here =
         let here = own_within in

@@ -1,14 +1,14 @@
--- Lists of parts each of which is wide enough.
+-- Lists of nodes each of which is wide enough.
 use Rattle.std.proofs.Common.{◌≡◌, ℕ, zero, suc, ◌+◌, ◌*◌, ◌<◌, ◌≤◌, List, [], ◌∷◌, ◌++◌, take, drop, map, length}
 use Rattle.std.proofs.Common.{get_or, arith}
 use Rattle.std.specs.List.{flat_map, AllByRecursion}
 use Rattle.std.proofs.lemmas.List.{length-append}
-use Rattle.range_tree.specs.declared.part.Grown.{Grown}
-use Rattle.range_tree.specs.declared.part.Grown.TheVariants.{One, Two}
+use Rattle.range_tree.specs.declared.node.Grown.{Grown}
+use Rattle.range_tree.specs.declared.node.Grown.TheVariants.{One, Two}
 use Rattle.range_tree.specs.declared.leaf.Leaf.{Leaf}
 use Rattle.range_tree.specs.declared.branch.Branch.{Branch}
-use Rattle.range_tree.specs.Parts.{IsFull}
-use Rattle.range_tree.specs.Grown.{grown_parts, GrewWide}
+use Rattle.range_tree.specs.Nodes.{IsFull}
+use Rattle.range_tree.specs.Grown.{grown_nodes, GrewWide}
 use Rattle.range_tree.specs.Leaves.{leaf_items, leaf_width}
 use Rattle.range_tree.specs.Branches.{branch_items, branch_width}
 use Rattle.range_tree.specs.declared.tree.Tree.{Tree}
@@ -52,24 +52,24 @@ module _ {P : Type 0} (width : P → ℕ) where
   wide_from_full (p ∷ []) more full = absurd (omega arith)
   wide_from_full (p ∷ q ∷ ps) more full = full
 
-  grown_wide : (g : Grown P) (old : ℕ) → 32 ≤ old → GrewWide width old g → IsWide (grown_parts g)
+  grown_wide : (g : Grown P) (old : ℕ) → 32 ≤ old → GrewWide width old g → IsWide (grown_nodes g)
   grown_wide (One p) old wide grew = (omega arith, tt)
   grown_wide (Two p q) old wide grew = (grew.0, (grew.1, tt))
 
-  grown_alone : (g : Grown P) (old : ℕ) → GrewWide width old g → IsFull width (grown_parts g ++ [])
+  grown_alone : (g : Grown P) (old : ℕ) → GrewWide width old g → IsFull width (grown_nodes g ++ [])
   grown_alone (One p) old grew = tt
   grown_alone (Two p q) old grew = (grew.0, (grew.1, tt))
 
-  -- where one part grew
+  -- where one node grew
   pub grown_full : (ps : List P) (i : ℕ) (d : P) (g : Grown P) → i < length ps → IsFull width ps →
-      GrewWide width (width (get_or ps i d)) g → IsFull width (take i ps ++ grown_parts g ++ drop (i + 1) ps)
+      GrewWide width (width (get_or ps i d)) g → IsFull width (take i ps ++ grown_nodes g ++ drop (i + 1) ps)
   grown_full [] i d g low full grew = absurd (omega arith)
   grown_full (p ∷ []) zero d g low full grew = grown_alone g (width p) grew
   grown_full (p ∷ []) (suc i) d g low full grew = absurd (omega arith)
   grown_full (p ∷ q ∷ ps) i d g low full grew =
-      full_from_wide (take i (p ∷ q ∷ ps) ++ grown_parts g ++ drop (i + 1) (p ∷ q ∷ ps))
-      (wide_append (take i (p ∷ q ∷ ps) ++ grown_parts g) (drop (i + 1) (p ∷ q ∷ ps))
-      (wide_append (take i (p ∷ q ∷ ps)) (grown_parts g) (wide_take i (p ∷ q ∷ ps) full)
+      full_from_wide (take i (p ∷ q ∷ ps) ++ grown_nodes g ++ drop (i + 1) (p ∷ q ∷ ps))
+      (wide_append (take i (p ∷ q ∷ ps) ++ grown_nodes g) (drop (i + 1) (p ∷ q ∷ ps))
+      (wide_append (take i (p ∷ q ∷ ps)) (grown_nodes g) (wide_take i (p ∷ q ∷ ps) full)
       (grown_wide g (width (get_or (p ∷ q ∷ ps) i d)) (wide_get (p ∷ q ∷ ps) i d low full) grew))
       (wide_drop (i + 1) (p ∷ q ∷ ps) full))
 
@@ -91,7 +91,7 @@ module _ {P : Type 0} (width : P → ℕ) where
       mapped v (suc n) [] all = tt
       mapped v (suc n) (x ∷ xs) all = mapped v n xs all.1
 
--- ---- how many items wide parts hold at least
+-- ---- how many items wide nodes hold at least
 
 wide_leaves : (ls : List Leaf) → AllByRecursion (λ l. 32 ≤ leaf_width l) ls →
     32 * length ls ≤ length (flat_map leaf_items ls)

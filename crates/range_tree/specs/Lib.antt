@@ -1,7 +1,7 @@
 pub use Rattle.definitions.specs.Items
 pub use Rattle.definitions.specs.Sets
 pub use Rattle.definitions.specs.Fingerprints
-pub mod Parts
+pub mod Nodes
 pub mod Packs
 pub mod Heads
 pub mod Rows

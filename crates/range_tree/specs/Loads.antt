@@ -6,7 +6,7 @@ use Rattle.std.specs.declared.sync.Arc.{Arc}
 use Rattle.definitions.specs.Items.{Item, IsItem}
 use Rattle.range_tree.specs.declared.leaf.Leaf.{Leaf}
 use Rattle.range_tree.specs.Leaves.{leaf_items, leaf_width}
-use Rattle.range_tree.specs.Parts.{items_of, IsFull}
+use Rattle.range_tree.specs.Nodes.{items_of, IsFull}
 
 -- the leaves hold these items, and each has at least 32, but where it is the only one
 pub record AreLeavesOf {Z : Type 0} (A : List Item) (leaves : List (Arc Leaf Z)) : Type 0 where

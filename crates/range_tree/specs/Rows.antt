@@ -1,5 +1,5 @@
--- Parts with running counts and fingerprints beside them, and items with the numbers of their first bytes.
---     IsRow content parts ends sums
+-- Nodes with running counts and fingerprints beside them, and items with the numbers of their first bytes.
+--     IsRow content nodes ends sums
 --     AreHeads items heads
 use Rattle.std.specs.Prelude.{◌≡◌, ℕ, ◌+◌, ◌<◌, List, length, take, map, get_or}
 use Rattle.std.specs.List.{flat_map, AllByRecursion}
@@ -7,7 +7,7 @@ use Rattle.definitions.specs.Items.{Item, IsBytes}
 use Rattle.definitions.specs.Fingerprints.{Lanes, two_lanes}
 use Rattle.range_tree.specs.Heads.{head_number}
 
--- beside each part stand the number of items of all parts up to it, and their fingerprint
+-- beside each node stand the number of items of all nodes up to it, and their fingerprint
 pub record IsRow {P : Type 0} (content : P → List Item) (ps : List P) (ends : List ℕ) (sums : List Lanes) : Type 0 where
   pub as_many_ends : length ends ≡ length ps
   pub as_many_sums : length sums ≡ length ps

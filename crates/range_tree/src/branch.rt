@@ -1,5 +1,5 @@
 ghost use Rattle.std.specs.Prelude.{◌≤◌, ◌<◌, length};
-ghost use Rattle.range_tree.specs.Parts.{IsFull, IsFull-prop};
+ghost use Rattle.range_tree.specs.Nodes.{IsFull, IsFull-prop};
 ghost use Rattle.range_tree.specs.Leaves.{leaf_width};
 
 use crate::leaf::Leaf;

@@ -1,5 +1,5 @@
 ghost use Rattle.std.specs.Prelude.{◌≡◌, ◌≤◌, ◌<◌, length};
-ghost use Rattle.range_tree.specs.Parts.{first_item};
+ghost use Rattle.range_tree.specs.Nodes.{first_item};
 
 use crate::packed::Packed;
 use item_core::Item;

@@ -1,16 +1,16 @@
-//! Sets of items as persistent trees of three levels, whose parts are shared.
+//! Sets of items as persistent trees of three levels, whose nodes are shared.
 #![tactic(auto)]
 
 mod branch;
-mod branch_part;
+mod branch_node;
 mod heads;
 mod leaf;
-mod leaf_part;
+mod leaf_node;
 mod loading;
+mod node;
+mod nodes;
 mod packed;
 mod packing;
-mod part;
-mod parts;
 mod row;
 mod row_growth;
 mod row_reads;

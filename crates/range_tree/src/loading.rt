@@ -5,15 +5,15 @@ ghost use Rattle.std.specs.Arc.{arc_value};
 ghost use Rattle.std.specs.List.{AllByRecursion};
 ghost use Rattle.std.specs.Thread.{IsSync};
 ghost use Rattle.definitions.specs.Items.{IsItem};
-ghost use Rattle.range_tree.specs.Parts.{items_of, IsFull};
+ghost use Rattle.range_tree.specs.Nodes.{items_of, IsFull};
 ghost use Rattle.range_tree.specs.Leaves.{leaf_items, leaf_width};
 ghost use Rattle.range_tree.specs.Branches.{branch_items, branch_width};
 ghost use Rattle.range_tree.specs.Loads.{AreLeavesOf};
 
 use crate::branch::Branch;
 use crate::leaf::Leaf;
+use crate::nodes;
 use crate::packed::Packed;
-use crate::parts;
 use item_core::Item;
 use std::alloc::{AllocError, Global};
 use std::sync::Arc;
@@ -67,7 +67,7 @@ fn both(front: Vec<Arc<Leaf>>, back: Vec<Arc<Leaf>>) -> Result<Vec<Arc<Leaf>>, A
     Ok(held)
 }
 
-/// The leaves of these items, each hashed. The items are cut in two `halvings` times, and each part has its own thread.
+/// The leaves of these items, each hashed. The items are cut in two `halvings` times, and each half has its own thread.
 fn leaves_by<R: Threads + Sync>(
     rt: &R,
     alloc: Global,
@@ -104,7 +104,7 @@ fn branch_of(alloc: Global, leaves: &[Arc<Leaf>]) -> Result<Arc<Branch>, AllocEr
     ensures width { IfOk result (λ branch. branch_width (arc_value branch) ≡ length leaves.now) }
 {
     let mut held = Vec::with_capacity(alloc, leaves.len())?;
-    parts::share(&mut held, leaves)?;
+    nodes::share(&mut held, leaves)?;
     Ok(Arc::new(alloc, Branch::of(alloc, held)?)?)
 }
 

@@ -5,7 +5,7 @@ ghost use Rattle.std.specs.List.{AllByRecursion};
 ghost use Rattle.std.specs.List.Sorted.{IsPartitionedBy};
 ghost use Rattle.definitions.specs.Items.{IsItem, comes_before};
 ghost use Rattle.definitions.specs.Fingerprints.{two_lanes};
-ghost use Rattle.range_tree.specs.Parts.{span, PassFirst};
+ghost use Rattle.range_tree.specs.Nodes.{span, PassFirst};
 ghost use Rattle.range_tree.specs.Packs.{joined, IsPack};
 
 use crate::search::HasItems;

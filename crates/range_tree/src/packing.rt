@@ -3,13 +3,13 @@
 ghost use Rattle.std.specs.Prelude.{◌≡◌, ◌≤◌, ◌<◌, ◌+◌, ◌-◌, ◌^◌, ◌∷◌, ◌++◌, [], length, take, drop, map, IfOk, OnOk};
 ghost use Rattle.std.specs.List.{AllByRecursion};
 ghost use Rattle.definitions.specs.Items.{IsItem};
-ghost use Rattle.range_tree.specs.Parts.{span};
+ghost use Rattle.range_tree.specs.Nodes.{span};
 
 use crate::packed::Packed;
 use item_core::Item;
 use std::alloc::{AllocError, Global};
 use store_core::spans::bytes_in;
-use store_core::{Entry, sums};
+use store_core::{HashedItem, sums};
 
 /// The bytes with a run of others at a place.
 fn with_run(alloc: Global, bytes: &[u8], place: usize, run: &[u8]) -> Result<Vec<u8>, AllocError>
@@ -100,23 +100,23 @@ impl Packed {
         })
     }
 
-    /// The items with an entry at a place.
+    /// The items with a hashed item at a place.
     pub(crate) fn with(
         &self,
         alloc: Global,
         place: usize,
-        entry: &Entry,
+        hashed: &HashedItem,
     ) -> Result<Packed, AllocError>
         requires place { place ≤ length self.now }
         requires few { length self.now < 1023 }
-        ensures { IfOk result (λ packed. packed ≡ take place self.now ++ entry.now ∷ drop place self.now) }
+        ensures { IfOk result (λ packed. packed ≡ take place self.now ++ hashed.now ∷ drop place self.now) }
     {
         let start = self.start(place);
-        let bytes = entry.item().bytes();
+        let bytes = hashed.item().bytes();
         Ok(Packed {
             bytes: with_run(alloc, &self.bytes, start, bytes)?,
             ends: ends_with(alloc, &self.ends, place, start as u16, bytes.len() as u16)?,
-            sums: sums::with_entry(alloc, &self.sums, place, entry)?,
+            sums: sums::with_hashed(alloc, &self.sums, place, hashed)?,
         })
     }
 

@@ -1,15 +1,15 @@
-//! A row in which one part grew. Its lists are made from the old ones: no part is read but what that one became. Of the
+//! A row in which one node grew. Its lists are made from the old ones: no node is read but what that one became. Of the
 //! others only the counts of their owners are raised.
 
 ghost use Rattle.std.specs.Prelude.{◌≡◌, ◌<◌, ◌≤◌, ◌+◌, ◌-◌, ◌∷◌, ◌++◌, [], List, length, take, drop, map, IfOk, OnOk};
 ghost use Rattle.std.specs.Arc.{arc_value};
 ghost use Rattle.definitions.specs.Items as items;
 ghost use Rattle.definitions.specs.Fingerprints.{join_lanes, two_lanes};
-ghost use Rattle.range_tree.specs.Grown.{grown_parts};
+ghost use Rattle.range_tree.specs.Grown.{grown_nodes};
 
 use crate::heads::head_of;
-use crate::part::{Grown, Part};
-use crate::parts;
+use crate::node::{Grown, Node};
+use crate::nodes;
 use crate::row::Row;
 use digest_core::{Fingerprint, Summary};
 use std::alloc::{AllocError, Global};
@@ -49,39 +49,39 @@ fn push_sums(
     Ok(())
 }
 
-impl<P: Part> Row<P> {
-    /// The first parts, so many of them, shared, with room for one more than all.
+impl<P: Node> Row<P> {
+    /// The first nodes, so many of them, shared, with room for one more than all.
     fn front(&self, alloc: Global, count: usize) -> Result<Row<P>, AllocError>
         requires { count ≤ length self.now }
         ensures { IfOk result (λ row. row ≡ take count self.now) }
     {
-        let room = self.parts.len().saturating_add(1);
-        let mut parts = Vec::with_capacity(alloc, room)?;
+        let room = self.nodes.len().saturating_add(1);
+        let mut nodes = Vec::with_capacity(alloc, room)?;
         let mut ends = Vec::with_capacity(alloc, room)?;
         let mut sums = Vec::with_capacity(alloc, room)?;
         let mut heads = Vec::with_capacity(alloc, room)?;
-        parts::share(&mut parts, &self.parts[..count])?;
+        nodes::share(&mut nodes, &self.nodes[..count])?;
         ends.extend_from_slice(&self.ends[..count])?;
         sums.extend_from_slice(&self.sums[..count])?;
         heads.extend_from_slice(&self.heads[..count])?;
         Ok(Row {
-            parts,
+            nodes,
             ends,
             sums,
             heads,
         })
     }
 
-    /// The row with one part more at its end.
-    fn with_part(self, part: Arc<P>) -> Result<Row<P>, AllocError>
-        ensures { IfOk result (λ row. row ≡ self ++ arc_value part ∷ []) }
+    /// The row with one node more at its end.
+    fn with_node(self, node: Arc<P>) -> Result<Row<P>, AllocError>
+        ensures { IfOk result (λ row. row ≡ self ++ arc_value node ∷ []) }
     {
         // No memory holds 2^64 items.
-        let end = self.len().checked_add(part.len()).ok_or(AllocError)?;
-        let sum = self.total().join(part.total());
-        let head = head_of(part.first());
+        let end = self.len().checked_add(node.len()).ok_or(AllocError)?;
+        let sum = self.total().join(node.total());
+        let head = head_of(node.first());
         let Row {
-            mut parts,
+            mut nodes,
             mut ends,
             mut sums,
             mut heads,
@@ -89,29 +89,29 @@ impl<P: Part> Row<P> {
         ends.push(end)?;
         sums.push(sum)?;
         heads.push(head)?;
-        parts.push(part)?;
+        nodes.push(node)?;
         Ok(Row {
-            parts,
+            nodes,
             ends,
             sums,
             heads,
         })
     }
 
-    /// The row with what a part became at its end.
+    /// The row with what a node became at its end.
     fn with_grown(self, alloc: Global, grown: Grown<P>) -> Result<Row<P>, AllocError>
-        ensures { IfOk result (λ row. row ≡ self ++ grown_parts grown) }
+        ensures { IfOk result (λ row. row ≡ self ++ grown_nodes grown) }
     {
         match grown {
-            Grown::One(part) => self.with_part(Arc::new(alloc, part)?),
+            Grown::One(node) => self.with_node(Arc::new(alloc, node)?),
             Grown::Two(front, back) => {
-                let longer = self.with_part(Arc::new(alloc, front)?)?;
-                longer.with_part(Arc::new(alloc, back)?)
+                let longer = self.with_node(Arc::new(alloc, front)?)?;
+                longer.with_node(Arc::new(alloc, back)?)
             }
         }
     }
 
-    /// The row with the parts of another from one on, shared, at its end. None of their items is read.
+    /// The row with the nodes of another from one on, shared, at its end. None of their items is read.
     fn with_rest(self, other: &Row<P>, from: usize) -> Result<Row<P>, AllocError>
         requires { from ≤ length other.now }
         ensures { IfOk result (λ row. row ≡ self ++ drop from other.now) }
@@ -121,24 +121,24 @@ impl<P: Part> Row<P> {
         let start = self.len();
         let start_sum = self.total();
         let Row {
-            mut parts,
+            mut nodes,
             mut ends,
             mut sums,
             mut heads,
         } = self;
-        parts::share(&mut parts, &other.parts[from..])?;
+        nodes::share(&mut nodes, &other.nodes[from..])?;
         push_ends(&mut ends, &other.ends[from..], begun, start)?;
         push_sums(&mut sums, &other.sums[from..], begun_sum, start_sum)?;
         heads.extend_from_slice(&other.heads[from..])?;
         Ok(Row {
-            parts,
+            nodes,
             ends,
             sums,
             heads,
         })
     }
 
-    /// The row with what a part became in its place. The other parts are shared, and not read.
+    /// The row with what a node became in its place. The other nodes are shared, and not read.
     pub(crate) fn renewed(
         &self,
         alloc: Global,
@@ -146,9 +146,9 @@ impl<P: Part> Row<P> {
         grown: Grown<P>,
     ) -> Result<Row<P>, AllocError>
         requires { index < length self.now }
-        ensures { IfOk result (λ row. row ≡ take index self.now ++ grown_parts grown ++ drop (index + 1) self.now) }
+        ensures { IfOk result (λ row. row ≡ take index self.now ++ grown_nodes grown ++ drop (index + 1) self.now) }
     {
-        let _ = self.parts.len(); // proof only: no place is past the greatest number
+        let _ = self.nodes.len(); // proof only: no place is past the greatest number
         let front = self.front(alloc, index)?;
         let longer = front.with_grown(alloc, grown)?;
         longer.with_rest(self, index + 1)

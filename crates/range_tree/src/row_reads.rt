@@ -1,4 +1,4 @@
-//! Places in a row of parts, and the row's parts with one grown.
+//! Places in a row of nodes, and the row's nodes with one grown.
 
 ghost use Rattle.std.specs.Prelude.{◌≡◌, ◌<◌, ◌≤◌, ◌+◌, ◌∷◌, ◌++◌, leb, length, take, drop, map, Some, slice_get};
 ghost use Rattle.std.specs.Prelude.{IfOk, OnOk};
@@ -6,23 +6,23 @@ ghost use Rattle.std.specs.List.{flat_map};
 ghost use Rattle.std.specs.List.Sorted.{IsNonDecreasingBy};
 ghost use Rattle.definitions.specs.Sets.{IsSet};
 ghost use Rattle.definitions.specs.Fingerprints.{two_lanes};
-ghost use Rattle.range_tree.specs.Parts.{span, first_item, count_before, IsSpot, IsGap, IsFull, PassFirst};
+ghost use Rattle.range_tree.specs.Nodes.{span, first_item, count_before, IsSpot, IsGap, IsFull, PassFirst};
 
-use crate::part::Part;
-use crate::parts;
+use crate::node::Node;
+use crate::nodes;
 use crate::row::Row;
 use crate::search::{HasItems, search};
 use digest_core::{Fingerprint, Summary};
 use item_core::Item;
 use std::alloc::{AllocError, Global};
-use store_core::Entry;
+use store_core::HashedItem;
 
-/// The first item of each part.
-impl<P: Part> HasItems for Row<P> {
+/// The first item of each node.
+impl<P: Node> HasItems for Row<P> {
     ghost leads = { λ ps. map (λ p. first_item (P.content p)) ps };
 
     fn count(&self) -> usize {
-        self.parts.len()
+        self.nodes.len()
     }
 
     fn is_before(&self, place: usize, item: &Item, head: u64) -> bool {
@@ -30,7 +30,7 @@ impl<P: Part> HasItems for Row<P> {
         if own != head {
             return own < head;
         }
-        self.parts[place].first().cmp(item).is_lt()
+        self.nodes[place].first().cmp(item).is_lt()
     }
 }
 
@@ -43,8 +43,8 @@ fn ended(ends: &[usize], place: usize) -> usize
     ends.partition_point(|end| *end <= place)
 }
 
-impl<P: Part> Row<P> {
-    /// Which part holds the item at a place, and at which place of its own.
+impl<P: Node> Row<P> {
+    /// Which node holds the item at a place, and at which place of its own.
     fn spot(&self, place: usize) -> (usize, usize)
         requires { place < length (flat_map P.content self.now) }
         ensures { IsSpot P.content self.now place result.0 result.1 }
@@ -53,7 +53,7 @@ impl<P: Part> Row<P> {
         (index, place - self.len_of_first(index))
     }
 
-    /// Where an item goes that is to stand at a place: which part, and at which place of its own.
+    /// Where an item goes that is to stand at a place: which node, and at which place of its own.
     fn gap(&self, place: usize) -> (usize, usize)
         requires some { 0 < length self.now }
         requires within { place ≤ length (flat_map P.content self.now) }
@@ -72,7 +72,7 @@ impl<P: Part> Row<P> {
         ensures { slice_get (flat_map P.content self.now) place ≡ Some result }
     {
         let (index, own) = self.spot(place);
-        self.parts[index].item_at(own)
+        self.nodes[index].item_at(own)
     }
 
     /// The fingerprint of the items before a place. A place past the end stands for the end.
@@ -84,7 +84,7 @@ impl<P: Part> Row<P> {
         }
         let (index, own) = self.spot(place);
         let front = self.total_of_first(index);
-        front.join(self.parts[index].sum_before(own))
+        front.join(self.nodes[index].sum_before(own))
     }
 
     /// Puts the items from one place on and before another after what is held.
@@ -99,7 +99,7 @@ impl<P: Part> Row<P> {
         let index = ended(&self.ends, from);
         let begun = self.len_of_first(index);
         let end = to.saturating_sub(begun);
-        parts::push_between(&self.parts[index..], held, from - begun, end)
+        nodes::push_between(&self.nodes[index..], held, from - begun, end)
     }
 
     /// How many items come before this one, and how many comparisons with it were made.
@@ -113,19 +113,19 @@ impl<P: Part> Row<P> {
             return (0, steps);
         }
         let _ = self.len(); // proof only: no place is past the greatest number
-        let (own, more) = self.parts[begun - 1].rank(item);
+        let (own, more) = self.nodes[begun - 1].rank(item);
         (
             self.len_of_first(begun - 1) + own,
             steps.saturating_add(more),
         )
     }
 
-    /// The row with an entry at a place. All parts but one are shared, and not read.
+    /// The row with a hashed item at a place. All nodes but one are shared, and not read.
     pub(crate) fn with_at(
         &self,
         alloc: Global,
         place: usize,
-        entry: Entry,
+        hashed: HashedItem,
     ) -> Result<Row<P>, AllocError>
         requires some { 0 < length self.now }
         requires within { place ≤ length (flat_map P.content self.now) }
@@ -133,10 +133,10 @@ impl<P: Part> Row<P> {
         ensures wider { IfOk result (λ row. length self.now ≤ length row) }
         ensures full { IfOk result (λ row. IsFull P.width self.now → IsFull P.width row) }
         ensures items { IfOk result (λ row. flat_map P.content row ≡
-            take place (flat_map P.content self.now) ++ entry ∷ drop place (flat_map P.content self.now)) }
+            take place (flat_map P.content self.now) ++ hashed ∷ drop place (flat_map P.content self.now)) }
     {
         let (index, own) = self.gap(place);
-        let grown = self.parts[index].with_at(alloc, own, entry)?;
+        let grown = self.nodes[index].with_at(alloc, own, hashed)?;
         self.renewed(alloc, index, grown)
     }
 }

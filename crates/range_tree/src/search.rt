@@ -5,7 +5,7 @@ ghost use Rattle.std.specs.List.Sorted.{IsPartitionedBy};
 ghost use Rattle.definitions.specs.Items as items;
 ghost use Rattle.definitions.specs.Items.{IsBytes, comes_before};
 ghost use Rattle.range_tree.specs.Heads.{head_number};
-ghost use Rattle.range_tree.specs.Parts.{PassFirst};
+ghost use Rattle.range_tree.specs.Nodes.{PassFirst};
 
 use crate::heads::head_of;
 use item_core::Item;

@@ -4,7 +4,7 @@ ghost use Rattle.std.proofs.Props.{props};
 ghost use Rattle.std.proofs.lemmas.Map.Keys.{IsStrictlySortedBy-prop};
 ghost use Rattle.definitions.specs.Items.{IsItem, item_cmp};
 ghost use Rattle.definitions.specs.Sets.{IsSet};
-ghost use Rattle.range_tree.specs.Parts.{IsFull, IsFull-prop};
+ghost use Rattle.range_tree.specs.Nodes.{IsFull, IsFull-prop};
 ghost use Rattle.range_tree.specs.Branches.{branch_items, branch_width};
 
 use crate::branch::Branch;

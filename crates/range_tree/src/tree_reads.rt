@@ -3,7 +3,7 @@ ghost use Rattle.definitions.specs.Items.{comes_before, is_below};
 ghost use Rattle.definitions.specs.Sets.{has, items_in, add_item};
 ghost use Rattle.definitions.specs.Fingerprints.{two_lanes};
 ghost use Rattle.item_core.specs.Bounds.{upper_value};
-ghost use Rattle.range_tree.specs.Parts.{span, PassFirst};
+ghost use Rattle.range_tree.specs.Nodes.{span, PassFirst};
 ghost use Rattle.range_tree.specs.Trees.{tree_items};
 
 use crate::tree::Tree;

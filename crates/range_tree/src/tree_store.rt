@@ -3,7 +3,7 @@ ghost use Rattle.std.specs.Arc.{arc_value};
 ghost use Rattle.std.specs.List.{flat_map, AllByRecursion};
 ghost use Rattle.definitions.specs.Items.{IsItem};
 ghost use Rattle.definitions.specs.Sets.{IsSet, add_item};
-ghost use Rattle.range_tree.specs.Parts.{items_of, IsFull};
+ghost use Rattle.range_tree.specs.Nodes.{items_of, IsFull};
 ghost use Rattle.range_tree.specs.Branches.{branch_items, branch_width};
 ghost use Rattle.range_tree.specs.Trees.{tree_items};
 
@@ -18,14 +18,14 @@ use item_core::{Item, Range};
 use std::alloc::{AllocError, Global};
 use std::sync::Arc;
 use std::thread::Threads;
-use store_core::{Entry, Insertion, RangeStore, Span};
+use store_core::{HashedItem, Insertion, RangeStore, Span};
 
-/// The one branch of one leaf of one entry.
-fn branches_of_one(alloc: Global, entry: Entry) -> Result<Vec<Arc<Branch>>, AllocError>
-    ensures items { IfOk result (λ held. items_of branch_items held.items ≡ entry ∷ []) }
+/// The one branch of one leaf of one hashed item.
+fn branches_of_one(alloc: Global, hashed: HashedItem) -> Result<Vec<Arc<Branch>>, AllocError>
+    ensures items { IfOk result (λ held. items_of branch_items held.items ≡ hashed ∷ []) }
     ensures one { IfOk result (λ held. length held.items ≡ 1) }
 {
-    let packed = Packed::empty(alloc).with(alloc, 0, &entry)?;
+    let packed = Packed::empty(alloc).with(alloc, 0, &hashed)?;
     let mut leaves = Vec::new(alloc);
     leaves.push(Arc::new(alloc, Leaf::of(packed))?)?;
     let mut branches = Vec::new(alloc);
@@ -33,23 +33,23 @@ fn branches_of_one(alloc: Global, entry: Entry) -> Result<Vec<Arc<Branch>>, Allo
     Ok(branches)
 }
 
-/// The branches with an entry at a place.
+/// The branches with a hashed item at a place.
 fn branches_with(
     alloc: Global,
     branches: &Row<Branch>,
     place: usize,
-    entry: Entry,
+    hashed: HashedItem,
 ) -> Result<Row<Branch>, AllocError>
     requires { place ≤ length (flat_map branch_items branches.now) }
     ensures full { IfOk result (λ row. IsFull branch_width branches.now → IsFull branch_width row) }
     ensures items { IfOk result (λ row. flat_map branch_items row ≡
-        take place (flat_map branch_items branches.now) ++ entry
+        take place (flat_map branch_items branches.now) ++ hashed
         ∷ drop place (flat_map branch_items branches.now)) }
 {
     if branches.is_empty() {
-        return Row::of(alloc, branches_of_one(alloc, entry)?);
+        return Row::of(alloc, branches_of_one(alloc, hashed)?);
     }
-    branches.with_at(alloc, place, entry)
+    branches.with_at(alloc, place, hashed)
 }
 
 /// The tree of the branches of this row.
@@ -139,7 +139,7 @@ impl RangeStore for Tree {
         let Some(place) = self.gap_for(&item) else {
             return Ok(Insertion::Already);
         };
-        let branches = branches_with(alloc, &self.branches, place, Entry::new(item))?;
+        let branches = branches_with(alloc, &self.branches, place, HashedItem::new(item))?;
         Ok(Insertion::New(tree_over(branches)))
     }
 

@@ -14,7 +14,7 @@ use crate::reporting::{Closed, Paths, Reporter, Rules, open_books};
 use crate::watching::{Beginning, Window, open_window, watch};
 use io_core::{Watched, WriterFailed, write_output};
 use peer_loops::{Board, PeerLimits, Service, Shards, serve_peers};
-use peer_threads::{Report, Shared};
+use peer_threads::{Shared, WorkersReport};
 use printing_core::{
     Fault, Refusal, Reporting, listening_line, refusal_of, served_text, tell_address, tell_dropped,
 };
@@ -224,7 +224,7 @@ fn work<R: Loops, E: Write + Drop + Send>(
     seat: Seat<Tree>,
     listener: &Listener<'_, R>,
     service: Service<'_>,
-) -> Report
+) -> WorkersReport
     requires lock { seat.table_id ≡ shared.now.lock.now }
     requires fits { seat.view.cap ≤ (arc_value shared.now.accepted.now).table.cap }
     requires workers { IsWorkerCount service.loops }
@@ -290,7 +290,7 @@ fn work_attended<R: Loops, E: Write + Drop + Send, L: Write + Drop + Send>(
     doors: (&Listener<'_, R>, Option<&Window<'_, R>>),
     service: Service<'_>,
     log: Option<L>,
-) -> Report
+) -> WorkersReport
     requires lock { seat.table_id ≡ shared.now.lock.now }
     requires fits { seat.view.cap ≤ (arc_value shared.now.accepted.now).table.cap }
     requires workers { IsWorkerCount service.loops }
@@ -303,7 +303,7 @@ fn work_attended<R: Loops, E: Write + Drop + Send, L: Write + Drop + Send>(
     let (_attended, report) = join(
         rt,
         move || attend(rt, shared, window, board, log),
-        move || -> Report
+        move || -> WorkersReport
             requires { (seat.table_id ≡ shared.now.lock.now)
                 × (seat.view.cap ≤ (arc_value shared.now.accepted.now).table.cap) × IsWorkerCount service.loops }
         { work(rt, shared, seat, listener, service) },
@@ -312,7 +312,7 @@ fn work_attended<R: Loops, E: Write + Drop + Send, L: Write + Drop + Send>(
 }
 
 /// The refusal of a run whose workers ended so, and whose files were closed so.
-fn ending(report: Report, closed: Closed) -> Result<(), Fault> {
+fn ending(report: WorkersReport, closed: Closed) -> Result<(), Fault> {
     refusal_of(report)?;
     closed.all_written()
 }

@@ -11,7 +11,7 @@ use ends_core::Learned;
 use peer_threads::Outcome;
 use printing_core::{Fault, Refusal, Stats, learned_in, tell_progress, tell_stats};
 use range_tree::Tree;
-use shard_core::{Part, Which};
+use shard_core::{ShardPart, Which};
 use std::alloc::{AllocError, Global};
 use std::io::Write;
 use std::net::{Net, TcpStream};
@@ -49,16 +49,16 @@ struct Ready<'a> {
 #[derive(Drop)]
 struct Came {
     number: u16,
-    found: Result<Part, Fault>,
+    found: Result<ShardPart, Fault>,
     cost: Option<(Stats, u32)>,
 }
 
 /// What was learned of a shard.
-fn learned_of(alloc: Global, number: u16, learned: &Learned) -> Result<Part, AllocError>
+fn learned_of(alloc: Global, number: u16, learned: &Learned) -> Result<ShardPart, AllocError>
     ensures { IfOk result (λ p. (p.number ≡ number) × (p.ours.items ≡ learned.now.ours)
         × (p.theirs.items ≡ learned.now.theirs)) }
 {
-    Ok(Part {
+    Ok(ShardPart {
         number,
         ours: learned.ours().to_vec(alloc)?,
         theirs: learned.theirs().to_vec(alloc)?,
@@ -66,7 +66,7 @@ fn learned_of(alloc: Global, number: u16, learned: &Learned) -> Result<Part, All
 }
 
 /// What a session over a shard learned, if it ended.
-fn part_of(alloc: Global, number: u16, outcome: &Outcome) -> Result<Part, Fault> {
+fn part_of(alloc: Global, number: u16, outcome: &Outcome) -> Result<ShardPart, Fault> {
     let learned = learned_in(outcome)?;
     Ok(learned_of(alloc, number, learned)?)
 }
@@ -162,7 +162,7 @@ fn connect_all<'a, R: Files + Net<Stream = TcpStream>>(
 #[derive(Drop)]
 pub struct Gathered<'a> {
     /// What those learned that ended.
-    pub parts: Vec<Part>,
+    pub parts: Vec<ShardPart>,
     /// The shards that were not done, rising.
     pub undone: Vec<u16>,
     /// Why the first of these was not.
@@ -193,7 +193,7 @@ impl<'a> Gathered<'a> {
     }
 
     /// Takes what a session learned.
-    fn take_part(&mut self, part: Part) -> Result<(), AllocError> {
+    fn take_part(&mut self, part: ShardPart) -> Result<(), AllocError> {
         let items = part.ours.len().saturating_add(part.theirs.len());
         self.items = self.items.saturating_add(items);
         self.parts.push(part)?;

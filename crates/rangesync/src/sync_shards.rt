@@ -18,7 +18,7 @@ use crate::sessions::{Crew, Gathered, Work, run_sessions};
 use crate::sync::Asking;
 use item_files::ItemForm;
 use printing_core::{Fault, MergedCounts, Refusal, end_progress, merged_text, tell_undone};
-use shard_core::{Asked, Part, SetName, merge};
+use shard_core::{Asked, SetName, ShardPart, merge};
 use shard_log::ShardLog;
 use std::alloc::{AllocError, Global};
 use std::fs::File;
@@ -48,7 +48,7 @@ fn found_text(
     alloc: Global,
     form: ItemForm,
     counts: MergedCounts,
-    parts: &[Part],
+    parts: &[ShardPart],
 ) -> Result<String, AllocError>
     ensures text { IfOk result (λ text. string_bytes text
         ≡ merged_text form counts (set_of (flat_map ours_of parts.now)) (set_of (flat_map theirs_of parts.now))) }
@@ -175,7 +175,7 @@ where
 }
 
 /// How many shards differ, of so many that were asked for: of a whole set it is known only then.
-fn count_differing(bits: u8, asked: usize, parts: &[Part]) -> u32 {
+fn count_differing(bits: u8, asked: usize, parts: &[ShardPart]) -> u32 {
     let differ = if bits == 0 {
         parts
             .iter()

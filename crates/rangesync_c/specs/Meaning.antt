@@ -2,7 +2,7 @@
 --     IfStrategy, IfSet, IfVersion, IfSession t P     P holds of it, where the handle stands for one
 --     IsStrategy, IsSet, IsVersion, IsSession t P     the handle stands for one, and P holds of it
 --     no_strategy, no_set, no_version, no_session t   whether it stands for something else
---     form_number, opening_number, profile_number     the number by which C names a form, a role, a profile
+--     form_number, side_number, profile_number     the number by which C names a form, a role, a profile
 --     state_number, state_code s                      the numbers by which C is told how a session stands
 -- What a call answers where it is not 0.
 --     IsNumberOf Why code            the number of a fault of which `Why` holds
@@ -22,8 +22,8 @@ use Rattle.embedded_core.specs.SetStates.{SetState, VersionState, IsNoSet, IsAns
 use Rattle.embedded_core.specs.Faults.{embedded_fault_number}
 use Rattle.embedded_core.specs.declared.fault.EmbeddedFault.{EmbeddedFault}
 use Rattle.embedded_core.specs.declared.any_session.AnySession.{AnySession}
-use Rattle.embedded_core.specs.declared.any_session.Opening.{Opening}
-use Rattle.embedded_core.specs.declared.any_session.Opening.TheVariants as openings
+use Rattle.ends_core.specs.declared.side.Side.{Side}
+use Rattle.ends_core.specs.declared.side.Side.TheVariants as sides
 use Rattle.item_files.specs.declared.profile.WireProfile.{WireProfile}
 use Rattle.item_files.specs.declared.profile.WireProfile.TheVariants as profiles
 use Rattle.session_core.specs.declared.state.State.{State}
@@ -85,9 +85,9 @@ abbrev pub form_number : ItemForm → ℕ
 form_number forms.Hex = 0
 form_number forms.Text = 1
 
-abbrev pub opening_number : Opening → ℕ
-opening_number openings.Initiator = 0
-opening_number openings.Responder = 1
+abbrev pub side_number : Side → ℕ
+side_number sides.Initiator = 0
+side_number sides.Responder = 1
 
 abbrev pub profile_number : WireProfile → ℕ
 profile_number profiles.One = 1

@@ -6,23 +6,24 @@ ghost use Rattle.embedded_core.specs.SessionStates.{Opens, Changes, PushesTo, Fi
 ghost use Rattle.embedded_core.specs.SessionStates.{ready_of, due_of, state_in, bound_of, sent_by};
 ghost use Rattle.session_core.specs.Sessions.{is_open};
 ghost use Rattle.rangesync_c.specs.Meaning.{IfVersion, IfSession, IsSession, no_version, no_session};
-ghost use Rattle.rangesync_c.specs.Meaning.{opening_number, profile_number, state_number, state_code};
+ghost use Rattle.rangesync_c.specs.Meaning.{side_number, profile_number, state_number, state_code};
 ghost use Rattle.rangesync_c.specs.Meaning.{NamesBoth, NamesNone, IsUnopened};
 
 use crate::codes::{FINE, MEMORY, NOT_THERE, OTHER_KIND};
 use crate::held::{Held, Slot, Thing, thing_out};
 use core::mem::replace_with;
-use embedded_core::{AnySession, Opening, WireProfile};
+use embedded_core::{AnySession, WireProfile};
+use ends_core::Side;
 use std::alloc::{AllocError, Global};
 
 /// The role of a number: 0 speaks first, 1 is spoken to first.
-fn opening_of(number: u32) -> Option<Opening>
-    ensures opening { IfSome result (λ opening. (opening_number opening ≡ number) × (number ≤ 1)) }
+fn side_of(number: u32) -> Option<Side>
+    ensures side { IfSome result (λ side. (side_number side ≡ number) × (number ≤ 1)) }
     ensures none { IfNone result (1 < number) }
 {
     match number {
-        0 => Some(Opening::Initiator),
-        1 => Some(Opening::Responder),
+        0 => Some(Side::Initiator),
+        1 => Some(Side::Responder),
         _ => None,
     }
 }
@@ -40,21 +41,21 @@ fn profile_of(number: u32) -> Option<WireProfile>
 }
 
 /// The role and the profile of their numbers.
-fn opening_by(role: u32, profile: u32) -> Option<(Opening, WireProfile)>
-    ensures opening { IfSome result (λ o. (opening_number o.0 ≡ role) × (profile_number o.1 ≡ profile)) }
+fn side_by(role: u32, profile: u32) -> Option<(Side, WireProfile)>
+    ensures side { IfSome result (λ o. (side_number o.0 ≡ role) × (profile_number o.1 ≡ profile)) }
     ensures both { IfSome result (λ _. NamesBoth role profile) }
     ensures none { IfNone result (NamesNone role profile) }
 {
-    let opening = opening_of(role)?;
+    let side = side_of(role)?;
     let profile = profile_of(profile)?;
-    Some((opening, profile))
+    Some((side, profile))
 }
 
 /// A session over a version. 98 for a number of no role or profile, and else 90.
 fn session_over(alloc: Global, thing: &Thing, role: u32, profile: u32) -> Result<AnySession, u32>
     ensures number { IfErr result (λ code. code ≢ 0) }
-    ensures opened { IfVersion thing.now (λ v. IfOk result (λ s. (opening : _) × (wire : _)
-        × (opening_number opening ≡ role) × (profile_number wire ≡ profile) × Opens v opening wire s)) }
+    ensures opened { IfVersion thing.now (λ v. IfOk result (λ s. (side : _) × (wire : _)
+        × (side_number side ≡ role) × (profile_number wire ≡ profile) × Opens v side wire s)) }
     ensures both { IfVersion thing.now (λ _. IfOk result (λ _. NamesBoth role profile)) }
     ensures refused { IfVersion thing.now (λ _. IfErr result (λ code. IsUnopened role profile code)) }
     ensures kind { no_version thing.now ≡ true → result ≡ Err 99 }
@@ -62,13 +63,13 @@ fn session_over(alloc: Global, thing: &Thing, role: u32, profile: u32) -> Result
     let Thing::Version(version) = thing else {
         return Err(OTHER_KIND);
     };
-    let Some((opening, profile)) = opening_by(role, profile) else {
+    let Some((side, profile)) = side_by(role, profile) else {
         return Err(NOT_THERE);
     };
     let Ok(version) = version.copy(alloc) else {
         return Err(MEMORY);
     };
-    match AnySession::open(alloc, version, opening, profile) {
+    match AnySession::open(alloc, version, side, profile) {
         Ok(session) => Ok(session),
         Err(AllocError) => Err(MEMORY),
     }
@@ -85,8 +86,8 @@ pub extern "C" fn rs_session_open(
     out: &mut Slot,
 ) -> u32
     ensures opened { result ≡ 0 → IfVersion version.old.value (λ v. IsSomeAnd out.new.value (λ made.
-        IsSession made (λ s. (opening : _) × (wire : _) × (opening_number opening ≡ role)
-        × (profile_number wire ≡ profile) × Opens v opening wire s))) }
+        IsSession made (λ s. (side : _) × (wire : _) × (side_number side ≡ role)
+        × (profile_number wire ≡ profile) × Opens v side wire s))) }
     ensures refused { result ≢ 0 → IfVersion version.old.value (λ _. IsUnopened role profile result) }
     ensures kind { no_version version.old.value ≡ true → result ≡ 99 }
     ensures failed { result ≢ 0 → out.new.value ≡ out.old.value }

@@ -53,14 +53,6 @@ impl<R: Role, S: RangeStore, F: Summary> Model for Session<R, S, F> {
     ghost view = { λ c. record { talk = c.talk; feed = c.feed; over = c.over; begun = c.begun } };
 }
 
-/// Tells that each number of the bytes is below 256; nothing is done.
-fn are_bytes(bytes: &[u8])
-    ensures { IsBytes bytes.now }
-{
-    codec_laws::reads_are_bytes();
-    let _ = bytes;
-}
-
 /// The laws of bytes that are pushed in pieces, in one place.
 fn stream_laws<F: Summary>()
     ensures { Laws F.summary F.profile }
@@ -174,7 +166,7 @@ impl<R: Role, S: RangeStore, F: Summary> Session<R, S, F> {
         ensures memory { OnErr result (self.new ≡ self.old) }
     {
         stream_laws::<F>();
-        are_bytes(piece);
+        codec_laws::are_bytes(piece);
         if self.over {
             return Ok(piece.len());
         }

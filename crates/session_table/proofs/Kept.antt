@@ -5,7 +5,7 @@ use Rattle.std.proofs.lemmas.Bool.{cases_eq}
 use Rattle.std.proofs.lemmas.List.Sums.{sum_by-set}
 use Rattle.slab.specs.Slab.{Slab, get, slab_len, with_value, Updates}
 use Rattle.slab.proofs.SlabLemmas.{ContainsKey-within, Updates-with_value}
-use Rattle.session_table.specs.Sessions.{Session, with_one_more}
+use Rattle.session_table.specs.Sessions.{LiveSession, with_one_more}
 use Rattle.session_table.specs.Counts.{with_message, with_closed, closed_count}
 use Rattle.session_table.specs.Tables.{IsTable}
 use Rattle.session_table.specs.Views.{table_of}
@@ -33,20 +33,20 @@ with_closed-messages Io T = refl
 with_closed-messages Memory T = refl
 
 -- this session stood under the key before, but for the messages that it has sent
-pub record Was (old : Slab Session) (key : ℕ) (s : Session) : Type 0 where
-  pub session : Session
+pub record Was (old : Slab LiveSession) (key : ℕ) (s : LiveSession) : Type 0 where
+  pub session : LiveSession
   pub there : get old key ≡ Some session
   pub serial : session.serial ≡ s.serial
 
 module _ (capacity : ℕ) (next : Option ℕ) (T : Totals) where
-  there_before : (old new : Slab Session) (key : ℕ) → Updates old new key None → (k : ℕ) (s : Session) →
+  there_before : (old new : Slab LiveSession) (key : ℕ) → Updates old new key None → (k : ℕ) (s : LiveSession) →
       get new k ≡ Some s → get old k ≡ Some s
   there_before old new key updates k s at = elim (cases_eq k key) [
     | inl same ↦ let none : get new k ≡ None = ap (get new) same ∙ updates.changed in cc
     | inr differs ↦ sym (updates.others k differs) ∙ at
   ]
 
-  pub IsTable-closed : (old new : Slab Session) (key : ℕ) (kind : CloseKind) →
+  pub IsTable-closed : (old new : Slab LiveSession) (key : ℕ) (kind : CloseKind) →
       IsTable (table_of capacity next old T) → Updates old new key None → slab_len new + 1 ≡ slab_len old →
       IsTable (table_of capacity next new (with_closed kind T))
   IsTable-closed old new key kind t updates len =
@@ -68,7 +68,7 @@ module _ (capacity : ℕ) (next : Option ℕ) (T : Totals) where
             (there_before old new key updates other u there) same;
       }
 
-  noted_len : (old : Slab Session) (key : ℕ) (s u : Session) → get old key ≡ Some s →
+  noted_len : (old : Slab LiveSession) (key : ℕ) (s u : LiveSession) → get old key ≡ Some s →
       slab_len (with_value old key u) ≡ slab_len old
   noted_len old key s u found =
       let present : is_some (get old key) ≡ true = ap is_some found in
@@ -79,7 +79,7 @@ module _ (capacity : ℕ) (next : Option ℕ) (T : Totals) where
         sum_by-set (λ o. cond (is_some o) 1 0) old.slots key (Some u) None (ContainsKey-within old key present),
       )
 
-  noted_cases : (old : Slab Session) (key : ℕ) (s : Session) → get old key ≡ Some s → (k : ℕ) (u : Session) →
+  noted_cases : (old : Slab LiveSession) (key : ℕ) (s : LiveSession) → get old key ≡ Some s → (k : ℕ) (u : LiveSession) →
       get (with_value old key (with_one_more s)) k ≡ Some u → ((k ≡ key) × (with_one_more s ≡ u)) ⊎ (get old k ≡ Some u)
   noted_cases old key s found k u at =
       let updates = Updates-with_value old key (with_one_more s) (ap is_some found) in
@@ -91,22 +91,22 @@ module _ (capacity : ℕ) (next : Option ℕ) (T : Totals) where
         | inr differs ↦ inr (sym (updates.others k differs) ∙ at)
       ]
 
-  noted_was : (old : Slab Session) (key : ℕ) (s : Session) → get old key ≡ Some s → (k : ℕ) (u : Session) →
+  noted_was : (old : Slab LiveSession) (key : ℕ) (s : LiveSession) → get old key ≡ Some s → (k : ℕ) (u : LiveSession) →
       get (with_value old key (with_one_more s)) k ≡ Some u → Was old k u
   noted_was old key s found k u at = elim (noted_cases old key s found k u at) [
     | inl here ↦ record { session = s; there = ap (get old) here.0 ∙ found; serial = ap (λ v. v.serial) here.1 }
     | inr before ↦ record { session = u; there = before; serial = refl }
   ]
 
-  noted_within : (old : Slab Session) (key : ℕ) (s : Session) → IsTable (table_of capacity next old T) →
-      get old key ≡ Some s → s.sent < s.bound → (k : ℕ) (u : Session) →
+  noted_within : (old : Slab LiveSession) (key : ℕ) (s : LiveSession) → IsTable (table_of capacity next old T) →
+      get old key ≡ Some s → s.sent < s.bound → (k : ℕ) (u : LiveSession) →
       get (with_value old key (with_one_more s)) k ≡ Some u → u.sent ≤ u.bound
   noted_within old key s t found below k u at = elim (noted_cases old key s found k u at) [
     | inl here ↦ rw (← here.1) (omega arith)
     | inr before ↦ (t.live k u before).within
   ]
 
-  pub IsTable-noted : (old : Slab Session) (key : ℕ) (s : Session) →
+  pub IsTable-noted : (old : Slab LiveSession) (key : ℕ) (s : LiveSession) →
       IsTable (table_of capacity next old T) → get old key ≡ Some s → s.sent < s.bound →
       IsTable (table_of capacity next (with_value old key (with_one_more s)) (with_message T))
   IsTable-noted old key s t found below =

@@ -4,7 +4,7 @@
 --     fault_in result                 of what a call answers, if it refuses
 use Rattle.std.specs.Prelude.{ℕ, Option, Some, None, Result, Ok, Err, if◌then◌else◌, ◌==◌}
 use Rattle.definitions.specs.Refusals as codes
-use Rattle.session_table.specs.Sessions.{Session, Id}
+use Rattle.session_table.specs.Sessions.{LiveSession, Id}
 use Rattle.session_table.specs.Tables.{Table, live_count, session_of, end_of_serials}
 use Rattle.session_table.specs.declared.fault.TableFault.{TableFault}
 use Rattle.session_table.specs.declared.fault.TableFault.TheVariants.{Full, Unknown, OverBound, SerialsSpent}
@@ -19,11 +19,11 @@ abbrev pub opening_fault : Table → Option ℕ
 opening_fault t = if live_count t == t.capacity then Some codes.table_full else if t.next == end_of_serials
     then Some codes.serials_spent else None
 
-abbrev pub sending_fault : Option Session → Option ℕ
+abbrev pub sending_fault : Option LiveSession → Option ℕ
 sending_fault None = Some codes.unknown
 sending_fault (Some s) = if s.sent == s.bound then Some codes.over_bound else None
 
-abbrev pub closing_fault : Option Session → Option ℕ
+abbrev pub closing_fault : Option LiveSession → Option ℕ
 closing_fault None = Some codes.unknown
 closing_fault (Some s) = None
 

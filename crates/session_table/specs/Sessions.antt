@@ -1,7 +1,7 @@
 -- A live session, and what names it.
 use Rattle.std.specs.Prelude.{ℕ, ◌+◌, Option, Some, None, if◌then◌else◌, ◌==◌}
 
-pub record Session : Type 0 where
+pub record LiveSession : Type 0 where
   pub serial : ℕ
   -- the greatest number of messages that it may send
   pub bound : ℕ
@@ -14,10 +14,10 @@ pub record Id : Type 0 where
   pub serial : ℕ
 
 -- the session, where it has this serial
-abbrev pub with_serial : ℕ → Option Session → Option Session
+abbrev pub with_serial : ℕ → Option LiveSession → Option LiveSession
 with_serial serial None = None
 with_serial serial (Some s) = if s.serial == serial then Some s else None
 
 -- the session after one more message
-abbrev pub with_one_more : Session → Session
+abbrev pub with_one_more : LiveSession → LiveSession
 with_one_more s = record s { sent = s.sent + 1 }

@@ -7,7 +7,7 @@
 --     IsLater old new                what holds after any number of calls
 use Rattle.std.specs.Prelude.{◌≡◌, ◌≢◌, ℕ, ◌+◌, ◌-◌, ◌<◌, ◌≤◌, ◌^◌, List, [], Option, Some, None, is_some, count_by}
 use Rattle.std.specs.Prelude.{slice_index_or, option_map}
-use Rattle.session_table.specs.Sessions.{Session, Id, with_serial, with_one_more}
+use Rattle.session_table.specs.Sessions.{LiveSession, Id, with_serial, with_one_more}
 use Rattle.session_table.specs.Counts.{no_totals, with_opened, with_message, with_closed, closed_count, most_messages}
 use Rattle.session_table.specs.declared.totals.Totals.{Totals}
 use Rattle.session_table.specs.declared.totals.CloseKind.{CloseKind}
@@ -18,7 +18,7 @@ pub record Table : Type 0 where
   -- the serial of the next session; `end_of_serials` where none is left
   pub next : ℕ
   -- the live session, if any, at each key from 0 on
-  pub sessions : List (Option Session)
+  pub sessions : List (Option LiveSession)
   pub totals : Totals
 
 -- serials are below this
@@ -37,11 +37,11 @@ new_table capacity serial = record { capacity = capacity; next = serial; session
 abbrev pub live_count : Table → ℕ
 live_count t = count_by is_some t.sessions
 
-abbrev pub session_at : Table → ℕ → Option Session
+abbrev pub session_at : Table → ℕ → Option LiveSession
 session_at t key = slice_index_or t.sessions key None
 
 -- the live session that this id names
-abbrev pub session_of : Table → Id → Option Session
+abbrev pub session_of : Table → Id → Option LiveSession
 session_of t i = with_serial i.serial (session_at t i.key)
 
 -- the serial of the session that was opened first, or is to be
@@ -49,7 +49,7 @@ abbrev pub first_serial : Table → ℕ
 first_serial t = t.next - t.totals.opened
 
 -- what holds of each live session
-pub record IsLive (t : Table) (s : Session) : Type 0 where
+pub record IsLive (t : Table) (s : LiveSession) : Type 0 where
   pub within : s.sent ≤ s.bound
   pub from_first : first_serial t ≤ s.serial
   pub before_next : s.serial < t.next
@@ -63,13 +63,13 @@ pub record IsTable (t : Table) : Type 0 where
   -- each session that was opened is live or was closed in one of the four ways
   pub totals : t.totals.opened ≡ live_count t + closed_count t.totals
   pub messages : t.totals.messages ≤ most_messages
-  pub live : (key : ℕ) (s : Session) → session_at t key ≡ Some s → IsLive t s
+  pub live : (key : ℕ) (s : LiveSession) → session_at t key ≡ Some s → IsLive t s
   -- no two live sessions have one serial
-  pub once : (key other : ℕ) (s u : Session) → session_at t key ≡ Some s → session_at t other ≡ Some u →
+  pub once : (key other : ℕ) (s u : LiveSession) → session_at t key ≡ Some s → session_at t other ≡ Some u →
       s.serial ≡ u.serial → key ≡ other
 
 -- the id names this after, and every other id names what it named before; the capacity is the same
-pub record Changes (old new : Table) (i : Id) (session : Option Session) : Type 0 where
+pub record Changes (old new : Table) (i : Id) (session : Option LiveSession) : Type 0 where
   pub changed : session_of new i ≡ session
   pub others : (other : Id) → other ≢ i → session_of new other ≡ session_of old other
   pub capacity : new.capacity ≡ old.capacity

@@ -4,16 +4,16 @@ use std::marker::Model;
 
 /// A live session as the table keeps it.
 #[derive(Clone, Copy)]
-pub(crate) struct Session {
+pub(crate) struct LiveSession {
     pub(crate) serial: u64,
     pub(crate) bound: u32,
     pub(crate) sent: u32,
 }
 
-impl Model for Session {
+impl Model for LiveSession {
     ghost use Rattle.session_table.specs.Sessions as words;
 
-    ghost Value = { words.Session };
+    ghost Value = { words.LiveSession };
 
     ghost view = { λ s. record { serial = s.serial; bound = s.bound; sent = s.sent } };
 

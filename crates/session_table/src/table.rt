@@ -4,7 +4,7 @@ ghost use Rattle.session_table.specs.Tables.{Closed, IsLater};
 ghost use Rattle.session_table.specs.Faults.{opening_fault, note_fault, close_fault, fault_in};
 
 use crate::fault::TableFault;
-use crate::session::{Session, SessionId};
+use crate::session::{LiveSession, SessionId};
 use crate::totals::{CloseKind, Totals};
 use slab::Slab;
 use std::alloc::{AllocError, Global};
@@ -20,7 +20,7 @@ pub struct SessionTable {
     capacity: usize,
     // None once the last serial is used.
     next: Option<u64>,
-    sessions: Slab<Session>,
+    sessions: Slab<LiveSession>,
     totals: Totals,
 }
 
@@ -77,7 +77,7 @@ impl SessionTable {
             return Err(TableFault::Full);
         }
         let serial = self.next.ok_or(TableFault::SerialsSpent)?;
-        let key = self.sessions.insert_reserved(Session {
+        let key = self.sessions.insert_reserved(LiveSession {
             serial,
             bound,
             sent: 0,

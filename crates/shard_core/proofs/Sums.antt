@@ -15,7 +15,7 @@ use Rattle.definitions.specs.Sets.{IsSet, has, set_of, difference}
 use Rattle.definitions.specs.Theorems.{KnowsDifference, KnowsNothingWrong, ListsSome}
 use Rattle.definitions.proofs.Lists.{All-map}
 use Rattle.store_core.proofs.Made.{same_set, set_of_is_set, has_set_of}
-use Rattle.shard_core.specs.declared.part.Part.{Part}
+use Rattle.shard_core.specs.declared.part.ShardPart.{ShardPart}
 use Rattle.shard_core.specs.declared.part.Merged.{Merged}
 use Rattle.shard_core.specs.Shards.{shard_number, shard, entries_differ}
 use Rattle.shard_core.specs.Parts.{ours_of, theirs_of, knowledge_of, merged_knowledge, is_asked, asked_of, KnowsShards}
@@ -49,10 +49,10 @@ set_difference A B set = IsStrictlySortedBy-filter item_cmp (λ y. not (has B y)
 -- ---- lists of parts: f gives one of the two lists of a part, and D is the difference that it belongs to
 
 -- the part has what D has in its shard
-abbrev HasOwn : ℕ → (Part → List Item) → List Item → Part → Type 0
+abbrev HasOwn : ℕ → (ShardPart → List Item) → List Item → ShardPart → Type 0
 HasOwn b f D p = (x : Item) → has (f p) x ≡ ((shard_number b x == p.number) && has D x)
 
-has_parts : (b : ℕ) (f : Part → List Item) (D : List Item) (ps : List Part) → AllByRecursion (HasOwn b f D) ps →
+has_parts : (b : ℕ) (f : ShardPart → List Item) (D : List Item) (ps : List ShardPart) → AllByRecursion (HasOwn b f D) ps →
     (x : Item) → has (flat_map f ps) x ≡ (is_asked ps (shard_number b x) && has D x)
 has_parts b f D [] each x = refl
 has_parts b f D (p ∷ ps) each x = list_any-append (same_item x) (f p) (flat_map f ps)
@@ -60,7 +60,7 @@ has_parts b f D (p ∷ ps) each x = list_any-append (same_item x) (f p) (flat_ma
     ∙ ap (λ c. ((shard_number b x == p.number) && has D x) || c) (has_parts b f D ps each.1 x)
     ∙ and_or (shard_number b x == p.number) (is_asked ps (shard_number b x)) (has D x)
 
-asked_parts : (b : ℕ) (f : Part → List Item) (D : List Item) (ps : List Part) → IsSet D →
+asked_parts : (b : ℕ) (f : ShardPart → List Item) (D : List Item) (ps : List ShardPart) → IsSet D →
     AllByRecursion (HasOwn b f D) ps → set_of (flat_map f ps) ≡ asked_of b ps D
 asked_parts b f D ps set each =
     let all : List Item = flat_map f ps in
@@ -68,13 +68,13 @@ asked_parts b f D ps set each =
     (IsStrictlySortedBy-filter item_cmp (λ x. is_asked ps (shard_number b x)) D set)
     (λ x. has_set_of all x ∙ has_parts b f D ps each x ∙ sym (has_filter (λ y. is_asked ps (shard_number b y)) D x))
 
-pub asked_ours : (b : ℕ) (A B : List Item) (ps : List Part) → IsSet A → KnowsShards b A B ps →
+pub asked_ours : (b : ℕ) (A B : List Item) (ps : List ShardPart) → IsSet A → KnowsShards b A B ps →
     set_of (flat_map ours_of ps) ≡ asked_of b ps (difference A B)
 asked_ours b A B ps set knows = asked_parts b ours_of (difference A B) ps (set_difference A B set)
     (All-map (λ p. KnowsDifference (knowledge_of p) (shard b A p.number) (shard b B p.number))
     (HasOwn b ours_of (difference A B)) (λ p k x. k.ours.same x ∙ shard_differs b A B p.number x) ps knows)
 
-pub asked_theirs : (b : ℕ) (A B : List Item) (ps : List Part) → IsSet B → KnowsShards b A B ps →
+pub asked_theirs : (b : ℕ) (A B : List Item) (ps : List ShardPart) → IsSet B → KnowsShards b A B ps →
     set_of (flat_map theirs_of ps) ≡ asked_of b ps (difference B A)
 asked_theirs b A B ps set knows = asked_parts b theirs_of (difference B A) ps (set_difference B A set)
     (All-map (λ p. KnowsDifference (knowledge_of p) (shard b A p.number) (shard b B p.number))
@@ -93,7 +93,7 @@ apart_of true false e same = false≢true (sym same)
 apart_of false false e same = false≢true e
 
 -- an item that one of the two sets has is in a shard that was asked
-differs_asked : (b : ℕ) (A B : List Item) (ps : List Part) → b ≤ 12 → NoClash b A B → Covers b A B ps → (x : Item) →
+differs_asked : (b : ℕ) (A B : List Item) (ps : List ShardPart) → b ≤ 12 → NoClash b A B → Covers b A B ps → (x : Item) →
     (has A x ≡ has B x → ⊥) → is_asked ps (shard_number b x) ≡ true
 differs_asked b A B ps low clash covers x apart =
     let s : ℕ = shard_number b x in
@@ -104,20 +104,20 @@ differs_asked b A B ps low clash covers x apart =
     ] in
     either (entries_differ b A B s) refl
 
-all_asked : (b : ℕ) (D : List Item) (ps : List Part) → IsSet D →
+all_asked : (b : ℕ) (D : List Item) (ps : List ShardPart) → IsSet D →
     ((x : Item) → has D x ≡ true → is_asked ps (shard_number b x) ≡ true) → asked_of b ps D ≡ D
 all_asked b D ps set asked =
     same_set (asked_of b ps D) D (IsStrictlySortedBy-filter item_cmp (λ x. is_asked ps (shard_number b x)) D set) set
     (λ x. has_filter (λ y. is_asked ps (shard_number b y)) D x
     ∙ only_asked (is_asked ps (shard_number b x)) (has D x) (asked x))
 
-pub all_ours : (b : ℕ) (A B : List Item) (ps : List Part) → b ≤ 12 → IsSet A → KnowsShards b A B ps →
+pub all_ours : (b : ℕ) (A B : List Item) (ps : List ShardPart) → b ≤ 12 → IsSet A → KnowsShards b A B ps →
     NoClash b A B → Covers b A B ps → set_of (flat_map ours_of ps) ≡ difference A B
 all_ours b A B ps low set knows clash covers = asked_ours b A B ps set knows
     ∙ all_asked b (difference A B) ps (set_difference A B set) (λ x there. differs_asked b A B ps low clash covers x
     (apart_of (has A x) (has B x) (sym (has_difference A B x) ∙ there)))
 
-pub all_theirs : (b : ℕ) (A B : List Item) (ps : List Part) → b ≤ 12 → IsSet B → KnowsShards b A B ps →
+pub all_theirs : (b : ℕ) (A B : List Item) (ps : List ShardPart) → b ≤ 12 → IsSet B → KnowsShards b A B ps →
     NoClash b A B → Covers b A B ps → set_of (flat_map theirs_of ps) ≡ difference B A
 all_theirs b A B ps low set knows clash covers = asked_theirs b A B ps set knows
     ∙ all_asked b (difference B A) ps (set_difference B A set) (λ x there. differs_asked b A B ps low clash covers x
@@ -125,7 +125,7 @@ all_theirs b A B ps low set knows clash covers = asked_theirs b A B ps set knows
 
 -- ---- nothing wrong
 
-some_parts : (f : Part → List Item) (D : List Item) (ps : List Part) →
+some_parts : (f : ShardPart → List Item) (D : List Item) (ps : List ShardPart) →
     AllByRecursion (λ p. (x : Item) → has (f p) x ≡ true → has D x ≡ true) ps → (x : Item) →
     has (flat_map f ps) x ≡ true → has D x ≡ true
 some_parts f D [] each x e = absurd (false≢true e)
@@ -142,7 +142,7 @@ distinct_set A set =
     let path : eq_by_cmp item_cmp ≡ same_item = λ i x y. is_eq-slice_cmp x y i in
     subst (λ (e : Item → Item → Bool). IsDistinct e A) path (IsDistinct-from_sorted item_cmp A set)
 
-lists_some : (f : Part → List Item) (D : List Item) (ps : List Part) →
+lists_some : (f : ShardPart → List Item) (D : List Item) (ps : List ShardPart) →
     AllByRecursion (λ p. (x : Item) → has (f p) x ≡ true → has D x ≡ true) ps → ListsSome (set_of (flat_map f ps)) D
 lists_some f D ps each =
     let all : List Item = flat_map f ps in
@@ -156,14 +156,14 @@ from_shard : (b : ℕ) (A B : List Item) (s : ℕ) (x : Item) → has (differenc
 from_shard b A B s x there =
     (and_parts (shard_number b x == s) (has (difference A B) x) (sym (shard_differs b A B s x) ∙ there)).1
 
-some_ours : (b : ℕ) (A B : List Item) (ps : List Part) → KnowsNoWrong b A B ps →
+some_ours : (b : ℕ) (A B : List Item) (ps : List ShardPart) → KnowsNoWrong b A B ps →
     ListsSome (set_of (flat_map ours_of ps)) (difference A B)
 some_ours b A B ps knows = lists_some ours_of (difference A B) ps
     (All-map (λ p. KnowsNothingWrong (knowledge_of p) (shard b A p.number) (shard b B p.number))
     (λ p. (x : Item) → has (ours_of p) x ≡ true → has (difference A B) x ≡ true)
     (λ p k x there. from_shard b A B p.number x (k.ours.among x there)) ps knows)
 
-some_theirs : (b : ℕ) (A B : List Item) (ps : List Part) → KnowsNoWrong b A B ps →
+some_theirs : (b : ℕ) (A B : List Item) (ps : List ShardPart) → KnowsNoWrong b A B ps →
     ListsSome (set_of (flat_map theirs_of ps)) (difference B A)
 some_theirs b A B ps knows = lists_some theirs_of (difference B A) ps
     (All-map (λ p. KnowsNothingWrong (knowledge_of p) (shard b A p.number) (shard b B p.number))
@@ -172,7 +172,7 @@ some_theirs b A B ps knows = lists_some theirs_of (difference B A) ps
 
 -- ---- of a result
 
-module _ {E : Type 0} (ps : List Part) where
+module _ {E : Type 0} (ps : List ShardPart) where
   pub rises_in : (r : Result Merged E) → IfOk r (λ m. m.ours.items ≡ set_of (flat_map ours_of ps)) →
       IfOk r (λ m. m.theirs.items ≡ set_of (flat_map theirs_of ps)) →
       IfOk r (λ m. IsSet m.ours.items × IsSet m.theirs.items)

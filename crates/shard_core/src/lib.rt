@@ -24,7 +24,7 @@ pub use directory::{differing, directory_from, directory_of};
 pub use entry::{BadEntry, entry_of, read_entry};
 pub use fault::{DirectoryFault, SplitFault};
 pub use joining::join_shards;
-pub use part::{Merged, Part, merge};
+pub use part::{Merged, ShardPart, merge};
 pub use selector::{MAX_NAME, Selecting, Which, push_selector, read_selector};
 pub use set_name::SetName;
 pub use shard::{MAX_BITS, shard_count, shard_of};

@@ -14,7 +14,7 @@ use store_core::spans;
 
 /// What a session over one shard learned.
 #[derive(Debug, Drop)]
-pub struct Part {
+pub struct ShardPart {
     /// The shard's number.
     pub number: u16,
     /// Own items that the peer lacks.
@@ -33,7 +33,7 @@ pub struct Merged {
 }
 
 /// The items of ours of all parts.
-fn all_ours(alloc: Global, parts: &[Part]) -> Result<Vec<Item>, AllocError>
+fn all_ours(alloc: Global, parts: &[ShardPart]) -> Result<Vec<Item>, AllocError>
     ensures { IfOk result (λ v. v.items ≡ flat_map ours_of parts.now) }
 {
     let mut all = Vec::new(alloc);
@@ -44,7 +44,7 @@ fn all_ours(alloc: Global, parts: &[Part]) -> Result<Vec<Item>, AllocError>
 }
 
 /// The items of theirs of all parts.
-fn all_theirs(alloc: Global, parts: &[Part]) -> Result<Vec<Item>, AllocError>
+fn all_theirs(alloc: Global, parts: &[ShardPart]) -> Result<Vec<Item>, AllocError>
     ensures { IfOk result (λ v. v.items ≡ flat_map theirs_of parts.now) }
 {
     let mut all = Vec::new(alloc);
@@ -55,7 +55,7 @@ fn all_theirs(alloc: Global, parts: &[Part]) -> Result<Vec<Item>, AllocError>
 }
 
 /// The parts, each list in rising order with each item once.
-fn gathered(alloc: Global, parts: &[Part]) -> Result<Merged, AllocError>
+fn gathered(alloc: Global, parts: &[ShardPart]) -> Result<Merged, AllocError>
     ensures ours { IfOk result (λ m. m.ours.items ≡ set_of (flat_map ours_of parts.now)) }
     ensures theirs { IfOk result (λ m. m.theirs.items ≡ set_of (flat_map theirs_of parts.now)) }
 {
@@ -66,7 +66,7 @@ fn gathered(alloc: Global, parts: &[Part]) -> Result<Merged, AllocError>
 
 /// The differences of two sets, from what the sessions over their shards learned. In the clauses b is the number of
 /// bits, A our set and B the peer's.
-pub fn merge(alloc: Global, parts: &[Part]) -> Result<Merged, AllocError>
+pub fn merge(alloc: Global, parts: &[ShardPart]) -> Result<Merged, AllocError>
     ensures ours { IfOk result (λ m. m.ours.items ≡ set_of (flat_map ours_of parts.now)) }
     ensures theirs { IfOk result (λ m. m.theirs.items ≡ set_of (flat_map theirs_of parts.now)) }
     ensures rises { IfOk result (λ m. IsSet m.ours.items × IsSet m.theirs.items) }

@@ -29,6 +29,8 @@ pub enum LoadFault {
 impl LoadFault {
     /// The number of the refusal: 80, 81, 82 or 90.
     pub fn number(self) -> u8
+        ensures read { (r : _) → self ≡ LoadFault.CannotRead r → result ≡ 80 }
+        ensures long { self ≡ LoadFault.TooLong → result ≡ 80 }
         ensures bad { (b : _) → self ≡ LoadFault.BadItemLine b → result ≡ 81 }
         ensures many { (s : ℕ) → self ≡ LoadFault.TooManyItems s → result ≡ 82 }
         ensures memory { self ≡ LoadFault.Memory → result ≡ 90 }

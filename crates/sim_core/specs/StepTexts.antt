@@ -9,8 +9,8 @@ use Rattle.std.specs.Str.Parse.{digits_value}
 use Rattle.hex.specs.Hex.{decode_of}
 use Rattle.definitions.specs.Items.{same_item}
 use Rattle.item_files.specs.ItemFiles.{decoded}
-use Rattle.world_core.specs.declared.step.Side.{Side}
-use Rattle.world_core.specs.declared.step.Side.TheVariants.{Initiator, Responder}
+use Rattle.ends_core.specs.declared.side.Side.{Side}
+use Rattle.ends_core.specs.declared.side.Side.TheVariants.{Initiator, Responder}
 use Rattle.world_core.specs.declared.step.Step.TheVariants.{Insert, Open, Deliver, Absorb}
 use Rattle.sim_core.specs.declared.scenario.ScenarioStep.{ScenarioStep}
 use Rattle.sim_core.specs.declared.scenario.ScenarioStep.TheVariants.{Do, Finish}

@@ -1,8 +1,7 @@
 //! What a TOML text says of a scenario, test by test.
 
-ghost use Rattle.std.specs.Prelude.{◌≡◌, option_map};
+ghost use Rattle.std.specs.Prelude.{◌≡◌};
 ghost use Rattle.std.specs.List.{list_all};
-ghost use Rattle.toml.specs.Data.{get_member};
 ghost use Rattle.toml.specs.View.{table_view, view, array_view};
 ghost use Rattle.sim_core.specs.Scenarios.{Gives, GivesField, Reads, each_from, array_at, is_table, is_text, are_nodes};
 ghost use Rattle.sim_core.specs.Scenarios.{are_steps, nodes_at, steps_at, accepted_in, item_in, items_in};
@@ -17,6 +16,7 @@ use item_files::{SettingsFault, item_of};
 use std::alloc::Global;
 use store_core::spans::distinct;
 use strategy_check::Accepted;
+use strategy_core::member;
 use toml::value::{Array, Table, Value};
 
 /// The most nodes of a scenario.
@@ -34,13 +34,6 @@ fn document(alloc: Global, text: &[u8]) -> Result<Table, ScenarioError>
         Err(SettingsFault::Strategy(_)) => Err(ScenarioError::Fault(ScenarioFault::NotToml)),
         Err(_) => Err(ScenarioError::Memory),
     }
-}
-
-/// The value under a key.
-fn member<'a>(table: &'a Table, key: &str) -> Option<&'a Value>
-    ensures { option_map (λ v. view v.now) result ≡ get_member key.now (table_view table.now) }
-{
-    table.get(key)
 }
 
 /// The array under a key.

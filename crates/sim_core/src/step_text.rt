@@ -7,8 +7,9 @@ ghost use Rattle.sim_core.specs.StepTexts.{is_plain, number_of, parted, side_of,
 ghost use Rattle.sim_core.specs.StepTexts.{step_of};
 
 use crate::scenario::ScenarioStep;
+use ends_core::Side;
 use item_files::item_of;
-use world_core::{Side, Step};
+use world_core::Step;
 
 /// Whether a byte is a decimal digit.
 fn is_digit(byte: u8) -> bool

@@ -1,8 +1,8 @@
 ghost use Rattle.definitions.specs.Sets.{items_in};
 ghost use Rattle.store_core.specs.Flat.{flat_items};
 
-use crate::entry::Entry;
 use crate::flat_store::FlatStore;
+use crate::hashed_item::HashedItem;
 use crate::range_store::{Insertion, RangeStore};
 use crate::span::Span;
 use crate::{spans, sums};
@@ -61,10 +61,10 @@ impl RangeStore for FlatStore {
         match spans::gap_for(&self.items, &item) {
             None => Ok(Insertion::Already),
             Some(place) => {
-                let entry = Entry::new(item);
+                let hashed = HashedItem::new(item);
                 Ok(Insertion::New(FlatStore {
                     items: spans::with_item(alloc, &self.items, place, item)?,
-                    sums: sums::with_entry(alloc, &self.sums, place, &entry)?,
+                    sums: sums::with_hashed(alloc, &self.sums, place, &hashed)?,
                 }))
             }
         }

@@ -4,11 +4,6 @@ ghost use Rattle.std.specs.Prelude.{◌≡◌, ◌||◌, List, IsTrue};
 ghost use Rattle.definitions.specs.Items.{Item, same_item};
 ghost use Rattle.definitions.specs.Sets.{IsSet, has, add_item, set_of};
 
-/// Two sets that have the same items are equal.
-pub fn items_make_the_set()
-    ensures { (A B : List Item) → IsSet A → IsSet B → ((x : Item) → has A x ≡ has B x) → A ≡ B }
-{}
-
 /// A set with one more item is a set, has what the set had and the item, and is the set itself where
 /// the item was there.
 pub fn adding_an_item()

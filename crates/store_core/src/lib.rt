@@ -1,9 +1,9 @@
 //! Sets of items from which the items of a range are counted, summed and read, and lists of items that are kept packed.
 #![tactic(auto)]
 
-mod entry;
 mod flat;
 mod flat_store;
+mod hashed_item;
 pub mod laws;
 mod packed_items;
 mod range_store;
@@ -12,8 +12,8 @@ mod span;
 pub mod spans;
 pub mod sums;
 
-pub use entry::Entry;
 pub use flat_store::FlatStore;
+pub use hashed_item::HashedItem;
 pub use packed_items::PackedItems;
 pub use range_store::{Insertion, RangeStore};
 pub use room::make_room;

@@ -9,7 +9,7 @@ ghost use Rattle.definitions.specs.Fingerprints.{two_lanes};
 ghost use Rattle.store_core.specs.Stores.{span};
 ghost use Rattle.store_core.specs.Sums.{running_sums, sums_after};
 
-use crate::entry::Entry;
+use crate::hashed_item::HashedItem;
 use digest_core::{Fingerprint, Summary};
 use item_core::Item;
 use std::alloc::{AllocError, Global};
@@ -40,18 +40,18 @@ pub fn before(sums: &[Fingerprint], place: usize) -> Fingerprint
     }
 }
 
-/// The running sums of the items with an entry at a place. None of them is hashed.
-pub fn with_entry(
+/// The running sums of the items with a hashed item at a place. None of them is hashed.
+pub fn with_hashed(
     alloc: Global,
     sums: &[Fingerprint],
     place: usize,
-    entry: &Entry,
+    hashed: &HashedItem,
 ) -> Result<Vec<Fingerprint>, AllocError>
     requires { place ≤ length sums.now }
     ensures { (A : List items.Item) → sums.now ≡ running_sums A →
-        IfOk result (λ held. held.items ≡ running_sums (take place A ++ entry.now ∷ drop place A)) }
+        IfOk result (λ held. held.items ≡ running_sums (take place A ++ hashed.now ∷ drop place A)) }
 {
-    let own = entry.fingerprint();
+    let own = hashed.fingerprint();
     let (front, back) = sums.split_at(place);
     let mut held = Vec::with_capacity(alloc, sums.len() + 1)?;
     held.extend_from_slice(front)?;

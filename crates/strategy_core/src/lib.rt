@@ -15,4 +15,5 @@ pub use act::{Act, Cutting};
 pub use bounds::Bounds;
 pub use fault::{StrategyError, StrategyFault};
 pub use field::Field;
+pub use reading::{few_of, member, number, number_of, upto_of};
 pub use strategy::Strategy;

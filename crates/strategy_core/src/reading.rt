@@ -46,7 +46,7 @@ pub fn document(alloc: Global, text: &[u8]) -> Result<Table, StrategyError>
 }
 
 /// The value under a key.
-fn member<'a>(table: &'a Table, key: &str) -> Option<&'a Value>
+pub fn member<'a>(table: &'a Table, key: &str) -> Option<&'a Value>
     ensures { option_map (λ v. view v.now) result ≡ get_member key.now (table_view table.now) }
 {
     table.get(key)
@@ -63,7 +63,7 @@ fn field(table: &Table, field: Field) -> Result<&Value, StrategyFault>
 }
 
 /// A whole number of `low` to `high`.
-fn number_of(value: &Value, low: u32, high: u32) -> Result<u32, StrategyFault>
+pub fn number_of(value: &Value, low: u32, high: u32) -> Result<u32, StrategyFault>
     ensures number { result ≡ number_in low high (view value.now) }
     ensures span { IfOk result (λ n. (low ≤ n) × (n ≤ high)) }
 {
@@ -77,7 +77,7 @@ fn number_of(value: &Value, low: u32, high: u32) -> Result<u32, StrategyFault>
 }
 
 /// A whole number of `low` to `high` under a key.
-fn number(table: &Table, key: Field, low: u32, high: u32) -> Result<u32, StrategyFault>
+pub fn number(table: &Table, key: Field, low: u32, high: u32) -> Result<u32, StrategyFault>
     ensures number { result ≡ number_at (table_view table.now) key low high }
     ensures span { IfOk result (λ n. (low ≤ n) × (n ≤ high)) }
 {
@@ -92,7 +92,7 @@ fn array_of(value: &Value) -> Result<&Array, StrategyFault>
 }
 
 /// The array of 2 to 64 values that a value is.
-fn few_of(value: &Value) -> Result<&Array, StrategyFault>
+pub fn few_of(value: &Value) -> Result<&Array, StrategyFault>
     ensures array { GivesField (λ array. array_view array.now) result (few_in (view value.now)) }
     ensures few { IfOk result (λ array. (2 ≤ length array.now.items) × (length array.now.items ≤ 64)) }
 {
@@ -159,7 +159,7 @@ fn rule_of(alloc: Global, entry: &Table) -> Result<Rule, StrategyError>
 }
 
 /// The `upto` of a row after one of this `upto`.
-fn upto_of(entry: &Table, cap: u32, before: Option<u32>) -> Result<u32, StrategyFault>
+pub fn upto_of(entry: &Table, cap: u32, before: Option<u32>) -> Result<u32, StrategyFault>
     ensures { result ≡ upto_in cap before (table_view entry.now) }
 {
     let upto = number(entry, Field::Upto, 0, cap)?;

@@ -4,7 +4,7 @@
 use Rattle.std.proofs.Common.{◌≡◌, ◌≢◌, ℕ, ◌+◌, ◌<◌, true, false, inl, inr, ⊎_elim, List, [], ◌∷◌, ◌++◌, length}
 use Rattle.std.proofs.Common.{set, All, Contains, Option, Some, None}
 use Rattle.std.proofs.Common.{refl, sym, ap, subst, ◌∙◌, arith, length-set, append-nil, append_assoc, get_or, Bool}
-use Rattle.std.proofs.Common.{cond, ◌==◌, eq-eqb, ne_eqb}
+use Rattle.std.proofs.Common.{cond, ◌==◌, ◌⊎◌, eq-eqb, ne_eqb}
 use Rattle.std.specs.List.{AllByRecursion}
 use Rattle.std.proofs.lemmas.List.{append_cancel_left, length-append}
 use Rattle.std.proofs.lemmas.List.Elements.{filter-append, All-nil, All-cons, All-append, Contains-push}
@@ -107,34 +107,44 @@ began s r = (r.cap, (r.begins, r.entries, r.each_later), r.numbers)
 
 -- ---- a try
 
--- the log is at home, and the seat takes it
-takes_log : {o l : LogState} (s : Table) (r : OneLog o l s) (id : ℕ) (v : View) → At s.views id v → Free s l →
-    OneLog o l (stepped s 0 1 id [] (holding l v) (takes 0 (Some l)))
-takes_log {o} {l} s r id v at free = let w : View = holding l v in
-    let b = began_kept o l s.views id v w at refl refl (began s r) in record {
+-- a view looks for the log: what it entered and counts stays, and what it says of the log
+looked_at : {o l : LogState} (s : Table) (r : OneLog o l s) (id : ℕ) (v w : View) (words : List ℕ)
+    (homes : List (maybe.Option (Option LogState))) → At s.views id v → (Fits l v → Fits l w) → w.spent ≡ v.spent →
+    w.writer ≡ v.writer → w.entered ≡ v.entered → w.numbers ≡ v.numbers →
+    Free record { words = words; homes = homes; views = set s.views id w } l
+    ⊎ Held record { words = words; homes = homes; views = set s.views id w } l →
+    OneLog o l record { words = words; homes = homes; views = set s.views id w }
+looked_at {o} {l} s r id v w words homes at fits spent writer entered numbers place =
+    let b = began_kept o l s.views id v w at entered numbers (began s r) in record {
       is_log = r.is_log;
-      place = inr record {
-        word = ap (λ (ws : List ℕ). set ws 0 1) free.word;
-        away = length-set s.homes 0 none ∙ ap length free.home;
-        holder = id;
-        view = w;
-        at = set_there s.views id w v at;
-        holds = refl;
-        base = (refl, refl);
-        alone = each_set (λ j u. u.holding ≡ true → j ≡ id) s.views id w (λ _. refl)
-            (λ j u _ e h. absurd (not_both h (free.nobody j u e)));
-      };
+      place = place;
       each = each_set (λ j u. u.spent ≡ false → Fits l u) s.views id w
-          (λ live. let k = r.each id v at live in
-          record { cap = k.cap; seen = k.seen; joined = k.joined; mine = k.mine })
-          (λ j u _ e. r.each j u e);
-      apart = apart_set s.views id v w at refl refl r.apart;
+          (λ live. fits (r.each id v at (sym spent ∙ live))) (λ j u _ e. r.each j u e);
+      apart = apart_set s.views id v w at spent writer r.apart;
       cap = b.0;
       begins = b.1.0;
       entries = b.1.1;
       each_later = b.1.2;
       numbers = b.2;
     }
+
+-- the log is at home, and the seat takes it
+takes_log : {o l : LogState} (s : Table) (r : OneLog o l s) (id : ℕ) (v : View) → At s.views id v → Free s l →
+    OneLog o l (stepped s 0 1 id [] (holding l v) (takes 0 (Some l)))
+takes_log {o} {l} s r id v at free = let w : View = holding l v in
+    looked_at s r id v w (set s.words 0 1) (set s.homes 0 none) at
+    (λ k. record { cap = k.cap; seen = k.seen; joined = k.joined; mine = k.mine }) refl refl refl refl
+    (inr record {
+      word = ap (λ (ws : List ℕ). set ws 0 1) free.word;
+      away = length-set s.homes 0 none ∙ ap length free.home;
+      holder = id;
+      view = w;
+      at = set_there s.views id w v at;
+      holds = refl;
+      base = (refl, refl);
+      alone = each_set (λ j u. u.holding ≡ true → j ≡ id) s.views id w (λ _. refl)
+          (λ j u _ e h. absurd (not_both h (free.nobody j u e)));
+    })
 
 -- where this view is not holding, the holder is another seat, and has the log after the view has changed
 pub still_held : (s : Table) (l : LogState) (id : ℕ) (v w : View) (word : List ℕ) → At s.views id v →
@@ -159,21 +169,9 @@ still_held s l id v w word at idle idle' one held =
 misses : {o l : LogState} (s : Table) (r : OneLog o l s) (id : ℕ) (v : View) (busy : ℕ) → At s.views id v →
     v.holding ≡ false → Held s l → OneLog o l (stepped s 0 1 id [] (waited busy v) keeps)
 misses {o} {l} s r id v busy at idle held = let w : View = waited busy v in
-    let b = began_kept o l s.views id v w at refl refl (began s r) in record {
-      is_log = r.is_log;
-      place =
-          inr (still_held s l id v w (set s.words 0 1) at idle idle (ap (λ (ws : List ℕ). set ws 0 1) held.word) held);
-      each = each_set (λ j u. u.spent ≡ false → Fits l u) s.views id w
-          (λ live. let k = r.each id v at live in
-          record { cap = k.cap; seen = k.seen; joined = k.joined; mine = k.mine })
-          (λ j u _ e. r.each j u e);
-      apart = apart_set s.views id v w at refl refl r.apart;
-      cap = b.0;
-      begins = b.1.0;
-      entries = b.1.1;
-      each_later = b.1.2;
-      numbers = b.2;
-    }
+    looked_at s r id v w (set s.words 0 1) s.homes at
+    (λ k. record { cap = k.cap; seen = k.seen; joined = k.joined; mine = k.mine }) refl refl refl refl
+    (inr (still_held s l id v w (set s.words 0 1) at idle idle (ap (λ (ws : List ℕ). set ws 0 1) held.word) held))
 
 -- an entry that some view entered is one of this view's, if all others are blank
 in_one : (views : List View) (id : ℕ) (v : View) (at : At views id v) →

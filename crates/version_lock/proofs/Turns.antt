@@ -1,6 +1,7 @@
 -- What the steps of one call make of its seat's view. A seat that takes the log learns that its view fits it
 -- (`Took`), and the steps after that are equations on views, so each part of what a call says is read off the two.
 use Rattle.std.proofs.Common.{◌≡◌, ℕ, ◌<◌, [], ◌∷◌, ◌++◌, List, Option, Some, None, refl, sym, ap, subst, ◌∙◌, arith}
+use Rattle.std.proofs.Common.{Bool, true, false}
 use Rattle.std.proofs.lemmas.List.Elements.{All-contains, Contains-push}
 use Rattle.definitions.specs.Histories.{History}
 use Rattle.version_lock.specs.declared.view.View.{View}
@@ -28,6 +29,20 @@ module _ (m m' : Mine) (k : Took m m') where
       none_yet k.log.next_writer k.log.history k.is_log.writers in
       ap (entries_by n) base ∙ (ap (λ (x : ℕ). entries_by x k.log.history) next ∙ none)
 
+-- the log is taken once, whatever was joined before and is seen then
+took_once : (v : View) (busy : ℕ) (joined : List History) (seen : History) (held : Bool) (m : Mine)
+    (k : Took (record (waited busy v) { joined = joined }, []) m) →
+    TookOnce v (record (holding k.log (waited busy v)) { joined = joined; seen = seen; holding = held })
+took_once v busy joined seen held m k = record {
+  took = refl;
+  begins = k.fits.seen;
+  cap = refl;
+  share = (refl, refl);
+  opened = (refl, refl);
+  fits = k.room;
+  whole = k.whole;
+}
+
 -- a note is split off the other and joined, and then the log is looked at
 pub met : (v u : View) (busy : ℕ) (m : Mine) → Took (waited busy (noted v (note_of u)), []) m →
     ((n : ℕ) → u.writer ≡ Some n → entries_by n u.seen ≡ u.mine) → Met v u (gave_back m.0)
@@ -37,15 +52,7 @@ met v u busy m k theirs =
     All-contains (λ (seen : History). StartsWith k.log.history seen)
     (v.joined ++ u.seen ∷ []) u.seen k.fits.joined all in
     subst (λ (x : Mine). Met v u (gave_back x.0)) (sym k.now) record {
-      once = record {
-        took = refl;
-        begins = k.fits.seen;
-        cap = refl;
-        share = (refl, refl);
-        opened = (refl, refl);
-        fits = k.room;
-        whole = k.whole;
-      };
+      once = took_once v busy (v.joined ++ u.seen ∷ []) k.log.history false m k;
       seen = refl;
       same = (refl, refl);
       other = other;
@@ -75,13 +82,5 @@ closed v busy m l k slot =
       history = k.log.history;
       next_writer = k.log.next_writer;
     } in
-    let once : TookOnce v w = record {
-      took = refl;
-      begins = k.fits.seen;
-      cap = refl;
-      share = (refl, refl);
-      opened = (refl, refl);
-      fits = k.room;
-      whole = k.whole;
-    } in
+    let once : TookOnce v w = took_once v busy v.joined v.seen true m k in
     subst (λ (x : LogState). ClosedWith v x) same (w, once, is)

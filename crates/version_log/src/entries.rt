@@ -46,7 +46,8 @@ fn writer_at(opening: usize, later: &[u32], place: usize) -> u32
 }
 
 impl Entries {
-    /// No entries, and room for so many, whose items have so many bytes in all.
+    /// No entries, and room for so many, whose items have so many bytes in all, and for a sixteenth more: so the first
+    /// ones that are added to a log copy none of those that it opened with.
     pub(crate) fn with_room(
         alloc: Global,
         count: usize,
@@ -55,7 +56,11 @@ impl Entries {
         ensures { IfOk result (λ entries. entries ≡ []) }
     {
         Ok(Entries {
-            items: PackedItems::with_room(alloc, count, bytes)?,
+            items: PackedItems::with_room(
+                alloc,
+                count.saturating_add(count / 16),
+                bytes.saturating_add(bytes / 16),
+            )?,
             opening: 0,
             later: Vec::new(alloc),
         })

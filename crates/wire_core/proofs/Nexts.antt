@@ -307,7 +307,7 @@ abbrev pub IsShare : Standing → List ℕ → List ℕ → ℕ → Type 0
 IsShare s kept piece count = (count ≤ length piece) × (is_over s ≡ true → count ≡ length piece)
     × (is_over s ≡ false → IsReach s kept piece count)
 
-pub shared : (old inside : StreamState) (kept piece : List ℕ) (count : ℕ) → inside ≡ old → kept ≡ inside.kept →
+shared : (old inside : StreamState) (kept piece : List ℕ) (count : ℕ) → inside ≡ old → kept ≡ inside.kept →
     count ≤ length piece → (is_over inside.standing ≡ true → count ≡ length piece) →
     (is_over inside.standing ≡ false → IsReach inside.standing kept piece count) →
     IsShare old.standing old.kept piece count
@@ -315,7 +315,7 @@ shared old inside kept piece count same is within over reach =
     subst (λ (s : StreamState). IsShare s.standing s.kept piece count) same
     (within, over, λ goes_on. subst (λ (t : List ℕ). IsReach inside.standing t piece count) is (reach goes_on))
 
-pub next_is : {F : Type 0} (P : Profile F) → NextIsExact P → (s : Standing) (kept piece : List ℕ) (count : ℕ) →
+next_is : {F : Type 0} (P : Profile F) → NextIsExact P → (s : Standing) (kept piece : List ℕ) (count : ℕ) →
     IsBytes kept →
     IsBytes piece → feed P s kept ≡ stays s kept → IsShare s kept piece count →
     (over : Bool) → is_over s ≡ over → Next P s kept piece count (feed P s (kept ++ take count piece))
@@ -328,6 +328,17 @@ next_is P exact s kept piece count fits more read share false over =
     (nat_lt (length (kept ++ piece)) (hello_length s + 4)) refl in
     as_next P s kept piece count (feed P s bytes) cut
     (outcome P exact s bytes over (IsBytes-both kept (take count piece) fits front) cut.0)
+
+-- the same of a feed that is seen from inside a call
+pub next_of : {F : Type 0} (P : Profile F) → NextIsExact P → (old inside : StreamState) (kept piece : List ℕ)
+    (count : ℕ) → inside ≡ old → kept ≡ inside.kept →
+    count ≤ length piece → (is_over inside.standing ≡ true → count ≡ length piece) →
+    (is_over inside.standing ≡ false → IsReach inside.standing kept piece count) →
+    IsBytes old.kept → IsBytes piece → feed P old.standing old.kept ≡ stays old.standing old.kept →
+    Next P old.standing old.kept piece count (feed P old.standing (old.kept ++ take count piece))
+next_of P exact old inside kept piece count same is within over reach fits more read =
+    next_is P exact old.standing old.kept piece count fits more read
+    (shared old inside kept piece count same is within over reach) (is_over old.standing) refl
 
 -- ---- what is told of it
 

@@ -4,7 +4,6 @@
 --     Holds P state bytes events     all that came so far: its bytes, from the hello on, and its events
 --     events_since old new           the events that came after the old ones
 --     Continues P old piece new      what a state holds, the next one holds with the piece and its events after it
---     is_before_hello standing       whether the hello is due
 --     fault_at standing              the fault that a stream has, if any
 --     refusal_in, fault_in           the number of a refusal
 --     UnlessMemory, IfMemory         what holds unless memory ran out, and where it did
@@ -38,13 +37,6 @@ events_since old new = event_values (drop (length old) new)
 abbrev pub Continues : {F : Type 0} → Profile F → StreamState → List ℕ → StreamState → Type 0
 Continues {F} P old piece new = (bytes : List ℕ) (events : List (Event F)) → IsBytes bytes → Holds P old bytes events →
     Holds P new (bytes ++ piece) (events ++ (feed P old.standing (old.kept ++ piece)).events)
-
--- the hello is due
-abbrev pub is_before_hello : Standing → Bool
-is_before_hello Before_hello = true
-is_before_hello (In_message parts) = false
-is_before_hello Meaning_over = false
-is_before_hello (Faulted code) = false
 
 abbrev pub fault_at : Standing → Option ℕ
 fault_at Before_hello = None

@@ -5,14 +5,13 @@ ghost use Rattle.definitions.specs.Streams.{Before_hello, In_message, feed, Mean
 ghost use Rattle.wire_core.specs.Events.{event_values};
 ghost use Rattle.wire_core.specs.Standings.{is_over, put_after};
 ghost use Rattle.wire_core.specs.Feeds.{fed_into, Holds, events_since, Continues, fault_at, fault_in, refusal_in};
-ghost use Rattle.wire_core.specs.Feeds.{UnlessMemory, IfMemory, is_before_hello};
+ghost use Rattle.wire_core.specs.Feeds.{UnlessMemory, IfMemory};
 ghost use Rattle.wire_core.specs.Nexts.{TakesNext, taken_by};
 
 use crate::event::Event;
 use crate::fault::{DecodeError, WireFault};
 use crate::pieces::{are_few, keep, next_length, read_after};
 use crate::standing::Standing;
-use crate::stream::are_bytes;
 use digest_core::{Fingerprint, Summary};
 use std::alloc::{AllocError, Global};
 use std::marker::{Model, PhantomData};
@@ -95,8 +94,8 @@ impl<F: Summary> Feed<F> {
     {
         codec_laws::feed_is_exact::<F>();
         codec_laws::feeds_join::<F>();
-        are_bytes(&self.kept);
-        are_bytes(piece);
+        codec_laws::are_bytes(&self.kept);
+        codec_laws::are_bytes(piece);
         self.read(alloc, piece, out)
     }
 
@@ -154,8 +153,8 @@ impl<F: Summary> Feed<F> {
     {
         codec_laws::next_is_exact::<F>();
         codec_laws::feeds_join::<F>();
-        are_bytes(&self.kept);
-        are_bytes(piece);
+        codec_laws::are_bytes(&self.kept);
+        codec_laws::are_bytes(piece);
         let taken = next_length(&self.kept, piece, self.standing);
         let mut events = Vec::new(alloc);
         self.read(alloc, &piece[..taken], &mut events)?;
@@ -196,13 +195,6 @@ impl<F: Summary> Feed<F> {
             kept,
             of: PhantomData,
         })
-    }
-
-    /// Whether not all of the four bytes of the hello have come.
-    pub fn hello_is_due(&self) -> bool
-        ensures { result ≡ is_before_hello self.now.standing }
-    {
-        matches!(self.standing, Standing::BeforeHello)
     }
 
     /// Whether the stream may end here.

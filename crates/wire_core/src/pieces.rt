@@ -13,7 +13,7 @@ ghost use Rattle.wire_core.specs.Nexts.{IsReach};
 
 use crate::event::Event;
 use crate::standing::Standing;
-use crate::stream::{are_bytes, read_piece};
+use crate::stream::read_piece;
 use digest_core::Summary;
 use std::alloc::{AllocError, Global};
 
@@ -35,7 +35,7 @@ pub fn are_few<F: Summary>(kept: &[u8], standing: Standing)
     ensures { length kept.now < 4 + max_body }
 {
     codec_laws::feeds_rest::<F>();
-    are_bytes(kept);
+    codec_laws::are_bytes(kept);
     let _ = standing;
 }
 
@@ -175,7 +175,7 @@ pub fn read_after<F: Summary>(
     'pieces: while taken < kept.len() && !rest.is_empty() {
         let count = wanted(&kept[taken..]).max(1).min(rest.len());
         let (front, back) = rest.split_at(count);
-        are_bytes(back);
+        codec_laws::are_bytes(back);
         there = read_kept(alloc, kept, &mut taken, front, there, out)?;
         rest = back;
     }

@@ -151,14 +151,6 @@ pub fn read_on<F: Summary>(
     Ok(there)
 }
 
-/// Tells that each number of the bytes is below 256; nothing is done.
-pub fn are_bytes(bytes: &[u8])
-    ensures { IsBytes bytes.now }
-{
-    codec_laws::reads_are_bytes();
-    let _ = bytes;
-}
-
 /// The same, and what comes after the bytes may be read later.
 pub fn read_piece<F: Summary>(
     alloc: Global,
@@ -180,6 +172,6 @@ pub fn read_piece<F: Summary>(
 {
     codec_laws::feeds_join::<F>();
     codec_laws::feeds_rest::<F>();
-    are_bytes(bytes);
+    codec_laws::are_bytes(bytes);
     read_on(alloc, bytes, standing, out)
 }

@@ -16,7 +16,7 @@ use Rattle.definitions.specs.Fingerprints.{Summary}
 use Rattle.laws.specs.Growing.{is_even}
 use Rattle.laws.specs.Sessions.{Kept, Keeps, GoesOnBy, Tells, hearer_now, kept_after}
 use Rattle.ends_core.specs.EndStates.{EndState, HasNone}
-use Rattle.world_core.specs.declared.session.Session.{Session}
+use Rattle.world_core.specs.declared.session.RunSession.{RunSession}
 use Rattle.world_core.specs.Laws.{Laws, DeliveryLaws}
 use Rattle.world_core.specs.Nodes.{newest}
 use Rattle.world_core.specs.Live.{session_of, kept_of, made, IsKept, world_of, IsRunning, IsTaken, last_by, parts_by}
@@ -58,7 +58,7 @@ module _ {F : Type 0} (S : Summary F) where
   from_none node (Some x) h = h
 
   -- its parts, where the responder hears and where the initiator does
-  pub record IsHeard (w : World) (l : Session F) (node : Node) : Type 0 where
+  pub record IsHeard (w : World) (l : RunSession F) (node : Node) : Type 0 where
     pub hears : (hearer l node).end ≡ hearer_now w (session_of l) (kept_of l)
     pub session : session_of (heard_by S l node) ≡ after_delivery w (session_of l)
     pub kept : kept_of (heard_by S l node) ≡ kept_after (session_of l) (kept_of l)
@@ -73,7 +73,7 @@ module _ {F : Type 0} (S : Summary F) where
     pub responder : (heard_by S l node).responder_node ≡ l.responder_node
     pub initiator : (heard_by S l node).initiator_node ≡ l.initiator_node
 
-  heard : (w : World) (l : Session F) (b : Bool) → is_even l.delivered ≡ b → IsHeard w l (node_at w l.responder_node)
+  heard : (w : World) (l : RunSession F) (b : Bool) → is_even l.delivered ≡ b → IsHeard w l (node_at w l.responder_node)
   heard w l true e =
       let from = from_same (node_at w l.responder_node) l.second in
       record {
@@ -137,16 +137,16 @@ module _ {F : Type 0} (S : Summary F) where
   -- ==== A session of a world that runs
 
   -- the session at its place, and its responder's node
-  pub record IsAt (nodes : List Node) (lives : List (Session F)) (k : ℕ) (l : Session F) (node : Node) : Type 0 where
+  pub record IsAt (nodes : List Node) (lives : List (RunSession F)) (k : ℕ) (l : RunSession F) (node : Node) : Type 0 where
     pub runs : IsRunning S nodes lives
     pub here : slice_get lives k ≡ Some l
     pub it : node_at (world_of nodes lives) l.responder_node ≡ node
 
-  pub kept_at : (nodes : List Node) (lives : List (Session F)) (k : ℕ) (l : Session F) → IsRunning S nodes lives →
+  pub kept_at : (nodes : List Node) (lives : List (RunSession F)) (k : ℕ) (l : RunSession F) → IsRunning S nodes lives →
       slice_get lives k ≡ Some l → IsKept S (world_of nodes lives) l
   kept_at nodes lives k l runs here = All-found (IsKept S (world_of nodes lives)) lives k l here runs.kept
 
-  pub tells_at : Laws S → (nodes : List Node) (lives : List (Session F)) (k : ℕ) (l : Session F) →
+  pub tells_at : Laws S → (nodes : List Node) (lives : List (RunSession F)) (k : ℕ) (l : RunSession F) →
       IsRunning S nodes lives → slice_get lives k ≡ Some l →
       Tells S (world_of nodes lives) (session_of l) (kept_of l)
   tells_at laws nodes lives k l runs here =
@@ -154,18 +154,18 @@ module _ {F : Type 0} (S : Summary F) where
       (kept_at nodes lives k l runs here).keeps
 
   -- by the number of messages it is seen whether it has ended
-  pub ended_at : Laws S → (nodes : List Node) (lives : List (Session F)) (k : ℕ) (l : Session F) →
+  pub ended_at : Laws S → (nodes : List Node) (lives : List (RunSession F)) (k : ℕ) (l : RunSession F) →
       IsRunning S nodes lives → slice_get lives k ≡ Some l →
       has_ended S (world_of nodes lives) (session_of l) ≡ (made l == l.delivered)
   ended_at laws nodes lives k l runs here =
       ap (λ n. n == l.delivered) (sym (tells_at laws nodes lives k l runs here).count)
 
-  pub few_at : Laws S → (nodes : List Node) (lives : List (Session F)) (k : ℕ) (l : Session F) →
+  pub few_at : Laws S → (nodes : List Node) (lives : List (RunSession F)) (k : ℕ) (l : RunSession F) →
       IsRunning S nodes lives → slice_get lives k ≡ Some l → l.delivered ≤ made l
   few_at laws nodes lives k l runs here =
       let t = tells_at laws nodes lives k l runs here in omega (arith, t.count, t.delivered)
 
-  goes_at : DeliveryLaws S → (nodes : List Node) (lives : List (Session F)) (k : ℕ) (l : Session F) (node : Node) →
+  goes_at : DeliveryLaws S → (nodes : List Node) (lives : List (RunSession F)) (k : ℕ) (l : RunSession F) (node : Node) →
       IsAt nodes lives k l node → l.delivered < made l →
       Goes (world_of nodes lives) (session_of l) (kept_of l) (answer S (hearer l node).end l.last)
       × IsHeard (world_of nodes lives) l node
@@ -181,12 +181,12 @@ module _ {F : Type 0} (S : Summary F) where
         is,
       )
 
-  pub deliver_taken : DeliveryLaws S → (nodes : List Node) (lives : List (Session F)) (k : ℕ) (l : Session F)
+  pub deliver_taken : DeliveryLaws S → (nodes : List Node) (lives : List (RunSession F)) (k : ℕ) (l : RunSession F)
       (node : Node) → IsAt nodes lives k l node → l.delivered < made l →
       IsTaken (answer S (hearer l node).end l.last)
   deliver_taken laws nodes lives k l node at more = (goes_at laws nodes lives k l node at more).0.taken
 
-  pub deliver_none : (nodes : List Node) (lives : List (Session F)) (k : ℕ) (l : Session F) (node : Node) →
+  pub deliver_none : (nodes : List Node) (lives : List (RunSession F)) (k : ℕ) (l : RunSession F) (node : Node) →
       IsAt nodes lives k l node → HasNone (hearer l node)
   deliver_none nodes lives k l node at =
       let kept = kept_at nodes lives k l at.runs at.here in
@@ -204,14 +204,14 @@ module _ {F : Type 0} (S : Summary F) where
       ≡ (delivered_to w k s, (if has_ended S w (after_delivery w s) then worlds.Over else worlds.Sent))
   deliver_some w k s e going = ap (deliver_at S w k) e ∙ cond-false (has_ended S w s) _ _ going
 
-  found_at : (nodes : List Node) (lives : List (Session F)) (k : ℕ) (l : Session F) → slice_get lives k ≡ Some l →
+  found_at : (nodes : List Node) (lives : List (RunSession F)) (k : ℕ) (l : RunSession F) → slice_get lives k ≡ Some l →
       slice_get (world_of nodes lives).sessions k ≡ Some (session_of l)
   found_at nodes lives k l here = slice_get-map session_of lives k ∙ ap (option_map session_of) here
 
   abbrev with_sessions : List Node → List worlds.Session → World
   with_sessions nodes ss = record { nodes = nodes; sessions = ss }
 
-  both_made : DeliveryLaws S → (nodes : List Node) (lives : List (Session F)) (k : ℕ) (l : Session F) (node : Node) →
+  both_made : DeliveryLaws S → (nodes : List Node) (lives : List (RunSession F)) (k : ℕ) (l : RunSession F) (node : Node) →
       IsAt nodes lives k l node → l.delivered < made l →
       deliver_at S (world_of nodes lives) k (slice_get (world_of nodes lives).sessions k)
       ≡ (world_of nodes (set lives k (heard_by S l node)), did_by (answer S (hearer l node).end l.last))
@@ -227,16 +227,16 @@ module _ {F : Type 0} (S : Summary F) where
       ∙ ap (λ d. (delivered_to w k (session_of l), d)) (sym both.0.did)
       ∙ ap (λ ss. (with_sessions nodes ss, did_by (answer S (hearer l node).end l.last))) (sym same)
 
-  heard_runs : DeliveryLaws S → (nodes : List Node) (lives : List (Session F)) (k : ℕ) (l : Session F) (node : Node) →
+  heard_runs : DeliveryLaws S → (nodes : List Node) (lives : List (RunSession F)) (k : ℕ) (l : RunSession F) (node : Node) →
       IsAt nodes lives k l node → l.delivered < made l →
       IsRunning S nodes (set lives k (heard_by S l node))
   heard_runs laws nodes lives k l node at more =
       let w : World = world_of nodes lives in
-      let l' : Session F = heard_by S l node in
+      let l' : RunSession F = heard_by S l node in
       let v : World = world_of nodes (set lives k l') in
       let both = goes_at laws nodes lives k l node at more in
       let was = kept_at nodes lives k l at.runs at.here in
-      let stays : (m : Session F) → IsKept S w m →
+      let stays : (m : RunSession F) → IsKept S w m →
       IsKept S v m = λ m h. IsKept-stays S w v m (λ s g. laws.keep w v s (kept_of m) refl g) (λ n. refl) h in
       let new : IsKept S w l' = record {
         keeps = rw (both.1.session, both.1.kept) both.0.keeps;
@@ -256,7 +256,7 @@ module _ {F : Type 0} (S : Summary F) where
       }
 
   pub deliver_runs : {D E : Type 0} (r : Result D E) → DeliveryLaws S →
-      (nodes : List Node) (lives : List (Session F)) (k : ℕ) (l m : Session F) (node : Node) →
+      (nodes : List Node) (lives : List (RunSession F)) (k : ℕ) (l m : RunSession F) (node : Node) →
       IsAt nodes lives k l node → l.delivered < made l →
       OnOk r (m ≡ heard_by S l node) → OnErr r (m ≡ l) → IsRunning S nodes (set lives k m)
   deliver_runs (Ok d) laws nodes lives k l m node at more ok err =
@@ -265,7 +265,7 @@ module _ {F : Type 0} (S : Summary F) where
       subst (IsRunning S nodes) (sym (ap (set lives k) err ∙ set_found lives k l at.here)) at.runs
 
   pub deliver_world : {D E : Type 0} (r : Result D E) → DeliveryLaws S →
-      (w : World) (nodes : List Node) (lives : List (Session F)) (k : ℕ) (l m : Session F) (node : Node) →
+      (w : World) (nodes : List Node) (lives : List (RunSession F)) (k : ℕ) (l m : RunSession F) (node : Node) →
       world_of nodes lives ≡ w →
       IsAt nodes lives k l node → l.delivered < made l → OnOk r (m ≡ heard_by S l node) →
       OnOk r (world_of nodes (set lives k m) ≡ (deliver_at S w k (slice_get w.sessions k)).0)
@@ -275,7 +275,7 @@ module _ {F : Type 0} (S : Summary F) where
   deliver_world (Err d) laws w nodes lives k l m node v at more ok = tt
 
   pub deliver_did : {D E : Type 0} (f : D → worlds.Did) (r : Result D E) → DeliveryLaws S →
-      (w : World) (nodes : List Node) (lives : List (Session F)) (k : ℕ) (l : Session F) (node : Node) →
+      (w : World) (nodes : List Node) (lives : List (RunSession F)) (k : ℕ) (l : RunSession F) (node : Node) →
       world_of nodes lives ≡ w →
       IsAt nodes lives k l node → l.delivered < made l →
       IfOk r (λ d. f d ≡ did_by (answer S (hearer l node).end l.last)) →
@@ -285,14 +285,14 @@ module _ {F : Type 0} (S : Summary F) where
       (ok ∙ sym (ap (λ p. p.1) (both_made laws nodes lives k l node at more)))
   deliver_did f (Err d) laws w nodes lives k l node v at more ok = tt
 
-  pub deliver_same : {D E : Type 0} (r : Result D E) (w : World) (nodes : List Node) (lives : List (Session F)) (k : ℕ)
-      (l m : Session F) → world_of nodes lives ≡ w →
+  pub deliver_same : {D E : Type 0} (r : Result D E) (w : World) (nodes : List Node) (lives : List (RunSession F)) (k : ℕ)
+      (l m : RunSession F) → world_of nodes lives ≡ w →
       slice_get lives k ≡ Some l → OnErr r (m ≡ l) → OnErr r (world_of nodes (set lives k m) ≡ w)
   deliver_same (Ok d) w nodes lives k l m v here err = tt
   deliver_same (Err d) w nodes lives k l m v here err =
       ap (world_of nodes) (ap (set lives k) err ∙ set_found lives k l here) ∙ v
 
-  pub deliver_idle : Laws S → (w : World) (nodes : List Node) (lives : List (Session F)) (k : ℕ) (l : Session F) →
+  pub deliver_idle : Laws S → (w : World) (nodes : List Node) (lives : List (RunSession F)) (k : ℕ) (l : RunSession F) →
       world_of nodes lives ≡ w → IsRunning S nodes lives → slice_get lives k ≡ Some l →
       made l ≤ l.delivered → deliver_at S w k (slice_get w.sessions k) ≡ (w, worlds.Idle)
   deliver_idle laws w nodes lives k l v runs here less =
@@ -302,7 +302,7 @@ module _ {F : Type 0} (S : Summary F) where
       subst (λ t. deliver_at S t k (slice_get t.sessions k) ≡ (t, worlds.Idle)) v
       (ap (deliver_at S u k) (found_at nodes lives k l here) ∙ cond-true (has_ended S u (session_of l)) _ _ over)
 
-  pub idle_world : Laws S → (w : World) (nodes : List Node) (lives : List (Session F)) (k : ℕ) (l : Session F) →
+  pub idle_world : Laws S → (w : World) (nodes : List Node) (lives : List (RunSession F)) (k : ℕ) (l : RunSession F) →
       world_of nodes lives ≡ w → IsRunning S nodes lives → slice_get lives k ≡ Some l →
       made l ≤ l.delivered → world_of nodes (set lives k l) ≡ (deliver_at S w k (slice_get w.sessions k)).0
   idle_world laws w nodes lives k l v runs here less =
@@ -310,7 +310,7 @@ module _ {F : Type 0} (S : Summary F) where
       ∙ sym (ap (λ p. p.0) (deliver_idle laws w nodes lives k l v runs here less))
 
   -- the node of the responder, as it is read
-  pub at_node : (nodes : List Node) (lives : List (Session F)) (k : ℕ) (l : Session F) (node : Node) →
+  pub at_node : (nodes : List Node) (lives : List (RunSession F)) (k : ℕ) (l : RunSession F) (node : Node) →
       IsRunning S nodes lives → slice_get lives k ≡ Some l → node ≡ get_or nodes l.responder_node node →
       node_at (world_of nodes lives) l.responder_node ≡ node
   at_node nodes lives k l node runs here e =

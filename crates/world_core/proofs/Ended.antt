@@ -16,7 +16,7 @@ use Rattle.definitions.specs.Worlds as worlds
 use Rattle.definitions.specs.Fingerprints.{Summary}
 use Rattle.laws.specs.Sessions.{Tells}
 use Rattle.ends_core.specs.EndStates.{EndState}
-use Rattle.world_core.specs.declared.session.Session.{Session}
+use Rattle.world_core.specs.declared.session.RunSession.{RunSession}
 use Rattle.world_core.specs.Live.{session_of, kept_of, made, IsKept, world_of, IsRunning}
 use Rattle.world_core.specs.Steps.{absorbing, absorbed_at, theirs_of, AbsorbsSome}
 use Rattle.world_core.specs.Shown.{learned_by, bound_by, rank_held, shown}
@@ -24,7 +24,7 @@ use Rattle.world_core.specs.Laws.{Laws}
 use Rattle.world_core.proofs.Delivering.{kept_at, tells_at, ended_at, few_at}
 
 -- what a look into a slice of the sessions found
-pub looked_at : {F : Type 0} (lives seen : List (Session F)) (k : ℕ) (l : Session F) → seen ≡ lives → k < length seen →
+pub looked_at : {F : Type 0} (lives seen : List (RunSession F)) (k : ℕ) (l : RunSession F) → seen ≡ lives → k < length seen →
     l ≡ get_or seen k l → slice_get lives k ≡ Some l
 looked_at lives seen k l same low read =
     subst (λ xs. slice_get xs k ≡ Some l) same (slice_get_read seen _ k l refl low read)
@@ -32,22 +32,22 @@ looked_at lives seen k l same low read =
 module _ {F : Type 0} (S : Summary F) where
   -- ==== What is learned
 
-  learned_is : (w : World) (l : Session F) (side : worlds.Side) → Tells S w (session_of l) (kept_of l) →
+  learned_is : (w : World) (l : RunSession F) (side : worlds.Side) → Tells S w (session_of l) (kept_of l) →
       theirs_of S w (session_of l) side ≡ set_of (learned_by l side).theirs
   learned_is w l worlds.Initiator t = ap (λ k. set_of k.theirs) (sym t.initiator_learned)
   learned_is w l worlds.Responder t = ap (λ k. set_of k.theirs) (sym t.responder_learned)
 
-  pub side_there : (nodes : List Node) (lives : List (Session F)) (k : ℕ) (l : Session F) (side : worlds.Side) →
+  pub side_there : (nodes : List Node) (lives : List (RunSession F)) (k : ℕ) (l : RunSession F) (side : worlds.Side) →
       IsRunning S nodes lives → slice_get lives k ≡ Some l →
       node_of (session_of l) side < length nodes
   side_there nodes lives k l worlds.Initiator runs here = (kept_at S nodes lives k l runs here).keeps.initiator_there
   side_there nodes lives k l worlds.Responder runs here = (kept_at S nodes lives k l runs here).keeps.responder_there
 
-  found_in : (nodes : List Node) (lives : List (Session F)) (k : ℕ) (l : Session F) → slice_get lives k ≡ Some l →
+  found_in : (nodes : List Node) (lives : List (RunSession F)) (k : ℕ) (l : RunSession F) → slice_get lives k ≡ Some l →
       slice_get (world_of nodes lives).sessions k ≡ Some (session_of l)
   found_in nodes lives k l here = slice_get-map session_of lives k ∙ ap (option_map session_of) here
 
-  pub absorb_idle : Laws S → (w : World) (nodes : List Node) (lives : List (Session F)) (k : ℕ) (l : Session F)
+  pub absorb_idle : Laws S → (w : World) (nodes : List Node) (lives : List (RunSession F)) (k : ℕ) (l : RunSession F)
       (side : worlds.Side) → world_of nodes lives ≡ w → IsRunning S nodes lives → slice_get lives k ≡ Some l →
       l.delivered < made l → absorb_at S w side (slice_get w.sessions k) ≡ (w, worlds.Idle)
   absorb_idle laws w nodes lives k l side v runs here more =
@@ -58,7 +58,7 @@ module _ {F : Type 0} (S : Summary F) where
       (ap (absorb_at S u side) (found_in nodes lives k l here) ∙ cond-false (has_ended S u (session_of l)) _ _ going)
 
   -- each message that was made was delivered
-  over_at : Laws S → (w : World) (nodes : List Node) (lives : List (Session F)) (k : ℕ) (l : Session F) →
+  over_at : Laws S → (w : World) (nodes : List Node) (lives : List (RunSession F)) (k : ℕ) (l : RunSession F) →
       world_of nodes lives ≡ w → IsRunning S nodes lives →
       slice_get lives k ≡ Some l → made l ≤ l.delivered → has_ended S w (session_of l) ≡ true
   over_at laws w nodes lives k l e runs here less =
@@ -76,7 +76,7 @@ module _ {F : Type 0} (S : Summary F) where
   by_side w s worlds.Responder = refl
 
   -- what the side of an ended session learned goes into its node
-  pub absorb_is : Laws S → (w : World) (nodes : List Node) (lives : List (Session F)) (k : ℕ) (l : Session F)
+  pub absorb_is : Laws S → (w : World) (nodes : List Node) (lives : List (RunSession F)) (k : ℕ) (l : RunSession F)
       (side : worlds.Side) (items : List Item) → world_of nodes lives ≡ w → IsRunning S nodes lives →
       slice_get lives k ≡ Some l → made l ≤ l.delivered → items ≡ set_of (learned_by l side).theirs →
       absorb_at S w side (slice_get w.sessions k)
@@ -105,7 +105,7 @@ module _ {F : Type 0} (S : Summary F) where
       )) same)
 
   -- where memory runs out, some were put in
-  pub absorbs_some : Laws S → (w v : World) (nodes : List Node) (lives : List (Session F)) (k : ℕ) (l : Session F)
+  pub absorbs_some : Laws S → (w v : World) (nodes : List Node) (lives : List (RunSession F)) (k : ℕ) (l : RunSession F)
       (side : worlds.Side) (items : List Item) (count : ℕ) → world_of nodes lives ≡ w → IsRunning S nodes lives →
       slice_get lives k ≡ Some l → made l ≤ l.delivered → items ≡ set_of (learned_by l side).theirs →
       v ≡ absorbing w (node_of (session_of l) side) (node_at w (node_of (session_of l) side)) (take count items) →
@@ -131,7 +131,7 @@ module _ {F : Type 0} (S : Summary F) where
   with_all w ns = record w { nodes = ns }
 
   pub absorbs_none : Laws S →
-      (w : World) (nodes : List Node) (lives : List (Session F)) (k : ℕ) (l : Session F) (side : worlds.Side) →
+      (w : World) (nodes : List Node) (lives : List (RunSession F)) (k : ℕ) (l : RunSession F) (side : worlds.Side) →
       world_of nodes lives ≡ w → IsRunning S nodes lives →
       slice_get lives k ≡ Some l → made l ≤ l.delivered → AbsorbsSome S w k side w
   absorbs_none laws w nodes lives k l side e runs here less =
@@ -176,7 +176,7 @@ module _ {F : Type 0} (S : Summary F) where
         responder_learned = k t;
       }
 
-  shown_is : (w : World) (l : Session F) → IsKept S w l → Tells S w (session_of l) (kept_of l) →
+  shown_is : (w : World) (l : RunSession F) → IsKept S w l → Tells S w (session_of l) (kept_of l) →
       shown l ≡ worlds.report_of S w (session_of l)
   shown_is w l k t =
       let s : worlds.Session = session_of l in
@@ -191,7 +191,7 @@ module _ {F : Type 0} (S : Summary F) where
       same_report (shown l) (worlds.report_of S w s) refl refl t.count bound k.keeps.parts
       (ap (λ n. n == l.delivered) t.count) t.initiator_learned t.responder_learned
 
-  pub report_is : Laws S → (w : World) (nodes : List Node) (lives : List (Session F)) (k : ℕ) (l : Session F) →
+  pub report_is : Laws S → (w : World) (nodes : List Node) (lives : List (RunSession F)) (k : ℕ) (l : RunSession F) →
       world_of nodes lives ≡ w → IsRunning S nodes lives → slice_get lives k ≡ Some l →
       Some (shown l) ≡ worlds.report S w k
   report_is laws w nodes lives k l e runs here =
@@ -218,7 +218,7 @@ absorbed_did f (Ok d) w n m xs ys p ok same items is =
 absorbed_did f (Err d) w n m xs ys p ok same items is = tt
 
 pub absorbed_memory : {F : Type 0} (S : Summary F) {D E : Type 0} (r : Result D E) → Laws S →
-    (w v : World) (nodes : List Node) (lives : List (Session F)) (k : ℕ) (l : Session F) (side : worlds.Side) (n : ℕ)
+    (w v : World) (nodes : List Node) (lives : List (RunSession F)) (k : ℕ) (l : RunSession F) (side : worlds.Side) (n : ℕ)
     (xs : List Item) → world_of nodes lives ≡ w → IsRunning S nodes lives →
     slice_get lives k ≡ Some l → made l ≤ l.delivered → xs ≡ set_of (learned_by l side).theirs →
     n ≡ node_of (session_of l) side →

@@ -15,7 +15,7 @@ use Rattle.definitions.specs.Worlds as worlds
 use Rattle.definitions.specs.Fingerprints.{Summary}
 use Rattle.laws.specs.Sessions.{Keeps, SessionsStay, SessionsOpen, SessionsKeepNodes}
 use Rattle.ends_core.specs.EndStates.{EndState}
-use Rattle.world_core.specs.declared.session.Session.{Session}
+use Rattle.world_core.specs.declared.session.RunSession.{RunSession}
 use Rattle.world_core.specs.Live.{session_of, kept_of, IsKept, world_of, IsRunning, beginning}
 use Rattle.world_core.specs.Runs.{Came}
 
@@ -50,7 +50,7 @@ module _ {F : Type 0} (S : Summary F) where
   steps_stay None a b e h = tt
   steps_stay (Some x) a b e h = h ∙ sym e
 
-  pub IsKept-stays : (w v : World) (l : Session F) →
+  pub IsKept-stays : (w v : World) (l : RunSession F) →
       ((s : worlds.Session) → Keeps S w s (kept_of l) → Keeps S v s (kept_of l)) →
       ((n : ℕ) → (node_at v n).steps ≡ (node_at w n).steps) → IsKept S w l → IsKept S v l
   IsKept-stays w v l stays same h = record {
@@ -63,7 +63,7 @@ module _ {F : Type 0} (S : Summary F) where
     second_none = h.second_none;
   }
 
-  pub All-kept : (w v : World) → ((l : Session F) → IsKept S w l → IsKept S v l) → (lives : List (Session F)) →
+  pub All-kept : (w v : World) → ((l : RunSession F) → IsKept S w l → IsKept S v l) → (lives : List (RunSession F)) →
       AllByRecursion (IsKept S w) lives → AllByRecursion (IsKept S v) lives
   All-kept w v stays lives h = All-map (IsKept S w) (IsKept S v) stays lives h
 
@@ -79,7 +79,7 @@ module _ {F : Type 0} (S : Summary F) where
   insert_at-nodes w n x (Some node) = refl
 
   pub insert_keeps : SessionsStay S → SessionsKeepNodes S →
-      (nodes after : List Node) (lives : List (Session F)) (n : ℕ) (x : Item) →
+      (nodes after : List Node) (lives : List (RunSession F)) (n : ℕ) (x : Item) →
       after ≡ (insert_at (world_of nodes lives) n x (slice_get nodes n)).0.nodes → IsRunning S nodes lives →
       IsRunning S after lives
   insert_keeps stay keep nodes after lives n x e h =
@@ -110,7 +110,7 @@ module _ {F : Type 0} (S : Summary F) where
 
   -- what an insert into a node, of which memory may run out, makes of the world
   pub insert_runs : {D E : Type 0} → SessionsStay S → SessionsKeepNodes S →
-      (r : Result D E) (nodes : List Node) (lives : List (Session F)) (n : ℕ) (x : Item) (node m : Node) →
+      (r : Result D E) (nodes : List Node) (lives : List (RunSession F)) (n : ℕ) (x : Item) (node m : Node) →
       slice_get nodes n ≡ Some node → OnOk r (m ≡ with_item node x) → OnErr r (m ≡ node) → IsRunning S nodes lives →
       IsRunning S (set nodes n m) lives
   insert_runs stay keep (Ok d) nodes lives n x node m e ok err h =
@@ -119,7 +119,7 @@ module _ {F : Type 0} (S : Summary F) where
   insert_runs stay keep (Err d) nodes lives n x node m e ok err h =
       subst (λ ns. IsRunning S ns lives) (sym (ap (set nodes n) err ∙ set_same nodes n node e)) h
 
-  pub insert_world : {D E : Type 0} (r : Result D E) (w : World) (nodes : List Node) (lives : List (Session F)) (n : ℕ)
+  pub insert_world : {D E : Type 0} (r : Result D E) (w : World) (nodes : List Node) (lives : List (RunSession F)) (n : ℕ)
       (x : Item) (node m : Node) →
       world_of nodes lives ≡ w → slice_get nodes n ≡ Some node → OnOk r (m ≡ with_item node x) →
       OnOk r (world_of (set nodes n m) lives ≡ (insert_at w n x (slice_get w.nodes n)).0)
@@ -130,7 +130,7 @@ module _ {F : Type 0} (S : Summary F) where
   insert_world (Err d) w nodes lives n x node m v e ok = tt
 
   pub insert_did : {D E : Type 0} (f : D → worlds.Did) (r : Result D E) (w : World) (nodes : List Node)
-      (lives : List (Session F)) (n : ℕ) (x : Item) (node : Node) →
+      (lives : List (RunSession F)) (n : ℕ) (x : Item) (node : Node) →
       world_of nodes lives ≡ w → slice_get nodes n ≡ Some node →
       IfOk r (λ did. f did ≡ told (insertion node.table.cap node.history x)) →
       IfOk r (λ did. f did ≡ (insert_at w n x (slice_get w.nodes n)).1)
@@ -139,7 +139,7 @@ module _ {F : Type 0} (S : Summary F) where
       (ok ∙ sym (ap (λ p. p.1) (insert_at_some (world_of nodes lives) n x node e)))
   insert_did f (Err d) w nodes lives n x node v e ok = tt
 
-  pub insert_same : {D E : Type 0} (r : Result D E) (w : World) (nodes : List Node) (lives : List (Session F)) (n : ℕ)
+  pub insert_same : {D E : Type 0} (r : Result D E) (w : World) (nodes : List Node) (lives : List (RunSession F)) (n : ℕ)
       (node m : Node) →
       world_of nodes lives ≡ w → slice_get nodes n ≡ Some node → OnErr r (m ≡ node) →
       OnErr r (world_of (set nodes n m) lives ≡ w)
@@ -150,7 +150,7 @@ module _ {F : Type 0} (S : Summary F) where
   -- ==== A session that is opened
 
   -- what an open makes of the world
-  pub open_world : (w : World) (nodes : List Node) (lives : List (Session F)) (i r : ℕ) (node : Node) →
+  pub open_world : (w : World) (nodes : List Node) (lives : List (RunSession F)) (i r : ℕ) (node : Node) →
       world_of nodes lives ≡ w →
       slice_get nodes i ≡ Some node → (i ≡ r → ⊥) → r < length nodes →
       open_at w i r (slice_get w.nodes i) (slice_get w.nodes r)
@@ -173,14 +173,14 @@ module _ {F : Type 0} (S : Summary F) where
       ≡ (world_of nodes (lives ++ beginning S i r node ∷ []), worlds.Opened (length lives))) v opened
 
   pub open_runs : SessionsOpen S → SessionsKeepNodes S →
-      (nodes : List Node) (lives : List (Session F)) (i r : ℕ) (node : Node) →
+      (nodes : List Node) (lives : List (RunSession F)) (i r : ℕ) (node : Node) →
       slice_get nodes i ≡ Some node → (i ≡ r → ⊥) → i < length nodes → r < length nodes →
       IsRunning S nodes lives → IsRunning S nodes (lives ++ beginning S i r node ∷ [])
   open_runs begin keep nodes lives i r node e apart here there h =
       let w : World = world_of nodes lives in
       let v : World = world_of nodes (lives ++ beginning S i r node ∷ []) in
       let it : node_at w i ≡ node = get_or_from_slice_get nodes i node no_node e in
-      let stays : (l : Session F) → IsKept S w l →
+      let stays : (l : RunSession F) → IsKept S w l →
       IsKept S v l = λ l k. IsKept-stays w v l (λ s h. keep w v s (kept_of l) refl h) (λ m. refl) k in
       let new : Keeps S w (session_of (beginning S i r node)) (kept_of (beginning S i r node)) =
       subst (λ m. Keeps S w (session_of (beginning S i r m)) (kept_of (beginning S i r m))) it

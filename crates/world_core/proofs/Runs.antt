@@ -10,7 +10,7 @@ use Rattle.definitions.proofs.Lemmas.{All-both, fold-append}
 use Rattle.definitions.specs.Worlds as worlds
 use Rattle.definitions.specs.Fingerprints.{Summary}
 use Rattle.laws.specs.Turns.{TalksBegin}
-use Rattle.world_core.specs.declared.session.Session as live
+use Rattle.world_core.specs.declared.session.RunSession as live
 use Rattle.world_core.specs.Live.{IsRunning, world_of}
 use Rattle.world_core.specs.Runs.{Came, LearnsNothingWrong, Holds, ComesFrom, HasItemsOfRuns, EndsByDeliveries}
 use Rattle.world_core.specs.Runs.{AbsorbsAll}
@@ -57,13 +57,13 @@ module _ {F : Type 0} (S : Summary F) where
       (laws.cost laws.exact u))
 
   -- of each session of a world that runs
-  pub all_hold : RunLaws → (w : World) (nodes : List Node) (lives : List (live.Session F)) → world_of nodes lives ≡ w →
+  pub all_hold : RunLaws → (w : World) (nodes : List Node) (lives : List (live.RunSession F)) → world_of nodes lives ≡ w →
       IsRunning S nodes lives → AllByRecursion (Holds S w) w.sessions
   all_hold laws w nodes lives e runs =
       subst (λ u. AllByRecursion (Holds S u) u.sessions) e (came_hold laws (world_of nodes lives) runs.came)
 
   -- some steps made a world that runs
-  pub has_come : (w : World) (nodes : List Node) (lives : List (live.Session F)) → world_of nodes lives ≡ w →
+  pub has_come : (w : World) (nodes : List Node) (lives : List (live.RunSession F)) → world_of nodes lives ≡ w →
       IsRunning S nodes lives → Came S w
   has_come w nodes lives e runs = subst (Came S) e runs.came
 

@@ -18,9 +18,9 @@ use Rattle.ends_core.specs.EndStates.{EndState, HasNone}
 use Rattle.ends_core.specs.Turns.{end_after, fresh}
 use Rattle.world_core.specs.Nodes.{newest}
 use Rattle.world_core.specs.Runs.{Came}
-use Rattle.world_core.specs.declared.session.Session.{Session}
+use Rattle.world_core.specs.declared.session.RunSession.{RunSession}
 
-abbrev pub session_of : {F : Type 0} → Session F → worlds.Session
+abbrev pub session_of : {F : Type 0} → RunSession F → worlds.Session
 session_of l = record {
   initiator_node = l.initiator_node;
   responder_node = l.responder_node;
@@ -29,28 +29,28 @@ session_of l = record {
   delivered = l.delivered;
 }
 
-abbrev pub kept_of : {F : Type 0} → Session F → Kept F
+abbrev pub kept_of : {F : Type 0} → RunSession F → Kept F
 kept_of l =
     record { initiator = l.first.end; responder = option_map (λ h. h.end) l.second; last = l.last; parts = l.parts }
 
 -- how many messages both ends sent
-abbrev pub made : {F : Type 0} → Session F → ℕ
+abbrev pub made : {F : Type 0} → RunSession F → ℕ
 made l = (kept_of l).initiator.sent + unwrap_or (option_map (λ e. e.sent) (kept_of l).responder) 0
 
 -- ---- what holds of each world
 
 -- the ends and the last message are the session's, and the ends have the staircases of their nodes and hold no part
-pub record IsKept {F : Type 0} (S : Summary F) (w : World) (l : Session F) : Type 0 where
+pub record IsKept {F : Type 0} (S : Summary F) (w : World) (l : RunSession F) : Type 0 where
   pub keeps : Keeps S w (session_of l) (kept_of l)
   pub first : l.first.steps ≡ (node_at w l.initiator_node).steps
   pub second : IfSome l.second (λ h. h.steps ≡ (node_at w l.responder_node).steps)
   pub first_none : HasNone l.first
   pub second_none : IfSome l.second HasNone
 
-abbrev pub world_of : {F : Type 0} → List Node → List (Session F) → World
+abbrev pub world_of : {F : Type 0} → List Node → List (RunSession F) → World
 world_of nodes lives = record { nodes = nodes; sessions = map session_of lives }
 
-pub record IsRunning {F : Type 0} (S : Summary F) (nodes : List Node) (lives : List (Session F)) : Type 0 where
+pub record IsRunning {F : Type 0} (S : Summary F) (nodes : List Node) (lives : List (RunSession F)) : Type 0 where
   pub ready : AllByRecursion IsNode nodes
   pub kept : AllByRecursion (IsKept S (world_of nodes lives)) lives
   pub came : Came S (world_of nodes lives)
@@ -58,7 +58,7 @@ pub record IsRunning {F : Type 0} (S : Summary F) (nodes : List Node) (lives : L
 -- ---- a session's steps
 
 -- a session that is opened at a node
-abbrev pub beginning : {F : Type 0} → Summary F → ℕ → ℕ → Node → Session F
+abbrev pub beginning : {F : Type 0} → Summary F → ℕ → ℕ → Node → RunSession F
 beginning S i r node = record {
   initiator_node = i;
   responder_node = r;
@@ -77,7 +77,7 @@ responder_from node (Some h) = h
 responder_from node None = fresh node.steps (responder (newest node))
 
 -- who hears the message made last
-abbrev pub hearer : {F : Type 0} → Session F → Node → EndState F
+abbrev pub hearer : {F : Type 0} → RunSession F → Node → EndState F
 hearer l node = if is_even l.delivered then responder_from node l.second else l.first
 
 -- no message is refused
@@ -104,7 +104,7 @@ did_by Ends = worlds.Over
 did_by (Refuses code) = worlds.Over
 
 -- one message more was delivered, which was answered so
-abbrev pub advanced : {F : Type 0} → Session F → ℕ → Answer F → Session F
+abbrev pub advanced : {F : Type 0} → RunSession F → ℕ → Answer F → RunSession F
 advanced l newest a = record l {
   responder_version = Some (unwrap_or l.responder_version newest);
   delivered = l.delivered + 1;
@@ -112,14 +112,14 @@ advanced l newest a = record l {
   parts = parts_by l.parts a;
 }
 
-abbrev pub heard_by_responder : {F : Type 0} → Summary F → Session F → Node → Session F
+abbrev pub heard_by_responder : {F : Type 0} → Summary F → RunSession F → Node → RunSession F
 heard_by_responder S l node = record l { second = Some (end_after S (responder_from node l.second) l.last) }
 
-abbrev pub heard_by_initiator : {F : Type 0} → Summary F → Session F → Session F
+abbrev pub heard_by_initiator : {F : Type 0} → Summary F → RunSession F → RunSession F
 heard_by_initiator S l = record l { first = end_after S l.first l.last }
 
 -- the session after the delivery of the message made last
-abbrev pub heard_by : {F : Type 0} → Summary F → Session F → Node → Session F
+abbrev pub heard_by : {F : Type 0} → Summary F → RunSession F → Node → RunSession F
 heard_by S l node =
     advanced (if is_even l.delivered then heard_by_responder S l node else heard_by_initiator S l) (length node.history)
     (answer S (hearer l node).end l.last)

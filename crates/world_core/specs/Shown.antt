@@ -7,12 +7,12 @@ use Rattle.definitions.specs.Worlds as worlds
 use Rattle.definitions.specs.Worlds.{message_bound}
 use Rattle.ends_core.specs.EndStates.{EndState}
 use Rattle.world_core.specs.Live.{kept_of, made}
-use Rattle.world_core.specs.declared.session.Session.{Session}
+use Rattle.world_core.specs.declared.session.RunSession.{RunSession}
 
 abbrev pub learned_in : {F : Type 0} → Option (EndState F) → Knowledge
 learned_in second = unwrap_or (option_map (λ e. e.learned) (option_map (λ h. h.end) second)) nothing
 
-abbrev pub learned_by : {F : Type 0} → Session F → worlds.Side → Knowledge
+abbrev pub learned_by : {F : Type 0} → RunSession F → worlds.Side → Knowledge
 learned_by l worlds.Initiator = (kept_of l).initiator.learned
 learned_by l worlds.Responder = learned_in l.second
 
@@ -20,10 +20,10 @@ learned_by l worlds.Responder = learned_in l.second
 abbrev pub rank_held : {F : Type 0} → EndState F → ℕ
 rank_held h = rank_by h.steps (length h.end.peer.items)
 
-abbrev pub bound_by : {F : Type 0} → Session F → Option ℕ
+abbrev pub bound_by : {F : Type 0} → RunSession F → Option ℕ
 bound_by l = option_map (λ h. message_bound (rank_held l.first) (rank_held h)) l.second
 
-abbrev pub shown : {F : Type 0} → Session F → worlds.Report
+abbrev pub shown : {F : Type 0} → RunSession F → worlds.Report
 shown l = record {
   initiator_node = l.initiator_node;
   responder_node = l.responder_node;

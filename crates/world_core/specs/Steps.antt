@@ -11,8 +11,8 @@ use Rattle.definitions.specs.Theorems.{node_of}
 use Rattle.definitions.specs.Worlds as worlds
 use Rattle.definitions.specs.Worlds.{World, Session, Node, node_at, has_ended, initiator_knowledge, responder_knowledge}
 use Rattle.definitions.specs.Worlds.{with_history, Absorbing, absorb_all}
-use Rattle.world_core.specs.declared.step.Side.{Side}
-use Rattle.world_core.specs.declared.step.Side.TheVariants as sides
+use Rattle.ends_core.specs.declared.side.Side.{Side}
+use Rattle.ends_core.specs.declared.side.Side.TheVariants as sides
 use Rattle.world_core.specs.declared.step.Step.{Step}
 use Rattle.world_core.specs.declared.step.Step.TheVariants as steps
 use Rattle.world_core.specs.declared.step.Did.{Did}

@@ -10,5 +10,5 @@ mod world;
 
 pub use report::{Lists, Report};
 pub use setup::{Setup, SetupFault};
-pub use step::{Did, Side, Step};
+pub use step::{Did, Step};
 pub use world::{World, run};

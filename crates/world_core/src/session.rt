@@ -14,16 +14,16 @@ ghost use Rattle.definitions.specs.Theorems.{node_of};
 
 use crate::node::Node;
 use crate::report::{Lists, Report};
-use crate::step::{Did, Side};
+use crate::step::Did;
 use digest_core::Summary;
-use ends_core::{EndFault, Initiator, Responder, Role, SessionEnd, Turn};
+use ends_core::{EndFault, Initiator, Responder, Role, SessionEnd, Side, Turn};
 use range_tree::Tree;
 use std::alloc::{AllocError, Global};
 use wire_core::Message;
 
 /// A session of a run: its numbers, its ends, the message made last, and the greatest number of parts of a message.
 #[derive(Drop)]
-pub(crate) struct Session<F: Summary> {
+pub(crate) struct RunSession<F: Summary> {
     pub(crate) initiator_node: usize,
     pub(crate) responder_node: usize,
     pub(crate) initiator_version: usize,
@@ -97,18 +97,18 @@ fn learned_second<'b, F: Summary>(second: &'b Option<Responder<Tree, F>>) -> Lis
     }
 }
 
-impl<F: Summary> Session<F> {
+impl<F: Summary> RunSession<F> {
     /// A session that is opened at this node.
     pub(crate) fn open(
         alloc: Global,
         node: &Node,
         initiator_node: usize,
         responder_node: usize,
-    ) -> Result<Session<F>, AllocError>
+    ) -> Result<RunSession<F>, AllocError>
         ensures { IfOk result (λ l. l ≡ beginning F.summary initiator_node responder_node node.now) }
     {
         let (first, last) = node.initiator(alloc)?;
-        Ok(Session {
+        Ok(RunSession {
             initiator_node,
             responder_node,
             initiator_version: node.version(),

@@ -1,13 +1,5 @@
+use ends_core::Side;
 use item_core::Item;
-
-/// A side of a session.
-#[derive(Clone, Copy, Debug, PartialEq, Eq)]
-pub enum Side {
-    /// The node that speaks first.
-    Initiator,
-    /// The node that is spoken to first.
-    Responder,
-}
 
 /// What may happen. Nodes and sessions go by their number, from 0.
 #[derive(Clone, Copy, Debug, PartialEq, Eq)]

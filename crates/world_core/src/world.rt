@@ -16,10 +16,11 @@ ghost use Rattle.world_core.specs.Steps.{IsCutShort};
 
 use crate::node::Node;
 use crate::report::{Lists, Report};
-use crate::session::Session;
+use crate::session::RunSession;
 use crate::setup::{Prepared, Setup};
-use crate::step::{Did, Side, Step};
+use crate::step::{Did, Step};
 use digest_core::{Fingerprint, Summary};
+use ends_core::Side;
 use item_core::Item;
 use std::alloc::{AllocError, Global};
 use std::marker::Model;
@@ -29,7 +30,7 @@ use store_core::spans::distinct;
 #[derive(Drop)]
 pub struct World<F: Summary = Fingerprint> {
     nodes: Vec<Node>,
-    sessions: Vec<Session<F>>,
+    sessions: Vec<RunSession<F>>,
 }
 
 impl<F: Summary> Model for World<F> {
@@ -140,7 +141,7 @@ impl<F: Summary> World<F> {
         if responder >= self.nodes.len() {
             return Ok(Did::Idle);
         }
-        let session = Session::open(alloc, &self.nodes[initiator], initiator, responder)?;
+        let session = RunSession::open(alloc, &self.nodes[initiator], initiator, responder)?;
         let number = self.sessions.len();
         self.sessions.push(session)?;
         Ok(Did::Opened(number))

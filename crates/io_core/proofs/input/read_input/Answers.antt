@@ -1,6 +1,6 @@
 use Rattle.std.proofs.Common.{◌≡◌, length, inr, ap, arith, rules}
 use Rattle.std.proofs.lemmas.List.{length-append}
-use Rattle.io_core.proofs.Streams.{consumes_nothing, consumes_more}
+use Rattle.io_core.proofs.Streams.{consumes_nothing, read_on}
 use Rattle.io_core.proofs.input.read_input.Goals as goal
 
 pub chunks-init : goal.chunks-init
@@ -13,24 +13,20 @@ chunks-init g c = record {
 
 pub returns-then-len-gt-MAX_INPUT-clause-unread : goal.returns-then-len-gt-MAX_INPUT-clause-unread
 returns-then-len-gt-MAX_INPUT-clause-unread g c =
-    let more = c.in_ok-read_more.ensures.more in
-    let all = consumes_more (g.R.Read.remaining c.args.reader.now.inner) (g.R.Read.remaining c.chunks.reader.inner)
-    (g.R.Read.remaining c.read_more.new.reader.inner) c.chunks.input.items more.front c.chunks.invariant.read
-    more.read in
     λ _. inr (
       c.read_more.new.input.items,
-      rw more.follows all,
+      read_on (g.R.Read.remaining c.args.reader.now.inner) (g.R.Read.remaining c.chunks.reader.inner)
+          (g.R.Read.remaining c.read_more.new.reader.inner) c.chunks.input.items c.read_more.new.input.items
+          _ c.chunks.invariant.read c.in_ok-read_more.ensures.more,
       (let n : c.len.result ≡ length c.read_more.new.input.items = search rules in omega arith),
     )
 
 pub chunks-preserved : goal.chunks-preserved
 chunks-preserved g c =
-    let more = c.in_ok-read_more.ensures.more in
-    let all = consumes_more (g.R.Read.remaining c.args.reader.now.inner) (g.R.Read.remaining c.chunks.reader.inner)
-    (g.R.Read.remaining c.read_more.new.reader.inner) c.chunks.input.items more.front c.chunks.invariant.read
-    more.read in
     record {
-      read = rw more.follows all;
+      read = read_on (g.R.Read.remaining c.args.reader.now.inner) (g.R.Read.remaining c.chunks.reader.inner)
+          (g.R.Read.remaining c.read_more.new.reader.inner) c.chunks.input.items c.read_more.new.input.items
+          _ c.chunks.invariant.read c.in_ok-read_more.ensures.more;
       short = let n : c.len.result ≡ length c.read_more.new.input.items = search rules in omega arith;
       fine = c.in_ok-read_more.ensures.fine;
       room = c.chunks.invariant.room;
@@ -39,11 +35,10 @@ chunks-preserved g c =
 pub returns-clause-input : goal.returns-clause-input
 returns-clause-input g c =
     let more = c.in_ok-read_more.ensures.more in
-    let all = consumes_more (g.R.Read.remaining c.args.reader.now.inner) (g.R.Read.remaining c.chunks.reader.inner)
-    (g.R.Read.remaining c.read_more.new.reader.inner) c.chunks.input.items more.front c.chunks.invariant.read
-    more.read in
     record {
-      read = rw more.follows all;
+      read = read_on (g.R.Read.remaining c.args.reader.now.inner) (g.R.Read.remaining c.chunks.reader.inner)
+          (g.R.Read.remaining c.read_more.new.reader.inner) c.chunks.input.items c.read_more.new.input.items
+          _ c.chunks.invariant.read c.in_ok-read_more.ensures.more;
       whole = more.whole (omega arith);
       short = let n = ap length more.follows in let short = c.chunks.invariant.short in let count = more.count in
           omega (arith, length-append c.chunks.input.items more.front);

@@ -9,7 +9,7 @@ use Rattle.peer_threads.proofs.engines.answer.Goals as goal
 
 pub returns-in_err-take-clause-talked : goal.returns-in_err-take-clause-talked
 returns-in_err-take-clause-talked g c = λ p steps unread held new x.
-    let stopped = stops-refusing g.F.Summary.summary g.F.Summary.profile (IsTimely c.args.outbox.now.sent)
+    let stopped = stops-refusing g.F.Summary.summary g.F.Summary.profile (IsTimely c.args.sender.now.sent)
     c.exchange_laws.ensures (responding p) _ _ _ _ _
     (seen c.args.connection.now.reader.failed c.args.connection.now.reader.ended) c.args.connection.now.writer.failed _
     c.in_err-take.field-0.0 refl
@@ -30,7 +30,7 @@ returns-in_err-end-clause-talked g c = λ p steps unread held new x.
 
 pub returns-in_err-end-clause-few : goal.returns-in_err-end-clause-few
 returns-in_err-end-clause-few g c =
-    subst (λ n. c.end.new.outbox.sent ≤ n) c.in_ok-take.ensures.most c.in_err-end.ensures.few
+    subst (λ n. c.end.new.sender.sent ≤ n) c.in_ok-take.ensures.most c.in_err-end.ensures.few
 
 pub returns-clause-talked : goal.returns-clause-talked
 returns-clause-talked g c = λ p steps unread held new x. c.talk.ensures.talked (responding p) unread held refl
@@ -39,7 +39,7 @@ returns-clause-talked g c = λ p steps unread held new x. c.talk.ensures.talked 
     c.in_ok-end.ensures.heard c.in_ok-end.ensures.said)
 
 pub returns-clause-few : goal.returns-clause-few
-returns-clause-few g c = subst (λ n. c.talk.new.outbox.sent ≤ n)
+returns-clause-few g c = subst (λ n. c.talk.new.sender.sent ≤ n)
     (c.in_ok-end.ensures.most ∙ c.in_ok-take.ensures.most) c.talk.ensures.few
 
 pub returns-in_err-take-clause-on : goal.returns-in_err-take-clause-on

@@ -25,7 +25,7 @@ returns-in_err-inbox-clause-stopped g c =
 pub returns-in_err-greet-clause-stopped : goal.returns-in_err-greet-clause-stopped
 returns-in_err-greet-clause-stopped g c =
     told c.from_residual-in_err-greet.result (stops.Io directions.Write) _ (search rules) (λ P.
-    let stopped = stops-broken-after g.F.Summary.summary g.F.Summary.profile IsNone P c.args.outbox.now
+    let stopped = stops-broken-after g.F.Summary.summary g.F.Summary.profile IsNone P c.args.sender.now
     c.greet.new.self c.args.hello.bytes
     (g.R.Read.remaining c.args.connection.now.reader.inner) (g.W.Write.contents c.args.connection.now.writer.inner)
     (g.W.Write.contents c.greet.new.writer.inner)

@@ -17,15 +17,15 @@ returns-in-Err-clause-bytes g c =
     let unread = g.R.Read.remaining c.args.connection.now.reader.inner in
     let held = g.W.Write.contents c.args.connection.now.writer.inner in
     let r = seen c.args.connection.now.reader.failed c.args.connection.now.reader.ended in
-    let o = c.new-outbox.result in
+    let o = c.new-sender.result in
     speaks-unsaid g.F.Summary.summary g.F.Summary.profile s c.args.pin.version _ o unread held
     (g.W.Write.contents c.stopped.new.writer.inner) r
     (seen c.stopped.new.writer.failed c.stopped.new.writer.ended) c.args.connection.now.writer.failed stops.Memory
     c.stopped.result
-    c.new-outbox.ensures
+    c.new-sender.ensures
     (stops-silent g.F.Summary.summary g.F.Summary.profile (IsTimely o.sent) s o unread held r
     c.args.connection.now.writer.failed
-    c.new-outbox.ensures) c.stopped.ensures.leaves
+    c.new-sender.ensures) c.stopped.ensures.leaves
     c.stopped.ensures.outcome
 
 pub returns-in-Err-open-clause-bytes : goal.returns-in-Err-open-clause-bytes
@@ -36,14 +36,14 @@ returns-in-Err-open-clause-bytes g c =
     let holds = g.W.Write.contents c.stopped-in-Err-open.new.writer.inner in
     let r = seen c.args.connection.now.reader.failed c.args.connection.now.reader.ended in
     let w = seen c.stopped-in-Err-open.new.writer.failed c.stopped-in-Err-open.new.writer.ended in
-    let o = c.new-outbox.result in
+    let o = c.new-sender.result in
     let code = table_fault_number c.in-Err-open.fault in
     let broken = c.args.connection.now.writer.failed in
     speaks-unsaid g.F.Summary.summary g.F.Summary.profile s c.args.pin.version _ o unread held holds r w broken
     (stops.Refused code)
     c.stopped-in-Err-open.result
-    c.new-outbox.ensures (stops-unbooked g.F.Summary.summary g.F.Summary.profile s o unread held r broken code
-    c.new-outbox.ensures
+    c.new-sender.ensures (stops-unbooked g.F.Summary.summary g.F.Summary.profile s o unread held r broken code
+    c.new-sender.ensures
     c.in-Err-open.ensures.refused)
     (subst (λ x. Leaves g.F.Summary.profile o held holds broken w.failed x) c.from.ensures
     c.stopped-in-Err-open.ensures.leaves)
@@ -67,7 +67,7 @@ returns-clause-bytes g c =
     (traffic unread left held holds) r w c.concluded-outcome.result) c.version-version.ensures
     (c.concluded-outcome.ensures.bytes s bound (Reader unread) left held r
     (c.speak-talked.ensures.talked (peer_of a items) a.steps is opens)
-    (subst (λ x. c.speak-talked.new.outbox.sent ≤ most_sent 2 x) is c.speak-talked.ensures.few))
+    (subst (λ x. c.speak-talked.new.sender.sent ≤ most_sent 2 x) is c.speak-talked.ensures.few))
 
 pub returns-clause-fared : goal.returns-clause-fared
 returns-clause-fared g c =

@@ -19,7 +19,7 @@ returns-in-Err-clause-bytes g c = λ unread held x.
     (g.W.Write.contents c.args.connection.now.writer.inner) in
     let r = seen c.args.connection.now.reader.failed c.args.connection.now.reader.ended in
     let w = seen c.stopped.new.writer.failed c.stopped.new.writer.ended in
-    let o = c.args.outbox in
+    let o = c.args.sender in
     speaks-stopped g.F.Summary.summary g.F.Summary.profile p c.args.pin.version _ o t
     (g.W.Write.contents c.stopped.new.writer.inner) r w c.args.connection.now.writer.failed stops.Memory
     c.stopped.result
@@ -38,7 +38,7 @@ returns-in-Err-open-clause-bytes g c = λ unread held x.
     let holds = g.W.Write.contents c.stopped-in-Err-open.new.writer.inner in
     let r = seen c.args.connection.now.reader.failed c.args.connection.now.reader.ended in
     let w = seen c.stopped-in-Err-open.new.writer.failed c.stopped-in-Err-open.new.writer.ended in
-    let o = c.args.outbox in
+    let o = c.args.sender in
     let code = table_fault_number c.in-Err-open.fault in
     let broken = c.args.connection.now.writer.failed in
     speaks-stopped g.F.Summary.summary g.F.Summary.profile p c.args.pin.version _ o t holds r w broken
@@ -63,7 +63,7 @@ returns-clause-bytes g c = λ unread held x.
     (traffic_of unread left held holds) r w c.concluded-outcome.result) c.version-version.ensures
     (c.concluded-outcome.ensures.bytes (responding p) bound unread left held r
     (c.answer-talked.ensures.talked p a.steps unread held is x)
-    (subst (λ h. c.answer-talked.new.outbox.sent ≤ most_sent 1 h) is c.answer-talked.ensures.few))
+    (subst (λ h. c.answer-talked.new.sender.sent ≤ most_sent 1 h) is c.answer-talked.ensures.few))
 
 pub returns-in-Err-open-clause-on : goal.returns-in-Err-open-clause-on
 returns-in-Err-open-clause-on g c = λ unread held x. on-nothing _

@@ -18,7 +18,7 @@ returns-in-Err-clause-view g c =
     let w = seen c.stopped.new.writer.failed c.stopped.new.writer.ended in
     inr (
       refl,
-      unopened g.F.Summary.summary g.F.Summary.profile c.first_message.new.outbox t
+      unopened g.F.Summary.summary g.F.Summary.profile c.first_message.new.sender t
           (g.W.Write.contents c.stopped.new.writer.inner) r w c.first_message.new.connection.writer.failed c.in-Err.stop
           c.stopped.result
           c.first_message.ensures.none
@@ -37,11 +37,11 @@ returns-in-Err-clause-bytes g c =
     (g.W.Write.contents c.first_message.new.connection.writer.inner) in
     let r = seen c.first_message.new.connection.reader.failed c.first_message.new.connection.reader.ended in
     let w = seen c.stopped.new.writer.failed c.stopped.new.writer.ended in
-    let why = stopped-anyhow g.F.Summary.summary g.F.Summary.profile (responding p) c.first_message.new.outbox t r
+    let why = stopped-anyhow g.F.Summary.summary g.F.Summary.profile (responding p) c.first_message.new.sender t r
     c.first_message.new.connection.writer.failed c.in-Err.stop
     (untold c.first_message.result c.in-Err.stop _ c.in-Err.is c.first_message.ensures.stopped p) in
     speaks g.F.Summary.summary g.F.Summary.profile _ (responding p) _ _ _ _ r w c.stopped.result
-    (speaks-stopped g.F.Summary.summary g.F.Summary.profile p _ _ c.first_message.new.outbox t
+    (speaks-stopped g.F.Summary.summary g.F.Summary.profile p _ _ c.first_message.new.sender t
     (g.W.Write.contents c.stopped.new.writer.inner) r w c.first_message.new.connection.writer.failed c.in-Err.stop
     c.stopped.result
     c.first_message.ensures.none why c.stopped.ensures.leaves c.stopped.ensures.outcome)
@@ -68,11 +68,11 @@ returns-in-Err-pin-clause-bytes g c =
     let r = seen c.first_message.new.connection.reader.failed c.first_message.new.connection.reader.ended in
     let w = seen c.stopped-in-Err-pin.new.writer.failed c.stopped-in-Err-pin.new.writer.ended in
     speaks g.F.Summary.summary g.F.Summary.profile _ (responding p) _ _ _ _ r w c.stopped-in-Err-pin.result
-    (speaks-stopped g.F.Summary.summary g.F.Summary.profile p _ _ c.first_message.new.outbox t
+    (speaks-stopped g.F.Summary.summary g.F.Summary.profile p _ _ c.first_message.new.sender t
     (g.W.Write.contents c.stopped-in-Err-pin.new.writer.inner) r w c.first_message.new.connection.writer.failed
     stops.Memory
     c.stopped-in-Err-pin.result c.first_message.ensures.none
-    (stops-poor g.F.Summary.summary g.F.Summary.profile p _ c.first_message.new.outbox t r
+    (stops-poor g.F.Summary.summary g.F.Summary.profile p _ c.first_message.new.sender t r
     c.first_message.new.connection.writer.failed _
     c.in-Ok.ensures.met.1)
     c.stopped-in-Err-pin.ensures.leaves c.stopped-in-Err-pin.ensures.outcome)

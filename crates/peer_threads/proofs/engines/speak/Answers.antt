@@ -6,9 +6,9 @@ use Rattle.peer_threads.proofs.engines.speak.Goals as goal
 
 pub returns-in_err-inbox-clause-talked : goal.returns-in_err-inbox-clause-talked
 returns-in_err-inbox-clause-talked g c = λ p steps is opens.
-    let stops = stops-silent g.F.Summary.summary g.F.Summary.profile (IsTimely c.args.outbox.now.sent)
+    let stops = stops-silent g.F.Summary.summary g.F.Summary.profile (IsTimely c.args.sender.now.sent)
     (initiating g.F.Summary.summary p)
-    c.args.outbox.now
+    c.args.sender.now
     (g.R.Read.remaining c.args.connection.now.reader.inner)
     (g.W.Write.contents c.args.connection.now.writer.inner)
     (seen c.args.connection.now.reader.failed c.args.connection.now.reader.ended)
@@ -19,7 +19,7 @@ pub returns-in_err-greet-clause-talked : goal.returns-in_err-greet-clause-talked
 returns-in_err-greet-clause-talked g c = λ p steps is opens.
     let stops = stops-broken g.F.Summary.summary g.F.Summary.profile (IsTimely c.greet.new.self.sent)
     (initiating g.F.Summary.summary p)
-    c.args.outbox.now c.greet.new.self
+    c.args.sender.now c.greet.new.self
     (g.R.Read.remaining c.args.connection.now.reader.inner) (g.W.Write.contents c.args.connection.now.writer.inner)
     (g.W.Write.contents c.greet.new.writer.inner)
     (seen c.args.connection.now.reader.failed c.args.connection.now.reader.ended)
@@ -29,8 +29,8 @@ returns-in_err-greet-clause-talked g c = λ p steps is opens.
 
 pub returns-in_err-say-clause-talked : goal.returns-in_err-say-clause-talked
 returns-in_err-say-clause-talked g c = λ p steps is opens.
-    let stops = stops-first g.F.Summary.summary g.F.Summary.profile p c.args.outbox.now c.greet.new.self
-    c.say.new.outbox
+    let stops = stops-first g.F.Summary.summary g.F.Summary.profile p c.args.sender.now c.greet.new.self
+    c.say.new.sender
     (g.R.Read.remaining c.args.connection.now.reader.inner) (g.W.Write.contents c.args.connection.now.writer.inner)
     (g.W.Write.contents c.greet.new.writer.inner)
     (g.W.Write.contents c.say.new.writer.inner)
@@ -42,7 +42,7 @@ returns-in_err-say-clause-talked g c = λ p steps is opens.
 pub returns-clause-talked : goal.returns-clause-talked
 returns-clause-talked g c = λ p steps is opens.
     let u = begun-first g.F.Summary.summary g.F.Summary.profile p
-    c.args.party.now steps c.in_ok-inbox.inbox c.args.outbox.now c.greet.new.self c.say.new.outbox
+    c.args.party.now steps c.in_ok-inbox.inbox c.args.sender.now c.greet.new.self c.say.new.sender
     (g.R.Read.remaining c.args.connection.now.reader.inner) (g.W.Write.contents c.args.connection.now.writer.inner)
     (g.W.Write.contents c.greet.new.writer.inner)
     (g.W.Write.contents c.say.new.writer.inner) c.args.first.now is opens c.in_ok-inbox.ensures.read c.requires.new

@@ -43,7 +43,7 @@ turns-preserved g c = record {
   step = λ start step. c.in_ok-event.ensures.step start (c.turns.invariant.step start step);
   count = c.in_ok-hear.ensures.count;
   most = c.in_ok-hear.ensures.most ∙ c.turns.invariant.most;
-  few = subst (λ n. c.hear.new.outbox.sent ≤ n) c.turns.invariant.most c.in_ok-hear.ensures.few;
+  few = subst (λ n. c.hear.new.sender.sent ≤ n) c.turns.invariant.most c.in_ok-hear.ensures.few;
   reads = λ few.
       let so = c.turns.invariant.reads few in
       let now = c.in_ok-event.ensures.reads in
@@ -90,7 +90,7 @@ returns-in_err-hear-clause-fared g c = λ start step.
     let is : c.from_residual-in_err-hear.result ≡ Err c.in_err-hear.field-0.0 = search rules in
     fares-by start c.next.new.reader.reads c.next.new.reader.failed c.from_residual-in_err-hear.result
     c.in_err-hear.field-0.0 is
-    (event-fares g.F.Summary.summary g.F.Summary.profile c.turns.party (event_value c.in_ok-event.event) c.turns.outbox
-    c.hear.new.outbox (g.W.Write.contents c.turns.connection.writer.inner) (g.W.Write.contents c.hear.new.writer.inner)
+    (event-fares g.F.Summary.summary g.F.Summary.profile c.turns.party (event_value c.in_ok-event.event) c.turns.sender
+    c.hear.new.sender (g.W.Write.contents c.turns.connection.writer.inner) (g.W.Write.contents c.hear.new.writer.inner)
     c.hear.new.writer.failed c.in_err-hear.field-0.0 start c.next.new.reader.reads c.next.new.reader.failed
     c.in_err-hear.ensures.stopped fine)

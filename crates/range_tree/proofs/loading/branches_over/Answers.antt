@@ -3,7 +3,7 @@ use Rattle.std.specs.Arc.{arc_value}
 use Rattle.std.proofs.lemmas.List.{map-append}
 use Rattle.range_tree.specs.declared.leaf.Leaf.{Leaf}
 use Rattle.range_tree.specs.declared.branch.Branch.{Branch}
-use Rattle.range_tree.specs.Parts.{items_of}
+use Rattle.range_tree.specs.Nodes.{items_of}
 use Rattle.range_tree.specs.Leaves.{leaf_items, leaf_width}
 use Rattle.range_tree.specs.Branches.{branch_items, branch_width}
 use Rattle.range_tree.proofs.Groups.{IsGrouped, grouped_more, full_sides, items_sides, items_more}

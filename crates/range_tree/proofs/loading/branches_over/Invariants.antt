@@ -1,6 +1,6 @@
 use Rattle.std.proofs.Common.{◌≡◌, ◌++◌, length, map}
 use Rattle.std.specs.Arc.{arc_value}
-use Rattle.range_tree.specs.Parts.{items_of, IsFull}
+use Rattle.range_tree.specs.Nodes.{items_of, IsFull}
 use Rattle.range_tree.specs.Leaves.{leaf_items, leaf_width}
 use Rattle.range_tree.specs.Branches.{branch_items, branch_width}
 use Rattle.range_tree.proofs.Groups.{IsGrouped}

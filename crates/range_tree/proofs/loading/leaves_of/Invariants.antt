@@ -2,7 +2,7 @@ use Rattle.std.proofs.Common.{◌≡◌, ◌++◌, length, map}
 use Rattle.std.specs.Arc.{arc_value}
 use Rattle.std.specs.List.{AllByRecursion}
 use Rattle.definitions.specs.Items.{IsItem}
-use Rattle.range_tree.specs.Parts.{items_of}
+use Rattle.range_tree.specs.Nodes.{items_of}
 use Rattle.range_tree.specs.Leaves.{leaf_items, leaf_width}
 use Rattle.range_tree.proofs.Groups.{IsGrouped}
 use Rattle.range_tree.proofs.loading.leaves_of.Given as goal

@@ -5,7 +5,7 @@ use Rattle.ends_core.specs.Sides.{peer_of}
 use Rattle.range_tree.specs.Trees.{tree_items}
 use Rattle.slab.specs.Slab.{get, with_value}
 use Rattle.slab.proofs.SlabLemmas.{Updates-with_value}
-use Rattle.hub_core.specs.Peers.{kept_in, Opens}
+use Rattle.hub_core.specs.Peers.{kept_in, Opens, version_after}
 use Rattle.hub_core.specs.Hubs.{HubState}
 use Rattle.hub_core.proofs.Held.{kept-fits, room-for, held-enough, held-changed}
 use Rattle.hub_core.proofs.Changed.{of-both-ok}
@@ -48,3 +48,13 @@ returns-clause-opens g c =
     of-both-ok (λ p q. Opens (peer_of (arc_value c.args.accepted.now) (tree_items c.args.store)) p.stage q.stage)
     c.open-did.result c.args.self.now.peers (with_value c.self.inside.peers c.args.key c.open-did.new.self) c.args.key
     c.in_ok-peer.peer.now c.open-did.new.self was updates.changed c.open-did.ensures.opens
+
+pub returns-clause-version : goal.returns-clause-version
+returns-clause-version g c =
+    let there : get c.self.inside.peers c.args.key ≡ Some c.in_ok-peer.peer.now = search rules in
+    let was : get c.args.self.now.peers c.args.key ≡ Some c.in_ok-peer.peer.now =
+    sym (ap (λ (h : HubState g.row.I.Denot g.row.O.Denot). get h.peers c.args.key) c.self.view_is) ∙ there in
+    let updates = Updates-with_value c.self.inside.peers c.args.key c.open-did.new.self (ap is_some there) in
+    of-both-ok (λ p q. q.version ≡ version_after p.stage p.version c.args.version)
+    c.open-did.result c.args.self.now.peers (with_value c.self.inside.peers c.args.key c.open-did.new.self) c.args.key
+    c.in_ok-peer.peer.now c.open-did.new.self was updates.changed c.open-did.ensures.version

@@ -2,7 +2,7 @@ use Rattle.std.proofs.Common.{◌<◌, ◌++◌, [], ◌∙◌, map, length, ap,
 use Rattle.std.specs.List.{flat_map}
 use Rattle.std.specs.Arc.{arc_value}
 use Rattle.range_tree.specs.declared.leaf.Leaf.{Leaf}
-use Rattle.range_tree.specs.Parts.{IsFull}
+use Rattle.range_tree.specs.Nodes.{IsFull}
 use Rattle.range_tree.specs.Leaves.{leaf_items, leaf_width}
 use Rattle.range_tree.proofs.Places.{flat_halves}
 use Rattle.range_tree.proofs.Widths.{front_full, back_full}
@@ -10,8 +10,8 @@ use Rattle.range_tree.proofs.branch.Branch.halves.Goals as goal
 
 pub of-requires-clause-full : goal.of-requires-clause-full
 of-requires-clause-full c =
-    let leaves = c.into_parts-parts.result.items in
-    let view = c.into_parts-parts.ensures in
+    let leaves = c.into_nodes-nodes.result.items in
+    let view = c.into_nodes-nodes.ensures in
     let same = ap length view in
     let many = c.requires.more in
     let more : 1 < length (map (arc_value {X = Leaf}) leaves) = omega arith in
@@ -20,8 +20,8 @@ of-requires-clause-full c =
 
 pub of-requires-2-clause-full : goal.of-requires-2-clause-full
 of-requires-2-clause-full c =
-    let leaves = c.into_parts-parts.result.items in
-    let view = c.into_parts-parts.ensures in
+    let leaves = c.into_nodes-nodes.result.items in
+    let view = c.into_nodes-nodes.ensures in
     let same = ap length view in
     let many = c.requires.more in
     let more : 1 < length (map (arc_value {X = Leaf}) leaves) = omega arith in
@@ -33,5 +33,5 @@ returns-clause-items c =
     (λ i. flat_map leaf_items (c.in_ok-front.ensures i) ++ (flat_map leaf_items (c.in_ok-of.ensures i) ++ []))
     ∙ (λ i. flat_map leaf_items (map (arc_value {X = Leaf}) (c.in_ok-back.ensures.items i))
     ++ (flat_map leaf_items (map (arc_value {X = Leaf}) (c.in_ok-back.ensures.tail i)) ++ []))
-    ∙ flat_halves leaf_items (arc_value {X = Leaf}) 32 c.into_parts-parts.result.items
-    ∙ ap (flat_map leaf_items) c.into_parts-parts.ensures
+    ∙ flat_halves leaf_items (arc_value {X = Leaf}) 32 c.into_nodes-nodes.result.items
+    ∙ ap (flat_map leaf_items) c.into_nodes-nodes.ensures

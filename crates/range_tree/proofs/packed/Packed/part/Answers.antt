@@ -1,5 +1,5 @@
 use Rattle.std.proofs.Common.{◌≤◌, ◌<◌, ◌-◌, ◌^◌, ◌∙◌, ap, length, map, take, drop, arith, rules}
-use Rattle.range_tree.specs.Parts.{span}
+use Rattle.range_tree.specs.Nodes.{span}
 use Rattle.range_tree.specs.Packs.{IsPack}
 use Rattle.range_tree.proofs.Pieces.{pack_now, pack_part, pack_is, pack_whole, start_within, starts_rise, joined_most}
 use Rattle.range_tree.proofs.Pieces.{length_ends, part_above, sums_long}

@@ -1,6 +1,6 @@
 use Rattle.std.proofs.Common.{◌<◌, ◌≤◌, ◌∷◌, ◌++◌, [], ◌∙◌, sym, ap, length, rules, append_assoc}
 use Rattle.std.proofs.lemmas.List.{append-nil}
-use Rattle.range_tree.specs.Parts.{span}
+use Rattle.range_tree.specs.Nodes.{span}
 use Rattle.range_tree.proofs.Pieces.{span_same, span_more}
 use Rattle.range_tree.proofs.packed.Packed.push_between.Goals as goal
 

@@ -1,5 +1,5 @@
 use Rattle.std.proofs.Common.{◌≡◌, ◌++◌}
-use Rattle.range_tree.specs.Parts.{span}
+use Rattle.range_tree.specs.Nodes.{span}
 use Rattle.range_tree.proofs.packed.Packed.push_between.Given as goal
 
 abbrev pub invariant-loop-place : goal.invariant-loop-place

@@ -65,8 +65,8 @@ ends_with-requires-clause-later c =
     subst (λ es. AllByRecursion (λ e. e + n < 2 ^ 16) es) (sym (c.deref-2.ensures.value ∙ pack.are_ends))
     (ends_fit 0 n xs (omega arith))
 
-pub with_entry-requires : goal.with_entry-requires
-with_entry-requires c =
+pub with_hashed-requires : goal.with_hashed-requires
+with_hashed-requires c =
     let p = c.self.inside in
     let xs = c.args.self.now in
     let pack = pack_now xs p.bytes.items p.ends.items p.sums.items c.self.invariant c.self.view_is in
@@ -79,11 +79,11 @@ invariant_of-result c =
     let p = c.self.inside in
     let xs = c.args.self.now in
     let place = c.args.place in
-    let x = c.args.entry.now in
+    let x = c.args.hashed.now in
     let pack = pack_now xs p.bytes.items p.ends.items p.sums.items c.self.invariant c.self.view_is in
     let bytes = c.in_ok-with_run.field-0.items in
     let ends = c.in_ok-ends_with.field-0.items in
-    let sums = c.in_ok-with_entry.field-0.items in
+    let sums = c.in_ok-with_hashed.field-0.items in
     let own : c.bytes-bytes.result.now ≡ x = c.bytes-bytes.ensures.bytes ∙ c.item.ensures.item in
     let more : IsPack (put place x xs) bytes ends sums = pack_with xs place x p.bytes.items p.ends.items bytes ends
     p.sums.items sums pack c.requires.few c.item.ensures.is_item
@@ -91,7 +91,7 @@ invariant_of-result c =
     ++ drop (c.start-start.ensures j) (c.deref.ensures.value j)))
     (c.in_ok-ends_with.ensures ∙ (λ j. take place (c.deref-2.ensures.value j) ++ (c.start-start.ensures j
     + length (own j)) ∷ map (λ e. e + length (own j)) (drop place (c.deref-2.ensures.value j))))
-    (c.in_ok-with_entry.ensures xs (c.deref-3.ensures.value ∙ pack.are_sums)) in
+    (c.in_ok-with_hashed.ensures xs (c.deref-3.ensures.value ∙ pack.are_sums)) in
     pack_whole (put place x xs) bytes ends sums more
 
 pub returns : goal.returns
@@ -99,11 +99,11 @@ returns c =
     let p = c.self.inside in
     let xs = c.args.self.now in
     let place = c.args.place in
-    let x = c.args.entry.now in
+    let x = c.args.hashed.now in
     let pack = pack_now xs p.bytes.items p.ends.items p.sums.items c.self.invariant c.self.view_is in
     let bytes = c.in_ok-with_run.field-0.items in
     let ends = c.in_ok-ends_with.field-0.items in
-    let sums = c.in_ok-with_entry.field-0.items in
+    let sums = c.in_ok-with_hashed.field-0.items in
     let own : c.bytes-bytes.result.now ≡ x = c.bytes-bytes.ensures.bytes ∙ c.item.ensures.item in
     let more : IsPack (put place x xs) bytes ends sums = pack_with xs place x p.bytes.items p.ends.items bytes ends
     p.sums.items sums pack c.requires.few c.item.ensures.is_item
@@ -111,5 +111,5 @@ returns c =
     ++ drop (c.start-start.ensures j) (c.deref.ensures.value j)))
     (c.in_ok-ends_with.ensures ∙ (λ j. take place (c.deref-2.ensures.value j) ++ (c.start-start.ensures j
     + length (own j)) ∷ map (λ e. e + length (own j)) (drop place (c.deref-2.ensures.value j))))
-    (c.in_ok-with_entry.ensures xs (c.deref-3.ensures.value ∙ pack.are_sums)) in
+    (c.in_ok-with_hashed.ensures xs (c.deref-3.ensures.value ∙ pack.are_sums)) in
     pack_is (put place x xs) bytes ends sums more

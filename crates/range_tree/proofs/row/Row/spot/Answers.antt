@@ -1,14 +1,14 @@
 use Rattle.std.proofs.Common.{◌≤◌, length, sym, subst}
 use Rattle.std.proofs.Math.Dec.{leb}
 use Rattle.std.specs.List.Sorted.{IsNonDecreasingBy}
-use Rattle.range_tree.specs.Parts.{PassFirst}
+use Rattle.range_tree.specs.Nodes.{PassFirst}
 use Rattle.range_tree.specs.Rows.{IsRow}
 use Rattle.range_tree.proofs.Rows.{ends_rise, spot_is}
 use Rattle.range_tree.proofs.row.Row.spot.Goals as goal
 
 pub ended-index-requires : goal.ended-index-requires
 ended-index-requires g c =
-    let content = g.P.Part.content in
+    let content = g.P.Node.content in
     let ends = c.self.inside.ends.items in
     let sums = c.self.inside.sums.items in
     let row = subst (λ ps. IsRow content ps ends sums) c.self.view_is c.self.invariant.0 in
@@ -16,7 +16,7 @@ ended-index-requires g c =
 
 pub returns : goal.returns
 returns g c =
-    let content = g.P.Part.content in
+    let content = g.P.Node.content in
     let ends = c.self.inside.ends.items in
     let sums = c.self.inside.sums.items in
     let place = c.args.place in

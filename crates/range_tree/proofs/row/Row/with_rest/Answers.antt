@@ -9,11 +9,11 @@ use Rattle.range_tree.proofs.row.Row.with_rest.Goals as goal
 
 pub invariant_of-result : goal.invariant_of-result
 invariant_of-result g c =
-    let content = g.P.Part.content in
+    let content = g.P.Node.content in
     let v = arc_value {X = g.row.P.Denot} in
     let k = c.args.from in
-    let own = c.self.inside.parts.items in
-    let old = c.other.inside.parts.items in
+    let own = c.self.inside.nodes.items in
+    let old = c.other.inside.nodes.items in
     let ps = map v old in
     let view = c.other.view_is in
     let within : k ≤ length ps = subst (λ qs. k ≤ length qs) (sym view) c.requires in
@@ -22,7 +22,7 @@ invariant_of-result g c =
     let begun_sum = c.total_of_first-begun_sum.ensures
     ∙ ap (λ qs. two_lanes.of (flat_map content (take k qs))) (sym view) in
     let start_sum = c.total-start_sum.ensures ∙ ap (λ qs. two_lanes.of (flat_map content qs)) (sym c.self.view_is) in
-    let parts = c.in_ok-share.ensures ∙ ap (λ xs. map v own ++ map v xs) (take_rest c.deref.result.now k)
+    let nodes = c.in_ok-share.ensures ∙ ap (λ xs. map v own ++ map v xs) (take_rest c.deref.result.now k)
     ∙ ap (λ xs. map v own ++ xs) (map_drop v k c.deref.result.now ∙ ap (λ xs. drop k (map v xs)) c.deref.ensures.value)
     in
     let sums_now = take_rest c.deref-3.result.now k ∙ ap (drop k) c.deref-3.ensures.value
@@ -39,13 +39,13 @@ invariant_of-result g c =
     rest_beside content (map v own) ps k c.self.inside.ends.items c.other.inside.ends.items c.self.inside.sums.items
     c.other.inside.sums.items c.len_of_first-begun.result c.len-start.result c.total-start_sum.result _ _ _
     c.self.inside.heads.items c.other.inside.heads.items _ c.self.invariant c.other.invariant within begun start
-    start_sum parts ends sums heads
+    start_sum nodes ends sums heads
 
 pub returns : goal.returns
 returns g c =
     let v = arc_value {X = g.row.P.Denot} in
     let k = c.args.from in
-    let own = c.self.inside.parts.items in
+    let own = c.self.inside.nodes.items in
     c.in_ok-share.ensures ∙ ap (λ xs. map v own ++ map v xs) (take_rest c.deref.result.now k)
     ∙ ap (λ xs. map v own ++ xs) (map_drop v k c.deref.result.now ∙ ap (λ xs. drop k (map v xs)) c.deref.ensures.value)
     ∙ (λ i. c.self.view_is i ++ drop k (c.other.view_is i))

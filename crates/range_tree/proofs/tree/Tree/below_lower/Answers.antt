@@ -1,7 +1,7 @@
 use Rattle.std.proofs.Common.{◌≡◌, [], sym, subst, ◌∙◌, rules, length}
 use Rattle.std.proofs.lemmas.List.{nil_from_length}
 use Rattle.definitions.specs.Items.{comes_before}
-use Rattle.range_tree.specs.Parts.{PassFirst}
+use Rattle.range_tree.specs.Nodes.{PassFirst}
 use Rattle.range_tree.specs.Trees.{tree_items}
 use Rattle.range_tree.proofs.Ranks.{pass_start}
 use Rattle.range_tree.proofs.tree.Tree.below_lower.Goals as goal

@@ -1,6 +1,6 @@
 use Rattle.std.proofs.Common.{subst}
 use Rattle.definitions.specs.Items.{comes_before, is_below}
-use Rattle.range_tree.specs.Parts.{PassFirst}
+use Rattle.range_tree.specs.Nodes.{PassFirst}
 use Rattle.range_tree.specs.Trees.{tree_items}
 use Rattle.range_tree.proofs.Places.{between_both}
 use Rattle.range_tree.proofs.tree.Tree.places.Goals as goal

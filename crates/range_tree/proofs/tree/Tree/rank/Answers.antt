@@ -1,6 +1,6 @@
 use Rattle.std.proofs.Common.{◌≤◌, sym, subst, length}
 use Rattle.definitions.specs.Items.{comes_before}
-use Rattle.range_tree.specs.Parts.{PassFirst}
+use Rattle.range_tree.specs.Nodes.{PassFirst}
 use Rattle.range_tree.specs.Trees.{tree_items}
 use Rattle.range_tree.proofs.Ranks.{count_passes, count_most}
 use Rattle.range_tree.proofs.tree.Tree.rank.Goals as goal

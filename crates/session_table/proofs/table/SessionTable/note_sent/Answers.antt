@@ -1,12 +1,12 @@
 use Rattle.std.proofs.Common.{◌≡◌, ◌<◌, Some, rules, arith}
 use Rattle.slab.specs.Slab.{get}
-use Rattle.session_table.specs.Sessions.{Session}
+use Rattle.session_table.specs.Sessions.{LiveSession}
 use Rattle.session_table.proofs.Kept.{IsTable-noted}
 use Rattle.session_table.proofs.table.SessionTable.note_sent.Goals as goal
 
 pub invariant_of-self-2 : goal.invariant_of-self-2
 invariant_of-self-2 c =
-    let s : Session =
+    let s : LiveSession =
     record { serial = c.session.inside.serial; bound = c.session.inside.bound; sent = c.session.inside.sent } in
     let found : get c.self.inside.sessions c.id.inside.key ≡ Some s = search rules in
     let below : s.sent < s.bound = omega arith in

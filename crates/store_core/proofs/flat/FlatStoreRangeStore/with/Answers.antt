@@ -8,8 +8,8 @@ use Rattle.store_core.specs.Sums.{running_sums}
 use Rattle.store_core.proofs.Running.{sums-length}
 use Rattle.store_core.proofs.flat.FlatStoreRangeStore.with.Goals as goal
 
-pub with_entry-requires : goal.with_entry-requires
-with_entry-requires c =
+pub with_hashed-requires : goal.with_hashed-requires
+with_hashed-requires c =
     rw (
       c.deref-in-Some-2.ensures.value,
       c.args.self.now.summed,
@@ -26,8 +26,8 @@ invariant_of-result c =
     let added : c.in_ok-with_item-in-Some.field-0.items ≡ add_item items c.args.item = search rules in
     rw added (record {
       rises = set_add items c.args.item old.rises;
-      are_items = all_add IsItem items c.args.item old.are_items c.new-entry.ensures.is_item;
-      summed = c.in_ok-with_entry-in-Some.ensures items (c.deref-in-Some-2.ensures.value ∙ old.summed)
-          ∙ ap (λ x. running_sums (take place items ++ x ∷ drop place items)) c.new-entry.ensures.item
+      are_items = all_add IsItem items c.args.item old.are_items c.new-hashed.ensures.is_item;
+      summed = c.in_ok-with_hashed-in-Some.ensures items (c.deref-in-Some-2.ensures.value ∙ old.summed)
+          ∙ ap (λ x. running_sums (take place items ++ x ∷ drop place items)) c.new-hashed.ensures.item
           ∙ ap running_sums (sym placed ∙ added);
     })

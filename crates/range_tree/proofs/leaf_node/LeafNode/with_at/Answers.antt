@@ -1,0 +1,62 @@
+use Rattle.std.proofs.Common.{◌++◌, ◌∙◌, [], ap, length, arith}
+use Rattle.std.proofs.lemmas.List.{append-nil}
+use Rattle.range_tree.proofs.Places.{length_put}
+use Rattle.range_tree.proofs.Pieces.{halves, halves_are}
+use Rattle.range_tree.proofs.leaf_node.LeafNode.with_at.Goals as goal
+
+pub of-requires-2-clause-small : goal.of-requires-2-clause-small
+of-requires-2-clause-small c =
+    let ys = c.in_ok-packed.packed in
+    let more = c.if-len-le64.false in
+    let len = c.len.ensures.length in
+    let longer = ap length c.in_ok-packed.ensures ∙ length_put c.args.place c.args.hashed c.args.self.now.packed in
+    let small = c.args.self.now.small in
+    let both = halves ys c.in_ok-front.front c.in_ok-back.back c.len-2.result c.in_ok-front.ensures c.in_ok-back.ensures
+    c.len-2.ensures.length (omega arith) (omega arith) in
+    let first = both.0 in
+    omega arith
+
+pub of-requires-3-clause-some : goal.of-requires-3-clause-some
+of-requires-3-clause-some c =
+    let ys = c.in_ok-packed.packed in
+    let more = c.if-len-le64.false in
+    let len = c.len.ensures.length in
+    let longer = ap length c.in_ok-packed.ensures ∙ length_put c.args.place c.args.hashed c.args.self.now.packed in
+    let small = c.args.self.now.small in
+    let both = halves ys c.in_ok-front.front c.in_ok-back.back c.len-2.result c.in_ok-front.ensures c.in_ok-back.ensures
+    c.len-2.ensures.length (omega arith) (omega arith) in
+    let second = both.1 in
+    omega arith
+
+pub of-requires-3-clause-small : goal.of-requires-3-clause-small
+of-requires-3-clause-small c =
+    let ys = c.in_ok-packed.packed in
+    let more = c.if-len-le64.false in
+    let len = c.len.ensures.length in
+    let longer = ap length c.in_ok-packed.ensures ∙ length_put c.args.place c.args.hashed c.args.self.now.packed in
+    let small = c.args.self.now.small in
+    let both = halves ys c.in_ok-front.front c.in_ok-back.back c.len-2.result c.in_ok-front.ensures c.in_ok-back.ensures
+    c.len-2.ensures.length (omega arith) (omega arith) in
+    let second = both.2 in
+    omega arith
+
+pub returns-clause-items : goal.returns-clause-items
+returns-clause-items c =
+    (λ j. c.of-2.ensures j ++ (c.of-3.ensures j ++ [])) ∙ ap (λ t. c.in_ok-front.front ++ t)
+    (append-nil c.in_ok-back.back) ∙ halves_are c.in_ok-packed.packed c.in_ok-front.front c.in_ok-back.back
+    c.len-2.result c.in_ok-front.ensures c.in_ok-back.ensures c.len-2.ensures.length ∙ c.in_ok-packed.ensures
+
+pub returns-clause-widths : goal.returns-clause-widths
+returns-clause-widths c =
+    let ys = c.in_ok-packed.packed in
+    let more = c.if-len-le64.false in
+    let len = c.len.ensures.length in
+    let longer = ap length c.in_ok-packed.ensures ∙ length_put c.args.place c.args.hashed c.args.self.now.packed in
+    let small = c.args.self.now.small in
+    let both = halves ys c.in_ok-front.front c.in_ok-back.back c.len-2.result c.in_ok-front.ensures c.in_ok-back.ensures
+    c.len-2.ensures.length (omega arith) (omega arith) in
+    let first = both.0 in
+    let second = both.1 in
+    let first_is = ap length c.of-2.ensures in
+    let second_is = ap length c.of-3.ensures in
+    (omega arith, omega arith)
