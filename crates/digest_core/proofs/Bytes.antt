@@ -1,6 +1,6 @@
 -- Lanes and their bytes.
-use Rattle.std.proofs.Common.{take, drop, ◌≡◌, ℕ, ◌^◌, ◌/◌, ◌%◌, zero, suc, ◌<◌, List, [], ◌∷◌, ◌++◌, length, get_or, ap, ◌∙◌}
-use Rattle.std.proofs.Common.{arith}
+use Rattle.std.proofs.Common.{take, drop, ◌≡◌, ℕ, ◌^◌, ◌/◌, ◌%◌, zero, suc, ◌<◌, List, [], ◌∷◌, ◌++◌, length, get_or, ap}
+use Rattle.std.proofs.Common.{◌∙◌, arith}
 use Rattle.std.specs.Int.{w64, w128, from_be_bytes, to_be_bytes}
 use Rattle.std.proofs.lemmas.List.{take_rest}
 use Rattle.definitions.specs.Items.{IsBytes}
@@ -39,12 +39,12 @@ halves_back bytes a b back len front rest =
 -- the bytes of a number are those of its two halves
 pub halves_text : (n : ℕ) → to_be_bytes w64 (n / 2 ^ 64) ++ to_be_bytes w64 (n % 2 ^ 64) ≡ to_be_bytes w128 n
 halves_text n =
-    let d15 : n / 2 ^ 64 / 2 ^ 56 % 256 ≡ n / 2 ^ 120 % 256 = omega arith in
-    let d14 : n / 2 ^ 64 / 2 ^ 48 % 256 ≡ n / 2 ^ 112 % 256 = omega arith in
-    let d13 : n / 2 ^ 64 / 2 ^ 40 % 256 ≡ n / 2 ^ 104 % 256 = omega arith in
-    let d12 : n / 2 ^ 64 / 2 ^ 32 % 256 ≡ n / 2 ^ 96 % 256 = omega arith in
-    let d11 : n / 2 ^ 64 / 2 ^ 24 % 256 ≡ n / 2 ^ 88 % 256 = omega arith in
-    let d10 : n / 2 ^ 64 / 2 ^ 16 % 256 ≡ n / 2 ^ 80 % 256 = omega arith in
+    let df : n / 2 ^ 64 / 2 ^ 56 % 256 ≡ n / 2 ^ 120 % 256 = omega arith in
+    let de : n / 2 ^ 64 / 2 ^ 48 % 256 ≡ n / 2 ^ 112 % 256 = omega arith in
+    let dd : n / 2 ^ 64 / 2 ^ 40 % 256 ≡ n / 2 ^ 104 % 256 = omega arith in
+    let dc : n / 2 ^ 64 / 2 ^ 32 % 256 ≡ n / 2 ^ 96 % 256 = omega arith in
+    let db : n / 2 ^ 64 / 2 ^ 24 % 256 ≡ n / 2 ^ 88 % 256 = omega arith in
+    let da : n / 2 ^ 64 / 2 ^ 16 % 256 ≡ n / 2 ^ 80 % 256 = omega arith in
     let d9 : n / 2 ^ 64 / 2 ^ 8 % 256 ≡ n / 2 ^ 72 % 256 = omega arith in
     let d8 : n / 2 ^ 64 % 256 ≡ n / 2 ^ 64 % 256 = omega arith in
     let d7 : (n % 2 ^ 64) / 2 ^ 56 % 256 ≡ n / 2 ^ 56 % 256 = omega arith in
@@ -55,5 +55,5 @@ halves_text n =
     let d2 : (n % 2 ^ 64) / 2 ^ 16 % 256 ≡ n / 2 ^ 16 % 256 = omega arith in
     let d1 : (n % 2 ^ 64) / 2 ^ 8 % 256 ≡ n / 2 ^ 8 % 256 = omega arith in
     let d0 : (n % 2 ^ 64) % 256 ≡ n % 256 = omega arith in
-    λ i. d15 i ∷ d14 i ∷ d13 i ∷ d12 i ∷ d11 i ∷ d10 i ∷ d9 i ∷ d8 i ∷ d7 i ∷ d6 i ∷ d5 i ∷ d4 i ∷ d3 i ∷ d2 i ∷ d1 i ∷ d0 i
+    λ i. df i ∷ de i ∷ dd i ∷ dc i ∷ db i ∷ da i ∷ d9 i ∷ d8 i ∷ d7 i ∷ d6 i ∷ d5 i ∷ d4 i ∷ d3 i ∷ d2 i ∷ d1 i ∷ d0 i
     ∷ []

@@ -1,5 +1,6 @@
 ghost use Rattle.std.specs.Prelude.{◌≡◌, length};
 ghost use Rattle.std.specs.Int.{w32, from_be_bytes};
+ghost use Rattle.definitions.specs.Wire.{counted_profile};
 
 use crate::fingerprint::Fingerprint;
 use crate::summary::Summary;
@@ -33,6 +34,18 @@ fn number(bytes: &[u8]) -> u32
     ensures { result ≡ from_be_bytes w32 bytes.now }
 {
     u32::from_be_bytes([bytes[0], bytes[1], bytes[2], bytes[3]])
+}
+
+impl Counted {
+    /// The 36 bytes that spell it: the count before the lanes.
+    fn to_bytes(self) -> [u8; 36]
+        ensures { result ≡ counted_profile.text self }
+    {
+        let mut bytes = [0u8; 36];
+        bytes[..4].copy_from_slice(&self.count.to_be_bytes());
+        bytes[4..].copy_from_slice(&self.lanes.to_bytes());
+        bytes
+    }
 }
 
 impl Summary for Counted {
@@ -109,8 +122,7 @@ impl Summary for Counted {
     }
 
     fn push(self, out: &mut Vec<u8>) -> Result<(), AllocError> {
-        out.extend_from_slice(&self.count.to_be_bytes())?;
-        out.extend_from_slice(&self.lanes.to_bytes())?;
+        out.extend_from_slice(&self.to_bytes())?;
         Ok(())
     }
 

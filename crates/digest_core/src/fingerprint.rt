@@ -31,8 +31,8 @@ impl Model for Fingerprint {
     ghost inverse = { λ f. record { first = f.first; second = f.second } };
 }
 
-/// 2 to the power of 64. A lane is read and written by halves: each is turned round by one instruction, where the bytes
-/// of a `u128` are taken one by one.
+/// 2 to the power of 64. A lane is read and written by halves, each of which one instruction turns round. The bytes of a
+/// `u128` the compiler would take one by one.
 const HALF: u128 = 18_446_744_073_709_551_616;
 
 /// The number that 8 bytes spell, the highest first.
@@ -53,13 +53,21 @@ fn lane(bytes: &[u8]) -> u128
     u128::from(half(&bytes[..8])) * HALF + u128::from(half(&bytes[8..]))
 }
 
+/// The 8 bytes of a number, the highest first: those of the number turned round, the lowest first. Said this way the
+/// compiler does not take the higher half of a lane apart.
+fn half_bytes(half: u64) -> [u8; 8]
+    ensures { result ≡ to_be_bytes w64 half }
+{
+    half.swap_bytes().to_le_bytes()
+}
+
 /// The 16 bytes of a number, the highest first.
 fn lane_bytes(lane: u128) -> [u8; 16]
     ensures { result ≡ to_be_bytes w128 lane }
 {
     let mut bytes = [0u8; 16];
-    bytes[..8].copy_from_slice(&((lane / HALF) as u64).to_be_bytes());
-    bytes[8..].copy_from_slice(&((lane % HALF) as u64).to_be_bytes());
+    bytes[..8].copy_from_slice(&half_bytes((lane / HALF) as u64));
+    bytes[8..].copy_from_slice(&half_bytes((lane % HALF) as u64));
     bytes
 }
 

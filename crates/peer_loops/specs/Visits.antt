@@ -20,17 +20,11 @@ profile_in (stages.Counted c) = Some 2
 
 abbrev pub ours_in : Outcome → ℕ
 ours_in (outcomes.Ended learned sent version) = length learned.ours
-ours_in (outcomes.Refused code sent) = 0
-ours_in (outcomes.PeerRefused code sent) = 0
-ours_in (outcomes.Io side sent) = 0
-ours_in (outcomes.Memory sent) = 0
+ours_in o = 0
 
 abbrev pub theirs_in : Outcome → ℕ
 theirs_in (outcomes.Ended learned sent version) = length learned.theirs
-theirs_in (outcomes.Refused code sent) = 0
-theirs_in (outcomes.PeerRefused code sent) = 0
-theirs_in (outcomes.Io side sent) = 0
-theirs_in (outcomes.Memory sent) = 0
+theirs_in o = 0
 
 pub record IsTold (l : Leaver) (o : Outcome) (v : Visit) : Type 0 where
   pub address : v.address ≡ l.address

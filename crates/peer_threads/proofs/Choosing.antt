@@ -26,7 +26,7 @@ use Rattle.peer_threads.specs.Choices.{is_counted, ChosenSpeaks, ChosenUnopened,
 use Rattle.peer_threads.specs.Hellos.{NoHello}
 use Rattle.peer_threads.specs.Inboxes.{StopsAt}
 use Rattle.peer_threads.specs.Senders.{SenderState, sender_state}
-use Rattle.peer_threads.specs.Outcomes.{Origin, Reader, After, traffic, traffic_after}
+use Rattle.peer_threads.specs.Outcomes.{Origin, Reader, After, Takes, traffic, traffic_after}
 use Rattle.peer_threads.specs.Outcomes.{Speaks, SpeaksUnopened, Unopened, CameFirst}
 use Rattle.ends_core.specs.Sides.{KeepsBounds}
 use Rattle.outcome_core.specs.Sent.{sent_in}
@@ -39,55 +39,42 @@ use Rattle.peer_threads.proofs.Origins.{takes-all, begins-alike}
 
 -- ---- what an outcome says is said of what was written, wherever the bytes read come from
 
-module _ {F : Type 0} (S : Summary F) (W : Profile F) where
-  -- ---- all that was read, the first four bytes too
+-- all that was read, the first four bytes too
+read-all : (front bytes : List ℕ) (unread mid left : Option (List ℕ)) → length front ≡ 4 → Consumes unread mid front →
+    Takes (After front mid) left bytes → Takes (Reader unread) left bytes × (is_counted bytes ≡ is_counted front)
+read-all front bytes unread mid left four first read =
+    (takes-all front bytes unread mid left first read, begins-alike counted_profile front bytes mid left four read)
 
+module _ {F : Type 0} (S : Summary F) (W : Profile F) where
   speaks-all : (fits : Type 0) (s : Speaker F) (version bound limit : ℕ) (front : List ℕ)
       (unread mid left held holds : Option (List ℕ)) (r w : Seen) (o : Outcome) → length front ≡ 4 →
       Consumes unread mid front →
       Speaks S W fits s version bound limit (traffic_after front mid left held holds) r w o →
       (x : Speaks S W fits s version bound limit (traffic unread left held holds) r w o)
       × (is_counted x.bytes ≡ is_counted front)
-  speaks-all fits s version bound limit front unread mid left held holds r w o four first x = (
-    record {
-      bytes = x.bytes;
-      read = takes-all front x.bytes unread mid left first x.read;
-      bears = x.bears;
-      sent = x.sent;
-      bounded = x.bounded;
-      is_few = x.is_few;
-    },
-    begins-alike counted_profile front x.bytes mid left four x.read,
-  )
+  speaks-all fits s version bound limit front unread mid left held holds r w o four first x =
+      let (read, alike) = read-all front x.bytes unread mid left four first x.read in (
+        record { bytes = x.bytes; read = read; bears = x.bears; sent = x.sent; bounded = x.bounded; is_few = x.is_few },
+        alike,
+      )
 
   speaks-unopened-all : (s : Speaker F) (version : ℕ) (front : List ℕ) (unread mid left held holds : Option (List ℕ))
       (r w : Seen) (o : Outcome) → length front ≡ 4 → Consumes unread mid front →
       SpeaksUnopened S W s version (traffic_after front mid left held holds) r w o →
       (x : SpeaksUnopened S W s version (traffic unread left held holds) r w o)
       × (is_counted x.bytes ≡ is_counted front)
-  speaks-unopened-all s version front unread mid left held holds r w o four first x = (
-    record {
-      bytes = x.bytes;
-      read = takes-all front x.bytes unread mid left first x.read;
-      bears = x.bears;
-    },
-    begins-alike counted_profile front x.bytes mid left four x.read,
-  )
+  speaks-unopened-all s version front unread mid left held holds r w o four first x =
+      let (read, alike) = read-all front x.bytes unread mid left four first x.read in
+      (record { bytes = x.bytes; read = read; bears = x.bears }, alike)
 
   first-all : (front : List ℕ) (unread mid left : Option (List ℕ)) → length front ≡ 4 → Consumes unread mid front →
       CameFirst W (After front mid) left →
       (x : CameFirst W (Reader unread) left) × (is_counted x.bytes ≡ is_counted front)
-  first-all front unread mid left four first x = (
-    record {
-      bytes = x.bytes;
-      read = takes-all front x.bytes unread mid left first x.read;
-      part = x.part;
-      first = x.first;
-      later = x.later;
-      messages = x.messages;
-    },
-    begins-alike counted_profile front x.bytes mid left four x.read,
-  )
+  first-all front unread mid left four first x =
+      let (read, alike) = read-all front x.bytes unread mid left four first x.read in (
+        record { bytes = x.bytes; read = read; part = x.part; first = x.first; later = x.later; messages = x.messages },
+        alike,
+      )
 
   -- ---- fewer than four bytes came
 

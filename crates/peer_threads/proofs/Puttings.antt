@@ -1,40 +1,62 @@
--- What a worker has put in after some of its items.
+-- What was put in after some of the first items.
 --
--- Whatever the items that are left come to, the items so far come to it from the start on, with what was dropped so
--- far. So one insert more is one step of the same, by cases on what it did.
-use Rattle.std.proofs.Common.{◌≡◌, ℕ, ◌+◌, List, [], ◌∷◌, length, take, inl, inr, refl, sym, ap, subst, ◌∙◌, arith}
+-- Whatever the items that are left come to, the items so far come to it from the start on, with what was left out so
+-- far. So one item more is one step of the same, by cases on what came of it.
+use Rattle.std.proofs.Common.{◌≡◌, ℕ, ◌+◌, ◌-◌, ◌<◌, ◌≤◌, List, [], ◌∷◌, length, take, drop, Some}
+use Rattle.std.proofs.Common.{sym, ap, subst, ◌∙◌, arith}
+use Rattle.std.specs.List.{slice_get}
+use Rattle.std.proofs.lemmas.List.{drop_all, length-drop, length-take-le}
 use Rattle.definitions.specs.Items.{Item}
-use Rattle.version_log.specs.declared.answer.LogFault.TheVariants.{Memory}
+use Rattle.store_core.proofs.Packs.{first_at}
 use Rattle.version_lock.specs.declared.view.View.{View}
-use Rattle.version_lock.specs.Calls.{DidNotInsert}
-use Rattle.peer_threads.specs.Workers.{PutInOrDropped, PutInAll, IsSettled}
+use Rattle.peer_threads.specs.Workers.{PutInAll, IsSettled}
 
--- what the rest comes to, all come to
-abbrev pub Puts : List Item → List Item → View → View → ℕ → Type 0
-Puts xs rest old now dropped =
-    (w : View) (n : ℕ) → PutInAll rest now w n → PutInAll xs old w (dropped + n)
+-- `All xs old now out`: these were put in, and so many of them left out
+module _ {V : Type 0} (All : List Item → V → V → ℕ → Type 0) where
+  -- what the rest comes to, all come to
+  abbrev pub Puts : List Item → List Item → V → V → ℕ → Type 0
+  Puts xs rest old now out = (w : V) (n : ℕ) → All rest now w n → All xs old w (out + n)
 
-pub puts-none : (xs : List Item) (v : View) → Puts xs xs v v 0
-puts-none xs v w n all = subst (PutInAll xs v w) (omega arith) all
+  pub puts-none : (xs : List Item) (v : V) → Puts xs xs v v 0
+  puts-none xs v w n all = subst (All xs v w) (omega arith) all
 
-pub puts-one : (xs rest left : List Item) (x : Item) (old now next : View) (dropped one : ℕ) → rest ≡ x ∷ left →
-    Puts xs rest old now dropped → PutInOrDropped x now next one → Puts xs left old next (dropped + one)
-puts-one xs rest left x old now next dropped one is so did w n all =
-    let same : dropped + (one + n) ≡ dropped + one + n = omega arith in
-    subst (PutInAll xs old w) same
-    (so w (one + n) (subst (λ l. PutInAll l now w (one + n)) (sym is) (inl (next, one, n, did, all, refl))))
+  -- what came of the item at this place is a step of all that may come after it
+  pub puts-one : (items : List Item) (first i : ℕ) (x : Item) (old now next : V) (out one : ℕ) →
+      first ≤ length items → i < first → slice_get items i ≡ Some x →
+      Puts (take first items) (drop i (take first items)) old now out →
+      ((left : List Item) (w : V) (n : ℕ) → All left next w n → All (x ∷ left) now w (one + n)) →
+      Puts (take first items) (drop (i + 1) (take first items)) old next (out + one)
+  puts-one items first i x old now next out one within low is so step w n all =
+      let xs = take first items in
+      let at = first_at items first i x within low is in
+      let same : out + (one + n) ≡ out + one + n = omega arith in
+      subst (All xs old w) same (so w (one + n)
+      (subst (λ l. All l now w (one + n)) (sym at) (step (drop (i + 1) xs) w n all)))
 
-pub drops-rest : (xs rest left : List Item) (x : Item) (old now next : View) (dropped count : ℕ) → rest ≡ x ∷ left →
-    Puts xs rest old now dropped → DidNotInsert x now Memory next → count ≡ length rest →
-    PutInAll xs old next (dropped + count)
-drops-rest xs rest left x old now next dropped count is so did all =
-    so next count (subst (λ l. PutInAll l now next count) (sym is)
-    (inr (did, all ∙ ap (λ (l : List Item). length l) is)))
+  -- the item at this place is left out, and all after it
+  pub drops-rest : (items : List Item) (first i : ℕ) (x : Item) (old now next : V) (out : ℕ) →
+      first ≤ length items → i < first → slice_get items i ≡ Some x →
+      Puts (take first items) (drop i (take first items)) old now out →
+      ((left : List Item) (n : ℕ) → n ≡ length (x ∷ left) → All (x ∷ left) now next n) →
+      All (take first items) old next (out + (first - i))
+  drops-rest items first i x old now next out within low is so step =
+      let xs = take first items in
+      let at = first_at items first i x within low is in
+      let size = length-take-le first items within in
+      let rest = length-drop i xs in
+      let count : first - i ≡ length (drop i xs) = omega arith in
+      so next (first - i) (subst (λ l. All l now next (first - i)) (sym at)
+      (step (drop (i + 1) xs) (first - i) (count ∙ ap (λ (l : List Item). length l) at)))
 
-pub puts-all : (xs rest : List Item) (old now : View) (dropped : ℕ) → rest ≡ [] → Puts xs rest old now dropped →
-    PutInAll xs old now dropped
-puts-all xs rest old now dropped none so =
-    subst (PutInAll xs old now) (omega arith) (so now 0 (subst (λ l. PutInAll l now now 0) (sym none) (refl, refl)))
+  -- no item is left
+  pub puts-all : (items : List Item) (first i : ℕ) (old now : V) (out : ℕ) → first ≤ length items → first ≤ i →
+      Puts (take first items) (drop i (take first items)) old now out → All [] now now 0 →
+      All (take first items) old now out
+  puts-all items first i old now out within past so none =
+      let xs = take first items in
+      let size = length-take-le first items within in
+      let nothing = drop_all i xs (omega arith) in
+      subst (All xs old now) (omega arith) (so now 0 (subst (λ l. All l now now 0) (sym nothing) none))
 
 -- the first of what was learned, as many as are let in
 pub settled : (lets_in : ℕ → ℕ → ℕ → Type 0) (xs ys : List Item) (v w : View)

@@ -22,7 +22,7 @@ use Rattle.definitions.specs.Strategies.{Table}
 use Rattle.definitions.specs.Refusals.{misplaced, table_full, serials_spent}
 use Rattle.definitions.specs.Streams.{Before_hello, feed, messages_of}
 use Rattle.codec_laws.specs.Parts.{FeedsJoin}
-use Rattle.definitions.specs.Wire.{Profile, Event, Came, Ended}
+use Rattle.definitions.specs.Wire.{Profile, IsProfile, Event, Came, Ended}
 use Rattle.definitions.specs.Ends.{responder, is_over}
 use Rattle.definitions.specs.Engines.{responding, says}
 use Rattle.definitions.specs.Taking.{taken}
@@ -43,7 +43,7 @@ use Rattle.peer_threads.specs.Outcomes.{CameFirst}
 use Rattle.ends_core.specs.Sides.{peer_of}
 use Rattle.peer_threads.specs.Outcomes.{peer_at}
 use Rattle.outcome_core.specs.Sent.{sent_in}
-use Rattle.peer_threads.specs.Inboxes.{InboxState, HasRead, StopsAt, ReadOn}
+use Rattle.peer_threads.specs.Inboxes.{InboxState, HasRead, StopsAt, ReadOn, Reads}
 use Rattle.peer_threads.specs.Senders.{SenderState, sender_state, hello_due, HasWritten, Adds, BreaksIn}
 use Rattle.peer_threads.specs.Stops.{outcome_of}
 use Rattle.peer_threads.specs.Underway.{heard_as, most_sent, said_by, first_held, Underway, Exchanged, StopsFirst}
@@ -51,6 +51,7 @@ use Rattle.peer_threads.specs.Underway.{FirstCame, EndCame, IsFirstPart, Refuses
 use Rattle.peer_threads.specs.Underway.{WhyStopped, Stopped, Leaves, Spoke}
 use Rattle.peer_threads.proofs.Origins.{takes-on, takes-front}
 use Rattle.peer_threads.proofs.Hearings.{adds-none, heard-goes}
+use Rattle.peer_threads.proofs.InboxSteps.{reads_so}
 use Rattle.peer_threads.proofs.Breaks.{breaks-in-hello, cut-in-hello}
 use Rattle.peer_threads.specs.Laws.{Laws}
 use Rattle.peer_threads.proofs.Exchanges.{More, At, all-events, wrote-first, goes-on, stops-refusing}
@@ -109,6 +110,20 @@ module _ {F : Type 0} (S : Summary F) (W : Profile F) where
     written = x.written;
   }
 
+  -- a part came after the hello, and may stand first
+  pub began : (front : List ℕ) (unread left w x : Option (List ℕ)) (b c : InboxState) (o p : SenderState) (q : Part F) →
+      o ≡ sender_state false 0 → p ≡ sender_state true o.sent → Appends w x (hello_due W o) →
+      IsBytes front → HasRead W b front [] →
+      Reads W unread left b (λ bytes es. IsFirstPart q × HasRead W c bytes (es ++ Came q ∷ [])) →
+      IsFirstPart q × Exchanged W c p (traffic_after front unread left w x) (Came q ∷ [])
+  began front unread left w x b c o p q new now written fits came read =
+      let hello = greeted front unread w x b o p new now written fits came in
+      let one = read hello.bytes [] hello.are_bytes hello.came in (
+        one.3.0,
+        reads-on (traffic_after front unread unread w x) left b c p [] (Came q ∷ []) hello
+            (one.0, one.1, one.2, one.3.1),
+      )
+
   -- whoever would answer has heard the part that may stand first
   part-heard : (P : Peer) (p : Part F) → IsFirstPart p →
       hears S (responding P) (Came p ∷ []) ≡ Goes_on (first_held S P (p ∷ [])).end (first_held S P (p ∷ [])).taken
@@ -131,10 +146,14 @@ module _ {F : Type 0} (S : Summary F) (W : Profile F) where
       let h = first_held S P (p ∷ []) in
       ap (λ o. goes_unless o (Goes_on h.end (taken S h.end h.taken q))) (second-misplaced p q fits)
 
-  pub part-stops : (input : Seen) (b : InboxState) (bytes : List ℕ) (es : List (Event F))
-      (r : Result (Part F) Stop) (stop : Stop) →
-      r ≡ Err stop → StopsAt W input bytes es stop → FirstCame S W input b bytes es r
-  part-stops input b bytes es r stop is stopped = subst (FirstCame S W input b bytes es) (sym is) (inl stopped)
+  pub part-stops : IsProfile W → (input : Seen) (unread left : Option (List ℕ)) (b c : InboxState)
+      (r : Result (Part F) Stop) (stop : Stop) → r ≡ Err stop →
+      Reads W unread left b (λ bytes es. StopsAt W input bytes es stop) →
+      Reads W unread left b (λ bytes es. FirstCame S W input c bytes es r)
+  part-stops real input unread left b c r stop is read =
+      reads_so W real unread left b (λ bytes es. StopsAt W input bytes es stop)
+      (λ bytes es. FirstCame S W input c bytes es r)
+      (λ bytes es fits stopped. subst (FirstCame S W input c bytes es) (sym is) (inl stopped)) read
 
   pub part-came : (input : Seen) (b : InboxState) (bytes : List ℕ) (es : List (Event F)) (e : Event F)
       (r : Result (Part F) Stop) →
@@ -148,10 +167,14 @@ module _ {F : Type 0} (S : Summary F) (W : Profile F) where
   )
   part-came input b bytes es e (Err stop) came refused has = inr (record { event = e; came = has; refuses = refused })
 
-  pub end-stops-first : (p : Part F) (input : Seen) (b : InboxState) (bytes : List ℕ) (es : List (Event F))
-      (r : Result (Unit {0}) Stop) (stop : Stop) →
-      r ≡ Err stop → StopsAt W input bytes es stop → EndCame S W p input b bytes es r
-  end-stops-first p input b bytes es r stop is stopped = subst (EndCame S W p input b bytes es) (sym is) (inl stopped)
+  pub end-stops-first : IsProfile W → (input : Seen) (unread left : Option (List ℕ)) (b c : InboxState)
+      (r : Result (Unit {0}) Stop) (stop : Stop) → r ≡ Err stop →
+      Reads W unread left b (λ bytes es. StopsAt W input bytes es stop) →
+      (p : Part F) → Reads W unread left b (λ bytes es. EndCame S W p input c bytes es r)
+  end-stops-first real input unread left b c r stop is read p =
+      reads_so W real unread left b (λ bytes es. StopsAt W input bytes es stop)
+      (λ bytes es. EndCame S W p input c bytes es r)
+      (λ bytes es fits stopped. subst (EndCame S W p input c bytes es) (sym is) (inl stopped)) read
 
   pub end-came : (p : Part F) (input : Seen) (b : InboxState) (bytes : List ℕ) (es : List (Event F))
       (e : Event F) (r : Result (Unit {0}) Stop) →

@@ -5,9 +5,10 @@
 --     IsNoBreak stop                       neither the reader nor the writer failed
 --     HasFared start failed reads o        the reader failed only where the outcome says so; or it was read so often
 --     StopFares, Fares                     the same of a stop, and of what a call answers
+--     FaresOn, StepsOn                     a call fares so, and keeps in step, after so many reads and as many counted
 --     rest_of b                            what is left to be read and fed: each event makes it less
 use Rattle.std.specs.Prelude.{◌≡◌, ℕ, ◌+◌, ◌-◌, ◌*◌, ◌≤◌, ◌^◌, ◌⊎◌, min, false, Bool, length, Result, Ok, Err}
-use Rattle.std.specs.Prelude.{IsTrue, ⊤}
+use Rattle.std.specs.Prelude.{IsTrue, OnOk, ⊤}
 use Rattle.outcome_core.specs.declared.outcome.Outcome.{Outcome}
 use Rattle.outcome_core.specs.declared.outcome.Outcome.TheVariants as outcomes
 use Rattle.outcome_core.specs.declared.outcome.Direction.{Direction}
@@ -56,6 +57,13 @@ StopFares start failed reads (stops.Io side) = SideFares start failed reads side
 abbrev pub Fares : {X : Type 0} → ℕ → Bool → ℕ → Result X Stop → Type 0
 Fares start failed reads (Ok x) = failed ≡ false
 Fares start failed reads (Err stop) = StopFares start failed reads stop
+
+-- of a call before which so many reads were made, and so many of them counted, wherever the count began
+abbrev pub FaresOn : {X : Type 0} → ℕ → ℕ → Bool → ℕ → Result X Stop → Type 0
+FaresOn made counted failed reads r = (start : ℕ) → InStep start made counted → Fares start failed reads r
+
+abbrev pub StepsOn : {X : Type 0} → ℕ → ℕ → ℕ → ℕ → Result X Stop → Type 0
+StepsOn made counted reads count r = (start : ℕ) → InStep start made counted → OnOk r (InStep start reads count)
 
 abbrev pub rest_of : InboxState → ℕ
 rest_of b = (2 ^ 32 - b.reads) * 65537 + length b.waiting

@@ -17,7 +17,7 @@ ghost use Rattle.ends_core.specs.Roles.{most_of};
 ghost use Rattle.ends_core.specs.Turns.{fresh};
 ghost use Rattle.version_lock.specs.Calls.{Looked};
 ghost use Rattle.peer_threads.specs.Inboxes.{Counts, Reads, ReadOn};
-ghost use Rattle.peer_threads.specs.Listening.{InStep, Fares, HasFared, IsNoBreak};
+ghost use Rattle.peer_threads.specs.Listening.{InStep, Fares, FaresOn, StepsOn, HasFared, IsNoBreak};
 ghost use Rattle.peer_threads.specs.Choices.{ChosenSpeaks, ChosenUnopened, ChosenFirst};
 ghost use Rattle.peer_threads.specs.Hellos.{IsHello};
 ghost use Rattle.peer_threads.specs.Outcomes.{Origin, Reader, After, traffic, traffic_of, traffic_after, seen};
@@ -102,10 +102,8 @@ fn first_part<R: Read, F: Summary>(
         result) }
     ensures reads { Counts reader.old.reads reader.new.reads inbox.old inbox.new }
     ensures listens { OnOk result (reader.new.failed ≡ false) }
-    ensures fared { (start : ℕ) → InStep start reader.old.reads inbox.old.reads →
-        Fares start reader.new.failed reader.new.reads result }
-    ensures step { (start : ℕ) → InStep start reader.old.reads inbox.old.reads →
-        OnOk result (InStep start reader.new.reads inbox.new.reads) }
+    ensures fared { FaresOn reader.old.reads inbox.old.reads reader.new.failed reader.new.reads result }
+    ensures step { StepsOn reader.old.reads inbox.old.reads reader.new.reads inbox.new.reads result }
 {
     let event = inbox.next(alloc, reader)?;
     part_of(alloc, event)
@@ -124,10 +122,8 @@ fn first_end<R: Read, F: Summary>(
         result) }
     ensures reads { Counts reader.old.reads reader.new.reads inbox.old inbox.new }
     ensures listens { OnOk result (reader.new.failed ≡ false) }
-    ensures fared { (start : ℕ) → InStep start reader.old.reads inbox.old.reads →
-        Fares start reader.new.failed reader.new.reads result }
-    ensures step { (start : ℕ) → InStep start reader.old.reads inbox.old.reads →
-        OnOk result (InStep start reader.new.reads inbox.new.reads) }
+    ensures fared { FaresOn reader.old.reads inbox.old.reads reader.new.failed reader.new.reads result }
+    ensures step { StepsOn reader.old.reads inbox.old.reads reader.new.reads inbox.new.reads result }
 {
     let event = inbox.next(alloc, reader)?;
     end_of(event)
@@ -162,8 +158,8 @@ fn first_message<R: Read, W: Write, F: Summary>(
     ensures stopped_reads { IfErr result
         (λ _. connection.new.reader.reads + hello.reads ≤ connection.old.reader.reads + 2 ^ 32) }
     ensures listens { IfOk result (λ _. connection.new.reader.failed ≡ false) }
-    ensures fared { (start : ℕ) → InStep start connection.old.reader.reads hello.reads →
-        Fares start connection.new.reader.failed connection.new.reader.reads result }
+    ensures fared { FaresOn connection.old.reader.reads hello.reads connection.new.reader.failed
+        connection.new.reader.reads result }
     ensures step { (start : ℕ) → InStep start connection.old.reader.reads hello.reads →
         IfOk result (λ o. InStep start connection.new.reader.reads o.inbox.reads) }
 {
@@ -203,8 +199,8 @@ fn answer<T: Wait, G: Gate, P: Role, S: RangeStore, R: Read, W: Write, F: Summar
     ensures few { sender.new.sent ≤ most_sent (most_of P.side) party.old }
     ensures reads { begun.inbox.reads ≤ 2 ^ 32 →
         connection.new.reader.reads + begun.inbox.reads ≤ connection.old.reader.reads + 2 ^ 32 }
-    ensures fared { (start : ℕ) → InStep start connection.old.reader.reads begun.inbox.reads →
-        Fares start connection.new.reader.failed connection.new.reader.reads result }
+    ensures fared { FaresOn connection.old.reader.reads begun.inbox.reads connection.new.reader.failed
+        connection.new.reader.reads result }
 {
     exchange_laws::<F>();
     let Begun { mut inbox, first } = begun;

@@ -1,12 +1,12 @@
 //! What comes in on a connection: the one place that reads.
 
-ghost use Rattle.std.specs.Prelude.{◌≡◌, ◌-◌, ◌<◌, ◌≤◌, ◌^◌, ℕ, false, [], None, length, IfOk, IfErr, OnOk};
+ghost use Rattle.std.specs.Prelude.{◌≡◌, ◌-◌, ◌<◌, ◌≤◌, ◌^◌, false, [], None, length, IfOk, IfErr, OnOk};
 ghost use Rattle.std.specs.Prelude.{IfNone, IfSome};
 ghost use Rattle.definitions.specs.Accounts.{Seen};
 ghost use Rattle.wire_core.specs.Feeds.{fault_at};
 ghost use Rattle.peer_threads.specs.Hellos.{IsHello};
 ghost use Rattle.peer_threads.specs.Outcomes.{seen};
-ghost use Rattle.peer_threads.specs.Listening.{InStep, Fares, IsNoBreak, rest_of};
+ghost use Rattle.peer_threads.specs.Listening.{FaresOn, StepsOn, IsNoBreak, rest_of};
 ghost use Rattle.peer_threads.specs.Inboxes.{HasRead, StopsAt, Next, SoFar, Reads, Counts, Held, Fetched};
 
 use crate::hello::Hello;
@@ -88,10 +88,8 @@ impl<F: Summary> Inbox<F> {
             (λ bytes es. Next F.profile (seen reader.new.failed reader.new.ended) self.new bytes es result) }
         ensures reads { Counts reader.old.reads reader.new.reads self.old self.new }
         ensures listens { OnOk result (reader.new.failed ≡ false) }
-        ensures fared { (start : ℕ) → InStep start reader.old.reads self.old.reads →
-            Fares start reader.new.failed reader.new.reads result }
-        ensures step { (start : ℕ) → InStep start reader.old.reads self.old.reads →
-            OnOk result (InStep start reader.new.reads self.new.reads) }
+        ensures fared { FaresOn reader.old.reads self.old.reads reader.new.failed reader.new.reads result }
+        ensures step { StepsOn reader.old.reads self.old.reads reader.new.reads self.new.reads result }
         ensures less { OnOk result (rest_of self.new < rest_of self.old) }
     {
         'reads: loop {
@@ -127,10 +125,8 @@ impl<F: Summary> Inbox<F> {
         ensures more { OnOk result (2 ^ 32 - self.new.reads < 2 ^ 32 - self.old.reads) }
         ensures reads { Counts reader.old.reads reader.new.reads self.old self.new }
         ensures listens { OnOk result (reader.new.failed ≡ false) }
-        ensures fared { (start : ℕ) → InStep start reader.old.reads self.old.reads →
-            Fares start reader.new.failed reader.new.reads result }
-        ensures step { (start : ℕ) → InStep start reader.old.reads self.old.reads →
-            OnOk result (InStep start reader.new.reads self.new.reads) }
+        ensures fared { FaresOn reader.old.reads self.old.reads reader.new.failed reader.new.reads result }
+        ensures step { StepsOn reader.old.reads self.old.reads reader.new.reads self.new.reads result }
         ensures less { OnOk result (rest_of self.new ≤ rest_of self.old) }
     {
         if self.reads >= MAX_READS {

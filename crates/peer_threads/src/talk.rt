@@ -12,7 +12,7 @@ ghost use Rattle.peer_threads.specs.Inboxes.{Counts, ReadOn};
 ghost use Rattle.peer_threads.specs.Laws.{Laws};
 ghost use Rattle.peer_threads.specs.Outcomes.{Origin, traffic_of, seen};
 ghost use Rattle.peer_threads.specs.Senders.{Adds};
-ghost use Rattle.peer_threads.specs.Listening.{InStep, Fares};
+ghost use Rattle.peer_threads.specs.Listening.{FaresOn};
 ghost use Rattle.peer_threads.specs.declared.stop.Stop.TheVariants as stops;
 ghost use Rattle.peer_threads.specs.Underway.{Underway, Talked, Unsaid, Refuses, StopsBy, heard_as, most_sent, said_by};
 
@@ -183,8 +183,8 @@ pub(crate) fn talk<T: Wait, G: Gate, P: Role, S: RangeStore, R: Read, W: Write, 
     ensures few { sender.new.sent ≤ most_sent (most_of P.side) party.old }
     ensures reads { inbox.old.reads ≤ 2 ^ 32 →
         Counts connection.old.reader.reads connection.new.reader.reads inbox.old inbox.new }
-    ensures fared { (start : ℕ) → InStep start connection.old.reader.reads inbox.old.reads →
-        Fares start connection.new.reader.failed connection.new.reader.reads result }
+    ensures fared { FaresOn connection.old.reader.reads inbox.old.reads connection.new.reader.failed
+        connection.new.reader.reads result }
 {
     exchange_laws::<F>();
     let _ = party.sent(); // proof only: no more messages than the bound

@@ -5,18 +5,15 @@ ghost use Rattle.printing_core.specs.SessionTexts.{of_direction};
 ghost use Rattle.printing_core.specs.ItemTexts.{item_line};
 ghost use Rattle.printing_core.specs.ReportTexts.{stopped_line, learned_lines, more_line, first_lines, reported_text};
 ghost use Rattle.printing_core.specs.ReportTexts.{report_text, left_out_line};
-ghost use Rattle.definitions.specs.Sets.{set_of};
 
 use crate::fault::Fault;
 use crate::item_text::push_item;
-use crate::session_texts::{Naming, push_learned, push_lines};
+use crate::session_texts::{Naming, push_learned, push_lines, rising};
 use ends_core::Learned;
 use item_core::Item;
 use item_files::ItemForm;
 use outcome_core::{Direction, Outcome};
 use std::alloc::{AllocError, Global};
-use store_core::PackedItems;
-use store_core::spans::distinct;
 
 /// How sessions are reported.
 #[derive(Clone, Copy, Debug, PartialEq, Eq)]
@@ -59,13 +56,6 @@ fn first_of(items: &[Item], most: usize) -> &[Item]
     ensures { result.now ≡ take most items.now }
 {
     &items[..most.min(items.len())]
-}
-
-/// These items in rising order, each once.
-fn rising(alloc: Global, items: &PackedItems) -> Result<Vec<Item>, AllocError>
-    ensures { IfOk result (λ rising. rising.items ≡ set_of items.now) }
-{
-    Ok(distinct(items.to_vec(alloc)?))
 }
 
 /// Appends the first so many lines of both differences, and how many were left out, if any were.

@@ -82,18 +82,11 @@ pub(crate) fn push_lines(
     Ok(())
 }
 
-/// Appends a line for each item, in rising order.
-fn push_rising(
-    alloc: Global,
-    text: &mut String,
-    naming: Naming<'_>,
-    items: &PackedItems,
-) -> Result<(), AllocError>
-    ensures { OnOk result (string_bytes text.new ≡ string_bytes text.old
-        ++ flat_map (named_line naming.entry.form naming.entry.name.now) (set_of items.now)) }
+/// These items in rising order, each once.
+pub(crate) fn rising(alloc: Global, items: &PackedItems) -> Result<Vec<Item>, AllocError>
+    ensures { IfOk result (λ rising. rising.items ≡ set_of items.now) }
 {
-    let rising = distinct(items.to_vec(alloc)?);
-    push_lines(alloc, text, naming, &rising)
+    Ok(distinct(items.to_vec(alloc)?))
 }
 
 /// Appends a line for each own item that the peer lacks, and then one for each item of the peer that is lacked here.
@@ -105,13 +98,14 @@ pub(crate) fn push_learned(
 ) -> Result<(), AllocError>
     ensures { OnOk result (string_bytes text.new ≡ string_bytes text.old ++ learned_text form learned.now) }
 {
-    let ours = Naming { name: "ours", form };
-    let theirs = Naming {
+    let ours = rising(alloc, learned.ours())?;
+    push_lines(alloc, text, Naming { name: "ours", form }, &ours)?;
+    let theirs = rising(alloc, learned.theirs())?;
+    let name = Naming {
         name: "theirs",
         form,
     };
-    push_rising(alloc, text, ours, learned.ours())?;
-    push_rising(alloc, text, theirs, learned.theirs())
+    push_lines(alloc, text, name, &theirs)
 }
 
 /// The version, and the messages sent, as two lines.

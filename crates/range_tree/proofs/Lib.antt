@@ -1,3 +1,4 @@
+pub mod Fields
 pub mod Fits
 pub mod Groups
 pub mod Growing

@@ -8,9 +8,8 @@ use Rattle.std.proofs.lemmas.List.{take_more, append-nil}
 use Rattle.std.proofs.lemmas.Option.{get_or_from_slice_get}
 use Rattle.std.proofs.lemmas.List.Concat.{flat_map-append}
 use Rattle.definitions.specs.Items.{Item, IsItem}
-use Rattle.definitions.specs.Fingerprints.{Lanes, two_lanes}
+use Rattle.definitions.specs.Fingerprints.{Lanes}
 use Rattle.store_core.specs.Sums.{running_sums}
-use Rattle.store_core.proofs.Running.{sums-length}
 use Rattle.range_tree.specs.Nodes.{span, first_item}
 use Rattle.range_tree.specs.Packs.{joined, ends_from, pieces, IsPack}
 use Rattle.range_tree.proofs.Places.{put, length_put}
@@ -194,16 +193,6 @@ pub pack_whole : (xs : List Item) (bytes ends : List ℕ) (sums : List Lanes) �
     IsPack (pieces 0 ends bytes) bytes ends sums
 pack_whole xs bytes ends sums pack =
     subst (λ ys. IsPack ys bytes ends sums) (sym (pack_is xs bytes ends sums pack)) pack
-
--- what the fields of packed items are, where it is known which items these are
-pub pack_now : (xs : List Item) (bytes ends : List ℕ) (sums : List Lanes) →
-    IsPack (pieces 0 ends bytes) bytes ends sums → pieces 0 ends bytes ≡ xs → IsPack xs bytes ends sums
-pack_now xs bytes ends sums pack is = subst (λ ys. IsPack ys bytes ends sums) is pack
-
--- there are as many sums as items
-pub sums_long : (xs : List Item) (bytes ends : List ℕ) (sums read : List Lanes) → IsPack xs bytes ends sums →
-    read ≡ sums → length read ≡ length xs
-sums_long xs bytes ends sums read pack same = ap length (same ∙ pack.are_sums) ∙ sums-length two_lanes.of [] xs
 
 pub pack_none : IsPack [] [] [] []
 pack_none =

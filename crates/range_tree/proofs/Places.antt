@@ -1,7 +1,7 @@
 -- Spans of lists, and lists that are kept in nodes.
 use Rattle.std.proofs.Common.{◌≡◌, ℕ, None, Some, zero, suc, ◌+◌, ◌-◌, ◌<◌, ◌≤◌, Bool, not, ◌&&◌, filter, List, [], ◌∷◌}
 use Rattle.std.proofs.Common.{◌++◌}
-use Rattle.std.proofs.Common.{take, drop, map, length, get_or, refl, sym, ap, ◌∙◌, arith}
+use Rattle.std.proofs.Common.{take, drop, map, length, get_or, refl, sym, ap, subst, ◌∙◌, arith}
 use Rattle.std.specs.List.{flat_map, slice_get}
 use Rattle.std.proofs.lemmas.List.{drop_more, take_more, take-append-drop, take-append-le, drop-append-le, append_assoc}
 use Rattle.std.proofs.lemmas.List.{get_or-drop, get_or-take, length-drop}
@@ -96,6 +96,11 @@ pub node_read : {T P : Type 0} (v : T → P) (xs : List T) (ps : List P) (i : �
     x ≡ get_or xs i x → p ≡ v x → p ≡ get_or ps i p
 node_read v xs ps i x p values e is =
     is ∙ sym (value_read v xs i x e) ∙ (λ j. get_or (values j) i (sym is j))
+
+-- what holds of the element at that place holds of what is read there
+pub of_read : {T P : Type 0} (Q : P → Type 0) (v : T → P) (xs : List T) (ps : List P) (i : ℕ) (x : T) (p : P) →
+    map v xs ≡ ps → x ≡ get_or xs i x → p ≡ v x → Q (get_or ps i p) → Q p
+of_read Q v xs ps i x p values e is known = subst Q (sym (node_read v xs ps i x p values e is)) known
 
 pub get_front : {X : Type 0} (xs ys : List X) (n : ℕ) → n < length xs → slice_get (xs ++ ys) n ≡ slice_get xs n
 get_front [] ys n low = absurd (omega arith)

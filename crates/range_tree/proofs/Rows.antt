@@ -174,6 +174,9 @@ module _ {P : Type 0} (content : P → List Item) (ps : List P) where
         let rise = before_rises (i + 1) (j + 1) (omega arith) in
         omega arith)
 
+    pub read_rises : (read : List ℕ) → read ≡ ends → IsNonDecreasingBy (λ e. e) read
+    read_rises read same = subst (IsNonDecreasingBy (λ e. e)) (sym same) ends_rise
+
     -- where the nodes before k are those that end before a place
     module _ (place k : ℕ) (parted : PassFirst (λ e. leb e place) ends k) (most : k ≤ length ends) where
       pub begins_before : length (items_before k) ≤ place

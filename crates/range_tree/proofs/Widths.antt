@@ -1,6 +1,6 @@
 -- Lists of nodes each of which is wide enough.
 use Rattle.std.proofs.Common.{◌≡◌, ℕ, zero, suc, ◌+◌, ◌*◌, ◌<◌, ◌≤◌, List, [], ◌∷◌, ◌++◌, take, drop, map, length}
-use Rattle.std.proofs.Common.{get_or, arith}
+use Rattle.std.proofs.Common.{get_or, sym, ap, subst, ◌∙◌, arith}
 use Rattle.std.specs.List.{flat_map, AllByRecursion}
 use Rattle.std.proofs.lemmas.List.{length-append}
 use Rattle.range_tree.specs.declared.node.Grown.{Grown}
@@ -13,6 +13,7 @@ use Rattle.range_tree.specs.Leaves.{leaf_items, leaf_width}
 use Rattle.range_tree.specs.Branches.{branch_items, branch_width}
 use Rattle.range_tree.specs.declared.tree.Tree.{Tree}
 use Rattle.range_tree.specs.Trees.{tree_items}
+use Rattle.range_tree.proofs.Places.{map_take, map_drop}
 
 module _ {P : Type 0} (width : P → ℕ) where
   abbrev pub IsWide : List P → Type 0
@@ -73,23 +74,16 @@ module _ {P : Type 0} (width : P → ℕ) where
       (grown_wide g (width (get_or (p ∷ q ∷ ps) i d)) (wide_get (p ∷ q ∷ ps) i d low full) grew))
       (wide_drop (i + 1) (p ∷ q ∷ ps) full))
 
-  pub front_full : {T : Type 0} (v : T → P) (n : ℕ) (xs : List T) → 1 < length (map v xs) → IsFull width (map v xs) →
-      IsFull width (map v (take n xs))
-  front_full v n xs more full = full_from_wide (map v (take n xs)) (mapped v n xs (wide_from_full (map v xs) more full))
-    where
-      mapped : {T : Type 0} (v : T → P) (n : ℕ) (xs : List T) → IsWide (map v xs) → IsWide (map v (take n xs))
-      mapped v zero xs all = tt
-      mapped v (suc n) [] all = tt
-      mapped v (suc n) (x ∷ xs) all = (all.0, mapped v n xs all.1)
-
-  pub back_full : {T : Type 0} (v : T → P) (n : ℕ) (xs : List T) → 1 < length (map v xs) → IsFull width (map v xs) →
-      IsFull width (map v (drop n xs))
-  back_full v n xs more full = full_from_wide (map v (drop n xs)) (mapped v n xs (wide_from_full (map v xs) more full))
-    where
-      mapped : {T : Type 0} (v : T → P) (n : ℕ) (xs : List T) → IsWide (map v xs) → IsWide (map v (drop n xs))
-      mapped v zero xs all = all
-      mapped v (suc n) [] all = tt
-      mapped v (suc n) (x ∷ xs) all = mapped v n xs all.1
+  -- both parts of nodes that are known by their values
+  pub parts_full : {T : Type 0} (v : T → P) (n : ℕ) (xs : List T) (ps : List P) → map v xs ≡ ps → 1 < length ps →
+      IsFull width ps → IsFull width (map v (take n xs)) × IsFull width (map v (drop n xs))
+  parts_full v n xs ps values more full =
+      let wide = wide_from_full ps more full in
+      let front = full_from_wide (take n ps) (wide_take n ps wide) in
+      let back = full_from_wide (drop n ps) (wide_drop n ps wide) in (
+        subst (IsFull width) (sym (map_take v n xs ∙ ap (take n) values)) front,
+        subst (IsFull width) (sym (map_drop v n xs ∙ ap (drop n) values)) back,
+      )
 
 -- ---- how many items wide nodes hold at least
 

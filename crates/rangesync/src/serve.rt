@@ -1,6 +1,6 @@
 //! Sessions with those who connect.
 
-ghost use Rattle.std.specs.Prelude.{◌≡◌, ◌≤◌};
+ghost use Rattle.std.specs.Prelude.{◌≡◌, ◌≤◌, true, false, Some};
 ghost use Rattle.std.specs.Arc.{arc_value};
 ghost use Rattle.settings_core.specs.Spans.{IsWorkerCount};
 
@@ -59,6 +59,10 @@ impl<'a> Serving<'a> {
     /// What is asked for in these words, of a set that is called so.
     pub fn asked(words: ServeWords<'a>, set: Option<SetName<'a>>) -> Serving<'a>
         ensures workers { result.workers ≡ words.entry.workers }
+        ensures files { (result.paths.report ≡ words.entry.report) × (result.paths.learned ≡ words.entry.learned)
+            × (result.paths.keep ≡ words.entry.keep) }
+        ensures bounded { words.entry.read_only ≡ false → result.rules.most_learned ≡ words.entry.most_learned }
+        ensures shut { words.entry.read_only ≡ true → result.rules.most_learned ≡ Some 0 }
     {
         let most_learned = if words.read_only {
             Some(0)

@@ -98,6 +98,13 @@ reached_within weights n reached cut w total ws weighed at =
 abbrev pub shares_left : List ℕ → ℕ → ℕ → ℕ → List ℕ → List ℕ
 shares_left weights n reached cut ws = without_zeros (differences cut (cuts_by weights n (running_sums reached ws)))
 
+left_more : (weights : List ℕ) (n reached cut w next : ℕ) (ws : List ℕ) → IsNext weights n reached w next →
+    shares_left weights n reached cut (w ∷ ws)
+    ≡ without_zeros ((next - cut) ∷ differences next (cuts_by weights n (running_sums (reached + w) ws)))
+left_more weights n reached cut w next ws is = ap
+    (λ m. without_zeros ((m - cut) ∷ differences m (cuts_by weights n (running_sums (reached + w) ws))))
+    (sym is.next_is)
+
 -- the shares so far, and those that are left, are all
 pub record IsCounted (weights : List ℕ) (n reached cut : ℕ) (ws : List ℕ) (cutting : Cutting) : Type 0 where
   pub count : cutting.count + length (shares_left weights n reached cut ws) ≡ length (shares_by (Split weights) n)
@@ -109,9 +116,7 @@ pub counted_more : (weights : List ℕ) (n reached cut w next : ℕ) (ws : List 
     new.count ≡ old.count + length (without_zeros ((next - cut) ∷ [])) → new.greatest ≡ max old.greatest (next - cut) →
     IsCounted weights n reached cut (w ∷ ws) old → IsCounted weights n (reached + w) next ws new
 counted_more weights n reached cut w next ws old new is count top counted =
-    let rest : ℕ → List ℕ = λ m. (m - cut) ∷ differences m (cuts_by weights n (running_sums (reached + w) ws)) in
-    let same : shares_left weights n reached cut (w ∷ ws) ≡ without_zeros (rest next) =
-    ap (λ m. without_zeros (rest m)) (sym is.next_is) in
+    let same = left_more weights n reached cut w next ws is in
     record {
       count =
           let more = count_more (next - cut) (differences next (cuts_by weights n (running_sums (reached + w) ws))) in
@@ -130,9 +135,7 @@ pub taken_on : (weights : List ℕ) (n j reached cut w next left : ℕ) (ws : Li
     IsTaken weights n j reached cut left (w ∷ ws) →
     IsTaken weights n j (reached + w) next (left - cond (nat_lt 0 (next - cut)) 1 0) ws
 taken_on weights n j reached cut w next left ws is at some taken =
-    let rest : ℕ → List ℕ = λ m. (m - cut) ∷ differences m (cuts_by weights n (running_sums (reached + w) ws)) in
-    let same : shares_left weights n reached cut (w ∷ ws) ≡ without_zeros (rest next) =
-    ap (λ m. without_zeros (rest m)) (sym is.next_is) in
+    let same = left_more weights n reached cut w next ws is in
     record {
       total =
           let below = cut_below weights n reached cut w next ws is at in
@@ -194,3 +197,27 @@ one_if_above cut next one e = elim (cases_lt cut next) [
   | inr below ↦ (rw (le-ltb cut next below) at e)
       ∙ sym (cond-false (nat_lt 0 (next - cut)) 1 0 (le-ltb 0 (next - cut) (omega arith)))
 ]
+
+-- ---- at the weight that is read
+
+module _ {weights : List ℕ} {n reached cut total : ℕ} (items : List ℕ) (i : ℕ) (weighed : IsWeighed weights total)
+    (same : items ≡ weights) (here : i < length items) (at : IsAt weights n reached cut (drop i weights)) where
+  pub at_read : IsAt weights n reached cut (slice_index_or items i 0 ∷ drop (i + 1) weights)
+  at_read = next_at (λ (ws : List ℕ). IsAt weights n reached cut ws) weights items i 0 same here at
+
+  pub reached_low : reached + slice_index_or items i 0 ≤ total
+  reached_low =
+      reached_within weights n reached cut (slice_index_or items i 0) total (drop (i + 1) weights) weighed at_read
+
+  pub reached_small : reached + slice_index_or items i 0 ≤ 65536
+  reached_small = omega (arith, reached_low, total_small weights total weighed)
+
+  module _ (next : ℕ) (cuts : next ≡ n * (reached + slice_index_or items i 0) / total) where
+    next_read : IsNext weights n reached (slice_index_or items i 0) next
+    next_read = is_next weights n reached (slice_index_or items i 0) total next weighed cuts
+
+    pub cut_rises : cut ≤ next
+    cut_rises = cut_below weights n reached cut (slice_index_or items i 0) next (drop (i + 1) weights) next_read at_read
+
+    pub at_more : IsAt weights n (reached + slice_index_or items i 0) next (drop (i + 1) weights)
+    at_more = at_next weights n reached cut (slice_index_or items i 0) next (drop (i + 1) weights) next_read at_read

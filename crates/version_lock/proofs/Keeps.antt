@@ -105,6 +105,25 @@ began_more o l views w empty zero_of b =
 pub began : {o l : LogState} (s : Table) (r : OneLog o l s) → Began o l s.views
 began s r = (r.cap, (r.begins, r.entries, r.each_later), r.numbers)
 
+-- what the rule says of the word, the log at home and each view
+abbrev pub Stands : LogState → Table → Type 0
+Stands l s =
+    (Free s l ⊎ Held s l) × ((j : ℕ) (u : View) → At s.views j u → u.spent ≡ false → Fits l u) × Apart s.views
+
+-- that, and how the log began, are the rule
+pub logs : (o l : LogState) (s : Table) → IsLog l → Stands l s → Began o l s.views → OneLog o l s
+logs o l s good r b = record {
+  is_log = good;
+  place = r.0;
+  each = r.1;
+  apart = r.2;
+  cap = b.0;
+  begins = b.1.0;
+  entries = b.1.1;
+  each_later = b.1.2;
+  numbers = b.2;
+}
+
 -- ---- a try
 
 -- a view looks for the log: what it entered and counts stays, and what it says of the log
@@ -115,18 +134,12 @@ looked_at : {o l : LogState} (s : Table) (r : OneLog o l s) (id : ℕ) (v w : Vi
     ⊎ Held record { words = words; homes = homes; views = set s.views id w } l →
     OneLog o l record { words = words; homes = homes; views = set s.views id w }
 looked_at {o} {l} s r id v w words homes at fits spent writer entered numbers place =
-    let b = began_kept o l s.views id v w at entered numbers (began s r) in record {
-      is_log = r.is_log;
-      place = place;
-      each = each_set (λ j u. u.spent ≡ false → Fits l u) s.views id w
-          (λ live. fits (r.each id v at (sym spent ∙ live))) (λ j u _ e. r.each j u e);
-      apart = apart_set s.views id v w at spent writer r.apart;
-      cap = b.0;
-      begins = b.1.0;
-      entries = b.1.1;
-      each_later = b.1.2;
-      numbers = b.2;
-    }
+    logs o l record { words = words; homes = homes; views = set s.views id w } r.is_log (
+      place,
+      each_set (λ j u. u.spent ≡ false → Fits l u) s.views id w (λ live. fits (r.each id v at (sym spent ∙ live)))
+          (λ j u _ e. r.each j u e),
+      apart_set s.views id v w at spent writer r.apart,
+    ) (began_kept o l s.views id v w at entered numbers (began s r))
 
 -- the log is at home, and the seat takes it
 takes_log : {o l : LogState} (s : Table) (r : OneLog o l s) (id : ℕ) (v : View) → At s.views id v → Free s l →
@@ -280,24 +293,19 @@ frees : {o l' : LogState} (s : Table) (r : OneLog o l' s) (id : ℕ) (v w : View
     (w.spent ≡ false → Fits l w) → ((j : ℕ) (u : View) → j ≢ id → At s.views j u → u.spent ≡ false → Fits l u) →
     Apart (set s.views id w) → Began o l (set s.views id w) →
     OneLog o l (stepped s 0 0 id ((0, Some l) ∷ []) w gives)
-frees s r id v w l at holds idle good mine others apart b =
+frees {o} s r id v w l at holds idle good mine others apart b =
     let held = held_by s r id v at holds in
     let nobody : (j : ℕ) (u : View) → j ≢ id → At s.views j u → u.holding ≡ false =
-    λ j u other e. not_true (λ t. other (held.alone j u e t ∙ sym (held.alone id v at holds))) in record {
-      is_log = good;
-      place = inl record {
+    λ j u other e. not_true (λ t. other (held.alone j u e t ∙ sym (held.alone id v at holds))) in
+    logs o l (stepped s 0 0 id ((0, Some l) ∷ []) w gives) good (
+      inl record {
         word = ap (λ (ws : List ℕ). set ws 0 0) held.word;
         home = set_only s.homes (some (Some l)) held.away;
         nobody = each_set (λ j u. u.holding ≡ false) s.views id w idle nobody;
-      };
-      each = each_set (λ j u. u.spent ≡ false → Fits l u) s.views id w mine others;
-      apart = apart;
-      cap = b.0;
-      begins = b.1.0;
-      entries = b.1.1;
-      each_later = b.1.2;
-      numbers = b.2;
-    }
+      },
+      each_set (λ j u. u.spent ≡ false → Fits l u) s.views id w mine others,
+      apart,
+    ) b
 
 -- by the views of a table whose log the view found
 module _ {o l : LogState} (s : Table) (r : OneLog o l s) (id : ℕ) (v : View) (at : At s.views id v)

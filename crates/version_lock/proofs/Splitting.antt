@@ -8,7 +8,7 @@ use Rattle.std.proofs.lemmas.List.Elements.{All-nil, All-cons, All-append}
 use Rattle.atomic_table.specs.Table.{Splits, Joins}
 use Rattle.atomic_table.proofs.Lists.{set_else, at_longer, at_snoc}
 use Rattle.definitions.specs.Histories.{History}
-use Rattle.version_log.specs.Logs.{LogState, IsLog}
+use Rattle.version_log.specs.Logs.{LogState}
 use Rattle.version_lock.specs.declared.view.View.{View}
 use Rattle.version_lock.specs.Beginnings.{StartsWith, entries_by}
 use Rattle.version_lock.specs.Lawful.{Table, Free, Held, Fits, Apart, OneLog, Blank, HasLog, Lawful, total}
@@ -17,7 +17,7 @@ use Rattle.version_lock.specs.Views.{split_from, split_off, joined_with, spent, 
 use Rattle.version_lock.proofs.Totals.{total_set}
 use Rattle.version_lock.proofs.Shares.{shared_set, shared_more, shared_split, shared_joined, shared_noted}
 use Rattle.version_lock.proofs.Entering.{entered_joined}
-use Rattle.version_lock.proofs.Keeps.{Began, began, began_kept, began_more, still_held}
+use Rattle.version_lock.proofs.Keeps.{Began, Stands, logs, began, began_kept, began_more, still_held}
 use Rattle.version_lock.proofs.Seated.{At, no_writer, not_both, each_set, apart_set, apart_spent, apart_more}
 
 -- a new view comes, which is not enrolled
@@ -25,13 +25,11 @@ comes : {o l : LogState} (s : Table) (r : OneLog o l s) (w : View) → w.holding
     w.entered ≡ [] → w.numbers ≡ 0 → Fits l w →
     OneLog o l record { words = s.words; homes = s.homes; views = s.views ++ w ∷ [] }
 comes {o} {l} s r w idle unnamed empty zero_of fits =
-    let b = began_more o l s.views w empty zero_of (began s r) in
     let now : (j : ℕ) (u : View) → At (s.views ++ w ∷ []) j u → At s.views j u ⊎ (w ≡ u) =
     λ j u e. at_snoc s.views w u j e in
     let idle_as : (u : View) → w ≡ u → u.holding ≡ false = λ u e. subst (λ (x : View). x.holding ≡ false) e idle in
-    record {
-      is_log = r.is_log;
-      place = ⊎_elim
+    logs o l record { words = s.words; homes = s.homes; views = s.views ++ w ∷ [] } r.is_log (
+      ⊎_elim
           (λ (free : Free s l). inl record {
             word = free.word;
             home = free.home;
@@ -49,21 +47,11 @@ comes {o} {l} s r w idle unnamed empty zero_of fits =
                 ⊎_elim (λ (t : At s.views j u). held.alone j u t h) (λ (t : w ≡ u). absurd (not_both h (idle_as u t)))
                 (now j u e);
           })
-          r.place;
-      each = λ j u e live.
-          ⊎_elim (λ (t : At s.views j u). r.each j u t live) (λ (t : w ≡ u). subst (Fits l) t fits) (now j u e);
-      apart = apart_more s.views w unnamed r.apart;
-      cap = b.0;
-      begins = b.1.0;
-      entries = b.1.1;
-      each_later = b.1.2;
-      numbers = b.2;
-    }
-
--- what the rule says of the word, the log at home and each view
-abbrev Stands : LogState → Table → Type 0
-Stands l s =
-    (Free s l ⊎ Held s l) × ((j : ℕ) (u : View) → At s.views j u → u.spent ≡ false → Fits l u) × Apart s.views
+          r.place,
+      λ j u e live.
+          ⊎_elim (λ (t : At s.views j u). r.each j u t live) (λ (t : w ≡ u). subst (Fits l) t fits) (now j u e),
+      apart_more s.views w unnamed r.apart,
+    ) (began_more o l s.views w empty zero_of (began s r))
 
 -- a view that is not holding changes, and the log stays
 quiet : (l : LogState) (s : Table) (r : Stands l s) (id : ℕ) (v w : View) → At s.views id v → v.holding ≡ false →
@@ -84,19 +72,6 @@ quiet l s r id v w at idle idle' fits apart = (
 
 stands : {o l : LogState} (s : Table) (r : OneLog o l s) → Stands l s
 stands s r = (r.place, r.each, r.apart)
-
-logs : (o l : LogState) (s : Table) → IsLog l → Stands l s → Began o l s.views → OneLog o l s
-logs o l s good r b = record {
-  is_log = good;
-  place = r.0;
-  each = r.1;
-  apart = r.2;
-  cap = b.0;
-  begins = b.1.0;
-  entries = b.1.1;
-  each_later = b.1.2;
-  numbers = b.2;
-}
 
 -- ---- a seat or a note is split off
 

@@ -1,38 +1,26 @@
-use Rattle.std.proofs.Common.{rules, arith, ◌≡◌, ◌+◌, ◌-◌, ◌≤◌, drop, take, length}
-use Rattle.std.proofs.lemmas.List.{drop_all, length-drop, length-take-le}
-use Rattle.store_core.proofs.Packs.{first_at}
-use Rattle.peer_loops.proofs.Puttings.{puts-one, puts-all, drops-rest}
+use Rattle.std.proofs.Common.{rules, ◌≤◌, inl, inr, refl}
+use Rattle.peer_loops.specs.Puttings.{PutsAll}
+use Rattle.peer_threads.proofs.Puttings.{puts-one, puts-all, drops-rest}
 use Rattle.peer_loops.proofs.putting.put_first.Goals as goal
 
 pub loop-place-preserved : goal.loop-place-preserved
 loop-place-preserved g c =
-    let xs = take c.args.first c.args.items.now in
-    let i = c.loop-place.place in
-    let x = c.item.result in
-    let at = first_at c.args.items.now c.args.first i x c.requires c.loop-place-test.true c.item.ensures in
-    let so_far = puts-one xs (drop i xs) (drop (i + 1) xs) x c.args.log.now c.loop-place.log
-    c.put_one.new.log c.loop-place.left_out c.in-Ok.count at c.loop-place.invariant.so_far
-    c.in-Ok.ensures.put in
+    let next = c.put_one.new.log in
+    let so_far = puts-one PutsAll c.args.items.now c.args.first c.loop-place.place c.item.result c.args.log.now
+    c.loop-place.log next c.loop-place.left_out c.in-Ok.count c.requires c.loop-place-test.true c.item.ensures
+    c.loop-place.invariant.so_far (λ left w n all. inl (next, c.in-Ok.count, n, c.in-Ok.ensures.put, all, refl)) in
     search (rules, so_far)
 
 pub returns-in-Err-clause-put : goal.returns-in-Err-clause-put
 returns-in-Err-clause-put g c =
-    let xs = take c.args.first c.args.items.now in
-    let i = c.loop-place.place in
-    let x = c.item.result in
-    let at = first_at c.args.items.now c.args.first i x c.requires c.loop-place-test.true c.item.ensures in
-    let size = length-take-le c.args.first c.args.items.now c.requires in
-    let rest = length-drop i xs in
-    let left : c.args.first - i ≡ length (drop i xs) = omega arith in
     let memory = c.in-Err.ensures.memory in
-    let dropped = drops-rest xs (drop i xs) (drop (i + 1) xs) x c.args.log.now c.loop-place.log c.put_one.new.log
-    c.loop-place.left_out (c.args.first - i) at c.loop-place.invariant.so_far memory.0 memory.1 left in
+    let dropped = drops-rest PutsAll c.args.items.now c.args.first c.loop-place.place c.item.result c.args.log.now
+    c.loop-place.log c.put_one.new.log c.loop-place.left_out c.requires c.loop-place-test.true c.item.ensures
+    c.loop-place.invariant.so_far (λ left n count. inr (memory.0, memory.1, count)) in
     search (rules, dropped)
 
 pub returns-clause-put : goal.returns-clause-put
 returns-clause-put g c =
-    let xs = take c.args.first c.args.items.now in
-    let size = length-take-le c.args.first c.args.items.now c.requires in
     let past : c.args.first ≤ c.loop-place.place = search rules in
-    puts-all xs (drop c.loop-place.place xs) _ _ _ (drop_all c.loop-place.place xs (omega arith))
-    c.loop-place.invariant.so_far
+    puts-all PutsAll c.args.items.now c.args.first c.loop-place.place _ _ _ c.requires past
+    c.loop-place.invariant.so_far (refl, refl)

@@ -7,8 +7,8 @@ use Rattle.peer_threads.specs.Outcomes.{seen}
 use Rattle.peer_threads.specs.Listening.{InStep}
 use Rattle.peer_threads.specs.Underway.{IsNone}
 use Rattle.peer_threads.proofs.Listenings.{fares-by, unbroken}
-use Rattle.peer_threads.proofs.Serving.{greeted, reads-on, stops-ungreeted, stops-broken-after, stops-partless}
-use Rattle.peer_threads.proofs.Serving.{stops-endless, told}
+use Rattle.peer_threads.proofs.Serving.{began, greeted, reads-on, stops-ungreeted, stops-broken-after}
+use Rattle.peer_threads.proofs.Serving.{stops-partless, stops-endless, told}
 use Rattle.peer_threads.proofs.engines.first_message.Goals as goal
 
 pub returns-in_err-inbox-clause-stopped : goal.returns-in_err-inbox-clause-stopped
@@ -51,29 +51,22 @@ returns-in_err-first_end-clause-stopped g c =
     let is = err_from_is_err_and c.from_residual-in_err-first_end.result c.from_residual-in_err-first_end.ensures.1 in
     told c.from_residual-in_err-first_end.result c.in_err-first_end.field-0.0 _ (is.1 ∙ ap Err is.2) (λ P.
     let p = c.in_ok-first.first in
-    let x = greeted g.F.Summary.summary g.F.Summary.profile _ _ _ _ _ _ _ c.requires.new c.in_ok-greet.ensures.greeted
-    c.in_ok-greet.ensures.whole
-    c.requires.hello.fits c.in_ok-inbox.ensures.read in
-    let one = c.in_ok-first.ensures.read x.bytes [] x.are_bytes x.came in
-    let y = reads-on g.F.Summary.summary g.F.Summary.profile _ _ _ _ _ [] (Came p ∷ []) x
-    (one.0, one.1, one.2, one.3.1) in
+    let (first, y) = began g.F.Summary.summary g.F.Summary.profile _ _ _ _ _ _ _ _ _ p c.requires.new
+    c.in_ok-greet.ensures.greeted c.in_ok-greet.ensures.whole c.requires.hello.fits c.in_ok-inbox.ensures.read
+    c.in_ok-first.ensures.read in
     let stopped = stops-endless g.F.Summary.summary g.F.Summary.profile c.exchange_laws.ensures P p _ _ _ _ _ _
-    c.greet.new.writer.failed c.in_err-first_end.field-0.0 one.3.0 y
-    (c.in_err-first_end.ensures.read p one.3.0 y.bytes (Came p ∷ []) y.are_bytes y.came) in
+    c.greet.new.writer.failed c.in_err-first_end.field-0.0 first y
+    (c.in_err-first_end.ensures.read p first y.bytes (Came p ∷ []) y.are_bytes y.came) in
     search (rules, stopped))
 
 pub returns-clause-met : goal.returns-clause-met
 returns-clause-met g c =
     let p = c.in_ok-first.first in
-    let x = greeted g.F.Summary.summary g.F.Summary.profile _ _ _ _ _ _ _ c.requires.new c.in_ok-greet.ensures.greeted
-    c.in_ok-greet.ensures.whole
-    c.requires.hello.fits c.in_ok-inbox.ensures.read in
-    let one = c.in_ok-first.ensures.read x.bytes [] x.are_bytes x.came in
-    let y = reads-on g.F.Summary.summary g.F.Summary.profile _ _ _ _ _ [] (Came p ∷ []) x
-    (one.0, one.1, one.2, one.3.1) in
-    let two = c.in_ok-first_end.ensures.read p one.3.0 y.bytes (Came p ∷ []) y.are_bytes y.came in
-    let z = reads-on g.F.Summary.summary g.F.Summary.profile _ _ _ _ _ (Came p ∷ []) (Came p ∷ Ended ∷ []) y two in
-    (one.3.0, z)
+    let (first, y) = began g.F.Summary.summary g.F.Summary.profile _ _ _ _ _ _ _ _ _ p c.requires.new
+    c.in_ok-greet.ensures.greeted c.in_ok-greet.ensures.whole c.requires.hello.fits c.in_ok-inbox.ensures.read
+    c.in_ok-first.ensures.read in
+    let two = c.in_ok-first_end.ensures.read p first y.bytes (Came p ∷ []) y.are_bytes y.came in
+    (first, reads-on g.F.Summary.summary g.F.Summary.profile _ _ _ _ _ (Came p ∷ []) (Came p ∷ Ended ∷ []) y two)
 
 pub returns-in_err-inbox-clause-fared : goal.returns-in_err-inbox-clause-fared
 returns-in_err-inbox-clause-fared g c = λ start step.

@@ -2,7 +2,7 @@ use Rattle.std.proofs.Common.{◌≡◌, ℕ, List, [], ◌∷◌, ◌++◌, Err
 use Rattle.definitions.specs.Wire.{Event}
 use Rattle.wire_core.specs.Events.{event_value}
 use Rattle.peer_threads.specs.Outcomes.{seen}
-use Rattle.peer_threads.specs.Inboxes.{HasRead, StopsAt}
+use Rattle.peer_threads.specs.Inboxes.{HasRead}
 use Rattle.peer_threads.specs.Underway.{FirstCame}
 use Rattle.peer_threads.proofs.InboxSteps.{reads_so}
 use Rattle.peer_threads.proofs.Serving.{part-stops, part-came}
@@ -10,20 +10,11 @@ use Rattle.peer_threads.proofs.engines.first_part.Goals as goal
 
 pub returns-in_err-event-clause-read : goal.returns-in_err-event-clause-read
 returns-in_err-event-clause-read g c =
-    let stop = c.in_err-event.field-0.0 in
-    let is : c.from_residual.result ≡ Err stop = search rules in
-    reads_so g.F.Summary.profile g.met.F.Summary.real (g.R.Read.remaining c.args.reader.now.inner)
-    (g.R.Read.remaining c.next.new.reader.inner) c.args.inbox.now
-    (λ (bytes : List ℕ) (es : List (Event g.row.F.Denot)). StopsAt g.F.Summary.profile
-    (seen c.next.new.reader.failed c.next.new.reader.ended) bytes
-    es stop)
-    (λ (bytes : List ℕ)
-    (es : List (Event g.row.F.Denot)). FirstCame g.F.Summary.summary g.F.Summary.profile
-    (seen c.next.new.reader.failed c.next.new.reader.ended) c.next.new.self bytes
-    es c.from_residual.result)
-    (λ bytes es fits stopped. part-stops g.F.Summary.summary g.F.Summary.profile (seen c.next.new.reader.failed
-    c.next.new.reader.ended) c.next.new.self bytes
-    es c.from_residual.result stop is stopped) c.in_err-event.ensures.read
+    let is : c.from_residual.result ≡ Err c.in_err-event.field-0.0 = search rules in
+    part-stops g.F.Summary.summary g.F.Summary.profile g.met.F.Summary.real
+    (seen c.next.new.reader.failed c.next.new.reader.ended) (g.R.Read.remaining c.args.reader.now.inner)
+    (g.R.Read.remaining c.next.new.reader.inner) c.args.inbox.now c.next.new.self c.from_residual.result
+    c.in_err-event.field-0.0 is c.in_err-event.ensures.read
 
 pub returns-clause-read : goal.returns-clause-read
 returns-clause-read g c =

@@ -2,7 +2,7 @@ use Rattle.std.proofs.Common.{refl, inr}
 use Rattle.std.specs.Arc.{arc_value}
 use Rattle.definitions.specs.Engines.{responding}
 use Rattle.peer_threads.specs.declared.stop.Stop.TheVariants as stops
-use Rattle.peer_threads.specs.Outcomes.{After, traffic_after, seen, peer_at}
+use Rattle.peer_threads.specs.Outcomes.{After, seen, peer_at}
 use Rattle.peer_threads.proofs.Endings.{speaks, stopped-anyhow}
 use Rattle.peer_threads.proofs.Origins.{on-nothing}
 use Rattle.peer_threads.proofs.Serving.{untold, unopened, serves, speaks-stopped, stops-poor, came-first}
@@ -10,15 +10,11 @@ use Rattle.peer_threads.proofs.engines.serve_after.Goals as goal
 
 pub returns-in-Err-clause-view : goal.returns-in-Err-clause-view
 returns-in-Err-clause-view g c =
-    let t = traffic_after c.args.hello.bytes (g.R.Read.remaining c.args.connection.now.reader.inner)
-    (g.R.Read.remaining c.first_message.new.connection.reader.inner)
-    (g.W.Write.contents c.args.connection.now.writer.inner)
-    (g.W.Write.contents c.first_message.new.connection.writer.inner) in
     let r = seen c.first_message.new.connection.reader.failed c.first_message.new.connection.reader.ended in
     let w = seen c.stopped.new.writer.failed c.stopped.new.writer.ended in
     inr (
       refl,
-      unopened g.F.Summary.summary g.F.Summary.profile c.first_message.new.sender t
+      unopened g.F.Summary.summary g.F.Summary.profile c.first_message.new.sender _
           (g.W.Write.contents c.stopped.new.writer.inner) r w c.first_message.new.connection.writer.failed c.in-Err.stop
           c.stopped.result
           c.first_message.ensures.none
@@ -31,17 +27,13 @@ pub returns-in-Err-clause-bytes : goal.returns-in-Err-clause-bytes
 returns-in-Err-clause-bytes g c =
     let v = c.args.seat.now.view in
     let p = peer_at (arc_value c.args.shared.now.accepted.now) v in
-    let t = traffic_after c.args.hello.bytes (g.R.Read.remaining c.args.connection.now.reader.inner)
-    (g.R.Read.remaining c.first_message.new.connection.reader.inner)
-    (g.W.Write.contents c.args.connection.now.writer.inner)
-    (g.W.Write.contents c.first_message.new.connection.writer.inner) in
     let r = seen c.first_message.new.connection.reader.failed c.first_message.new.connection.reader.ended in
     let w = seen c.stopped.new.writer.failed c.stopped.new.writer.ended in
-    let why = stopped-anyhow g.F.Summary.summary g.F.Summary.profile (responding p) c.first_message.new.sender t r
+    let why = stopped-anyhow g.F.Summary.summary g.F.Summary.profile (responding p) c.first_message.new.sender _ r
     c.first_message.new.connection.writer.failed c.in-Err.stop
     (untold c.first_message.result c.in-Err.stop _ c.in-Err.is c.first_message.ensures.stopped p) in
     speaks g.F.Summary.summary g.F.Summary.profile _ (responding p) _ _ _ _ r w c.stopped.result
-    (speaks-stopped g.F.Summary.summary g.F.Summary.profile p _ _ c.first_message.new.sender t
+    (speaks-stopped g.F.Summary.summary g.F.Summary.profile p _ _ c.first_message.new.sender _
     (g.W.Write.contents c.stopped.new.writer.inner) r w c.first_message.new.connection.writer.failed c.in-Err.stop
     c.stopped.result
     c.first_message.ensures.none why c.stopped.ensures.leaves c.stopped.ensures.outcome)
@@ -61,18 +53,14 @@ pub returns-in-Err-pin-clause-bytes : goal.returns-in-Err-pin-clause-bytes
 returns-in-Err-pin-clause-bytes g c =
     let found = c.pin.new.seat.view in
     let p = peer_at (arc_value c.args.shared.now.accepted.now) found in
-    let t = traffic_after c.args.hello.bytes (g.R.Read.remaining c.args.connection.now.reader.inner)
-    (g.R.Read.remaining c.first_message.new.connection.reader.inner)
-    (g.W.Write.contents c.args.connection.now.writer.inner)
-    (g.W.Write.contents c.first_message.new.connection.writer.inner) in
     let r = seen c.first_message.new.connection.reader.failed c.first_message.new.connection.reader.ended in
     let w = seen c.stopped-in-Err-pin.new.writer.failed c.stopped-in-Err-pin.new.writer.ended in
     speaks g.F.Summary.summary g.F.Summary.profile _ (responding p) _ _ _ _ r w c.stopped-in-Err-pin.result
-    (speaks-stopped g.F.Summary.summary g.F.Summary.profile p _ _ c.first_message.new.sender t
+    (speaks-stopped g.F.Summary.summary g.F.Summary.profile p _ _ c.first_message.new.sender _
     (g.W.Write.contents c.stopped-in-Err-pin.new.writer.inner) r w c.first_message.new.connection.writer.failed
     stops.Memory
     c.stopped-in-Err-pin.result c.first_message.ensures.none
-    (stops-poor g.F.Summary.summary g.F.Summary.profile p _ c.first_message.new.sender t r
+    (stops-poor g.F.Summary.summary g.F.Summary.profile p _ c.first_message.new.sender _ r
     c.first_message.new.connection.writer.failed _
     c.in-Ok.ensures.met.1)
     c.stopped-in-Err-pin.ensures.leaves c.stopped-in-Err-pin.ensures.outcome)

@@ -22,26 +22,21 @@ returns-clause-read g c =
     let inside = c.self.inside in
     let old : InboxState = record { feed = inside.feed; waiting = inside.piece; reads = inside.reads } in
     let new : InboxState = record { feed = inside.feed; waiting = c.fill.new.self; reads = inside.reads + 1 } in
-    let unread = g.R.Read.remaining c.args.reader.now.inner in
-    let left = g.R.Read.remaining c.fill.new.reader.inner in
     let none : inside.piece ≡ [] = search rules in
     let bytes = c.in-Ok.ensures.bytes in
     let some : 0 < length c.fill.new.self = search rules in
-    rw (← c.self.view_is) (came g.F.Summary.profile g.met.F.Summary.real unread left old new none refl bytes.0 refl some
-    bytes.1)
+    rw (← c.self.view_is)
+    (came g.F.Summary.profile g.met.F.Summary.real _ _ old new none refl bytes.0 refl some bytes.1)
 
 pub returns-then-count-eq0-clause-read : goal.returns-then-count-eq0-clause-read
 returns-then-count-eq0-clause-read g c =
     let inside = c.self.inside in
     let old : InboxState = record { feed = inside.feed; waiting = inside.piece; reads = inside.reads } in
     let new : InboxState = record { feed = inside.feed; waiting = c.fill.new.self; reads = inside.reads + 1 } in
-    let unread = g.R.Read.remaining c.args.reader.now.inner in
-    let left = g.R.Read.remaining c.fill.new.reader.inner in
     let none : inside.piece ≡ [] = search rules in
     let nil : length c.fill.new.self ≡ 0 = search rules in
     let over = seen c.fill.new.reader.failed c.fill.new.reader.ended in
     let ended : IsTrue c.fill.new.reader.ended = search rules in
     rw (← c.self.view_is)
-    (ended_read g.F.Summary.profile g.met.F.Summary.real unread left old new over c.number.result c.fill.new.self none
-    refl
-    nil c.in-Ok.ensures.bytes.1 ended c.number.ensures)
+    (ended_read g.F.Summary.profile g.met.F.Summary.real _ _ old new over c.number.result c.fill.new.self none refl nil
+    c.in-Ok.ensures.bytes.1 ended c.number.ensures)

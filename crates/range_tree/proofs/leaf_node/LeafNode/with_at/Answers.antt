@@ -1,44 +1,32 @@
-use Rattle.std.proofs.Common.{◌++◌, ◌∙◌, [], ap, length, arith}
+use Rattle.std.proofs.Common.{◌≡◌, ◌≤◌, ◌++◌, ◌∙◌, [], ap, length, arith}
 use Rattle.std.proofs.lemmas.List.{append-nil}
 use Rattle.range_tree.proofs.Places.{length_put}
 use Rattle.range_tree.proofs.Pieces.{halves, halves_are}
 use Rattle.range_tree.proofs.leaf_node.LeafNode.with_at.Goals as goal
+use Rattle.range_tree.proofs.leaf_node.LeafNode.with_at.Goals.{In_ok-back}
+
+-- how long the two halves are
+cut : (c : goal.In_ok-back) → (length c.in_ok-front.front ≡ 32) × (32 ≤ length c.in_ok-back.back)
+    × (length c.in_ok-back.back ≤ 33)
+cut c =
+    let more = c.if-len-le64.false in
+    let len = c.len.ensures.length in
+    let longer = ap length c.in_ok-packed.ensures ∙ length_put c.args.place c.args.hashed c.args.self.now.packed in
+    let small = c.args.self.now.small in
+    halves c.in_ok-packed.packed c.in_ok-front.front c.in_ok-back.back c.len-2.result c.in_ok-front.ensures
+    c.in_ok-back.ensures c.len-2.ensures.length (omega arith) (omega arith)
 
 pub of-requires-2-clause-small : goal.of-requires-2-clause-small
 of-requires-2-clause-small c =
-    let ys = c.in_ok-packed.packed in
-    let more = c.if-len-le64.false in
-    let len = c.len.ensures.length in
-    let longer = ap length c.in_ok-packed.ensures ∙ length_put c.args.place c.args.hashed c.args.self.now.packed in
-    let small = c.args.self.now.small in
-    let both = halves ys c.in_ok-front.front c.in_ok-back.back c.len-2.result c.in_ok-front.ensures c.in_ok-back.ensures
-    c.len-2.ensures.length (omega arith) (omega arith) in
-    let first = both.0 in
-    omega arith
+    let first = (cut (goal.at.of-requires-2-clause-small c).In_ok-back).0 in omega arith
 
 pub of-requires-3-clause-some : goal.of-requires-3-clause-some
 of-requires-3-clause-some c =
-    let ys = c.in_ok-packed.packed in
-    let more = c.if-len-le64.false in
-    let len = c.len.ensures.length in
-    let longer = ap length c.in_ok-packed.ensures ∙ length_put c.args.place c.args.hashed c.args.self.now.packed in
-    let small = c.args.self.now.small in
-    let both = halves ys c.in_ok-front.front c.in_ok-back.back c.len-2.result c.in_ok-front.ensures c.in_ok-back.ensures
-    c.len-2.ensures.length (omega arith) (omega arith) in
-    let second = both.1 in
-    omega arith
+    let second = (cut (goal.at.of-requires-3-clause-some c).In_ok-back).1 in omega arith
 
 pub of-requires-3-clause-small : goal.of-requires-3-clause-small
 of-requires-3-clause-small c =
-    let ys = c.in_ok-packed.packed in
-    let more = c.if-len-le64.false in
-    let len = c.len.ensures.length in
-    let longer = ap length c.in_ok-packed.ensures ∙ length_put c.args.place c.args.hashed c.args.self.now.packed in
-    let small = c.args.self.now.small in
-    let both = halves ys c.in_ok-front.front c.in_ok-back.back c.len-2.result c.in_ok-front.ensures c.in_ok-back.ensures
-    c.len-2.ensures.length (omega arith) (omega arith) in
-    let second = both.2 in
-    omega arith
+    let second = (cut (goal.at.of-requires-3-clause-small c).In_ok-back).2 in omega arith
 
 pub returns-clause-items : goal.returns-clause-items
 returns-clause-items c =
@@ -48,13 +36,7 @@ returns-clause-items c =
 
 pub returns-clause-widths : goal.returns-clause-widths
 returns-clause-widths c =
-    let ys = c.in_ok-packed.packed in
-    let more = c.if-len-le64.false in
-    let len = c.len.ensures.length in
-    let longer = ap length c.in_ok-packed.ensures ∙ length_put c.args.place c.args.hashed c.args.self.now.packed in
-    let small = c.args.self.now.small in
-    let both = halves ys c.in_ok-front.front c.in_ok-back.back c.len-2.result c.in_ok-front.ensures c.in_ok-back.ensures
-    c.len-2.ensures.length (omega arith) (omega arith) in
+    let both = cut (goal.at.returns-clause-widths c).In_ok-back in
     let first = both.0 in
     let second = both.1 in
     let first_is = ap length c.of-2.ensures in

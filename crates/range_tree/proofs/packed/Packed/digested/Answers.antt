@@ -1,5 +1,6 @@
 use Rattle.std.proofs.Common.{◌≡◌, ◌<◌, ◌++◌, ◌∷◌, [], ◌^◌, ◌∙◌, ap, length, arith, rules, take}
 use Rattle.std.proofs.lemmas.List.{length-append, length-take-le}
+use Rattle.range_tree.specs.Packs.{IsPack}
 use Rattle.range_tree.proofs.Pieces.{pack_none, pack_more, pack_all, pack_is, pack_whole, joined_most}
 use Rattle.range_tree.proofs.packed.Packed.digested.Goals as goal
 
@@ -34,20 +35,15 @@ loop-item-preserved c =
     (c.in_ok-extend_from_slice.ensures.items ∙ ap (λ b. bytes ++ b) c.bytes.ensures.bytes)
     (c.in_ok-push.ensures.items ∙ ap (λ n. ends ++ n ∷ []) len)
 
+-- what is made are the fields of all items
+made : (c : goal.In_ok-running) → IsPack c.args.items.now c.loop-item.bytes.items c.loop-item.ends.items
+    c.in_ok-running.field-0.items
+made c =
+    pack_all c.args.items.now c.loop-item.item-index c.loop-item.bytes.items c.loop-item.ends.items
+    c.in_ok-running.field-0.items c.loop-item.invariant c.loop-item-test.false c.in_ok-running.ensures.sums
+
 pub invariant_of-result : goal.invariant_of-result
-invariant_of-result c =
-    let xs = c.args.items.now in
-    let bytes = c.loop-item.bytes.items in
-    let ends = c.loop-item.ends.items in
-    let sums = c.in_ok-running.field-0.items in
-    pack_whole xs bytes ends sums (pack_all xs c.loop-item.item-index bytes ends sums c.loop-item.invariant
-    c.loop-item-test.false c.in_ok-running.ensures.sums)
+invariant_of-result c = pack_whole _ _ _ _ (made c)
 
 pub returns-clause-items : goal.returns-clause-items
-returns-clause-items c =
-    let xs = c.args.items.now in
-    let bytes = c.loop-item.bytes.items in
-    let ends = c.loop-item.ends.items in
-    let sums = c.in_ok-running.field-0.items in
-    pack_is xs bytes ends sums (pack_all xs c.loop-item.item-index bytes ends sums c.loop-item.invariant
-    c.loop-item-test.false c.in_ok-running.ensures.sums)
+returns-clause-items c = pack_is _ _ _ _ (made c)

@@ -1,16 +1,14 @@
-use Rattle.std.proofs.Common.{◌<◌, ◌∙◌, sym, ap, subst, length}
+use Rattle.std.proofs.Common.{◌<◌, ◌∙◌, sym, ap, length}
 use Rattle.std.specs.Arc.{arc_value}
 use Rattle.std.specs.List.{flat_map, slice_get}
-use Rattle.range_tree.proofs.Places.{get_node, node_read}
+use Rattle.range_tree.proofs.Places.{get_node, node_read, of_read}
 use Rattle.range_tree.proofs.row.Row.item_at.Goals as goal
 
 pub item_at-requires : goal.item_at-requires
 item_at-requires g c =
-    let content = g.P.Node.content in
-    let node = c.deref.result.now in
-    let read = node_read arc_value c.self.inside.nodes.items c.args.self.now c.spot-index.result.0 c.index.result.now
-    node c.self.view_is c.index.ensures c.deref.ensures in
-    subst (λ p. c.spot-index.result.1 < length (content p)) (sym read) (c.spot-index.ensures.own_fits node)
+    of_read (λ p. c.spot-index.result.1 < length (g.P.Node.content p)) arc_value c.self.inside.nodes.items
+    c.args.self.now c.spot-index.result.0 c.index.result.now c.deref.result.now c.self.view_is c.index.ensures
+    c.deref.ensures (c.spot-index.ensures.own_fits c.deref.result.now)
 
 pub returns : goal.returns
 returns g c =

@@ -1,20 +1,15 @@
-use Rattle.std.proofs.Common.{◌≤◌, ◌++◌, ◌∙◌, length, sym, ap, subst}
+use Rattle.std.proofs.Common.{◌≤◌, ◌++◌, ◌∙◌, length, map, ap, subst}
 use Rattle.std.proofs.Math.Dec.{leb}
 use Rattle.std.specs.Arc.{arc_value}
-use Rattle.std.specs.List.Sorted.{IsNonDecreasingBy}
 use Rattle.std.proofs.lemmas.Result.{on_ok_weaker}
 use Rattle.range_tree.specs.Nodes.{PassFirst}
 use Rattle.range_tree.specs.Rows.{IsRow}
-use Rattle.range_tree.proofs.Rows.{ends_rise, begins_before, span_shared}
+use Rattle.range_tree.proofs.Rows.{read_rises, begins_before, span_shared}
 use Rattle.range_tree.proofs.row.Row.push_between.Goals as goal
 
 pub ended-index-requires : goal.ended-index-requires
-ended-index-requires g c =
-    let content = g.P.Node.content in
-    let ends = c.self.inside.ends.items in
-    let sums = c.self.inside.sums.items in
-    let row = subst (λ ps. IsRow content ps ends sums) c.self.view_is c.self.invariant.0 in
-    subst (IsNonDecreasingBy (λ e. e)) (sym c.deref.ensures.value) (ends_rise content c.args.self.now ends sums row)
+ended-index-requires g c = read_rises g.P.Node.content (map (arc_value {X = g.row.P.Denot}) c.self.inside.nodes.items)
+    c.self.inside.ends.items c.self.inside.sums.items c.self.invariant.0 c.deref.result.now c.deref.ensures.value
 
 pub returns : goal.returns
 returns g c =

@@ -9,6 +9,7 @@ use Rattle.range_tree.proofs.Places.{length_cut, node_read}
 use Rattle.definitions.proofs.Partitions.{parted_below}
 use Rattle.range_tree.proofs.Ranks.{leads_set, pass_map, rank_none, rank_some, set_node, count_most}
 use Rattle.range_tree.proofs.row.Row.rank.Goals as goal
+use Rattle.range_tree.proofs.row.Row.rank.Goals.{After-deref}
 
 pub search-begun-requires : goal.search-begun-requires
 search-begun-requires g c =
@@ -27,32 +28,33 @@ returns-then-begun-eq0-clause-place g c =
     c.search-begun.ensures.parted) in
     sym (rank_none content g.met.P.Node.has_some x now c.requires parted)
 
+-- the node that is asked
+low : (g : _) (c : goal.After-deref g) → c.search-begun.result.0 - 1 < length c.args.self.now
+low g c =
+    let same = length-map c.args.self.now (λ p. first_item (g.P.Node.content p)) in
+    let within = c.search-begun.ensures.within in
+    omega arith
+
+read : (g : _) (c : goal.After-deref g) →
+    c.deref.result.now ≡ get_or c.args.self.now (c.search-begun.result.0 - 1) c.deref.result.now
+read g c =
+    node_read arc_value c.self.inside.nodes.items c.args.self.now (c.search-begun.result.0 - 1) c.index.result.now
+    c.deref.result.now c.self.view_is c.index.ensures c.deref.ensures
+
 pub rank-own-requires : goal.rank-own-requires
 rank-own-requires g c =
     let content = g.P.Node.content in
-    let now = c.args.self.now in
-    let node = c.deref.result.now in
-    let k = c.search-begun.result.0 - 1 in
-    let same = length-map now (λ p. first_item (content p)) in
-    let within = c.search-begun.ensures.within in
-    let low : k < length now = omega arith in
-    let read = node_read arc_value c.self.inside.nodes.items now k c.index.result.now node c.self.view_is
-    c.index.ensures c.deref.ensures in
-    subst (λ p. IsSet (content p)) (sym read) (set_node content now k node low c.requires)
+    let at = (goal.at.rank-own-requires g c).After-deref in
+    subst (λ p. IsSet (content p)) (sym (read g at)) (set_node content c.args.self.now (c.search-begun.result.0 - 1)
+    c.deref.result.now (low g at) c.requires)
 
 pub overflow_add-result : goal.overflow_add-result
 overflow_add-result g c =
     let content = g.P.Node.content in
-    let now = c.args.self.now in
     let node = c.deref.result.now in
-    let k = c.search-begun.result.0 - 1 in
-    let same = length-map now (λ p. first_item (content p)) in
-    let within = c.search-begun.ensures.within in
-    let low : k < length now = omega arith in
-    let read = node_read arc_value c.self.inside.nodes.items now k c.index.result.now node c.self.view_is
-    c.index.ensures c.deref.ensures in
-    let cut = length_cut content now k node low in
-    let here = ap (λ p. length (content p)) read in
+    let at = (goal.at.overflow_add-result g c).After-deref in
+    let cut = length_cut content c.args.self.now (c.search-begun.result.0 - 1) node (low g at) in
+    let here = ap (λ p. length (content p)) (read g at) in
     let most : c.rank-own.result.0 ≤ length (content node) =
     rw c.rank-own.ensures.place (count_most c.args.item.now (content node)) in
     let front = c.len_of_first.ensures in
@@ -68,19 +70,16 @@ returns-clause-place g c =
     let node = c.deref.result.now in
     let x = c.args.item.now in
     let k = c.search-begun.result.0 - 1 in
-    let same = length-map now (λ p. first_item (content p)) in
-    let within = c.search-begun.ensures.within in
     let next : c.search-begun.result.0 ≡ suc k = omega arith in
-    let low : suc k ≤ length now = omega arith in
-    let read = node_read arc_value c.self.inside.nodes.items now k c.index.result.now node c.self.view_is
-    c.index.ensures c.deref.ensures in
+    let at = (goal.at.returns-clause-place g c).After-deref in
+    let within = low g at in
     let parted = subst (PassFirst (λ p. comes_before (first_item (content p)) x) now) next
     (pass_map (λ p. first_item (content p)) (λ z. comes_before z x) now c.search-begun.result.0
     c.search-begun.ensures.parted) in
-    let all = rank_some content g.met.P.Node.has_some x now k node low c.requires parted in
+    let all = rank_some content g.met.P.Node.has_some x now k node (omega arith) c.requires parted in
     let front = c.len_of_first.ensures in
     let own : c.rank-own.result.0 ≡ count_before x (content (get_or now k node)) =
-    c.rank-own.ensures.place ∙ ap (λ p. count_before x (content p)) read in
+    c.rank-own.ensures.place ∙ ap (λ p. count_before x (content p)) (read g at) in
     omega arith
 
 pub returns-clause-steps : goal.returns-clause-steps

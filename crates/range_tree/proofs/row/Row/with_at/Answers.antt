@@ -5,17 +5,15 @@ use Rattle.std.proofs.lemmas.Result.{IfOk-weaker}
 use Rattle.range_tree.specs.Grown.{grown_nodes, GrewWide}
 use Rattle.range_tree.specs.Nodes.{IsFull}
 use Rattle.range_tree.proofs.Widths.{grown_full}
-use Rattle.range_tree.proofs.Places.{put, put_node, node_read}
+use Rattle.range_tree.proofs.Places.{put, put_node, node_read, of_read}
 use Rattle.range_tree.proofs.Growing.{length_grown}
 use Rattle.range_tree.proofs.row.Row.with_at.Goals as goal
 
 pub with_at-requires : goal.with_at-requires
 with_at-requires g c =
-    let content = g.P.Node.content in
-    let node = c.deref.result.now in
-    let read = node_read arc_value c.self.inside.nodes.items c.args.self.now c.gap-index.result.0 c.index.result.now
-    node c.self.view_is c.index.ensures c.deref.ensures in
-    subst (λ p. c.gap-index.result.1 ≤ length (content p)) (sym read) (c.gap-index.ensures.own_fits node)
+    of_read (λ p. c.gap-index.result.1 ≤ length (g.P.Node.content p)) arc_value c.self.inside.nodes.items
+    c.args.self.now c.gap-index.result.0 c.index.result.now c.deref.result.now c.self.view_is c.index.ensures
+    c.deref.ensures (c.gap-index.ensures.own_fits c.deref.result.now)
 
 pub returns-clause-length : goal.returns-clause-length
 returns-clause-length g c = IfOk-weaker c.renewed.result _ _ (λ row h. (length_grown row c.args.self.now
@@ -45,12 +43,9 @@ returns-clause-items g c =
 pub returns-clause-full : goal.returns-clause-full
 returns-clause-full g c =
     let width = g.P.Node.width in
-    let now = c.args.self.now in
-    let node = c.deref.result.now in
-    let grown = c.in_ok-grown.grown in
-    let i = c.gap-index.result.0 in
-    let read = node_read arc_value c.self.inside.nodes.items now i c.index.result.now node c.self.view_is
-    c.index.ensures c.deref.ensures in
-    let grew = subst (λ p. GrewWide width (width p) grown) read c.in_ok-grown.ensures.widths in
+    let read = node_read arc_value c.self.inside.nodes.items c.args.self.now c.gap-index.result.0 c.index.result.now
+    c.deref.result.now c.self.view_is c.index.ensures c.deref.ensures in
+    let grew = subst (λ p. GrewWide width (width p) c.in_ok-grown.grown) read c.in_ok-grown.ensures.widths in
     IfOk-weaker c.renewed.result _ _ (λ row h full. subst (IsFull width) (sym h)
-    (grown_full width now i node grown c.gap-index.ensures.node_there full grew)) c.renewed.ensures
+    (grown_full width c.args.self.now c.gap-index.result.0 c.deref.result.now c.in_ok-grown.grown
+    c.gap-index.ensures.node_there full grew)) c.renewed.ensures

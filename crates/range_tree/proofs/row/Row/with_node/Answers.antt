@@ -11,8 +11,8 @@ pub invariant_of-result : goal.invariant_of-result
 invariant_of-result g c =
     let content = g.P.Node.content in
     let v = arc_value {X = g.row.P.Denot} in
-    let node = c.args.node in
     let old = c.self.inside.nodes.items in
+    let node = c.args.node in
     let own : c.len.result ≡ length (flat_map content (map v old)) =
     c.len.ensures ∙ ap (λ ps. length (flat_map content ps)) (sym c.self.view_is) in
     let more : c.len-2.result ≡ length (content (v node)) =

@@ -8,18 +8,19 @@ use Rattle.range_tree.specs.Trees.{tree_items}
 use Rattle.range_tree.proofs.Places.{put}
 use Rattle.range_tree.proofs.tree_store.TreeRangeStore.with.Goals as goal
 
+-- what the new branches hold
+added : (c : goal.In_ok-branches) →
+    flat_map branch_items c.in_ok-branches.branches ≡ add_item (tree_items c.args.self.now) c.args.item
+added c =
+    c.in_ok-branches.ensures.items ∙ ap (λ e. put c.in-Some.place e (tree_items c.args.self.now)) c.new.ensures.item
+    ∙ sym c.in-Some.ensures.gap
+
 pub tree_over-requires-clause-rises : goal.tree_over-requires-clause-rises
 tree_over-requires-clause-rises c =
-    let A = tree_items c.args.self.now in
-    let x = c.args.item in
-    let added : flat_map branch_items c.in_ok-branches.branches ≡ add_item A x =
-    c.in_ok-branches.ensures.items ∙ ap (λ e. put c.in-Some.place e A) c.new.ensures.item ∙ sym c.in-Some.ensures.gap in
-    subst IsSet (sym added) (set_add A x c.args.self.now.rises)
+    subst IsSet (sym (added c))
+    (set_add (tree_items c.args.self.now) c.args.item c.args.self.now.rises)
 
 pub tree_over-requires-clause-are_items : goal.tree_over-requires-clause-are_items
 tree_over-requires-clause-are_items c =
-    let A = tree_items c.args.self.now in
-    let x = c.args.item in
-    let added : flat_map branch_items c.in_ok-branches.branches ≡ add_item A x =
-    c.in_ok-branches.ensures.items ∙ ap (λ e. put c.in-Some.place e A) c.new.ensures.item ∙ sym c.in-Some.ensures.gap in
-    subst (AllByRecursion IsItem) (sym added) (all_add IsItem A x c.args.self.now.are_items c.new.ensures.is_item)
+    subst (AllByRecursion IsItem) (sym (added c))
+    (all_add IsItem (tree_items c.args.self.now) c.args.item c.args.self.now.are_items c.new.ensures.is_item)
