@@ -13,7 +13,7 @@ use wire_core::{
 
 fn range_before(rt: &impl Abort, bytes: &[u8]) -> Range {
     let upper = Upper::from(item(rt, bytes));
-    Range::new(Range::whole().lower(), upper)
+    Range::new(*Range::whole().lower(), upper)
         .ok()
         .expect(rt, "a range")
 }

@@ -98,11 +98,11 @@ pub(crate) fn cut_range(
     ensures { IfOk result (λ parts. parts.items ≡ cut range.now bounds.now) }
 {
     let mut parts = Vec::with_capacity(alloc, bounds.len() + 1)?;
-    let mut lower = range.lower();
+    let mut lower = *range.lower();
     for bound in bounds {
         parts.push(between(lower, Upper::from(*bound)))?;
         lower = Lower::from(*bound);
     }
-    parts.push(between(lower, range.upper()))?;
+    parts.push(between(lower, *range.upper()))?;
     Ok(parts)
 }

@@ -68,19 +68,19 @@ impl Range {
     }
 
     /// The lower bound.
-    pub fn lower(&self) -> Lower
-        ensures lower { result ≡ self.now.lower }
+    pub fn lower(&self) -> &Lower
+        ensures lower { result.now ≡ self.now.lower }
         ensures range { IsRange self.now }
     {
-        self.lower
+        &self.lower
     }
 
     /// The upper bound.
-    pub fn upper(&self) -> Upper
-        ensures upper { upper_value result ≡ self.now.upper }
+    pub fn upper(&self) -> &Upper
+        ensures upper { upper_value result.now ≡ self.now.upper }
         ensures range { IsRange self.now }
     {
-        self.upper
+        &self.upper
     }
 
     /// Whether the range holds the item.

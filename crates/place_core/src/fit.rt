@@ -29,7 +29,7 @@ pub fn rest_after(part: &Range, whole: &Range) -> Option<Range>
     ensures { result ≡ rest_between part.now.upper whole.now.upper }
 {
     match part.upper() {
-        Upper::Before(item) => Range::new(Lower::from(item), whole.upper()).ok(),
+        Upper::Before(item) => Range::new(Lower::from(*item), *whole.upper()).ok(),
         Upper::End => None,
     }
 }

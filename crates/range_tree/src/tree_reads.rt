@@ -53,8 +53,8 @@ impl Tree {
         ensures within { result.1 ≤ length (tree_items self.now) }
         ensures steps { length self.now.branches ≤ 64 → result.2 ≤ 42 }
     {
-        let (from, some) = self.below_lower(&range.lower());
-        let (to, more) = self.below_upper(&range.upper());
+        let (from, some) = self.below_lower(range.lower());
+        let (to, more) = self.below_upper(range.upper());
         (from, to, some.saturating_add(more))
     }
 

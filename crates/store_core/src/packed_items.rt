@@ -167,6 +167,9 @@ impl PackedItems {
         ensures appended { OnOk result (self.new ≡ self.old ++ others.now) }
         ensures memory { OnErr result (self.new ≡ self.old) }
     {
+        if others.is_empty() {
+            return Ok(()); // most parts of a message bring nothing
+        }
         let from = end_of(self.bytes.len())?;
         let _end = end_of(self.bytes.len().saturating_add(others.bytes.len()))?;
         make_room(&mut self.ends, others.ends.len())?;

@@ -38,8 +38,8 @@ pub fn within(items: &[Item], range: &Range) -> Span
     ensures end { result.to ≤ length items.now }
     ensures items { span result.from result.to items.now ≡ items_in items.now range.now }
 {
-    let from = place(items, &range.lower());
-    let to = from + end(&items[from..], &range.upper());
+    let from = place(items, range.lower());
+    let to = from + end(&items[from..], range.upper());
     Span { from, to }
 }
 

@@ -51,7 +51,7 @@ fn push_range(out: &mut Vec<u8>, range: &Range) -> Result<(), AllocError>
     ensures { OnOk result (out.new.items ≡ out.old.items ++ wire.range_text range.now) }
 {
     push_short(out, range.lower().bytes())?;
-    push_upper(out, &range.upper())
+    push_upper(out, range.upper())
 }
 
 /// Appends a number of four bytes, the greatest first.

@@ -9,7 +9,7 @@ use Rattle.store_core.proofs.spans.within.Goals as goal
 pub end-requires : goal.end-requires
 end-requires c =
     let rest = take_rest c.args.items.now c.place-from.result
-    ∙ sym (filter_is_back (λ z. comes_before z c.lower.result) c.args.items.now _ c.place-from.ensures.parted) in
+    ∙ sym (filter_is_back (λ z. comes_before z c.lower.result.now) c.args.items.now _ c.place-from.ensures.parted) in
     rw rest (IsStrictlySortedBy-filter item_cmp _ c.args.items.now c.requires)
 
 pub returns-clause-items : goal.returns-clause-items

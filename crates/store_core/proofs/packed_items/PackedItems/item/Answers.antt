@@ -1,4 +1,4 @@
-use Rattle.std.proofs.Common.{rules, ◌≡◌, ◌<◌, ◌≤◌, ◌∙◌, sym, ap, length, get_or, arith, Some}
+use Rattle.std.proofs.Common.{rules, ◌≡◌, ◌≤◌, ◌∙◌, sym, ap, length, get_or, arith, Some}
 use Rattle.store_core.proofs.Packs.{place_low, length_piece, item_spans, item_is}
 use Rattle.store_core.proofs.packed_items.PackedItems.item.Goals as goal
 
