@@ -1,11 +1,13 @@
 -- A session in either role and profile, and what calls make of it: each relation is the one of session_core, in the
 -- session's own profile.
---     Opens v side profile s      a session over a version, in this role and profile, to which nothing was pushed:
---                                    it is open, and it listens
---     Changes s t R                  both are of one role and profile, and R holds of them
---     Listens c d                    the one still hears its peer where the other did
---     PushesTo bytes, Finishes, MakesDue, TakesOff count, Pulls bytes     what calls make of a session
---     ready_of, due_of, state_in, bound_of, sent_by, learned_in      what is told of it
+--     Opens v side profile s     a session over a version, in this role and profile, to which nothing was pushed:
+--                                it is open, and it listens
+--     Changes s t R              both are of one role and profile, and R holds of them
+--     Listens c d                the one still hears its peer where the other did
+--     PushesTo bytes, Finishes, MakesDue, TakesOff count, Pulls bytes
+--                                what calls make of a session
+--     ready_of, due_of, state_in, bound_of, sent_by, learned_in
+--                                what is told of it
 use Rattle.std.specs.Prelude.{◌≡◌, ℕ, ◌+◌, true, false, List, [], length, take}
 use Rattle.definitions.specs.Fingerprints.{Summary, Lanes, Counted, two_lanes, counted_lanes}
 use Rattle.definitions.specs.Ranks.{rank_by}

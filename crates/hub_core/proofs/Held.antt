@@ -4,8 +4,9 @@
 -- number of 64 bits, and there are fewer keys than 2^64, so the sum is below 2^128.
 use Rattle.std.proofs.Common.{◌≡◌, ℕ, ◌+◌, ◌-◌, ◌*◌, ◌^◌, ◌≤◌, ◌<◌, length, Option, Some, None}
 use Rattle.std.proofs.Common.{sym, ap, ◌∙◌, arith}
-use Rattle.std.specs.Prelude.{IfNone}
-use Rattle.slab.specs.Slab.{Slab, get, Updates}
+use Rattle.std.specs.Prelude.{IfNone, is_some}
+use Rattle.slab.specs.Slab.{Slab, get, with_value, Updates}
+use Rattle.slab.proofs.SlabLemmas.{Updates-with_value}
 use Rattle.hub_core.specs.Totals.{in_slot}
 use Rattle.hub_core.specs.Peers.{PeerState, kept_in}
 use Rattle.hub_core.specs.Hubs.{kept, held_by}
@@ -67,9 +68,10 @@ module _ {I O : Type 0} where
 
   -- ---- the number that a hub holds
 
-  pub room-for : (held n cap : ℕ) (s : Slab (PeerState I O)) → held ≡ held_by s → length s.slots ≤ cap →
-      cap < 2 ^ 64 → n ≤ 2 ^ 64 - 1 → held + n < 2 ^ 128
-  room-for held n cap s is slots small below = omega (arith, is, held-fits s cap slots small, below)
+  pub room-for : (held n cap : ℕ) (s : Slab (PeerState I O)) (q : PeerState I O) → held ≡ held_by s → n ≡ kept q →
+      length s.slots ≤ cap → cap < 2 ^ 64 → held + n < 2 ^ 128
+  room-for held n cap s q is own slots small =
+      omega (arith, is, own, kept-fits q.stage, held-fits s cap slots small)
 
   pub held-added : (held n : ℕ) (old new : Slab (PeerState I O)) (key : ℕ) (q : PeerState I O) → held ≡ held_by old →
       n ≡ kept q → get old key ≡ None → Updates old new key (Some q) → held + n ≡ held_by new
@@ -84,8 +86,14 @@ module _ {I O : Type 0} where
   held-less held n old new key p is own there updates =
       omega (arith, is, own, held-out old new key p there updates, held-has old key p there)
 
-  pub held-changed : (held n m : ℕ) (old new : Slab (PeerState I O)) (key : ℕ) (p q : PeerState I O) →
-      held ≡ held_by old → n ≡ kept p → m ≡ kept q → get old key ≡ Some p → Updates old new key (Some q) →
-      held - n + m ≡ held_by new
-  held-changed held n m old new key p q is own now there updates =
-      omega (arith, is, own, now, held-moved old new key p q there updates, held-has old key p there)
+  -- where a peer changes, what is counted for it goes out of the sum, and what is counted for it now comes in
+  pub room-changed : (held n m cap : ℕ) (s : Slab (PeerState I O)) (q : PeerState I O) → held ≡ held_by s → m ≡ kept q →
+      length s.slots ≤ cap → cap < 2 ^ 64 → held - n + m < 2 ^ 128
+  room-changed held n m cap s q is now slots small = omega (arith, room-for held m cap s q is now slots small)
+
+  pub held-changed : (held n m : ℕ) (old : Slab (PeerState I O)) (key : ℕ) (p q : PeerState I O) → held ≡ held_by old →
+      n ≡ kept p → m ≡ kept q → get old key ≡ Some p → held - n + m ≡ held_by (with_value old key q)
+  held-changed held n m old key p q is own now there =
+      let updates = Updates-with_value old key q (ap is_some there) in
+      let moved = held-moved old (with_value old key q) key p q there updates in
+      omega (arith, is, own, now, moved, held-has old key p there)

@@ -150,12 +150,9 @@ fn certificate_beyond_the_cap(rt: HostRuntime) {
 #[test]
 fn lists_are_looked_at_before_a_certificate(rt: HostRuntime) {
     let alloc = rt.alloc();
-    let table = strategy(
-        &rt,
-        alloc,
-        b"cap = 8\nlimit = 3\nrounds = 3\nrow = [{upto = 4, list = true}, {upto = 8, split = [1, 1]}]",
-    );
-    let refused = refused_with(&rt, table, brought(&rt, alloc, &[1]));
+    let text =
+        b"cap = 8\nlimit = 3\nrounds = 3\nrow = [{upto = 4, list = true}, {upto = 8, split = [1, 1]}]";
+    let refused = refused_with(&rt, strategy(&rt, alloc, text), brought(&rt, alloc, &[1]));
     let (_table, _ranks, fault) = refused;
     assert_eq!(rt; fault, CheckFault::ListTooLong { upto: 4 });
 }

@@ -1,3 +1,4 @@
+use crate::sessions::HALVES;
 use rank_core::{RankError, RankFault, Ranks};
 use std::alloc::Global;
 use std::process::Abort;
@@ -11,11 +12,7 @@ fn strategy(rt: &impl Abort, alloc: Global, text: &[u8]) -> Strategy {
 
 /// Cap 8, limit 1, rounds 3; one item is listed, more are halved.
 fn binary_eight(rt: &impl Abort, alloc: Global) -> Strategy {
-    strategy(
-        rt,
-        alloc,
-        b"cap = 8\nlimit = 1\nrounds = 3\nrow = [{upto = 1, list = true}, {upto = 8, split = [1, 1]}]",
-    )
+    strategy(rt, alloc, HALVES)
 }
 
 #[test]

@@ -2,6 +2,7 @@
 //! 18, so they lie in it; that of `a` begins with CA.
 
 use crate::loads::set_from;
+use crate::shards::ENTRY_OF_B_AND_C;
 use item_core::Item;
 use shard_log::{Pinned, Put, ShardLog};
 use std::alloc::Global;
@@ -28,13 +29,6 @@ fn fill(rt: &impl Abort, alloc: Global, log: &mut ShardLog) {
     assert!(rt; log.put_in(alloc, item(rt, b"c")) == Put::Added);
 }
 
-// The entry of `b` and `c`: the lanes are the sums of those of the two digests.
-const ENTRY_OF_BOTH: [u8; 38] = [
-    0x00, 0x00, 0x00, 0x00, 0x00, 0x02, 0x6C, 0xA1, 0x14, 0x19, 0xA9, 0x89, 0xD4, 0x2C, 0x99, 0x76,
-    0x45, 0x1A, 0x9A, 0x4A, 0x36, 0xD9, 0xBF, 0x51, 0x1C, 0x03, 0x25, 0xF8, 0x3F, 0xDF, 0x64, 0xE6,
-    0x54, 0x50, 0x77, 0xF6, 0xF0, 0x63,
-];
-
 #[test]
 fn what_is_put_in(rt: HostRuntime) {
     let mut log = opened(&rt);
@@ -42,7 +36,7 @@ fn what_is_put_in(rt: HostRuntime) {
     assert!(rt; log.put_in(rt.alloc(), item(&rt, b"d")) == Put::Full);
     assert!(rt; log.put_in(rt.alloc(), item(&rt, b"a")) == Put::Foreign);
     assert!(rt; log.number() == 0 && log.cap() == 2 && log.count() == 2);
-    assert!(rt; log.entry().bytes() == ENTRY_OF_BOTH.as_slice());
+    assert!(rt; log.entry().bytes() == ENTRY_OF_B_AND_C.as_slice());
 }
 
 #[test]

@@ -1,16 +1,17 @@
 -- The seats of workers.
---     Outlives v w       what a seat is after workers have used seats that were split off it: it has seen no less, and
---                        its writer, its entries and its cap are the same
---     MayWork cap v      a worker may begin with the seat, under a strategy for so many items
---     PutIn x v w                the seat has put the item into the log, or found it there
---     PutInOrDropped x v w dropped   .. or dropped it, since there was no room
---     PutInAll xs v w dropped    it has done so with each of these, in order, but for so many that were dropped
---     IsSettled lets_in serial xs v w   it has done so with the first of these, as many as the gate lets in of the
---                                session with this serial
---     PutsInBy lets_in serial o v w  .. of what the outcome says was learned of the peer; nothing where it did not end
---     PutsInLearned lets_in o v w    the same of a session whose serial is not said
---     LookedOrNot v w            the seat was used for one `pin`, or is as before
---     Taught spoke learned       what was learned of a session that ended; or none, of one that did not
+--     Outlives v w                       what a seat is after workers have used seats that were split off it: it has
+--                                        seen no less, and its writer, its entries and its cap are the same
+--     MayWork cap v                      a worker may begin with the seat, under a strategy for so many items
+--     PutIn x v w                        the seat has put the item into the log, or found it there
+--     PutInOrDropped x v w dropped       .. or dropped it, since there was no room
+--     PutInAll xs v w dropped            it has done so with each of these, in order, but for so many that were dropped
+--     IsSettled lets_in serial xs v w    it has done so with the first of these, as many as the gate lets in of the
+--                                        session with this serial
+--     PutsInBy lets_in serial o v w      .. of what the outcome says was learned of the peer; nothing where it did not
+--                                        end
+--     PutsInLearned lets_in o v w        the same of a session whose serial is not said
+--     LookedOrNot v w                    the seat was used for one `pin`, or is as before
+--     Taught spoke learned               what was learned of a session that ended; or none, of one that did not
 use Rattle.std.specs.Prelude.{◌≡◌, ◌≤◌, ◌⊎◌, ◌+◌, ℕ, List, [], ◌∷◌, length, take, Option, Some, None, ⊤}
 use Rattle.definitions.specs.Items.{Item}
 use Rattle.definitions.specs.Talks.{Knowledge}

@@ -9,7 +9,7 @@ use Rattle.definitions.specs.Wire.{Profile, two_lane_profile, counted_profile}
 use Rattle.session_core.specs.Sessions.{SessionState, Knows, Takes, due}
 use Rattle.embedded_core.specs.SessionStates.{Changes, MakesDue, TakesOff, Pulls, ready_of, due_of}
 use Rattle.embedded_core.specs.declared.any_session.AnySession.{AnySession}
-use Rattle.embedded_core.specs.declared.any_session.AnySession.TheVariants as any
+use Rattle.embedded_core.specs.declared.any_session.AnySession.TheVariants.{First, Second, FirstCounted, SecondCounted}
 use Rattle.rangesync_c.specs.Meaning.{IfSession, IsSession}
 use Rattle.rangesync_c.specs.declared.held.Thing.{Thing}
 use Rattle.rangesync_c.specs.declared.held.Thing.TheVariants as things
@@ -21,48 +21,54 @@ front-taken most ready front is =
     ∙ (ap (λ (n : ℕ). take n ready) (ap (λ (l : List ℕ). length l) is ∙ length-take most ready)
     ∙ (take_min most ready ∙ sym is))
 
--- of a session in one profile
-one-pulled : {F : Type 0} (S : Summary F) (W : Profile F) (c d e : SessionState F) (most : ℕ) (front room : List ℕ) →
-    MakesDue F S W c d → front ≡ take most d.talk.outbox.ready →
-    TakesOff (min (length front) (length d.talk.outbox.ready)) F S W d e → take (length front) room ≡ front →
-    Pulls (take (length front) room) F S W c e
-one-pulled S W c d e most front room made is taken copied = (moved, taken.1 ∙ made.2) where
-  moved : Takes S W c (take (length front) room) e
-  moved s pushed before k =
-      let ready = d.talk.outbox.ready in
-      let off = take (min (length front) (length ready)) ready in
-      let all : (before ++ []) ++ off ≡ before ++ take (length front) room =
-      ap (λ (l : List ℕ). l ++ off) (append-nil before)
-      ∙ ap (λ (l : List ℕ). before ++ l) (front-taken most ready front is ∙ sym copied) in
-      subst (λ (l : List ℕ). Knows S W s e pushed l) all (taken.0 s pushed (before ++ []) (made.0 s pushed before k))
+module _ (most : ℕ) (front : List ℕ) where
+  -- all that was due is copied, or as much as is asked
+  one-copied : {F : Type 0} (S : Summary F) (W : Profile F) (c d : SessionState F) → MakesDue F S W c d →
+      front ≡ take most d.talk.outbox.ready → length front ≡ min most (length (due W c.talk))
+  one-copied S W c d made is =
+      ap (λ (l : List ℕ). length l) is ∙ length-take most d.talk.outbox.ready
+      ∙ ap (λ (l : List ℕ). min most (length l)) made.1
 
--- all that was due is copied, or as much as is asked
-one-copied : {F : Type 0} (S : Summary F) (W : Profile F) (c d : SessionState F) (most : ℕ) (front : List ℕ) →
-    MakesDue F S W c d → front ≡ take most d.talk.outbox.ready → length front ≡ min most (length (due W c.talk))
-one-copied S W c d most front made is =
-    ap (λ (l : List ℕ). length l) is ∙ length-take most d.talk.outbox.ready
-    ∙ ap (λ (l : List ℕ). min most (length l)) made.1
+  session-copied : (s t : AnySession) → Changes s t MakesDue → front ≡ take most (ready_of t) →
+      length front ≡ min most (length (due_of s))
+  session-copied (First c) (First d) = one-copied two_lanes two_lane_profile c d
+  session-copied (Second c) (Second d) = one-copied two_lanes two_lane_profile c d
+  session-copied (FirstCounted c) (FirstCounted d) = one-copied counted_lanes counted_profile c d
+  session-copied (SecondCounted c) (SecondCounted d) = one-copied counted_lanes counted_profile c d
+  session-copied (First c) t = λ made is. absurd made
+  session-copied (Second c) t = λ made is. absurd made
+  session-copied (FirstCounted c) t = λ made is. absurd made
+  session-copied (SecondCounted c) t = λ made is. absurd made
 
-session-pulled : (s t u : AnySession) (most : ℕ) (front room : List ℕ) →
-    Changes s t MakesDue → front ≡ take most (ready_of t) →
-    Changes t u (TakesOff (min (length front) (length (ready_of t)))) → take (length front) room ≡ front →
-    Changes s u (Pulls (take (length front) room))
-session-pulled (any.First c) (any.First d) (any.First e) most front room made is taken copied =
-    one-pulled two_lanes two_lane_profile c d e most front room made is taken copied
-session-pulled (any.First c) (any.First d) u most front room made is taken copied = absurd taken
-session-pulled (any.First c) t u most front room made is taken copied = absurd made
-session-pulled (any.Second c) (any.Second d) (any.Second e) most front room made is taken copied =
-    one-pulled two_lanes two_lane_profile c d e most front room made is taken copied
-session-pulled (any.Second c) (any.Second d) u most front room made is taken copied = absurd taken
-session-pulled (any.Second c) t u most front room made is taken copied = absurd made
-session-pulled (any.FirstCounted c) (any.FirstCounted d) (any.FirstCounted e) most front room made is taken copied =
-    one-pulled counted_lanes counted_profile c d e most front room made is taken copied
-session-pulled (any.FirstCounted c) (any.FirstCounted d) u most front room made is taken copied = absurd taken
-session-pulled (any.FirstCounted c) t u most front room made is taken copied = absurd made
-session-pulled (any.SecondCounted c) (any.SecondCounted d) (any.SecondCounted e) most front room made is taken copied =
-    one-pulled counted_lanes counted_profile c d e most front room made is taken copied
-session-pulled (any.SecondCounted c) (any.SecondCounted d) u most front room made is taken copied = absurd taken
-session-pulled (any.SecondCounted c) t u most front room made is taken copied = absurd made
+-- what was made due is taken off as far as it was copied
+module _ (most : ℕ) (front room : List ℕ) (copied : take (length front) room ≡ front) where
+  one-pulled : {F : Type 0} (S : Summary F) (W : Profile F) (c d e : SessionState F) → MakesDue F S W c d →
+      front ≡ take most d.talk.outbox.ready →
+      TakesOff (min (length front) (length d.talk.outbox.ready)) F S W d e → Pulls (take (length front) room) F S W c e
+  one-pulled S W c d e made is taken = (moved, taken.1 ∙ made.2) where
+    moved : Takes S W c (take (length front) room) e
+    moved s pushed before k =
+        let ready = d.talk.outbox.ready in
+        let off = take (min (length front) (length ready)) ready in
+        let all : (before ++ []) ++ off ≡ before ++ take (length front) room =
+        ap (λ (l : List ℕ). l ++ off) (append-nil before)
+        ∙ ap (λ (l : List ℕ). before ++ l) (front-taken most ready front is ∙ sym copied) in
+        subst (λ (l : List ℕ). Knows S W s e pushed l) all (taken.0 s pushed (before ++ []) (made.0 s pushed before k))
+
+  session-pulled : (s t u : AnySession) → Changes s t MakesDue → front ≡ take most (ready_of t) →
+      Changes t u (TakesOff (min (length front) (length (ready_of t)))) → Changes s u (Pulls (take (length front) room))
+  session-pulled (First c) (First d) (First e) = one-pulled two_lanes two_lane_profile c d e
+  session-pulled (Second c) (Second d) (Second e) = one-pulled two_lanes two_lane_profile c d e
+  session-pulled (FirstCounted c) (FirstCounted d) (FirstCounted e) = one-pulled counted_lanes counted_profile c d e
+  session-pulled (SecondCounted c) (SecondCounted d) (SecondCounted e) = one-pulled counted_lanes counted_profile c d e
+  session-pulled (First c) (First d) u = λ made is taken. absurd taken
+  session-pulled (Second c) (Second d) u = λ made is taken. absurd taken
+  session-pulled (FirstCounted c) (FirstCounted d) u = λ made is taken. absurd taken
+  session-pulled (SecondCounted c) (SecondCounted d) u = λ made is taken. absurd taken
+  session-pulled (First c) t u = λ made is taken. absurd made
+  session-pulled (Second c) t u = λ made is taken. absurd made
+  session-pulled (FirstCounted c) t u = λ made is taken. absurd made
+  session-pulled (SecondCounted c) t u = λ made is taken. absurd made
 
 of-thing : (before ready after : Thing) (most : ℕ) (front room : List ℕ) →
     IfSession before (λ s. IsSession ready (λ t. Changes s t MakesDue × (front ≡ take most (ready_of t)))) →
@@ -70,7 +76,7 @@ of-thing : (before ready after : Thing) (most : ℕ) (front room : List ℕ) →
     take (length front) room ≡ front →
     IfSession before (λ s. IsSession after (λ t. Changes s t (Pulls (take (length front) room))))
 of-thing (things.Session s) (things.Session t) (things.Session u) most front room made taken copied =
-    session-pulled s t u most front room made.0 made.1 taken copied
+    session-pulled most front room copied s t u made.0 made.1 taken
 of-thing (things.Session s) (things.Session t) u most front room made taken copied = absurd taken
 of-thing (things.Session s) t u most front room made taken copied = absurd made
 of-thing (things.Strategy x) t u most front room made taken copied = tt
@@ -87,27 +93,12 @@ pulled before ready after most used front room all made taken copied =
     subst (λ (n : ℕ). IfSession before (λ s. IsSession after (λ t. Changes s t (Pulls (take n room))))) all
     (of-thing before ready after most front room made taken copied)
 
-session-copied : (s t : AnySession) (most : ℕ) (front : List ℕ) → Changes s t MakesDue →
-    front ≡ take most (ready_of t) → length front ≡ min most (length (due_of s))
-session-copied (any.First c) (any.First d) most front made is =
-    one-copied two_lanes two_lane_profile c d most front made is
-session-copied (any.First c) t most front made is = absurd made
-session-copied (any.Second c) (any.Second d) most front made is =
-    one-copied two_lanes two_lane_profile c d most front made is
-session-copied (any.Second c) t most front made is = absurd made
-session-copied (any.FirstCounted c) (any.FirstCounted d) most front made is =
-    one-copied counted_lanes counted_profile c d most front made is
-session-copied (any.FirstCounted c) t most front made is = absurd made
-session-copied (any.SecondCounted c) (any.SecondCounted d) most front made is =
-    one-copied counted_lanes counted_profile c d most front made is
-session-copied (any.SecondCounted c) t most front made is = absurd made
-
 -- so many bytes are moved as were due, or as the room holds
 pub all-pulled : (before ready : Thing) (most used : ℕ) (front : List ℕ) → length front ≡ used →
     IfSession before (λ s. IsSession ready (λ t. Changes s t MakesDue × (front ≡ take most (ready_of t)))) →
     IfSession before (λ s. used ≡ min most (length (due_of s)))
 all-pulled (things.Session s) (things.Session t) most used front all made =
-    sym all ∙ session-copied s t most front made.0 made.1
+    sym all ∙ session-copied most front s t made.0 made.1
 all-pulled (things.Session s) t most used front all made = absurd made
 all-pulled (things.Strategy x) t most used front all made = tt
 all-pulled (things.Set x) t most used front all made = tt

@@ -52,8 +52,9 @@ set_difference A B set = IsStrictlySortedBy-filter item_cmp (λ y. not (has B y)
 abbrev HasOwn : ℕ → (ShardPart → List Item) → List Item → ShardPart → Type 0
 HasOwn b f D p = (x : Item) → has (f p) x ≡ ((shard_number b x == p.number) && has D x)
 
-has_parts : (b : ℕ) (f : ShardPart → List Item) (D : List Item) (ps : List ShardPart) → AllByRecursion (HasOwn b f D) ps →
-    (x : Item) → has (flat_map f ps) x ≡ (is_asked ps (shard_number b x) && has D x)
+has_parts : (b : ℕ) (f : ShardPart → List Item) (D : List Item) (ps : List ShardPart) →
+    AllByRecursion (HasOwn b f D) ps → (x : Item) →
+    has (flat_map f ps) x ≡ (is_asked ps (shard_number b x) && has D x)
 has_parts b f D [] each x = refl
 has_parts b f D (p ∷ ps) each x = list_any-append (same_item x) (f p) (flat_map f ps)
     ∙ ap (λ c. c || has (flat_map f ps) x) (each.0 x)
@@ -93,8 +94,8 @@ apart_of true false e same = false≢true (sym same)
 apart_of false false e same = false≢true e
 
 -- an item that one of the two sets has is in a shard that was asked
-differs_asked : (b : ℕ) (A B : List Item) (ps : List ShardPart) → b ≤ 12 → NoClash b A B → Covers b A B ps → (x : Item) →
-    (has A x ≡ has B x → ⊥) → is_asked ps (shard_number b x) ≡ true
+differs_asked : (b : ℕ) (A B : List Item) (ps : List ShardPart) → b ≤ 12 → NoClash b A B → Covers b A B ps →
+    (x : Item) → (has A x ≡ has B x → ⊥) → is_asked ps (shard_number b x) ≡ true
 differs_asked b A B ps low clash covers x apart =
     let s : ℕ = shard_number b x in
     let below : s < 2 ^ b = number_below b x low in
@@ -156,53 +157,51 @@ from_shard : (b : ℕ) (A B : List Item) (s : ℕ) (x : Item) → has (differenc
 from_shard b A B s x there =
     (and_parts (shard_number b x == s) (has (difference A B) x) (sym (shard_differs b A B s x) ∙ there)).1
 
-some_ours : (b : ℕ) (A B : List Item) (ps : List ShardPart) → KnowsNoWrong b A B ps →
-    ListsSome (set_of (flat_map ours_of ps)) (difference A B)
-some_ours b A B ps knows = lists_some ours_of (difference A B) ps
+-- where what each part lists is some of its shard's own difference
+some_of : (f : ShardPart → List Item) (b : ℕ) (A B C D : List Item) (ps : List ShardPart) → KnowsNoWrong b A B ps →
+    ((p : ShardPart) → KnowsNothingWrong (knowledge_of p) (shard b A p.number) (shard b B p.number) → (x : Item) →
+    has (f p) x ≡ true → has (difference (shard b C p.number) (shard b D p.number)) x ≡ true) →
+    ListsSome (set_of (flat_map f ps)) (difference C D)
+some_of f b A B C D ps knows own = lists_some f (difference C D) ps
     (All-map (λ p. KnowsNothingWrong (knowledge_of p) (shard b A p.number) (shard b B p.number))
-    (λ p. (x : Item) → has (ours_of p) x ≡ true → has (difference A B) x ≡ true)
-    (λ p k x there. from_shard b A B p.number x (k.ours.among x there)) ps knows)
-
-some_theirs : (b : ℕ) (A B : List Item) (ps : List ShardPart) → KnowsNoWrong b A B ps →
-    ListsSome (set_of (flat_map theirs_of ps)) (difference B A)
-some_theirs b A B ps knows = lists_some theirs_of (difference B A) ps
-    (All-map (λ p. KnowsNothingWrong (knowledge_of p) (shard b A p.number) (shard b B p.number))
-    (λ p. (x : Item) → has (theirs_of p) x ≡ true → has (difference B A) x ≡ true)
-    (λ p k x there. from_shard b B A p.number x (k.theirs.among x there)) ps knows)
+    (λ p. (x : Item) → has (f p) x ≡ true → has (difference C D) x ≡ true)
+    (λ p k x there. from_shard b C D p.number x (own p k x there)) ps knows)
 
 -- ---- of a result
 
-module _ {E : Type 0} (ps : List ShardPart) where
-  pub rises_in : (r : Result Merged E) → IfOk r (λ m. m.ours.items ≡ set_of (flat_map ours_of ps)) →
-      IfOk r (λ m. m.theirs.items ≡ set_of (flat_map theirs_of ps)) →
-      IfOk r (λ m. IsSet m.ours.items × IsSet m.theirs.items)
+module _ (ps : List ShardPart) where
+  -- what holds wherever both sides are what the parts list
+  abbrev pub Holds : (E : Type 0) → (Merged → Type 0) → Type 0
+  Holds E Q = (r : Result Merged E) → IfOk r (λ m. m.ours.items ≡ set_of (flat_map ours_of ps)) →
+      IfOk r (λ m. m.theirs.items ≡ set_of (flat_map theirs_of ps)) → IfOk r Q
+
+  pub rises_in : {E : Type 0} → Holds E (λ m. IsSet m.ours.items × IsSet m.theirs.items)
   rises_in (Err e) ours theirs = tt
   rises_in (Ok m) ours theirs = (
     subst (λ A. IsSet A) (sym ours) (set_of_is_set (flat_map ours_of ps)),
     subst (λ A. IsSet A) (sym theirs) (set_of_is_set (flat_map theirs_of ps)),
   )
 
-  pub nothing_wrong_in : (r : Result Merged E) → IfOk r (λ m. m.ours.items ≡ set_of (flat_map ours_of ps)) →
-      IfOk r (λ m. m.theirs.items ≡ set_of (flat_map theirs_of ps)) →
-      IfOk r (λ m. (b : ℕ) (A B : List Item) → KnowsNoWrong b A B ps → KnowsNothingWrong (merged_knowledge m) A B)
+  pub nothing_wrong_in : {E : Type 0} → Holds E (λ m. (b : ℕ) (A B : List Item) → KnowsNoWrong b A B ps →
+      KnowsNothingWrong (merged_knowledge m) A B)
   nothing_wrong_in (Err e) ours theirs = tt
   nothing_wrong_in (Ok m) ours theirs = λ b A B knows. record {
-    ours = subst (λ xs. ListsSome xs (difference A B)) (sym ours) (some_ours b A B ps knows);
-    theirs = subst (λ xs. ListsSome xs (difference B A)) (sym theirs) (some_theirs b A B ps knows);
+    ours = subst (λ xs. ListsSome xs (difference A B)) (sym ours)
+        (some_of ours_of b A B A B ps knows (λ p k. k.ours.among));
+    theirs = subst (λ xs. ListsSome xs (difference B A)) (sym theirs)
+        (some_of theirs_of b A B B A ps knows (λ p k. k.theirs.among));
   }
 
-  pub asked_in : (r : Result Merged E) → IfOk r (λ m. m.ours.items ≡ set_of (flat_map ours_of ps)) →
-      IfOk r (λ m. m.theirs.items ≡ set_of (flat_map theirs_of ps)) →
-      IfOk r (λ m. (b : ℕ) (A B : List Item) → IsSet A → IsSet B → KnowsShards b A B ps →
+  pub asked_in : {E : Type 0} → Holds E (λ m. (b : ℕ) (A B : List Item) → IsSet A → IsSet B →
+      KnowsShards b A B ps →
       (m.ours.items ≡ asked_of b ps (difference A B)) × (m.theirs.items ≡ asked_of b ps (difference B A)))
   asked_in (Err e) ours theirs = tt
   asked_in (Ok m) ours theirs = λ b A B left right knows.
       (ours ∙ asked_ours b A B ps left knows, theirs ∙ asked_theirs b A B ps right knows)
 
-  pub adds_up_in : (r : Result Merged E) → IfOk r (λ m. m.ours.items ≡ set_of (flat_map ours_of ps)) →
-      IfOk r (λ m. m.theirs.items ≡ set_of (flat_map theirs_of ps)) →
-      IfOk r (λ m. (b : ℕ) (A B : List Item) → b ≤ 12 → IsSet A → IsSet B → KnowsShards b A B ps → NoClash b A B →
-      Covers b A B ps → (m.ours.items ≡ difference A B) × (m.theirs.items ≡ difference B A))
+  pub adds_up_in : {E : Type 0} → Holds E (λ m. (b : ℕ) (A B : List Item) → b ≤ 12 → IsSet A → IsSet B →
+      KnowsShards b A B ps → NoClash b A B → Covers b A B ps →
+      (m.ours.items ≡ difference A B) × (m.theirs.items ≡ difference B A))
   adds_up_in (Err e) ours theirs = tt
   adds_up_in (Ok m) ours theirs = λ b A B low left right knows clash covers. (
     ours ∙ all_ours b A B ps low left knows clash covers,

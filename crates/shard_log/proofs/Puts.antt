@@ -1,5 +1,5 @@
 -- What comes of an item of the own shard, by what the log's own call answers.
-use Rattle.std.proofs.Common.{◌≡◌, ◌+◌, length, Result, Ok, Err, refl, sym, ap, subst, ◌∙◌}
+use Rattle.std.proofs.Common.{◌≡◌, ℕ, ◌+◌, length, Result, Ok, Err, refl, sym, ap, subst, ◌∙◌}
 use Rattle.std.specs.Prelude.{IfSome, IsTrue, if◌then◌else◌}
 use Rattle.definitions.specs.Items.{Item}
 use Rattle.definitions.specs.Histories.{content, insertion}
@@ -16,6 +16,10 @@ use Rattle.shard_log.specs.ShardLogs.{content_of, put_for, state_after}
 use Rattle.shard_log.specs.Puts.{put_in}
 use Rattle.shard_log.specs.declared.put.Put.TheVariants.{Foreign}
 use Rattle.shard_log.proofs.Contents.{content_push, lie_add}
+
+-- the fields of a shard's log
+abbrev pub state_of : ℕ → ℕ → LogState → ShardLogState
+state_of bits number log = record { bits = bits; number = number; log = log }
 
 -- the shard's log with another log
 abbrev pub with_log : ShardLogState → LogState → ShardLogState

@@ -46,21 +46,21 @@ side_of word = if same_item word (codes "initiator") then Some Initiator else if
 
 -- ---- steps
 
+-- a number, a space, and what is read by `other`
+abbrev pub numbered : {A : Type 0} → (List ℕ → Option A) → (ℕ → A → ScenarioStep) → List ℕ → Option ScenarioStep
+numbered other step rest = do
+  words ← parted rest
+  number ← number_of words.0
+  value ← other words.1
+  Some (step number value)
+
 -- `insert N HEX`
 abbrev pub insert_in : List ℕ → Option ScenarioStep
-insert_in rest = do
-  words ← parted rest
-  node ← number_of words.0
-  item ← decoded (decode_of words.1)
-  Some (Do (Insert node item))
+insert_in = numbered (λ digits. decoded (decode_of digits)) (λ node item. Do (Insert node item))
 
 -- `open I R`
 abbrev pub open_in : List ℕ → Option ScenarioStep
-open_in rest = do
-  words ← parted rest
-  initiator ← number_of words.0
-  responder ← number_of words.1
-  Some (Do (Open initiator responder))
+open_in = numbered number_of (λ initiator responder. Do (Open initiator responder))
 
 -- `deliver S`
 abbrev pub deliver_in : List ℕ → Option ScenarioStep
@@ -72,11 +72,7 @@ finish_in rest = number_of rest >>= λ session. Some (Finish session)
 
 -- `absorb S initiator`, `absorb S responder`
 abbrev pub absorb_in : List ℕ → Option ScenarioStep
-absorb_in rest = do
-  words ← parted rest
-  session ← number_of words.0
-  side ← side_of words.1
-  Some (Do (Absorb session side))
+absorb_in = numbered side_of (λ session side. Do (Absorb session side))
 
 -- by the name, what stands after it
 abbrev pub step_by : List ℕ → List ℕ → Option ScenarioStep

@@ -136,10 +136,12 @@ module _ {F : Type 0} (S : Summary F) where
 
   -- ==== A session of a world that runs
 
-  -- the session at its place, and its responder's node
-  pub record IsAt (nodes : List Node) (lives : List (RunSession F)) (k : ℕ) (l : RunSession F) (node : Node) : Type 0 where
+  -- the session at its place, of which there is more to deliver, and its responder's node
+  pub record IsAt (nodes : List Node) (lives : List (RunSession F)) (k : ℕ) (l : RunSession F) (node : Node) :
+      Type 0 where
     pub runs : IsRunning S nodes lives
     pub here : slice_get lives k ≡ Some l
+    pub more : l.delivered < made l
     pub it : node_at (world_of nodes lives) l.responder_node ≡ node
 
   pub kept_at : (nodes : List Node) (lives : List (RunSession F)) (k : ℕ) (l : RunSession F) → IsRunning S nodes lives →
@@ -165,14 +167,14 @@ module _ {F : Type 0} (S : Summary F) where
   few_at laws nodes lives k l runs here =
       let t = tells_at laws nodes lives k l runs here in omega (arith, t.count, t.delivered)
 
-  goes_at : DeliveryLaws S → (nodes : List Node) (lives : List (RunSession F)) (k : ℕ) (l : RunSession F) (node : Node) →
-      IsAt nodes lives k l node → l.delivered < made l →
+  goes_at : DeliveryLaws S → (nodes : List Node) (lives : List (RunSession F)) (k : ℕ) (l : RunSession F)
+      (node : Node) → IsAt nodes lives k l node →
       Goes (world_of nodes lives) (session_of l) (kept_of l) (answer S (hearer l node).end l.last)
       × IsHeard (world_of nodes lives) l node
-  goes_at laws nodes lives k l node at more =
+  goes_at laws nodes lives k l node at =
       let w : World = world_of nodes lives in
       let going : has_ended S w (session_of l) ≡ false = ended_at laws.look nodes lives k l at.runs at.here
-      ∙ ne_eqb (made l) l.delivered (λ e. omega arith) in
+      ∙ ne_eqb (made l) l.delivered (λ e. omega (arith, at.more)) in
       let g = laws.go_on laws.look.exact w (session_of l) (kept_of l) at.runs.ready
       (kept_at nodes lives k l at.runs at.here).keeps going in
       let is : IsHeard w l node = subst (IsHeard w l) at.it (heard w l (is_even l.delivered) refl) in (
@@ -182,9 +184,9 @@ module _ {F : Type 0} (S : Summary F) where
       )
 
   pub deliver_taken : DeliveryLaws S → (nodes : List Node) (lives : List (RunSession F)) (k : ℕ) (l : RunSession F)
-      (node : Node) → IsAt nodes lives k l node → l.delivered < made l →
+      (node : Node) → IsAt nodes lives k l node →
       IsTaken (answer S (hearer l node).end l.last)
-  deliver_taken laws nodes lives k l node at more = (goes_at laws nodes lives k l node at more).0.taken
+  deliver_taken laws nodes lives k l node at = (goes_at laws nodes lives k l node at).0.taken
 
   pub deliver_none : (nodes : List Node) (lives : List (RunSession F)) (k : ℕ) (l : RunSession F) (node : Node) →
       IsAt nodes lives k l node → HasNone (hearer l node)
@@ -211,15 +213,15 @@ module _ {F : Type 0} (S : Summary F) where
   abbrev with_sessions : List Node → List worlds.Session → World
   with_sessions nodes ss = record { nodes = nodes; sessions = ss }
 
-  both_made : DeliveryLaws S → (nodes : List Node) (lives : List (RunSession F)) (k : ℕ) (l : RunSession F) (node : Node) →
-      IsAt nodes lives k l node → l.delivered < made l →
+  both_made : DeliveryLaws S → (nodes : List Node) (lives : List (RunSession F)) (k : ℕ) (l : RunSession F)
+      (node : Node) → IsAt nodes lives k l node →
       deliver_at S (world_of nodes lives) k (slice_get (world_of nodes lives).sessions k)
       ≡ (world_of nodes (set lives k (heard_by S l node)), did_by (answer S (hearer l node).end l.last))
-  both_made laws nodes lives k l node at more =
+  both_made laws nodes lives k l node at =
       let w : World = world_of nodes lives in
-      let both = goes_at laws nodes lives k l node at more in
+      let both = goes_at laws nodes lives k l node at in
       let going : has_ended S w (session_of l) ≡ false = ended_at laws.look nodes lives k l at.runs at.here
-      ∙ ne_eqb (made l) l.delivered (λ e. omega arith) in
+      ∙ ne_eqb (made l) l.delivered (λ e. omega (arith, at.more)) in
       let same : map session_of (set lives k (heard_by S l node))
       ≡ set (map session_of lives) k (after_delivery w (session_of l)) =
       map-set session_of lives k (heard_by S l node) ∙ ap (set (map session_of lives) k) both.1.session in
@@ -227,14 +229,14 @@ module _ {F : Type 0} (S : Summary F) where
       ∙ ap (λ d. (delivered_to w k (session_of l), d)) (sym both.0.did)
       ∙ ap (λ ss. (with_sessions nodes ss, did_by (answer S (hearer l node).end l.last))) (sym same)
 
-  heard_runs : DeliveryLaws S → (nodes : List Node) (lives : List (RunSession F)) (k : ℕ) (l : RunSession F) (node : Node) →
-      IsAt nodes lives k l node → l.delivered < made l →
+  heard_runs : DeliveryLaws S → (nodes : List Node) (lives : List (RunSession F)) (k : ℕ) (l : RunSession F)
+      (node : Node) → IsAt nodes lives k l node →
       IsRunning S nodes (set lives k (heard_by S l node))
-  heard_runs laws nodes lives k l node at more =
+  heard_runs laws nodes lives k l node at =
       let w : World = world_of nodes lives in
       let l' : RunSession F = heard_by S l node in
       let v : World = world_of nodes (set lives k l') in
-      let both = goes_at laws nodes lives k l node at more in
+      let both = goes_at laws nodes lives k l node at in
       let was = kept_at nodes lives k l at.runs at.here in
       let stays : (m : RunSession F) → IsKept S w m →
       IsKept S v m = λ m h. IsKept-stays S w v m (λ s g. laws.keep w v s (kept_of m) refl g) (λ n. refl) h in
@@ -252,41 +254,41 @@ module _ {F : Type 0} (S : Summary F) where
         ready = at.runs.ready;
         kept = All-set (IsKept S v) lives k l' (stays l' new) (All-kept S w v stays lives at.runs.kept);
         came =
-            came_on S w v (Deliver k) (sym (ap (λ p. p.0) (both_made laws nodes lives k l node at more))) at.runs.came;
+            came_on S w v (Deliver k) (sym (ap (λ p. p.0) (both_made laws nodes lives k l node at))) at.runs.came;
       }
 
   pub deliver_runs : {D E : Type 0} (r : Result D E) → DeliveryLaws S →
       (nodes : List Node) (lives : List (RunSession F)) (k : ℕ) (l m : RunSession F) (node : Node) →
-      IsAt nodes lives k l node → l.delivered < made l →
+      IsAt nodes lives k l node →
       OnOk r (m ≡ heard_by S l node) → OnErr r (m ≡ l) → IsRunning S nodes (set lives k m)
-  deliver_runs (Ok d) laws nodes lives k l m node at more ok err =
-      subst (λ z. IsRunning S nodes (set lives k z)) (sym ok) (heard_runs laws nodes lives k l node at more)
-  deliver_runs (Err d) laws nodes lives k l m node at more ok err =
+  deliver_runs (Ok d) laws nodes lives k l m node at ok err =
+      subst (λ z. IsRunning S nodes (set lives k z)) (sym ok) (heard_runs laws nodes lives k l node at)
+  deliver_runs (Err d) laws nodes lives k l m node at ok err =
       subst (IsRunning S nodes) (sym (ap (set lives k) err ∙ set_found lives k l at.here)) at.runs
 
   pub deliver_world : {D E : Type 0} (r : Result D E) → DeliveryLaws S →
       (w : World) (nodes : List Node) (lives : List (RunSession F)) (k : ℕ) (l m : RunSession F) (node : Node) →
       world_of nodes lives ≡ w →
-      IsAt nodes lives k l node → l.delivered < made l → OnOk r (m ≡ heard_by S l node) →
+      IsAt nodes lives k l node → OnOk r (m ≡ heard_by S l node) →
       OnOk r (world_of nodes (set lives k m) ≡ (deliver_at S w k (slice_get w.sessions k)).0)
-  deliver_world (Ok d) laws w nodes lives k l m node v at more ok =
+  deliver_world (Ok d) laws w nodes lives k l m node v at ok =
       subst (λ u. world_of nodes (set lives k m) ≡ (deliver_at S u k (slice_get u.sessions k)).0) v
-      (ap (λ z. world_of nodes (set lives k z)) ok ∙ sym (ap (λ p. p.0) (both_made laws nodes lives k l node at more)))
-  deliver_world (Err d) laws w nodes lives k l m node v at more ok = tt
+      (ap (λ z. world_of nodes (set lives k z)) ok ∙ sym (ap (λ p. p.0) (both_made laws nodes lives k l node at)))
+  deliver_world (Err d) laws w nodes lives k l m node v at ok = tt
 
   pub deliver_did : {D E : Type 0} (f : D → worlds.Did) (r : Result D E) → DeliveryLaws S →
       (w : World) (nodes : List Node) (lives : List (RunSession F)) (k : ℕ) (l : RunSession F) (node : Node) →
       world_of nodes lives ≡ w →
-      IsAt nodes lives k l node → l.delivered < made l →
+      IsAt nodes lives k l node →
       IfOk r (λ d. f d ≡ did_by (answer S (hearer l node).end l.last)) →
       IfOk r (λ d. f d ≡ (deliver_at S w k (slice_get w.sessions k)).1)
-  deliver_did f (Ok d) laws w nodes lives k l node v at more ok =
+  deliver_did f (Ok d) laws w nodes lives k l node v at ok =
       subst (λ u. f d ≡ (deliver_at S u k (slice_get u.sessions k)).1) v
-      (ok ∙ sym (ap (λ p. p.1) (both_made laws nodes lives k l node at more)))
-  deliver_did f (Err d) laws w nodes lives k l node v at more ok = tt
+      (ok ∙ sym (ap (λ p. p.1) (both_made laws nodes lives k l node at)))
+  deliver_did f (Err d) laws w nodes lives k l node v at ok = tt
 
-  pub deliver_same : {D E : Type 0} (r : Result D E) (w : World) (nodes : List Node) (lives : List (RunSession F)) (k : ℕ)
-      (l m : RunSession F) → world_of nodes lives ≡ w →
+  pub deliver_same : {D E : Type 0} (r : Result D E) (w : World) (nodes : List Node) (lives : List (RunSession F))
+      (k : ℕ) (l m : RunSession F) → world_of nodes lives ≡ w →
       slice_get lives k ≡ Some l → OnErr r (m ≡ l) → OnErr r (world_of nodes (set lives k m) ≡ w)
   deliver_same (Ok d) w nodes lives k l m v here err = tt
   deliver_same (Err d) w nodes lives k l m v here err =
@@ -309,11 +311,18 @@ module _ {F : Type 0} (S : Summary F) where
       ap (world_of nodes) (set_found lives k l here) ∙ v
       ∙ sym (ap (λ p. p.0) (deliver_idle laws w nodes lives k l v runs here less))
 
-  -- the node of the responder, as it is read
-  pub at_node : (nodes : List Node) (lives : List (RunSession F)) (k : ℕ) (l : RunSession F) (node : Node) →
-      IsRunning S nodes lives → slice_get lives k ≡ Some l → node ≡ get_or nodes l.responder_node node →
-      node_at (world_of nodes lives) l.responder_node ≡ node
-  at_node nodes lives k l node runs here e =
+  -- what was looked up at its place, and the node of its responder, as it is read
+  pub is_at : (nodes : List Node) (lives : List (RunSession F)) (k n : ℕ) (l : RunSession F) (node : Node) →
+      IsRunning S nodes lives → k < length lives → l ≡ get_or lives k l → n ≡ made l → l.delivered < n →
+      node ≡ get_or nodes l.responder_node node → IsAt nodes lives k l node
+  is_at nodes lives k n l node runs low found all more read =
+      let here = slice_get_read lives (length lives) k l refl low found in
       let there : l.responder_node < length nodes = (kept_at nodes lives k l runs here).keeps.responder_there in
-      get_or_from_slice_get nodes l.responder_node node no_node
-      (slice_get_read nodes (length nodes) l.responder_node node refl there e)
+      record {
+        runs = runs;
+        here = here;
+        more = subst (λ (m : ℕ). l.delivered < m) all more;
+        it =
+            get_or_from_slice_get nodes l.responder_node node no_node
+            (slice_get_read nodes (length nodes) l.responder_node node refl there read);
+      }

@@ -24,8 +24,8 @@ use Rattle.world_core.specs.Laws.{Laws}
 use Rattle.world_core.proofs.Delivering.{kept_at, tells_at, ended_at, few_at}
 
 -- what a look into a slice of the sessions found
-pub looked_at : {F : Type 0} (lives seen : List (RunSession F)) (k : ℕ) (l : RunSession F) → seen ≡ lives → k < length seen →
-    l ≡ get_or seen k l → slice_get lives k ≡ Some l
+pub looked_at : {F : Type 0} (lives seen : List (RunSession F)) (k : ℕ) (l : RunSession F) → seen ≡ lives →
+    k < length seen → l ≡ get_or seen k l → slice_get lives k ≡ Some l
 looked_at lives seen k l same low read =
     subst (λ xs. slice_get xs k ≡ Some l) same (slice_get_read seen _ k l refl low read)
 
@@ -218,8 +218,8 @@ absorbed_did f (Ok d) w n m xs ys p ok same items is =
 absorbed_did f (Err d) w n m xs ys p ok same items is = tt
 
 pub absorbed_memory : {F : Type 0} (S : Summary F) {D E : Type 0} (r : Result D E) → Laws S →
-    (w v : World) (nodes : List Node) (lives : List (RunSession F)) (k : ℕ) (l : RunSession F) (side : worlds.Side) (n : ℕ)
-    (xs : List Item) → world_of nodes lives ≡ w → IsRunning S nodes lives →
+    (w v : World) (nodes : List Node) (lives : List (RunSession F)) (k : ℕ) (l : RunSession F) (side : worlds.Side)
+    (n : ℕ) (xs : List Item) → world_of nodes lives ≡ w → IsRunning S nodes lives →
     slice_get lives k ≡ Some l → made l ≤ l.delivered → xs ≡ set_of (learned_by l side).theirs →
     n ≡ node_of (session_of l) side →
     OnErr r ((count : ℕ) × (v ≡ absorbing w n (node_at w n) (take count xs))) → OnErr r (AbsorbsSome S w k side v)

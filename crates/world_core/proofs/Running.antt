@@ -119,8 +119,8 @@ module _ {F : Type 0} (S : Summary F) where
   insert_runs stay keep (Err d) nodes lives n x node m e ok err h =
       subst (λ ns. IsRunning S ns lives) (sym (ap (set nodes n) err ∙ set_same nodes n node e)) h
 
-  pub insert_world : {D E : Type 0} (r : Result D E) (w : World) (nodes : List Node) (lives : List (RunSession F)) (n : ℕ)
-      (x : Item) (node m : Node) →
+  pub insert_world : {D E : Type 0} (r : Result D E) (w : World) (nodes : List Node) (lives : List (RunSession F))
+      (n : ℕ) (x : Item) (node m : Node) →
       world_of nodes lives ≡ w → slice_get nodes n ≡ Some node → OnOk r (m ≡ with_item node x) →
       OnOk r (world_of (set nodes n m) lives ≡ (insert_at w n x (slice_get w.nodes n)).0)
   insert_world (Ok d) w nodes lives n x node m v e ok =
@@ -139,8 +139,8 @@ module _ {F : Type 0} (S : Summary F) where
       (ok ∙ sym (ap (λ p. p.1) (insert_at_some (world_of nodes lives) n x node e)))
   insert_did f (Err d) w nodes lives n x node v e ok = tt
 
-  pub insert_same : {D E : Type 0} (r : Result D E) (w : World) (nodes : List Node) (lives : List (RunSession F)) (n : ℕ)
-      (node m : Node) →
+  pub insert_same : {D E : Type 0} (r : Result D E) (w : World) (nodes : List Node) (lives : List (RunSession F))
+      (n : ℕ) (node m : Node) →
       world_of nodes lives ≡ w → slice_get nodes n ≡ Some node → OnErr r (m ≡ node) →
       OnErr r (world_of (set nodes n m) lives ≡ w)
   insert_same (Ok d) w nodes lives n node m v e err = tt

@@ -57,8 +57,8 @@ module _ {F : Type 0} (S : Summary F) where
       (laws.cost laws.exact u))
 
   -- of each session of a world that runs
-  pub all_hold : RunLaws → (w : World) (nodes : List Node) (lives : List (live.RunSession F)) → world_of nodes lives ≡ w →
-      IsRunning S nodes lives → AllByRecursion (Holds S w) w.sessions
+  pub all_hold : RunLaws → (w : World) (nodes : List Node) (lives : List (live.RunSession F)) →
+      world_of nodes lives ≡ w → IsRunning S nodes lives → AllByRecursion (Holds S w) w.sessions
   all_hold laws w nodes lives e runs =
       subst (λ u. AllByRecursion (Holds S u) u.sessions) e (came_hold laws (world_of nodes lives) runs.came)
 

@@ -24,7 +24,7 @@ use strategy_check::Accepted;
 use version_log::{Added, Log, LogFault};
 use wire_core::Message;
 
-/// A node of a run: a table of the setup, and a log of its own.
+/// A node of a setup or of a run: a table that was accepted, and a log that it has room for.
 #[derive(Drop)]
 pub(crate) struct Node {
     accepted: Arc<Accepted>,
@@ -51,6 +51,14 @@ impl Node {
         ensures { result ≡ node_by (arc_value accepted) log.history }
     {
         Node { accepted, log }
+    }
+
+    /// The same node, with a copy of the log.
+    pub(crate) fn copy(&self, alloc: Global) -> Result<Node, AllocError>
+        ensures { IfOk result (λ n. n ≡ self.now) }
+    {
+        let log = self.log.copy(alloc)?;
+        Ok(Node::new(Arc::try_clone(&self.accepted)?, log))
     }
 
     /// The newest version.

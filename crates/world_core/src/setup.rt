@@ -1,7 +1,6 @@
 //! The nodes that a run begins with.
 
 ghost use Rattle.std.specs.Prelude.{◌≡◌, ◌<◌, ◌≤◌, [], ◌∷◌, ◌++◌, length, IfOk, IfErr, OnOk, OnErr};
-ghost use Rattle.std.specs.Arc.{arc_value};
 ghost use Rattle.definitions.specs.Sets.{set_of};
 ghost use Rattle.definitions.specs.Histories.{opening_history};
 ghost use Rattle.definitions.specs.Theorems.{IsNode};
@@ -13,7 +12,7 @@ ghost use Rattle.world_core.specs.SetupFaults.{setup_fault_number, of_log};
 use crate::node::Node;
 use item_core::Item;
 use range_tree::Tree;
-use std::alloc::{AllocError, Global};
+use std::alloc::Global;
 use std::marker::Model;
 use std::sync::Arc;
 use strategy_check::Accepted;
@@ -51,36 +50,6 @@ impl From<LogFault> for SetupFault {
     }
 }
 
-/// A table that was accepted, and a log that it has room for.
-#[derive(Drop)]
-pub(crate) struct Prepared {
-    accepted: Arc<Accepted>,
-    log: Log<Tree>,
-}
-
-impl Model for Prepared {
-    ghost use Rattle.std.specs.Prelude.{◌≡◌};
-    ghost use Rattle.std.specs.Arc.{arc_value};
-    ghost use Rattle.definitions.specs.Worlds.{Node};
-    ghost use Rattle.world_core.specs.Nodes.{node_by};
-
-    ghost Value = { Node };
-
-    ghost view = { λ a. node_by (arc_value a.accepted) a.log.history };
-
-    ghost invariant = { λ a. a.log.cap ≡ (arc_value a.accepted).table.cap };
-}
-
-impl Prepared {
-    /// A node of a run, with a copy of the log.
-    pub(crate) fn live(&self, alloc: Global) -> Result<Node, AllocError>
-        ensures { IfOk result (λ n. n ≡ self.now) }
-    {
-        let log = self.log.copy(alloc)?;
-        Ok(Node::new(Arc::try_clone(&self.accepted)?, log))
-    }
-}
-
 /// The log of these items, by a table's cap.
 fn log_of(alloc: Global, accepted: &Accepted, items: &[Item]) -> Result<Log<Tree>, SetupFault>
     ensures log { IfOk result (λ p. p ≡ opened accepted.now.table.cap items.now 1) }
@@ -97,7 +66,7 @@ fn log_of(alloc: Global, accepted: &Accepted, items: &[Item]) -> Result<Log<Tree
 /// The nodes that a run begins with: tables that were accepted, and items.
 #[derive(Drop)]
 pub struct Setup {
-    nodes: Vec<Prepared>,
+    nodes: Vec<Node>,
 }
 
 impl Model for Setup {
@@ -148,7 +117,7 @@ impl Setup {
         };
         match Arc::new(alloc, accepted) {
             Ok(accepted) => {
-                self.nodes.push_reserved(Prepared { accepted, log });
+                self.nodes.push_reserved(Node::new(accepted, log));
                 Ok(())
             }
             Err(refused) => Err((refused.value, SetupFault::Memory)),
@@ -156,7 +125,7 @@ impl Setup {
     }
 
     /// The nodes.
-    pub(crate) fn nodes(&self) -> &[Prepared]
+    pub(crate) fn nodes(&self) -> &[Node]
         ensures nodes { result.now ≡ self.now }
         ensures are { AllByRecursion IsNode self.now }
     {

@@ -17,7 +17,7 @@ ghost use Rattle.world_core.specs.Steps.{IsCutShort};
 use crate::node::Node;
 use crate::report::{Lists, Report};
 use crate::session::RunSession;
-use crate::setup::{Prepared, Setup};
+use crate::setup::Setup;
 use crate::step::{Did, Step};
 use digest_core::{Fingerprint, Summary};
 use ends_core::Side;
@@ -61,12 +61,12 @@ fn delivery_laws<F: Summary>()
 }
 
 /// The nodes of a run that begins.
-fn live_nodes(alloc: Global, prepared: &[Prepared]) -> Result<Vec<Node>, AllocError>
+fn live_nodes(alloc: Global, prepared: &[Node]) -> Result<Vec<Node>, AllocError>
     ensures { IfOk result (λ nodes. nodes.items ≡ prepared.now) }
 {
     let mut nodes = Vec::with_capacity(alloc, prepared.len())?;
     for node in prepared {
-        nodes.push(node.live(alloc)?)?;
+        nodes.push(node.copy(alloc)?)?;
     }
     Ok(nodes)
 }

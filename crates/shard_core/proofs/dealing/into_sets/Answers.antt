@@ -18,20 +18,20 @@ returns-in_err-make_sets-clause-many c = λ b dealt was.
     subst (λ r. IfErr r (λ e. IsFull c.args.cap (shards b (set_of dealt)) e)) (sym is)
     (subst (λ Z. IsFull c.args.cap Z c.in_err-make_sets.field-0.0) sets c.in_err-make_sets.ensures.many)
 
+-- as many as before
+long : (c : goal.In_ok-make_sets) → length c.make_sets.new.lists ≡ c.args.lists.len
+long c = c.in_ok-make_sets.ensures.all ∙ ap length c.deref_mut.ensures.value ∙ sym c.args.lists.ok.0
+
 pub returns-clause-sets : goal.returns-clause-sets
 returns-clause-sets c =
-    let now : c.deref_mut.result.now ≡ c.args.lists.items = c.deref_mut.ensures.value in
-    let long : length c.make_sets.new.lists ≡ c.args.lists.len =
-    c.in_ok-make_sets.ensures.all ∙ ap length now ∙ sym c.args.lists.ok.0 in
-    ap held (with_items_is c.args.lists c.make_sets.new.lists long) ∙ c.in_ok-make_sets.ensures.sets
-    ∙ ap (λ Z. map set_of (held Z)) now
+    let many = long c in
+    ap held (with_items_is c.args.lists c.make_sets.new.lists many) ∙ c.in_ok-make_sets.ensures.sets
+    ∙ ap (λ Z. map set_of (held Z)) c.deref_mut.ensures.value
 
 pub returns-clause-all : goal.returns-clause-all
 returns-clause-all c =
-    let now : c.deref_mut.result.now ≡ c.args.lists.items = c.deref_mut.ensures.value in
-    let long : length c.make_sets.new.lists ≡ c.args.lists.len =
-    c.in_ok-make_sets.ensures.all ∙ ap length now ∙ sym c.args.lists.ok.0 in
-    ap length (with_items_is c.args.lists c.make_sets.new.lists long) ∙ long ∙ c.args.lists.ok.0
+    let many = long c in
+    ap length (with_items_is c.args.lists c.make_sets.new.lists many) ∙ many ∙ c.args.lists.ok.0
 
 pub returns-in_err-make_sets-clause-full : goal.returns-in_err-make_sets-clause-full
 returns-in_err-make_sets-clause-full c =
@@ -42,16 +42,10 @@ returns-in_err-make_sets-clause-full c =
 
 pub returns-clause-shards : goal.returns-clause-shards
 returns-clause-shards c = λ b dealt was.
-    let now : c.deref_mut.result.now ≡ c.args.lists.items = c.deref_mut.ensures.value in
-    let long : length c.make_sets.new.lists ≡ c.args.lists.len =
-    c.in_ok-make_sets.ensures.all ∙ ap length now ∙ sym c.args.lists.ok.0 in
-    ap held (with_items_is c.args.lists c.make_sets.new.lists long) ∙ c.in_ok-make_sets.ensures.sets
-    ∙ ap (λ Z. map set_of (held Z)) now ∙ ap (λ Z. map set_of Z) was ∙ sets_of_shards b dealt
+    returns-clause-sets c ∙ ap (λ Z. map set_of Z) was ∙ sets_of_shards b dealt
 
 pub returns-clause-room : goal.returns-clause-room
 returns-clause-room c =
-    let now : c.deref_mut.result.now ≡ c.args.lists.items = c.deref_mut.ensures.value in
-    let long : length c.make_sets.new.lists ≡ c.args.lists.len =
-    c.in_ok-make_sets.ensures.all ∙ ap length now ∙ sym c.args.lists.ok.0 in
-    subst (λ Z. HasRoom c.args.cap (held Z)) (sym (with_items_is c.args.lists c.make_sets.new.lists long))
+    let many = long c in
+    subst (λ Z. HasRoom c.args.cap (held Z)) (sym (with_items_is c.args.lists c.make_sets.new.lists many))
     c.in_ok-make_sets.ensures.room

@@ -5,42 +5,17 @@ use Rattle.world_core.specs.Runs.{Holds, HasFewMessages, IsWithinBound, KeepsLim
 use Rattle.world_core.specs.Runs.{HasFewParts}
 use Rattle.world_core.proofs.world.run.Goals as goal
 
-pub returns-clause-few : goal.returns-clause-few
-returns-clause-few g c =
+pub returns : goal.returns
+returns g c =
+    let S = g.F.Summary.summary in
     let w = c.in_ok-world.world in
-    All-map (Holds g.F.Summary.summary w) (HasFewMessages g.F.Summary.summary w)
-    (λ s h. h.few) w.sessions c.sessions.ensures.hold
-
-pub returns-clause-bound : goal.returns-clause-bound
-returns-clause-bound g c =
-    let w = c.in_ok-world.world in
-    All-map (Holds g.F.Summary.summary w) (IsWithinBound g.F.Summary.summary w)
-    (λ s h. h.bound) w.sessions c.sessions.ensures.hold
-
-pub returns-clause-short : goal.returns-clause-short
-returns-clause-short g c =
-    let w = c.in_ok-world.world in
-    All-map (Holds g.F.Summary.summary w) (KeepsLimits g.F.Summary.summary w)
-    (λ s h. h.short) w.sessions c.sessions.ensures.hold
-
-pub returns-clause-both : goal.returns-clause-both
-returns-clause-both g c =
-    let w = c.in_ok-world.world in
-    All-map (Holds g.F.Summary.summary w) (LearnsBoth g.F.Summary.summary w)
-    (λ s h. h.both) w.sessions c.sessions.ensures.hold
-
-pub returns-clause-sound : goal.returns-clause-sound
-returns-clause-sound g c =
-    let w = c.in_ok-world.world in
-    All-map (Holds g.F.Summary.summary w) (LearnsNothingWrong g.F.Summary.summary w)
-    (λ s h. h.sound) w.sessions c.sessions.ensures.hold
-
-pub returns-clause-cost : goal.returns-clause-cost
-returns-clause-cost g c =
-    let w = c.in_ok-world.world in
-    All-map (Holds g.F.Summary.summary w) (HasFewParts g.F.Summary.summary w)
-    (λ s h. h.cost) w.sessions c.sessions.ensures.hold
-
-pub returns-clause-items : goal.returns-clause-items
-returns-clause-items g c =
-    c.sessions.ensures.items c.args.setup.now (map step_of c.args.steps.now) c.in_ok-world.ensures
+    let hold = c.sessions.ensures.hold in record {
+      world = c.in_ok-world.ensures;
+      few = All-map (Holds S w) (HasFewMessages S w) (λ s h. h.few) w.sessions hold;
+      bound = All-map (Holds S w) (IsWithinBound S w) (λ s h. h.bound) w.sessions hold;
+      short = All-map (Holds S w) (KeepsLimits S w) (λ s h. h.short) w.sessions hold;
+      both = All-map (Holds S w) (LearnsBoth S w) (λ s h. h.both) w.sessions hold;
+      sound = All-map (Holds S w) (LearnsNothingWrong S w) (λ s h. h.sound) w.sessions hold;
+      cost = All-map (Holds S w) (HasFewParts S w) (λ s h. h.cost) w.sessions hold;
+      items = c.sessions.ensures.items c.args.setup.now (map step_of c.args.steps.now) c.in_ok-world.ensures;
+    }

@@ -1,18 +1,13 @@
-use Rattle.std.proofs.Common.{rules, ◌≡◌, ◌<◌, ◌^◌, ◌≤◌, ◌-◌, arith}
+use Rattle.std.proofs.Common.{rules, ◌≡◌, arith}
 use Rattle.hub_core.specs.Peers.{kept_in}
-use Rattle.hub_core.proofs.Held.{kept-fits, room-for, held-added}
+use Rattle.hub_core.proofs.Held.{room-for, held-added}
 use Rattle.hub_core.proofs.hub.Hub.admit.Goals as goal
 
 pub overflow_add-self : goal.overflow_add-self
 overflow_add-self g c =
-    let own : c.from.result ≡ kept_in c.args.peer.stage = search rules in
-    let small : c.capacity.result < 2 ^ 64 = search rules in
-    let below : c.from.result ≤ 2 ^ 64 - 1 = omega (arith, own, kept-fits c.args.peer.stage) in
-    omega (
-      arith,
-      room-for c.self.inside.held c.from.result c.capacity.result c.self.inside.peers c.self.invariant
-          c.capacity.ensures.slots small below,
-    )
+    let room = room-for c.self.inside.held c.from.result c.capacity.result c.self.inside.peers c.args.peer
+    c.self.invariant (search rules) c.capacity.ensures.slots (search rules) in
+    omega (arith, room)
 
 pub invariant_of-self : goal.invariant_of-self
 invariant_of-self g c =

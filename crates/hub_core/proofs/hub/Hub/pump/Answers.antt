@@ -1,59 +1,37 @@
-use Rattle.std.proofs.Common.{rules, ◌≡◌, ◌≤◌, ◌<◌, ◌-◌, ◌^◌, Some, ap, ◌∙◌, sym, arith}
-use Rattle.std.specs.Prelude.{is_some}
+use Rattle.std.proofs.Common.{rules, ap, arith}
 use Rattle.std.specs.Io.Take.{take_remaining}
-use Rattle.slab.specs.Slab.{get, with_value}
-use Rattle.slab.proofs.SlabLemmas.{Updates-with_value}
-use Rattle.hub_core.specs.Peers.{kept_in, GoesSo, LeavesOff}
+use Rattle.hub_core.specs.Peers.{GoesSo, LeavesOff}
 use Rattle.hub_core.specs.Hubs.{HubState}
-use Rattle.hub_core.proofs.Held.{kept-fits, room-for, held-enough, held-changed}
+use Rattle.hub_core.proofs.Held.{room-changed, held-enough, held-changed}
 use Rattle.hub_core.proofs.Changed.{of-both, of-one}
 use Rattle.hub_core.proofs.hub.Hub.pump.Goals as goal
 
 pub overflow_sub-self : goal.overflow_sub-self
 overflow_sub-self g c =
-    let own : c.from.result ≡ kept_in c.in_ok-peer.peer.now.stage = search rules in
-    let there : get c.self.inside.peers c.args.key ≡ Some c.in_ok-peer.peer.now = search rules in
-    held-enough c.self.inside.held c.from.result c.self.inside.peers c.args.key c.in_ok-peer.peer.now
-    c.self.invariant own there
+    held-enough c.self.inside.held c.from.result c.self.inside.peers c.args.key c.in_ok-peer.peer.now c.self.invariant
+    (search rules) (search rules)
 
 pub overflow_add-self : goal.overflow_add-self
 overflow_add-self g c =
-    let now : c.from-2.result ≡ kept_in c.pump-did.new.self.stage = search rules in
-    let small : c.capacity.result < 2 ^ 64 = search rules in
-    let below : c.from-2.result ≤ 2 ^ 64 - 1 = omega (arith, now, kept-fits c.pump-did.new.self.stage) in
-    omega (
-      arith,
-      room-for c.self.inside.held c.from-2.result c.capacity.result c.self.inside.peers c.self.invariant
-          c.capacity.ensures.slots small below,
-    )
+    let room = room-changed c.self.inside.held c.from.result c.from-2.result c.capacity.result c.self.inside.peers
+    c.pump-did.new.self c.self.invariant (search rules) c.capacity.ensures.slots (search rules) in
+    omega (arith, room)
 
 pub invariant_of-self-2 : goal.invariant_of-self-2
 invariant_of-self-2 g c =
-    let own : c.from.result ≡ kept_in c.in_ok-peer.peer.now.stage = search rules in
-    let now : c.from-2.result ≡ kept_in c.pump-did.new.self.stage = search rules in
-    let there : get c.self.inside.peers c.args.key ≡ Some c.in_ok-peer.peer.now = search rules in
-    let updates = Updates-with_value c.self.inside.peers c.args.key c.pump-did.new.self (ap is_some there) in
-    held-changed c.self.inside.held c.from.result c.from-2.result c.self.inside.peers
-    (with_value c.self.inside.peers c.args.key c.pump-did.new.self) c.args.key c.in_ok-peer.peer.now c.pump-did.new.self
-    c.self.invariant own now there updates
+    held-changed c.self.inside.held c.from.result c.from-2.result c.self.inside.peers c.args.key
+    c.in_ok-peer.peer.now c.pump-did.new.self c.self.invariant (search rules) (search rules) (search rules)
 
 pub returns-clause-stays : goal.returns-clause-stays
 returns-clause-stays g c =
     let R = g.I.Read.remaining in
     let W = g.O.Write.contents in
-    let there : get c.self.inside.peers c.args.key ≡ Some c.in_ok-peer.peer.now = search rules in
-    let was : get c.args.self.now.peers c.args.key ≡ Some c.in_ok-peer.peer.now =
-    sym (ap (λ (h : HubState g.row.I.Denot g.row.O.Denot). get h.peers c.args.key) c.self.view_is) ∙ there in
-    let updates = Updates-with_value c.self.inside.peers c.args.key c.pump-did.new.self (ap is_some there) in
     of-both (λ p q. GoesSo p.stage q.stage (take_remaining R p.reader.way) (take_remaining R q.reader.way)
-    (W p.writer.way) (W q.writer.way) c.pump-did.result) c.args.self.now.peers
-    (with_value c.self.inside.peers c.args.key c.pump-did.new.self) c.args.key c.in_ok-peer.peer.now c.pump-did.new.self
-    was updates.changed c.pump-did.ensures.moved
+    (W p.writer.way) (W q.writer.way) c.pump-did.result) c.args.self.now.peers c.self.inside.peers c.args.key
+    c.in_ok-peer.peer.now c.pump-did.new.self
+    (ap (λ (h : HubState g.row.I.Denot g.row.O.Denot). h.peers) c.self.view_is) (search rules) c.pump-did.ensures.moved
 
 pub returns-clause-leaves : goal.returns-clause-leaves
 returns-clause-leaves g c =
-    let there : get c.self.inside.peers c.args.key ≡ Some c.in_ok-peer.peer.now = search rules in
-    let updates = Updates-with_value c.self.inside.peers c.args.key c.pump-did.new.self (ap is_some there) in
-    of-one (λ q. LeavesOff q.stage q.reader.last q.writer.last c.pump-did.result)
-    (with_value c.self.inside.peers c.args.key c.pump-did.new.self) c.args.key c.pump-did.new.self updates.changed
-    c.pump-did.ensures.leaves
+    of-one (λ q. LeavesOff q.stage q.reader.last q.writer.last c.pump-did.result) c.self.inside.peers c.args.key
+    c.in_ok-peer.peer.now c.pump-did.new.self (search rules) c.pump-did.ensures.leaves
