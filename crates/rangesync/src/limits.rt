@@ -1,7 +1,8 @@
 //! What peers may cost a server, by the words of a call.
 
-ghost use Rattle.std.specs.Prelude.{◌≤◌};
+ghost use Rattle.std.specs.Prelude.{◌≡◌, ◌≤◌, min, max};
 ghost use Rattle.session_table.specs.Tables.{IsCapacity};
+ghost use Rattle.rangesync.specs.Limits.{IsLimitsOf};
 
 use peer_loops::PeerLimits;
 use settings_core::ServeWords;
@@ -22,7 +23,9 @@ const MIB: u64 = 1_048_576;
 const MOST_PLACES: usize = 1_024;
 
 /// What peers may cost a server that is asked for in these words.
-pub fn limits_of(words: ServeWords<'_>) -> PeerLimits {
+pub fn limits_of(words: ServeWords<'_>) -> PeerLimits
+    ensures { IsLimitsOf words.entry result }
+{
     let peers = words.peers.unwrap_or(PEERS);
     PeerLimits {
         peers,
@@ -36,7 +39,8 @@ pub fn limits_of(words: ServeWords<'_>) -> PeerLimits {
 
 /// How many places the table of sessions has for so many peers: one for each, and at most 1,024.
 pub fn places(peers: u32) -> usize
-    ensures { IsCapacity result }
+    ensures capacity { IsCapacity result }
+    ensures places { result ≡ min (max peers 1) 1024 }
 {
     (peers as usize).clamp(1, MOST_PLACES)
 }

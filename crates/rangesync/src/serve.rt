@@ -3,6 +3,7 @@
 ghost use Rattle.std.specs.Prelude.{◌≡◌, ◌≤◌, true, false, Some};
 ghost use Rattle.std.specs.Arc.{arc_value};
 ghost use Rattle.settings_core.specs.Spans.{IsWorkerCount};
+ghost use Rattle.rangesync.specs.Limits.{IsLimitsOf};
 
 use crate::disk::Disk;
 use crate::limits::{limits_of, places};
@@ -58,9 +59,14 @@ pub struct Serving<'a> {
 impl<'a> Serving<'a> {
     /// What is asked for in these words, of a set that is called so.
     pub fn asked(words: ServeWords<'a>, set: Option<SetName<'a>>) -> Serving<'a>
-        ensures workers { result.workers ≡ words.entry.workers }
+        ensures served { (result.address ≡ words.entry.address) × (result.workers ≡ words.entry.workers)
+            × (result.sessions ≡ words.entry.sessions) × (result.set ≡ set) }
+        ensures limits { IsLimitsOf words.entry result.limits }
         ensures files { (result.paths.report ≡ words.entry.report) × (result.paths.learned ≡ words.entry.learned)
-            × (result.paths.keep ≡ words.entry.keep) }
+            × (result.paths.keep ≡ words.entry.keep) × (result.rules.is_durable ≡ words.entry.durable) }
+        ensures reports { (result.rules.reporting.form ≡ words.entry.form)
+            × (result.rules.reporting.most ≡ words.entry.report_items) }
+        ensures watching { (result.watching.metrics ≡ words.entry.metrics) × (result.watching.log ≡ words.entry.log) }
         ensures bounded { words.entry.read_only ≡ false → result.rules.most_learned ≡ words.entry.most_learned }
         ensures shut { words.entry.read_only ≡ true → result.rules.most_learned ≡ Some 0 }
     {
