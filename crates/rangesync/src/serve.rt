@@ -60,7 +60,7 @@ impl<'a> Serving<'a> {
     /// What is asked for in these words, of a set that is called so.
     pub fn asked(words: ServeWords<'a>, set: Option<SetName<'a>>) -> Serving<'a>
         ensures served { (result.address ≡ words.entry.address) × (result.workers ≡ words.entry.workers)
-            × (result.sessions ≡ words.entry.sessions) × (result.set ≡ set) }
+            × (result.sessions ≡ words.entry.sessions) × (result.set ≡ set.entry) }
         ensures limits { IsLimitsOf words.entry result.limits }
         ensures files { (result.paths.report ≡ words.entry.report) × (result.paths.learned ≡ words.entry.learned)
             × (result.paths.keep ≡ words.entry.keep) × (result.rules.is_durable ≡ words.entry.durable) }

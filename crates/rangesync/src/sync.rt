@@ -51,7 +51,7 @@ impl<'a> Asking<'a> {
     /// What is asked for in these words, of a set that is called so.
     pub fn asked(words: SyncWords<'a>, set: Option<SetName<'a>>) -> Asking<'a>
         ensures reached { (result.address ≡ words.entry.address) × (result.profile ≡ words.entry.profile)
-            × (result.set ≡ set) }
+            × (result.set ≡ set.entry) }
         ensures limits { (result.limits.patience ≡ words.entry.patience)
             × (result.limits.most_bytes ≡ words.entry.most_bytes) }
         ensures printed { (result.form ≡ words.entry.form) × (result.stats ≡ words.entry.stats)
