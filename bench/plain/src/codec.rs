@@ -6,21 +6,25 @@ use std::error::Error;
 use std::fs;
 use std::path::Path;
 
-/// Each message, and what the steps are called in which it is read and written.
-const MESSAGES: [(&str, &str, &str); 2] =
-    [("sums", "sums_decode", "sums_encode"), ("list", "list_decode", "list_encode")];
+/// What the steps are called in which a message of this name is read and written.
+fn steps(message: &str) -> Result<(&'static str, &'static str), Box<dyn Error>> {
+    match message {
+        "sums" => Ok(("sums_decode", "sums_encode")),
+        "list" => Ok(("list_decode", "list_encode")),
+        _ => Err("the messages are sums and list".into()),
+    }
+}
 
-/// Times the messages `sums` and `list` of the folder.
-pub fn run(folder: &Path, rounds: usize) -> Result<(), Box<dyn Error>> {
+/// Times the message of this name in the folder.
+pub fn run(folder: &Path, message: &str, rounds: usize) -> Result<(), Box<dyn Error>> {
+    let (decode, encode) = steps(message)?;
+    let text = fs::read(folder.join(message))?;
     let mut times = Times::new();
-    for (name, decode, encode) in MESSAGES {
-        let text = fs::read(folder.join(name))?;
-        for _ in 0..rounds {
-            let parts = times.time(decode, || decode_message(&text))?;
-            let again = times.time(encode, || encode_message(&parts))?;
-            if again != text {
-                return Err("other bytes are written than were read".into());
-            }
+    for _ in 0..rounds {
+        let parts = times.time(decode, || decode_message(&text))?;
+        let again = times.time(encode, || encode_message(&parts))?;
+        if again != text {
+            return Err("other bytes are written than were read".into());
         }
     }
     times.print();

@@ -22,7 +22,7 @@ use std::process::ExitCode;
 const USAGE: &str = "\
 usage: plain make FOLDER                 the files that the scripts read
        plain answer FOLDER ROUNDS
-       plain codec FOLDER ROUNDS
+       plain codec FOLDER MESSAGE ROUNDS
        plain feed FOLDER ROUNDS
        plain placing
        plain reply
@@ -40,7 +40,9 @@ fn run(words: &[&str]) -> Result<bool, Box<dyn Error>> {
     match *words {
         ["make", folder] => make::run(Path::new(folder))?,
         ["answer", folder, rounds] => answer::run(Path::new(folder), rounds.parse()?)?,
-        ["codec", folder, rounds] => codec::run(Path::new(folder), rounds.parse()?)?,
+        ["codec", folder, message, rounds] => {
+            codec::run(Path::new(folder), message, rounds.parse()?)?;
+        }
         ["feed", folder, rounds] => feed::run(Path::new(folder), rounds.parse()?)?,
         ["placing"] => placing::run(),
         ["reply"] => reply::run(),
