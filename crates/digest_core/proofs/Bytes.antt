@@ -1,6 +1,6 @@
 -- Lanes and their bytes.
-use Rattle.std.proofs.Common.{take, drop, ◌≡◌, ℕ, ◌^◌, ◌/◌, ◌%◌, zero, suc, ◌<◌, List, [], ◌∷◌, ◌++◌, length, get_or, ap}
-use Rattle.std.proofs.Common.{◌∙◌, arith}
+use Rattle.std.proofs.Common.{take, drop, ◌≡◌, ℕ, ◌^◌, ◌/◌, ◌%◌, zero, suc, ◌<◌, List, [], ◌∷◌, ◌++◌, length, get_or}
+use Rattle.std.proofs.Common.{◌∙◌, ap, arith}
 use Rattle.std.specs.Int.{w64, w128, from_be_bytes, to_be_bytes}
 use Rattle.std.proofs.lemmas.List.{take_rest}
 use Rattle.definitions.specs.Items.{IsBytes}

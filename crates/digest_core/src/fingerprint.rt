@@ -31,8 +31,8 @@ impl Model for Fingerprint {
     ghost inverse = { λ f. record { first = f.first; second = f.second } };
 }
 
-/// 2 to the power of 64. A lane is read and written by halves, each of which one instruction turns round. The bytes of a
-/// `u128` the compiler would take one by one.
+/// 2 to the power of 64. A lane is read and written by halves, each of which one instruction turns round. The bytes of
+/// a `u128` the compiler would take one by one.
 const HALF: u128 = 18_446_744_073_709_551_616;
 
 /// The number that 8 bytes spell, the highest first.

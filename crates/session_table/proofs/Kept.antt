@@ -79,8 +79,9 @@ module _ (capacity : ℕ) (next : Option ℕ) (T : Totals) where
         sum_by-set (λ o. cond (is_some o) 1 0) old.slots key (Some u) None (ContainsKey-within old key present),
       )
 
-  noted_cases : (old : Slab LiveSession) (key : ℕ) (s : LiveSession) → get old key ≡ Some s → (k : ℕ) (u : LiveSession) →
-      get (with_value old key (with_one_more s)) k ≡ Some u → ((k ≡ key) × (with_one_more s ≡ u)) ⊎ (get old k ≡ Some u)
+  noted_cases : (old : Slab LiveSession) (key : ℕ) (s : LiveSession) → get old key ≡ Some s →
+      (k : ℕ) (u : LiveSession) → get (with_value old key (with_one_more s)) k ≡ Some u →
+      ((k ≡ key) × (with_one_more s ≡ u)) ⊎ (get old k ≡ Some u)
   noted_cases old key s found k u at =
       let updates = Updates-with_value old key (with_one_more s) (ap is_some found) in
       elim (cases_eq k key) [
