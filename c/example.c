@@ -11,7 +11,7 @@ static void must(uint32_t number, const char *what) {
     }
 }
 
-/* The bytes of a file, which are never given back. */
+/* The bytes of a file of at most 16,777,216 of them. The caller frees them. */
 static uint8_t *read_all(const char *path, size_t *length) {
     FILE *file = fopen(path, "rb");
     size_t room = 1 << 24;
@@ -21,6 +21,10 @@ static uint8_t *read_all(const char *path, size_t *length) {
         exit(3);
     }
     *length = fread(bytes, 1, room, file);
+    if (fgetc(file) != EOF || ferror(file)) {
+        fprintf(stderr, "%s: it cannot be read, or is too large\n", path);
+        exit(3);
+    }
     fclose(file);
     return bytes;
 }
@@ -45,8 +49,10 @@ static size_t pass(rs_handle *from, rs_handle *to) {
     size_t used, taken, all = 0;
     do {
         must(rs_session_pull(from, room, sizeof room, &used), "pull");
-        must(rs_session_push(to, room, used, &taken), "push");
-        all += taken;
+        for (size_t at = 0; at < used; at += taken) {
+            must(rs_session_push(to, room + at, used - at, &taken), "push");
+        }
+        all += used;
     } while (used > 0);
     return all;
 }

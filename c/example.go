@@ -11,6 +11,7 @@ import "C"
 import (
 	"encoding/hex"
 	"fmt"
+	"io"
 	"net"
 	"os"
 	"unsafe"
@@ -62,11 +63,16 @@ func talk(session *C.rs_handle, connection net.Conn) (state, code C.uint32_t) {
 		if state != C.RS_OPEN {
 			return
 		}
-		count, _ := connection.Read(room)
+		count, err := connection.Read(room)
+		if err != io.EOF {
+			fine(err)
+		}
 		if count == 0 {
 			must(C.rs_session_finish(session), "finish")
 		}
-		must(C.rs_session_push(session, at(room[:count]), C.size_t(count), &taken), "push")
+		for came := room[:count]; len(came) > 0; came = came[taken:] {
+			must(C.rs_session_push(session, at(came), C.size_t(len(came)), &taken), "push")
+		}
 	}
 }
 

@@ -75,7 +75,11 @@ fn talk(session: &mut Handle, connection: &mut TcpStream) -> io::Result<(u32, u3
         if count == 0 {
             unsafe { must(rs_session_finish(session), "finish") };
         }
-        unsafe { must(rs_session_push(session, room.as_ptr(), count, &mut taken), "push") };
+        let mut came = &room[..count];
+        while !came.is_empty() {
+            unsafe { must(rs_session_push(session, came.as_ptr(), came.len(), &mut taken), "push") };
+            came = &came[taken..];
+        }
     }
 }
 

@@ -34,7 +34,7 @@
  *
  * Each function returns 0, or a number, and then changes nothing, but where it says so:
  *   29 to 35  a text is no strategy          36 to 38  a strategy is not accepted
- *   40        a set has as many items as its strategy's cap
+ *   40        an item is new, and the set has as many items as its strategy's cap
  *   71, 72    an item has no byte, or it or a bound has more than 64
  *   73        a lower bound is not below the upper one
  *   81, 82    a line is no item, or there are more different items than the cap
@@ -59,7 +59,8 @@ typedef struct rs_handle {
     void *at;
 } rs_handle;
 
-/* The form of an item file: a line is an item in hex, or as it stands. */
+/* The form of an item file: a line is an item in hex, or as it stands. In text too, a line that begins with `0x` is in
+ * hex. docs/COMMANDS.md says what else is skipped or dropped of a line, under "The item file". */
 enum { RS_HEX = 0, RS_TEXT = 1 };
 
 /* The role of a session: it speaks first, or its peer does. */

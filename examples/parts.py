@@ -307,7 +307,9 @@ async def serve(name: str, address: tuple[str, int], look: Callable[[], View]) -
         await server.serve_forever()
 
 
-FAULTS = (OSError, EOFError, Refused, asyncio.TimeoutError, ValueError, KeyError, TypeError)
+FAULTS = (
+    OSError, EOFError, Refused, asyncio.TimeoutError, ValueError, KeyError, TypeError, OverflowError, RecursionError
+)
 """What a peer, or the way to it, can cause."""
 
 

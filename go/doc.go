@@ -13,7 +13,9 @@
 // [Session.Pull] gives, and gives [Session.Push] what came.
 //
 // Each value is freed by its Close, or when nothing names it any more; in any order, since a session keeps what it
-// needs of its version, its set and its strategy. Goroutines may share a value: its calls wait for each other.
+// needs of its version, its set and its strategy. Goroutines may share a value: its calls wait for each other. But
+// [Session.Run] is many calls, and waits for the peer between them: meanwhile no other goroutine runs, pushes or pulls.
+// A call for which memory runs out is refused 90.
 //
 // The library below is proved. This package over it is tested, not proved.
 package rangesync

@@ -264,8 +264,10 @@ func TestRefusedCalls(t *testing.T) {
 	}
 	_, err = version.Count([]byte("2"), []byte("1"))
 	wantRefused(t, err, 73, false)
-	_, err = version.Initiate(3)
-	wantRefused(t, err, 98, false)
+	for _, profile := range []int{0, 3, 1<<32 + 1} {
+		_, err = version.Initiate(profile)
+		wantRefused(t, err, 98, false)
+	}
 }
 
 func TestSetAndVersion(t *testing.T) {

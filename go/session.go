@@ -122,7 +122,7 @@ func theirsAt(raw *C.rs_handle, place C.size_t, room *C.uint8_t, used *C.size_t)
 // after the end of the session may be lost.
 //
 // The error is a [RefusedError] where one of the sides refused, 3 where the peer's bytes ended before the session did,
-// and otherwise what the connection gave.
+// and otherwise what the connection gave. After an error the session is of no more use: bytes may be lost.
 func (s *Session) Run(connection io.ReadWriter) (*Learned, error) {
 	room := make([]byte, 65536)
 	for {

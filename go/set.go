@@ -27,15 +27,15 @@ type Form uint32
 const (
 	// Hex is the form whose lines are items in hex.
 	Hex Form = C.RS_HEX
-	// Text is the form whose lines are items as they stand.
+	// Text is the form whose lines are items as they stand; but a line that begins with 0x is an item in hex.
 	Text Form = C.RS_TEXT
 )
 
 // A Set is a set of items of 1 to 64 bytes each, at most as many as its strategy's cap.
 type Set struct{ handle }
 
-// ReadSet makes a set of the items of an item file. It is refused 81 where a line is no item, and 82 where there are
-// more different items than the cap.
+// ReadSet makes a set of the items of an item file. It is refused 81 where a line is no item, 82 where there are more
+// different items than the cap, and 98 for another form.
 func ReadSet(strategy *Strategy, form Form, lines []byte) (*Set, error) {
 	set := new(Set)
 	err := strategy.use(func(raw *C.rs_handle) C.uint32_t {
@@ -64,7 +64,7 @@ func NewSet(strategy *Strategy, items ...[]byte) (*Set, error) {
 }
 
 // Insert puts an item in, and says whether it is new. Versions that were taken before stay as they are. It is refused
-// 71 and 72 where the item has no byte or more than 64, and 40 where the set is full.
+// 71 and 72 where the item has no byte or more than 64, and 40 where it is new and the set is full.
 func (s *Set) Insert(item []byte) (bool, error) {
 	var isNew C.bool
 	err := s.use(func(raw *C.rs_handle) C.uint32_t {
@@ -135,7 +135,7 @@ func (v *Version) Count(lower, upper []byte) (int, error) {
 	})
 }
 
-// Items gives these items, rising.
+// Items gives these items, rising. It is refused as Count is.
 func (v *Version) Items(lower, upper []byte) ([][]byte, error) {
 	count, err := v.Count(lower, upper)
 	if err != nil {
@@ -147,15 +147,18 @@ func (v *Version) Items(lower, upper []byte) ([][]byte, error) {
 	})
 }
 
-// Initiate opens a session that speaks first, in wire profile 1 or 2.
+// Initiate opens a session that speaks first, in wire profile 1 or 2. It is refused 98 for another one.
 func (v *Version) Initiate(profile int) (*Session, error) { return v.session(C.RS_FIRST, profile) }
 
-// Respond opens a session whose peer speaks first, in wire profile 1 or 2.
+// Respond opens a session whose peer speaks first, in wire profile 1 or 2. It is refused 98 for another one.
 func (v *Version) Respond(profile int) (*Session, error) { return v.session(C.RS_SECOND, profile) }
 
 func (v *Version) session(role C.uint32_t, profile int) (*Session, error) {
 	session := new(Session)
 	err := v.use(func(raw *C.rs_handle) C.uint32_t {
+		if profile != 1 && profile != 2 {
+			return 98 // A number of more than 32 bits is not to lose its upper ones.
+		}
 		return C.rs_session_open(raw, role, C.uint32_t(profile), &session.raw)
 	})
 	if err != nil {

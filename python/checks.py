@@ -26,12 +26,10 @@ from concurrent.futures import ThreadPoolExecutor
 from pathlib import Path
 from typing import Any
 
+from counted import main
+from rangesync import Learned, Refused, Session, Set, State, Strategy, run
+
 TOP = Path(__file__).resolve().parent.parent
-os.environ.setdefault("RANGESYNC_LIBRARY", str(TOP / "c/out/librangesync.so"))
-
-from counted import main  # noqa: E402
-from rangesync import Learned, Refused, Session, Set, State, Strategy, run  # noqa: E402
-
 PROGRAM = os.environ.get("RANGESYNC") or str(TOP / "crates/rangesync/out/rangesync")
 ALL_ROUND = TOP / "examples/all-round.toml"
 EIGHT = (TOP / "examples/eight.toml").read_bytes()
@@ -378,6 +376,8 @@ class WithoutTheProgram(Check):
         self.assertEqual((session.state, session.refusal, session.sent), (State.OPEN, None, 1))
         for profile in 0, 3, 2**32 + 1:
             self.refuses("refused 98 NotThere", functools.partial(eight([]).respond, profile))
+        for role in 2, 2**32:
+            self.refuses("refused 98 NotThere", functools.partial(Session, eight([]).version(), role, 1))
         for most in 0, -1:
             self.assertRaises(ValueError, session.pull, most)
 

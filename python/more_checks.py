@@ -10,6 +10,7 @@ from __future__ import annotations
 
 import asyncio
 import contextlib
+import copy
 import functools
 import hashlib
 import os
@@ -23,14 +24,12 @@ import uuid
 from collections.abc import AsyncIterator, Awaitable, Callable, Iterable, Iterator
 from pathlib import Path
 
+import rangesync
+from counted import main
+from rangesync import BadItem, Integers, Learned, LearnedValues, Refused, Set, Shards, Strategy
+from rangesync import Texts, TypedSet, Uuids, arun
+
 TOP = Path(__file__).resolve().parent.parent
-os.environ.setdefault("RANGESYNC_LIBRARY", str(TOP / "c/out/librangesync.so"))
-
-import rangesync  # noqa: E402
-from counted import main  # noqa: E402
-from rangesync import BadItem, Integers, Learned, LearnedValues, Refused, Set, Strategy, Texts  # noqa: E402
-from rangesync import TypedSet, Uuids, arun  # noqa: E402
-
 EIGHT = (TOP / "examples/eight.toml").read_bytes()
 eight = functools.partial(Set, Strategy(EIGHT))
 large = functools.partial(Set, Strategy((TOP / "examples/all-round.toml").read_bytes()))
@@ -216,6 +215,12 @@ class Compared(unittest.TestCase):
         held.close()
         for call in (lambda: held.update([b"b"]), lambda: list(held), lambda: held.same([])):
             self.assertRaisesRegex(ValueError, "this Set is closed", call)
+
+    def test_copied(self) -> None:
+        """What is given back once can be copied in no way."""
+        for held in Strategy(EIGHT), eight(), eight().version(), eight().initiate(), Shards(Strategy(EIGHT), 1):
+            for call in copy.copy, copy.deepcopy, pickle.dumps:
+                self.assertRaisesRegex(TypeError, "can be neither copied nor pickled", call, held)
 
 
 class Refusals(unittest.TestCase):

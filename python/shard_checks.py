@@ -11,7 +11,6 @@ from __future__ import annotations
 
 import functools
 import hashlib
-import os
 import pickle
 import socket
 import subprocess
@@ -23,14 +22,12 @@ from collections.abc import Callable, Iterable, Iterator
 from pathlib import Path
 from typing import Any, Union
 
+from counted import main
+from rangesync import Answered, Incomplete, Learned, Reconciled, Refused, Set, Shards, Strategy
+from rangesync import run, shard_of
+from shard_peers import SECONDS, Counted, Near, Played, entry, number_of, outcome_of, refusal_of
+
 TOP = Path(__file__).resolve().parent.parent
-os.environ.setdefault("RANGESYNC_LIBRARY", str(TOP / "c/out/librangesync.so"))
-
-from counted import main  # noqa: E402
-from rangesync import Answered, Incomplete, Learned, Reconciled, Refused, Set, Shards, Strategy  # noqa: E402
-from rangesync import run, shard_of  # noqa: E402
-from shard_peers import SECONDS, Counted, Near, Played, entry, number_of, outcome_of, refusal_of  # noqa: E402
-
 EIGHT = Strategy((TOP / "examples/eight.toml").read_bytes())
 ALL_ROUND = Strategy((TOP / "examples/all-round.toml").read_bytes())
 large = functools.partial(Shards, ALL_ROUND)
@@ -79,6 +76,7 @@ class Kept(Check):
         held = large(4)
         self.assertEqual((len(held), list(held)), (0, []))
         self.assertEqual((held.insert(b"a"), held.insert(memoryview(b"a")), len(held)), (True, False, 1))
+        self.assertEqual(list(large(1, [memoryview(b"abcdef")[::2]])), [b"ace"])
 
     def test_items_that_are_none(self) -> None:
         held = large(2)

@@ -1,6 +1,6 @@
 """Many peers of a server at once: silent ones, those that drip, floods, and sessions that are recorded and said again.
 
-`strangers`, `long/soak` and `bench/peers` use it.
+`strangers`, `watched`, `long/soak`, `long/soak-shards` and `bench/peers` use it.
 """
 
 from __future__ import annotations

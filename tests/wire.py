@@ -1,6 +1,7 @@
 """Frames of the wire format for the scripts that speak to a server as a peer would that is not honest.
 
-The tests use it, `crowd.py`, `long/soak`, `bench/parts` and `bench/flood`. It checks nothing that it reads.
+The tests use it, `crowd.py`, `long/soak`, `long/soak-shards`, and `flood`, `parts`, `peers` and `programs` of `bench`.
+It checks nothing that it reads.
 """
 
 from __future__ import annotations

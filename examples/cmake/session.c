@@ -21,13 +21,17 @@ static void fail(const char *what) {
     exit(3);
 }
 
-/* The bytes of a file. The caller frees them. */
+/* The bytes of a file of at most 16,777,216 of them. The caller frees them. */
 static uint8_t *read_all(const char *path, size_t *length) {
     FILE *file = fopen(path, "rb");
     size_t room = 1 << 24;
     uint8_t *bytes = malloc(room);
     if (file == NULL || bytes == NULL) fail(path);
     *length = fread(bytes, 1, room, file);
+    if (fgetc(file) != EOF || ferror(file)) {
+        fprintf(stderr, "%s: it cannot be read, or is too large\n", path);
+        exit(3);
+    }
     fclose(file);
     return bytes;
 }

@@ -18,7 +18,9 @@ A `Set` has at most 65,536 items; `Shards` are a set of any size.
 
 Each object is freed by its `close`, at the end of a `with`, or when nothing names it any more; in any order, since a
 session keeps what it needs of its version, its set and its strategy. Calls of a closed object raise `ValueError`.
-Threads may share an object: calls of one object wait for each other.
+Threads may share an object: calls of one object wait for each other. So a handler of a signal makes none of its calls:
+it would wait for ever for the call that it interrupted. Nor does the child that a process with threads forks, as
+`multiprocessing` may. A call for which memory runs out raises `Refused` 90, or Python's `MemoryError`.
 """
 
 from __future__ import annotations

@@ -76,7 +76,7 @@ class Uuids:
 class Integers:
     """Whole numbers in a fixed number of bytes, 1 to 64, in the order of the numbers.
 
-    Without `signed` they are 0 to 256 ** length - 1, and with it from minus to plus half of that.
+    Without `signed` they are 0 to 256 ** length - 1, and with it -(256 ** length // 2) to 256 ** length // 2 - 1.
     """
 
     length: int = 8

@@ -6,7 +6,7 @@ import hashlib
 from collections.abc import Iterable
 from dataclasses import dataclass
 
-from ._library import Data
+from ._library import Data, _bytes
 from ._refused import Refused
 from ._sets import Set
 
@@ -22,10 +22,12 @@ HELLO = 4
 def shard_of(item: Data, bits: int) -> int:
     """The number of an item's shard in a set of 2 ** bits shards: the first bits of its SHA-256 digest.
 
+    `bits` is 0 to 12; it does not look at that.
+
     >>> shard_of(b"a", 2), shard_of(b"a", 12)
     (3, 3241)
     """
-    return int.from_bytes(hashlib.sha256(item).digest()[:2], "big") >> 16 - bits
+    return int.from_bytes(hashlib.sha256(_bytes(item)).digest()[:2], "big") >> 16 - bits
 
 
 def entry_of(number: int, held: Set) -> bytes:

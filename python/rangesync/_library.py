@@ -7,7 +7,7 @@ import os
 import threading
 import weakref
 from pathlib import Path
-from typing import TypeVar, Union
+from typing import NoReturn, TypeVar, Union
 
 from ._refused import Refused
 
@@ -19,9 +19,16 @@ class _Handle(ctypes.Structure):
     _fields_ = [("at", ctypes.c_void_p)]
 
 
+def _path() -> str:
+    """The library that RANGESYNC_LIBRARY names, or the one beside this package, or in a clone the one of c/build."""
+    beside = Path(__file__).resolve().parent.parent / "librangesync.so"
+    made = beside.parent.parent / "c/out/librangesync.so"
+    return os.environ.get("RANGESYNC_LIBRARY") or str(made if made.exists() and not beside.exists() else beside)
+
+
 def _load() -> ctypes.CDLL:
-    """The library that lies beside this package, or the one that RANGESYNC_LIBRARY names."""
-    path = os.environ.get("RANGESYNC_LIBRARY") or str(Path(__file__).resolve().parent.parent / "librangesync.so")
+    """The library, with what its functions take and return."""
+    path = _path()
     try:
         library = ctypes.CDLL(path)
     except OSError as fault:
@@ -94,6 +101,10 @@ class _Held:
 
     def __exit__(self, *_exception: object) -> None:
         self.close()
+
+    def __reduce__(self) -> NoReturn:
+        """It is given back once, so it is neither copied nor pickled."""
+        raise TypeError(f"a {type(self).__name__} can be neither copied nor pickled")
 
     def _ask(self, name: str, *arguments: object) -> None:
         """Calls the library for this object."""

@@ -46,7 +46,8 @@ def _hear(session: Session, came: bytes) -> None:
 def run(session: Session, connection: Connection, most: int = 65_536) -> Learned:
     """Runs a session over a connection, in pieces of at most so many bytes, and gives what it found.
 
-    Raises `Refused` where one of the sides refused, and what the connection raises.
+    Raises `Refused` where one of the sides refused, and what the connection raises. Then the session is of no more use:
+    bytes that it gave may not have been sent.
     """
     while True:
         try:

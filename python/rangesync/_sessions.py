@@ -33,10 +33,10 @@ class Learned:
 
 
 class Session(_Held):
-    """A session, as `initiate` and `respond` make it. Raises `Refused` 98 where there is no such profile."""
+    """A session, as `initiate` and `respond` make it. Raises `Refused` 98 where there is no such role or profile."""
 
     def __init__(self, version: Version, role: int, profile: int) -> None:
-        if profile not in (1, 2):
+        if role not in (0, 1) or profile not in (1, 2):
             raise Refused(98)
         super().__init__(version._make("rs_session_open", role, profile))
 

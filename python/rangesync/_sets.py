@@ -43,7 +43,7 @@ class Version(_Held):
         return count.value
 
     def items(self, lower: Data = b"", upper: Data = b"") -> Iterator[bytes]:
-        """These items, rising."""
+        """These items, rising. Raises as `count` does, but only when the first one is asked for."""
         front, back = _bytes(lower), _bytes(upper)
         room, used = ctypes.create_string_buffer(64), ctypes.c_size_t()
         for place in range(self.count(front, back)):
@@ -71,11 +71,11 @@ class Version(_Held):
         return self.compare(other) == Learned([], [])
 
     def initiate(self, profile: int = 1) -> Session:
-        """A session that speaks first, in wire profile 1 or 2."""
+        """A session that speaks first, in wire profile 1 or 2. Raises `Refused` 98 for another one."""
         return Session(self, 0, profile)
 
     def respond(self, profile: int = 1) -> Session:
-        """A session that is spoken to first, in wire profile 1 or 2."""
+        """A session that is spoken to first, in wire profile 1 or 2. Raises `Refused` 98 for another one."""
         return Session(self, 1, profile)
 
 
@@ -120,7 +120,10 @@ class Set(_Held):
 
     @classmethod
     def read(cls, strategy: Strategy, lines: Data, text: bool = False) -> Set:
-        """The set of an item file: a line is an item in hex, or with `text` as it stands. Raises `Refused` 81, 82."""
+        """The set of an item file: a line is an item in hex, or with `text` as it stands. Raises `Refused` 81, 82.
+
+        With `text` too, a line that begins with `0x` is an item in hex. docs/COMMANDS.md has more on *The item file*.
+        """
         made = cls.__new__(cls)
         made._read(strategy, 1 if text else 0, _bytes(lines))
         return made
@@ -129,14 +132,14 @@ class Set(_Held):
         super().__init__(strategy._make("rs_set_read", form, lines, len(lines)))
 
     def insert(self, item: Data) -> bool:
-        """Puts an item in, and says whether it is new. Raises `Refused` 40 where the set is full, 71, 72."""
+        """Puts an item in, and says whether it is new. Raises `Refused` 40 if a new one has no room, and 71, 72."""
         return self._says("rs_set_insert", item)
 
     def update(self, items: Iterable[Data]) -> int:
         """Puts the items in, one after the other, and says how many of them are new. It makes no list of them.
 
-        Raises `Refused` 40 where the set is full, 71, 72, and what the iterable raises. The items before that one are
-        then in the set, and none after it.
+        Raises `Refused` 40 where one is new and the set is full, 71, 72, and what the iterable raises. The items before
+        that one are then in the set, and none after it.
 
             >>> here.update(row[0] for row in database.execute("SELECT id FROM messages"))
             20000

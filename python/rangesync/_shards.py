@@ -7,7 +7,7 @@ import threading
 from collections.abc import Callable, Iterable, Iterator
 from concurrent.futures import ThreadPoolExecutor
 from dataclasses import dataclass
-from typing import Union
+from typing import NoReturn, Union
 
 from ._cuts import DIRECTORY, HELLO, Cut, entry_of, front_length, shard_of
 from ._library import Data, _bytes
@@ -206,8 +206,8 @@ class Shards:
     def insert(self, item: Data) -> bool:
         """Puts an item in, and says whether it is new.
 
-        Raises `Refused` 40 where its shard is full, with the number in `shard`, 71, 72, and `ValueError` where its
-        shard is not kept here.
+        Raises `Refused` 40 where it is new and its shard is full, with the number in `shard`, 71, 72, and `ValueError`
+        where its shard is not kept here.
         """
         number = self._number_of(item, self._sets)
         with self._lock:
@@ -232,7 +232,7 @@ class Shards:
         return sum(map(len, self._sets.values()))
 
     def __contains__(self, item: Data) -> bool:
-        """Whether it has the item. Raises `Refused` 71, 72 where this is none."""
+        """Whether it has the item. Raises `Refused` 71, 72 where this is none, if its shard is kept here."""
         number = shard_of(item, self._cut.bits)
         return number in self._sets and item in self._sets[number]
 
@@ -255,6 +255,10 @@ class Shards:
     def __exit__(self, *_exception: object) -> None:
         self.close()
 
+    def __reduce__(self) -> NoReturn:
+        """Its sets would be shared and its directory not, so it is neither copied nor pickled."""
+        raise TypeError("Shards can be neither copied nor pickled")
+
     def _versions(self) -> dict[int, Version]:
         """All shards, and the directory, as they are at one time."""
         with self._lock:
@@ -273,8 +277,9 @@ class Shards:
 
         Raises `Incomplete` where shards that differ were not reconciled, with what was found in the others. Before
         that, of the session over the directory, raises as `run`, and what `connect` raises: nothing is known then.
-        Raises `Refused` 55 by the peer where it has another name or other bits, 57 where its directory is none, and 56
-        for the first shard that is kept here and not there, with its number in `shard`.
+        Raises `Refused` 55 by the peer where it has another name or other bits, 57 where its directory is none, 56 for
+        the first shard that is kept here and not there, with its number in `shard`, and 98 where there is no such
+        profile.
         """
         if at_once < 1:
             raise ValueError("at_once is to be 1 or more")

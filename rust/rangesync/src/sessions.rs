@@ -90,7 +90,8 @@ impl Session {
     /// Speaks with the peer over a connection until the session is over, and gives what it found.
     ///
     /// It waits as long as the peer does: a timeout of the connection sets a limit. Bytes that the peer sends after the
-    /// end of the session may be lost. The session is refused 3 if the peer's bytes end before it does.
+    /// end of the session may be lost. The session is refused 3 if the peer's bytes end before it does. After an error
+    /// it is of no more use: bytes may be lost.
     pub fn run<C: Read + Write>(&mut self, mut connection: C) -> Result<Learned, Error> {
         let mut room = vec![0; 65_536];
         loop {

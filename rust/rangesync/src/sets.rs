@@ -18,7 +18,7 @@ impl Strategy {
 pub enum Form {
     /// In hex.
     Hex = 0,
-    /// As they stand.
+    /// As they stand; but a line that begins with `0x` is an item in hex.
     Text = 1,
 }
 
@@ -48,7 +48,7 @@ impl Set {
 
     /// Puts an item in, and says whether it is new. Versions that were taken before stay as they are.
     ///
-    /// Refused 71 and 72 if the item has no byte or more than 64, and 40 if the set is full.
+    /// Refused 71 and 72 if the item has no byte or more than 64, and 40 if it is new and the set is full.
     pub fn insert(&mut self, item: &[u8]) -> Result<bool, Refused> {
         self.0.insert(item)
     }
@@ -121,7 +121,7 @@ impl Version {
         self.0.count_in(lower, upper)
     }
 
-    /// These items, rising.
+    /// These items, rising. Refused as by [`Version::count`].
     pub fn items(&self, lower: &[u8], upper: &[u8]) -> Result<Vec<Vec<u8>>, Refused> {
         (0..self.count(lower, upper)?).map(|place| self.0.item_in(lower, upper, place)).collect()
     }
