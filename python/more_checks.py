@@ -218,8 +218,9 @@ class Compared(unittest.TestCase):
 
     def test_copied(self) -> None:
         """What is given back once can be copied in no way."""
+        calls: list[Callable[[object], object]] = [copy.copy, copy.deepcopy, pickle.dumps]
         for held in Strategy(EIGHT), eight(), eight().version(), eight().initiate(), Shards(Strategy(EIGHT), 1):
-            for call in copy.copy, copy.deepcopy, pickle.dumps:
+            for call in calls:
                 self.assertRaisesRegex(TypeError, "can be neither copied nor pickled", call, held)
 
 
