@@ -451,7 +451,7 @@ class Worked(Check):
                 self.assertEqual(run(session, connection).theirs, list(map(bytes.fromhex, case["entries"])))
 
     def test_initiators(self) -> None:
-        for _name, case in self.worked("shards", 32):
+        for _name, case in self.worked("shards", 34):
             own, talks = case["initiator"], case["session"]
             connections = [Played(bytes.fromhex(talk["responder"])) for talk in talks]
             waiting = iter(connections)
@@ -474,7 +474,7 @@ class Worked(Check):
             return refusal_of(fault), None, {}
 
     def test_responders(self) -> None:
-        for _name, case in self.worked("shards", 32):
+        for _name, case in self.worked("shards", 34):
             for talk in case["session"] if "responder" in case else ():
                 came, wanted = bytes.fromhex(talk["selector"] + talk["initiator"]), bytes.fromhex(talk["responder"])
                 self.answers(self.held(case, case["responder"]), came, ("ended", wanted.hex()))

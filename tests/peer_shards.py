@@ -64,11 +64,10 @@ class Shards:
         return number
 
     def differing(self, ours, theirs):
-        """The numbers of the shards that two directories differ in: the entries that each side alone has."""
+        """The numbers of the shards that are asked for, by the entries that each side alone has. This side keeps all."""
         ours, theirs = self.numbers(ours), self.numbers(theirs)
-        # Each shard that is kept has an entry, and this side keeps all.
         require(ours <= theirs, 56)
-        return sorted(ours)
+        return sorted(theirs)
 
     def numbers(self, entries):
         """The numbers of the shards that entries of a peer are of."""

@@ -87,12 +87,13 @@ class _Asking:
         return learned
 
     def differing(self) -> list[int]:
-        """The shards that are kept here and whose entries differ, rising. Raises `Refused` 56, 57."""
+        """The shards that are kept here and whose entries differ, rising. Raises `Refused` 57, 56."""
         learned = self.session(DIRECTORY)
         ours, theirs = self.cut.numbers(learned.ours), self.cut.numbers(learned.theirs)
         for number in sorted(ours - theirs):
             raise Refused(56, shard=number)
-        return sorted(ours)
+        # A peer may have sent our entry of a shard, and another one of it: then theirs alone was learned.
+        return sorted(theirs & self.versions.keys())
 
     def shard(self, number: int) -> Came:
         """What a shard's session finds, or what stopped it."""
