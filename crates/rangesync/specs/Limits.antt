@@ -13,3 +13,4 @@ pub record IsLimitsOf (words : ServeWords) (limits : PeerLimits) : Type 0 where
   pub most_bytes : limits.most_bytes ≡ words.most_bytes
   pub memory : limits.memory ≡ unwrap_or words.memory 1024 * 2 ^ 20
   pub sessions : limits.sessions ≡ min (max limits.peers 1) 1024
+  pub peers_of_one : limits.peers_of_one ≡ 64
