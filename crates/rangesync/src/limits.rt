@@ -37,7 +37,7 @@ pub fn limits_of(words: ServeWords<'_>) -> PeerLimits
         most_bytes: words.most_bytes,
         memory: u64::from(words.memory.unwrap_or(MEMORY)).saturating_mul(MIB),
         sessions: places(peers),
-        peers_of_one: PEERS_OF_ONE,
+        peers_of_one: words.peers_of_one.unwrap_or(PEERS_OF_ONE),
     }
 }
 
