@@ -64,7 +64,8 @@ HasValues rows (Answer w) = IsFlag (codes "hex") rows w.hexed
 HasValues rows (Check w) = IsFlag (codes "cost") rows w.cost
     × IsNumber (codes "items") rows w.items × IsNumber (codes "length") rows w.item_length
     × IsText (codes "FILE") rows w.file.now
-HasValues rows (Plan w) = IsNumber (codes "items") rows w.items
+HasValues rows (Plan w) = IsAnyText (codes "table") rows (option_map (λ text. text.now) w.table)
+    × IsNumber (codes "items") rows w.items
     × IsNumber (codes "differences") rows w.differences × IsNumber (codes "length") rows w.item_length
     × IsNumber (codes "round-trip") rows w.round_trip × IsNumber (codes "rate") rows w.rate
     × IsNumber (codes "search") rows w.search
@@ -75,7 +76,8 @@ HasValues rows (Serve w) = IsText (codes "table") rows w.table.now × IsText (co
     × IsNumber (codes "workers") rows (Some w.workers)
     × IsNumber (codes "sessions") rows w.sessions
     × IsNumber (codes "patience") rows (Some w.patience) × IsNumber (codes "most-bytes") rows (Some w.most_bytes)
-    × IsNumber (codes "peers") rows w.peers × IsNumber (codes "session-seconds") rows w.session_seconds
+    × IsNumber (codes "peers") rows w.peers × IsNumber (codes "peers-of-one") rows w.peers_of_one
+    × IsNumber (codes "session-seconds") rows w.session_seconds
     × IsNumber (codes "memory") rows w.memory
     × IsAnyText (codes "report") rows (option_map (λ text. text.now) w.report)
     × IsAnyText (codes "learned") rows (option_map (λ text. text.now) w.learned)
@@ -92,7 +94,9 @@ HasValues rows (Sync w) = IsText (codes "table") rows w.table.now × IsText (cod
     × IsAnyText (codes "out") rows (option_map (λ text. text.now) w.out)
     × IsNumber (codes "profile") rows (Some (profile_number w.profile))
     × IsNumber (codes "patience") rows (Some w.patience) × IsNumber (codes "most-bytes") rows (Some w.most_bytes)
-    × IsFlag (codes "stats") rows w.stats × IsFlag (codes "text") rows (is_text w.form)
+    × IsNumber (codes "retry") rows w.retry × IsFlag (codes "check") rows w.checks
+    × IsFlag (codes "count") rows w.counts × IsFlag (codes "stats") rows w.stats
+    × IsFlag (codes "text") rows (is_text w.form)
     × IsText (codes "ITEMS") rows w.items.now
 
 abbrev pub name_of : Command → Text

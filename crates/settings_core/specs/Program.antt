@@ -47,9 +47,9 @@ defaulting r value = record r { defaults = value ∷ [] }
 abbrev pub items : Bool → Rule
 items must = placed (codes "ITEMS") must
 
--- `--table FILE`
+-- `--table FILE`, or a shipped table
 abbrev pub table : Rule
-table = record (valued (codes "table")) { required = true }
+table = defaulting (valued (codes "table")) (codes "all-round")
 
 -- `--addr A`
 abbrev pub address : Rule
@@ -110,8 +110,8 @@ check = with_rules (new_app (codes "check"))
 
 abbrev pub plan : App
 plan = with_rules (new_app (codes "plan"))
-    (item_count ∷ number (codes "differences") 0 65536 ∷ item_length ∷ number (codes "round-trip") 0 60000
-    ∷ number (codes "rate") 1 100000 ∷ number (codes "search") 1 3600 ∷ why ∷ [])
+    (valued (codes "table") ∷ number (codes "items") 1 262144000 ∷ number (codes "differences") 0 262144000
+    ∷ item_length ∷ number (codes "round-trip") 0 60000 ∷ number (codes "rate") 1 100000 ∷ number (codes "search") 1 3600 ∷ why ∷ [])
 
 abbrev pub sim : App
 sim = with_rules (new_app (codes "sim")) (why ∷ [])
@@ -121,8 +121,8 @@ abbrev pub served : App
 served = with_rules (new_app (codes "serve"))
     (table ∷ address ∷ stdio ∷ set_name ∷ shard_bits ∷ only ∷ defaulting (number (codes "workers") 1 16) (codes "4")
     ∷ number (codes "sessions") 1 1000000 ∷ patience ∷ most_bytes ∷ number (codes "peers") 1 65535
-    ∷ number (codes "session-seconds") 1 604800 ∷ number (codes "memory") 1 1048576 ∷ valued (codes "report")
-    ∷ valued (codes "learned") ∷ valued (codes "keep") ∷ flag (codes "durable")
+    ∷ number (codes "peers-of-one") 1 65535 ∷ number (codes "session-seconds") 1 604800
+    ∷ number (codes "memory") 1 1048576 ∷ valued (codes "report") ∷ valued (codes "learned") ∷ valued (codes "keep") ∷ flag (codes "durable")
     ∷ number (codes "most-learned") 1 4294967295 ∷ flag (codes "read-only")
     ∷ number (codes "report-items") 0 4294967295 ∷ valued (codes "metrics") ∷ flag (codes "log") ∷ text ∷ why ∷ [])
 
@@ -132,7 +132,8 @@ serve must = with_rules served (items must ∷ [])
 abbrev pub sync : App
 sync = with_rules (new_app (codes "sync"))
     (table ∷ address ∷ stdio ∷ set_name ∷ shard_bits ∷ only ∷ number (codes "at-once") 1 64 ∷ valued (codes "out")
-    ∷ defaulting (number (codes "profile") 1 2) (codes "1") ∷ patience ∷ most_bytes ∷ flag (codes "stats") ∷ text ∷ why
+    ∷ defaulting (number (codes "profile") 1 2) (codes "1") ∷ patience ∷ most_bytes
+    ∷ number (codes "retry") 0 1000 ∷ flag (codes "check") ∷ flag (codes "count") ∷ flag (codes "stats") ∷ text ∷ why
     ∷ items true ∷ [])
 
 -- the program itself, which has a version and asks for a command

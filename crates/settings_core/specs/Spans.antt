@@ -48,9 +48,17 @@ IsReportedCount n = (0 ≤ n) × (n ≤ 4294967295)
 abbrev pub IsItemCount : ℕ → Type 0
 IsItemCount n = (1 ≤ n) × (n ≤ 65536)
 
--- in how many items two sets differ
+-- how many items a set has that is planned: 64,000 in each of 4,096 shards at most
+abbrev pub IsPlannedCount : ℕ → Type 0
+IsPlannedCount n = (1 ≤ n) × (n ≤ 262144000)
+
+-- in how many items two such sets differ
 abbrev pub IsDifferenceCount : ℕ → Type 0
-IsDifferenceCount n = (0 ≤ n) × (n ≤ 65536)
+IsDifferenceCount n = (0 ≤ n) × (n ≤ 262144000)
+
+-- how often a session is tried again
+abbrev pub IsRetryCount : ℕ → Type 0
+IsRetryCount n = (0 ≤ n) × (n ≤ 1000)
 
 -- bytes of an item
 abbrev pub IsItemLength : ℕ → Type 0
@@ -85,13 +93,14 @@ IsAnyGiven (Some x) y = ⊤
 abbrev pub AreInSpan : Command → Type 0
 AreInSpan (Answer w) = ⊤
 AreInSpan (Check w) = IfSome w.items IsItemCount × IfSome w.item_length IsItemLength
-AreInSpan (Plan w) = IfSome w.items IsItemCount × IfSome w.differences IsDifferenceCount
+AreInSpan (Plan w) = IfSome w.items IsPlannedCount × IfSome w.differences IsDifferenceCount
     × IfSome w.item_length IsItemLength × IfSome w.round_trip IsRoundTrip × IfSome w.rate IsRate
     × IfSome w.search IsSearch
 AreInSpan Sim = ⊤
 AreInSpan (Serve w) = IfSome w.shards IsShardBits × IsWorkerCount w.workers × IfSome w.sessions IsSessionCount
     × IsPatience w.patience × IsByteCount w.most_bytes × IfSome w.peers IsPeerCount
-    × IfSome w.session_seconds IsSessionTime × IfSome w.memory IsMemory × IfSome w.most_learned IsLearnedCount
+    × IfSome w.peers_of_one IsPeerCount × IfSome w.session_seconds IsSessionTime × IfSome w.memory IsMemory
+    × IfSome w.most_learned IsLearnedCount
     × IfSome w.report_items IsReportedCount × IsAnyGiven w.keep w.items
 AreInSpan (Sync w) = IfSome w.shards IsShardBits × IfSome w.at_once IsAtOnce × IsPatience w.patience
-    × IsByteCount w.most_bytes
+    × IsByteCount w.most_bytes × IfSome w.retry IsRetryCount

@@ -29,12 +29,6 @@ pub(crate) enum Argument<'a> {
         value: &'a str,
         help: &'a str,
     },
-    /// A name with a value that must be given.
-    Needed {
-        name: &'a str,
-        value: &'a str,
-        help: &'a str,
-    },
     /// A name with a value that has a default.
     ValuedOr {
         name: &'a str,
@@ -99,7 +93,6 @@ fn arg_of<'a>(alloc: Global, argument: &Argument<'a>) -> Arg<'a>
             .help(help)
             .action(ArgAction::SetTrue),
         Argument::Valued { name, value, help } => valued(alloc, name, value, help),
-        Argument::Needed { name, value, help } => valued(alloc, name, value, help).required(true),
         Argument::ValuedOr {
             name,
             value,

@@ -19,7 +19,7 @@ pub enum Command<'a> {
     /// The check of a strategy.
     Check(CheckWords<'a>),
     /// The choice of a strategy for two sets and a line.
-    Plan(PlanWords),
+    Plan(PlanWords<'a>),
     /// The run of a scenario.
     Sim,
     /// Sessions with those who connect.
@@ -48,16 +48,18 @@ pub struct CheckWords<'a> {
     pub items: Option<u32>,
     /// How many bytes an item has in them, 4 to 64, if it is given.
     pub item_length: Option<u32>,
-    /// The path of the strategy file.
+    /// The path of the strategy file, or the name of a shipped strategy.
     pub file: &'a str,
 }
 
 /// What `plan` is asked for.
 #[derive(Clone, Copy, Debug, PartialEq, Eq)]
-pub struct PlanWords {
-    /// How many items a set has, 1 to 65,536, if it is given.
+pub struct PlanWords<'a> {
+    /// The path of a strategy file, or the name of a shipped strategy, if one is given.
+    pub table: Option<&'a str>,
+    /// How many items a set has, 1 to 262,144,000, if it is given.
     pub items: Option<u32>,
-    /// In how many items the sets differ, 0 to 65,536, if it is given.
+    /// In how many items the sets differ, 0 to 262,144,000, if it is given.
     pub differences: Option<u32>,
     /// How many bytes an item has, 4 to 64, if it is given.
     pub item_length: Option<u32>,
@@ -72,7 +74,7 @@ pub struct PlanWords {
 /// What `serve` is asked for.
 #[derive(Clone, Copy, Debug, PartialEq, Eq)]
 pub struct ServeWords<'a> {
-    /// The path of the strategy file.
+    /// The path of the strategy file, or the name of a shipped strategy.
     pub table: &'a str,
     /// The address to listen at.
     pub address: &'a str,
@@ -94,6 +96,8 @@ pub struct ServeWords<'a> {
     pub most_bytes: u32,
     /// How many peers there are at once, 1 to 65,535, if it is given.
     pub peers: Option<u32>,
+    /// How many peers of one address there are at once, 1 to 65,535, if it is given.
+    pub peers_of_one: Option<u32>,
     /// How many seconds a session may go on, 1 to 604,800, if they are given.
     pub session_seconds: Option<u32>,
     /// How many MiB of memory are counted for all peers at most, 1 to 1,048,576, if they are given.
@@ -127,7 +131,7 @@ pub struct ServeWords<'a> {
 /// What `sync` is asked for.
 #[derive(Clone, Copy, Debug, PartialEq, Eq)]
 pub struct SyncWords<'a> {
-    /// The path of the strategy file.
+    /// The path of the strategy file, or the name of a shipped strategy.
     pub table: &'a str,
     /// The address to connect to.
     pub address: &'a str,
@@ -149,6 +153,13 @@ pub struct SyncWords<'a> {
     pub patience: u32,
     /// How many bytes of the session are read, from 1,024 on.
     pub most_bytes: u32,
+    /// How often a session that could not be held, or that ended in the middle, is tried again, 0 to 1,000, if it is
+    /// given.
+    pub retry: Option<u32>,
+    /// Whether the status says that the sets differ.
+    pub checks: bool,
+    /// Whether the numbers of the items are printed in place of the items.
+    pub counts: bool,
     /// Whether counts and seconds are printed.
     pub stats: bool,
     /// How the item file is read, and how items are printed.

@@ -7,9 +7,9 @@ ghost use Rattle.settings_core.specs.Spans.{IsLearnedCount, IsReportedCount, IsW
 
 use crate::commands::{AnswerWords, Call, CheckWords, Command, PlanWords, ServeWords, SyncWords};
 use crate::known_words::{
-    MAX_AT_ONCE, MAX_ITEM_LENGTH, MAX_ITEMS, MAX_MEMORY, MAX_PATIENCE, MAX_PEERS, MAX_RATE,
-    MAX_ROUND_TRIP, MAX_SEARCH, MAX_SESSION_SECONDS, MAX_SESSIONS, MAX_SHARD_BITS, MAX_WORKERS,
-    MIN_BYTES, MIN_ITEM_LENGTH,
+    MAX_AT_ONCE, MAX_ITEM_LENGTH, MAX_ITEMS, MAX_MEMORY, MAX_PATIENCE, MAX_PEERS,
+    MAX_PLANNED_ITEMS, MAX_RATE, MAX_RETRIES, MAX_ROUND_TRIP, MAX_SEARCH, MAX_SESSION_SECONDS,
+    MAX_SESSIONS, MAX_SHARD_BITS, MAX_WORKERS, MIN_BYTES, MIN_ITEM_LENGTH,
 };
 use clap::ArgMatches;
 use item_files::{ItemForm, WireProfile};
@@ -124,8 +124,9 @@ fn plan_in<'a>(matches: &ArgMatches<'a>) -> Option<Command<'a>>
     ensures { Finds (AsksFor (codes "plan") (rows_of (found_of matches.now))) result }
 {
     Some(Command::Plan(PlanWords {
-        items: number_in(matches, "items", 1, MAX_ITEMS)?,
-        differences: number_in(matches, "differences", 0, MAX_ITEMS)?,
+        table: text_in(matches, "table"),
+        items: number_in(matches, "items", 1, MAX_PLANNED_ITEMS)?,
+        differences: number_in(matches, "differences", 0, MAX_PLANNED_ITEMS)?,
         item_length: number_in(matches, "length", MIN_ITEM_LENGTH, MAX_ITEM_LENGTH)?,
         round_trip: number_in(matches, "round-trip", 0, MAX_ROUND_TRIP)?,
         rate: number_in(matches, "rate", 1, MAX_RATE)?,
@@ -154,6 +155,7 @@ fn serve_in<'a>(matches: &ArgMatches<'a>) -> Option<Command<'a>>
         patience: default_in(matches, "patience", 1, MAX_PATIENCE)?,
         most_bytes: default_in(matches, "most-bytes", MIN_BYTES, u32::MAX)?,
         peers: number_in(matches, "peers", 1, MAX_PEERS)?,
+        peers_of_one: number_in(matches, "peers-of-one", 1, MAX_PEERS)?,
         session_seconds: number_in(matches, "session-seconds", 1, MAX_SESSION_SECONDS)?,
         memory: number_in(matches, "memory", 1, MAX_MEMORY)?,
         report: text_in(matches, "report"),
@@ -186,6 +188,9 @@ fn sync_in<'a>(matches: &ArgMatches<'a>) -> Option<Command<'a>>
         profile: profile_in(matches)?,
         patience: default_in(matches, "patience", 1, MAX_PATIENCE)?,
         most_bytes: default_in(matches, "most-bytes", MIN_BYTES, u32::MAX)?,
+        retry: number_in(matches, "retry", 0, MAX_RETRIES)?,
+        checks: flag_in(matches, "check"),
+        counts: flag_in(matches, "count"),
         stats: flag_in(matches, "stats"),
         form: form_in(matches),
         items: text_in(matches, "ITEMS")?,

@@ -27,6 +27,9 @@ pub(crate) const MIN_BYTES: u32 = 1_024;
 /// The greatest number of peers at once.
 pub(crate) const MAX_PEERS: u32 = 65_535;
 
+/// The greatest number of times that a session is tried again.
+pub(crate) const MAX_RETRIES: u32 = 1_000;
+
 /// The greatest number of seconds that a session may go on: a week.
 pub(crate) const MAX_SESSION_SECONDS: u32 = 604_800;
 
@@ -35,6 +38,9 @@ pub(crate) const MAX_MEMORY: u32 = 1_048_576;
 
 /// The greatest number of items of a set.
 pub(crate) const MAX_ITEMS: u32 = 65_536;
+
+/// The greatest number of items of a set that is planned: 64,000 in each of the most shards.
+pub(crate) const MAX_PLANNED_ITEMS: u32 = 262_144_000;
 
 /// The least number of bytes of an item that is made.
 pub(crate) const MIN_ITEM_LENGTH: u32 = 4;
@@ -58,10 +64,13 @@ pub(crate) const MAX_SHARD_BITS: u32 = 12;
 pub(crate) const MAX_AT_ONCE: u32 = 64;
 
 /// How help speaks of a strategy file.
-const FILE_HELP: &str = "A strategy in TOML";
+const FILE_HELP: &str = "A strategy in TOML, or the name of a shipped one";
 
 /// How help speaks of ITEMS.
 const ITEMS_HELP: &str = "A file of items, one a line in hex";
+
+/// The strategy, if none is given: a shipped one.
+const DEFAULT_TABLE: &str = "all-round";
 
 /// The seconds that are waited, if none are given.
 const PATIENCE: &str = "60";
@@ -91,9 +100,10 @@ const LENGTH: Argument<'static> = Argument::Number {
 };
 
 /// The strategy of a session.
-const TABLE: Argument<'static> = Argument::Needed {
+const TABLE: Argument<'static> = Argument::ValuedOr {
     name: "table",
     value: "FILE",
+    default: DEFAULT_TABLE,
     help: FILE_HELP,
 };
 
@@ -184,20 +194,25 @@ fn check_words<'a>(alloc: Global) -> Result<clap::Command<'a>, AllocError>
 }
 
 /// The arguments of `plan`.
-const PLAN: [Argument<'static>; 7] = [
+const PLAN: [Argument<'static>; 8] = [
+    Argument::Valued {
+        name: "table",
+        value: "FILE",
+        help: "Print this one in place of the quickest: a strategy in TOML, or the name of a shipped one",
+    },
     Argument::Number {
         name: "items",
         value: "N",
         least: 1,
-        most: MAX_ITEMS,
-        help: "How many items a set has, 1 to 65,536 [default: 65536]",
+        most: MAX_PLANNED_ITEMS,
+        help: "How many items a set has, 1 to 262,144,000 [default: 65536]",
     },
     Argument::Number {
         name: "differences",
         value: "D",
         least: 0,
-        most: MAX_ITEMS,
-        help: "In how many items the sets differ, 0 to 65,536 [default: 100]",
+        most: MAX_PLANNED_ITEMS,
+        help: "In how many items the sets differ, 0 to 262,144,000 [default: 100]",
     },
     LENGTH,
     Argument::Number {
@@ -252,7 +267,7 @@ fn sim_words<'a>(alloc: Global) -> Result<clap::Command<'a>, AllocError>
 }
 
 /// The arguments of `serve`, but for its ITEMS.
-const SERVE: [Argument<'static>; 24] = [
+const SERVE: [Argument<'static>; 25] = [
     TABLE,
     Argument::ValuedOr {
         name: "addr",
@@ -305,6 +320,13 @@ const SERVE: [Argument<'static>; 24] = [
         least: 1,
         most: MAX_PEERS,
         help: "Hold so many peers at once, 1 to 65,535 [default: 1024]",
+    },
+    Argument::Number {
+        name: "peers-of-one",
+        value: "N",
+        least: 1,
+        most: MAX_PEERS,
+        help: "Hold so many peers of one address at once, 1 to 65,535 [default: 64]",
     },
     Argument::Number {
         name: "session-seconds",
@@ -389,7 +411,7 @@ fn serve_words<'a>(alloc: Global, must: bool) -> Result<clap::Command<'a>, Alloc
 }
 
 /// The arguments of `sync`.
-const SYNC: [Argument<'static>; 15] = [
+const SYNC: [Argument<'static>; 18] = [
     TABLE,
     Argument::ValuedOr {
         name: "addr",
@@ -440,6 +462,21 @@ const SYNC: [Argument<'static>; 15] = [
         most: u32::MAX,
         default: MOST_BYTES,
         help: "Refuse a server that sends more bytes, 1,024 to 4,294,967,295",
+    },
+    Argument::Number {
+        name: "retry",
+        value: "N",
+        least: 0,
+        most: MAX_RETRIES,
+        help: "Try so often again if the server is away or ends in the middle, 0 to 1,000 [default: 0]",
+    },
+    Argument::Flag {
+        name: "check",
+        help: "Exit with 4 if the sets differ, and with 0 if they are equal",
+    },
+    Argument::Flag {
+        name: "count",
+        help: "Print how many items each side lacks, and not the items",
     },
     Argument::Flag {
         name: "stats",
