@@ -214,7 +214,7 @@ impl Loop {
 
     /// Counts one peer more, of this address. Where it has as many as it may have, the one of this loop that has been
     /// silent for longest makes room. Whether there is room.
-    fn enter<R: Wait, G: PartGate>(
+    fn count_in<R: Wait, G: PartGate>(
         &mut self,
         site: &Site<'_, R, G>,
         desk: &mut Desk<'_, G>,
@@ -245,7 +245,7 @@ impl Loop {
         ensures shared { desk.new.shared ≡ desk.old.shared }
     {
         let origin = reader.origin();
-        if !self.enter(site, desk, origin) {
+        if !self.count_in(site, desk, origin) {
             return;
         }
         if site.crowd.is_crowded() {
