@@ -95,11 +95,11 @@ fn is_told(rest: &[u8]) -> bool
 }
 
 /// Whether the first frame is whole, and is none that may begin a session, or it is known what comes after it.
-fn is_framed(came: &[u8], long: usize) -> bool
+fn is_framed(came: &[u8], long: u32) -> bool
     requires { (8 ≤ length came.now) × (long ≡ firsts.long came.now) }
     ensures { result ≡ firsts.is_framed came.now }
 {
-    let end = BODY + long;
+    let end = BODY + long as usize;
     came.len() >= end && (!is_front(came) || is_told(rest_of(came, end)))
 }
 
@@ -109,7 +109,7 @@ fn is_judged(came: &[u8]) -> bool
     ensures { result ≡ firsts.is_judged came.now }
 {
     let long = long(came);
-    long == 0 || long > LONG || is_framed(came, long as usize)
+    long == 0 || long > LONG || is_framed(came, long)
 }
 
 /// Whether a session is to be opened for these bytes: the first message is whole, or it is refused already, or it is
