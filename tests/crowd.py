@@ -27,6 +27,8 @@ MOST_SUMS = 130_000
 BAD_LENGTH = bytes(4)
 """The beginning of a frame without a body, which is refused 2."""
 PIECE = 1 << 16
+ONE_ADDRESS = ("--peers-of-one", "65535")
+"""The words of a server that lets one address have all places: all peers here come from one, if none is given."""
 
 FIRST = {profile: hello + wire.sum_frame(b"", None, profile) + wire.END for profile, hello in wire.HELLOS.items()}
 """The hello and the first message of a peer whose set is no set of the server's, by profile."""
@@ -104,20 +106,22 @@ def apart(crowd: Crowd) -> Iterator[None]:
 # Silent ones, and those that drip.
 
 
-def knock(address: str, count: int, seconds: float = SECONDS) -> list[socket.socket]:
+def knock(address: str, count: int, seconds: float = SECONDS, source: str | None = None) -> list[socket.socket]:
     """Connects so often, one after the other, for at most these seconds: the connections that came about."""
     last = time.monotonic() + seconds
     peers: list[socket.socket] = []
     with contextlib.suppress(TimeoutError):
         while len(peers) < count and (left := last - time.monotonic()) > 0:
-            peers.append(wire.connected(address, left))
+            peers.append(wire.connected(address, left, source=source))
     return peers
 
 
 @contextlib.contextmanager
-def knocking(address: str, count: int, seconds: float = SECONDS) -> Iterator[list[socket.socket]]:
-    """So many connections that say nothing, closed in any case."""
-    peers = knock(address, count, seconds)
+def knocking(
+    address: str, count: int, seconds: float = SECONDS, source: str | None = None
+) -> Iterator[list[socket.socket]]:
+    """So many connections that say nothing, from this address if one is given, closed in any case."""
+    peers = knock(address, count, seconds, source)
     try:
         yield peers
     finally:
@@ -351,6 +355,50 @@ def record(address: str, dial: Callable[[str], object]) -> Recorded:
         session = pool.submit(relayed, listener, address)
         dial(f"{host}:{port}")
         return session.result()
+
+
+# A server that is far away.
+
+
+def passed_late(source: socket.socket, target: socket.socket, seconds: float) -> None:
+    """Passes on all that comes, each piece so much later."""
+    with contextlib.suppress(OSError):
+        while piece := source.recv(PIECE):
+            time.sleep(seconds)
+            target.sendall(piece)
+        time.sleep(seconds)
+        target.shutdown(socket.SHUT_WR)
+
+
+def relayed_late(near: socket.socket, address: str, seconds: float) -> None:
+    """Passes on one connection both ways, each piece so much later."""
+    with near, wire.connected(address, SECONDS) as far:
+        near.settimeout(SECONDS)
+        back = threading.Thread(target=passed_late, args=(far, near, seconds), daemon=True)
+        back.start()
+        passed_late(near, far, seconds)
+        back.join()
+
+
+def accept_late(listener: socket.socket, address: str, seconds: float) -> None:
+    """Passes on all connections, each in a thread, until the listener is closed."""
+    with contextlib.suppress(OSError):
+        while True:
+            near, _ = listener.accept()
+            threading.Thread(target=relayed_late, args=(near, address, seconds), daemon=True).start()
+
+
+@contextlib.contextmanager
+def far_away(address: str, seconds: float) -> Iterator[str]:
+    """Another address of a server, from which each piece comes so much later, both ways."""
+    with socket.create_server(("127.0.0.1", 0), backlog=128) as listener:
+        threading.Thread(target=accept_late, args=(listener, address, seconds), daemon=True).start()
+        host, port = listener.getsockname()
+        try:
+            yield f"{host}:{port}"
+        finally:
+            with contextlib.suppress(OSError):
+                listener.shutdown(socket.SHUT_RDWR)
 
 
 def say_again(address: str, text: bytes, shuts: bool = False, seconds: float = SECONDS) -> bytes:

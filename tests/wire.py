@@ -96,14 +96,18 @@ def inside(lower: bytes, upper: bytes | None, number: int) -> list[bytes]:
     return [front + each.to_bytes(3, "big") for each in range(number)]
 
 
-def connected(address: str, seconds: float | None = None, room: int | None = None) -> socket.socket:
+def connected(
+    address: str, seconds: float | None = None, room: int | None = None, source: str | None = None
+) -> socket.socket:
     """A connection of which no call takes longer than these seconds, and whose system holds about so many bytes that
-    were not read."""
+    were not read; from this address, if one is given."""
     host, port = address.rsplit(":", 1)
     peer = socket.socket()
     try:
         if room is not None:
             peer.setsockopt(socket.SOL_SOCKET, socket.SO_RCVBUF, room)
+        if source is not None:
+            peer.bind((source, 0))
         peer.settimeout(seconds)
         peer.setsockopt(socket.IPPROTO_TCP, socket.TCP_NODELAY, 1)
         peer.connect((host, int(port)))

@@ -3,11 +3,10 @@
 -- How a read or a write leaves off is read from what it did: where it waits it moved no byte, so what was due of our
 -- hello before is due after; where more is to be done bytes were moved, or it was interrupted, or the input has ended.
 -- Of two calls it is the second's, and a sum is no less than its second part.
-use Rattle.std.proofs.Common.{◌≡◌, ◌⊎◌, ℕ, Bool, ◌+◌, ◌<◌, ◌≤◌, true, false, length, Result, Ok, Err, Box, Global}
-use Rattle.std.proofs.Common.{inl, inr, refl, sym, subst, arith}
-use Rattle.std.specs.Prelude.{nat_le}
+use Rattle.std.proofs.Common.{◌≡◌, ◌⊎◌, ℕ, Bool, ◌+◌, ◌<◌, ◌≤◌, true, false, List, ◌++◌, length, take}
+use Rattle.std.proofs.Common.{Result, Ok, Err, Box, Global, append-nil, inl, inr, refl, sym, ap, ◌∙◌, subst, arith}
+use Rattle.std.specs.Prelude.{◌||◌}
 use Rattle.std.specs.Box.{with_value}
-use Rattle.std.proofs.lemmas.Bool.{leb-true, leb-false}
 use Rattle.definitions.specs.Fingerprints.{Lanes}
 use Rattle.definitions.specs.Fingerprints as prints
 use Rattle.definitions.specs.Wire.{Profile, two_lane_profile, counted_profile}
@@ -22,7 +21,8 @@ use Rattle.link_core.specs.declared.pumped.Pause.{Pause}
 use Rattle.link_core.specs.declared.pumped.Pause.TheVariants as ends
 use Rattle.link_core.specs.declared.pumped.Pumped.{Pumped}
 use Rattle.hub_core.specs.Greetings.{GreetingState, IsGreeting}
-use Rattle.hub_core.specs.Steps.{LeavesAt, LeavesGreeting, pause_at, pause_in, step_in, both_of}
+use Rattle.hub_core.specs.Firsts.{is_due}
+use Rattle.hub_core.specs.Steps.{LeavesAt, LeavesGreeting, is_ready, pause_at, pause_in, step_in, both_of}
 use Rattle.hub_core.specs.Peers.{LeavesOff, LeavesSession}
 use Rattle.hub_core.specs.declared.step.Step.{Step}
 use Rattle.hub_core.specs.declared.step.StepPause.{StepPause}
@@ -31,25 +31,36 @@ use Rattle.hub_core.specs.declared.stage.Stage.TheVariants as stages
 
 -- ---- one read or write of a greeting
 
+or-right : (a b : Bool) → (a || b) ≡ false → b ≡ false
+or-right true b is = absurd (cc)
+or-right false b is = is
+
+-- where a read gave no byte, and the input has not ended, the session is no more to be opened than before
+pub still-waits : (n : ℕ) (room : List ℕ) (g h : GreetingState) → n ≡ 0 → is_ready g ≡ false →
+    h.came ≡ g.came ++ take n room → h.over ≡ false → is_ready h ≡ false
+still-waits n room g h none waits came over =
+    let same : h.came ≡ g.came = came ∙ ap (λ (m : ℕ). g.came ++ take m room) none ∙ append-nil g.came in
+    ap (λ (b : Bool). b || is_due h.came) over ∙ ap is_due same ∙ or-right g.over (is_due g.came) waits
+
 -- so many bytes had come before, and no byte of our hello was due
 pub heard-leaves : (n before : ℕ) (r w : Last) (g : GreetingState) (pause : StepPause) → ReadsSo n r →
     length g.came ≡ before + n → (4 ≤ before → g.said ≡ 4) → (r ≡ lasts.Ended → g.over ≡ true) →
-    pause_at r faults.Read ≡ Ok pause → LeavesAt pause g r w n 0
-heard-leaves n before lasts.Unknown w g pause reads long written over is = absurd reads
-heard-leaves n before lasts.Moved w g pause reads long written over is =
+    (r ≡ lasts.Waits → is_ready g ≡ false) → pause_at r faults.Read ≡ Ok pause → LeavesAt pause g r w n 0
+heard-leaves n before lasts.Unknown w g pause reads long written over idle is = absurd reads
+heard-leaves n before lasts.Moved w g pause reads long written over idle is =
     let more : pauses.More ≡ pause = cc in
     subst (λ (p : StepPause). LeavesAt p g lasts.Moved w n 0) more (inl (omega (arith, reads)))
-heard-leaves n before lasts.Waits w g pause reads long written over is =
+heard-leaves n before lasts.Waits w g pause reads long written over idle is =
     let waits : pauses.Waits ≡ pause = cc in
     let none : 4 ≤ length g.came → g.said ≡ 4 = λ four. written (omega (arith, long, reads, four)) in
-    subst (λ (p : StepPause). LeavesAt p g lasts.Waits w n 0) waits (inr (none, refl))
-heard-leaves n before lasts.Interrupted w g pause reads long written over is =
+    subst (λ (p : StepPause). LeavesAt p g lasts.Waits w n 0) waits (inr (none, idle refl, refl))
+heard-leaves n before lasts.Interrupted w g pause reads long written over idle is =
     let more : pauses.More ≡ pause = cc in
     subst (λ (p : StepPause). LeavesAt p g lasts.Interrupted w n 0) more (inr (inl refl))
-heard-leaves n before lasts.Ended w g pause reads long written over is =
+heard-leaves n before lasts.Ended w g pause reads long written over idle is =
     let more : pauses.More ≡ pause = cc in
     subst (λ (p : StepPause). LeavesAt p g lasts.Ended w n 0) more (inr (inr (inr (refl, over refl))))
-heard-leaves n before lasts.Failed w g pause reads long written over is = absurd (cc)
+heard-leaves n before lasts.Failed w g pause reads long written over idle is = absurd (cc)
 
 pub said-leaves : (n before : ℕ) (r w : Last) (g : GreetingState) (pause : StepPause) → WritesSo n w →
     4 ≤ length g.came → before < 4 → g.said ≡ before + n → pause_at w faults.Write ≡ Ok pause → LeavesAt pause g r w 0 n
@@ -89,18 +100,17 @@ said-fails r lasts.Failed f is =
 
 -- the session is asked for
 pub opens-leaves : (g : GreetingState) (r w : Last) → IsGreeting g → (4 ≤ length g.came → 4 ≤ g.said) →
-    (g.over ≡ true) ⊎ (4 ≤ length g.came) → LeavesAt pauses.Opens g r w 0 0
-opens-leaves g r w is written whole = by (nat_le 4 (length g.came)) refl where
-  by : (t : Bool) → nat_le 4 (length g.came) ≡ t → LeavesAt pauses.Opens g r w 0 0
-  by true le =
-      let four = leb-true 4 (length g.came) le in
-      inl (four, omega (arith, written four, is.few))
-  by false gt =
-      let less = leb-false 4 (length g.came) gt in
-      elim whole [
-        | inl over ↦ inr (omega (arith, less), over)
-        | inr four ↦ absurd (omega (arith, less, four))
-      ]
+    is_ready g ≡ true → LeavesAt pauses.Opens g r w 0 0
+opens-leaves g r w is written ready = (ready, λ four. omega (arith, written four, is.few))
+
+pub ready-over : (g : GreetingState) → g.over ≡ true → is_ready g ≡ true
+ready-over g over = ap (λ (b : Bool). b || is_due g.came) over
+
+pub ready-due : (g : GreetingState) → is_due g.came ≡ true → is_ready g ≡ true
+ready-due g due = by g.over where
+  by : (b : Bool) → (b || is_due g.came) ≡ true
+  by true = refl
+  by false = due
 
 -- ---- of two calls it is the second's
 

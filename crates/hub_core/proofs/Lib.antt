@@ -5,4 +5,5 @@ pub mod Leaving
 pub mod Totals
 pub mod Held
 pub mod Walks
+pub mod Chosen
 pub mod Changed

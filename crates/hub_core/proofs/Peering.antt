@@ -2,7 +2,7 @@
 --
 -- A greeting's call keeps what it read and writes of our hello, which is what is known of a greeting; a session's call
 -- says the same by `Moves`. So each is a record `Goes` of the stage.
-use Rattle.std.proofs.Common.{◌≡◌, ℕ, ◌+◌, false, List, [], ◌++◌, length, Option, Result, Ok, Err, Box, Global}
+use Rattle.std.proofs.Common.{◌≡◌, ℕ, ◌+◌, false, List, [], ◌++◌, length, Option, None, Result, Ok, Err, Box, Global}
 use Rattle.std.proofs.Common.{refl, sym, ap, ◌∙◌, subst}
 use Rattle.std.specs.Box.{with_value}
 use Rattle.std.specs.declared.io.traits.Take.{Take}
@@ -29,6 +29,7 @@ use Rattle.hub_core.specs.declared.stage.Stage.TheVariants as stages
 
 abbrev peer_of : {I O : Type 0} → Poll (Take I) → Poll O → Stage → ℕ → ℕ → ℕ → ℕ → ℕ → PeerState I O
 peer_of r w stage version serial heard arrived long = record {
+  origin = None;
   reader = r;
   writer = w;
   stage = stage;

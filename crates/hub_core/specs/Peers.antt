@@ -12,6 +12,7 @@
 --     owes, state_in, goes_on, Learns     whether text is made and not written, how its session stands, whether it goes
 --                                         on, and what it has learned
 --     PeerState, IsFresh, woken           a peer, one that has just come, one whose stream is ready again
+--     is_from origin p                    it comes from this origin
 use Rattle.std.specs.Prelude.{◌≡◌, ℕ, ◌+◌, ◌-◌, ◌^◌, ◌&&◌, min, nat_eq, nat_lt, Bool, true, false, List, [], ◌++◌}
 use Rattle.std.specs.Prelude.{length, if◌then◌else◌, Option, Some, None, Result, Ok, Err}
 use Rattle.std.specs.Io.KnownBytes.{Consumes, Appends}
@@ -152,6 +153,15 @@ pub record PeerState (I O : Type 0) : Type 0 where
   pub arrived : ℕ
   -- how many bytes came since our last message
   pub long : ℕ
+  -- where it comes from, if that is counted
+  pub origin : Option ℕ
+
+abbrev pub is_same : ℕ → Option ℕ → Bool
+is_same origin None = false
+is_same origin (Some own) = nat_eq own origin
+
+abbrev pub is_from : {I O : Type 0} → ℕ → PeerState I O → Bool
+is_from origin p = is_same origin p.origin
 
 -- when it was heard, and how many bytes came since our last message, after a step made now
 abbrev pub heard_by : ℕ → Step → ℕ → ℕ
@@ -176,6 +186,7 @@ fresh reader writer serial now = record {
   heard = now;
   arrived = now;
   long = 0;
+  origin = None;
 }
 
 pub record IsFresh {I O : Type 0} (reader : I) (writer : O) (most serial now : ℕ) (p : PeerState I O) : Type 0 where

@@ -2,11 +2,12 @@
 --     pause_at last fault      how a read or a write leaves off
 --     both_of s t              two calls, one after the other
 --     pause_in, step_in        those of a session
+--     is_ready g               its session is to be opened
 --     IsIdle, IsBusy, IsDone   a greeting that waits, that goes on soon, that asks for its session
 --     LeavesGreeting .. result why a greeting's call left off, and which way failed where one did
 --     GreetsSo .. result       nothing was lost, and the bytes are counted, unless the call failed
-use Rattle.std.specs.Prelude.{◌≡◌, ◌⊎◌, ◌<◌, ◌≤◌, ℕ, ◌+◌, ◌-◌, ◌^◌, min, true, List, [], length, Option, Result}
-use Rattle.std.specs.Prelude.{Ok, Err}
+use Rattle.std.specs.Prelude.{◌≡◌, ◌⊎◌, ◌<◌, ◌≤◌, ℕ, ◌+◌, ◌-◌, ◌^◌, ◌||◌, min, Bool, true, false, List, [], length, Option}
+use Rattle.std.specs.Prelude.{Result, Ok, Err}
 use Rattle.link_core.specs.Links.{count_of, Fails}
 use Rattle.link_core.specs.declared.fault.LinkFault.{LinkFault}
 use Rattle.link_core.specs.declared.polled.Last.{Last}
@@ -14,6 +15,7 @@ use Rattle.link_core.specs.declared.polled.Last.TheVariants as lasts
 use Rattle.link_core.specs.declared.pumped.Pause.{Pause}
 use Rattle.link_core.specs.declared.pumped.Pause.TheVariants as ends
 use Rattle.link_core.specs.declared.pumped.Pumped.{Pumped}
+use Rattle.hub_core.specs.Firsts.{is_due}
 use Rattle.hub_core.specs.Greetings.{GreetingState, Greets}
 use Rattle.hub_core.specs.declared.step.StepPause.{StepPause}
 use Rattle.hub_core.specs.declared.step.StepPause.TheVariants as pauses
@@ -38,19 +40,24 @@ GreetsSo g h unread left held holds (Ok s) = (read said : List ℕ) × Greets g 
 GreetsSo g h unread left held holds (Err f) =
     (read said lost : List ℕ) × Greets g h unread left held holds read said lost
 
--- our hello is due, and there was no room to write it; or no byte of it is due, and nothing was there to read
+-- the session is to be opened: the first message is judged, or the input has ended
+abbrev pub is_ready : GreetingState → Bool
+is_ready g = g.over || is_due g.came
+
+-- our hello is due, and there was no room to write it; or no byte of it is due, the session is not to be opened, and
+-- nothing was there to read
 abbrev pub IsIdle : GreetingState → Last → Last → Type 0
 IsIdle g r w = ((4 ≤ length g.came) × (g.said < 4) × (w ≡ lasts.Waits))
-    ⊎ ((4 ≤ length g.came → g.said ≡ 4) × (r ≡ lasts.Waits))
+    ⊎ ((4 ≤ length g.came → g.said ≡ 4) × (is_ready g ≡ false) × (r ≡ lasts.Waits))
 
 -- bytes were read or written, the last call was interrupted, or the end of the input was read
 abbrev pub IsBusy : GreetingState → Last → Last → ℕ → ℕ → Type 0
 IsBusy g r w read written =
     (0 < read + written) ⊎ (r ≡ lasts.Interrupted) ⊎ (w ≡ lasts.Interrupted) ⊎ ((r ≡ lasts.Ended) × (g.over ≡ true))
 
--- the peer's hello has come and all of ours is written, or the input has ended before that
+-- the session is to be opened, and all of our hello is written if the peer's has come
 abbrev pub IsDone : GreetingState → Type 0
-IsDone g = ((4 ≤ length g.came) × (g.said ≡ 4)) ⊎ ((length g.came < 4) × (g.over ≡ true))
+IsDone g = (is_ready g ≡ true) × (4 ≤ length g.came → g.said ≡ 4)
 
 abbrev pub LeavesAt : StepPause → GreetingState → Last → Last → ℕ → ℕ → Type 0
 LeavesAt pauses.Waits g r w read written = IsIdle g r w

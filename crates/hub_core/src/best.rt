@@ -10,10 +10,12 @@ pub(crate) enum Measure {
     Kept,
     /// How old its last byte is.
     Silence,
+    /// The same, of the peers of this origin alone.
+    SilenceOf(u128),
 }
 
 /// The first of the keys so far with the greatest number, where one more has this number.
-pub(crate) fn better(best: Option<(usize, u64)>, key: usize, number: u64) -> Option<(usize, u64)>
+pub(crate) fn better<K: Copy>(best: Option<(K, u128)>, key: K, number: u128) -> Option<(K, u128)>
     ensures { result ≡ better_of best key number }
 {
     match best {

@@ -6,25 +6,15 @@ ghost use Rattle.std.specs.Io.KnownBytes.{Consumes, Appends};
 ghost use Rattle.link_core.specs.declared.fault.LinkFault.TheVariants as faults;
 ghost use Rattle.hub_core.specs.Greetings as greetings;
 ghost use Rattle.hub_core.specs.Greetings.{Greets, own_hello};
-ghost use Rattle.hub_core.specs.Steps.{GreetsSo, LeavesGreeting};
+ghost use Rattle.hub_core.specs.Steps.{GreetsSo, LeavesGreeting, is_ready};
 
+use crate::due::{HELLO, is_counted, is_due, rest_of};
 use crate::step::{Step, StepPause, both, pause_of};
 use digest_core::{Counted, Fingerprint, Summary};
 use link_core::{Last, LinkFault, Polled};
 use std::alloc::{AllocError, Global};
 use std::io::{Read, Write};
 use std::marker::Model;
-
-/// The length of a hello.
-const HELLO: usize = 4;
-
-/// The bytes of the end of a message.
-const END: usize = 5;
-
-/// The session is opened at once for a frame that is longer than this, and once more than `MOST` bytes have come.
-const LONG: u32 = 512;
-
-const MOST: usize = 1_024;
 
 /// How many reads and writes one call makes at most.
 const TURNS: usize = 16;
@@ -48,48 +38,6 @@ impl Model for Greeting {
     ghost view = { λ g. record { came = g.came.items; said = g.said; over = g.over } };
 
     ghost invariant = { λ g. IsGreeting (record { came = g.came.items; said = g.said; over = g.over }) };
-}
-
-/// Whether these bytes begin with the hello of profile 2.
-fn is_counted(came: &[u8]) -> bool
-    ensures { result ≡ greetings.is_counted came.now }
-{
-    let front = &came[..came.len().min(HELLO)];
-    front == Counted::hello().as_slice()
-}
-
-/// Whether these bytes begin with a hello that no profile has.
-fn is_strange(came: &[u8]) -> bool
-    ensures { result ≡ true → 4 ≤ length came.now }
-{
-    if came.len() < HELLO {
-        return false;
-    }
-    let front = &came[..HELLO];
-    front != Counted::hello().as_slice() && front != Fingerprint::hello().as_slice()
-}
-
-/// Whether the session is to be opened for these bytes: the first message is whole, as far as the length of its first
-/// frame says, or it is too long to wait for.
-fn is_whole(came: &[u8]) -> bool
-    ensures { result ≡ true → 4 ≤ length came.now }
-{
-    if came.len() > MOST || is_strange(came) {
-        return true;
-    }
-    if came.len() < HELLO + 4 {
-        return false;
-    }
-    let long = u32::from_be_bytes([came[4], came[5], came[6], came[7]]);
-    long > LONG || came.len() >= HELLO + 4 + long as usize + END
-}
-
-/// The bytes from this place on.
-fn rest_of(bytes: &[u8], from: usize) -> &[u8]
-    requires { from ≤ length bytes.now }
-    ensures { result.now ≡ drop from bytes.now }
-{
-    &bytes[from..]
 }
 
 impl Greeting {
@@ -183,6 +131,7 @@ impl Greeting {
     ) -> Result<Step, LinkFault>
         requires room { 0 < length room.old }
         requires written { 4 ≤ length self.old.came → self.old.said ≡ 4 }
+        requires waits { is_ready self.old ≡ false }
         ensures moved { (held : _) → GreetsSo self.old self.new (I.remaining reader.old.way)
             (I.remaining reader.new.way) held held result }
         ensures leaves { (w : _) → LeavesGreeting self.new reader.new.last w result }
@@ -214,7 +163,7 @@ impl Greeting {
         if self.came.len() >= HELLO && self.said < HELLO {
             return self.say_once(writer);
         }
-        if self.over || is_whole(&self.came) {
+        if self.over || is_due(&self.came) {
             return Ok(Step {
                 pause: StepPause::Opens,
                 read: 0,

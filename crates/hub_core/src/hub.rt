@@ -1,6 +1,6 @@
 //! All peers at once, within limits of number, memory and time.
 
-ghost use Rattle.std.specs.Prelude.{◌≡◌, ◌<◌, ◌≤◌, ◌↔◌, ◌-◌, ◌||◌, nat_le, nat_lt, ℕ, true, false, [], Some, None};
+ghost use Rattle.std.specs.Prelude.{◌≡◌, ◌<◌, ◌≤◌, ◌↔◌, ◌-◌, ◌^◌, ◌||◌, nat_le, nat_lt, ℕ, true, false, [], Some, None};
 ghost use Rattle.std.specs.Prelude.{IfOk, IfErr, OnOk, OnErr, IfSome, IfNone, IsSome, length, option_copied};
 ghost use Rattle.std.specs.Arc.{arc_value};
 ghost use Rattle.std.specs.Io.Take.{take_remaining};
@@ -9,8 +9,8 @@ ghost use Rattle.ends_core.specs.Sides.{peer_of};
 ghost use Rattle.range_tree.specs.Trees.{tree_items};
 ghost use Rattle.hub_core.specs.Hubs as hubs;
 ghost use Rattle.hub_core.specs.Hubs.{OthersStay, held_by, kept, silence};
-ghost use Rattle.hub_core.specs.Totals.{IsMost};
-ghost use Rattle.hub_core.specs.Peers.{CountsSo, GoesSo, LeavesOff, Opens, version_after};
+ghost use Rattle.hub_core.specs.Totals.{IsMost, IsMostOf};
+ghost use Rattle.hub_core.specs.Peers.{CountsSo, GoesSo, LeavesOff, Opens, is_from, version_after};
 
 use crate::best::{Measure, better};
 use crate::limits::HubLimits;
@@ -52,13 +52,32 @@ fn is_late(limits: &HubLimits, now: u64, heard: u64, arrived: u64) -> bool
     now.saturating_sub(heard) > limits.idle || now.saturating_sub(arrived) > limits.whole
 }
 
+/// How old the last byte of a peer is, as a number.
+fn silence<I: Read, O: Write>(peer: &Peer<I, O>) -> u128
+    ensures value { result ≡ hubs.silence peer.now }
+    ensures small { result < 2 ^ 64 }
+{
+    u128::from(u64::MAX - peer.heard())
+}
+
+/// The same of a peer of this origin, from 1 on, and 0 of any other.
+fn silence_from<I: Read, O: Write>(origin: u128, peer: &Peer<I, O>) -> u128
+    ensures { result ≡ hubs.silence_from origin peer.now }
+{
+    if peer.is_from(origin) {
+        return silence(peer) + 1;
+    }
+    0
+}
+
 /// The number of a peer by this measure.
-fn measured<I: Read, O: Write>(by: Measure, peer: &Peer<I, O>) -> u64
+fn measured<I: Read, O: Write>(by: Measure, peer: &Peer<I, O>) -> u128
     ensures { result ≡ hubs.measured by peer.now }
 {
     match by {
-        Measure::Kept => peer.kept(),
-        Measure::Silence => u64::MAX - peer.heard(),
+        Measure::Kept => u128::from(peer.kept()),
+        Measure::Silence => silence(peer),
+        Measure::SilenceOf(origin) => silence_from(origin, peer),
     }
 }
 
@@ -237,6 +256,20 @@ impl<I: Read, O: Write> Hub<I, O> {
         ensures none { IfNone result ((key : ℕ) → get self.now.peers key ≡ None) }
     {
         self.greatest(Measure::Silence)
+    }
+
+    /// The peer of this origin that has been silent for longest.
+    pub fn most_silent_of(&self, origin: u128) -> Option<usize>
+        ensures most { IfSome result (λ key. IsMostOf (is_from origin) silence self.now.peers key) }
+        ensures none { IfNone result ((key : ℕ) (p : _) → get self.now.peers key ≡ Some p →
+            is_from origin p ≡ false) }
+    {
+        let key = self.greatest(Measure::SilenceOf(origin))?;
+        let peer = self.peers.get(key)?;
+        if !peer.is_from(origin) {
+            return None;
+        }
+        Some(key)
     }
 
     /// A peer whose time is over: it was silent for longer than it may be, or it has been there for longer.

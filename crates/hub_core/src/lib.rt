@@ -2,10 +2,12 @@
 #![tactic(auto)]
 
 mod best;
+mod due;
 mod greeting;
 mod hub;
 mod limits;
 mod opening;
+mod origins;
 mod peer;
 mod stage;
 mod step;
@@ -13,6 +15,7 @@ mod step;
 pub use greeting::Greeting;
 pub use hub::Hub;
 pub use limits::HubLimits;
+pub use origins::Origins;
 pub use peer::Peer;
 pub use stage::Stage;
 pub use step::{Step, StepPause};

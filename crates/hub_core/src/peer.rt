@@ -6,6 +6,7 @@ ghost use Rattle.std.specs.Arc.{arc_value};
 ghost use Rattle.std.specs.Io.Take.{take_inner, take_limit, take_remaining};
 ghost use Rattle.ends_core.specs.Sides.{peer_of};
 ghost use Rattle.range_tree.specs.Trees.{tree_items};
+ghost use Rattle.hub_core.specs.Peers as peers;
 ghost use Rattle.hub_core.specs.Peers.{CountsSo, GoesSo, IsFresh, LeavesOff, Learns, Opens, heard_by, kept_in};
 ghost use Rattle.hub_core.specs.Peers.{long_by, sent_in, state_in, version_after, woken};
 
@@ -37,6 +38,7 @@ pub struct Peer<I, O> {
     heard: u64,
     arrived: u64,
     long: u64,
+    origin: Option<u128>,
 }
 
 impl<I, O> Model for Peer<I, O> {
@@ -53,6 +55,7 @@ impl<I, O> Model for Peer<I, O> {
       heard = p.heard;
       arrived = p.arrived;
       long = p.long;
+      origin = p.origin;
     } };
 }
 
@@ -77,7 +80,7 @@ fn long_after(long: u64, step: Step, is_same: bool) -> u64
 }
 
 impl<I: Read, O: Write> Peer<I, O> {
-    /// A peer that has just come, and of which at most so many bytes are read.
+    /// A peer that has just come, of no origin, and of which at most so many bytes are read.
     pub fn new(
         alloc: Global,
         reader: I,
@@ -97,7 +100,15 @@ impl<I: Read, O: Write> Peer<I, O> {
             heard: now,
             arrived: now,
             long: 0,
+            origin: None,
         }
+    }
+
+    /// The same peer, which comes from this origin.
+    pub fn from_origin(self, origin: Option<u128>) -> Peer<I, O>
+        ensures { result ≡ record self { origin = origin } }
+    {
+        Peer { origin, ..self }
     }
 
     /// How far it is.
@@ -164,6 +175,23 @@ impl<I: Read, O: Write> Peer<I, O> {
         self.serial
     }
 
+    /// Where it comes from, if that is counted.
+    pub fn origin(&self) -> Option<u128>
+        ensures { result ≡ self.now.origin }
+    {
+        self.origin
+    }
+
+    /// Whether it comes from this origin.
+    pub fn is_from(&self, origin: u128) -> bool
+        ensures { result ≡ peers.is_from origin self.now }
+    {
+        match self.origin {
+            Some(own) => own == origin,
+            None => false,
+        }
+    }
+
     /// When a byte of it was last read or written.
     pub fn heard(&self) -> u64
         ensures { result ≡ self.now.heard }
@@ -217,7 +245,7 @@ impl<I: Read, O: Write> Peer<I, O> {
         ensures leaves { LeavesOff self.new.stage self.new.reader.last self.new.writer.last result }
         ensures counts { CountsSo self.old self.new now result }
         ensures same { (self.new.version ≡ self.old.version) × (self.new.serial ≡ self.old.serial)
-            × (self.new.arrived ≡ self.old.arrived) }
+            × (self.new.arrived ≡ self.old.arrived) × (self.new.origin ≡ self.old.origin) }
         ensures room { length room.new ≡ length room.old }
     {
         self.wake();

@@ -1,5 +1,5 @@
 use crate::sessions::{ABC_REPLIES, EMPTY_SAYS, HALVES};
-use hub_core::{Hub, HubLimits, Peer, StepPause};
+use hub_core::{Hub, HubLimits, Origins, Peer, StepPause};
 use item_core::Item;
 use range_tree::Tree;
 use std::alloc::Global;
@@ -170,5 +170,58 @@ fn a_flood_goes_and_another_goes_on(rt: HostRuntime) -> Result<(), Fail> {
     let peer = ended(&rt, alloc, &mut hub, calm, &accepted)?;
     assert!(rt; peer.sent() == 1 && peer.version() == 1);
     assert!(rt; peer.into_parts().2.bytes.as_slice() == ABC_REPLIES);
+    Ok(())
+}
+
+/// A peer of this origin was taken in, which came at this time.
+fn came_from(
+    rt: &impl Abort,
+    alloc: Global,
+    hub: &mut Hub<Fed, Kept>,
+    origin: u128,
+    now: u64,
+) -> usize {
+    let kept = Kept {
+        bytes: Vec::new(alloc),
+    };
+    let fed = Fed::of(Vec::new(alloc), 1);
+    let peer = Peer::new(alloc, fed, kept, 100, 1, now).from_origin(Some(origin));
+    hub.admit(peer).ok().expect(rt, "memory")
+}
+
+#[test]
+fn the_most_silent_of_an_origin(rt: HostRuntime) -> Result<(), Fail> {
+    let alloc = rt.alloc();
+    let limits = HubLimits {
+        places: 3,
+        memory: 10_000,
+        idle: 1_000,
+        whole: 2_000,
+    };
+    let mut hub: Hub<Fed, Kept> = Hub::new(alloc, limits);
+    let _later = came_from(&rt, alloc, &mut hub, 7, 5);
+    let earlier = came_from(&rt, alloc, &mut hub, 7, 3);
+    let first = came_from(&rt, alloc, &mut hub, 9, 1);
+    assert!(rt; hub.most_silent() == Some(first));
+    assert!(rt; hub.most_silent_of(7) == Some(earlier));
+    assert!(rt; hub.most_silent_of(9) == Some(first));
+    assert!(rt; hub.most_silent_of(8).is_none());
+    Ok(())
+}
+
+#[test]
+fn peers_of_origins_are_counted(rt: HostRuntime) -> Result<(), Fail> {
+    let mut origins = Origins::new(rt.alloc());
+    assert!(rt; origins.most().is_none());
+    assert!(rt; origins.enter(7, 2)?);
+    assert!(rt; origins.enter(7, 2)?);
+    assert!(rt; !origins.enter(7, 2)?);
+    assert!(rt; origins.enter(9, 2)?);
+    assert!(rt; origins.count(7) == 2 && origins.most() == Some(7));
+    origins.one_less(7);
+    origins.one_less(7);
+    assert!(rt; origins.count(7) == 0 && origins.most() == Some(9));
+    origins.one_more(7)?;
+    assert!(rt; origins.count(7) == 1 && origins.count(8) == 0);
     Ok(())
 }

@@ -170,8 +170,23 @@ impl Loop {
         }
     }
 
-    /// Lets the peer go that has been silent for longest, if it has been so for a while: the system may say that there
-    /// is no descriptor though nobody waits.
+    /// Who makes room: of the address that has most peers the one of this loop that has been silent for longest; where
+    /// this loop has none of that address, of all that it has.
+    fn next_to_go<R: Wait, G>(&self, site: &Site<'_, R, G>) -> Option<usize> {
+        let crowded = site.crowd.most_crowded(site.rt);
+        match self.most_silent_of(crowded) {
+            Some(key) => Some(key),
+            None => self.hub.most_silent(),
+        }
+    }
+
+    /// The peer of this loop, and of this address, that has been silent for longest.
+    fn most_silent_of(&self, origin: Option<u128>) -> Option<usize> {
+        self.hub.most_silent_of(origin?)
+    }
+
+    /// Lets a peer go that makes room, if it has been silent for a while: the system may say that there is no
+    /// descriptor though nobody waits.
     fn let_a_silent_one_go<R: Wait, G: PartGate>(
         &mut self,
         site: &Site<'_, R, G>,
@@ -179,7 +194,7 @@ impl Loop {
     )
         ensures shared { desk.new.shared ≡ desk.old.shared }
     {
-        let Some(key) = self.hub.most_silent() else {
+        let Some(key) = self.next_to_go(site) else {
             return;
         };
         let heard = self.hub.get(key).map_or(self.now, |peer| peer.heard());
@@ -188,17 +203,38 @@ impl Loop {
         }
     }
 
-    /// Lets the peer go that has been silent for longest.
+    /// Lets a peer go that makes room.
     fn make_room<R: Wait, G: PartGate>(&mut self, site: &Site<'_, R, G>, desk: &mut Desk<'_, G>)
         ensures shared { desk.new.shared ≡ desk.old.shared }
     {
-        if let Some(key) = self.hub.most_silent() {
+        if let Some(key) = self.next_to_go(site) {
             self.let_go(site, desk, key, Parting::TimeIsOver);
         }
     }
 
-    /// Takes in a connection that has just come. Where all places are taken, the peer of this loop that has been silent
-    /// for longest makes room; one more comes in where this loop has none.
+    /// Counts one peer more, of this address. Where it has as many as it may have, the one of this loop that has been
+    /// silent for longest makes room. Whether there is room.
+    fn count_in<R: Wait, G: PartGate>(
+        &mut self,
+        site: &Site<'_, R, G>,
+        desk: &mut Desk<'_, G>,
+        origin: Option<u128>,
+    ) -> bool
+        ensures shared { desk.new.shared ≡ desk.old.shared }
+    {
+        if site.crowd.count_one_more(site.rt, origin) {
+            return true;
+        }
+        let Some(key) = self.most_silent_of(origin) else {
+            return false;
+        };
+        self.let_go(site, desk, key, Parting::TimeIsOver);
+        site.crowd.count_one_more(site.rt, origin)
+    }
+
+    /// Takes in a connection that has just come. Where its address has as many peers as it may have, and this loop has
+    /// none of them, it is closed. Where all places are taken, a peer of this loop makes room; one more comes in where
+    /// this loop has none.
     fn admit_new<R: Wait, G: PartGate>(
         &mut self,
         site: &Site<'_, R, G>,
@@ -208,15 +244,19 @@ impl Loop {
     )
         ensures shared { desk.new.shared ≡ desk.old.shared }
     {
-        if site.crowd.is_full() {
+        let origin = reader.origin();
+        if !self.count_in(site, desk, origin) {
+            return;
+        }
+        if site.crowd.is_crowded() {
             self.make_room(site, desk);
         }
-        site.crowd.count_one_more();
         let most_bytes = u64::from(site.crowd.limits.most_bytes);
         let serial = self.serial;
         self.serial = serial.saturating_add(1);
         let reader = reader_of(site.crowd.set, reader);
         let peer = Peer::new(site.alloc, reader, writer, most_bytes, serial, self.now);
+        let peer = peer.from_origin(origin);
         self.admit(site, desk, Guest { peer, id: None });
     }
 

@@ -6,6 +6,7 @@ use crate::board::Board;
 use crate::looping::Kind;
 use crate::note::Guest;
 use crate::shards::Shards;
+use hub_core::Origins;
 use mio::{Poll, Waker};
 use outcome_core::SourceFault;
 use shard_core::SetName;
@@ -29,6 +30,8 @@ pub struct PeerLimits {
     pub memory: u64,
     /// How many sessions there are at once, at most: as many as the table has places.
     pub sessions: usize,
+    /// How many peers there are at once of one address, at most.
+    pub peers_of_one: u32,
 }
 
 /// How peers are served.
@@ -72,8 +75,9 @@ pub(crate) struct Crowd<'a> {
     inlets: Vec<Inlet>,
     // What loops wait with that do not run yet.
     polls: Mutex<Vec<Poll>>,
-    // How many peers there are.
+    // How many peers there are, and how many of each address.
     peers: AtomicUsize,
+    origins: Mutex<Origins>,
     // How many more sessions may be opened.
     places: AtomicUsize,
     // How many loops that accept are not done.
@@ -131,6 +135,7 @@ impl<'a> Crowd<'a> {
             inlets: inlets(alloc, both_kinds)?,
             polls: Mutex::new(polls(rt, alloc, both_kinds)?),
             peers: AtomicUsize::new(0),
+            origins: Mutex::new(Origins::new(alloc)),
             places: AtomicUsize::new(limits.sessions),
             accepting: AtomicUsize::new(loops),
             fault: OnceLock::new(),
@@ -145,17 +150,34 @@ impl<'a> Crowd<'a> {
         Kind::Accepts
     }
 
-    /// One peer more has come.
-    pub(crate) fn count_one_more(&self) {
+    /// Whether one address may have one peer more, and it is counted; a peer without an address may always come. Where
+    /// memory runs out it may not.
+    fn enter<T: Wait>(&self, rt: &T, origin: Option<u128>) -> bool {
+        let Some(origin) = origin else {
+            return true;
+        };
+        let most = u64::from(self.limits.peers_of_one);
+        matches!(self.origins.lock(rt).enter(origin, most), Ok(true))
+    }
+
+    /// Counts one peer more, of this address, if it may have one more. Whether it may.
+    pub(crate) fn count_one_more<T: Wait>(&self, rt: &T, origin: Option<u128>) -> bool {
+        if !self.enter(rt, origin) {
+            return false;
+        }
         let _ = self
             .peers
             .fetch_update(Ordering::SeqCst, Ordering::SeqCst, |count| {
                 count.checked_add(1)
             });
+        true
     }
 
-    /// One peer is gone.
-    pub(crate) fn count_one_less(&self) {
+    /// One peer is gone, of this address.
+    pub(crate) fn count_one_less<T: Wait>(&self, rt: &T, origin: Option<u128>) {
+        if let Some(origin) = origin {
+            self.origins.lock(rt).one_less(origin);
+        }
         let _ = self
             .peers
             .fetch_update(Ordering::SeqCst, Ordering::SeqCst, |count| {
@@ -163,9 +185,14 @@ impl<'a> Crowd<'a> {
             });
     }
 
-    /// Whether there are as many peers as there may be.
-    pub(crate) fn is_full(&self) -> bool {
-        self.peers.load(Ordering::SeqCst) >= self.limits.peers as usize
+    /// Whether there are more peers than there may be.
+    pub(crate) fn is_crowded(&self) -> bool {
+        self.peers.load(Ordering::SeqCst) > self.limits.peers as usize
+    }
+
+    /// The address that has most peers, if any has one.
+    pub(crate) fn most_crowded<T: Wait>(&self, rt: &T) -> Option<u128> {
+        self.origins.lock(rt).most()
     }
 
     /// What one loop more waits with, if the system gave enough.

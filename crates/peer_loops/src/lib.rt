@@ -22,6 +22,7 @@ mod visiting;
 
 pub use board::{Board, Recent};
 pub use crowd::{PeerLimits, Service};
+pub use hub_core::Origins;
 pub use part_gate::PartGate;
 pub use serving::serve_peers;
 pub use shards::Shards;

@@ -207,8 +207,8 @@ impl Loop {
         ensures put { (o : outcomes.Outcome) × Tells parting guest.peer.stage guest.peer.version o
             × PutsInOf guest.id (G.lets_in desk.old.shared.now.gate.now) o desk.old.seat.view desk.new.seat.view }
     {
-        site.crowd.count_one_less();
         let Guest { peer, id } = guest;
+        site.crowd.count_one_less(site.rt, peer.origin());
         let serial = id.as_ref().map(|id| id.serial());
         let gone = parted(peer, serial, parting, self.now);
         conclude(site, desk, id, &gone.outcome);
@@ -223,8 +223,8 @@ impl Loop {
         guest: Guest,
         parting: Parting,
     ) {
-        site.crowd.count_one_less();
         let Guest { peer, id } = guest;
+        site.crowd.count_one_less(site.rt, peer.origin());
         let serial = id.as_ref().map(|id| id.serial());
         let which = match site.crowd.set {
             Some(set) => part_of(set, peer.reader()),

@@ -56,6 +56,8 @@ pub struct Caller {
     left: usize,
     /// When the connection is closed.
     until: u64,
+    /// When a byte of it was last read or written.
+    heard: u64,
 }
 
 impl Caller {
@@ -71,7 +73,23 @@ impl Caller {
             said: 0,
             left: MOST_BYTES,
             until: now.saturating_add(MOST_MILLISECONDS),
+            heard: now,
         }
+    }
+
+    /// Where it counts, if it has an address of TCP.
+    pub fn origin(&self) -> Option<u128> {
+        self.reader.origin()
+    }
+
+    /// When a byte of it was last read or written.
+    pub fn heard(&self) -> u64 {
+        self.heard
+    }
+
+    /// How many bytes were read of it and written to it.
+    fn bytes(&self) -> u64 {
+        Half::bytes(&self.reader).saturating_add(Half::bytes(&self.writer))
     }
 
     /// Whether its time is over.
@@ -165,13 +183,23 @@ impl Caller {
         Step::Waits
     }
 
-    /// Goes on as far as the connection goes without waiting.
-    pub fn go_on(&mut self) -> Step {
+    /// Does what is next of it.
+    fn go_on_once(&mut self) -> Step {
         match self.stage {
             Stage::Asks => self.hear(),
             Stage::Hears => self.say(),
             Stage::Leaves => self.read_on(),
         }
+    }
+
+    /// Goes on as far as the connection goes without waiting.
+    pub fn go_on(&mut self, now: u64) -> Step {
+        let before = self.bytes();
+        let step = self.go_on_once();
+        if self.bytes() != before {
+            self.heard = now;
+        }
+        step
     }
 }
 

@@ -10,6 +10,9 @@ use settings_core::ServeWords;
 /// How many peers there may be at once, if no number is given.
 const PEERS: u32 = 1_024;
 
+/// How many peers there may be at once of one address, if no number is given.
+const PEERS_OF_ONE: u32 = 64;
+
 /// For how many seconds a session may go on, if no number is given: an hour.
 const SESSION_SECONDS: u32 = 3_600;
 
@@ -34,6 +37,7 @@ pub fn limits_of(words: ServeWords<'_>) -> PeerLimits
         most_bytes: words.most_bytes,
         memory: u64::from(words.memory.unwrap_or(MEMORY)).saturating_mul(MIB),
         sessions: places(peers),
+        peers_of_one: words.peers_of_one.unwrap_or(PEERS_OF_ONE),
     }
 }
 

@@ -8,7 +8,7 @@ use crate::reporting::Reporter;
 use io_core::{Watched, WriterFailed, write_output};
 use mio::unix::SourceFd;
 use mio::{Events, Interest, Poll, Token};
-use peer_loops::{Board, Shards};
+use peer_loops::{Board, Origins, Shards};
 use peer_threads::Shared;
 use printing_core::Refusal;
 use range_tree::Tree;
@@ -27,7 +27,7 @@ use tcp_front::{Arrival, Half, Limits, Listener};
 use version_log::Log;
 use watch_core::{Asked, Standing, metrics_line, refusal_text, response};
 
-/// How many may ask at once. Further ones are closed.
+/// How many may ask at once. For a further one another makes room.
 const MOST_CALLERS: usize = 16;
 
 /// How many connections are taken in a row.
@@ -192,6 +192,14 @@ fn answer_to<R: Wait + AllocGlobal>(
     }
 }
 
+/// The first of the keys so far that was heard longest ago, where one more was heard then.
+fn earlier(first: Option<(usize, u64)>, key: usize, heard: u64) -> Option<(usize, u64)> {
+    match first {
+        Some((_, least)) if least <= heard => first,
+        _ => Some((key, heard)),
+    }
+}
+
 /// All who ask.
 #[derive(Drop)]
 struct Callers {
@@ -227,9 +235,44 @@ impl Callers {
         }
     }
 
-    /// Takes in a connection, if there is a place for it; else it is closed.
+    /// The address from which most ask, if any has one.
+    fn most_crowded(&self, alloc: Global) -> Option<u128> {
+        let mut origins = Origins::new(alloc);
+        for (_key, caller) in self.all.iter() {
+            if let Some(origin) = caller.origin() {
+                origins.one_more(origin).ok()?;
+            }
+        }
+        origins.most()
+    }
+
+    /// Who makes room: of the address from which most ask the one that has been silent for longest.
+    fn next_to_go(&self, alloc: Global) -> Option<usize> {
+        let crowded = self.most_crowded(alloc);
+        let mut first = None;
+        for (key, caller) in self.all.iter() {
+            if crowded.is_none() || caller.origin() == crowded {
+                first = earlier(first, key, caller.heard());
+            }
+        }
+        let (key, _) = first?;
+        Some(key)
+    }
+
+    /// Closes the connection that makes room, if all places are taken. Whether one is free.
+    fn has_room(&mut self, alloc: Global) -> bool {
+        if self.all.len() < MOST_CALLERS {
+            return true;
+        }
+        let Some(key) = self.next_to_go(alloc) else {
+            return false;
+        };
+        self.all.try_remove(key).is_some()
+    }
+
+    /// Takes in a connection. Where all places are taken, another makes room.
     fn admit(&mut self, alloc: Global, connection: (Half, Half)) {
-        if self.all.len() >= MOST_CALLERS {
+        if !self.has_room(alloc) {
             return;
         }
         let caller = Caller::new(alloc, connection, self.now);
@@ -259,7 +302,7 @@ impl Callers {
         let Some(caller) = self.all.get_mut(key) else {
             return None;
         };
-        match caller.go_on() {
+        match caller.go_on(self.now) {
             Step::Waits => None,
             Step::Asks(asked) => Some(asked),
             Step::Gone => {

@@ -1,5 +1,6 @@
 //! The two halves of a connection.
 
+use crate::origin::origin_of;
 use crate::stream::Stream;
 use std::alloc::Global;
 use std::io;
@@ -39,6 +40,14 @@ impl Half {
     /// The address of TCP of the other side, if it is known.
     pub fn address(&self) -> Option<SocketAddr> {
         self.address
+    }
+
+    /// Where the other side counts, if it has an address of TCP.
+    pub fn origin(&self) -> Option<u128> {
+        match self.address {
+            Some(address) => Some(origin_of(address)),
+            None => None,
+        }
     }
 
     /// How many bytes were read of this half, or written to it.

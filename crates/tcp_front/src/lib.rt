@@ -8,6 +8,7 @@ mod fault;
 mod half;
 mod limits;
 mod listener;
+mod origin;
 mod patience;
 mod ready;
 mod socket;

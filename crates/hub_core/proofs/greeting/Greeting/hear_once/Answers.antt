@@ -1,8 +1,11 @@
-use Rattle.std.proofs.Common.{rules, ◌≡◌, ◌≤◌, [], None, Ok, Err, take, length, refl}
+use Rattle.std.proofs.Common.{rules, ◌≡◌, ◌≤◌, false, [], None, Ok, Err, take, length, refl, subst}
+use Rattle.link_core.specs.Polls.{ReadsSo}
 use Rattle.link_core.specs.declared.fault.LinkFault.TheVariants as faults
-use Rattle.hub_core.specs.Steps.{pause_at}
+use Rattle.link_core.specs.declared.polled.Last.{Last}
+use Rattle.link_core.specs.declared.polled.Last.TheVariants as lasts
+use Rattle.hub_core.specs.Steps.{is_ready, pause_at}
 use Rattle.hub_core.proofs.Greeted.{greets-lost, counted-take, came-long}
-use Rattle.hub_core.proofs.Leaving.{heard-leaves, heard-fails}
+use Rattle.hub_core.proofs.Leaving.{heard-leaves, heard-fails, still-waits}
 use Rattle.hub_core.proofs.greeting.Greeting.hear_once.Goals as goal
 
 pub returns-in_err-keep-clause-moved : goal.returns-in_err-keep-clause-moved
@@ -43,5 +46,9 @@ returns-clause-leaves g c = λ w.
     came in
     let written : 4 ≤ length c.args.self.now.came → c.keep.new.self.said ≡ 4 = λ four.
     search (rules, c.requires.written four) in
+    let idle : c.read-count.new.self.last ≡ lasts.Waits → is_ready c.keep.new.self ≡ false = λ waits.
+    still-waits n c.read-count.new.room c.args.self.now c.keep.new.self
+    (subst (λ (r : Last). ReadsSo n r) waits c.read-count.ensures.last) c.requires.waits came
+    (search (rules, waits)) in
     heard-leaves n (length c.args.self.now.came) c.read-count.new.self.last w c.keep.new.self c.in_ok-pause.pause
-    c.read-count.ensures.last long written (λ ended. search (rules, ended)) at
+    c.read-count.ensures.last long written (λ ended. search (rules, ended)) idle at

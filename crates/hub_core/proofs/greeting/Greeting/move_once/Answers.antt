@@ -1,6 +1,7 @@
-use Rattle.std.proofs.Common.{rules, ◌≡◌, ◌⊎◌, ◌≤◌, true, [], length, inl, inr, refl}
+use Rattle.std.proofs.Common.{rules, ◌≡◌, ◌≤◌, true, [], length, refl}
 use Rattle.hub_core.proofs.Greeted.{greets-none}
-use Rattle.hub_core.proofs.Leaving.{opens-leaves}
+use Rattle.hub_core.specs.Steps.{is_ready}
+use Rattle.hub_core.proofs.Leaving.{opens-leaves, ready-due, ready-over}
 use Rattle.hub_core.proofs.greeting.Greeting.move_once.Goals as goal
 
 pub returns-then-self-lt-HELLO-clause-moved : goal.returns-then-self-lt-HELLO-clause-moved
@@ -22,13 +23,14 @@ returns-then-self-clause-leaves g c =
       | goal.else-len-ge-HELLO-via-then-len-ge-HELLO+else-self-lt-HELLO w ↦ search (rules, w.if-self-lt-HELLO.false)
       | goal.else-len-ge-HELLO-via-else-len-ge-HELLO w ↦ search (rules, w.if-len-ge-HELLO.false, four)
     ] in
-    let whole : (c.args.self.now.over ≡ true) ⊎ (4 ≤ length c.args.self.now.came) =
+    let ready : is_ready c.args.self.now ≡ true =
     elim c.then-self.branch [
-      | goal.then-self-via-then-self w ↦ inl (search (rules, w.if-self.true))
-      | goal.then-self-via-else-self+then-is_whole w ↦ inr (search (rules, w.is_whole.ensures, w.if-is_whole.true))
+      | goal.then-self-via-then-self w ↦ ready-over c.args.self.now (search (rules, w.if-self.true))
+      | goal.then-self-via-else-self+then-is_due w ↦
+          ready-due c.args.self.now (search (rules, w.is_due.ensures, w.if-is_due.true))
     ] in
     let opens = opens-leaves c.args.self.now c.args.reader.now.last c.args.writer.now.last (search rules) written
-    whole in
+    ready in
     search (rules, opens)
 
 pub returns-clause-leaves : goal.returns-clause-leaves
