@@ -94,10 +94,11 @@ fn print(session: &mut Handle, word: &str, count: usize, item: Item) {
 
 fn main() -> io::Result<()> {
     let words: Vec<String> = env::args().collect();
-    let [_, strategy, items, address] = &words[..] else {
+    if words.len() != 4 {
         eprintln!("usage: example-rust STRATEGY ITEMS ADDRESS");
         process::exit(2);
-    };
+    }
+    let (strategy, items, address) = (&words[1], &words[2], &words[3]);
     let mut connection = TcpStream::connect(address)?;
     let mut session = open(strategy, items)?;
     let (state, code) = talk(&mut session, &mut connection)?;

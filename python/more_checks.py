@@ -33,7 +33,7 @@ TOP = Path(__file__).resolve().parent.parent
 EIGHT = (TOP / "examples/eight.toml").read_bytes()
 eight = functools.partial(Set, Strategy(EIGHT))
 large = functools.partial(Set, Strategy((TOP / "examples/all-round.toml").read_bytes()))
-SECONDS = 60  # How long a test waits for a peer.
+SECONDS = 240  # How long a test waits for a peer.
 Streams = tuple[asyncio.StreamReader, asyncio.StreamWriter]
 Answers = Callable[[asyncio.StreamReader, asyncio.StreamWriter], Awaitable[None]]
 

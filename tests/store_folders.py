@@ -53,9 +53,9 @@ def truth(here: Path, there: Path) -> list[str]:
     for line in ran(["diff", "-rq", "--no-dereference", str(here), str(there)]).output.splitlines():
         if only := re.fullmatch(r"Only in (\S+): (\S+)", line):
             path = Path(only[1], only[2])
-            side, top = ("here", here) if path.is_relative_to(here) else ("there", there)
+            side, top = ("ours", here) if path.is_relative_to(here) else ("theirs", there)
             below = [each for each in path.rglob("*") if each.is_file()] if path.is_dir() else [path]
-            lines += [f"only {side} {each.relative_to(top)}" for each in below]
+            lines += [f"{side} {each.relative_to(top)}" for each in below]
         elif differ := re.fullmatch(r"Files (\S+) and \S+ differ", line):
             lines.append(f"differs {Path(differ[1]).relative_to(here)}")
         else:
@@ -92,7 +92,7 @@ def many(count: Count, folder: Path, files: int) -> None:
     subprocess.run(["cp", "-a", str(here), str(there)], check=True)
     change(there, files)
     wanted = truth(here, there)
-    kinds = [sum(line.startswith(word) for line in wanted) for word in ("only here", "only there", "differs")]
+    kinds = [sum(line.startswith(word) for line in wanted) for word in ("ours ", "theirs ", "differs ")]
     count.same("many: the truth has 50", [15, 15, 20], kinds)
     with served(folder, serve_words(there)) as server:
         said = ran(compare_words(here, server.address))
@@ -103,7 +103,7 @@ def many(count: Count, folder: Path, files: int) -> None:
         said = ran(compare_words(here, server.address, there))
         count.same("many: fetched", (0, wanted, ""), (said.status, found(said), said.error))
         print(f"folders, {files} files: {said.output.splitlines()[-1]}")
-        left = [line for line in wanted if line.startswith("only here")]
+        left = [line for line in wanted if line.startswith("ours ")]
         count.same("many: what is left, by diff", left, truth(here, there))
         said = ran(compare_words(here, server.address, there))
         count.same("many: compared once more", (0, left, ""), (said.status, found(said), said.error))
@@ -125,7 +125,7 @@ def odd_names(count: Count, folder: Path) -> None:
         said = ran(compare_words(here, server.address, there))
         wanted = [r"caf\xe9", r"new\x0aline", "#number", ";semicolon", " blank ", "-dash", r"back\\slash", "'quote\""]
         wanted += ["*", "a/#b"]
-        lines = sorted([*(f"only there {name}" for name in wanted), "differs link"])
+        lines = sorted([*(f"theirs {name}" for name in wanted), "differs link"])
         count.same("odd names: found and fetched", (0, lines, ""), (said.status, found(said), said.error))
         came = {name: (Path(os.fsdecode(os.path.join(os.fsencode(here), name)))).read_bytes() for name in ODD}
         count.same("odd names: their contents", {name: b"contents of " + name for name in ODD}, came)

@@ -49,7 +49,7 @@ def table_of(server: Postgres, name: str, key: str) -> dict[str, str]:
 
 
 def kinds(here: dict[str, str], there: dict[str, str]) -> tuple[int, int, int]:
-    """How many rows are only here, only there, and differ."""
+    """How many rows are ours, theirs, and differ."""
     both = here.keys() & there.keys()
     return len(here.keys() - both), len(there.keys() - both), sum(here[key] != there[key] for key in both)
 
@@ -60,7 +60,7 @@ def lines_of(said: Said) -> list[str]:
 
 def counts(said: Said) -> tuple[int, int, int]:
     lines = lines_of(said)
-    words = ("only here ", "only there ", "differs ")
+    words = ("ours ", "theirs ", "differs ")
     return tuple(sum(line.startswith(word) for line in lines) for word in words)  # type: ignore[return-value]
 
 
@@ -113,8 +113,8 @@ def people(count: Count, pair: Compared, rows: int, in_a_part: int) -> None:
         said = pair.compare("people", server.address, in_a_part)
     here, there = table_of(pair.one, "people", "id"), table_of(pair.other, "people", "id")
     wanted = sorted(
-        [f"only here {key}" for key in here.keys() - there.keys()]
-        + [f"only there {key}" for key in there.keys() - here.keys()]
+        [f"ours {key}" for key in here.keys() - there.keys()]
+        + [f"theirs {key}" for key in there.keys() - here.keys()]
         + [f"differs {key}" for key in here.keys() & there.keys() if here[key] != there[key]]
     )
     count.same("people: the truth has 50", (15, 15, 20), kinds(here, there))
@@ -138,7 +138,7 @@ def odd_names(count: Count, pair: Compared) -> None:
     with served(pair.folder, pair.serve_words(ODD_NAME)) as server:
         said = pair.compare(ODD_NAME, server.address)
         count.same("odd names: found", (0, "", (10, 10, 20)), (said.status, said.error, counts(said)))
-        for wanted in (f'differs ({"long" * 30},1)', r'only here ("line\nfeed",3)', "only there (:x,9)"):
+        for wanted in (f'differs ({"long" * 30},1)', r'ours ("line\nfeed",3)', "theirs (:x,9)"):
             count.holds("odd names: a key", wanted in lines_of(said), wanted, lines_of(said)[:8])
         count.same("odd names: mended", Said(0, "", ""), pair.one.file(pair.repair))
         key = 'ROW(part, "no:2")::text'

@@ -147,6 +147,34 @@ def full_relay(count: Count, folder: Path) -> None:
     count.same("relay, full: the database", 12, len(ids_in(file)))
 
 
+A, LINE, LACKED = (
+    "ca978112ca1bbdcafac231b39a23dc4da786eff8147c4e72b9807785afee48bb",
+    "39af0a22a179e37a7a40ccd5f5f5508f010dca361b4d20a3f5ca5be54a6848c5",
+    "f" * 64,
+)
+"""The SHA-256 of `a` and of `a longer line`, by sha256sum, and one of no known text."""
+
+
+def fetched(count: Count, folder: Path) -> None:
+    """Messages by their ids: as words and from standard input, in both forms, in this order; and those that lack."""
+    with served(folder, [*example("relay"), "serve", "--addr", "127.0.0.1:0", str(folder / "fetched.db")]) as server:
+        put, get = ([*example("relay"), word, server.address] for word in ("put", "get"))
+        count.same("relay get: two are there", Said(0, "new 2\n", ""), ran(put, b"a\na longer line\n"))
+        count.same("relay get: by words", Said(0, "a longer line\na\n", ""), ran([*get, f"0x{LINE}", A]))
+        lines = f"{A}\n0x{LINE}\n0x{A.upper()}\n".encode()
+        count.same("relay get: by lines", Said(0, "a\na longer line\na\n", ""), ran(get, lines))
+        wanted = Said(1, "a\n", f"relay: not there: {LACKED}\n")
+        count.same("relay get: one that lacks", wanted, ran([*get, LACKED, A]))
+        count.same("relay get: none", Said(0, "", ""), ran(get))
+        for bad in (A[1:], A + "00", f"{A[1:]}g", "0x" + A[2:], f"+{A[1:]}"):
+            wanted = Said(1, "", f"relay: {bad} is no SHA-256 in hex\n")
+            count.same(f"relay get: {bad}", wanted, ran([*get, bad]))
+        many = [b"%d" % number for number in range(600)]
+        ran(put, b"\n".join(many))
+        ids = "\n".join(hashlib.sha256(text).hexdigest() for text in many).encode()
+        count.same("relay get: more than at once", b"\n".join([*many, b""]).decode(), ran(get, ids).output)
+
+
 def relay(count: Count, is_full: bool) -> None:
     messages = 50_000 if is_full else 5_000
     with own_folder() as folder:
@@ -159,6 +187,7 @@ def relay(count: Count, is_full: bool) -> None:
                 relays.start(number)
             converges(count, relays, messages)
             full_relay(count, folder)
+            fetched(count, folder)
         finally:
             for each in relays.running.values():
                 each.end()
