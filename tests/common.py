@@ -213,6 +213,10 @@ def port_is_free() -> bool:
     return False
 
 
+IN_MEMORY = "kept in memory alone: --keep FILE keeps it\n"
+"""What a server says that may learn, and writes that to no file."""
+
+
 class Server:
     """`serve` as it runs, at this address, whose port 0 is one that the system chooses."""
 
@@ -226,9 +230,9 @@ class Server:
             self.process = subprocess.Popen(call, cwd=folder, stdin=subprocess.DEVNULL, stdout=out, stderr=err)
 
     def error(self) -> str:
-        """What is on standard error, but for the lines with the real addresses."""
+        """What is on standard error, but for the lines with the real addresses, and that of a set in memory alone."""
         lines = self.err.read_text(errors="backslashreplace").splitlines(keepends=True)
-        return "".join(line for line in lines if not line.startswith(("listening ", "metrics ")))
+        return "".join(line for line in lines if not line.startswith(("listening ", "metrics ", IN_MEMORY)))
 
     def address(self) -> str:
         """The real address, once it listens."""

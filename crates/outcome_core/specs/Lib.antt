@@ -1,3 +1,4 @@
 pub use Rattle.definitions.specs.Refusals
 pub mod Faults
+pub mod Names
 pub mod Sent

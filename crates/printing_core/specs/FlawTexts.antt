@@ -5,7 +5,7 @@
 --     server_text f        what a server did
 use Rattle.std.specs.Prelude.{ℕ, List, ◌++◌, codes}
 use Rattle.std.specs.Fmt.{decimal}
-use Rattle.printing_core.specs.Lines.{session_refusal_name}
+use Rattle.outcome_core.specs.Names.{session_refusal_name}
 use Rattle.printing_core.specs.declared.flaws.Unread.{Unread}
 use Rattle.printing_core.specs.declared.flaws.Unread.TheVariants as unreads
 use Rattle.item_files.specs.declared.read_fault.ReadFault.{ReadFault}

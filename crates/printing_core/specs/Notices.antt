@@ -47,3 +47,6 @@ notice_text (notices.Torn file shown) =
     file.now ++ (codes ": a last line without its end was cut off: " ++ shown.now)
 notice_text (notices.Full items) = codes "the set is full with "
     ++ (counted items (codes "item") (codes "items") ++ codes ": what peers have beside them is dropped")
+notice_text notices.InMemory = codes "kept in memory alone: --keep FILE keeps it"
+notice_text (notices.Replaced file) = file.now ++ codes ": another file is there, and is written to"
+notice_text (notices.NotFollowed file) = file.now ++ codes ": what is there is another, and is not written to"

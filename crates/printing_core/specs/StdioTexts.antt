@@ -8,7 +8,7 @@ use Rattle.std.specs.Fmt.{decimal}
 use Rattle.definitions.specs.Talks.{Knowledge}
 use Rattle.outcome_core.specs.declared.outcome.Outcome.{Outcome}
 use Rattle.outcome_core.specs.declared.outcome.Outcome.TheVariants as outcomes
-use Rattle.printing_core.specs.Lines.{session_refusal_name}
+use Rattle.outcome_core.specs.Names.{session_refusal_name}
 use Rattle.printing_core.specs.SessionTexts.{of_direction}
 use Rattle.printing_core.specs.declared.fault.Fault.{Fault}
 use Rattle.printing_core.specs.declared.fault.Fault.TheVariants as faults

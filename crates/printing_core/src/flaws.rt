@@ -3,8 +3,8 @@
 ghost use Rattle.std.specs.Prelude.{◌≡◌, Some};
 ghost use Rattle.printing_core.specs.FlawTexts.{unread_of, unread_text, input_text, server_text};
 
-use crate::printed::session_refusal_name;
 use item_files::ReadFault;
+use outcome_core::session_refusal_name;
 use std::fmt;
 
 /// Why a file was not read, or not opened to be written to.

@@ -47,8 +47,8 @@ pub use shown::shown_line;
 pub use stats::{Stats, Tally};
 pub use stdio::{PeerFlaw, learned_in, refusal_of_session, tell_name_flaw, tell_stdio_flaw};
 pub use told::{
-    Cause, tell_full, tell_left_out, tell_left_waiting, tell_torn, tell_unwritten_cause,
-    tell_written_again,
+    Cause, tell_full, tell_in_memory, tell_left_out, tell_left_waiting, tell_not_followed,
+    tell_replaced, tell_torn, tell_unwritten_cause, tell_written_again,
 };
 pub use unreached::Unreached;
 pub use why::{Origin, Why, tell_why};

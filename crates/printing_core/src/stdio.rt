@@ -6,10 +6,9 @@ ghost use Rattle.printing_core.specs.Endings.{fault_in};
 ghost use Rattle.printing_core.specs.StdioTexts.{peer_text, refused_for, peer_flaw, session_fault, session_learned};
 
 use crate::fault::Fault;
-use crate::printed::session_refusal_name;
 use crate::reports::of_direction;
 use ends_core::Learned;
-use outcome_core::Outcome;
+use outcome_core::{Outcome, session_refusal_name};
 use settings_core::StdioFlaw;
 use std::fmt;
 use std::io::Write;

@@ -123,6 +123,16 @@ pub enum Notice<'a> {
     Full {
         items: usize,
     },
+    /// What is learned is written to no file.
+    InMemory,
+    /// Another file stands at the path of one that is written to, and is written to instead.
+    Replaced {
+        file: &'a str,
+    },
+    /// What stands at the path of a file that is written to is another thing, and is not written to.
+    NotFollowed {
+        file: &'a str,
+    },
 }
 
 impl fmt::Display for Notice<'_> {
@@ -161,6 +171,13 @@ impl fmt::Display for Notice<'_> {
                     f,
                     "the set is full with {items}: what peers have beside them is dropped"
                 )
+            }
+            Notice::InMemory => write!(f, "kept in memory alone: --keep FILE keeps it"),
+            Notice::Replaced { file } => {
+                write!(f, "{file}: another file is there, and is written to")
+            }
+            Notice::NotFollowed { file } => {
+                write!(f, "{file}: what is there is another, and is not written to")
             }
         }
     }
@@ -214,4 +231,20 @@ pub fn tell_torn<E: Write>(alloc: Global, err: &mut E, file: &str, bytes: &[u8])
 /// Prints that the set has no room for one more item. A line that is not taken changes nothing.
 pub fn tell_full<E: Write>(err: &mut E, items: usize) {
     tell_notice(err, Notice::Full { items });
+}
+
+/// Prints that what is learned is written to no file. A line that is not taken changes nothing.
+pub fn tell_in_memory<E: Write>(err: &mut E) {
+    tell_notice(err, Notice::InMemory);
+}
+
+/// Prints that another file stands at this path, and is written to instead. A line that is not taken changes nothing.
+pub fn tell_replaced<E: Write>(err: &mut E, file: &str) {
+    tell_notice(err, Notice::Replaced { file });
+}
+
+/// Prints that what stands at this path is another thing, and is not written to. A line that is not taken changes
+/// nothing.
+pub fn tell_not_followed<E: Write>(err: &mut E, file: &str) {
+    tell_notice(err, Notice::NotFollowed { file });
 }

@@ -1,11 +1,12 @@
 //! A file of lines that a server writes to, and what standard error is told of it.
 
+use crate::following::Followed;
 use line_file::{Device, LineFile, Unwritten, torn_length};
 use printing_core::{
     Cause, tell_left_out, tell_left_waiting, tell_unwritten, tell_unwritten_cause,
     tell_written_again,
 };
-use std::alloc::AllocError;
+use std::alloc::{AllocError, Global};
 use std::io::Write;
 
 /// How many bytes may wait to be written. What is told beyond them is left out.
@@ -26,12 +27,16 @@ pub struct Name<'a> {
 /// A file of lines. What cannot be written waits, in order.
 #[derive(Drop)]
 pub struct Book<'a, D> {
-    name: Name<'a>,
-    lines: LineFile<D>,
+    pub(crate) name: Name<'a>,
+    pub(crate) lines: LineFile<D>,
     /// How many writes failed since one went well. It stops at the greatest number.
     failures: u8,
+    /// How many writes failed in all. It stops at the greatest number.
+    failed: u64,
     /// How many texts were given up. It stops at the greatest number.
     left_out: usize,
+    /// What is known of other files at its path.
+    pub(crate) followed: Followed,
 }
 
 /// Why lines wait.
@@ -44,17 +49,34 @@ fn cause_of(unwritten: Unwritten) -> Cause {
 
 impl<'a, D: Device> Book<'a, D> {
     /// Writes to these lines from now on.
-    pub fn new(name: Name<'a>, lines: LineFile<D>) -> Book<'a, D> {
+    pub fn new(alloc: Global, name: Name<'a>, lines: LineFile<D>) -> Book<'a, D> {
         Book {
             name,
             lines,
             failures: 0,
+            failed: 0,
             left_out: 0,
+            followed: Followed::new(alloc),
         }
     }
 
+    /// How many lines wait to be written.
+    pub fn waiting_lines(&self) -> usize {
+        self.lines.waiting_lines()
+    }
+
+    /// How many writes failed.
+    pub fn failed(&self) -> u64 {
+        self.failed
+    }
+
+    /// Whether all that was told is written.
+    pub(crate) fn is_written(&self) -> bool {
+        self.failures == 0 && self.lines.waiting().is_empty()
+    }
+
     /// Puts a text of whole lines after those that wait; it is left out if too many wait, or where memory runs out.
-    fn tell(&mut self, text: Result<String, AllocError>) -> Result<(), AllocError> {
+    pub(crate) fn tell(&mut self, text: Result<String, AllocError>) -> Result<(), AllocError> {
         let text = text?;
         let bytes = text.as_bytes();
         let room = MOST_WAITING.saturating_sub(self.lines.waiting().len());
@@ -62,6 +84,13 @@ impl<'a, D: Device> Book<'a, D> {
             return Err(AllocError);
         }
         self.lines.tell(bytes)
+    }
+
+    /// Puts lines that waited for another file after those that wait.
+    pub(crate) fn take_over(&mut self, lines: &[u8]) {
+        if torn_length(lines) > 0 || self.lines.tell(lines).is_err() {
+            self.left_out = self.left_out.saturating_add(1);
+        }
     }
 
     /// Puts an empty line after those that wait. It ends a last line without a line feed of a file that stands before
@@ -108,6 +137,7 @@ impl<'a, D: Device> Book<'a, D> {
             tell_unwritten_cause(err, self.name.path, cause, lines);
         }
         self.failures = self.failures.saturating_add(1);
+        self.failed = self.failed.saturating_add(1);
     }
 
     /// Sees that what was written outlives a loss of power.

@@ -6,7 +6,7 @@ use line_file::{Device, LineFile, torn_length};
 use printing_core::{Fault, Refusal, Unread, tell_torn};
 use std::alloc::Global;
 use std::cmp::Ordering;
-use std::fs::{File, OpenFile, OpenOptions, TryLockError};
+use std::fs::{File, Metadata, OpenFile, OpenOptions, TryLockError};
 use std::io::{ErrorKind, Read, Seek, SeekFrom, Write};
 use std::os::unix::fs::MetadataExt;
 use std::rt::Files;
@@ -21,7 +21,13 @@ pub struct Disk<F>(pub F);
 
 impl<F: Write + OpenFile> Device for Disk<F> {
     fn append(&mut self, bytes: &[u8]) -> io::Result<usize> {
-        self.0.write(bytes)
+        let taken = self.0.write(bytes)?;
+        if taken == bytes.len() || torn_length(&bytes[..taken]) < taken {
+            return Ok(taken);
+        }
+        // No whole line was taken: the next call says why.
+        let more = self.0.write(&bytes[taken..])?;
+        Ok(taken + more)
     }
 
     fn cut(&mut self, length: u64) -> io::Result<()> {
@@ -56,10 +62,63 @@ pub struct ItemFile {
 /// Which file is open.
 fn identity_of(file: &File) -> Option<Identity> {
     let metadata = file.metadata().ok()?;
-    Some(Identity {
+    Some(identity_in(&metadata))
+}
+
+/// Which file this is known of.
+fn identity_in(metadata: &Metadata) -> Identity {
+    Identity {
         device: metadata.dev(),
         number: metadata.ino(),
-    })
+    }
+}
+
+/// What a path leads to now, by which a file was opened.
+#[derive(Clone, Copy, Debug, PartialEq, Eq)]
+pub enum Found {
+    /// This file, as far as it is known; or one that is never another, as a device.
+    Same,
+    /// Another regular file.
+    Another,
+    /// Something that is no regular file.
+    NoFile,
+    /// Nothing.
+    Gone,
+}
+
+/// What is found at a path that leads to something.
+fn found_there(own: Identity, metadata: &Metadata) -> Found {
+    if identity_in(metadata) == own {
+        Found::Same
+    } else if metadata.is_file() {
+        Found::Another
+    } else {
+        Found::NoFile
+    }
+}
+
+/// What the path leads to now, by which this file was opened.
+pub fn found_at<R: Files>(rt: &R, path: &str, file: &File) -> Found {
+    let Ok(own) = file.metadata() else {
+        return Found::Same;
+    };
+    if !own.is_file() {
+        return Found::Same;
+    }
+    match fs::metadata(rt, path) {
+        Ok(metadata) => found_there(identity_in(&own), &metadata),
+        Err(error) if error.kind() == ErrorKind::NotFound => Found::Gone,
+        Err(_) => Found::Same,
+    }
+}
+
+/// All that an open file holds.
+pub fn all_of(alloc: Global, file: &File) -> io::Result<Vec<u8>> {
+    let mut file = file.try_clone()?;
+    let mut text = Vec::new(alloc);
+    file.seek(SeekFrom::Start(0))?;
+    file.read_to_end(&mut text)?;
+    Ok(text)
 }
 
 /// The refusal of a file that is not opened to be written to, or not mended.
@@ -149,10 +208,7 @@ pub fn item_file<R: Files<File = File> + AllocGlobal>(rt: &R, path: &str) -> Opt
         return None;
     }
     Some(ItemFile {
-        identity: Identity {
-            device: metadata.dev(),
-            number: metadata.ino(),
-        },
+        identity: identity_in(&metadata),
         is_open_ended: ends_inside_a_line(rt, path).ok()?,
     })
 }

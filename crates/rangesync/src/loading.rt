@@ -4,8 +4,8 @@ ghost use Rattle.std.specs.Prelude.{◌≡◌, ◌≤◌, length, IfOk};
 ghost use Rattle.definitions.specs.Sets.{IsSet};
 ghost use Rattle.range_tree.specs.Trees.{tree_items};
 
+use crate::books::Kept;
 use crate::disk::{Opened, item_file, open_lines};
-use crate::reporting::Kept;
 use item_core::Item;
 use item_files::{ItemForm, ReadFault, SettingsFault, read_input_items, read_items, read_strategy};
 use printing_core::{Fault, Refusal};

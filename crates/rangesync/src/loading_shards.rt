@@ -5,9 +5,9 @@ ghost use Rattle.shard_core.specs.Shards.{max_bits};
 ghost use Rattle.shard_core.specs.Splits.{held};
 ghost use Rattle.shard_core.specs.Spans.{AreKept};
 
+use crate::books::Kept;
 use crate::disk::Opened;
 use crate::loading::{Sources, open_kept, strategy_of};
-use crate::reporting::Kept;
 use io_core::Watched;
 use item_core::Item;
 use item_files::ReadFault;

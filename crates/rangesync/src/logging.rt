@@ -8,10 +8,15 @@ use std::io;
 use std::io::Write;
 use std::sync::Wait;
 use std::time::{Clock, Duration};
-use watch_core::{Ending, Traffic, Visit, log_line, lost_line};
+use watch_core::{
+    Ending, Traffic, Visit, left_out_line, loaded_line, loading_line, log_line, lost_line,
+};
 
 /// After how many milliseconds it is tried again where memory ran out.
 const PAUSE: u64 = 100;
+
+/// How many visits without a session have a line in one second.
+const MOST_STRANGERS: u32 = 100;
 
 /// The milliseconds of a duration.
 pub fn millis_of(duration: Duration) -> u64 {
@@ -48,37 +53,120 @@ fn print<E: Write>(err: &mut E, text: Result<String, AllocError>) {
     }
 }
 
+/// The visits without a session of one second.
+#[derive(Clone, Copy)]
+struct Strangers {
+    /// The second, of the steady clock.
+    second: u64,
+    /// How many of them have a line.
+    printed: u32,
+    /// How many have none.
+    left_out: u64,
+}
+
+impl Strangers {
+    /// Whether one that ended in this second has a line.
+    fn has_line(&mut self) -> bool {
+        if self.printed < MOST_STRANGERS {
+            self.printed += 1;
+            return true;
+        }
+        self.left_out = self.left_out.saturating_add(1);
+        false
+    }
+
+    /// Goes on to this second, if it is a later one: a line says how many of the one before had none, if any had none.
+    fn go_on<E: Write>(&mut self, alloc: Global, clocks: Clocks, second: u64, err: &mut E) {
+        if second <= self.second {
+            return;
+        }
+        self.tell(alloc, clocks, err);
+        *self = Strangers {
+            second,
+            printed: 0,
+            left_out: 0,
+        };
+    }
+
+    /// Prints how many had no line, if any had none.
+    fn tell<E: Write>(&self, alloc: Global, clocks: Clocks, err: &mut E) {
+        if self.left_out > 0 {
+            print(err, left_out_line(alloc, clocks.time, self.left_out));
+        }
+    }
+}
+
+/// Prints the line of a visit. One without a session has none if too many of that second have one.
+fn print_visit<E: Write>(
+    alloc: Global,
+    clocks: Clocks,
+    visit: &Visit,
+    strangers: &mut Strangers,
+    err: &mut E,
+) {
+    strangers.go_on(alloc, clocks, visit.ended / 1_000, err);
+    if visit.serial.is_some() || strangers.has_line() {
+        let time = clocks.time_of(visit.ended);
+        print(err, log_line(alloc, time, visit));
+    }
+}
+
 /// Prints the lines of the last visits, of which so many were printed before.
-fn print_recent<E: Write>(alloc: Global, clocks: Clocks, recent: &Recent, seen: u64, err: &mut E) {
+fn print_recent<E: Write>(
+    alloc: Global,
+    clocks: Clocks,
+    (recent, seen): (&Recent, u64),
+    strangers: &mut Strangers,
+    err: &mut E,
+) {
     let kept = recent.visits.len() as u64;
     let lost = recent.all.saturating_sub(seen).saturating_sub(kept);
     if lost > 0 {
         print(err, lost_line(alloc, clocks.time, lost));
     }
     for visit in &recent.visits {
-        let time = clocks.time_of(visit.ended);
-        print(err, log_line(alloc, time, visit));
+        print_visit(alloc, clocks, visit, strangers, err);
     }
+    strangers.go_on(alloc, clocks, clocks.steady / 1_000, err);
 }
 
-/// Prints a line for each visit, until the server is done and each has its line. Where standard error takes lines more
-/// slowly than visits end, the oldest that wait have none, and a line says how many.
+/// Prints a line for each visit, until the server is done and each has its line. Of visits without a session at most
+/// 100 of a second have a line; the next one says how many have none. Where standard error takes lines more slowly than
+/// visits end, the oldest that wait have none, and a line says how many.
 pub fn log_all<R: Wait + Clock, E: Write + Drop>(rt: &R, alloc: Global, board: &Board, err: E) {
     let mut err = err;
     let mut seen = 0;
+    let mut strangers = Strangers {
+        second: 0,
+        printed: 0,
+        left_out: 0,
+    };
     for _ in rt.forever() {
         let is_over = board.wait_for_more(rt, seen);
+        let clocks = Clocks::read(rt);
         match board.visits_after(rt, alloc, seen) {
             Ok(recent) => {
-                print_recent(alloc, Clocks::read(rt), &recent, seen, &mut err);
+                print_recent(alloc, clocks, (&recent, seen), &mut strangers, &mut err);
                 seen = recent.all;
             }
             Err(_) => rt.sleep(Duration::from_millis(PAUSE)),
         }
         if is_over {
+            strangers.tell(alloc, clocks, &mut err);
             return;
         }
     }
+}
+
+/// Prints that a server begins to load its items.
+pub fn log_loading<R: Clock + AllocGlobal, E: Write>(rt: &R, err: &mut E) {
+    print(err, loading_line(rt.alloc(), Clocks::read(rt).time));
+}
+
+/// Prints that a server has loaded so many items, which took so long.
+pub fn log_loaded<R: Clock + AllocGlobal, E: Write>(rt: &R, items: u64, millis: u64, err: &mut E) {
+    let time = Clocks::read(rt).time;
+    print(err, loaded_line(rt.alloc(), time, items, millis));
 }
 
 /// A session that is over, of a server that has this one alone.

@@ -2,15 +2,18 @@
 #![tactic(auto)]
 
 mod book;
+mod books;
 mod callers;
 mod checking;
 mod costs;
 mod directories;
 mod disk;
+mod following;
 mod limits;
 mod loading;
 mod loading_shards;
 mod logging;
+mod looking;
 mod loops;
 mod metering;
 mod naming;

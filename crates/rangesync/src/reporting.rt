@@ -1,16 +1,18 @@
 //! A gate that writes to files what each session found and each item that the log took, and that bounds what one
 //! session may put into the log.
 
-use crate::book::{Book, Name};
-use crate::disk::{Disk, ItemFile, Opened, open_lines};
+use crate::books::{Books, close_book};
+use crate::disk::Disk;
+use crate::following::When;
+use crate::logging::millis_of;
+use crate::looking::Looking;
 use item_core::Item;
 use item_files::ItemForm;
 use line_file::Device;
 use peer_loops::PartGate;
 use peer_threads::{Gate, Outcome};
 use printing_core::{
-    Fault, Refusal, Reporting, learned_line, left_out_line, report_text, shard_report_text,
-    tell_full,
+    Fault, Reporting, learned_line, left_out_line, report_text, shard_report_text, tell_full,
 };
 use shard_core::Which;
 use std::alloc::Global;
@@ -18,23 +20,12 @@ use std::fs::File;
 use std::io::Write;
 use std::rt::Files;
 use std::sync::atomic::{AtomicU64, Ordering};
-use std::sync::{Condvar, Mutex, Wait};
-use std::time::{Clock, Duration};
+use std::sync::{Mutex, Wait};
+use std::time::Clock;
 use version_log::LogFault;
 
-/// After how many seconds what could not be written is tried again.
-const PAUSE: u64 = 1;
-
-/// The paths of the files that a server writes to, where they are asked for.
-#[derive(Clone, Copy)]
-pub struct Paths<'a> {
-    /// The file for what each session found.
-    pub report: Option<&'a str>,
-    /// The item file for what the log took from peers.
-    pub learned: Option<&'a str>,
-    /// The item file in which the set is kept.
-    pub keep: Option<&'a str>,
-}
+/// After how many milliseconds it is looked at the paths without being asked, and what waits is tried again.
+const DUE: u64 = 1_000;
 
 /// What is written of a session, and how much of it may be put into the log.
 #[derive(Clone, Copy)]
@@ -45,84 +36,6 @@ pub struct Rules {
     pub most_learned: Option<u32>,
     /// Whether what is learned is to outlive a loss of power.
     pub is_durable: bool,
-}
-
-/// These files, open to be written at their ends.
-#[derive(Drop)]
-pub struct Books<'a, D> {
-    report: Option<Book<'a, D>>,
-    learned: Option<Book<'a, D>>,
-    keep: Option<Book<'a, D>>,
-}
-
-/// The books of a disk.
-pub type DiskBooks<'a> = Books<'a, Disk<File>>;
-
-/// The file of an option, open to be written at its end.
-fn book<'a>(
-    alloc: Global,
-    name: Name<'a>,
-    opened: Opened,
-    items: Option<ItemFile>,
-) -> Book<'a, Disk<File>> {
-    let begins_blank = opened.is_empty() && items.is_some_and(|items| items.is_open_ended);
-    let mut book = Book::new(name, opened.into_lines(alloc));
-    if begins_blank {
-        book.begin_blank();
-    }
-    book
-}
-
-/// Opens the file of an option, if it is asked for. Else 80 or 90.
-fn open_book<'a, R: Files<File = File> + AllocGlobal, E: Write>(
-    rt: &R,
-    (option, path): (&'a str, Option<&'a str>),
-    items: Option<ItemFile>,
-    err: &mut E,
-) -> Result<Option<Book<'a, Disk<File>>>, Refusal<'a>> {
-    let Some(path) = path else {
-        return Ok(None);
-    };
-    let opened = open_lines(rt, path, items, err)?;
-    Ok(Some(book(rt.alloc(), Name { option, path }, opened, items)))
-}
-
-/// Opens the files that are asked for, but for the one that is open already. Else 80 where one cannot be opened, or is
-/// locked, or 90.
-pub fn open_books<'a, R: Files<File = File> + AllocGlobal, E: Write>(
-    rt: &R,
-    paths: Paths<'a>,
-    kept: Kept,
-    err: &mut E,
-) -> Result<DiskBooks<'a>, Refusal<'a>> {
-    let Kept { opened, items } = kept;
-    let report = open_book(rt, ("report", paths.report), None, err)?;
-    let learned = open_book(rt, ("learned", paths.learned), items, err)?;
-    let keep = match (paths.keep, opened) {
-        (Some(path), Some(opened)) => {
-            let name = Name {
-                option: "keep",
-                path,
-            };
-            Some(book(rt.alloc(), name, opened, items))
-        }
-        _ => None,
-    };
-    Ok(Books {
-        report,
-        learned,
-        keep,
-    })
-}
-
-/// What was opened when the items were read: the file in which the set is kept, if there is one; and what is known of
-/// the item file.
-#[derive(Drop)]
-pub struct Kept {
-    /// The file in which the set is kept.
-    pub opened: Option<Opened>,
-    /// The item file.
-    pub items: Option<ItemFile>,
 }
 
 /// What one thread at a time writes.
@@ -215,16 +128,6 @@ impl<D: Device + Drop, E: Write + Drop> Desk<'_, D, E> {
         }
     }
 
-    /// Whether there is a file that may have to be tried again.
-    fn has_books(&self) -> bool {
-        let Books {
-            report,
-            learned,
-            keep,
-        } = &self.books;
-        report.is_some() || learned.is_some() || keep.is_some()
-    }
-
     /// Writes what waits for the last time, and closes the files.
     fn close(self) -> Closed {
         let Desk {
@@ -243,9 +146,23 @@ impl<D: Device + Drop, E: Write + Drop> Desk<'_, D, E> {
     }
 }
 
-/// Closes a file, if there is one. Whether all that was to be written is written.
-fn close_book<D: Device + Drop, E: Write>(book: Option<Book<'_, D>>, err: &mut E) -> bool {
-    book.is_none_or(|book| book.close(err))
+impl<E: Write + Drop> Desk<'_, Disk<File>, E> {
+    /// Goes on in files that others put in the place of those that are open. What the file had in which the set is
+    /// kept, and the one in its place has not, is added to it.
+    fn follow<R: Files<File = File> + AllocGlobal>(&mut self, rt: &R, form: ItemForm, when: When) {
+        if let Some(book) = &mut self.books.report {
+            book.follow(rt, when, &mut self.err);
+            book.leave_behind();
+        }
+        if let Some(book) = &mut self.books.learned {
+            book.follow(rt, when, &mut self.err);
+            book.leave_behind();
+        }
+        if let Some(book) = &mut self.books.keep {
+            book.follow(rt, when, &mut self.err);
+            book.carry_over(rt.alloc(), form, &mut self.err);
+        }
+    }
 }
 
 /// What is left to say once no session runs.
@@ -277,8 +194,9 @@ pub struct Reporter<'r, 'a, R: Wait, D, E> {
     /// The greatest number of items of the log.
     cap: usize,
     desk: Mutex<Desk<'a, D, E>>,
-    is_over: Mutex<bool>,
-    ended: Condvar,
+    /// Whether each session is reported.
+    reports: bool,
+    looking: Looking,
     /// How many items were put in, and how many were dropped, for those who watch.
     inserted: AtomicU64,
     dropped: AtomicU64,
@@ -294,6 +212,7 @@ impl<'r, 'a, R: Wait, D: Device + Drop, E: Write + Drop> Reporter<'r, 'a, R, D, 
         books: Books<'a, D>,
         err: E,
     ) -> Reporter<'r, 'a, R, D, E> {
+        let reports = books.report.is_some();
         let desk = Desk {
             books,
             err,
@@ -306,8 +225,8 @@ impl<'r, 'a, R: Wait, D: Device + Drop, E: Write + Drop> Reporter<'r, 'a, R, D, 
             rules,
             cap,
             desk: Mutex::new(desk),
-            is_over: Mutex::new(false),
-            ended: Condvar::new(),
+            reports,
+            looking: Looking::new(),
             inserted: AtomicU64::new(0),
             dropped: AtomicU64::new(0),
         }
@@ -323,15 +242,29 @@ impl<'r, 'a, R: Wait, D: Device + Drop, E: Write + Drop> Reporter<'r, 'a, R, D, 
         self.dropped.load(Ordering::SeqCst)
     }
 
+    /// How many lines wait to be written, over all files.
+    pub fn waiting_lines(&self) -> u64 {
+        self.desk.lock(self.rt).books.waiting_lines()
+    }
+
+    /// How many writes failed, over all files.
+    pub fn failed(&self) -> u64 {
+        self.desk.lock(self.rt).books.failed()
+    }
+
     /// Whether something is written that may have to be tried again.
     pub fn may_wait(&self) -> bool {
-        self.desk.lock(self.rt).has_books()
+        self.desk.lock(self.rt).books.is_any()
+    }
+
+    /// Those who write begin now.
+    pub fn begin(&self) {
+        self.looking.begin(self.rt);
     }
 
     /// From now on no more is to be written.
     pub fn end(&self) {
-        *self.is_over.lock(self.rt) = true;
-        self.ended.notify_all();
+        self.looking.end(self.rt);
     }
 
     /// Closes the files.
@@ -342,8 +275,8 @@ impl<'r, 'a, R: Wait, D: Device + Drop, E: Write + Drop> Reporter<'r, 'a, R, D, 
             rules: _,
             cap: _,
             desk,
-            is_over: _,
-            ended: _,
+            reports: _,
+            looking: _,
             inserted: _,
             dropped: _,
         } = self;
@@ -352,35 +285,72 @@ impl<'r, 'a, R: Wait, D: Device + Drop, E: Write + Drop> Reporter<'r, 'a, R, D, 
 }
 
 impl<R: Wait + Clock, D: Device + Drop, E: Write + Drop> Reporter<'_, '_, R, D, E> {
-    /// Waits for a second, or for the end. Whether it has come.
-    fn is_over_within_a_second(&self) -> bool {
-        let is_over = self.is_over.lock(self.rt);
-        let waited = self.ended.wait_timeout_while(
-            self.rt,
-            is_over,
-            Duration::from_secs(PAUSE),
-            |is_over| !*is_over,
-        );
-        *waited.0
-    }
-
-    /// Tries again each second to write what waits, until the end.
-    pub fn keep_trying(&self) {
-        for _ in self.rt.forever() {
-            if self.is_over_within_a_second() {
-                return;
-            }
-            self.desk.lock(self.rt).try_again();
+    /// Sees that it is looked what stands at the paths before a session is reported, if it is.
+    fn ask_anew(&self) {
+        if self.reports {
+            self.looking.forget(self.rt);
+            self.looking.ask(self.rt);
         }
     }
 }
 
-impl<R: Wait, D: Device + Drop, E: Write + Drop> Gate for Reporter<'_, '_, R, D, E> {
+impl<R, E: Write + Drop> Reporter<'_, '_, R, Disk<File>, E>
+where
+    R: Files<File = File> + Wait + Clock + AllocGlobal,
+{
+    /// Goes on in files that others put in the place of those that are open.
+    pub fn follow(&self, when: When) {
+        let form = self.rules.reporting.form;
+        self.desk.lock(self.rt).follow(self.rt, form, when);
+    }
+
+    /// Looks what stands at the paths, each second and before something is written, and tries again each second to
+    /// write what waits; until the end. If those who write do not begin, it ends at once.
+    pub fn tend(&self) {
+        if !self.looking.attend(self.rt) {
+            return;
+        }
+        let mut last = self.now();
+        for _ in self.rt.forever() {
+            let turn = self.looking.wait(self.rt);
+            if turn.is_over {
+                self.looking.leave(self.rt);
+                return;
+            }
+            let now = self.now();
+            let is_due = !turn.is_asked || now.saturating_sub(last) >= DUE;
+            if is_due {
+                last = now;
+            }
+            self.look(is_due);
+            self.looking.answer(self.rt, turn);
+        }
+    }
+
+    /// The time in milliseconds of the steady clock; 0 if it fails.
+    fn now(&self) -> u64 {
+        self.rt.monotonic().map_or(0, |moment| millis_of(moment))
+    }
+
+    /// Goes on in files that others put in the place of those that are open; if a second is over, what waits is tried
+    /// again.
+    fn look(&self, is_due: bool) {
+        if is_due {
+            self.follow(When::Due);
+            self.desk.lock(self.rt).try_again();
+        } else {
+            self.follow(When::Asked);
+        }
+    }
+}
+
+impl<R: Wait + Clock, D: Device + Drop, E: Write + Drop> Gate for Reporter<'_, '_, R, D, E> {
     fn pass(&self, _serial: u64, _sent: u32) -> bool {
         true
     }
 
     fn ended(&self, serial: u64, outcome: &Outcome) {
+        self.ask_anew();
         let mut desk = self.desk.lock(self.rt);
         desk.report(self.alloc, self.rules.reporting, serial, outcome);
     }
@@ -395,6 +365,7 @@ impl<R: Wait, D: Device + Drop, E: Write + Drop> Gate for Reporter<'_, '_, R, D,
     fn took(&self, item: &Item) {
         let form = self.rules.reporting.form;
         self.inserted.fetch_add(1, Ordering::SeqCst);
+        self.looking.ask(self.rt);
         self.desk.lock(self.rt).learn(self.alloc, form, item);
     }
 
@@ -409,11 +380,13 @@ impl<R: Wait, D: Device + Drop, E: Write + Drop> Gate for Reporter<'_, '_, R, D,
         if self.rules.is_durable {
             desk.sync();
         }
+        self.looking.forget(self.rt);
     }
 }
 
-impl<R: Wait, D: Device + Drop, E: Write + Drop> PartGate for Reporter<'_, '_, R, D, E> {
+impl<R: Wait + Clock, D: Device + Drop, E: Write + Drop> PartGate for Reporter<'_, '_, R, D, E> {
     fn ended_in(&self, serial: u64, which: Which, outcome: &Outcome) {
+        self.ask_anew();
         let mut desk = self.desk.lock(self.rt);
         desk.report_part(self.alloc, self.rules.reporting, (serial, which), outcome);
     }

@@ -13,7 +13,7 @@ use crate::planning::plan;
 use crate::serve::{Outputs, Serving, Stock, serve};
 use crate::sharding::shards_of;
 use crate::stdio::{flaw_of, serve_stdio, sync_stdio};
-use crate::stocking::stock_of;
+use crate::stocking::stock_logged;
 use crate::sync::{Asking, sync};
 use crate::sync_shards::{AskingShards, sync_shards};
 use answer_core::{answer, list_reply};
@@ -120,8 +120,10 @@ where
         let loaded = load(rt, sources, io::empty(), err)?;
         serve_stdio(rt, loaded, serving, (reader, outputs.out), err)
     } else {
-        let stock = stock_of(rt, sources, target.sharding, reader, err)?;
-        serve(rt, stock, serving, outputs, err)
+        let Outputs { out, mut log } = outputs;
+        let input = (reader, words.log);
+        let stock = stock_logged(rt, sources, target.sharding, input, &mut log, err)?;
+        serve(rt, stock, serving, Outputs { out, log }, err)
     }
 }
 

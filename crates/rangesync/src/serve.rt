@@ -5,19 +5,22 @@ ghost use Rattle.std.specs.Arc.{arc_value};
 ghost use Rattle.settings_core.specs.Spans.{IsWorkerCount};
 ghost use Rattle.rangesync.specs.Limits.{IsLimitsOf};
 
+use crate::books::{Paths, open_books};
 use crate::disk::Disk;
+use crate::following::When;
 use crate::limits::{limits_of, places};
 use crate::loading::Loaded;
 use crate::logging::log_all;
 use crate::loops::Loops;
 use crate::reaching::listen_at;
-use crate::reporting::{Closed, Paths, Reporter, Rules, open_books};
+use crate::reporting::{Closed, Reporter, Rules};
 use crate::watching::{Beginning, Window, open_window, watch};
 use io_core::{Watched, WriterFailed, write_output};
 use peer_loops::{Board, PeerLimits, Service, Shards, serve_peers};
 use peer_threads::{Shared, WorkersReport};
 use printing_core::{
     Fault, Refusal, Reporting, listening_line, refusal_of, served_text, tell_address, tell_dropped,
+    tell_in_memory,
 };
 use range_tree::Tree;
 use session_table::SessionTable;
@@ -66,7 +69,8 @@ impl<'a> Serving<'a> {
             × (result.paths.keep ≡ words.entry.keep) × (result.rules.is_durable ≡ words.entry.durable) }
         ensures reports { (result.rules.reporting.form ≡ words.entry.form)
             × (result.rules.reporting.most ≡ words.entry.report_items) }
-        ensures watching { (result.watching.metrics ≡ words.entry.metrics) × (result.watching.log ≡ words.entry.log) }
+        ensures watching { (result.watching.metrics ≡ words.entry.metrics) × (result.watching.log ≡ words.entry.log)
+            × (result.watching.set ≡ words.entry.set) }
         ensures bounded { words.entry.read_only ≡ false → result.rules.most_learned ≡ words.entry.most_learned }
         ensures shut { words.entry.read_only ≡ true → result.rules.most_learned ≡ Some 0 }
     {
@@ -96,6 +100,7 @@ impl<'a> Serving<'a> {
             watching: Watching {
                 metrics: words.metrics,
                 log: words.log,
+                set: words.set,
             },
             set,
         }
@@ -111,6 +116,20 @@ pub struct Stock {
     pub shards: Option<Vec<ShardLog>>,
 }
 
+impl Stock {
+    /// How many items were loaded: those of all shards, if the set is cut into shards.
+    pub fn count(&self) -> u64 {
+        let Some(shards) = &self.shards else {
+            return self.loaded.log.count() as u64;
+        };
+        let mut count: u64 = 0;
+        for shard in shards {
+            count = count.saturating_add(shard.count() as u64);
+        }
+        count
+    }
+}
+
 /// How a server is watched.
 #[derive(Clone, Copy)]
 pub struct Watching<'a> {
@@ -118,6 +137,8 @@ pub struct Watching<'a> {
     pub metrics: Option<&'a str>,
     /// Whether standard error gets a line for each session.
     pub log: bool,
+    /// What the set is called as it was given, if it has a name.
+    pub set: Option<&'a str>,
 }
 
 /// What a server prints to: its output, and a second way to standard error, for its log.
@@ -224,6 +245,12 @@ fn remove_files<R, F: Files>(rt: &F, listener: &Listener<'_, R>, window: Option<
     }
 }
 
+/// Whether what a server learns is gone with its end: it may learn, and writes that nowhere.
+fn forgets(serving: Serving<'_>) -> bool {
+    let is_written = serving.paths.keep.is_some() || serving.paths.learned.is_some();
+    !is_written && serving.rules.most_learned != Some(0)
+}
+
 /// The gate of a server: it writes to the files of a disk.
 type Desk<'r, 'a, R, E> = Reporter<'r, 'a, R, Disk<File>, E>;
 
@@ -270,30 +297,9 @@ fn log_and_show<R: Loops, E: Write + Drop + Send, L: Write + Drop + Send>(
     );
 }
 
-/// Does what is asked for beside the loops, until the server is done: what could not be written is tried again each
-/// second, a line is printed for each session, and those are answered who watch.
-fn attend<R: Loops, E: Write + Drop + Send, L: Write + Drop + Send>(
-    rt: &R,
-    shared: &Shared<'_, Tree, Desk<'_, '_, R, E>>,
-    window: Option<&Window<'_, R>>,
-    board: &Board,
-    log: Option<L>,
-) {
-    let gate = shared.gate;
-    let (_tried, _told) = join(
-        rt,
-        move || {
-            if gate.may_wait() {
-                gate.keep_trying();
-            }
-        },
-        move || log_and_show(rt, shared, window, board, log),
-    );
-}
-
-/// Serves by loops until the source has no more; beside them a thread does what else is asked for, if anything is. If
-/// no thread can be made, that is done after them, and ends at once.
-fn work_attended<R: Loops, E: Write + Drop + Send, L: Write + Drop + Send>(
+/// Serves by loops until the source has no more; beside them a thread answers those who watch, and prints a line for
+/// each session, if that is asked for. If no thread can be made, that is done after them, and ends at once.
+fn work_shown<R: Loops, E: Write + Drop + Send, L: Write + Drop + Send>(
     rt: &R,
     shared: &Shared<'_, Tree, Desk<'_, '_, R, E>>,
     seat: Seat<Tree>,
@@ -306,17 +312,50 @@ fn work_attended<R: Loops, E: Write + Drop + Send, L: Write + Drop + Send>(
     requires workers { IsWorkerCount service.loops }
 {
     let (listener, window) = doors;
-    if window.is_none() && log.is_none() && !shared.gate.may_wait() {
+    if window.is_none() && log.is_none() {
         return work(rt, shared, seat, listener, service);
     }
     let board = service.board;
-    let (_attended, report) = join(
+    let (_shown, report) = join(
         rt,
-        move || attend(rt, shared, window, board, log),
+        move || log_and_show(rt, shared, window, board, log),
         move || -> WorkersReport
             requires { (seat.table_id ≡ shared.now.lock.now)
                 × (seat.view.cap ≤ (arc_value shared.now.accepted.now).table.cap) × IsWorkerCount service.loops }
         { work(rt, shared, seat, listener, service) },
+    );
+    report
+}
+
+/// Serves in a thread, while this one does what a thread that `join` makes cannot do: it tends the files, if there are
+/// any. If no thread can be made, that ends after two seconds, and then this one serves.
+fn work_tended<R: Loops, E: Write + Drop + Send, L: Write + Drop + Send, T: FnOnce() + Drop>(
+    rt: &R,
+    shared: &Shared<'_, Tree, Desk<'_, '_, R, E>>,
+    seat: Seat<Tree>,
+    doors: (&Listener<'_, R>, Option<&Window<'_, R>>),
+    service: Service<'_>,
+    log: Option<L>,
+    tend: T,
+) -> WorkersReport
+    requires lock { seat.table_id ≡ shared.now.lock.now }
+    requires fits { seat.view.cap ≤ (arc_value shared.now.accepted.now).table.cap }
+    requires workers { IsWorkerCount service.loops }
+    requires tends { T.pre tend }
+{
+    if !shared.gate.may_wait() {
+        return work_shown(rt, shared, seat, doors, service, log);
+    }
+    let (report, _tended) = join(
+        rt,
+        move || -> WorkersReport
+            requires { (seat.table_id ≡ shared.now.lock.now)
+                × (seat.view.cap ≤ (arc_value shared.now.accepted.now).table.cap) × IsWorkerCount service.loops }
+        {
+            shared.gate.begin();
+            work_shown(rt, shared, seat, doors, service, log)
+        },
+        tend,
     );
     report
 }
@@ -386,6 +425,7 @@ pub fn serve<'a, R: Files<File = File> + Loops, O: Write + Drop, E: Write + Drop
     let shards = shards_of(alloc, shards)?;
     let cap = accepted.cap() as usize;
     let beginning = Beginning::now(rt, serving.address, &log);
+    let beginning = beginning.named(serving.watching.set, serving.paths.keep);
     let beginning = beginning_with(rt, beginning, shards.as_ref());
     let accepted = Arc::new(alloc, accepted)?;
     let (lock, mut seat) = VersionLock::new(alloc, log)?;
@@ -393,6 +433,9 @@ pub fn serve<'a, R: Files<File = File> + Loops, O: Write + Drop, E: Write + Drop
     let board = Board::new(alloc)?;
     let books = open_books(rt, serving.paths, kept, err)?;
     let (listener, window) = open_doors(rt, serving, beginning, &mut out, err)?;
+    if forgets(serving) {
+        tell_in_memory(err);
+    }
     let reporter = Reporter::new(rt, alloc, serving.rules, cap, books, &mut *err);
     let shared = Shared {
         lock: &lock,
@@ -410,7 +453,8 @@ pub fn serve<'a, R: Files<File = File> + Loops, O: Write + Drop, E: Write + Drop
     };
     let log = serving.watching.log.then_some(lines);
     let doors = (&listener, window.as_ref());
-    let report = work_attended(rt, &shared, own, doors, service, log);
+    let report = work_tended(rt, &shared, own, doors, service, log, || reporter.tend());
+    reporter.follow(When::Last);
     remove_files(rt, &listener, window.as_ref());
     let closed = reporter.close();
     tell_dropped(err, closed.dropped);

@@ -9,11 +9,12 @@ ghost use Rattle.peer_threads.specs.Choices.{ChosenSpeaks};
 ghost use Rattle.peer_threads.specs.Outcomes.{traffic, seen, peer_at};
 ghost use Rattle.peer_threads.specs.Workers.{LookedOrNot, PutsInLearned};
 
+use crate::books::open_books;
 use crate::disk::create_file;
 use crate::loading::Loaded;
 use crate::logging::{OnlySession, log_session};
 use crate::metering::Metered;
-use crate::reporting::{Closed, Reporter, open_books};
+use crate::reporting::{Closed, Reporter};
 use crate::serve::Serving;
 use crate::sync::{Asking, ask, millis_since};
 use digest_core::{Counted, Fingerprint, Summary};

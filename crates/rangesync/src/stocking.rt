@@ -4,13 +4,16 @@ ghost use Rattle.std.specs.Prelude.{◌≡◌, IfOk};
 
 use crate::loading::{Loaded, Sources, load};
 use crate::loading_shards::{LoadedShards, load_shards};
+use crate::logging::{log_loaded, log_loading};
 use crate::serve::Stock;
+use crate::sync::millis_since;
 use printing_core::Refusal;
 use settings_core::Sharding;
 use std::fs::File;
 use std::io::{Read, Write};
 use std::rt::Files;
 use std::thread::Threads;
+use std::time::{Clock, Instant};
 use version_log::Log;
 
 /// The shards that were loaded, beside an empty log.
@@ -36,7 +39,7 @@ where
 }
 
 /// What a server serves that begins from these sources: their set, or its shards.
-pub fn stock_of<'a, R, I: Read + Drop, E: Write>(
+fn stock_of<'a, R, I: Read + Drop, E: Write>(
     rt: &R,
     sources: Sources<'a>,
     sharding: Option<Sharding>,
@@ -44,7 +47,7 @@ pub fn stock_of<'a, R, I: Read + Drop, E: Write>(
     err: &mut E,
 ) -> Result<Stock, Refusal<'a>>
 where
-    R: Files<File = File> + AllocGlobal + Threads + Sync,
+    R: Files<File = File> + AllocGlobal + Threads + Clock + Sync,
     ensures cap { IfOk result (λ s. s.loaded.log.cap ≡ s.loaded.accepted.table.cap) }
 {
     match sharding {
@@ -54,4 +57,29 @@ where
             shards: None,
         }),
     }
+}
+
+/// The same. A log has a line before it and one after it, if that is asked for.
+pub fn stock_logged<'a, R, I: Read + Drop, L: Write, E: Write>(
+    rt: &R,
+    sources: Sources<'a>,
+    sharding: Option<Sharding>,
+    input: (I, bool),
+    log: &mut L,
+    err: &mut E,
+) -> Result<Stock, Refusal<'a>>
+where
+    R: Files<File = File> + AllocGlobal + Threads + Clock + Sync,
+    ensures cap { IfOk result (λ s. s.loaded.log.cap ≡ s.loaded.accepted.table.cap) }
+{
+    let (reader, is_logged) = input;
+    let start = Instant::now(rt).ok();
+    if is_logged {
+        log_loading(rt, log);
+    }
+    let stock = stock_of(rt, sources, sharding, reader, err)?;
+    if is_logged {
+        log_loaded(rt, stock.count(), millis_since(rt, start).unwrap_or(0), log);
+    }
+    Ok(stock)
 }

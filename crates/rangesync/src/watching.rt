@@ -52,6 +52,9 @@ const NO_LIMITS: Limits = Limits {
 pub struct Beginning<'a> {
     /// The address at which sessions are served.
     pub address: &'a str,
+    /// What the set is called, and the file in which it is kept; empty where there is none.
+    set: &'a str,
+    file: &'a str,
     /// How many items the set has, and how many it may have.
     items: u64,
     cap: u64,
@@ -66,10 +69,21 @@ impl<'a> Beginning<'a> {
     pub fn now<R: Clock>(rt: &R, address: &'a str, log: &Log<Tree>) -> Beginning<'a> {
         Beginning {
             address,
+            set: "",
+            file: "",
             items: log.count() as u64,
             cap: u64::from(log.cap()),
             version: log.version() as u64,
             moment: rt.monotonic().map_or(0, |moment| millis_of(moment)),
+        }
+    }
+
+    /// The same of a server whose set is called so, and kept in this file.
+    pub fn named(self, set: Option<&'a str>, file: Option<&'a str>) -> Beginning<'a> {
+        Beginning {
+            set: set.unwrap_or(""),
+            file: file.unwrap_or(""),
+            ..self
         }
     }
 
@@ -158,11 +172,15 @@ fn standing<'a, R: Wait, E: Write + Drop>(
     Standing {
         program: VERSION,
         address: beginning.address,
+        set: beginning.set,
+        file: beginning.file,
         items: beginning.items.saturating_add(inserted),
         cap: beginning.cap,
         version: beginning.version.saturating_add(inserted),
         inserted,
         dropped: shared.gate.dropped_so_far(),
+        waiting: shared.gate.waiting_lines(),
+        failures: shared.gate.failed(),
         live: shared.sessions.lock(rt).live() as u64,
         peers: board.peers(),
         kept: board.kept(),

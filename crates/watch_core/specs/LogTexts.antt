@@ -34,5 +34,15 @@ log_line time v = who_text time v ++ (ending_text v ++ (found_text v.traffic ++ 
 abbrev pub lost_line : ℕ → ℕ → List ℕ
 lost_line time n = codes "time=" ++ (seconds_text time ++ (codes " lost=" ++ (decimal n ++ codes "\n")))
 
+abbrev pub left_out_line : ℕ → ℕ → List ℕ
+left_out_line time n = codes "time=" ++ (seconds_text time ++ (codes " left_out=" ++ (decimal n ++ codes "\n")))
+
+abbrev pub loading_line : ℕ → List ℕ
+loading_line time = codes "time=" ++ (seconds_text time ++ codes " loading\n")
+
+abbrev pub loaded_line : ℕ → ℕ → ℕ → List ℕ
+loaded_line time items millis = codes "time=" ++ (seconds_text time ++ (codes " loaded " ++ (decimal items
+    ++ (codes " items in " ++ (seconds_text millis ++ codes " s\n")))))
+
 abbrev pub metrics_line : List ℕ → List ℕ
 metrics_line address = codes "metrics " ++ (address ++ codes "\n")

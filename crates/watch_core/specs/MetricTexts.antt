@@ -58,6 +58,11 @@ learned_text s =
     ++ counter (codes "rangesync_dropped_total")
     (codes "Items of peers for which the set had no room, or memory ran out.") s.dropped
 
+unfoldable pub files_text : Standing → List ℕ
+files_text s =
+    gauge (codes "rangesync_waiting_lines") (codes "Lines that wait to be written, over all files.") s.waiting
+    ++ counter (codes "rangesync_write_failures_total") (codes "Writes to files that failed.") s.failures
+
 unfoldable pub peers_text : Standing → List ℕ
 peers_text s = gauge (codes "rangesync_sessions_live") (codes "Sessions that are live.") s.live
     ++ (gauge (codes "rangesync_peers") (codes "Peers that are connected.") s.peers
@@ -67,8 +72,11 @@ peers_text s = gauge (codes "rangesync_sessions_live") (codes "Sessions that are
 abbrev pub program_text : Standing → List ℕ
 program_text s = build_text s.program.now ++ uptime_text s
 
+abbrev pub taken_text : Standing → List ℕ
+taken_text s = learned_text s ++ files_text s
+
 abbrev pub standing_text : Standing → List ℕ
-standing_text s = program_text s ++ (set_text s ++ (learned_text s ++ peers_text s))
+standing_text s = program_text s ++ (set_text s ++ (taken_text s ++ peers_text s))
 
 unfoldable pub cost_text : Traffic → List ℕ
 cost_text t =

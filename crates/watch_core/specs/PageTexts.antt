@@ -2,15 +2,17 @@
 --     escaped text               the text as a page shows it as it is
 --     is_plain byte              whether a byte is none of < > " '
 --     between before value after a value between two pieces of the page
+--     named before value after   the same; nothing for an empty value
 --     visit_row now v            the row of a visit
 --     endings_table title c      how visits ended, with a bar for each way in which some did
 --     front                      what is the same for each page, in front of the rest
 --     page_text s c visits       the page
 use Rattle.std.specs.Prelude.{ℕ, ◌+◌, ◌-◌, ◌*◌, ◌/◌, min, max, ◌==◌, if◌then◌else◌, List, [], ◌∷◌, ◌++◌, codes}
-use Rattle.std.specs.Prelude.{Bool, not, ◌||◌, flat_map}
+use Rattle.std.specs.Prelude.{Bool, not, ◌||◌, flat_map, length}
 use Rattle.std.specs.Fmt.{decimal}
+use Rattle.outcome_core.specs.Names.{session_refusal_name}
 use Rattle.watch_core.specs.Counting.{most}
-use Rattle.watch_core.specs.Pieces.{seconds_text, address_text, known_text, reason_text}
+use Rattle.watch_core.specs.Pieces.{seconds_text, address_text, known_text, named_ending_text}
 use Rattle.watch_core.specs.declared.counts.Counts.{Counts}
 use Rattle.watch_core.specs.declared.endings.EndingCounts.{EndingCounts}
 use Rattle.watch_core.specs.declared.standing.Standing.{Standing}
@@ -23,7 +25,7 @@ front = codes "<!DOCTYPE html>\n<html lang=\"en\">\n<head>\n<meta charset=\"utf-
     ++ (codes "<meta http-equiv=\"refresh\" content=\"2\">\n<meta name=\"viewport\" content=\"width=device-width\">\n"
     ++ (codes "<title>rangesync</title>\n<style>\n"
     ++ (codes ":root { color-scheme: light dark; font: 15px/1.4 system-ui, sans-serif }\n"
-    ++ (codes "body { margin: 1.5rem auto; max-width: 70rem; padding: 0 1rem }\n"
+    ++ (codes "body { margin: 1.5rem auto; max-width: 70rem; overflow-wrap: anywhere; padding: 0 1rem }\n"
     ++ (codes "h1 { margin: 0 } h2 { font-size: 1.1rem; margin: 1.5rem 0 .4rem }\n"
     ++ (codes "dl { display: flex; flex-wrap: wrap; gap: .5rem 2rem; margin: 1rem 0 }\n"
     ++ (codes "dt { color: GrayText } dd { font-size: 1.4rem; margin: 0 }\n"
@@ -31,7 +33,10 @@ front = codes "<!DOCTYPE html>\n<html lang=\"en\">\n<head>\n<meta charset=\"utf-
     ++ (codes "td, th { border-bottom: 1px solid #8884; padding: .15rem .8rem .15rem 0; white-space: nowrap }\n"
     ++ (codes ".n { font-variant-numeric: tabular-nums; text-align: right } .b { width: 24rem }\n"
     ++ (codes ".b i { background: #2a7ab8; display: block; height: .8rem }\n"
-    ++ codes "</style>\n</head>\n<body>\n")))))))))))
+    ++ (codes "@media (max-width: 60rem) { .b { width: 30vw } td, th { overflow-wrap: anywhere; white-space: normal } }\n"
+    ++ (codes "@media (max-width: 40rem) { .v, .v tr { display: block } .v tr { border-bottom: 1px solid #8884 } }\n"
+    ++ (codes "@media (max-width: 40rem) { .v td, .v th { border: 0; display: inline-block } }\n"
+    ++ codes "</style>\n</head>\n<body>\n"))))))))))))))
 
 -- & < > " '
 abbrev pub escape : ℕ → List ℕ
@@ -58,20 +63,31 @@ unfoldable pub tile : List ℕ → ℕ → List ℕ
 tile name n = between (codes "<div><dt>") name (codes "</dt>")
     ++ between (codes "<dd>") (decimal n) (codes "</dd></div>\n")
 
+-- nothing for an empty value
+unfoldable pub named : List ℕ → List ℕ → List ℕ → List ℕ
+named before value after = if length value == 0 then [] else between before value after
+
 unfoldable pub title : Standing → List ℕ
 title s = between (codes "<h1>rangesync ") s.program.now (codes "</h1>\n")
-    ++ between (codes "<p>listening at ") s.address.now (codes "</p>\n")
+    ++ (between (codes "<p>listening at ") s.address.now (codes "</p>\n")
+    ++ (named (codes "<p>set ") s.set.now (codes "</p>\n") ++ named (codes "<p>kept in ") s.file.now (codes "</p>\n")))
 
 unfoldable pub set_tiles : Standing → List ℕ
 set_tiles s =
-    tile (codes "items") s.items ++ (tile (codes "of at most") s.cap ++ tile (codes "version") s.version)
+    tile (codes "items") s.items ++ (tile (codes "room for") s.cap ++ tile (codes "version") s.version)
 
 unfoldable pub learned_tiles : Standing → List ℕ
-learned_tiles s = tile (codes "put in") s.inserted ++ tile (codes "dropped") s.dropped
+learned_tiles s = tile (codes "learned") s.inserted ++ tile (codes "dropped") s.dropped
+
+unfoldable pub file_tiles : Standing → List ℕ
+file_tiles s = tile (codes "lines waiting") s.waiting ++ tile (codes "failed writes") s.failures
+
+abbrev pub taken_tiles : Standing → List ℕ
+taken_tiles s = learned_tiles s ++ file_tiles s
 
 unfoldable pub peer_tiles : Standing → List ℕ
 peer_tiles s = tile (codes "live sessions") s.live ++ (tile (codes "peers") s.peers
-    ++ (tile (codes "bytes kept for them") s.kept ++ tile (codes "seconds up") (s.ran / 1000)))
+    ++ (tile (codes "memory for peers") s.kept ++ tile (codes "seconds up") (s.ran / 1000)))
 
 abbrev pub percent : ℕ → ℕ → ℕ
 percent count all = min (count * 100) most / max all 1
@@ -88,7 +104,8 @@ bar_row reason count all =
 
 unfoldable pub code_bar : List ℕ → ℕ → ℕ → ℕ → List ℕ
 code_bar word code count all =
-    if count == 0 then [] else bar_row (word ++ (codes " " ++ decimal code)) count all
+    if count == 0 then []
+    else bar_row (word ++ (decimal code ++ (codes " " ++ session_refusal_name code))) count all
 
 abbrev pub code_bars : List ℕ → ℕ → ℕ → List ℕ → List ℕ
 code_bars word all code [] = []
@@ -99,8 +116,8 @@ failed_bars c = bar_row (codes "io read") c.io_read c.all ++ (bar_row (codes "io
     ++ bar_row (codes "memory") c.memory c.all)
 
 unfoldable pub refused_bars : EndingCounts → List ℕ
-refused_bars c = code_bars (codes "refused") c.all 0 c.refused
-    ++ code_bars (codes "peer refused") c.all 0 c.peer_refused
+refused_bars c = code_bars [] c.all 0 c.refused
+    ++ code_bars (codes "peer refused ") c.all 0 c.peer_refused
 
 unfoldable pub ending_bars : EndingCounts → List ℕ
 ending_bars c = bar_row (codes "ended") c.ended c.all ++ (refused_bars c ++ failed_bars c)
@@ -111,7 +128,7 @@ endings_table title c =
 
 unfoldable pub who_cells : Visit → List ℕ
 who_cells v = text_cell (known_text v.serial) ++ (text_cell (address_text v.address)
-    ++ (text_cell (known_text v.profile) ++ text_cell (reason_text (codes " ") v.ending)))
+    ++ (text_cell (known_text v.profile) ++ text_cell (named_ending_text v.ending)))
 
 unfoldable pub traffic_cells : Traffic → List ℕ
 traffic_cells t =
@@ -127,14 +144,14 @@ unfoldable pub visit_row : ℕ → Visit → List ℕ
 visit_row now v = codes "<tr>" ++ (visit_cells now v ++ codes "</tr>\n")
 
 unfoldable pub last_head : List ℕ
-last_head = codes "<h2>Last sessions</h2>\n<table>\n<tr><th>session<th>peer<th>profile<th>outcome"
+last_head = codes "<h2>Last sessions</h2>\n<table class=\"v\">\n<tr><th>session<th>peer<th>profile<th>outcome"
     ++ codes "<th>ours<th>theirs<th>received<th>sent<th>seconds<th>seconds ago</tr>\n"
 
 unfoldable pub last_table : ℕ → List Visit → List ℕ
 last_table now visits = last_head ++ (flat_map (visit_row now) visits ++ codes "</table>\n</body>\n</html>\n")
 
 abbrev pub tiles : Standing → List ℕ
-tiles s = set_tiles s ++ (learned_tiles s ++ peer_tiles s)
+tiles s = set_tiles s ++ (taken_tiles s ++ peer_tiles s)
 
 unfoldable pub server_text : Standing → List ℕ
 server_text s = title s ++ (codes "<dl>\n" ++ (tiles s ++ codes "</dl>\n"))

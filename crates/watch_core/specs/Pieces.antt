@@ -3,10 +3,12 @@
 --     address_text address        an address, or `-`
 --     known_text n             a number, or `-`
 --     reason_text between e    how a visit ended, as a word, and after `between` the number of a refusal
+--     named_ending_text e      how a visit ended, for a person: the number and the name of a refusal
 use Rattle.std.specs.Prelude.{ℕ, ◌/◌, ◌%◌, List, ◌++◌, codes, Option, Some, None}
 use Rattle.std.specs.Fmt.{decimal}
 use Rattle.std.specs.Net.Text.{socket_text}
 use Rattle.std.specs.declared.net.socket_addr.SocketAddr.{SocketAddr}
+use Rattle.outcome_core.specs.Names.{session_refusal_name}
 use Rattle.outcome_core.specs.declared.outcome.Direction.TheVariants.{Read, Write}
 use Rattle.watch_core.specs.declared.endings.Ending.{Ending}
 use Rattle.watch_core.specs.declared.endings.Ending.TheVariants as endings
@@ -30,3 +32,12 @@ reason_text between (endings.PeerRefused code) = codes "peer_refused" ++ (betwee
 reason_text between (endings.Io Read) = codes "io_read"
 reason_text between (endings.Io Write) = codes "io_write"
 reason_text between endings.Memory = codes "memory"
+
+abbrev pub named_ending_text : Ending → List ℕ
+named_ending_text endings.Ended = codes "ended"
+named_ending_text (endings.Refused code) = decimal code ++ (codes " " ++ session_refusal_name code)
+named_ending_text (endings.PeerRefused code) =
+    codes "peer refused " ++ (decimal code ++ (codes " " ++ session_refusal_name code))
+named_ending_text (endings.Io Read) = codes "io read"
+named_ending_text (endings.Io Write) = codes "io write"
+named_ending_text endings.Memory = codes "memory"

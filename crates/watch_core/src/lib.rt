@@ -21,7 +21,7 @@ mod watch;
 pub use counts::Counts;
 pub use durations::{Bucket, Durations};
 pub use endings::{Ending, EndingCounts};
-pub use logged::{log_line, lost_line, metrics_line};
+pub use logged::{left_out_line, loaded_line, loading_line, log_line, lost_line, metrics_line};
 pub use metrics::metrics_text;
 pub use never_markup::texts_are_never_markup;
 pub use once_each::visits_count_once;

@@ -1,7 +1,7 @@
 //! The lines of a log.
 
 ghost use Rattle.std.specs.Prelude.{◌≡◌, IfOk, string_bytes};
-ghost use Rattle.watch_core.specs.LogTexts.{log_line, lost_line, metrics_line};
+ghost use Rattle.watch_core.specs.LogTexts.{left_out_line, loaded_line, loading_line, log_line, lost_line, metrics_line};
 
 use crate::pieces::{Address, Known, Reason, Seconds};
 use crate::visit::Visit;
@@ -38,6 +38,29 @@ pub fn lost_line(alloc: Global, time: u64, count: u64) -> Result<String, AllocEr
     ensures { IfOk result (λ text. string_bytes text ≡ lost_line time count) }
 {
     format!(in alloc; "time={} lost={count}\n", Seconds(time))
+}
+
+/// The line that says that so many visits without a session have no line since too many of that second have one.
+pub fn left_out_line(alloc: Global, time: u64, count: u64) -> Result<String, AllocError>
+    ensures { IfOk result (λ text. string_bytes text ≡ left_out_line time count) }
+{
+    format!(in alloc; "time={} left_out={count}\n", Seconds(time))
+}
+
+/// The line that says that a server begins to load its items.
+pub fn loading_line(alloc: Global, time: u64) -> Result<String, AllocError>
+    ensures { IfOk result (λ text. string_bytes text ≡ loading_line time) }
+{
+    format!(in alloc; "time={} loading\n", Seconds(time))
+}
+
+/// The line that says that a server has loaded so many items, which took so long, in thousandths of a second.
+pub fn loaded_line(alloc: Global, time: u64, items: u64, millis: u64) -> Result<String, AllocError>
+    ensures { IfOk result (λ text. string_bytes text ≡ loaded_line time items millis) }
+{
+    let time = Seconds(time);
+    let taken = Seconds(millis);
+    format!(in alloc; "time={time} loaded {items} items in {taken} s\n")
 }
 
 /// The line that says that metrics are answered at this address.

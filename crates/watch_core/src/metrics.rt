@@ -112,6 +112,25 @@ fn push_learned(text: &mut String, standing: &Standing<'_>) -> Result<(), AllocE
     )
 }
 
+/// Appends what became of the lines for files.
+#[tactic(auto, unfolding(crate::specs::MetricTexts::files_text))]
+fn push_files(text: &mut String, standing: &Standing<'_>) -> Result<(), AllocError>
+    ensures { OnOk result (string_bytes text.new ≡ string_bytes text.old ++ texts.files_text standing.now) }
+{
+    push_gauge(
+        text,
+        "rangesync_waiting_lines",
+        "Lines that wait to be written, over all files.",
+        standing.waiting,
+    )?;
+    push_counter(
+        text,
+        "rangesync_write_failures_total",
+        "Writes to files that failed.",
+        standing.failures,
+    )
+}
+
 /// Appends who is there.
 #[tactic(auto, unfolding(crate::specs::MetricTexts::peers_text))]
 fn push_peers(text: &mut String, standing: &Standing<'_>) -> Result<(), AllocError>
@@ -326,13 +345,21 @@ fn push_program(text: &mut String, standing: &Standing<'_>) -> Result<(), AllocE
     push_uptime(text, standing)
 }
 
+/// Appends what became of the items of peers, and of the lines for files.
+fn push_taken(text: &mut String, standing: &Standing<'_>) -> Result<(), AllocError>
+    ensures { OnOk result (string_bytes text.new ≡ string_bytes text.old ++ texts.taken_text standing.now) }
+{
+    push_learned(text, standing)?;
+    push_files(text, standing)
+}
+
 /// Appends how the server stands.
 fn push_standing(text: &mut String, standing: &Standing<'_>) -> Result<(), AllocError>
     ensures { OnOk result (string_bytes text.new ≡ string_bytes text.old ++ texts.standing_text standing.now) }
 {
     push_program(text, standing)?;
     push_set(text, standing)?;
-    push_learned(text, standing)?;
+    push_taken(text, standing)?;
     push_peers(text, standing)
 }
 

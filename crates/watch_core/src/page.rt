@@ -2,15 +2,16 @@
 
 ghost use Rattle.std.specs.Prelude.{◌≡◌, ◌++◌, IfOk, OnOk, flat_map};
 ghost use Rattle.watch_core.specs.PageTexts as texts;
-ghost use Rattle.watch_core.specs.PageTexts.{bar_row, between, code_bar, code_bars, number_cell, percent, text_cell};
-ghost use Rattle.watch_core.specs.PageTexts.{tile, visit_row};
+ghost use Rattle.watch_core.specs.PageTexts.{bar_row, between, code_bar, code_bars, named, number_cell, percent};
+ghost use Rattle.watch_core.specs.PageTexts.{text_cell, tile, visit_row};
 
 use crate::counts::Counts;
 use crate::endings::EndingCounts;
 use crate::escaping::push_escaped;
-use crate::pieces::{Address, Known, Reason, Seconds};
+use crate::pieces::{Address, Known, Named, Seconds};
 use crate::standing::Standing;
 use crate::visit::Visit;
+use outcome_core::refusal_name;
 use std::alloc::{AllocError, Global};
 
 /// The page up to what it says of the server.
@@ -18,7 +19,7 @@ const FRONT: &str = "<!DOCTYPE html>\n<html lang=\"en\">\n<head>\n<meta charset=
     <meta http-equiv=\"refresh\" content=\"2\">\n<meta name=\"viewport\" content=\"width=device-width\">\n\
     <title>rangesync</title>\n<style>\n\
     :root { color-scheme: light dark; font: 15px/1.4 system-ui, sans-serif }\n\
-    body { margin: 1.5rem auto; max-width: 70rem; padding: 0 1rem }\n\
+    body { margin: 1.5rem auto; max-width: 70rem; overflow-wrap: anywhere; padding: 0 1rem }\n\
     h1 { margin: 0 } h2 { font-size: 1.1rem; margin: 1.5rem 0 .4rem }\n\
     dl { display: flex; flex-wrap: wrap; gap: .5rem 2rem; margin: 1rem 0 }\n\
     dt { color: GrayText } dd { font-size: 1.4rem; margin: 0 }\n\
@@ -26,6 +27,9 @@ const FRONT: &str = "<!DOCTYPE html>\n<html lang=\"en\">\n<head>\n<meta charset=
     td, th { border-bottom: 1px solid #8884; padding: .15rem .8rem .15rem 0; white-space: nowrap }\n\
     .n { font-variant-numeric: tabular-nums; text-align: right } .b { width: 24rem }\n\
     .b i { background: #2a7ab8; display: block; height: .8rem }\n\
+    @media (max-width: 60rem) { .b { width: 30vw } td, th { overflow-wrap: anywhere; white-space: normal } }\n\
+    @media (max-width: 40rem) { .v, .v tr { display: block } .v tr { border-bottom: 1px solid #8884 } }\n\
+    @media (max-width: 40rem) { .v td, .v th { border: 0; display: inline-block } }\n\
     </style>\n</head>\n<body>\n";
 
 /// Appends a text that is part of the page.
@@ -83,13 +87,26 @@ fn push_tile(alloc: Global, page: &mut Vec<u8>, name: &str, value: u64) -> Resul
     push_between(page, "<dd>", &number, "</dd></div>\n")
 }
 
+/// Appends a value between two pieces of the page, if it is not empty.
+#[tactic(auto, unfolding(crate::specs::PageTexts::named))]
+fn push_named(page: &mut Vec<u8>, before: &str, value: &str, after: &str) -> Result<(), AllocError>
+    ensures { OnOk result (page.new.items ≡ page.old.items ++ named before.now value.now after.now) }
+{
+    if value.is_empty() {
+        return Ok(());
+    }
+    push_between(page, before, value, after)
+}
+
 /// Appends what the server is.
 #[tactic(auto, unfolding(crate::specs::PageTexts::title))]
 fn push_title(page: &mut Vec<u8>, standing: &Standing<'_>) -> Result<(), AllocError>
     ensures { OnOk result (page.new.items ≡ page.old.items ++ texts.title standing.now) }
 {
     push_between(page, "<h1>rangesync ", standing.program, "</h1>\n")?;
-    push_between(page, "<p>listening at ", standing.address, "</p>\n")
+    push_between(page, "<p>listening at ", standing.address, "</p>\n")?;
+    push_named(page, "<p>set ", standing.set, "</p>\n")?;
+    push_named(page, "<p>kept in ", standing.file, "</p>\n")
 }
 
 /// Appends what is known of the set.
@@ -98,7 +115,7 @@ fn push_set(alloc: Global, page: &mut Vec<u8>, standing: &Standing<'_>) -> Resul
     ensures { OnOk result (page.new.items ≡ page.old.items ++ texts.set_tiles standing.now) }
 {
     push_tile(alloc, page, "items", standing.items)?;
-    push_tile(alloc, page, "of at most", standing.cap)?;
+    push_tile(alloc, page, "room for", standing.cap)?;
     push_tile(alloc, page, "version", standing.version)
 }
 
@@ -111,8 +128,25 @@ fn push_learned(
 ) -> Result<(), AllocError>
     ensures { OnOk result (page.new.items ≡ page.old.items ++ texts.learned_tiles standing.now) }
 {
-    push_tile(alloc, page, "put in", standing.inserted)?;
+    push_tile(alloc, page, "learned", standing.inserted)?;
     push_tile(alloc, page, "dropped", standing.dropped)
+}
+
+/// Appends what became of the lines for files.
+#[tactic(auto, unfolding(crate::specs::PageTexts::file_tiles))]
+fn push_files(alloc: Global, page: &mut Vec<u8>, standing: &Standing<'_>) -> Result<(), AllocError>
+    ensures { OnOk result (page.new.items ≡ page.old.items ++ texts.file_tiles standing.now) }
+{
+    push_tile(alloc, page, "lines waiting", standing.waiting)?;
+    push_tile(alloc, page, "failed writes", standing.failures)
+}
+
+/// Appends what became of the items of peers, and of the lines for files.
+fn push_taken(alloc: Global, page: &mut Vec<u8>, standing: &Standing<'_>) -> Result<(), AllocError>
+    ensures { OnOk result (page.new.items ≡ page.old.items ++ texts.taken_tiles standing.now) }
+{
+    push_learned(alloc, page, standing)?;
+    push_files(alloc, page, standing)
 }
 
 /// Appends who is there, and for how long the server has run.
@@ -122,7 +156,7 @@ fn push_peers(alloc: Global, page: &mut Vec<u8>, standing: &Standing<'_>) -> Res
 {
     push_tile(alloc, page, "live sessions", standing.live)?;
     push_tile(alloc, page, "peers", standing.peers)?;
-    push_tile(alloc, page, "bytes kept for them", standing.kept)?;
+    push_tile(alloc, page, "memory for peers", standing.kept)?;
     push_tile(alloc, page, "seconds up", standing.ran / 1_000)
 }
 
@@ -177,7 +211,7 @@ fn push_code_bar(
     if count == 0 {
         return Ok(());
     }
-    let reason = format!(in alloc; "{word} {code}")?;
+    let reason = format!(in alloc; "{word}{code} {}", refusal_name(code))?;
     push_bar(alloc, page, &reason, count, all)
 }
 
@@ -202,11 +236,11 @@ fn push_code_bars(
 fn push_refused(alloc: Global, page: &mut Vec<u8>, counts: &EndingCounts) -> Result<(), AllocError>
     ensures { OnOk result (page.new.items ≡ page.old.items ++ texts.refused_bars counts.now) }
 {
-    push_code_bars(alloc, page, "refused", &counts.refused, counts.all)?;
+    push_code_bars(alloc, page, "", &counts.refused, counts.all)?;
     push_code_bars(
         alloc,
         page,
-        "peer refused",
+        "peer refused ",
         &counts.peer_refused,
         counts.all,
     )
@@ -255,11 +289,7 @@ fn push_who(alloc: Global, page: &mut Vec<u8>, visit: &Visit) -> Result<(), Allo
     let serial = format!(in alloc; "{}", Known(visit.serial))?;
     let origin = format!(in alloc; "{}", Address(visit.address))?;
     let profile = format!(in alloc; "{}", Known(visit.profile))?;
-    let reason = Reason {
-        ending: visit.ending,
-        between: " ",
-    };
-    let reason = format!(in alloc; "{reason}")?;
+    let reason = format!(in alloc; "{}", Named(visit.ending))?;
     push_text(page, &serial)?;
     push_text(page, &origin)?;
     push_text(page, &profile)?;
@@ -328,7 +358,7 @@ fn push_last_head(page: &mut Vec<u8>) -> Result<(), AllocError>
 {
     push(
         page,
-        "<h2>Last sessions</h2>\n<table>\n<tr><th>session<th>peer<th>profile<th>outcome",
+        "<h2>Last sessions</h2>\n<table class=\"v\">\n<tr><th>session<th>peer<th>profile<th>outcome",
     )?;
     push(
         page,
@@ -356,7 +386,7 @@ fn push_tiles(alloc: Global, page: &mut Vec<u8>, standing: &Standing<'_>) -> Res
     ensures { OnOk result (page.new.items ≡ page.old.items ++ texts.tiles standing.now) }
 {
     push_set(alloc, page, standing)?;
-    push_learned(alloc, page, standing)?;
+    push_taken(alloc, page, standing)?;
     push_peers(alloc, page, standing)
 }
 

@@ -1,10 +1,10 @@
 //! Pieces that several texts have.
 
 ghost use Rattle.std.specs.Prelude.{Some};
-ghost use Rattle.watch_core.specs.Pieces.{address_text, known_text, reason_text, seconds_text};
+ghost use Rattle.watch_core.specs.Pieces.{address_text, known_text, named_ending_text, reason_text, seconds_text};
 
 use crate::endings::Ending;
-use outcome_core::Direction;
+use outcome_core::{Direction, session_refusal_name};
 use std::fmt;
 use std::net::SocketAddr;
 
@@ -78,6 +78,31 @@ impl fmt::Display for Reason {
             Ending::Io {
                 side: Direction::Write,
             } => write!(f, "io_write"),
+            Ending::Memory => write!(f, "memory"),
+        }
+    }
+}
+
+/// How a visit ended, for a person: of a refusal its number and its name.
+#[derive(Clone, Copy)]
+pub(crate) struct Named(pub(crate) Ending);
+
+impl fmt::Display for Named {
+    ghost output = { λ named. Some (named_ending_text named.0) };
+
+    fn fmt<W: fmt::Write>(&self, f: &mut fmt::Formatter<W>) -> fmt::Result {
+        match self.0 {
+            Ending::Ended => write!(f, "ended"),
+            Ending::Refused { code } => write!(f, "{code} {}", session_refusal_name(code)),
+            Ending::PeerRefused { code } => {
+                write!(f, "peer refused {code} {}", session_refusal_name(code))
+            }
+            Ending::Io {
+                side: Direction::Read,
+            } => write!(f, "io read"),
+            Ending::Io {
+                side: Direction::Write,
+            } => write!(f, "io write"),
             Ending::Memory => write!(f, "memory"),
         }
     }

@@ -7,6 +7,10 @@ pub struct Standing<'a> {
     pub program: &'a str,
     /// The address at which sessions are served.
     pub address: &'a str,
+    /// What the set is called; empty if it has no name.
+    pub set: &'a str,
+    /// The file in which the set is kept; empty if it is in none.
+    pub file: &'a str,
     /// How many items the set has.
     pub items: u64,
     /// How many items the set may have.
@@ -17,6 +21,10 @@ pub struct Standing<'a> {
     pub inserted: u64,
     /// How many items of peers were not put in since the set was full or memory ran out.
     pub dropped: u64,
+    /// How many lines wait to be written, over all files.
+    pub waiting: u64,
+    /// How many writes to files failed.
+    pub failures: u64,
     /// How many sessions are live.
     pub live: u64,
     /// How many peers are connected.
