@@ -3,18 +3,21 @@
 ghost use Rattle.std.specs.Prelude.{◌≤◌, IfOk, IfSome};
 ghost use Rattle.cost_core.specs.Plans.{IsPlanned};
 ghost use Rattle.cost_core.specs.Samples.{IsSample};
-ghost use Rattle.settings_core.specs.Spans.{IsItemCount, IsItemLength, IsRate};
+ghost use Rattle.settings_core.specs.Spans.{IsPlannedCount, IsItemCount, IsItemLength, IsRate};
 
 use crate::checking::length_of;
 use cost_core::{Line, Planned, Sample, Task, quickest, searched};
 use io_core::{Watched, write_output};
-use printing_core::{Fault, Refusal, push_plan};
-use settings_core::PlanWords;
+use printing_core::{Fault, Refusal, push_plan, push_shards};
+use settings_core::{PlanWords, shard_bits_for};
 use std::io::Write;
 use std::time::Clock;
 
-/// The items of a set, where they are not given.
+/// The items of a set, where they are not given, and the most of a shard.
 const ITEMS: u32 = 65_536;
+
+/// The bits of as many shards as there can be.
+const MOST_BITS: u8 = 12;
 
 /// In how many items the sets differ, where it is not given.
 const DIFFERENCES: u32 = 100;
@@ -25,14 +28,32 @@ const ROUND_TRIP: u32 = 100;
 /// The megabits in a second, where they are not given.
 const RATE: u32 = 10;
 
-/// The items that are given, or 65,536.
-fn items_of(items: Option<u32>) -> u32
-    requires { IfSome items IsItemCount }
-    ensures { IsItemCount result }
+/// A shard of a set, or the whole set where it needs no shards.
+#[derive(Clone, Copy)]
+struct Cut {
+    /// The set is cut into 2 to this power shards.
+    bits: u8,
+    /// How many items it has.
+    items: u32,
+    /// In how many of them the sides differ.
+    differences: u32,
+}
+
+/// How a set of so many items is cut that differs in so many: what is given, or 65,536 and 100.
+fn cut_of(items: Option<u32>, differences: Option<u32>) -> Cut
+    requires { IfSome items IsPlannedCount }
+    ensures items { IsItemCount result.items }
+    ensures differences { result.differences ≤ result.items }
 {
-    match items {
-        Some(items) => items,
-        None => ITEMS,
+    let items = items.unwrap_or(ITEMS);
+    let differences = differences.unwrap_or(DIFFERENCES);
+    let bits = shard_bits_for(items).unwrap_or(MOST_BITS).min(MOST_BITS);
+    let shards = 1u32 << bits;
+    let items = items.div_ceil(shards).min(ITEMS).max(1);
+    Cut {
+        bits,
+        items,
+        differences: differences.div_ceil(shards).min(items),
     }
 }
 
@@ -68,18 +89,18 @@ fn planned<R: Clock + AllocGlobal>(
     Ok(searched(rt.alloc(), task, start, rt, seconds)?)
 }
 
-/// What a strategy is chosen for: what is given, and the usual numbers for the rest.
-fn task_of(words: PlanWords) -> Task
-    requires items { IfSome words.items IsItemCount }
+/// What a strategy is chosen for: this cut, what is given, and the usual numbers for the rest.
+fn task_of(words: PlanWords<'_>, cut: Cut) -> Task
+    requires items { IsItemCount cut.items }
+    requires differences { cut.differences ≤ cut.items }
     requires item_length { IfSome words.item_length IsItemLength }
     requires rate { IfSome words.rate IsRate }
     ensures sample { IsSample result.sample }
     ensures rate { 1 ≤ result.line.rate }
 {
-    let items = items_of(words.items);
     let sample = Sample {
-        items,
-        differences: words.differences.unwrap_or(DIFFERENCES).min(items),
+        items: cut.items,
+        differences: cut.differences,
         length: length_of(words.item_length),
     };
     let line = Line {
@@ -89,15 +110,20 @@ fn task_of(words: PlanWords) -> Task
     Task { sample, line }
 }
 
-/// The strategy that is planned as a text that `check` accepts, with its name and its cost in comments above it.
-fn plan_text<R: Clock + AllocGlobal>(rt: &R, words: PlanWords) -> Result<String, Fault>
-    requires items { IfSome words.items IsItemCount }
+/// The strategy that is planned as a text that `check` accepts, with its name and its cost in comments above it; and
+/// above these how the set is cut, if it is.
+fn plan_text<R: Clock + AllocGlobal>(rt: &R, words: PlanWords<'_>) -> Result<String, Fault>
+    requires items { IfSome words.items IsPlannedCount }
     requires item_length { IfSome words.item_length IsItemLength }
     requires rate { IfSome words.rate IsRate }
 {
-    let planned = planned(rt, task_of(words), words.search)?;
+    let cut = cut_of(words.items, words.differences);
+    let planned = planned(rt, task_of(words, cut), words.search)?;
     let millis = planned.micros.saturating_add(500) / 1_000;
     let mut text = String::new(rt.alloc());
+    if cut.bits > 0 {
+        push_shards(&mut text, cut.bits, cut.items, cut.differences)?;
+    }
     push_plan(
         &mut text,
         planned.name.as_str(),
@@ -112,10 +138,10 @@ fn plan_text<R: Clock + AllocGlobal>(rt: &R, words: PlanWords) -> Result<String,
 /// Prints the quickest of the strategies that are shipped, or what a search has found.
 pub(crate) fn plan<R: Clock + AllocGlobal, O: Write + Drop>(
     rt: &R,
-    words: PlanWords,
+    words: PlanWords<'_>,
     out: O,
 ) -> Result<(), Refusal<'static>>
-    requires items { IfSome words.items IsItemCount }
+    requires items { IfSome words.items IsPlannedCount }
     requires item_length { IfSome words.item_length IsItemLength }
     requires rate { IfSome words.rate IsRate }
 {

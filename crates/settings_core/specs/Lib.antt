@@ -1,7 +1,9 @@
 pub mod Addresses
 pub mod Calls
 pub mod Program
+pub mod Retries
 pub mod Rules
+pub mod ShardSizes
 pub mod ShardWords
 pub mod Spans
 pub mod StdioWords
