@@ -3,7 +3,7 @@
 -- How a read or a write leaves off is read from what it did: where it waits it moved no byte, so what was due of our
 -- hello before is due after; where more is to be done bytes were moved, or it was interrupted, or the input has ended.
 -- Of two calls it is the second's, and a sum is no less than its second part.
-use Rattle.std.proofs.Common.{◌≡◌, ◌⊎◌, ℕ, Bool, ◌+◌, ◌<◌, ◌≤◌, true, false, List, ◌++◌, length, take}
+use Rattle.std.proofs.Common.{◌≡◌, ℕ, Bool, ◌+◌, ◌<◌, ◌≤◌, true, false, List, ◌++◌, length, take}
 use Rattle.std.proofs.Common.{Result, Ok, Err, Box, Global, append-nil, inl, inr, refl, sym, ap, ◌∙◌, subst, arith}
 use Rattle.std.specs.Prelude.{◌||◌}
 use Rattle.std.specs.Box.{with_value}
