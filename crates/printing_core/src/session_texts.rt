@@ -182,9 +182,7 @@ pub fn finds_any(outcome: &Outcome) -> bool
     ensures { result ≡ finds_any outcome.now }
 {
     match outcome {
-        Outcome::Ended { learned, .. } => {
-            !learned.ours().is_empty() || !learned.theirs().is_empty()
-        }
+        Outcome::Ended { learned, .. } => learned.ours().len() > 0 || learned.theirs().len() > 0,
         _ => false,
     }
 }

@@ -220,6 +220,23 @@ fn tell_second<E: Write>(err: &mut E, why: Option<Why<'_>>) {
     }
 }
 
+/// The status of what was done: that of a refusal after its line, and after a second one, if that is asked for.
+fn tell_done<E: Write>(err: &mut E, done: Result<u8, Refusal<'_>>, explains: bool) -> u8
+    requires { IfOk done (λ status. status ≤ 4) }
+    ensures { result ≤ 4 }
+{
+    match done {
+        Ok(status) => status,
+        Err(Refusal { fault, why }) => {
+            let status = tell(&mut *err, fault);
+            if explains {
+                tell_second(err, why);
+            }
+            status
+        }
+    }
+}
+
 /// Runs the program on these words, of which the first is its own name, and gives the status: 0 done, 1 refused, 2 for
 /// words that it does not know, 3 for a file, an input, an output, the network or memory, 4 for sets that differ, where
 /// that is asked for.
@@ -272,14 +289,6 @@ where
         explains: explains || is_terminal,
     };
     let ends = (input.reader, Outputs { out, log });
-    match obey(rt, command, target, ends, &mut err) {
-        Ok(status) => status,
-        Err(Refusal { fault, why }) => {
-            let status = tell(&mut err, fault);
-            if target.explains {
-                tell_second(&mut err, why);
-            }
-            status
-        }
-    }
+    let done = obey(rt, command, target, ends, &mut err);
+    tell_done(&mut err, done, target.explains)
 }
