@@ -2,3 +2,4 @@ pub use Rattle.session_core.specs.Sessions
 pub mod Costs
 pub mod Plans
 pub mod Samples
+pub mod Shipped

@@ -16,3 +16,4 @@ pub use line::{Line, session_micros};
 pub use planning::{Planned, Task, quickest};
 pub use sample::{Sample, sets_of};
 pub use searching::searched;
+pub use tables::{SHIPPED_NAMES, shipped_text};

@@ -1,5 +1,8 @@
 //! The strategies that are shipped, in the folder `examples`, without the comments above them.
 
+ghost use Rattle.std.specs.Prelude.{◌≡◌, option_map};
+ghost use Rattle.cost_core.specs.Shipped.{shipped_text};
+
 /// A strategy that is shipped.
 #[derive(Clone, Copy, Debug)]
 pub(crate) struct Shipped {
@@ -147,3 +150,21 @@ pub(crate) const SHIPPED: [Shipped; 6] = [
     WHOLE_LIST,
     SMALL,
 ];
+
+/// The names of all of them, as a text.
+pub const SHIPPED_NAMES: &str = "all-round, few-bytes, few-rounds, newest-last, whole-list, small";
+
+/// The text of the strategy that is shipped under this name, if one is.
+pub fn shipped_text(name: &str) -> Option<&'static str>
+    ensures { option_map (λ text. text.now) result ≡ shipped_text name.now }
+{
+    match name {
+        "all-round" => Some(ALL_ROUND.text),
+        "few-bytes" => Some(FEW_BYTES.text),
+        "few-rounds" => Some(FEW_ROUNDS.text),
+        "newest-last" => Some(NEWEST_LAST.text),
+        "whole-list" => Some(WHOLE_LIST.text),
+        "small" => Some(SMALL.text),
+        _ => None,
+    }
+}

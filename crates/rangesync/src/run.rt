@@ -99,6 +99,8 @@ struct Target<'a> {
     sharding: Option<Sharding>,
     /// Whether standard error is a terminal, and may be shown how far all is.
     shows: bool,
+    /// Whether standard error is told more.
+    explains: bool,
 }
 
 /// Does what `serve` is asked for: one session over standard input and output, or sessions with those who connect.
@@ -115,7 +117,7 @@ where
 {
     let (reader, outputs) = ends;
     let serving = Serving::asked(words, target.set);
-    let sources = Sources::of_server(words);
+    let sources = Sources::of_server(words, target.explains);
     if words.stdio {
         let loaded = load(rt, sources, io::empty(), err)?;
         serve_stdio(rt, loaded, serving, (reader, outputs.out), err)
@@ -138,7 +140,7 @@ where
     R: Files<File = File> + Loops,
 {
     let asking = Asking::asked(words, target.set);
-    let sources = Sources::of_asker(words);
+    let sources = Sources::of_asker(words, target.explains);
     if words.stdio {
         let loaded = load(rt, sources, io::empty(), err)?;
         sync_stdio(rt, loaded, asking, (reader, out), err)
@@ -172,7 +174,7 @@ where
     let (reader, outputs) = ends;
     match command {
         Command::Answer(words) => answer_for(rt, words, reader, outputs.out),
-        Command::Check(words) => check_table(rt, words, outputs.out),
+        Command::Check(words) => check_table(rt, words, target.explains, outputs.out, err),
         Command::Plan(words) => plan(rt, words, outputs.out),
         Command::Sim => sim(rt.alloc(), reader, outputs.out),
         Command::Serve(words) => serve_as_asked(rt, words, target, (reader, outputs), err),
@@ -251,13 +253,14 @@ where
         set,
         sharding,
         shows: is_terminal,
+        explains: explains || is_terminal,
     };
     let ends = (input.reader, Outputs { out, log });
     match obey(rt, command, target, ends, &mut err) {
         Ok(()) => 0,
         Err(Refusal { fault, why }) => {
             let status = tell(&mut err, fault);
-            if explains || is_terminal {
+            if target.explains {
                 tell_second(&mut err, why);
             }
             status

@@ -207,12 +207,17 @@ impl<'a> Gathered<'a> {
             found,
             cost,
         } = came;
+        let mut received = 0;
         if let Some((stats, sent)) = cost {
+            received = stats.received.bytes;
             self.costs.add(stats, sent);
         }
         match found {
             Ok(part) => self.take_part(part),
-            Err(fault) => self.leave(number, Refusal::of_session(asker.limits, fault)),
+            Err(fault) => self.leave(
+                number,
+                Refusal::of_session_after(asker.limits, received, fault),
+            ),
         }
     }
 

@@ -1,3 +1,4 @@
 mod Adding
+mod Rooms
 mod ShardDigits
 mod Values

@@ -6,6 +6,7 @@ mod arguments;
 mod commands;
 mod given_words;
 mod known_words;
+mod shard_sizes;
 mod shard_words;
 mod sharding;
 mod stdio_words;
@@ -18,6 +19,7 @@ pub use item_files::{
     read_items, read_strategy,
 };
 pub use known_words::VERSION;
+pub use shard_sizes::shard_bits_for;
 pub use shard_words::{ShardFlaw, ShardWords, sharding_of};
 pub use sharding::Sharding;
 pub use stdio_words::{StdioFlaw, StdioWords, stdio_flaw};
