@@ -13,7 +13,7 @@ pub no_set : (form : ItemForm) (text : List ℕ) (a : Checked) (cap : ℕ) (f : 
     → IsSetFault form text cap f → IsNoSet form text a (of_settings f)
 no_set form text a cap (settings.CannotRead f) same is = tt
 no_set form text a cap (settings.BadItemLine bad) same is = (bad, is)
-no_set form text a cap (settings.TooManyItems most) same (items, are, more, at) =
+no_set form text a cap (settings.TooManyItems most count) same (items, are, more, at, is) =
     (items, are, subst (λ n. n < length (set_of items)) same more)
 no_set form text a cap (settings.Strategy flaw) same is = is
 no_set form text a cap (settings.Check f) same is = is

@@ -36,7 +36,7 @@ embedded_fault_number faults.Memory = 90
 abbrev pub of_settings : SettingsFault → EmbeddedFault
 of_settings (settings.CannotRead f) = faults.Memory
 of_settings (settings.BadItemLine bad) = faults.BadItemLine
-of_settings (settings.TooManyItems cap) = faults.TooManyItems
+of_settings (settings.TooManyItems cap count) = faults.TooManyItems
 of_settings (settings.Strategy flaw) = faults.Strategy flaw.fault
 of_settings (settings.Check f) = faults.Check f
 of_settings settings.Memory = faults.Memory

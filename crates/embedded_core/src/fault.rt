@@ -84,7 +84,7 @@ impl From<SettingsFault> for EmbeddedFault {
     fn from(fault: SettingsFault) -> EmbeddedFault {
         match fault {
             SettingsFault::BadItemLine(_) => EmbeddedFault::BadItemLine,
-            SettingsFault::TooManyItems { cap: _ } => EmbeddedFault::TooManyItems,
+            SettingsFault::TooManyItems { cap: _, count: _ } => EmbeddedFault::TooManyItems,
             SettingsFault::Strategy(flaw) => EmbeddedFault::Strategy(flaw.fault),
             SettingsFault::Check(fault) => EmbeddedFault::Check(fault),
             SettingsFault::CannotRead(_) | SettingsFault::Memory => EmbeddedFault::Memory,

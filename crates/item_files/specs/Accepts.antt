@@ -26,7 +26,7 @@ IsUnfitIn ms (Check f) = (T : Table) × (table_in ms ≡ Ok T) × (check_fault T
 IsUnfitIn ms Memory = ⊤
 IsUnfitIn ms (CannotRead f) = ⊥
 IsUnfitIn ms (BadItemLine bad) = ⊥
-IsUnfitIn ms (TooManyItems cap) = ⊥
+IsUnfitIn ms (TooManyItems cap count) = ⊥
 
 -- the strategy of the table, with the staircase of its least ranks
 abbrev pub IsAcceptedIn : Members → Result Checked SettingsFault → Type 0
@@ -40,7 +40,7 @@ IsNoTable text Memory = ⊤
 IsNoTable text (Check f) = ⊥
 IsNoTable text (CannotRead f) = ⊥
 IsNoTable text (BadItemLine bad) = ⊥
-IsNoTable text (TooManyItems cap) = ⊥
+IsNoTable text (TooManyItems cap count) = ⊥
 
 -- the table of a text, or that there is none
 abbrev pub Opens : Result (BTreeMap (String Global) Value) SettingsFault → List ℕ → Type 0

@@ -20,8 +20,8 @@ of_check checks.Memory = Memory
 abbrev pub IsSetFault : ItemForm → List ℕ → ℕ → SettingsFault → Type 0
 IsSetFault form text cap (CannotRead f) = ⊥
 IsSetFault form text cap (BadItemLine bad) = file_items form text ≡ Err bad
-IsSetFault form text cap (TooManyItems most) = (items : List Item) × (file_items form text ≡ Ok items)
-    × (cap < length (set_of items)) × (most ≡ cap)
+IsSetFault form text cap (TooManyItems most count) = (items : List Item) × (file_items form text ≡ Ok items)
+    × (cap < length (set_of items)) × (most ≡ cap) × (count ≡ length (set_of items))
 IsSetFault form text cap (Strategy flaw) = ⊥
 IsSetFault form text cap (Check f) = ⊥
 IsSetFault form text cap Memory = ⊤

@@ -1,9 +1,10 @@
--- Item files: one item a line, in one of two forms.
+-- Item files: one item a line, in one of three forms.
 --     lines text              what stands before, between and after the line feeds
 --     digits_in line          a line without one carriage return at its end, and then without the blanks at both ends
 --     text_in line            a line without one carriage return at its end
 --     is_marked text          whether the text begins with `0x`
 --     text_item text          the item of a text: after `0x` the one that the digits spell, else its bytes
+--     hashed_item text        the item of a line that is hashed: after `0x` the one that the digits spell, else its digest
 --     content_of form line    what is left of a line: its digits, or its text
 --     spelled form content    the item that this spells, if it spells one
 --     line_items form line    no item where nothing is left, else the item that is spelled; None where none is
@@ -20,6 +21,7 @@ use Rattle.std.specs.Char.{is_ascii_hexdigit}
 use Rattle.std.specs.List.{slice_split, list_all}
 use Rattle.std.specs.Io.BufRead.{strip_last}
 use Rattle.hex.specs.Hex.{decode_of}
+use Rattle.sha2.specs.Sha256.{sha256}
 use Rattle.hex.specs.declared.error.FromHexError.{FromHexError}
 use Rattle.definitions.specs.Items.{Item}
 use Rattle.item_files.specs.declared.form.ItemForm.{ItemForm}
@@ -72,13 +74,18 @@ is_marked text = bytes_eq (take 2 text) mark
 abbrev pub text_item : List ℕ → Option Item
 text_item text = if is_marked text then decoded (decode_of (drop 2 text)) else one_item text
 
+abbrev pub hashed_item : List ℕ → Option Item
+hashed_item text = if is_marked text then decoded (decode_of (drop 2 text)) else one_item (sha256 text)
+
 abbrev pub content_of : ItemForm → List ℕ → List ℕ
 content_of forms.Hex line = digits_in line
 content_of forms.Text line = text_in line
+content_of forms.Hash line = text_in line
 
 abbrev pub spelled : ItemForm → List ℕ → Option Item
 spelled forms.Hex content = decoded (decode_of content)
 spelled forms.Text content = text_item content
+spelled forms.Hash content = hashed_item content
 
 abbrev pub content_items : ItemForm → List ℕ → Option (List Item)
 content_items form [] = Some []
@@ -96,9 +103,17 @@ abbrev pub is_long : ItemForm → List ℕ → Bool
 is_long forms.Hex content = are_long_digits content
 is_long forms.Text content =
     if is_marked content then are_long_digits (drop 2 content) else nat_lt 64 (length content)
+is_long forms.Hash content = if is_marked content then are_long_digits (drop 2 content) else false
+
+-- what is wrong with what is left of a line that spells no item, and is not too long
+abbrev pub other_flaw : ItemForm → List ℕ → LineFlaw
+other_flaw forms.Hex content = if list_all is_ascii_hexdigit content then flaws.OddDigits else flaws.NotHex
+other_flaw forms.Text content = flaws.NoItem
+other_flaw forms.Hash content = flaws.NoItem
 
 abbrev pub line_flaw : ItemForm → List ℕ → LineFlaw
-line_flaw form line = if is_long form (content_of form line) then flaws.TooLong else flaws.NoItem
+line_flaw form line =
+    if is_long form (content_of form line) then flaws.TooLong else other_flaw form (content_of form line)
 
 abbrev pub bad_line : LineFlaw → ℕ → List ℕ → BadLine
 bad_line flaw n line = record { number = n; front = take 164 (text_in line); flaw = flaw }

@@ -6,3 +6,4 @@ pub mod Files
 pub mod ItemFiles
 pub mod ReadFaults
 pub mod StrategyFlaws
+pub mod StrayKeys

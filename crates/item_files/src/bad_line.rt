@@ -84,7 +84,11 @@ impl fmt::Debug for Front {
 /// What is wrong with a line of an item file.
 #[derive(Clone, Copy, Debug, PartialEq, Eq)]
 pub enum LineFlaw {
-    /// It spells no item.
+    /// It has characters that are no hex digits, in hex.
+    NotHex,
+    /// It has an odd number of hex digits, in hex.
+    OddDigits,
+    /// What follows its `0x` spells no item.
     NoItem,
     /// It spells more bytes than an item has, which are 64.
     TooLong,

@@ -21,10 +21,12 @@ pub enum SettingsFault {
     #[error("line {} is not 1 to 64 bytes in hex", .0.number)]
     BadItemLine(BadLine),
     /// An item file has more different items than the cap.
-    #[error("there are more different items than the cap, {cap}")]
+    #[error("there are {count} different items, more than the cap, {cap}")]
     TooManyItems {
         /// The cap.
         cap: usize,
+        /// How many different items there are.
+        count: usize,
     },
     /// A strategy file holds no strategy: the first test that fails.
     #[error("the file holds no strategy (refusal {})", .0.fault.number())]

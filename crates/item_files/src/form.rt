@@ -5,4 +5,6 @@ pub enum ItemForm {
     Hex,
     /// As they are, or as hex digits after `0x`.
     Text,
+    /// As any lines: an item is the SHA-256 digest of its line, or is spelled by hex digits after `0x`.
+    Hash,
 }

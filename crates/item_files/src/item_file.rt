@@ -2,7 +2,8 @@
 //!
 //! In hex a carriage return at a line's end, then spaces and tabs at both its ends, and blank lines are ignored. A line
 //! of text without one carriage return at its end is an item as it stands, or spells one in hex after `0x`; empty
-//! lines are ignored. An item given twice counts once. A file that begins with a byte order mark is refused.
+//! lines are ignored. Of lines that are hashed this is so too, but that the SHA-256 digest of a line is its item, unless
+//! the line begins with `0x`. An item given twice counts once. A file that begins with a byte order mark is refused.
 
 ghost use Rattle.std.specs.Prelude.{◌≡◌, ◌≢◌, ◌<◌, ◌≤◌, ℕ, List, [], ◌∷◌, ◌++◌, length, IfOk, IfErr, IfSome, OnOk};
 ghost use Rattle.std.specs.Prelude.{option_map, Some, None, Ok, Err};
@@ -14,9 +15,9 @@ ghost use Rattle.definitions.specs.Sets.{IsSet};
 ghost use Rattle.item_files.specs.Faults.{IsSetOf};
 ghost use Rattle.item_files.specs.Files.{IsFromFile, IsAllOf};
 ghost use Rattle.item_files.specs.ItemFiles.{is_blank, without_front, without_end, digits_in, decoded, line_items};
-ghost use Rattle.item_files.specs.ItemFiles.{lines, lines_in, items_from, file_items, text_in, text_item};
+ghost use Rattle.item_files.specs.ItemFiles.{lines, lines_in, items_from, file_items, text_in, text_item, hashed_item};
 ghost use Rattle.item_files.specs.ItemFiles.{content_of, spelled, has_byte_order_mark, are_long_digits, is_long};
-ghost use Rattle.item_files.specs.ItemFiles.{line_flaw, bad_line};
+ghost use Rattle.item_files.specs.ItemFiles.{line_flaw, other_flaw, bad_line};
 ghost use Rattle.item_files.specs.declared.bad_line.BadLine.{BadLine};
 ghost use Rattle.item_files.specs.declared.bad_line.LineFlaw.TheVariants as flaws;
 
@@ -26,6 +27,7 @@ use crate::file::{read_file, read_text};
 use crate::form::ItemForm;
 use item_core::Item;
 use memchr::memchr;
+use sha2::{Digest, Sha256};
 use std::alloc::Global;
 use std::io::Read;
 use std::rt::Files;
@@ -103,13 +105,27 @@ fn text_item(text: &[u8]) -> Option<Item>
     }
 }
 
+/// The item of a line that is hashed, if it has one: after `0x` the one that the digits spell, else the digest of its
+/// bytes.
+fn hashed_item(text: &[u8]) -> Option<Item>
+    ensures { result ≡ hashed_item text.now }
+{
+    match text.strip_prefix(b"0x") {
+        Some(digits) => item_of(digits),
+        None => {
+            let digest = Sha256::digest(text);
+            Item::new(&digest[..]).ok()
+        }
+    }
+}
+
 /// What is left of a line: its digits, or its text.
 fn content_of(form: ItemForm, line: &[u8]) -> &[u8]
     ensures { result.now ≡ content_of form line.now }
 {
     match form {
         ItemForm::Hex => digits_in(line),
-        ItemForm::Text => text_in(line),
+        ItemForm::Text | ItemForm::Hash => text_in(line),
     }
 }
 
@@ -120,6 +136,7 @@ fn spelled(form: ItemForm, content: &[u8]) -> Option<Item>
     match form {
         ItemForm::Hex => item_of(content),
         ItemForm::Text => text_item(content),
+        ItemForm::Hash => hashed_item(content),
     }
 }
 
@@ -150,6 +167,26 @@ fn is_long(form: ItemForm, content: &[u8]) -> bool
             Some(digits) => are_long_digits(digits),
             None => content.len() > 64,
         },
+        ItemForm::Hash => match content.strip_prefix(b"0x") {
+            Some(digits) => are_long_digits(digits),
+            None => false,
+        },
+    }
+}
+
+/// What is wrong with what is left of a line, which spells no item and is not too long.
+fn other_flaw(form: ItemForm, content: &[u8]) -> LineFlaw
+    ensures { result ≡ other_flaw form content.now }
+{
+    match form {
+        ItemForm::Hex => {
+            if are_digits(content) {
+                LineFlaw::OddDigits
+            } else {
+                LineFlaw::NotHex
+            }
+        }
+        ItemForm::Text | ItemForm::Hash => LineFlaw::NoItem,
     }
 }
 
@@ -157,10 +194,11 @@ fn is_long(form: ItemForm, content: &[u8]) -> bool
 fn line_flaw(form: ItemForm, line: &[u8]) -> LineFlaw
     ensures { result ≡ line_flaw form line.now }
 {
-    if is_long(form, content_of(form, line)) {
+    let content = content_of(form, line);
+    if is_long(form, content) {
         LineFlaw::TooLong
     } else {
-        LineFlaw::NoItem
+        other_flaw(form, content)
     }
 }
 
@@ -265,7 +303,8 @@ pub fn item_set(
     laws::set_of_a_list();
     let items = spans::distinct(items_of(alloc, form, text)?);
     if items.len() > cap {
-        return Err(SettingsFault::TooManyItems { cap });
+        let count = items.len();
+        return Err(SettingsFault::TooManyItems { cap, count });
     }
     Ok(items)
 }

@@ -11,6 +11,7 @@ mod read_fault;
 mod strategy_file;
 mod strategy_flaw;
 mod strategy_place;
+mod stray_keys;
 
 pub use bad_line::{BadLine, Front, LineFlaw};
 pub use fault::SettingsFault;
@@ -18,5 +19,6 @@ pub use form::ItemForm;
 pub use item_file::{has_byte_order_mark, item_of, item_set, read_input_items, read_items};
 pub use profile::WireProfile;
 pub use read_fault::ReadFault;
-pub use strategy_file::{accepted_in, accepted_of, document, read_strategy};
+pub use strategy_file::{accepted_in, accepted_of, document, read_document, read_strategy};
 pub use strategy_flaw::{Key, NumberSpan, StrategyFlaw};
+pub use stray_keys::{KeyPlace, StrayKey, meant_key, stray_key};

@@ -52,6 +52,13 @@ pub fn accepted_of(alloc: Global, text: &[u8]) -> Result<Accepted, SettingsFault
     accepted_in(alloc, &table)
 }
 
+/// The table that the file is. Refused 80 where the file is not read, else as its text is.
+pub fn read_document<R: Files + AllocGlobal>(rt: &R, path: &str) -> Result<Table, SettingsFault>
+    ensures { IsFromFile (λ text result. Opens result text) result }
+{
+    document(rt.alloc(), &read_file(rt, path)?)
+}
+
 /// The strategy in the file, with its least ranks. Refused 80 where the file is not read, else as its text is.
 pub fn read_strategy<R: Files + AllocGlobal>(rt: &R, path: &str) -> Result<Accepted, SettingsFault>
     ensures { IsFromFile IsAcceptedOf result }

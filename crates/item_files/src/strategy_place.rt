@@ -195,7 +195,7 @@ fn placed(fault: StrategyFault, place: Option<RowPlace>) -> StrategyFlaw
 }
 
 /// The array of the rows, if there is one.
-fn rows(table: &Table) -> Option<&Array>
+pub fn rows(table: &Table) -> Option<&Array>
     ensures { option_map (λ array. array_view array.now) result ≡ rows_at (table_view table.now) }
 {
     match member(table, "row") {

@@ -98,7 +98,7 @@ fn a_bad_line_of_a_later_piece(rt: HostRuntime) {
             b"61\n62\n63\n\nzz\nyy\n",
             5,
             b"zz",
-            LineFlaw::NoItem
+            LineFlaw::NotHex
         )
     );
     assert!(rt;
@@ -108,7 +108,7 @@ fn a_bad_line_of_a_later_piece(rt: HostRuntime) {
             b"61\n62\n63\n64\n65\n66\nz",
             7,
             b"z",
-            LineFlaw::NoItem
+            LineFlaw::NotHex
         )
     );
 }

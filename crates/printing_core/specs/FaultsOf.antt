@@ -60,7 +60,7 @@ of_listing lists.Memory = Memory
 abbrev pub of_settings : SettingsFault → Fault
 of_settings (settings.CannotRead f) = CannotRead
 of_settings (settings.BadItemLine bad) = BadItemLine bad.number
-of_settings (settings.TooManyItems cap) = TooManyItems
+of_settings (settings.TooManyItems cap count) = TooManyItems
 of_settings (settings.Strategy flaw) = Strategy flaw.fault
 of_settings (settings.Check f) = Check f
 of_settings settings.Memory = Memory

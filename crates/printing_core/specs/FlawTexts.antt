@@ -2,8 +2,9 @@
 --     unread_of f          the cause of a file that was not read
 --     unread_text c        why a file was not read, or not opened to be written to
 --     input_text f         what is wrong with standard input
+--     refusing n           what a server did that refused with this number
 --     server_text f        what a server did
-use Rattle.std.specs.Prelude.{ℕ, List, ◌++◌, codes}
+use Rattle.std.specs.Prelude.{ℕ, List, ◌++◌, ◌==◌, codes, if◌then◌else◌}
 use Rattle.std.specs.Fmt.{decimal}
 use Rattle.outcome_core.specs.Names.{session_refusal_name}
 use Rattle.printing_core.specs.declared.flaws.Unread.{Unread}
@@ -48,15 +49,24 @@ input_text inputs.NotScenario = codes "standard input: a scenario needs 2 to 16 
 input_text (inputs.NotStep step) =
     codes "standard input: step " ++ (decimal step ++ codes ", counted from 0, has no form of a step")
 
+abbrev pub refusing : ℕ → ServerFlaw
+refusing code = if code == 1 then servers.NoHello else if code == 55 then servers.OtherSet else servers.Refusing code
+
 abbrev pub server_text : ServerFlaw → List ℕ
 server_text (servers.Silent patience) = codes "the server closed the connection, or was silent for "
     ++ (decimal patience ++ codes " seconds")
 server_text (servers.NotTaking patience) = codes "the server closed the connection, or took nothing for "
     ++ (decimal patience ++ codes " seconds")
-server_text (servers.Cut most_bytes) = codes "the server closed in the middle of a message, or sent more than "
-    ++ (decimal most_bytes ++ codes " bytes")
+server_text servers.Ended =
+    codes "the connection ended in the middle of a message: the server ended, or made room for others. Try again."
+server_text (servers.TooMuch most_bytes) = codes "the server sent more than "
+    ++ (decimal most_bytes ++ codes " bytes: --most-bytes allows more")
 server_text servers.Stranger = codes "the server does not speak this protocol"
 server_text servers.Unruly = codes "the server broke the rules of the protocol"
 server_text servers.TooManyParts =
     codes "a message of more than 131,072 parts is needed: the server may hold more than 65,536 items"
+server_text servers.OtherSet =
+    codes "the server has another --set, other --shards, or --text or --hash on one side alone"
+server_text servers.NoHello =
+    codes "the server refused: BadHello: does one side say --set or --shards, and the other not?"
 server_text (servers.Refusing code) = codes "the server refused: " ++ session_refusal_name code

@@ -1,7 +1,7 @@
 -- An item as it is printed.
 --     is_plain x           whether the bytes are a text that stands for itself: UTF-8 without control characters, and
 --                          neither `0x` nor a byte order mark in front
---     item_text form x     the item in hex; or as it stands where it is plain, else in hex after `0x`
+--     item_text form x     the item in hex; or as it stands where it is plain, else, and as a digest, in hex after `0x`
 --     item_line form x     this and a newline
 --     ReadsWhatIsPrinted   a file of such lines of text has the items that were printed, in their order
 use Rattle.std.specs.Prelude.{◌≡◌, ℕ, Bool, not, ◌&&◌, List, [], ◌∷◌, ◌++◌, flat_map, chars, if◌then◌else◌, Ok}
@@ -28,6 +28,7 @@ marked_text x = mark ++ encode_lower x
 abbrev pub item_text : ItemForm → Item → List ℕ
 item_text forms.Hex x = encode_lower x
 item_text forms.Text x = if is_plain x then x else marked_text x
+item_text forms.Hash x = marked_text x
 
 abbrev pub item_line : ItemForm → Item → List ℕ
 item_line form x = item_text form x ++ 10 ∷ []

@@ -18,4 +18,5 @@ pub mod ShownLines
 pub mod StatsTexts
 pub mod StdioTexts
 pub mod UnixCauses
+pub mod Warnings
 pub mod Whys

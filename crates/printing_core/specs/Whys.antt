@@ -4,6 +4,7 @@
 --     span_text s          what a number of a strategy may be
 --     want_text s f        the one where a number is refused, else the other
 --     origin_text file n   a file or standard input, and a node of it if there is one
+--     room_text r          where there is room for more items than the cap
 --     why_text w           the whole line
 use Rattle.std.specs.Prelude.{ℕ, List, ◌∷◌, ◌++◌, codes, string_bytes, Option, Some, None}
 use Rattle.std.specs.Fmt.{decimal}
@@ -20,6 +21,8 @@ use Rattle.printing_core.specs.ShardTexts.{shards_flaw_text, full_shard_text, fe
 use Rattle.item_files.specs.declared.strategy_flaw.Key.{Key}
 use Rattle.item_files.specs.declared.strategy_flaw.Key.TheVariants as keys
 use Rattle.item_files.specs.declared.strategy_flaw.NumberSpan.{NumberSpan}
+use Rattle.printing_core.specs.declared.why.Room.{Room}
+use Rattle.printing_core.specs.declared.why.Room.TheVariants as rooms
 use Rattle.printing_core.specs.declared.why.Why.{Why}
 use Rattle.printing_core.specs.declared.why.Why.TheVariants as whys
 
@@ -74,9 +77,40 @@ abbrev pub row_in : List ℕ → Option ℕ → List ℕ
 row_in place None = place
 row_in place (Some row) = place_in place (codes "row") row
 
+-- ---- lines of items, and sets
+
+abbrev pub not_hex_text : List ℕ → ℕ → List ℕ → List ℕ
+not_hex_text file line shown = file ++ (codes " line " ++ (decimal line ++ (codes " is not hex: \""
+    ++ (shown ++ codes "\". Are these lines of text? Then say --text."))))
+
+abbrev pub odd_digits_text : List ℕ → ℕ → List ℕ → List ℕ
+odd_digits_text file line shown = file ++ (codes " line " ++ (decimal line
+    ++ (codes " has an odd number of hex digits: \""
+    ++ (shown ++ codes "\". Are these lines of text? Then say --text."))))
+
+abbrev pub no_item_text : List ℕ → ℕ → List ℕ → List ℕ
+no_item_text file line shown = file ++ (codes " line " ++ (decimal line
+    ++ (codes ": what follows 0x is not 1 to 64 bytes in hex: " ++ shown)))
+
+-- where there is room for more items than the cap
+abbrev pub room_text : Room → List ℕ
+room_text rooms.Cap = codes "the cap of a table may be 65536"
+room_text (rooms.Shards bits) = codes "say --shards " ++ (decimal bits ++ codes " on both sides")
+
+abbrev pub full_set_text : List ℕ → ℕ → List ℕ → List ℕ
+full_set_text file cap room = file ++ (codes ": more than " ++ (decimal cap
+    ++ (codes " different items: " ++ room)))
+
+abbrev pub no_table_text : List ℕ → List ℕ → List ℕ
+no_table_text file names = file ++ (codes " is no file, and no shipped table: " ++ names)
+
 abbrev pub why_text : Why → List ℕ
 why_text (whys.Unread file cause) = said_of file.now (unread_text cause)
-why_text (whys.BadLine file line shown) = said_of (place_in file.now (codes "line") line) (string_bytes shown)
+why_text (whys.NotHex file line shown) = not_hex_text file.now line (string_bytes shown)
+why_text (whys.OddDigits file line shown) = odd_digits_text file.now line (string_bytes shown)
+why_text (whys.BadLine file line shown) = no_item_text file.now line (string_bytes shown)
+why_text (whys.FullSet file cap room) = full_set_text file.now cap (room_text room)
+why_text (whys.NoTable file names) = no_table_text file.now names.now
 why_text (whys.LongLine file line shown) = file.now ++ (codes " line " ++ (decimal line
     ++ (codes ": an item has at most 64 bytes: " ++ string_bytes shown)))
 why_text (whys.ByteOrderMark file) = file.now ++ codes " line 1: the file begins with a byte order mark"

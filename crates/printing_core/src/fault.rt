@@ -121,7 +121,7 @@ impl From<SettingsFault> for Fault {
         match fault {
             SettingsFault::CannotRead(_) => Fault::CannotRead,
             SettingsFault::BadItemLine(bad) => Fault::BadItemLine { line: bad.number },
-            SettingsFault::TooManyItems { cap: _ } => Fault::TooManyItems,
+            SettingsFault::TooManyItems { cap: _, count: _ } => Fault::TooManyItems,
             SettingsFault::Strategy(flaw) => Fault::Strategy(flaw.fault),
             SettingsFault::Check(fault) => Fault::Check(fault),
             SettingsFault::Memory => Fault::Memory,

@@ -1,7 +1,7 @@
 //! What is wrong with a file, with standard input, and with what a server did.
 
 ghost use Rattle.std.specs.Prelude.{◌≡◌, Some};
-ghost use Rattle.printing_core.specs.FlawTexts.{unread_of, unread_text, input_text, server_text};
+ghost use Rattle.printing_core.specs.FlawTexts.{unread_of, unread_text, input_text, server_text, refusing};
 
 use item_files::ReadFault;
 use outcome_core::session_refusal_name;
@@ -144,16 +144,33 @@ pub enum ServerFlaw {
     Silent { patience: u32 },
     /// It closed, or took nothing for so many seconds.
     NotTaking { patience: u32 },
-    /// It closed too early, or so many bytes were too few.
-    Cut { most_bytes: u32 },
+    /// It ended in the middle of a message.
+    Ended,
+    /// It sent more than so many bytes.
+    TooMuch { most_bytes: u32 },
     /// It speaks something else.
     Stranger,
     /// It sent what may not be sent.
     Unruly,
     /// A session with it needs a message of more than 131,072 parts.
     TooManyParts,
+    /// It has another set, or other shards, or reads items in another form.
+    OtherSet,
+    /// It read no hello: it was told of a set, and has none that is named, or the other way round.
+    NoHello,
     /// It refused, with this number.
     Refusing { code: u8 },
+}
+
+/// What a server did that refused with this number.
+pub(crate) fn refusing(code: u8) -> ServerFlaw
+    ensures { result ≡ refusing code }
+{
+    match code {
+        1 => ServerFlaw::NoHello,
+        55 => ServerFlaw::OtherSet,
+        _ => ServerFlaw::Refusing { code },
+    }
 }
 
 impl fmt::Display for ServerFlaw {
@@ -171,15 +188,27 @@ impl fmt::Display for ServerFlaw {
                 f,
                 "the server closed the connection, or took nothing for {patience} seconds"
             ),
-            ServerFlaw::Cut { most_bytes } => write!(
+            ServerFlaw::Ended => write!(
                 f,
-                "the server closed in the middle of a message, or sent more than {most_bytes} bytes"
+                "the connection ended in the middle of a message: the server ended, or made room for others. Try again."
+            ),
+            ServerFlaw::TooMuch { most_bytes } => write!(
+                f,
+                "the server sent more than {most_bytes} bytes: --most-bytes allows more"
             ),
             ServerFlaw::Stranger => write!(f, "the server does not speak this protocol"),
             ServerFlaw::Unruly => write!(f, "the server broke the rules of the protocol"),
             ServerFlaw::TooManyParts => write!(
                 f,
                 "a message of more than 131,072 parts is needed: the server may hold more than 65,536 items"
+            ),
+            ServerFlaw::OtherSet => write!(
+                f,
+                "the server has another --set, other --shards, or --text or --hash on one side alone"
+            ),
+            ServerFlaw::NoHello => write!(
+                f,
+                "the server refused: BadHello: does one side say --set or --shards, and the other not?"
             ),
             ServerFlaw::Refusing { code } => {
                 write!(f, "the server refused: {}", session_refusal_name(*code))

@@ -60,7 +60,8 @@ fn push_marked(alloc: Global, text: &mut String, bytes: &[u8]) -> Result<(), All
     push_hex(alloc, text, bytes)
 }
 
-/// Appends the item: in hex; or as it stands where it is a text that stands for itself, else in hex after `0x`.
+/// Appends the item: in hex; or as it stands where it is a text that stands for itself, else in hex after `0x`, as the
+/// digest of a line is.
 pub fn push_item(
     alloc: Global,
     text: &mut String,
@@ -72,6 +73,7 @@ pub fn push_item(
     let bytes = item.bytes();
     match form {
         ItemForm::Hex => push_hex(alloc, text, bytes),
+        ItemForm::Hash => push_marked(alloc, text, bytes),
         ItemForm::Text => match plain_text(bytes) {
             Some(plain) => text.push_str(plain),
             None => push_marked(alloc, text, bytes),

@@ -23,6 +23,7 @@ mod stdio;
 mod told;
 mod unix_causes;
 mod unreached;
+mod warning;
 mod why;
 
 pub use accepted::accepted_text;
@@ -51,4 +52,5 @@ pub use told::{
     tell_replaced, tell_torn, tell_unwritten_cause, tell_written_again,
 };
 pub use unreached::Unreached;
-pub use why::{Origin, Why, tell_why};
+pub use warning::tell_stray_key;
+pub use why::{Origin, Room, Why, tell_why};

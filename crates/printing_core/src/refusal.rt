@@ -3,28 +3,39 @@
 ghost use Rattle.std.specs.Prelude.{◌≡◌, Some, None, option_map};
 ghost use Rattle.printing_core.specs.FaultsOf.{of_settings, of_scenario, of_input, of_log, of_listen, of_connect};
 ghost use Rattle.printing_core.specs.AddressTexts.{unreached_text};
-ghost use Rattle.printing_core.specs.Whys.{why_text};
+ghost use Rattle.printing_core.specs.Whys.{why_text, no_table_text};
 ghost use Rattle.printing_core.specs.SecondLines.{bad_line_text, scenario_text, error_text, message_text, session_text};
 ghost use Rattle.printing_core.specs.SecondLines.{peer_line, accept_text, listen_text, connect_text, message_flaw};
 ghost use Rattle.printing_core.specs.SecondLines.{session_flaw, unread_line, unread_input_text, output_text, IsSaid};
-ghost use Rattle.printing_core.specs.SecondLines.{IsSaidOfLine, IsSaidOfFile, IsSaidOfInput};
+ghost use Rattle.printing_core.specs.SecondLines.{IsSaidOfLine, IsSaidOfFile, IsSaidOfInput, IsSaidOfSet, room_for};
+ghost use Rattle.printing_core.specs.SecondLines.{long_session_text, session_text_after};
 ghost use Rattle.printing_core.specs.declared.fault.Fault.TheVariants as faults;
 ghost use Rattle.printing_core.specs.declared.flaws.Unread.TheVariants as unreads;
 
 use crate::fault::Fault;
-use crate::flaws::{InputFlaw, ServerFlaw, Unread};
+use crate::flaws::{InputFlaw, ServerFlaw, Unread, refusing};
 use crate::shown::shown_line;
 use crate::stdio::peer_flaw;
 use crate::unreached::{Unreached, connect_cause, listen_cause};
-use crate::why::{Origin, Why};
+use crate::why::{Origin, Room, Why};
 use io_core::{InputFault, WriterFailed};
 use item_files::{BadLine, LineFlaw, SettingsFault, StrategyFlaw};
+use settings_core::shard_bits_for;
 use sim_core::{ScenarioError, ScenarioFault};
 use std::alloc::{AllocError, AllocFailed, Global};
 use strategy_core::StrategyFault;
 use tcp_front::{ConnectFault, Limits, ListenFault};
 use version_log::LogFault;
 use wire_core::WireFault;
+
+/// The greatest cap of a strategy.
+const MAX_CAP: usize = 65_536;
+
+/// A set is cut into at most 2 to this power shards.
+const MAX_BITS: u8 = 12;
+
+/// The number of the refusal of a message that ends too early.
+const TRUNCATED: u8 = 3;
 
 /// What stands in place of a file's name where items or a strategy are in none.
 pub(crate) const STANDARD_INPUT: &str = "standard input";
@@ -49,6 +60,14 @@ pub(crate) fn why_bad_line<'a>(alloc: Global, file: &'a str, bad: &BadLine) -> O
             let shown = shown_line(alloc, bad.front.bytes()).ok()?;
             Some(Why::LongLine { file, line, shown })
         }
+        LineFlaw::NotHex => {
+            let shown = shown_line(alloc, bad.front.bytes()).ok()?;
+            Some(Why::NotHex { file, line, shown })
+        }
+        LineFlaw::OddDigits => {
+            let shown = shown_line(alloc, bad.front.bytes()).ok()?;
+            Some(Why::OddDigits { file, line, shown })
+        }
         LineFlaw::NoItem => {
             let shown = shown_line(alloc, bad.front.bytes()).ok()?;
             Some(Why::BadLine { file, line, shown })
@@ -67,7 +86,9 @@ fn why_file<'a>(alloc: Global, file: &'a str, fault: &SettingsFault) -> Option<W
             Some(Why::Unread { file, cause })
         }
         SettingsFault::BadItemLine(bad) => why_bad_line(alloc, file, bad),
-        SettingsFault::TooManyItems { cap } => Some(Why::TooManyItems { origin, cap: *cap }),
+        SettingsFault::TooManyItems { cap, count: _ } => {
+            Some(Why::TooManyItems { origin, cap: *cap })
+        }
         SettingsFault::Strategy(flaw) => Some(Why::Strategy {
             origin,
             flaw: *flaw,
@@ -77,6 +98,33 @@ fn why_file<'a>(alloc: Global, file: &'a str, fault: &SettingsFault) -> Option<W
             fault: *fault,
         }),
         SettingsFault::Memory => None,
+    }
+}
+
+/// Where there is room for a set of so many items, above this cap.
+fn room_for(cap: usize, count: usize) -> Room
+    ensures { result ≡ room_for cap count }
+{
+    if cap < MAX_CAP {
+        Room::Cap
+    } else {
+        let count = count.min(u32::MAX as usize) as u32;
+        let bits = shard_bits_for(count).unwrap_or(MAX_BITS);
+        Room::Shards { bits }
+    }
+}
+
+/// The second line for a set in a file that is refused. None where memory runs out.
+fn why_set<'a>(alloc: Global, file: &'a str, fault: &SettingsFault) -> Option<Why<'a>>
+    ensures { IsSaidOfSet file.now fault.now result }
+{
+    match fault {
+        SettingsFault::TooManyItems { cap, count } => {
+            let room = room_for(*cap, *count);
+            let cap = *cap;
+            Some(Why::FullSet { file, cap, room })
+        }
+        fault => why_file(alloc, file, fault),
     }
 }
 
@@ -161,12 +209,12 @@ fn why_message(is_hexed: bool, fault: Fault) -> Option<Why<'static>>
 }
 
 /// What a server did that a session was refused here with this number.
-fn session_flaw(code: u8, most_bytes: u32) -> Option<ServerFlaw>
-    ensures { result ≡ session_flaw code most_bytes }
+fn session_flaw(code: u8) -> Option<ServerFlaw>
+    ensures { result ≡ session_flaw code }
 {
     match code {
         1 => Some(ServerFlaw::Stranger),
-        3 => Some(ServerFlaw::Cut { most_bytes }),
+        3 => Some(ServerFlaw::Ended),
         12 => Some(ServerFlaw::TooManyParts),
         2..=26 => Some(ServerFlaw::Unruly),
         _ => None,
@@ -177,19 +225,28 @@ fn session_flaw(code: u8, most_bytes: u32) -> Option<ServerFlaw>
 fn why_session(limits: Limits, fault: Fault) -> Option<Why<'static>>
     ensures { IsSaid result (session_text limits fault) }
 {
-    let Limits {
-        patience,
-        most_bytes,
-    } = limits;
+    let patience = limits.patience;
     match fault {
-        Fault::Session { code } => match session_flaw(code, most_bytes) {
+        Fault::Session { code } => match session_flaw(code) {
             Some(flaw) => Some(Why::Server(flaw)),
             None => None,
         },
-        Fault::PeerRefused { code } => Some(Why::Server(ServerFlaw::Refusing { code })),
+        Fault::PeerRefused { code } => Some(Why::Server(refusing(code))),
         Fault::ReaderFailed => Some(Why::Server(ServerFlaw::Silent { patience })),
         Fault::WriterFailed => Some(Why::Server(ServerFlaw::NotTaking { patience })),
         _ => None,
+    }
+}
+
+/// The same for a session of which as many bytes were read as may be.
+fn why_long_session(limits: Limits, fault: Fault) -> Option<Why<'static>>
+    ensures { IsSaid result (long_session_text limits fault) }
+{
+    match fault {
+        Fault::Session { code: TRUNCATED } => Some(Why::Server(ServerFlaw::TooMuch {
+            most_bytes: limits.most_bytes,
+        })),
+        _ => why_session(limits, fault),
     }
 }
 
@@ -245,6 +302,23 @@ impl<'a> Refusal<'a> {
         Refusal::new(Fault::from(fault), why)
     }
 
+    /// The refusal of a file of the items of a set that may be cut into shards.
+    pub fn of_set_file(alloc: Global, file: &'a str, fault: SettingsFault) -> Refusal<'a>
+        ensures fault { result.fault ≡ of_settings fault }
+        ensures why { IsSaidOfSet file.now fault result.why }
+    {
+        let why = why_set(alloc, file, &fault);
+        Refusal::new(Fault::from(fault), why)
+    }
+
+    /// The refusal of a strategy that is in no file, where those of these names are shipped.
+    pub fn of_no_table(file: &'a str, names: &'static str) -> Refusal<'a>
+        ensures fault { result.fault ≡ Fault.CannotRead }
+        ensures why { IsSaid result.why (Some (no_table_text file.now names.now)) }
+    {
+        Refusal::new(Fault::CannotRead, Some(Why::NoTable { file, names }))
+    }
+
     /// The refusal of items of standard input.
     pub fn of_input(alloc: Global, fault: SettingsFault) -> Refusal<'a>
         ensures fault { result.fault ≡ of_settings fault }
@@ -276,6 +350,18 @@ impl<'a> Refusal<'a> {
         ensures why { IsSaid result.why (session_text limits fault) }
     {
         Refusal::new(fault, why_session(limits, fault))
+    }
+
+    /// The refusal of a session with a server, within these limits, of which so many bytes were read.
+    pub fn of_session_after(limits: Limits, received: u64, fault: Fault) -> Refusal<'a>
+        ensures fault { result.fault ≡ fault }
+        ensures why { IsSaid result.why (session_text_after limits received fault) }
+    {
+        if received < u64::from(limits.most_bytes) {
+            Refusal::of_session(limits, fault)
+        } else {
+            Refusal::new(fault, why_long_session(limits, fault))
+        }
     }
 
     /// The refusal of a session over standard input and output, of which so many bytes may be read.

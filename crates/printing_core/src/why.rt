@@ -2,7 +2,7 @@
 
 ghost use Rattle.std.specs.Prelude.{◌≡◌, Some};
 ghost use Rattle.printing_core.specs.Whys.{key_name, strategy_text, check_text, span_text, want_text, origin_text};
-ghost use Rattle.printing_core.specs.Whys.{row_in, why_text};
+ghost use Rattle.printing_core.specs.Whys.{row_in, room_text, why_text};
 
 use crate::flaws::{InputFlaw, ServerFlaw, Unread};
 use crate::shard_flaws::ShardsFlaw;
@@ -132,9 +132,9 @@ impl fmt::Display for Origin<'_> {
 
 /// An origin, and the number of a row in it, from 1, if it is a row.
 #[derive(Clone, Copy)]
-struct RowOrigin<'a> {
-    origin: Origin<'a>,
-    row: Option<usize>,
+pub(crate) struct RowOrigin<'a> {
+    pub origin: Origin<'a>,
+    pub row: Option<usize>,
 }
 
 impl fmt::Display for RowOrigin<'_> {
@@ -149,6 +149,26 @@ impl fmt::Display for RowOrigin<'_> {
     }
 }
 
+/// Where there is room for a set that has more different items than the cap.
+#[derive(Clone, Copy, Debug, PartialEq, Eq)]
+pub enum Room {
+    /// Under a greater cap.
+    Cap,
+    /// In 2 to this power shards.
+    Shards { bits: u8 },
+}
+
+impl fmt::Display for Room {
+    ghost output = { λ room. Some (room_text room) };
+
+    fn fmt<W: fmt::Write>(&self, f: &mut fmt::Formatter<W>) -> fmt::Result {
+        match self {
+            Room::Cap => write!(f, "the cap of a table may be 65536"),
+            Room::Shards { bits } => write!(f, "say --shards {bits} on both sides"),
+        }
+    }
+}
+
 /// The usual cause of a refusal, with the file, address or input that it speaks of. It prints as one line.
 #[derive(Debug, Drop)]
 pub enum Why<'a> {
@@ -157,7 +177,19 @@ pub enum Why<'a> {
         file: &'a str,
         cause: Unread,
     },
-    /// A line of an item file, from 1, is bad: so it is shown.
+    /// A line of an item file, from 1, is not hex: so it is shown.
+    NotHex {
+        file: &'a str,
+        line: usize,
+        shown: String,
+    },
+    /// A line of an item file, from 1, has an odd number of hex digits: so it is shown.
+    OddDigits {
+        file: &'a str,
+        line: usize,
+        shown: String,
+    },
+    /// What follows the `0x` of a line of an item file, from 1, is no item in hex: so it is shown.
     BadLine {
         file: &'a str,
         line: usize,
@@ -177,6 +209,17 @@ pub enum Why<'a> {
     TooManyItems {
         origin: Origin<'a>,
         cap: usize,
+    },
+    /// A set has more different items than the cap.
+    FullSet {
+        file: &'a str,
+        cap: usize,
+        room: Room,
+    },
+    /// A file is not there, and no strategy of its name is shipped, but those of these names.
+    NoTable {
+        file: &'a str,
+        names: &'static str,
     },
     /// A shard has more different items than this.
     FullShard {
@@ -222,7 +265,18 @@ impl fmt::Display for Why<'_> {
     fn fmt<W: fmt::Write>(&self, f: &mut fmt::Formatter<W>) -> fmt::Result {
         match self {
             Why::Unread { file, cause } => write!(f, "{file}: {cause}"),
-            Why::BadLine { file, line, shown } => write!(f, "{file} line {line}: {shown}"),
+            Why::NotHex { file, line, shown } => write!(
+                f,
+                "{file} line {line} is not hex: \"{shown}\". Are these lines of text? Then say --text."
+            ),
+            Why::OddDigits { file, line, shown } => write!(
+                f,
+                "{file} line {line} has an odd number of hex digits: \"{shown}\". Are these lines of text? Then say --text."
+            ),
+            Why::BadLine { file, line, shown } => write!(
+                f,
+                "{file} line {line}: what follows 0x is not 1 to 64 bytes in hex: {shown}"
+            ),
             Why::LongLine { file, line, shown } => {
                 write!(
                     f,
@@ -234,6 +288,12 @@ impl fmt::Display for Why<'_> {
             }
             Why::TooManyItems { origin, cap } => {
                 write!(f, "{origin}: more than {cap} different items")
+            }
+            Why::FullSet { file, cap, room } => {
+                write!(f, "{file}: more than {cap} different items: {room}")
+            }
+            Why::NoTable { file, names } => {
+                write!(f, "{file} is no file, and no shipped table: {names}")
             }
             Why::FullShard { file, shard, cap } => {
                 write!(

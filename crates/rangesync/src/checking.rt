@@ -4,7 +4,7 @@ ghost use Rattle.std.specs.Prelude.{◌≤◌, IfSome};
 ghost use Rattle.std.specs.Arc.{arc_value};
 ghost use Rattle.settings_core.specs.Spans.{IsItemLength};
 
-use crate::loading::strategy_of;
+use crate::loading::{TableSource, strategy_of};
 use cost_core::{Sample, cost_of};
 use io_core::{Watched, write_output};
 use printing_core::{Fault, Refusal, accepted_text, push_cost, push_sample};
@@ -89,15 +89,20 @@ fn table_text(alloc: Global, accepted: Accepted, words: CheckWords<'_>) -> Resul
     }
 }
 
-/// Checks the strategy in the file that is named, and prints what is to be printed of it where it is accepted.
-pub(crate) fn check_table<'a, R: Files + AllocGlobal, O: Write + Drop>(
+/// Checks the strategy that is named, and prints what is to be printed of it where it is accepted. Standard error is told
+/// of a key that says nothing, if it is told more.
+pub(crate) fn check_table<'a, R: Files + AllocGlobal, O: Write + Drop, E: Write>(
     rt: &R,
     words: CheckWords<'a>,
+    explains: bool,
     out: O,
+    err: &mut E,
 ) -> Result<(), Refusal<'a>>
     requires { IfSome words.item_length IsItemLength }
 {
-    let text = table_text(rt.alloc(), strategy_of(rt, words.file)?, words)?;
+    let path = words.file;
+    let accepted = strategy_of(rt, TableSource { path, explains }, err)?;
+    let text = table_text(rt.alloc(), accepted, words)?;
     write_output(&mut Watched::new(out), text.as_bytes())?;
     Ok(())
 }

@@ -107,11 +107,12 @@ fn lists_of(alloc: Global, learned: &Learned) -> Result<(Vec<Item>, Vec<Item>), 
     Ok((ours, theirs))
 }
 
-/// What a session over both directories says of the server's shards. Else the number of the refusal of this side or of
-/// the peer, `io read` or `io write`, 57 or 90.
+/// What a session over both directories, of which so many bytes were read, says of the server's shards. Else the number
+/// of the refusal of this side or of the peer, `io read` or `io write`, 57 or 90.
 fn told_of<'a>(
     alloc: Global,
     asker: Asker<'a>,
+    received: u64,
     outcome: &Outcome,
 ) -> Result<Vec<Unequal>, Refusal<'a>> {
     match learned_in(outcome) {
@@ -119,7 +120,7 @@ fn told_of<'a>(
             let (ours, theirs) = lists_of(alloc, learned)?;
             unequal_of(alloc, asker.set.bits, &ours, &theirs)
         }
-        Err(fault) => Err(Refusal::of_session(asker.limits, fault)),
+        Err(fault) => Err(Refusal::of_session_after(asker.limits, received, fault)),
     }
 }
 
@@ -141,7 +142,7 @@ where
     let (outcome, stats) = converse(rt, alloc, own.accepted, log, talk, (&stream, &stream))?;
     finish(rt, &stream, asker.left(stats));
     costs.add(stats, outcome.sent());
-    told_of(alloc, asker, &outcome)
+    told_of(alloc, asker, stats.received.bytes, &outcome)
 }
 
 /// The same, and again as often as is still asked for, so long as the session does not come to its end and may do so.

@@ -134,6 +134,7 @@ fn unopened<'a>(path: &'a str, error: &io::Error) -> Refusal<'a> {
 fn unopened_cause(error: &io::Error) -> Unread {
     match ReadFault::of(error) {
         ReadFault::NoMoreFiles => Unread::NoMoreFiles,
+        ReadFault::Folder => Unread::Folder,
         _ => Unread::Unwritable,
     }
 }

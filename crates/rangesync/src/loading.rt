@@ -6,9 +6,13 @@ ghost use Rattle.range_tree.specs.Trees.{tree_items};
 
 use crate::books::Kept;
 use crate::disk::{Opened, item_file, open_lines};
+use cost_core::{SHIPPED_NAMES, shipped_text};
 use item_core::Item;
-use item_files::{ItemForm, ReadFault, SettingsFault, read_input_items, read_items, read_strategy};
-use printing_core::{Fault, Refusal};
+use item_files::{
+    ItemForm, ReadFault, SettingsFault, accepted_in, accepted_of, read_document, read_input_items,
+    read_items, stray_key,
+};
+use printing_core::{Fault, Refusal, tell_stray_key};
 use range_tree::Tree;
 use settings_core::{ServeWords, SyncWords};
 use std::alloc::{AllocError, Global};
@@ -31,14 +35,48 @@ pub struct Loaded {
     pub kept: Kept,
 }
 
-/// The strategy in the file, accepted. Else 80, 30 to 35 or 29, then 37, 36 or 38, and 90.
-pub fn strategy_of<'a, R: Files + AllocGlobal>(
-    rt: &R,
-    path: &'a str,
-) -> Result<Accepted, Refusal<'a>> {
-    match read_strategy(rt, path) {
+/// A strategy that is named, and whether standard error is told of keys that say nothing.
+#[derive(Clone, Copy)]
+pub struct TableSource<'a> {
+    /// The path of its file; or the name of one that is shipped, where no file is there.
+    pub path: &'a str,
+    /// Whether standard error is told.
+    pub explains: bool,
+}
+
+/// The strategy that is shipped under this name, accepted. Else 80, or 90.
+fn shipped_strategy<'a>(alloc: Global, name: &'a str) -> Result<Accepted, Refusal<'a>> {
+    let Some(text) = shipped_text(name) else {
+        return Err(Refusal::of_no_table(name, SHIPPED_NAMES));
+    };
+    match accepted_of(alloc, text.as_bytes()) {
         Ok(accepted) => Ok(accepted),
-        Err(fault) => Err(Refusal::of_file(rt.alloc(), path, fault)),
+        Err(fault) => Err(Refusal::of_file(alloc, name, fault)),
+    }
+}
+
+/// The strategy in the file, accepted, or the one that is shipped under the name, where no file is there. Else 80, 30 to
+/// 35 or 29, then 37, 36 or 38, and 90.
+pub fn strategy_of<'a, R: Files + AllocGlobal, E: Write>(
+    rt: &R,
+    source: TableSource<'a>,
+    err: &mut E,
+) -> Result<Accepted, Refusal<'a>> {
+    let alloc = rt.alloc();
+    let path = source.path;
+    let table = match read_document(rt, path) {
+        Ok(table) => table,
+        Err(SettingsFault::CannotRead(ReadFault::Absent)) => return shipped_strategy(alloc, path),
+        Err(fault) => return Err(Refusal::of_file(alloc, path, fault)),
+    };
+    if source.explains
+        && let Some(stray) = stray_key(&table)
+    {
+        tell_stray_key(alloc, err, path, stray);
+    }
+    match accepted_in(alloc, &table) {
+        Ok(accepted) => Ok(accepted),
+        Err(fault) => Err(Refusal::of_file(alloc, path, fault)),
     }
 }
 
@@ -61,8 +99,10 @@ pub fn items_of<'a, R: Files + AllocGlobal>(
 /// Where a side of sessions begins from.
 #[derive(Clone, Copy)]
 pub struct Sources<'a> {
-    /// The path of the strategy file.
-    pub table: &'a str,
+    /// The strategy.
+    pub table: TableSource<'a>,
+    /// Whether the set may be cut into shards.
+    pub may_cut: bool,
     /// The form of the item files.
     pub form: ItemForm,
     /// The path of the item file, or `-` for the input; none where the set is only in the file that it is kept in.
@@ -72,20 +112,28 @@ pub struct Sources<'a> {
 }
 
 impl<'a> Sources<'a> {
-    /// Where a server begins from that is asked for in these words.
-    pub fn of_server(words: ServeWords<'a>) -> Sources<'a> {
+    /// Where a server begins from that is asked for in these words, and whether standard error is told more.
+    pub fn of_server(words: ServeWords<'a>, explains: bool) -> Sources<'a> {
         Sources {
-            table: words.table,
+            table: TableSource {
+                path: words.table,
+                explains,
+            },
+            may_cut: !words.stdio,
             form: words.form,
             items: words.items,
             keep: words.keep,
         }
     }
 
-    /// Where a `sync` begins from that is asked for in these words.
-    pub fn of_asker(words: SyncWords<'a>) -> Sources<'a> {
+    /// Where a `sync` begins from that is asked for in these words, and whether standard error is told more.
+    pub fn of_asker(words: SyncWords<'a>, explains: bool) -> Sources<'a> {
         Sources {
-            table: words.table,
+            table: TableSource {
+                path: words.table,
+                explains,
+            },
+            may_cut: !words.stdio,
             form: words.form,
             items: Some(words.items),
             keep: None,
@@ -96,12 +144,29 @@ impl<'a> Sources<'a> {
     fn item_path(&self) -> Option<&'a str> {
         self.items.filter(|path| *path != "-")
     }
+
+    /// The refusal of the set in this file.
+    fn refusal(&self, alloc: Global, file: &'a str, fault: SettingsFault) -> Refusal<'a> {
+        if self.may_cut {
+            Refusal::of_set_file(alloc, file, fault)
+        } else {
+            Refusal::of_file(alloc, file, fault)
+        }
+    }
+
+    /// The refusal of the file in which the set is kept.
+    fn kept_refusal(&self, alloc: Global, fault: SettingsFault) -> Refusal<'a> {
+        match self.keep {
+            Some(path) => self.refusal(alloc, path, fault),
+            None => Refusal::from(Fault::from(fault)),
+        }
+    }
 }
 
 /// The set of the items of the file, or of the input. Else 80, 81, then 82, and 90.
 fn item_set<'a, R: Files + AllocGlobal, I: Read + Drop>(
     rt: &R,
-    form: ItemForm,
+    sources: Sources<'a>,
     items: &'a str,
     reader: I,
     cap: usize,
@@ -109,12 +174,16 @@ fn item_set<'a, R: Files + AllocGlobal, I: Read + Drop>(
     ensures rises { IfOk result (λ v. IsSet v.items) }
     ensures few { IfOk result (λ v. length v.items ≤ cap) }
 {
-    if items != "-" {
-        return items_of(rt, form, items, cap);
+    let alloc = rt.alloc();
+    if items == "-" {
+        return match read_input_items(alloc, sources.form, reader, cap) {
+            Ok(items) => Ok(items),
+            Err(fault) => Err(Refusal::of_input(alloc, fault)),
+        };
     }
-    match read_input_items(rt.alloc(), form, reader, cap) {
+    match read_items(rt, sources.form, items, cap) {
         Ok(items) => Ok(items),
-        Err(fault) => Err(Refusal::of_input(rt.alloc(), fault)),
+        Err(fault) => Err(sources.refusal(alloc, items, fault)),
     }
 }
 
@@ -157,15 +226,7 @@ fn kept_set<'a>(
     };
     match reread(alloc, opened, sources.form, cap) {
         Ok(items) => Ok(items),
-        Err(fault) => Err(kept_refusal(alloc, sources.keep, fault)),
-    }
-}
-
-/// The refusal of the file in which the set is kept.
-fn kept_refusal<'a>(alloc: Global, keep: Option<&'a str>, fault: SettingsFault) -> Refusal<'a> {
-    match keep {
-        Some(path) => Refusal::of_file(alloc, path, fault),
-        None => Refusal::from(Fault::from(fault)),
+        Err(fault) => Err(sources.kept_refusal(alloc, fault)),
     }
 }
 
@@ -179,7 +240,8 @@ fn joined(items: Vec<Item>, more: &[Item], cap: usize) -> Result<Vec<Item>, Sett
     items.extend_from_slice(more)?;
     let items = spans::distinct(items);
     if items.len() > cap {
-        return Err(SettingsFault::TooManyItems { cap });
+        let count = items.len();
+        return Err(SettingsFault::TooManyItems { cap, count });
     }
     Ok(items)
 }
@@ -189,7 +251,7 @@ fn joined_set<'a>(
     alloc: Global,
     items: Vec<Item>,
     more: &[Item],
-    keep: Option<&'a str>,
+    sources: Sources<'a>,
     cap: usize,
 ) -> Result<Vec<Item>, Refusal<'a>>
     ensures rises { IfOk result (λ v. IsSet v.items) }
@@ -197,7 +259,7 @@ fn joined_set<'a>(
 {
     match joined(items, more, cap) {
         Ok(items) => Ok(items),
-        Err(fault) => Err(kept_refusal(alloc, keep, fault)),
+        Err(fault) => Err(sources.kept_refusal(alloc, fault)),
     }
 }
 
@@ -229,16 +291,16 @@ pub fn load<'a, R: Files<File = File> + AllocGlobal + Threads + Sync, I: Read + 
     ensures { IfOk result (λ o. o.log.cap ≡ o.accepted.table.cap) }
 {
     let alloc = rt.alloc();
-    let accepted = strategy_of(rt, sources.table)?;
+    let accepted = strategy_of(rt, sources.table, err)?;
     let cap = accepted.cap() as usize;
     let items = match sources.items {
-        Some(items) => item_set(rt, sources.form, items, reader, cap)?,
+        Some(items) => item_set(rt, sources, items, reader, cap)?,
         None => Vec::new(alloc),
     };
     let mut kept = open_kept(rt, sources, err)?;
     let items = {
         let more = kept_set(alloc, sources, &mut kept.opened, cap)?;
-        joined_set(alloc, items, &more, sources.keep, cap)?
+        joined_set(alloc, items, &more, sources, cap)?
     };
     let (store, bytes) = stored(rt, alloc, items)?;
     let log = Log::of_store(alloc, accepted.cap(), store, bytes)?;

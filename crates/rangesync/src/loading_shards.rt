@@ -197,9 +197,9 @@ pub fn load_shards<
     ensures cap { IfOk result (λ o. o.set.cap ≡ o.accepted.table.cap) }
 {
     let alloc = rt.alloc();
-    let accepted = strategy_of(rt, sources.table)?;
+    let accepted = strategy_of(rt, sources.table, err)?;
     let Sharding { bits, first, last } = sharding;
-    enough_places(&accepted, sources.table, bits)?;
+    enough_places(&accepted, sources.table.path, bits)?;
     let options = LoadOptions {
         form: sources.form,
         bits,

@@ -23,6 +23,7 @@ fn letter(form: ItemForm) -> u8 {
     match form {
         ItemForm::Hex => b'h',
         ItemForm::Text => b't',
+        ItemForm::Hash => b's',
     }
 }
 

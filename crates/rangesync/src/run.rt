@@ -118,7 +118,7 @@ where
 {
     let (reader, outputs) = ends;
     let serving = Serving::asked(words, target.set);
-    let sources = Sources::of_server(words);
+    let sources = Sources::of_server(words, target.explains);
     if words.stdio {
         let loaded = load(rt, sources, io::empty(), err)?;
         serve_stdio(rt, loaded, serving, (reader, outputs.out), err)
@@ -145,7 +145,7 @@ where
 {
     let (reader, out) = ends;
     let asking = Asking::asked(words, target.set, target.explains);
-    let sources = Sources::of_asker(words);
+    let sources = Sources::of_asker(words, target.explains);
     let differ = if words.stdio {
         let loaded = load(rt, sources, io::empty(), err)?;
         sync_stdio(rt, loaded, asking, (reader, out), err)?
@@ -181,7 +181,7 @@ where
     let (reader, outputs) = ends;
     match command {
         Command::Answer(words) => answer_for(rt, words, reader, outputs.out)?,
-        Command::Check(words) => check_table(rt, words, outputs.out)?,
+        Command::Check(words) => check_table(rt, words, target.explains, outputs.out, err)?,
         Command::Plan(words) => plan(rt, words, outputs.out)?,
         Command::Sim => sim(rt.alloc(), reader, outputs.out)?,
         Command::Serve(words) => serve_as_asked(rt, words, target, (reader, outputs), err)?,

@@ -250,7 +250,9 @@ impl<'a> Gathered<'a> {
             cost,
             again,
         } = came;
+        let mut received = 0;
         if let Some((stats, sent)) = cost {
+            received = stats.received.bytes;
             self.costs.add(stats, sent);
         }
         let fault = match found {
@@ -262,7 +264,10 @@ impl<'a> Gathered<'a> {
                 self.again.push(work)?;
                 Ok(())
             }
-            _ => self.leave(number, Refusal::of_session(asker.limits, fault)),
+            _ => self.leave(
+                number,
+                Refusal::of_session_after(asker.limits, received, fault),
+            ),
         }
     }
 

@@ -297,7 +297,10 @@ where
     }
     let text = match outcome_text(rt.alloc(), asking.listing, &outcome) {
         Ok(text) => text,
-        Err(fault) => return Err(Refusal::of_session(asking.limits, fault)),
+        Err(fault) => {
+            let received = stats.received.bytes;
+            return Err(Refusal::of_session_after(asking.limits, received, fault));
+        }
     };
     print_to(file, out, text.as_bytes())?;
     Ok(finds_any(&outcome))

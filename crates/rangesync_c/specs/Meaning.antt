@@ -84,6 +84,7 @@ no_session other = true
 abbrev pub form_number : ItemForm → ℕ
 form_number forms.Hex = 0
 form_number forms.Text = 1
+form_number forms.Hash = 2
 
 abbrev pub side_number : Side → ℕ
 side_number sides.Initiator = 0

@@ -5,7 +5,8 @@
 --     WordsAskFor words call   the words, of which the first is the program's own name, are well formed and ask for
 --                              this call
 --     profile_number p         how a wire profile is named
---     is_text form             whether the form of items is text
+--     is_text form, is_hash form    whether the form of items is text, or digests of lines
+--     HasForm rows form        the form of items that is asked for
 --     Finds P found            what was found has this property; or nothing was found, and nothing has it
 use Rattle.std.specs.Prelude.{◌≡◌, ℕ, codes, Bool, true, false, List, [], Option, Some, None, IsSomeAnd, ⊤}
 use Rattle.std.specs.Prelude.{option_map}
@@ -48,6 +49,17 @@ IsFlag id rows flag = (one_of id rows ≡ Some (codes "true") → flag ≡ true)
 abbrev pub is_text : ItemForm → Bool
 is_text forms.Hex = false
 is_text forms.Text = true
+is_text forms.Hash = false
+
+abbrev pub is_hash : ItemForm → Bool
+is_hash forms.Hex = false
+is_hash forms.Text = false
+is_hash forms.Hash = true
+
+-- hashed, where that is asked for, or else as text, or as hex
+abbrev pub HasForm : List Row → ItemForm → Type 0
+HasForm rows form = IsFlag (codes "hash") rows (is_hash form)
+    × (one_of (codes "hash") rows ≡ Some (codes "false") → IsFlag (codes "text") rows (is_text form))
 
 abbrev pub profile_number : WireProfile → ℕ
 profile_number profiles.One = 1
@@ -85,7 +97,7 @@ HasValues rows (Serve w) = IsText (codes "table") rows w.table.now × IsText (co
     × IsFlag (codes "durable") rows w.durable × IsNumber (codes "most-learned") rows w.most_learned
     × IsFlag (codes "read-only") rows w.read_only × IsNumber (codes "report-items") rows w.report_items
     × IsAnyText (codes "metrics") rows (option_map (λ text. text.now) w.metrics) × IsFlag (codes "log") rows w.log
-    × IsFlag (codes "text") rows (is_text w.form)
+    × HasForm rows w.form
     × IsAnyText (codes "ITEMS") rows (option_map (λ text. text.now) w.items)
 HasValues rows (Sync w) = IsText (codes "table") rows w.table.now × IsText (codes "addr") rows w.address.now
     × IsFlag (codes "stdio") rows w.stdio × IsAnyText (codes "set") rows (option_map (λ text. text.now) w.set)
@@ -96,7 +108,7 @@ HasValues rows (Sync w) = IsText (codes "table") rows w.table.now × IsText (cod
     × IsNumber (codes "patience") rows (Some w.patience) × IsNumber (codes "most-bytes") rows (Some w.most_bytes)
     × IsNumber (codes "retry") rows w.retry × IsFlag (codes "check") rows w.checks
     × IsFlag (codes "count") rows w.counts × IsFlag (codes "stats") rows w.stats
-    × IsFlag (codes "text") rows (is_text w.form)
+    × HasForm rows w.form
     × IsText (codes "ITEMS") rows w.items.now
 
 abbrev pub name_of : Command → Text
@@ -115,8 +127,8 @@ CallsFor name rows call = AsksFor name rows call.command × IsFlag (codes "why")
 
 -- ITEMS of `serve` may be left out: that they may not without a file to keep is said of the values
 abbrev pub WordsAskFor : List Text → Call → Type 0
-WordsAskFor words call = (fault_of (program false) words ≡ [])
-    × IsSomeAnd (subcommand_of (program false) words) (λ p. CallsFor p.0 p.1 call)
+WordsAskFor words call = (fault_of program words ≡ [])
+    × IsSomeAnd (subcommand_of program words) (λ p. CallsFor p.0 p.1 call)
 
 abbrev pub Finds : {X : Type 0} → (X → Type 0) → Option X → Type 0
 Finds P (Some x) = P x

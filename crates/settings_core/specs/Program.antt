@@ -1,6 +1,5 @@
 -- The words that the program knows, as `clap` sees them.
---     program must     its commands: answer, check, plan, sim, serve and sync; and whether the ITEMS of serve must be
---                      given
+--     program          its commands: answer, check, plan, sim, serve and sync
 --     IsWord r a       the argument is this one, for its own command alone
 --     IsCommand a c    the command is this one, with no argument for those below it
 use Rattle.std.specs.Prelude.{◌≡◌, ℕ, pos, codes, Bool, true, false, List, [], ◌∷◌, ◌++◌, Some}
@@ -63,6 +62,10 @@ stdio = flag (codes "stdio")
 abbrev pub text : Rule
 text = flag (codes "text")
 
+-- `--hash`
+abbrev pub hash : Rule
+hash = flag (codes "hash")
+
 -- `--why`
 abbrev pub why : Rule
 why = flag (codes "why")
@@ -116,30 +119,31 @@ plan = with_rules (new_app (codes "plan"))
 abbrev pub sim : App
 sim = with_rules (new_app (codes "sim")) (why ∷ [])
 
--- `serve` without its ITEMS
+-- `serve` without its ITEMS, which may be left out where a file keeps the set
 abbrev pub served : App
 served = with_rules (new_app (codes "serve"))
     (table ∷ address ∷ stdio ∷ set_name ∷ shard_bits ∷ only ∷ defaulting (number (codes "workers") 1 16) (codes "4")
     ∷ number (codes "sessions") 1 1000000 ∷ patience ∷ most_bytes ∷ number (codes "peers") 1 65535
     ∷ number (codes "peers-of-one") 1 65535 ∷ number (codes "session-seconds") 1 604800
-    ∷ number (codes "memory") 1 1048576 ∷ valued (codes "report") ∷ valued (codes "learned") ∷ valued (codes "keep") ∷ flag (codes "durable")
-    ∷ number (codes "most-learned") 1 4294967295 ∷ flag (codes "read-only")
-    ∷ number (codes "report-items") 0 4294967295 ∷ valued (codes "metrics") ∷ flag (codes "log") ∷ text ∷ why ∷ [])
+    ∷ number (codes "memory") 1 1048576 ∷ valued (codes "report") ∷ valued (codes "learned")
+    ∷ valued (codes "keep") ∷ flag (codes "durable") ∷ number (codes "most-learned") 1 4294967295 ∷ flag (codes "read-only")
+    ∷ number (codes "report-items") 0 4294967295 ∷ valued (codes "metrics") ∷ flag (codes "log")
+    ∷ text ∷ hash ∷ why ∷ [])
 
-abbrev pub serve : Bool → App
-serve must = with_rules served (items must ∷ [])
+abbrev pub serve : App
+serve = with_rules served (items false ∷ [])
 
 abbrev pub sync : App
 sync = with_rules (new_app (codes "sync"))
     (table ∷ address ∷ stdio ∷ set_name ∷ shard_bits ∷ only ∷ number (codes "at-once") 1 64 ∷ valued (codes "out")
     ∷ defaulting (number (codes "profile") 1 2) (codes "1") ∷ patience ∷ most_bytes
-    ∷ number (codes "retry") 0 1000 ∷ flag (codes "check") ∷ flag (codes "count") ∷ flag (codes "stats") ∷ text ∷ why
-    ∷ items true ∷ [])
+    ∷ number (codes "retry") 0 1000 ∷ flag (codes "check") ∷ flag (codes "count") ∷ flag (codes "stats")
+    ∷ text ∷ hash ∷ why ∷ items true ∷ [])
 
 -- the program itself, which has a version and asks for a command
 abbrev pub top : App
 top = on_top (λ s. record s { has_version = true; subcommand_required = true }) (new_app (codes "rangesync"))
 
-abbrev pub program : Bool → App
-program must = with_subcommand (with_subcommand (with_subcommand (with_subcommand (with_subcommand (with_subcommand top
-    answer.top) check.top) plan.top) sim.top) (serve must).top) sync.top
+abbrev pub program : App
+program = with_subcommand (with_subcommand (with_subcommand (with_subcommand (with_subcommand (with_subcommand top
+    answer.top) check.top) plan.top) sim.top) serve.top) sync.top

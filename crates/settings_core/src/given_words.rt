@@ -2,7 +2,8 @@
 
 ghost use Rattle.std.specs.Prelude.{◌≡◌, ◌≤◌, codes, option_map, IfSome, IsSomeAnd, Some};
 ghost use Rattle.clap.specs.Words.{first_of, found_of, rows_of, subcommand_rows_of};
-ghost use Rattle.settings_core.specs.Calls.{AsksFor, CallsFor, Finds, IsFlag, IsNumber, is_text, profile_number};
+ghost use Rattle.settings_core.specs.Calls.{AsksFor, CallsFor, Finds, HasForm, IsFlag, IsNumber, is_text};
+ghost use Rattle.settings_core.specs.Calls.{profile_number};
 ghost use Rattle.settings_core.specs.Spans.{IsLearnedCount, IsReportedCount, IsWithin, IsWorkerCount};
 
 use crate::commands::{AnswerWords, Call, CheckWords, Command, PlanWords, ServeWords, SyncWords};
@@ -96,6 +97,17 @@ fn form_in(matches: &ArgMatches<'_>) -> ItemForm
     }
 }
 
+/// The same, where lines may be hashed: `--hash` comes before `--text`.
+fn form_or_hash_in(matches: &ArgMatches<'_>) -> ItemForm
+    ensures { HasForm (rows_of (found_of matches.now)) result }
+{
+    if flag_in(matches, "hash") {
+        ItemForm::Hash
+    } else {
+        form_in(matches)
+    }
+}
+
 /// What the words of `answer` ask for.
 fn answer_in<'a>(matches: &ArgMatches<'a>) -> Option<Command<'a>>
     ensures { Finds (AsksFor (codes "answer") (rows_of (found_of matches.now))) result }
@@ -167,7 +179,7 @@ fn serve_in<'a>(matches: &ArgMatches<'a>) -> Option<Command<'a>>
         report_items: report_items_in(matches)?,
         metrics: text_in(matches, "metrics"),
         log: flag_in(matches, "log"),
-        form: form_in(matches),
+        form: form_or_hash_in(matches),
         items,
     }))
 }
@@ -192,7 +204,7 @@ fn sync_in<'a>(matches: &ArgMatches<'a>) -> Option<Command<'a>>
         checks: flag_in(matches, "check"),
         counts: flag_in(matches, "count"),
         stats: flag_in(matches, "stats"),
-        form: form_in(matches),
+        form: form_or_hash_in(matches),
         items: text_in(matches, "ITEMS")?,
     }))
 }

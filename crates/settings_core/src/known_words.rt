@@ -67,7 +67,8 @@ pub(crate) const MAX_AT_ONCE: u32 = 64;
 const FILE_HELP: &str = "A strategy in TOML, or the name of a shipped one";
 
 /// How help speaks of ITEMS.
-const ITEMS_HELP: &str = "A file of items, one a line in hex";
+const ITEMS_HELP: &str =
+    "A file of items, one a line: hex, or text with --text; - is standard input";
 
 /// The strategy, if none is given: a shipped one.
 const DEFAULT_TABLE: &str = "all-round";
@@ -82,6 +83,12 @@ const MOST_BYTES: &str = "33554432";
 const TEXT: Argument<'static> = Argument::Flag {
     name: "text",
     help: "Each line of ITEMS is an item as it stands, not hex",
+};
+
+/// Items that are the digests of lines.
+const HASH: Argument<'static> = Argument::Flag {
+    name: "hash",
+    help: "The SHA-256 digest of each line of ITEMS is an item, unless it begins with 0x",
 };
 
 /// More on a refusal.
@@ -267,7 +274,7 @@ fn sim_words<'a>(alloc: Global) -> Result<clap::Command<'a>, AllocError>
 }
 
 /// The arguments of `serve`, but for its ITEMS.
-const SERVE: [Argument<'static>; 25] = [
+const SERVE: [Argument<'static>; 26] = [
     TABLE,
     Argument::ValuedOr {
         name: "addr",
@@ -389,12 +396,13 @@ const SERVE: [Argument<'static>; 25] = [
         help: "Print a line for each session on standard error",
     },
     TEXT,
+    HASH,
     WHY,
 ];
 
-/// The words of `serve`, and whether its ITEMS must be given.
-fn serve_words<'a>(alloc: Global, must: bool) -> Result<clap::Command<'a>, AllocError>
-    ensures { IfOk result (IsCommand (program.serve must)) }
+/// The words of `serve`. Its ITEMS may be left out, where a file keeps the set.
+fn serve_words<'a>(alloc: Global) -> Result<clap::Command<'a>, AllocError>
+    ensures { IfOk result (IsCommand program.serve) }
 {
     let command = command_of(
         alloc,
@@ -404,14 +412,14 @@ fn serve_words<'a>(alloc: Global, must: bool) -> Result<clap::Command<'a>, Alloc
     )?;
     let items = [Argument::Placed {
         id: "ITEMS",
-        must,
+        must: false,
         help: ITEMS_HELP,
     }];
     with_arguments(alloc, command, &items)
 }
 
 /// The arguments of `sync`.
-const SYNC: [Argument<'static>; 18] = [
+const SYNC: [Argument<'static>; 19] = [
     TABLE,
     Argument::ValuedOr {
         name: "addr",
@@ -445,7 +453,7 @@ const SYNC: [Argument<'static>; 18] = [
         least: 1,
         most: 2,
         default: "1",
-        help: "The wire profile that is spoken, 1 or 2",
+        help: "1: the fewest bytes; 2: counts the items too, so a difference hides only between ranges of equally many",
     },
     Argument::NumberOr {
         name: "patience",
@@ -483,6 +491,7 @@ const SYNC: [Argument<'static>; 18] = [
         help: "Print counts and seconds on standard error",
     },
     TEXT,
+    HASH,
     WHY,
     ITEMS,
 ];
@@ -523,14 +532,14 @@ fn with_command<'a>(
     }
 }
 
-/// All words of the program, and whether the ITEMS of `serve` must be given.
-pub(crate) fn program_words<'a>(alloc: Global, must: bool) -> Result<clap::Command<'a>, AllocError>
-    ensures { IfOk result (IsCommand (program.program must)) }
+/// All words of the program.
+pub(crate) fn program_words<'a>(alloc: Global) -> Result<clap::Command<'a>, AllocError>
+    ensures { IfOk result (IsCommand program.program) }
 {
     let words = with_command(top_words(alloc), answer_words(alloc))?;
     let words = with_command(words, check_words(alloc))?;
     let words = with_command(words, plan_words(alloc))?;
     let words = with_command(words, sim_words(alloc))?;
-    let words = with_command(words, serve_words(alloc, must))?;
+    let words = with_command(words, serve_words(alloc))?;
     with_command(words, sync_words(alloc))
 }

@@ -54,15 +54,11 @@ fn words_fault(alloc: Global, error: &clap::Error) -> WordsFault
     }
 }
 
-/// What words are told that ask for nothing: what `clap` answers where the ITEMS of `serve` must be given.
-fn items_fault<W: AsStr>(alloc: Global, words: &[W]) -> Result<WordsFault, AllocError> {
-    match program_words(alloc, true)?.try_get_matches_from(words) {
-        Err(error) => Ok(words_fault(alloc, &error)),
-        // `clap` accepts no such words; that it does not is not proved.
-        Ok(_) => Ok(WordsFault::Usage(format!(in alloc;
-            "error: the words ask for nothing that is done\n"
-        )?)),
-    }
+/// What words are told that `clap` takes and that ask for nothing: those of a `serve` without a set.
+fn items_fault(alloc: Global) -> Result<WordsFault, AllocError> {
+    Ok(WordsFault::Usage(format!(in alloc;
+        "error: give ITEMS or --keep FILE\n\nFor more information, try 'rangesync serve --help'.\n"
+    )?))
 }
 
 /// What the words ask for. The first is the program's own name. Numbers out of their span ask for nothing, and neither
@@ -73,11 +69,11 @@ pub fn read_words<'a, W: AsStr>(alloc: Global, words: &'a [W]) -> Result<Call<'a
         (call : Call) → WordsAskFor (map W.text words.entry.now) call → ⊥) }
     ensures span { IfOk result (λ call. AreInSpan call.command) }
 {
-    match program_words(alloc, false)?.try_get_matches_from(words) {
+    match program_words(alloc)?.try_get_matches_from(words) {
         Err(error) => Err(words_fault(alloc, &error)),
         Ok(matches) => match call_in(&matches) {
             Some(call) => Ok(call),
-            None => Err(items_fault(alloc, words)?),
+            None => Err(items_fault(alloc)?),
         },
     }
 }

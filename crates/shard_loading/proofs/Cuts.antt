@@ -96,6 +96,7 @@ mark_cut (a ∷ b ∷ c ∷ p) q = refl
 feed_first : (form : ItemForm) (q : List ℕ) → file_items form (10 ∷ q) ≡ items_from form 2 (lines q)
 feed_first forms.Hex q = before_none (items_from forms.Hex 2 (lines q))
 feed_first forms.Text q = before_none (items_from forms.Text 2 (lines q))
+feed_first forms.Hash q = before_none (items_from forms.Hash 2 (lines q))
 
 file_as : (form : ItemForm) (p : List ℕ) (c : Bool) → has_byte_order_mark p ≡ c →
     file_items form p

@@ -20,6 +20,5 @@ returns c =
     let two = c.in_ok-words-2.ensures with_answer check one c.check_words.ensures in
     let three = c.in_ok-words-3.ensures with_check plan two c.plan_words.ensures in
     let four = c.in_ok-words-4.ensures with_plan sim three c.sim_words.ensures in
-    let serve_app = serve c.args.must in
-    let five = c.in_ok-words-5.ensures with_sim serve_app four c.serve_words.ensures in
-    c.with_command-6.ensures (with_subcommand with_sim serve_app.top) sync five c.sync_words.ensures
+    let five = c.in_ok-words-5.ensures with_sim serve four c.serve_words.ensures in
+    c.with_command-6.ensures (with_subcommand with_sim serve.top) sync five c.sync_words.ensures

@@ -6,11 +6,11 @@ use Rattle.settings_core.specs.Calls.{CallsFor}
 use Rattle.settings_core.specs.Program.{program}
 use Rattle.settings_core.proofs.words.read_words.Goals as goal
 
-simple : is_simple (program false) ≡ true
+simple : is_simple program ≡ true
 unfolding clap_on_literals
 simple = refl
 
-free : is_simple_and_free (program false) ≡ true
+free : is_simple_and_free program ≡ true
 unfolding clap_on_literals
 free = refl
 

@@ -11,3 +11,15 @@ returns-in-FullShard-clause-writes g c = rw c.in-FullShard.is c.write-in-FullSha
 
 pub returns-in-FewPlaces-clause-writes : goal.returns-in-FewPlaces-clause-writes
 returns-in-FewPlaces-clause-writes g c = rw c.in-FewPlaces.is c.write-in-FewPlaces.ensures.writes
+
+pub returns-in-NotHex-clause-writes : goal.returns-in-NotHex-clause-writes
+returns-in-NotHex-clause-writes g c = rw c.in-NotHex.is c.write-in-NotHex.ensures.writes
+
+pub returns-in-OddDigits-clause-writes : goal.returns-in-OddDigits-clause-writes
+returns-in-OddDigits-clause-writes g c = rw c.in-OddDigits.is c.write-in-OddDigits.ensures.writes
+
+pub returns-in-BadLine-clause-writes : goal.returns-in-BadLine-clause-writes
+returns-in-BadLine-clause-writes g c = rw c.in-BadLine.is c.write-in-BadLine.ensures.writes
+
+pub returns-in-FullSet-clause-writes : goal.returns-in-FullSet-clause-writes
+returns-in-FullSet-clause-writes g c = rw c.in-FullSet.is c.write-in-FullSet.ensures.writes
