@@ -6,7 +6,7 @@ ghost use Rattle.cost_core.specs.Samples.{IsSample};
 ghost use Rattle.settings_core.specs.Spans.{IsPlannedCount, IsItemCount, IsItemLength, IsRate};
 
 use crate::checking::length_of;
-use crate::loading::strategy_of;
+use crate::loading::{TableSource, strategy_of};
 use cost_core::{Line, Planned, Sample, Task, planned_for, quickest, searched, shipped_text};
 use io_core::{Watched, read_input, write_output};
 use printing_core::{Fault, Refusal, push_plan, push_shards};
@@ -121,41 +121,48 @@ fn named(alloc: Global, task: Task, name: &str, text: &[u8]) -> Result<Planned, 
     }
 }
 
-/// The strategy that is named; or the quickest of those that are shipped.
-///
-/// Else as `check` refuses the one that is named, and 82 where a set has more items than it may hold; 90.
-fn start_of<'a, R: Files + AllocGlobal>(
+/// The text of the strategy that is named, if one is, which is accepted. Else as `check` refuses it.
+fn table_of<'a, R: Files + AllocGlobal, E: Write>(
     rt: &R,
-    task: Task,
     table: Option<&'a str>,
-) -> Result<Planned, Refusal<'a>>
+    explains: bool,
+    err: &mut E,
+) -> Result<Option<Vec<u8>>, Refusal<'a>> {
+    let Some(path) = table else {
+        return Ok(None);
+    };
+    let _accepted = strategy_of(rt, TableSource { path, explains }, err)?;
+    Ok(Some(text_of(rt, path)?))
+}
+
+/// The strategy of this name and text, if one is given; or the quickest of those that are shipped. Else 82 where a set
+/// has more items than it may hold, or 90.
+fn start_of(alloc: Global, task: Task, name: &str, text: Option<&[u8]>) -> Result<Planned, Fault>
     requires sample { IsSample task.sample }
     requires rate { 1 ≤ task.line.rate }
     ensures { IfOk result (IsPlanned task.sample) }
 {
-    let alloc = rt.alloc();
-    if let Some(path) = table {
-        let _accepted = strategy_of(rt, path)?;
-        let text = text_of(rt, path)?;
-        return Ok(named(alloc, task, path, &text)?);
+    if let Some(text) = text {
+        return named(alloc, task, name, text);
     }
     match quickest(alloc, task)? {
         Some(start) => Ok(start),
-        None => Err(Refusal::from(Fault::TooManyItems)),
+        None => Err(Fault::TooManyItems),
     }
 }
 
 /// The same, or what a search that starts with it has found.
-fn planned<'a, R: Files + Clock + AllocGlobal>(
+fn planned<R: Clock + AllocGlobal>(
     rt: &R,
     task: Task,
-    words: PlanWords<'a>,
-) -> Result<Planned, Refusal<'a>>
+    words: PlanWords<'_>,
+    text: Option<&[u8]>,
+) -> Result<Planned, Fault>
     requires sample { IsSample task.sample }
     requires rate { 1 ≤ task.line.rate }
     ensures { IfOk result (IsPlanned task.sample) }
 {
-    let start = start_of(rt, task, words.table)?;
+    let start = start_of(rt.alloc(), task, words.table.unwrap_or_default(), text)?;
     let Some(seconds) = words.search else {
         return Ok(start);
     };
@@ -163,17 +170,18 @@ fn planned<'a, R: Files + Clock + AllocGlobal>(
 }
 
 /// The strategy that is planned as a text that `check` accepts, with its name and its cost in comments above it; and
-/// above these how the set is cut, if it is.
-fn plan_text<'a, R: Files + Clock + AllocGlobal>(
+/// above these how the set is cut, if it is. It starts with the strategy of this text, if one is given.
+fn plan_text<R: Clock + AllocGlobal>(
     rt: &R,
-    words: PlanWords<'a>,
-) -> Result<String, Refusal<'a>>
+    words: PlanWords<'_>,
+    table: Option<&[u8]>,
+) -> Result<String, Fault>
     requires items { IfSome words.items IsPlannedCount }
     requires item_length { IfSome words.item_length IsItemLength }
     requires rate { IfSome words.rate IsRate }
 {
     let cut = cut_of(words.items, words.differences);
-    let planned = planned(rt, task_of(words, cut), words)?;
+    let planned = planned(rt, task_of(words, cut), words, table)?;
     let millis = planned.micros.saturating_add(500) / 1_000;
     let mut text = String::new(rt.alloc());
     if cut.bits > 0 {
@@ -190,17 +198,21 @@ fn plan_text<'a, R: Files + Clock + AllocGlobal>(
     Ok(text)
 }
 
-/// Prints the strategy that is named or the quickest of those that are shipped, or what a search has found.
-pub(crate) fn plan<'a, R: Files + Clock + AllocGlobal, O: Write + Drop>(
+/// Prints the strategy that is named or the quickest of those that are shipped, or what a search has found. Standard
+/// error is told of a key that says nothing, if it is told more.
+pub(crate) fn plan<'a, R: Files + Clock + AllocGlobal, O: Write + Drop, E: Write>(
     rt: &R,
     words: PlanWords<'a>,
+    explains: bool,
     out: O,
+    err: &mut E,
 ) -> Result<(), Refusal<'a>>
     requires items { IfSome words.items IsPlannedCount }
     requires item_length { IfSome words.item_length IsItemLength }
     requires rate { IfSome words.rate IsRate }
 {
-    let text = plan_text(rt, words)?;
+    let table = table_of(rt, words.table, explains, err)?;
+    let text = plan_text(rt, words, table.as_deref())?;
     write_output(&mut Watched::new(out), text.as_bytes())?;
     Ok(())
 }

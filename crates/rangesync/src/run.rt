@@ -182,7 +182,7 @@ where
     match command {
         Command::Answer(words) => answer_for(rt, words, reader, outputs.out)?,
         Command::Check(words) => check_table(rt, words, target.explains, outputs.out, err)?,
-        Command::Plan(words) => plan(rt, words, outputs.out)?,
+        Command::Plan(words) => plan(rt, words, target.explains, outputs.out, err)?,
         Command::Sim => sim(rt.alloc(), reader, outputs.out)?,
         Command::Serve(words) => serve_as_asked(rt, words, target, (reader, outputs), err)?,
         Command::Sync(words) => {
