@@ -13,7 +13,7 @@ mod tables;
 
 pub use costing::{Cost, cost_between, cost_of, trees_of};
 pub use line::{Line, session_micros};
-pub use planning::{Planned, Task, quickest};
+pub use planning::{Planned, Task, planned_for, quickest};
 pub use sample::{Sample, sets_of};
 pub use searching::searched;
 pub use tables::{SHIPPED_NAMES, shipped_text};

@@ -118,3 +118,19 @@ pub fn quickest(alloc: Global, task: Task) -> Result<Option<Planned>, AllocError
     }
     Ok(best)
 }
+
+/// The strategy of this text, under this name, and what a session under it costs; `None` where it is not accepted, or its
+/// cap is below the items of a set.
+pub fn planned_for(
+    alloc: Global,
+    task: Task,
+    name: &str,
+    text: &str,
+) -> Result<Option<Planned>, AllocError>
+    requires sample { IsSample task.sample }
+    requires rate { 1 ≤ task.line.rate }
+    ensures { IfOk result (λ found. IfSome found (IsPlanned task.sample)) }
+{
+    let (theirs, ours) = trees_of(alloc, task.sample)?;
+    planned_of(alloc, task, name, text, &theirs, &ours)
+}

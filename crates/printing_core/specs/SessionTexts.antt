@@ -1,10 +1,12 @@
 -- What `serve` and `sync` print on standard output.
 --     listening_line address     the first line of `serve`
 --     served_text t n            its lines at the end: the totals, and the number of items
---     synced_text f v k a        the lines of a session that ended: its version, the messages sent, and what was
---                                learned, items in the form f
---     IsSyncOf f o result        what `sync` prints of a session, or the fault that it ends with
-use Rattle.std.specs.Prelude.{ℕ, ◌≡◌, List, ◌∷◌, ◌++◌, String, codes, flat_map, Result, Ok, Err, string_bytes}
+--     synced_text l v k a        the lines of a session that ended: its version, the messages sent, and what was
+--                                learned, listed as l says
+--     IsSyncOf l o result        what `sync` prints of a session, or the fault that it ends with
+--     finds_any o                whether a session came to its end and found an item that one side lacks
+use Rattle.std.specs.Prelude.{ℕ, ◌≡◌, List, ◌∷◌, ◌++◌, length, nat_lt, Bool, false, ◌||◌, String, codes, flat_map}
+use Rattle.std.specs.Prelude.{Result, Ok, Err, string_bytes}
 use Rattle.std.specs.declared.alloc.Global.{Global}
 use Rattle.std.specs.Fmt.{decimal}
 use Rattle.definitions.specs.Items.{Item}
@@ -17,6 +19,8 @@ use Rattle.outcome_core.specs.declared.outcome.Outcome.{Outcome}
 use Rattle.outcome_core.specs.declared.outcome.Outcome.TheVariants as outcomes
 use Rattle.item_files.specs.declared.form.ItemForm.{ItemForm}
 use Rattle.printing_core.specs.ItemTexts.{item_line}
+use Rattle.printing_core.specs.declared.session_texts.Listing.{Listing}
+use Rattle.printing_core.specs.declared.session_texts.Listing.TheVariants as listings
 use Rattle.printing_core.specs.declared.fault.Fault.{Fault}
 use Rattle.printing_core.specs.declared.fault.Fault.TheVariants.{Session, PeerRefused, ReaderFailed, WriterFailed}
 use Rattle.printing_core.specs.declared.fault.Fault.TheVariants.{Memory}
@@ -44,18 +48,30 @@ abbrev pub learned_text : ItemForm → Knowledge → List ℕ
 learned_text form k = flat_map (named_line form (codes "ours")) (set_of k.ours)
     ++ flat_map (named_line form (codes "theirs")) (set_of k.theirs)
 
-abbrev pub synced_text : ItemForm → ℕ → ℕ → Knowledge → List ℕ
-synced_text form version sent k = counts_text version sent ++ learned_text form k
+abbrev pub number_lines : ℕ → ℕ → List ℕ
+number_lines ours theirs = codes "ours " ++ (decimal ours ++ (codes "\ntheirs " ++ (decimal theirs ++ codes "\n")))
+
+-- the items, or how many they are, each counted once
+abbrev pub listed_text : Listing → Knowledge → List ℕ
+listed_text (listings.Items form) k = learned_text form k
+listed_text listings.Counts k = number_lines (length (set_of k.ours)) (length (set_of k.theirs))
+
+abbrev pub synced_text : Listing → ℕ → ℕ → Knowledge → List ℕ
+synced_text listing version sent k = counts_text version sent ++ listed_text listing k
 
 abbrev pub of_direction : Direction → Fault
 of_direction directions.Read = ReaderFailed
 of_direction directions.Write = WriterFailed
 
-abbrev pub IsSyncOf : ItemForm → Outcome → Result (String Global) Fault → Type 0
-IsSyncOf form (outcomes.Ended learned sent version) (Ok text) =
-    string_bytes text ≡ synced_text form version sent learned
-IsSyncOf form (outcomes.Ended learned sent version) (Err f) = f ≡ Memory
-IsSyncOf form (outcomes.Refused code sent) result = result ≡ Err (Session code)
-IsSyncOf form (outcomes.PeerRefused code sent) result = result ≡ Err (PeerRefused code)
-IsSyncOf form (outcomes.Io side sent) result = result ≡ Err (of_direction side)
-IsSyncOf form (outcomes.Memory sent) result = result ≡ Err Memory
+abbrev pub IsSyncOf : Listing → Outcome → Result (String Global) Fault → Type 0
+IsSyncOf listing (outcomes.Ended learned sent version) (Ok text) =
+    string_bytes text ≡ synced_text listing version sent learned
+IsSyncOf listing (outcomes.Ended learned sent version) (Err f) = f ≡ Memory
+IsSyncOf listing (outcomes.Refused code sent) result = result ≡ Err (Session code)
+IsSyncOf listing (outcomes.PeerRefused code sent) result = result ≡ Err (PeerRefused code)
+IsSyncOf listing (outcomes.Io side sent) result = result ≡ Err (of_direction side)
+IsSyncOf listing (outcomes.Memory sent) result = result ≡ Err Memory
+
+abbrev pub finds_any : Outcome → Bool
+finds_any (outcomes.Ended learned sent version) = nat_lt 0 (length learned.ours) || nat_lt 0 (length learned.theirs)
+finds_any outcome = false

@@ -2,17 +2,20 @@
 --     shards_flaw_text f             what is wrong with the servers of the shards
 --     full_shard_text file s cap     a shard of a file has more items than the cap
 --     few_places_text file n         a strategy has a cap below the n shards
---     merged_text form c ours theirs     what `sync` prints of all shards, the items in this form and order
+--     merged_text l c ours theirs    what `sync` prints of all shards, the items listed as l says, in this order
 --     undone_text ns f               which shards were not done, and why the first of these was not
 --     progress_text done of items    how far a call is, over what stood on the line
 --     progress_end                   nothing on the line
-use Rattle.std.specs.Prelude.{ℕ, List, [], ◌∷◌, ◌++◌, codes, flat_map}
+--     again_text seconds             a session is tried again
+use Rattle.std.specs.Prelude.{ℕ, List, [], ◌∷◌, ◌++◌, length, codes, flat_map}
 use Rattle.std.specs.Fmt.{decimal}
 use Rattle.definitions.specs.Items.{Item}
 use Rattle.item_files.specs.declared.form.ItemForm.{ItemForm}
 use Rattle.printing_core.specs.Lines.{fault_line, spaced}
-use Rattle.printing_core.specs.SessionTexts.{named_line}
+use Rattle.printing_core.specs.SessionTexts.{named_line, number_lines}
 use Rattle.printing_core.specs.declared.fault.Fault.{Fault}
+use Rattle.printing_core.specs.declared.session_texts.Listing.{Listing}
+use Rattle.printing_core.specs.declared.session_texts.Listing.TheVariants as listings
 use Rattle.printing_core.specs.declared.shard_flaws.ShardsFlaw.{ShardsFlaw}
 use Rattle.printing_core.specs.declared.shard_flaws.ShardsFlaw.TheVariants.{NoServer, TwoServers, BadEntry}
 use Rattle.printing_core.specs.declared.shard_texts.MergedCounts.{MergedCounts}
@@ -41,8 +44,12 @@ abbrev pub both_lines : ItemForm → List Item → List Item → List ℕ
 both_lines form ours theirs = flat_map (named_line form (codes "ours")) ours
     ++ flat_map (named_line form (codes "theirs")) theirs
 
-abbrev pub merged_text : ItemForm → MergedCounts → List Item → List Item → List ℕ
-merged_text form c ours theirs = merged_head c ++ both_lines form ours theirs
+abbrev pub listed_items : Listing → List Item → List Item → List ℕ
+listed_items (listings.Items form) ours theirs = both_lines form ours theirs
+listed_items listings.Counts ours theirs = number_lines (length ours) (length theirs)
+
+abbrev pub merged_text : Listing → MergedCounts → List Item → List Item → List ℕ
+merged_text listing c ours theirs = merged_head c ++ listed_items listing ours theirs
 
 -- ---- shards that were not done
 
@@ -63,3 +70,6 @@ progress_text done of items = 13 ∷ (codes "shards " ++ (decimal done ++ (codes
 
 abbrev pub progress_end : List ℕ
 progress_end = 13 ∷ 27 ∷ codes "[K"
+
+abbrev pub again_text : ℕ → List ℕ
+again_text seconds = codes "trying again in " ++ (decimal seconds ++ codes " s\n")

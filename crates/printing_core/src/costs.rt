@@ -1,7 +1,7 @@
 //! What sessions cost, as it is printed.
 
 ghost use Rattle.std.specs.Prelude.{◌≡◌, ◌++◌, OnOk, string_bytes};
-ghost use Rattle.printing_core.specs.CostLines.{cost_line, plan_lines, sample_line};
+ghost use Rattle.printing_core.specs.CostLines.{cost_line, plan_lines, sample_line, shards_line};
 
 use crate::stats::Seconds;
 use std::alloc::AllocError;
@@ -45,5 +45,21 @@ pub fn push_plan(
     write!(
         text,
         "# {name}\n# {bytes} bytes in {messages} messages, {seconds} seconds\n"
+    )
+}
+
+/// Appends the line above these, where the set is to be cut into shards, by so many bits: how many items and differences
+/// one of them has, for which the strategy is planned.
+pub fn push_shards(
+    text: &mut String,
+    bits: u8,
+    items: u32,
+    differences: u32,
+) -> Result<(), AllocError>
+    ensures { OnOk result (string_bytes text.new ≡ string_bytes text.old ++ shards_line bits items differences) }
+{
+    write!(
+        text,
+        "# --shards {bits} on both sides; of a shard with {items} items and {differences} differences:\n"
     )
 }

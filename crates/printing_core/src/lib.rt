@@ -27,8 +27,8 @@ mod warning;
 mod why;
 
 pub use accepted::accepted_text;
-pub use costs::{push_cost, push_plan, push_sample};
-pub use ending::refusal_of;
+pub use costs::{push_cost, push_plan, push_sample, push_shards};
+pub use ending::{difference_status, refusal_of};
 pub use fault::Fault;
 pub use flaws::{InputFlaw, ServerFlaw, Unread};
 pub use hexed::{decode_text, encode_lines};
@@ -37,10 +37,10 @@ pub use printed::{
     tell, tell_address, tell_dropped, tell_no_text, tell_shard_flaw, tell_stats, tell_unwritten,
     tell_words,
 };
-pub use progress::{end_progress, tell_progress};
+pub use progress::{end_progress, tell_again, tell_progress};
 pub use refusal::Refusal;
 pub use reports::{Reporting, learned_line, left_out_line, report_text};
-pub use session_texts::{listening_line, outcome_text, served_text};
+pub use session_texts::{Listing, finds_any, listening_line, outcome_text, served_text};
 pub use shard_flaws::ShardsFlaw;
 pub use shard_reports::shard_report_text;
 pub use shard_texts::{MergedCounts, merged_text, tell_undone, undone_text};

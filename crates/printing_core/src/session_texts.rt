@@ -1,9 +1,9 @@
 //! What is printed of sessions over the network.
 
-ghost use Rattle.std.specs.Prelude.{◌≡◌, ◌++◌, IfOk, OnOk, flat_map, string_bytes};
+ghost use Rattle.std.specs.Prelude.{◌≡◌, ◌++◌, IfOk, OnOk, length, flat_map, string_bytes};
 ghost use Rattle.definitions.specs.Sets.{set_of};
 ghost use Rattle.printing_core.specs.SessionTexts.{listening_line, served_text, named_line, counts_text, learned_text};
-ghost use Rattle.printing_core.specs.SessionTexts.{IsSyncOf};
+ghost use Rattle.printing_core.specs.SessionTexts.{number_lines, listed_text, finds_any, IsSyncOf};
 
 use crate::fault::Fault;
 use crate::item_text::push_item;
@@ -16,6 +16,15 @@ use session_table::Totals;
 use std::alloc::{AllocError, Global};
 use store_core::PackedItems;
 use store_core::spans::distinct;
+
+/// How what a session learned is printed.
+#[derive(Clone, Copy, Debug, PartialEq, Eq)]
+pub enum Listing {
+    /// A line for each item, in this form.
+    Items(ItemForm),
+    /// How many items each side lacks, in two lines.
+    Counts,
+}
 
 /// The line that says that this address is listened at.
 pub fn listening_line(alloc: Global, address: &str) -> Result<String, AllocError>
@@ -108,6 +117,38 @@ pub(crate) fn push_learned(
     push_lines(alloc, text, name, &theirs)
 }
 
+/// Appends how many own items the peer lacks, and how many of the peer are lacked here, as two lines.
+pub(crate) fn push_numbers(text: &mut String, ours: usize, theirs: usize) -> Result<(), AllocError>
+    ensures { OnOk result (string_bytes text.new ≡ string_bytes text.old ++ number_lines ours theirs) }
+{
+    write!(text, "ours {ours}\ntheirs {theirs}\n")
+}
+
+/// Appends the numbers of what was learned, each item once.
+fn push_counted(alloc: Global, text: &mut String, learned: &Learned) -> Result<(), AllocError>
+    ensures { OnOk result (string_bytes text.new ≡ string_bytes text.old
+        ++ number_lines (length (set_of learned.now.ours)) (length (set_of learned.now.theirs))) }
+{
+    let only_ours = rising(alloc, learned.ours())?;
+    let only_theirs = rising(alloc, learned.theirs())?;
+    push_numbers(text, only_ours.len(), only_theirs.len())
+}
+
+/// Appends what was learned: the items, or their numbers.
+fn push_listed(
+    alloc: Global,
+    text: &mut String,
+    listing: Listing,
+    learned: &Learned,
+) -> Result<(), AllocError>
+    ensures { OnOk result (string_bytes text.new ≡ string_bytes text.old ++ listed_text listing learned.now) }
+{
+    match listing {
+        Listing::Items(form) => push_learned(alloc, text, form, learned),
+        Listing::Counts => push_counted(alloc, text, learned),
+    }
+}
+
 /// The version, and the messages sent, as two lines.
 fn counts_text(alloc: Global, version: usize, sent: u32) -> Result<String, AllocError>
     ensures { IfOk result (λ text. string_bytes text ≡ counts_text version sent) }
@@ -115,9 +156,9 @@ fn counts_text(alloc: Global, version: usize, sent: u32) -> Result<String, Alloc
     format!(in alloc; "version {version}\nsent {sent}\n")
 }
 
-/// The lines of a session that ended, its items in this form; else why it did not.
-pub fn outcome_text(alloc: Global, form: ItemForm, outcome: &Outcome) -> Result<String, Fault>
-    ensures { IsSyncOf form outcome.now result }
+/// The lines of a session that ended, its items as they are asked for; else why it did not.
+pub fn outcome_text(alloc: Global, listing: Listing, outcome: &Outcome) -> Result<String, Fault>
+    ensures { IsSyncOf listing outcome.now result }
 {
     match outcome {
         Outcome::Ended {
@@ -126,12 +167,22 @@ pub fn outcome_text(alloc: Global, form: ItemForm, outcome: &Outcome) -> Result<
             version,
         } => {
             let mut text = counts_text(alloc, *version, *sent)?;
-            push_learned(alloc, &mut text, form, learned)?;
+            push_listed(alloc, &mut text, listing, learned)?;
             Ok(text)
         }
         Outcome::Refused { code, .. } => Err(Fault::Session { code: *code }),
         Outcome::PeerRefused { code, .. } => Err(Fault::PeerRefused { code: *code }),
         Outcome::Io { side, .. } => Err(of_direction(*side)),
         Outcome::Memory { .. } => Err(Fault::Memory),
+    }
+}
+
+/// Whether a session came to its end and found an item that one side lacks.
+pub fn finds_any(outcome: &Outcome) -> bool
+    ensures { result ≡ finds_any outcome.now }
+{
+    match outcome {
+        Outcome::Ended { learned, .. } => learned.ours().len() > 0 || learned.theirs().len() > 0,
+        _ => false,
     }
 }

@@ -2,10 +2,11 @@
 
 ghost use Rattle.std.specs.Prelude.{◌≡◌, ◌++◌, IfOk, OnOk, flat_map, string_bytes};
 ghost use Rattle.printing_core.specs.Lines.{spaced};
-ghost use Rattle.printing_core.specs.ShardTexts.{merged_head, both_lines, merged_text, first_text, undone_text};
+ghost use Rattle.printing_core.specs.ShardTexts.{merged_head, both_lines, listed_items, merged_text};
+ghost use Rattle.printing_core.specs.ShardTexts.{first_text, undone_text};
 
 use crate::fault::Fault;
-use crate::session_texts::{Naming, push_lines};
+use crate::session_texts::{Listing, Naming, push_lines, push_numbers as push_counts};
 use item_core::Item;
 use item_files::ItemForm;
 use std::alloc::{AllocError, Global};
@@ -53,18 +54,35 @@ fn push_both(
     push_lines(alloc, text, name, theirs)
 }
 
-/// The lines of all shards: the counts, and both differences in this form, in the order given.
+/// Appends both differences as they are asked for: the items in the order given, or their numbers.
+fn push_items(
+    alloc: Global,
+    text: &mut String,
+    listing: Listing,
+    ours: &[Item],
+    theirs: &[Item],
+) -> Result<(), AllocError>
+    ensures { OnOk result (string_bytes text.new ≡ string_bytes text.old
+        ++ listed_items listing ours.now theirs.now) }
+{
+    match listing {
+        Listing::Items(form) => push_both(alloc, text, form, ours, theirs),
+        Listing::Counts => push_counts(text, ours.len(), theirs.len()),
+    }
+}
+
+/// The lines of all shards: the counts, and both differences as they are asked for, in the order given.
 pub fn merged_text(
     alloc: Global,
-    form: ItemForm,
+    listing: Listing,
     counts: MergedCounts,
     ours: &[Item],
     theirs: &[Item],
 ) -> Result<String, AllocError>
-    ensures { IfOk result (λ text. string_bytes text ≡ merged_text form counts ours.now theirs.now) }
+    ensures { IfOk result (λ text. string_bytes text ≡ merged_text listing counts ours.now theirs.now) }
 {
     let mut text = merged_head(alloc, counts)?;
-    push_both(alloc, &mut text, form, ours, theirs)?;
+    push_items(alloc, &mut text, listing, ours, theirs)?;
     Ok(text)
 }
 

@@ -4,7 +4,7 @@ ghost use Rattle.std.specs.Prelude.{◌≤◌, IfSome};
 ghost use Rattle.std.specs.Arc.{arc_value};
 ghost use Rattle.settings_core.specs.Spans.{IsItemLength};
 
-use crate::loading::{TableSource, strategy_of};
+use crate::loading::{TableSource, told_strategy};
 use cost_core::{Sample, cost_of};
 use io_core::{Watched, write_output};
 use printing_core::{Fault, Refusal, accepted_text, push_cost, push_sample};
@@ -101,7 +101,7 @@ pub(crate) fn check_table<'a, R: Files + AllocGlobal, O: Write + Drop, E: Write>
     requires { IfSome words.item_length IsItemLength }
 {
     let path = words.file;
-    let accepted = strategy_of(rt, TableSource { path, explains }, err)?;
+    let accepted = told_strategy(rt, TableSource { path, explains }, err)?;
     let text = table_text(rt.alloc(), accepted, words)?;
     write_output(&mut Watched::new(out), text.as_bytes())?;
     Ok(())

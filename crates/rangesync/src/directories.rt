@@ -13,6 +13,7 @@ ghost use Rattle.version_log.specs.Logs.{IsCap};
 use crate::costs::Costs;
 use crate::reaching::connect_to;
 use crate::sync::{Talk, converse};
+use crate::trying::Tries;
 use ends_core::Learned;
 use item_core::Item;
 use item_files::WireProfile;
@@ -22,6 +23,7 @@ use shard_core::{
     Asked, ChoiceFault, DirectoryFault, SetName, Unequal, Which, asked_of, differing,
 };
 use std::alloc::Global;
+use std::io::Write;
 use std::net::{Net, TcpStream};
 use std::rt::Files;
 use std::sync::{Arc, Wait};
@@ -143,6 +145,31 @@ where
     told_of(alloc, asker, stats.received.bytes, &outcome)
 }
 
+/// The same, and again as often as is still asked for, so long as the session does not come to its end and may do so.
+fn ask_directory_again<'a, R, E: Write>(
+    rt: &R,
+    own: Own<'_>,
+    asker: Asker<'a>,
+    address: &'a str,
+    costs: &mut Costs,
+    (tries, err): (&mut Tries, &mut E),
+) -> Result<Vec<Unequal>, Refusal<'a>>
+where
+    R: Files + Net<Stream = TcpStream> + Wait + Clock + AllocGlobal,
+{
+    for _try in 0..tries.left() {
+        let told = ask_directory(rt, own, asker, address, costs);
+        let fault = match &told {
+            Ok(_) => None,
+            Err(refusal) => Some(refusal.fault),
+        };
+        if !tries.wait(rt, fault, err) {
+            return told;
+        }
+    }
+    ask_directory(rt, own, asker, address, costs)
+}
+
 /// The refusal of servers among which no shard is asked for.
 fn unchosen<'a>(fault: ChoiceFault) -> Refusal<'a> {
     match fault {
@@ -155,12 +182,13 @@ fn unchosen<'a>(fault: ChoiceFault) -> Refusal<'a> {
 /// Which server is asked for which shard. Where there are two shards or more, each server is asked for its directory,
 /// and each of our shards that differs is asked for of the one server that has it. Else as a session refuses, 57, 56 or
 /// 90.
-pub fn choose<'a, R>(
+pub fn choose<'a, R, E: Write>(
     rt: &R,
     own: Own<'_>,
     asker: Asker<'a>,
     addresses: &[&'a str],
     costs: &mut Costs,
+    again: (&mut Tries, &mut E),
 ) -> Result<Vec<Asked>, Refusal<'a>>
 where
     R: Files + Net<Stream = TcpStream> + Wait + Clock + AllocGlobal,
@@ -171,9 +199,11 @@ where
     if asker.set.bits == 0 {
         return ask_whole(alloc, addresses);
     }
+    let (tries, err) = again;
     let mut directories = Vec::new(alloc);
     for address in addresses {
-        directories.push(ask_directory(rt, own, asker, address, costs)?)?;
+        let again = (&mut *tries, &mut *err);
+        directories.push(ask_directory_again(rt, own, asker, address, costs, again)?)?;
     }
     match asked_of(alloc, &directories, own.first, own.last) {
         Ok(asked) => Ok(asked),

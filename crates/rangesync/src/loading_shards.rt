@@ -6,7 +6,7 @@ ghost use Rattle.shard_core.specs.Splits.{held};
 ghost use Rattle.shard_core.specs.Spans.{AreKept};
 
 use crate::disk::Opened;
-use crate::loading::{Sources, open_kept, strategy_of};
+use crate::loading::{Sources, open_kept, told_strategy};
 use crate::reporting::Kept;
 use io_core::Watched;
 use item_core::Item;
@@ -197,7 +197,7 @@ pub fn load_shards<
     ensures cap { IfOk result (λ o. o.set.cap ≡ o.accepted.table.cap) }
 {
     let alloc = rt.alloc();
-    let accepted = strategy_of(rt, sources.table, err)?;
+    let accepted = told_strategy(rt, sources.table, err)?;
     let Sharding { bits, first, last } = sharding;
     enough_places(&accepted, sources.table.path, bits)?;
     let options = LoadOptions {

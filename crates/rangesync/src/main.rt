@@ -25,6 +25,7 @@ mod stdio;
 mod stocking;
 mod sync;
 mod sync_shards;
+mod trying;
 mod watching;
 
 use printing_core::{Fault, tell, tell_no_text};

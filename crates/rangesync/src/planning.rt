@@ -3,18 +3,25 @@
 ghost use Rattle.std.specs.Prelude.{◌≤◌, IfOk, IfSome};
 ghost use Rattle.cost_core.specs.Plans.{IsPlanned};
 ghost use Rattle.cost_core.specs.Samples.{IsSample};
-ghost use Rattle.settings_core.specs.Spans.{IsItemCount, IsItemLength, IsRate};
+ghost use Rattle.settings_core.specs.Spans.{IsPlannedCount, IsItemCount, IsItemLength, IsRate};
 
 use crate::checking::length_of;
-use cost_core::{Line, Planned, Sample, Task, quickest, searched};
-use io_core::{Watched, write_output};
-use printing_core::{Fault, Refusal, push_plan};
-use settings_core::PlanWords;
+use crate::loading::strategy_of;
+use cost_core::{Line, Planned, Sample, Task, planned_for, quickest, searched, shipped_text};
+use io_core::{Watched, read_input, write_output};
+use printing_core::{Fault, Refusal, push_plan, push_shards};
+use settings_core::{PlanWords, shard_bits_for};
+use std::alloc::Global;
+use std::fs;
 use std::io::Write;
+use std::rt::Files;
 use std::time::Clock;
 
-/// The items of a set, where they are not given.
+/// The items of a set, where they are not given, and the most of a shard.
 const ITEMS: u32 = 65_536;
+
+/// The bits of as many shards as there can be.
+const MOST_BITS: u8 = 12;
 
 /// In how many items the sets differ, where it is not given.
 const DIFFERENCES: u32 = 100;
@@ -25,14 +32,32 @@ const ROUND_TRIP: u32 = 100;
 /// The megabits in a second, where they are not given.
 const RATE: u32 = 10;
 
-/// The items that are given, or 65,536.
-fn items_of(items: Option<u32>) -> u32
-    requires { IfSome items IsItemCount }
-    ensures { IsItemCount result }
+/// A shard of a set, or the whole set where it needs no shards.
+#[derive(Clone, Copy)]
+struct Cut {
+    /// The set is cut into 2 to this power shards.
+    bits: u8,
+    /// How many items it has.
+    items: u32,
+    /// In how many of them the sides differ.
+    differences: u32,
+}
+
+/// How a set of so many items is cut that differs in so many: what is given, or 65,536 and 100.
+fn cut_of(items: Option<u32>, differences: Option<u32>) -> Cut
+    requires { IfSome items IsPlannedCount }
+    ensures items { IsItemCount result.items }
+    ensures differences { result.differences ≤ result.items }
 {
-    match items {
-        Some(items) => items,
-        None => ITEMS,
+    let items = items.unwrap_or(ITEMS);
+    let differences = differences.unwrap_or(DIFFERENCES);
+    let bits = shard_bits_for(items).unwrap_or(MOST_BITS).min(MOST_BITS);
+    let shards = 1u32 << bits;
+    let items = items.div_ceil(shards).min(ITEMS).max(1);
+    Cut {
+        bits,
+        items,
+        differences: differences.div_ceil(shards).min(items),
     }
 }
 
@@ -47,39 +72,18 @@ fn rate_of(rate: Option<u32>) -> u32
     }
 }
 
-/// The quickest of the strategies that are shipped, or what a search that starts with it has found.
-///
-/// Else 82 where a set has more items than any of them may hold, or 90.
-fn planned<R: Clock + AllocGlobal>(
-    rt: &R,
-    task: Task,
-    search: Option<u32>,
-) -> Result<Planned, Fault>
-    requires sample { IsSample task.sample }
-    requires rate { 1 ≤ task.line.rate }
-    ensures { IfOk result (IsPlanned task.sample) }
-{
-    let Some(start) = quickest(rt.alloc(), task)? else {
-        return Err(Fault::TooManyItems);
-    };
-    let Some(seconds) = search else {
-        return Ok(start);
-    };
-    Ok(searched(rt.alloc(), task, start, rt, seconds)?)
-}
-
-/// What a strategy is chosen for: what is given, and the usual numbers for the rest.
-fn task_of(words: PlanWords) -> Task
-    requires items { IfSome words.items IsItemCount }
+/// What a strategy is chosen for: this cut, what is given, and the usual numbers for the rest.
+fn task_of(words: PlanWords<'_>, cut: Cut) -> Task
+    requires items { IsItemCount cut.items }
+    requires differences { cut.differences ≤ cut.items }
     requires item_length { IfSome words.item_length IsItemLength }
     requires rate { IfSome words.rate IsRate }
     ensures sample { IsSample result.sample }
     ensures rate { 1 ≤ result.line.rate }
 {
-    let items = items_of(words.items);
     let sample = Sample {
-        items,
-        differences: words.differences.unwrap_or(DIFFERENCES).min(items),
+        items: cut.items,
+        differences: cut.differences,
         length: length_of(words.item_length),
     };
     let line = Line {
@@ -89,15 +93,92 @@ fn task_of(words: PlanWords) -> Task
     Task { sample, line }
 }
 
-/// The strategy that is planned as a text that `check` accepts, with its name and its cost in comments above it.
-fn plan_text<R: Clock + AllocGlobal>(rt: &R, words: PlanWords) -> Result<String, Fault>
-    requires items { IfSome words.items IsItemCount }
+/// The text of the strategy in this file; or of the one that is shipped under the name, where no file is there. Nothing,
+/// where neither is.
+fn text_of<R: Files + AllocGlobal>(rt: &R, path: &str) -> Result<Vec<u8>, Fault> {
+    let alloc = rt.alloc();
+    match fs::open(rt, path) {
+        Ok(file) => Ok(read_input(alloc, &mut Watched::new(file))?),
+        Err(_) => {
+            let text = shipped_text(path).unwrap_or_default();
+            Ok(Vec::from_slice(alloc, text.as_bytes())?)
+        }
+    }
+}
+
+/// The strategy of this text and name. Else 82 where a set has more items than it may hold, 80 or 90.
+fn named(alloc: Global, task: Task, name: &str, text: &[u8]) -> Result<Planned, Fault>
+    requires sample { IsSample task.sample }
+    requires rate { 1 ≤ task.line.rate }
+    ensures { IfOk result (IsPlanned task.sample) }
+{
+    let Ok(text) = str::from_utf8(text) else {
+        return Err(Fault::CannotRead);
+    };
+    match planned_for(alloc, task, name, text)? {
+        Some(planned) => Ok(planned),
+        None => Err(Fault::TooManyItems),
+    }
+}
+
+/// The strategy that is named; or the quickest of those that are shipped.
+///
+/// Else as `check` refuses the one that is named, and 82 where a set has more items than it may hold; 90.
+fn start_of<'a, R: Files + AllocGlobal>(
+    rt: &R,
+    task: Task,
+    table: Option<&'a str>,
+) -> Result<Planned, Refusal<'a>>
+    requires sample { IsSample task.sample }
+    requires rate { 1 ≤ task.line.rate }
+    ensures { IfOk result (IsPlanned task.sample) }
+{
+    let alloc = rt.alloc();
+    if let Some(path) = table {
+        let _accepted = strategy_of(rt, path)?;
+        let text = text_of(rt, path)?;
+        return Ok(named(alloc, task, path, &text)?);
+    }
+    match quickest(alloc, task)? {
+        Some(start) => Ok(start),
+        None => Err(Refusal::from(Fault::TooManyItems)),
+    }
+}
+
+/// The same, or what a search that starts with it has found.
+fn planned<'a, R: Files + Clock + AllocGlobal>(
+    rt: &R,
+    task: Task,
+    words: PlanWords<'a>,
+) -> Result<Planned, Refusal<'a>>
+    requires sample { IsSample task.sample }
+    requires rate { 1 ≤ task.line.rate }
+    ensures { IfOk result (IsPlanned task.sample) }
+{
+    let start = start_of(rt, task, words.table)?;
+    let Some(seconds) = words.search else {
+        return Ok(start);
+    };
+    Ok(searched(rt.alloc(), task, start, rt, seconds)?)
+}
+
+/// The strategy that is planned as a text that `check` accepts, with its name and its cost in comments above it; and
+/// above these how the set is cut, if it is.
+fn plan_text<'a, R: Files + Clock + AllocGlobal>(
+    rt: &R,
+    words: PlanWords<'a>,
+) -> Result<String, Refusal<'a>>
+    requires items { IfSome words.items IsPlannedCount }
     requires item_length { IfSome words.item_length IsItemLength }
     requires rate { IfSome words.rate IsRate }
 {
-    let planned = planned(rt, task_of(words), words.search)?;
+    let cut = cut_of(words.items, words.differences);
+    let planned = planned(rt, task_of(words, cut), words)?;
     let millis = planned.micros.saturating_add(500) / 1_000;
     let mut text = String::new(rt.alloc());
+    if cut.bits > 0 {
+        push_shards(&mut text, cut.bits, cut.items, cut.differences)?;
+    }
     push_plan(
         &mut text,
         planned.name.as_str(),
@@ -109,13 +190,13 @@ fn plan_text<R: Clock + AllocGlobal>(rt: &R, words: PlanWords) -> Result<String,
     Ok(text)
 }
 
-/// Prints the quickest of the strategies that are shipped, or what a search has found.
-pub(crate) fn plan<R: Clock + AllocGlobal, O: Write + Drop>(
+/// Prints the strategy that is named or the quickest of those that are shipped, or what a search has found.
+pub(crate) fn plan<'a, R: Files + Clock + AllocGlobal, O: Write + Drop>(
     rt: &R,
-    words: PlanWords,
+    words: PlanWords<'a>,
     out: O,
-) -> Result<(), Refusal<'static>>
-    requires items { IfSome words.items IsItemCount }
+) -> Result<(), Refusal<'a>>
+    requires items { IfSome words.items IsPlannedCount }
     requires item_length { IfSome words.item_length IsItemLength }
     requires rate { IfSome words.rate IsRate }
 {

@@ -1,6 +1,6 @@
 //! The program over any runtime, reader and writers.
 
-ghost use Rattle.std.specs.Prelude.{◌≤◌, length};
+ghost use Rattle.std.specs.Prelude.{◌≤◌, length, IfOk};
 ghost use Rattle.store_core.specs.Flat.{flat_items};
 ghost use Rattle.settings_core.specs.Spans.{AreInSpan, IsWorkerCount};
 
@@ -10,6 +10,7 @@ use crate::loading_shards::load_shards;
 use crate::loops::Loops;
 use crate::naming::{set_of, told_of};
 use crate::planning::plan;
+use crate::reaching::{addresses_of, at_addresses};
 use crate::serve::{Outputs, Serving, Stock, serve};
 use crate::sharding::shards_of;
 use crate::stdio::{flaw_of, serve_stdio, sync_stdio};
@@ -19,8 +20,8 @@ use crate::sync_shards::{AskingShards, sync_shards};
 use answer_core::{answer, list_reply};
 use io_core::{Watched, read_input, write_output};
 use printing_core::{
-    Fault, Refusal, Why, decode_text, encode_lines, tell, tell_name_flaw, tell_shard_flaw,
-    tell_stdio_flaw, tell_why, tell_words,
+    Fault, Refusal, Why, decode_text, difference_status, encode_lines, tell, tell_name_flaw,
+    tell_shard_flaw, tell_stdio_flaw, tell_why, tell_words,
 };
 use settings_core::{AnswerWords, Call, Command, ServeWords, Sharding, SyncWords, read_words};
 use shard_core::SetName;
@@ -128,22 +129,24 @@ where
 }
 
 /// Does what `sync` is asked for: one session, over standard input and output or with who listens; or one for each
-/// shard that differs.
+/// shard that differs. The status: 4 if it is to say that the sets differ, and they do, else 0.
 fn sync_as_asked<'a, R, I: Read + Drop, O: Write + Drop, E: Write + Drop>(
     rt: &R,
     words: SyncWords<'a>,
     target: Target<'a>,
-    (reader, out): (I, O),
+    ends: (I, O),
     err: &mut E,
-) -> Result<(), Refusal<'a>>
+) -> Result<u8, Refusal<'a>>
 where
     R: Files<File = File> + Loops,
+    ensures { IfOk result (λ status. status ≤ 4) }
 {
-    let asking = Asking::asked(words, target.set);
+    let (reader, out) = ends;
+    let asking = Asking::asked(words, target.set, target.explains);
     let sources = Sources::of_asker(words, target.explains);
-    if words.stdio {
+    let differ = if words.stdio {
         let loaded = load(rt, sources, io::empty(), err)?;
-        sync_stdio(rt, loaded, asking, (reader, out), err)
+        sync_stdio(rt, loaded, asking, (reader, out), err)?
     } else if let (Some(sharding), Some(set)) = (target.sharding, target.set) {
         let loaded = load_shards(rt, sources, sharding, reader, err)?;
         let asking = AskingShards {
@@ -152,34 +155,39 @@ where
             at_once: words.at_once.unwrap_or(AT_ONCE) as usize,
             shows: target.shows,
         };
-        sync_shards(rt, loaded, asking, out, err)
+        sync_shards(rt, loaded, asking, out, err)?
     } else {
         let loaded = load(rt, sources, reader, err)?;
-        sync(rt, loaded, asking, out, err)
-    }
+        sync(rt, loaded, asking, out, err)?
+    };
+    Ok(difference_status(words.checks, differ))
 }
 
-/// Does what the words ask for.
+/// Does what the words ask for, and gives the status.
 fn obey<'a, R, I: Read + Drop, O: Write + Drop, E: Write + Drop + Send>(
     rt: &'a R,
     command: Command<'a>,
     target: Target<'a>,
     ends: (I, Outputs<O, E>),
     err: &mut E,
-) -> Result<(), Refusal<'a>>
+) -> Result<u8, Refusal<'a>>
 where
     R: Files<File = File> + Loops,
     requires { AreInSpan command }
+    ensures { IfOk result (λ status. status ≤ 4) }
 {
     let (reader, outputs) = ends;
     match command {
-        Command::Answer(words) => answer_for(rt, words, reader, outputs.out),
-        Command::Check(words) => check_table(rt, words, target.explains, outputs.out, err),
-        Command::Plan(words) => plan(rt, words, outputs.out),
-        Command::Sim => sim(rt.alloc(), reader, outputs.out),
-        Command::Serve(words) => serve_as_asked(rt, words, target, (reader, outputs), err),
-        Command::Sync(words) => sync_as_asked(rt, words, target, (reader, outputs.out), err),
+        Command::Answer(words) => answer_for(rt, words, reader, outputs.out)?,
+        Command::Check(words) => check_table(rt, words, target.explains, outputs.out, err)?,
+        Command::Plan(words) => plan(rt, words, outputs.out)?,
+        Command::Sim => sim(rt.alloc(), reader, outputs.out)?,
+        Command::Serve(words) => serve_as_asked(rt, words, target, (reader, outputs), err)?,
+        Command::Sync(words) => {
+            return sync_as_asked(rt, words, target, (reader, outputs.out), err);
+        }
     }
+    Ok(0)
 }
 
 /// Where refusals are told, and whether a second line is told of each without being asked for: a terminal has a person
@@ -210,8 +218,26 @@ fn tell_second<E: Write>(err: &mut E, why: Option<Why<'_>>) {
     }
 }
 
+/// The status of what was done: that of a refusal after its line, and after a second one, if that is asked for.
+fn tell_done<E: Write>(err: &mut E, done: Result<u8, Refusal<'_>>, explains: bool) -> u8
+    requires { IfOk done (λ status. status ≤ 4) }
+    ensures { result ≤ 4 }
+{
+    match done {
+        Ok(status) => status,
+        Err(Refusal { fault, why }) => {
+            let status = tell(&mut *err, fault);
+            if explains {
+                tell_second(err, why);
+            }
+            status
+        }
+    }
+}
+
 /// Runs the program on these words, of which the first is its own name, and gives the status: 0 done, 1 refused, 2 for
-/// words that it does not know, 3 for a file, an input, an output, the network or memory.
+/// words that it does not know, 3 for a file, an input, an output, the network or memory, 4 for sets that differ, where
+/// that is asked for.
 ///
 /// A refusal is one line on standard error. What it speaks of, and the usual cause, is a second line if standard error
 /// is a terminal, or with `--why`.
@@ -224,7 +250,7 @@ pub fn run<R, W: AsStr, I: Read + Drop, O: Write + Drop, E: Write + Drop + Send>
 ) -> u8
 where
     R: Files<File = File> + Loops,
-    ensures known { result ≤ 3 }
+    ensures known { result ≤ 4 }
 {
     let StandardError {
         writer: mut err,
@@ -249,6 +275,11 @@ where
     let Ok(set) = set_of(&told, sharding.map(|sharding| sharding.bits)) else {
         return tell_name_flaw(err);
     };
+    let addresses = match addresses_of(rt.alloc(), command) {
+        Ok(addresses) => addresses,
+        Err(refused) => return tell(err, Fault::from(refused)),
+    };
+    let command = at_addresses(command, &addresses);
     let target = Target {
         set,
         sharding,
@@ -256,14 +287,6 @@ where
         explains: explains || is_terminal,
     };
     let ends = (input.reader, Outputs { out, log });
-    match obey(rt, command, target, ends, &mut err) {
-        Ok(()) => 0,
-        Err(Refusal { fault, why }) => {
-            let status = tell(&mut err, fault);
-            if target.explains {
-                tell_second(&mut err, why);
-            }
-            status
-        }
-    }
+    let done = obey(rt, command, target, ends, &mut err);
+    tell_done(&mut err, done, target.explains)
 }

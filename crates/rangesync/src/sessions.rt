@@ -7,9 +7,10 @@ use crate::costs::Costs;
 use crate::directories::Asker;
 use crate::reaching::connect_to;
 use crate::sync::converse;
+use crate::trying::Tries;
 use ends_core::Learned;
 use peer_threads::Outcome;
-use printing_core::{Fault, Refusal, Stats, learned_in, tell_progress, tell_stats};
+use printing_core::{Fault, Refusal, Stats, end_progress, learned_in, tell_progress, tell_stats};
 use range_tree::Tree;
 use shard_core::{ShardPart, Which};
 use std::alloc::{AllocError, Global};
@@ -17,9 +18,9 @@ use std::io::Write;
 use std::net::{Net, TcpStream};
 use std::rt::Files;
 use std::sync::{Arc, Wait};
-use std::thread;
 use std::thread::Threads;
 use std::time::Clock;
+use std::{mem, thread};
 use strategy_check::Accepted;
 use tcp_front::{Stream, finish};
 use version_log::Log;
@@ -38,19 +39,33 @@ pub struct Work<'a> {
     ghost fits: { log.cap ≤ (arc_value accepted).table.cap },
 }
 
-/// A shard that is asked for over this connection.
+impl<'a> Work<'a> {
+    /// The same work again.
+    fn copy(&self, alloc: Global) -> Result<Work<'a>, AllocError> {
+        Ok(Work {
+            number: self.number,
+            address: self.address,
+            accepted: Arc::try_clone(&self.accepted)?,
+            log: self.log.copy(alloc)?,
+        })
+    }
+}
+
+/// A shard that is asked for over this connection, and the same work again, if it may be tried again.
 #[derive(Drop)]
 struct Ready<'a> {
     work: Work<'a>,
+    again: Option<Work<'a>>,
     stream: Stream,
 }
 
 /// What came of the session over a shard.
 #[derive(Drop)]
-struct Came {
+struct Came<'a> {
     number: u16,
     found: Result<ShardPart, Fault>,
     cost: Option<(Stats, u32)>,
+    again: Option<Work<'a>>,
 }
 
 /// What was learned of a shard.
@@ -72,8 +87,17 @@ fn part_of(alloc: Global, number: u16, outcome: &Outcome) -> Result<ShardPart, F
 }
 
 /// Runs the session over a shard.
-fn run_one<R: Wait + Clock>(rt: &R, alloc: Global, asker: Asker<'_>, ready: Ready<'_>) -> Came {
-    let Ready { work, stream } = ready;
+fn run_one<'a, R: Wait + Clock>(
+    rt: &R,
+    alloc: Global,
+    asker: Asker<'_>,
+    ready: Ready<'a>,
+) -> Came<'a> {
+    let Ready {
+        work,
+        again,
+        stream,
+    } = ready;
     let Work {
         number,
         address: _,
@@ -88,23 +112,25 @@ fn run_one<R: Wait + Clock>(rt: &R, alloc: Global, asker: Asker<'_>, ready: Read
                 number,
                 found: part_of(alloc, number, &outcome),
                 cost: Some((stats, outcome.sent())),
+                again,
             }
         }
         Err(fault) => Came {
             number,
             found: Err(fault),
             cost: None,
+            again,
         },
     }
 }
 
 /// Runs these sessions at once, each in a thread of its own where one can be made.
-fn run_batch<R: Threads + Wait + Clock + Sync>(
+fn run_batch<'a, R: Threads + Wait + Clock + Sync>(
     rt: &R,
     alloc: Global,
     asker: Asker<'_>,
-    batch: Vec<Ready<'_>>,
-) -> Result<Vec<Came>, AllocError> {
+    batch: Vec<Ready<'a>>,
+) -> Result<Vec<Came<'a>>, AllocError> {
     thread::map_vec(rt, batch, &|ready| run_one(rt, alloc, asker, ready))
 }
 
@@ -113,27 +139,39 @@ fn run_batch<R: Threads + Wait + Clock + Sync>(
 #[derive(Drop)]
 struct Batch<'a> {
     ready: Vec<Ready<'a>>,
-    left: Vec<u16>,
+    left: Vec<Work<'a>>,
     fault: Option<Refusal<'a>>,
 }
 
 impl<'a> Batch<'a> {
-    /// Connects to the server of a shard, unless one was not reached before.
-    fn add<R: Files + Net<Stream = TcpStream>>(
+    /// Connects to the server of a shard, unless one was not reached before. The work is kept where it may be tried
+    /// again.
+    fn add<R: Files + Net<Stream = TcpStream> + AllocGlobal>(
         &mut self,
         rt: &R,
-        patience: u32,
+        crew: Crew<'_>,
         work: Work<'a>,
     ) -> Result<(), AllocError> {
         if self.fault.is_some() {
-            self.left.push(work.number)?;
+            self.left.push(work)?;
             return Ok(());
         }
-        match connect_to(rt, work.address, patience) {
-            Ok(stream) => self.ready.push(Ready { work, stream })?,
+        match connect_to(rt, work.address, crew.asker.limits.patience) {
+            Ok(stream) => {
+                let again = if crew.keeps {
+                    Some(work.copy(rt.alloc())?)
+                } else {
+                    None
+                };
+                self.ready.push(Ready {
+                    work,
+                    again,
+                    stream,
+                })?;
+            }
             Err(refusal) => {
                 self.fault = Some(refusal);
-                self.left.push(work.number)?;
+                self.left.push(work)?;
             }
         }
         Ok(())
@@ -141,19 +179,19 @@ impl<'a> Batch<'a> {
 }
 
 /// Connects to the servers of these shards, one after the other, until one is not reached.
-fn connect_all<'a, R: Files + Net<Stream = TcpStream>>(
+fn connect_all<'a, R: Files + Net<Stream = TcpStream> + AllocGlobal>(
     rt: &R,
-    alloc: Global,
-    patience: u32,
+    crew: Crew<'_>,
     works: Vec<Work<'a>>,
 ) -> Result<Batch<'a>, AllocError> {
+    let alloc = rt.alloc();
     let mut batch = Batch {
         ready: Vec::new(alloc),
         left: Vec::new(alloc),
         fault: None,
     };
     for work in works {
-        batch.add(rt, patience, work)?;
+        batch.add(rt, crew, work)?;
     }
     Ok(batch)
 }
@@ -163,10 +201,12 @@ fn connect_all<'a, R: Files + Net<Stream = TcpStream>>(
 pub struct Gathered<'a> {
     /// What those learned that ended.
     pub parts: Vec<ShardPart>,
-    /// The shards that were not done, rising.
+    /// The shards that were not done.
     pub undone: Vec<u16>,
-    /// Why the first of these was not.
-    pub first: Option<Refusal<'a>>,
+    /// The first of these, and why it was not.
+    pub first: Option<(u16, Refusal<'a>)>,
+    /// Those that are tried again.
+    again: Vec<Work<'a>>,
     /// What all sessions cost.
     pub costs: Costs,
     /// How many items were found.
@@ -180,6 +220,7 @@ impl<'a> Gathered<'a> {
             parts: Vec::new(alloc),
             undone: Vec::new(alloc),
             first: None,
+            again: Vec::new(alloc),
             costs,
             items: 0,
         }
@@ -200,21 +241,30 @@ impl<'a> Gathered<'a> {
         Ok(())
     }
 
-    /// Takes what came of a session.
-    fn take(&mut self, asker: Asker<'_>, came: Came) -> Result<(), AllocError> {
+    /// Takes what came of a session. Where it did not come to its end and may do so, its work is tried again, if it was
+    /// kept.
+    fn take(&mut self, asker: Asker<'_>, came: Came<'a>) -> Result<(), AllocError> {
         let Came {
             number,
             found,
             cost,
+            again,
         } = came;
         let mut received = 0;
         if let Some((stats, sent)) = cost {
             received = stats.received.bytes;
             self.costs.add(stats, sent);
         }
-        match found {
-            Ok(part) => self.take_part(part),
-            Err(fault) => self.leave(
+        let fault = match found {
+            Ok(part) => return self.take_part(part),
+            Err(fault) => fault,
+        };
+        match again {
+            Some(work) if fault.may_pass() => {
+                self.again.push(work)?;
+                Ok(())
+            }
+            _ => self.leave(
                 number,
                 Refusal::of_session_after(asker.limits, received, fault),
             ),
@@ -223,43 +273,67 @@ impl<'a> Gathered<'a> {
 
     /// Takes that a shard was not done.
     fn leave(&mut self, number: u16, refusal: Refusal<'a>) -> Result<(), AllocError> {
-        if self.first.is_none() {
-            self.first = Some(refusal);
+        let is_first = match &self.first {
+            Some((first, _)) => number < *first,
+            None => true,
+        };
+        if is_first {
+            self.first = Some((number, refusal));
         }
         self.undone.push(number)?;
         Ok(())
     }
 
     /// Takes what came of sessions.
-    fn take_all(&mut self, asker: Asker<'_>, all: Vec<Came>) -> Result<(), AllocError> {
+    fn take_all(&mut self, asker: Asker<'_>, all: Vec<Came<'a>>) -> Result<(), AllocError> {
         for came in all {
             self.take(asker, came)?;
         }
         Ok(())
     }
 
-    /// Takes that these shards were not done, for this fault of the first. Whether there is none.
+    /// Takes that these shards were not asked for, for this fault of the first, or that they are tried again. Whether
+    /// there is no such fault.
     fn leave_unreached(
         &mut self,
-        left: Vec<u16>,
+        crew: Crew<'_>,
+        left: Vec<Work<'a>>,
         fault: Option<Refusal<'a>>,
     ) -> Result<bool, AllocError> {
         let Some(refusal) = fault else {
             return Ok(true);
         };
-        if self.first.is_none() {
-            self.first = Some(refusal);
+        if crew.keeps && refusal.fault.may_pass() {
+            let mut left = left;
+            self.again.append(&mut left)?;
+            return Ok(false);
         }
-        self.undone.extend_from_slice(&left)?;
+        let mut refusal = Some(refusal);
+        for work in left {
+            match refusal.take() {
+                Some(refusal) => self.leave(work.number, refusal)?,
+                None => self.undone.push(work.number)?,
+            }
+        }
         Ok(false)
     }
 
-    /// Takes that these shards were not asked for.
-    fn leave_all(&mut self, works: Vec<Work<'_>>) -> Result<(), AllocError> {
+    /// Takes that these shards were not asked for, or that they are tried again with those that are.
+    fn leave_all(&mut self, works: Vec<Work<'a>>) -> Result<(), AllocError> {
+        let again = !self.again.is_empty();
         for work in works {
-            self.undone.push(work.number)?;
+            if again {
+                self.again.push(work)?;
+            } else {
+                self.undone.push(work.number)?;
+            }
         }
         Ok(())
+    }
+
+    /// The works that are tried again, which are taken out.
+    fn take_again(&mut self, alloc: Global) -> Vec<Work<'a>> {
+        mem::replace(&mut self.again, Vec::new(alloc))
     }
 }
 
@@ -272,6 +346,8 @@ pub struct Crew<'a> {
     pub at_once: usize,
     /// How many shards are asked for, if that is shown as it goes on.
     pub shown: Option<usize>,
+    /// Whether the works are kept, to be tried again.
+    pub keeps: bool,
 }
 
 impl Crew<'_> {
@@ -294,17 +370,15 @@ fn run_some<'a, R>(
 where
     R: Files + Net<Stream = TcpStream> + Threads + Wait + Clock + AllocGlobal + Sync,
 {
-    let alloc = rt.alloc();
-    let asker = crew.asker;
-    let Batch { ready, left, fault } = connect_all(rt, alloc, asker.limits.patience, works)?;
-    let came = run_batch(rt, alloc, asker, ready)?;
-    gathered.take_all(asker, came)?;
-    gathered.leave_unreached(left, fault)
+    let Batch { ready, left, fault } = connect_all(rt, crew, works)?;
+    let came = run_batch(rt, rt.alloc(), crew.asker, ready)?;
+    gathered.take_all(crew.asker, came)?;
+    gathered.leave_unreached(crew, left, fault)
 }
 
-/// Runs a session over each of these shards, so many at once, and takes what comes of them. Each log is let go with its
-/// session. Where a server is not reached, the shards after that one are not asked for.
-pub fn run_sessions<'a, R, E: Write>(
+/// Runs a session over each of these shards, so many at once, and takes what comes of them. Where a server is not
+/// reached, the shards after that one are not asked for.
+fn run_all<'a, R, E: Write>(
     rt: &R,
     crew: Crew<'a>,
     works: Vec<Work<'a>>,
@@ -325,4 +399,35 @@ where
         }
     }
     Ok(())
+}
+
+/// The same, and again over those of them that did not come to their end and may do so, as often as is still asked for.
+/// Each log is let go with its last session.
+pub fn run_sessions<'a, R, E: Write>(
+    rt: &R,
+    crew: Crew<'a>,
+    works: Vec<Work<'a>>,
+    gathered: &mut Gathered<'a>,
+    (tries, err): (&mut Tries, &mut E),
+) -> Result<(), AllocError>
+where
+    R: Files + Net<Stream = TcpStream> + Threads + Wait + Clock + AllocGlobal + Sync,
+{
+    let mut works = works;
+    let keeping = Crew {
+        keeps: true,
+        ..crew
+    };
+    for _try in 0..tries.left() {
+        run_all(rt, keeping, works, gathered, err)?;
+        works = gathered.take_again(rt.alloc());
+        if works.is_empty() {
+            return Ok(());
+        }
+        if crew.shown.is_some() {
+            end_progress(err);
+        }
+        tries.pause(rt, err);
+    }
+    run_all(rt, crew, works, gathered, err)
 }

@@ -20,8 +20,8 @@ use digest_core::{Counted, Fingerprint, Summary};
 use io_core::{Watched, write_output};
 use peer_threads::{Connection, Gate, Outcome, Shared, serve_one, settle};
 use printing_core::{
-    Fault, Refusal, Stats, Tally, outcome_text, refusal_of_session, served_text, tell_dropped,
-    tell_stats,
+    Fault, Refusal, Stats, Tally, finds_any, outcome_text, refusal_of_session, served_text,
+    tell_dropped, tell_stats,
 };
 use range_tree::Tree;
 use session_table::{SessionTable, Totals};
@@ -52,10 +52,12 @@ pub fn flaw_of(command: Command<'_>, is_terminal: bool) -> Option<StdioFlaw> {
     let words = match command {
         Command::Serve(words) if words.stdio => StdioWords {
             address: words.address,
+            retries: false,
             items: words.items,
         },
         Command::Sync(words) if words.stdio => StdioWords {
             address: words.address,
+            retries: words.retry.is_some(),
             items: Some(words.items),
         },
         _ => return None,
@@ -306,7 +308,7 @@ where
 }
 
 /// Runs one session over this reader and this writer as the initiator. What was learned goes to the file that is asked
-/// for, or to standard error, and so does what the session cost, if that is asked for.
+/// for, or to standard error, and so does what the session cost, if that is asked for. Whether the sets differ.
 ///
 /// Else 80 if the file cannot be made, 90, the number of the refusal of this side or of the peer, or `io read` or
 /// `io write`.
@@ -316,7 +318,7 @@ pub fn sync_stdio<'a, R, I: Read + Drop, O: Write + Drop, E: Write>(
     asking: Asking<'a>,
     ends: (I, O),
     err: &mut E,
-) -> Result<(), Refusal<'a>>
+) -> Result<bool, Refusal<'a>>
 where
     R: Files<File = File> + Wait + Clock + AllocGlobal,
     requires cap { loaded.log.cap ≡ loaded.accepted.table.cap }
@@ -326,15 +328,13 @@ where
     if asking.stats {
         tell_stats(err, stats);
     }
-    let text = match outcome_text(rt.alloc(), asking.form, &outcome) {
+    let text = match outcome_text(rt.alloc(), asking.listing, &outcome) {
         Ok(text) => text,
         Err(fault) => return Err(Refusal::of_peer(asking.limits.most_bytes, fault)),
     };
     match file {
-        Some(file) => file.print(text.as_bytes()),
-        None => {
-            print_beside(err, text.as_bytes())?;
-            Ok(())
-        }
+        Some(file) => file.print(text.as_bytes())?,
+        None => print_beside(err, text.as_bytes())?,
     }
+    Ok(finds_any(&outcome))
 }

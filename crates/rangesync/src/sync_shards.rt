@@ -16,8 +16,10 @@ use crate::disk::{create_file, print_to};
 use crate::loading_shards::LoadedShards;
 use crate::sessions::{Crew, Gathered, Work, run_sessions};
 use crate::sync::Asking;
-use item_files::ItemForm;
-use printing_core::{Fault, MergedCounts, Refusal, end_progress, merged_text, tell_undone};
+use crate::trying::Tries;
+use printing_core::{
+    Fault, Listing, MergedCounts, Refusal, end_progress, merged_text, tell_undone,
+};
 use shard_core::{Asked, SetName, ShardPart, merge};
 use shard_log::ShardLog;
 use std::alloc::{AllocError, Global};
@@ -46,23 +48,23 @@ pub struct AskingShards<'a> {
 /// The text of what these sessions found together.
 fn found_text(
     alloc: Global,
-    form: ItemForm,
+    listing: Listing,
     counts: MergedCounts,
     parts: &[ShardPart],
 ) -> Result<String, AllocError>
     ensures text { IfOk result (λ text. string_bytes text
-        ≡ merged_text form counts (set_of (flat_map ours_of parts.now)) (set_of (flat_map theirs_of parts.now))) }
+        ≡ merged_text listing counts (set_of (flat_map ours_of parts.now)) (set_of (flat_map theirs_of parts.now))) }
     // Of the shards that were asked for, all differences are printed, and nothing else.
     ensures asked { IfOk result (λ text. (b : ℕ) (A B : List Bytes) → IsSet A → IsSet B → KnowsShards b A B parts.now →
-        string_bytes text ≡ merged_text form counts (asked_of b parts.now (difference A B))
+        string_bytes text ≡ merged_text listing counts (asked_of b parts.now (difference A B))
         (asked_of b parts.now (difference B A))) }
     // Where each shard with different entries was asked for, and no unequal shards have equal entries, these are all.
     ensures adds_up { IfOk result (λ text. (b : ℕ) (A B : List Bytes) → b ≤ max_bits → IsSet A → IsSet B →
         KnowsShards b A B parts.now → NoClash b A B → Covers b A B parts.now →
-        string_bytes text ≡ merged_text form counts (difference A B) (difference B A)) }
+        string_bytes text ≡ merged_text listing counts (difference A B) (difference B A)) }
 {
     let merged = merge(alloc, parts)?;
-    merged_text(alloc, form, counts, &merged.ours, &merged.theirs)
+    merged_text(alloc, listing, counts, &merged.ours, &merged.theirs)
 }
 
 /// The addresses in a word, which has a comma between them.
@@ -163,24 +165,32 @@ where
         first: set.first(),
         last: set.last(),
     };
-    let asked = choose(rt, own, asker, addresses, &mut gathered.costs)?;
+    let mut tries = Tries::new(asking.asking.retry, asking.asking.explains);
+    let again = (&mut tries, &mut *err);
+    let asked = choose(rt, own, asker, addresses, &mut gathered.costs, again)?;
     let works = works_of(alloc, &accepted, set.into_logs(), &asked, addresses)?;
     let crew = Crew {
         asker,
         at_once: asking.at_once,
         shown: asking.shows.then_some(asked.len()),
+        keeps: false,
     };
-    run_sessions(rt, crew, works, gathered, err)?;
+    run_sessions(rt, crew, works, gathered, (&mut tries, err))?;
     Ok(asked.len())
+}
+
+/// How many shards have an item that one side lacks, by what their sessions learned.
+fn count_unequal(parts: &[ShardPart]) -> usize {
+    parts
+        .iter()
+        .filter(|part| !part.ours.is_empty() || !part.theirs.is_empty())
+        .count()
 }
 
 /// How many shards differ, of so many that were asked for: of a whole set it is known only then.
 fn count_differing(bits: u8, asked: usize, parts: &[ShardPart]) -> u32 {
     let differ = if bits == 0 {
-        parts
-            .iter()
-            .filter(|part| !part.ours.is_empty() || !part.theirs.is_empty())
-            .count()
+        count_unequal(parts)
     } else {
         asked
     };
@@ -206,7 +216,7 @@ fn ending<'a, E: Write>(
 
 /// Runs a session as the initiator for the directory of each server, and one for each shard that differs, and prints
 /// what all found together, to the file if one is asked for. If it is asked for, standard error is told what they cost,
-/// however they ended.
+/// however they ended. Whether an item was found that one side lacks.
 ///
 /// Else 80 if the file cannot be made; before a shard is asked for 61, 56, 57, 90, the number of the refusal of this
 /// side or of a peer, or `io read` or `io write`. Where sessions over shards do not end, what the others found is
@@ -217,7 +227,7 @@ pub fn sync_shards<'a, R, O: Write + Drop, E: Write>(
     asking: AskingShards<'a>,
     out: O,
     err: &mut E,
-) -> Result<(), Refusal<'a>>
+) -> Result<bool, Refusal<'a>>
 where
     R: Files<File = File> + Net<Stream = TcpStream> + Threads + Wait + Clock + AllocGlobal + Sync,
     requires places { 2 ^ loaded.set.bits ≤ loaded.accepted.table.cap }
@@ -239,20 +249,25 @@ where
     let asked = asked?;
     let Gathered {
         parts,
-        undone,
+        mut undone,
         first,
         costs,
-        items: _,
+        ..
     } = gathered;
-    if bits == 0 && first.is_some() {
-        return first.map_or(Ok(()), Err);
+    let first = first.map(|(_, refusal)| refusal);
+    undone.sort_unstable();
+    if bits == 0
+        && let Some(refusal) = first
+    {
+        return Err(refusal);
     }
     let counts = MergedCounts {
         shards,
         differ: count_differing(bits, asked, &parts),
         sent: costs.messages(),
     };
-    let text = found_text(alloc, asking.asking.form, counts, &parts)?;
+    let text = found_text(alloc, asking.asking.listing, counts, &parts)?;
     print_to(file, out, text.as_bytes())?;
-    ending(alloc, &undone, first, err)
+    ending(alloc, &undone, first, err)?;
+    Ok(count_unequal(&parts) > 0)
 }

@@ -1,4 +1,5 @@
 mod Adding
+mod Hosts
 mod Rooms
 mod ShardDigits
 mod Values

@@ -3,10 +3,10 @@
 --                                 so many times more
 --     bits_for n                  the bits of n items: 0 up to 65,536; else the least so that 64,000 items in each shard
 --                                 are enough, if 12 are
-use Rattle.std.specs.Prelude.{ℕ, suc, ◌+◌, ◌*◌, nat_le, if◌then◌else◌, Option, Some, None}
+use Rattle.std.specs.Prelude.{ℕ, zero, suc, ◌+◌, ◌*◌, nat_le, if◌then◌else◌, Option, Some, None}
 
 abbrev pub doublings : ℕ → ℕ → ℕ → ℕ → Option ℕ
-doublings items room bits 0 = if nat_le items room then Some bits else None
+doublings items room bits zero = if nat_le items room then Some bits else None
 doublings items room bits (suc more) =
     if nat_le items room then Some bits else doublings items (room * 2) (bits + 1) more
 

@@ -6,19 +6,23 @@ mod arguments;
 mod commands;
 mod given_words;
 mod known_words;
+mod retries;
 mod shard_sizes;
 mod shard_words;
 mod sharding;
 mod stdio_words;
 mod words;
 
-pub use addresses::{Address, DEFAULT_ADDRESS, address_of};
+pub use addresses::{
+    Address, DEFAULT_ADDRESS, DEFAULT_PORT, METRICS_PORT, address_of, whole_address,
+};
 pub use commands::{AnswerWords, Call, CheckWords, Command, PlanWords, ServeWords, SyncWords};
 pub use item_files::{
     ItemForm, SettingsFault, WireProfile, has_byte_order_mark, item_of, item_set, read_input_items,
     read_items, read_strategy,
 };
 pub use known_words::VERSION;
+pub use retries::pause_before;
 pub use shard_sizes::shard_bits_for;
 pub use shard_words::{ShardFlaw, ShardWords, sharding_of};
 pub use sharding::Sharding;

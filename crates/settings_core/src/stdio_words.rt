@@ -13,6 +13,8 @@ use std::fmt;
 pub enum StdioFlaw {
     /// There is an address too.
     Address,
+    /// It is to be tried again: what was heard cannot be heard anew.
+    Retry,
     /// The items are to be read from standard input.
     Items,
     /// Standard input is a terminal.
@@ -25,6 +27,7 @@ impl fmt::Display for StdioFlaw {
     fn fmt<W: fmt::Write>(&self, f: &mut fmt::Formatter<W>) -> fmt::Result {
         match self {
             StdioFlaw::Address => write!(f, "error: --stdio cannot be used with --addr"),
+            StdioFlaw::Retry => write!(f, "error: --stdio cannot be used with --retry"),
             StdioFlaw::Items => write!(
                 f,
                 "error: with --stdio the items cannot be read from standard input"
@@ -42,6 +45,8 @@ impl fmt::Display for StdioFlaw {
 pub struct StdioWords<'a> {
     /// The address, which is the default one if none is given.
     pub address: &'a str,
+    /// Whether it is said how often the session is tried again.
+    pub retries: bool,
     /// The path of the item file, or `-`, if either is given.
     pub items: Option<&'a str>,
 }
@@ -57,13 +62,17 @@ fn are_piped(items: Option<&str>) -> bool
 }
 
 /// Why such a call does not speak over standard input and output, the first of these that holds: it has another address
-/// than the default one, its items are to be read from standard input, or that is a terminal.
+/// than the default one, it is to be tried again, its items are to be read from standard input, or that is a terminal.
 pub fn stdio_flaw(words: StdioWords<'_>, is_terminal: bool) -> Option<StdioFlaw>
     ensures { result
-        ≡ stdio_flaw words.entry.address.now (option_map (λ text. text.now) words.entry.items) is_terminal }
+        ≡ stdio_flaw words.entry.address.now words.entry.retries (option_map (λ text. text.now) words.entry.items)
+        is_terminal }
 {
     if words.address != DEFAULT_ADDRESS {
         return Some(StdioFlaw::Address);
+    }
+    if words.retries {
+        return Some(StdioFlaw::Retry);
     }
     if are_piped(words.items) {
         return Some(StdioFlaw::Items);

@@ -9,5 +9,5 @@ returns-clause-adds_up c = IfOk-weaker c.merged_text.result _ _
     let sums = c.in_ok-merged.ensures.adds_up b A B low setA setB knows no_clash covers in
     let ours = c.deref.ensures.value ∙ sums.0 in
     let theirs = c.deref-2.ensures.value ∙ sums.1 in
-    is ∙ (λ i. merged_text c.args.form c.args.counts (ours i) (theirs i)))
+    is ∙ (λ i. merged_text c.args.listing c.args.counts (ours i) (theirs i)))
     c.merged_text.ensures
