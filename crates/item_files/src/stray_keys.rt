@@ -100,7 +100,7 @@ fn nearer(
 ) -> Result<Option<NearKey>, AllocError>
     requires best { IfSome best (λ near. is_key stray.place near.key.now ≡ true) }
     requires key { is_key stray.place key.now ≡ true }
-    ensures { IfOk result (λ best. IfSome best (λ near. is_key stray.place near.key.now ≡ true)) }
+    ensures { IfOk result (λ best. IfSome best (λ near. is_key stray.entry.place near.key.now ≡ true)) }
 {
     let edits = osa_distance(alloc, stray.key, key)?;
     if edits > stray.key.len() / 2 {
@@ -115,7 +115,7 @@ fn nearer(
 /// The nearest key above the rows, if one is near.
 fn nearest_above(alloc: Global, stray: StrayKey<'_>) -> Result<Option<NearKey>, AllocError>
     requires { stray.place ≡ KeyPlace.Head }
-    ensures { IfOk result (λ best. IfSome best (λ near. is_key stray.place near.key.now ≡ true)) }
+    ensures { IfOk result (λ best. IfSome best (λ near. is_key stray.entry.place near.key.now ≡ true)) }
 {
     let best = nearer(alloc, stray, None, "bounds")?;
     let best = nearer(alloc, stray, best, "cap")?;
@@ -127,7 +127,7 @@ fn nearest_above(alloc: Global, stray: StrayKey<'_>) -> Result<Option<NearKey>, 
 /// The nearest key of a row, if one is near.
 fn nearest_in_row(alloc: Global, stray: StrayKey<'_>) -> Result<Option<NearKey>, AllocError>
     requires { (number : ℕ) × (stray.place ≡ KeyPlace.Row number) }
-    ensures { IfOk result (λ best. IfSome best (λ near. is_key stray.place near.key.now ≡ true)) }
+    ensures { IfOk result (λ best. IfSome best (λ near. is_key stray.entry.place near.key.now ≡ true)) }
 {
     let best = nearer(alloc, stray, None, "list")?;
     let best = nearer(alloc, stray, best, "peel")?;
@@ -137,7 +137,7 @@ fn nearest_in_row(alloc: Global, stray: StrayKey<'_>) -> Result<Option<NearKey>,
 
 /// The key that was meant, if one of the same place is near.
 pub fn meant_key(alloc: Global, stray: StrayKey<'_>) -> Result<Option<&'static str>, AllocError>
-    ensures { IfOk result (λ meant. IfSome meant (λ key. is_key stray.place key.now ≡ true)) }
+    ensures { IfOk result (λ meant. IfSome meant (λ key. is_key stray.entry.place key.now ≡ true)) }
 {
     let best = match stray.place {
         KeyPlace::Head => nearest_above(alloc, stray)?,

@@ -9,7 +9,7 @@ use crate::disk::{Opened, item_file, open_lines};
 use cost_core::{SHIPPED_NAMES, shipped_text};
 use item_core::Item;
 use item_files::{
-    ItemForm, ReadFault, SettingsFault, accepted_in, accepted_of, read_document, read_input_items,
+    ItemForm, ReadFault, SettingsFault, accepted_in, document, read_document, read_input_items,
     read_items, stray_key,
 };
 use printing_core::{Fault, Refusal, tell_stray_key};
@@ -22,6 +22,7 @@ use std::rt::Files;
 use std::thread::Threads;
 use store_core::{laws, spans};
 use strategy_check::Accepted;
+use toml::value::Table;
 use version_log::Log;
 
 /// A strategy that was accepted, and a log of at most as many items as its cap.
@@ -44,40 +45,45 @@ pub struct TableSource<'a> {
     pub explains: bool,
 }
 
-/// The strategy that is shipped under this name, accepted. Else 80, or 90.
-fn shipped_strategy<'a>(alloc: Global, name: &'a str) -> Result<Accepted, Refusal<'a>> {
-    let Some(text) = shipped_text(name) else {
-        return Err(Refusal::of_no_table(name, SHIPPED_NAMES));
+/// The table of the strategy in the file; or of the one that is shipped under the name, where no file is there. Else 80,
+/// 30 or 90.
+fn table_of<'a, R: Files + AllocGlobal>(rt: &R, path: &'a str) -> Result<Table, Refusal<'a>> {
+    let alloc = rt.alloc();
+    let read = match read_document(rt, path) {
+        Err(SettingsFault::CannotRead(ReadFault::Absent)) => match shipped_text(path) {
+            Some(text) => document(alloc, text.as_bytes()),
+            None => return Err(Refusal::of_no_table(path, SHIPPED_NAMES)),
+        },
+        read => read,
     };
-    match accepted_of(alloc, text.as_bytes()) {
-        Ok(accepted) => Ok(accepted),
-        Err(fault) => Err(Refusal::of_file(alloc, name, fault)),
+    match read {
+        Ok(table) => Ok(table),
+        Err(fault) => Err(Refusal::of_file(alloc, path, fault)),
     }
 }
 
-/// The strategy in the file, accepted, or the one that is shipped under the name, where no file is there. Else 80, 30 to
-/// 35 or 29, then 37, 36 or 38, and 90.
+/// The strategy of this table, accepted. Else 31 to 35 or 29, then 37, 36 or 38, and 90.
+fn accepted<'a>(alloc: Global, path: &'a str, table: &Table) -> Result<Accepted, Refusal<'a>> {
+    match accepted_in(alloc, table) {
+        Ok(accepted) => Ok(accepted),
+        Err(fault) => Err(Refusal::of_file(alloc, path, fault)),
+    }
+}
+
+/// The strategy in the file, accepted, or the one that is shipped under the name, where no file is there. Standard error
+/// is told of a key that says nothing, if it is told more. Else 80, 30 to 35 or 29, then 37, 36 or 38, and 90.
 pub fn strategy_of<'a, R: Files + AllocGlobal, E: Write>(
     rt: &R,
     source: TableSource<'a>,
     err: &mut E,
 ) -> Result<Accepted, Refusal<'a>> {
     let alloc = rt.alloc();
-    let path = source.path;
-    let table = match read_document(rt, path) {
-        Ok(table) => table,
-        Err(SettingsFault::CannotRead(ReadFault::Absent)) => return shipped_strategy(alloc, path),
-        Err(fault) => return Err(Refusal::of_file(alloc, path, fault)),
-    };
-    if source.explains
-        && let Some(stray) = stray_key(&table)
-    {
+    let TableSource { path, explains } = source;
+    let table = table_of(rt, path)?;
+    if explains && let Some(stray) = stray_key(&table) {
         tell_stray_key(alloc, err, path, stray);
     }
-    match accepted_in(alloc, &table) {
-        Ok(accepted) => Ok(accepted),
-        Err(fault) => Err(Refusal::of_file(alloc, path, fault)),
-    }
+    accepted(alloc, path, &table)
 }
 
 /// The set of the items of the file: at most `cap`. Else 80, 81, then 82, and 90.

@@ -66,7 +66,7 @@ pub(crate) const MAX_AT_ONCE: u32 = 64;
 /// How help speaks of a strategy file.
 const FILE_HELP: &str = "A strategy in TOML, or the name of a shipped one";
 
-/// How help speaks of ITEMS.
+/// How help speaks of ITEMS, which may be standard input.
 const ITEMS_HELP: &str =
     "A file of items, one a line: hex, or text with --text; - is standard input";
 
@@ -151,7 +151,11 @@ const ANSWER: [Argument<'static>; 4] = [
     },
     TEXT,
     WHY,
-    ITEMS,
+    Argument::Placed {
+        id: "ITEMS",
+        must: true,
+        help: "A file of items, one a line: hex, or text with --text",
+    },
 ];
 
 /// The words of `answer`.
