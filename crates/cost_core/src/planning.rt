@@ -119,8 +119,8 @@ pub fn quickest(alloc: Global, task: Task) -> Result<Option<Planned>, AllocError
     Ok(best)
 }
 
-/// The strategy of this text, under this name, and what a session under it costs; `None` where it is not accepted, or its
-/// cap is below the items of a set.
+/// The strategy of this text, under this name, and what a session under it costs; `None` where it is not accepted, or
+/// its cap is below the items of a set.
 pub fn planned_for(
     alloc: Global,
     task: Task,

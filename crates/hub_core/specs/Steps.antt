@@ -6,8 +6,8 @@
 --     IsIdle, IsBusy, IsDone   a greeting that waits, that goes on soon, that asks for its session
 --     LeavesGreeting .. result why a greeting's call left off, and which way failed where one did
 --     GreetsSo .. result       nothing was lost, and the bytes are counted, unless the call failed
-use Rattle.std.specs.Prelude.{◌≡◌, ◌⊎◌, ◌<◌, ◌≤◌, ℕ, ◌+◌, ◌-◌, ◌^◌, ◌||◌, min, Bool, true, false, List, [], length, Option}
-use Rattle.std.specs.Prelude.{Result, Ok, Err}
+use Rattle.std.specs.Prelude.{◌≡◌, ◌⊎◌, ◌<◌, ◌≤◌, ℕ, ◌+◌, ◌-◌, ◌^◌, ◌||◌, min, Bool, true, false, List, [], length}
+use Rattle.std.specs.Prelude.{Option, Result, Ok, Err}
 use Rattle.link_core.specs.Links.{count_of, Fails}
 use Rattle.link_core.specs.declared.fault.LinkFault.{LinkFault}
 use Rattle.link_core.specs.declared.polled.Last.{Last}

@@ -48,8 +48,8 @@ pub fn push_plan(
     )
 }
 
-/// Appends the line above these, where the set is to be cut into shards, by so many bits: how many items and differences
-/// one of them has, for which the strategy is planned.
+/// Appends the line above these, where the set is to be cut into shards, by so many bits: how many items and
+/// differences one of them has, for which the strategy is planned.
 pub fn push_shards(
     text: &mut String,
     bits: u8,

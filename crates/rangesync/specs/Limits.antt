@@ -1,7 +1,7 @@
 -- What peers may cost a server, by the words of a call.
 --     IsLimitsOf words limits    what is given; and where nothing is, 1,024 peers, 64 of one address, an hour a session
---                                and 1,024 MiB. There are as many places for sessions as peers, at least one and at most
---                                1,024
+--                                and 1,024 MiB. There are as many places for sessions as peers, at least one and at
+--                                most 1,024
 use Rattle.std.specs.Prelude.{◌≡◌, ◌*◌, ◌^◌, min, max}
 use Rattle.std.specs.Option.{unwrap_or}
 use Rattle.settings_core.specs.declared.commands.ServeWords.{ServeWords}

@@ -93,8 +93,8 @@ fn task_of(words: PlanWords<'_>, cut: Cut) -> Task
     Task { sample, line }
 }
 
-/// The text of the strategy in this file; or of the one that is shipped under the name, where no file is there. Nothing,
-/// where neither is.
+/// The text of the strategy in this file; or of the one that is shipped under the name, where no file is there.
+/// Nothing, where neither is.
 fn text_of<R: Files + AllocGlobal>(rt: &R, path: &str) -> Result<Vec<u8>, Fault> {
     let alloc = rt.alloc();
     match fs::open(rt, path) {

@@ -1,8 +1,8 @@
 -- Into how many shards a set is best cut.
---     doublings n room b more     how often a room is doubled until n items have room in it: b times before, and at most
---                                 so many times more
---     bits_for n                  the bits of n items: 0 up to 65,536; else the least so that 64,000 items in each shard
---                                 are enough, if 12 are
+--     doublings n room b more    how often a room is doubled until n items have room in it: b times before, and at most
+--                                so many times more
+--     bits_for n                 the bits of n items: 0 up to 65,536; else the least so that 64,000 items in each shard
+--                                are enough, if 12 are
 use Rattle.std.specs.Prelude.{ℕ, zero, suc, ◌+◌, ◌*◌, nat_le, if◌then◌else◌, Option, Some, None}
 
 abbrev pub doublings : ℕ → ℕ → ℕ → ℕ → Option ℕ

@@ -1,7 +1,8 @@
 //! The lines of a log.
 
 ghost use Rattle.std.specs.Prelude.{◌≡◌, IfOk, string_bytes};
-ghost use Rattle.watch_core.specs.LogTexts.{left_out_line, loaded_line, loading_line, log_line, lost_line, metrics_line};
+ghost use Rattle.watch_core.specs.LogTexts.{left_out_line, loaded_line, loading_line, log_line, lost_line};
+ghost use Rattle.watch_core.specs.LogTexts.{metrics_line};
 
 use crate::pieces::{Address, Known, Reason, Seconds};
 use crate::visit::Visit;
