@@ -4,7 +4,7 @@
 --     text_in line            a line without one carriage return at its end
 --     is_marked text          whether the text begins with `0x`
 --     text_item text          the item of a text: after `0x` the one that the digits spell, else its bytes
---     hashed_item text        the item of a line that is hashed: after `0x` the one that the digits spell, else its digest
+--     hashed_item text        the item of a line that is hashed: after `0x` the one that is spelled, else its digest
 --     content_of form line    what is left of a line: its digits, or its text
 --     spelled form content    the item that this spells, if it spells one
 --     line_items form line    no item where nothing is left, else the item that is spelled; None where none is

@@ -90,8 +90,8 @@ struct NearKey {
     key: &'static str,
 }
 
-/// The nearest key so far, or this one, if it is nearer and at most half as many edits lead to it as the mistyped key has
-/// bytes.
+/// The nearest key so far, or this one, if it is nearer and at most half as many edits lead to it as the mistyped key
+/// has bytes.
 fn nearer(
     alloc: Global,
     stray: StrayKey<'_>,

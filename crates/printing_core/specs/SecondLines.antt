@@ -14,8 +14,8 @@
 --     peer_line f most           for a session over standard input and output, of which so many bytes may be read
 --     listen_text, connect_text, accept_text     for an address
 --     IsSaid why text            there is this second line, or there is none
-use Rattle.std.specs.Prelude.{◌≡◌, ℕ, Bool, ◌==◌, ◌&&◌, nat_le, nat_lt, List, ◌++◌, codes, if◌then◌else◌, Option, Some, None}
-use Rattle.std.specs.Prelude.{option_map, IfSome, min, unwrap_or}
+use Rattle.std.specs.Prelude.{◌≡◌, ℕ, Bool, ◌==◌, ◌&&◌, nat_le, nat_lt, List, ◌++◌, codes, if◌then◌else◌, Option}
+use Rattle.std.specs.Prelude.{Some, None, option_map, IfSome, min, unwrap_or}
 use Rattle.std.specs.Fmt.{decimal}
 use Rattle.io_core.specs.declared.input.InputFault.{InputFault}
 use Rattle.io_core.specs.declared.input.InputFault.TheVariants as reading
@@ -184,7 +184,8 @@ session_text limits f = None
 -- of one of which as many bytes were read as may be
 abbrev pub long_session_text : Limits → Fault → Option (List ℕ)
 long_session_text limits (faults.Session code) =
-    if code == 3 then Some (server_text (servers.TooMuch limits.most_bytes)) else session_text limits (faults.Session code)
+    if code == 3 then Some (server_text (servers.TooMuch limits.most_bytes))
+    else session_text limits (faults.Session code)
 long_session_text limits f = session_text limits f
 
 abbrev pub session_text_after : Limits → ℕ → Fault → Option (List ℕ)

@@ -89,8 +89,8 @@ fn table_text(alloc: Global, accepted: Accepted, words: CheckWords<'_>) -> Resul
     }
 }
 
-/// Checks the strategy that is named, and prints what is to be printed of it where it is accepted. Standard error is told
-/// of a key that says nothing, if it is told more.
+/// Checks the strategy that is named, and prints what is to be printed of it where it is accepted. Standard error is
+/// told of a key that says nothing, if it is told more.
 pub(crate) fn check_table<'a, R: Files + AllocGlobal, O: Write + Drop, E: Write>(
     rt: &R,
     words: CheckWords<'a>,

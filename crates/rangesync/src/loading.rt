@@ -45,8 +45,8 @@ pub struct TableSource<'a> {
     pub explains: bool,
 }
 
-/// The table of the strategy in the file; or of the one that is shipped under the name, where no file is there. Else 80,
-/// 30 or 90.
+/// The table of the strategy in the file; or of the one that is shipped under the name, where no file is there. Else
+/// 80, 30 or 90.
 fn table_of<'a, R: Files + AllocGlobal>(rt: &R, path: &'a str) -> Result<Table, Refusal<'a>> {
     let alloc = rt.alloc();
     let read = match read_document(rt, path) {
@@ -70,8 +70,8 @@ fn accepted<'a>(alloc: Global, path: &'a str, table: &Table) -> Result<Accepted,
     }
 }
 
-/// The strategy in the file, accepted, or the one that is shipped under the name, where no file is there. Else 80, 30 to
-/// 35 or 29, then 37, 36 or 38, and 90.
+/// The strategy in the file, accepted, or the one that is shipped under the name, where no file is there. Else 80, 30
+/// to 35 or 29, then 37, 36 or 38, and 90.
 pub fn strategy_of<'a, R: Files + AllocGlobal>(
     rt: &R,
     path: &'a str,

@@ -114,7 +114,8 @@ check = with_rules (new_app (codes "check"))
 abbrev pub plan : App
 plan = with_rules (new_app (codes "plan"))
     (valued (codes "table") ∷ number (codes "items") 1 262144000 ∷ number (codes "differences") 0 262144000
-    ∷ item_length ∷ number (codes "round-trip") 0 60000 ∷ number (codes "rate") 1 100000 ∷ number (codes "search") 1 3600 ∷ why ∷ [])
+    ∷ item_length ∷ number (codes "round-trip") 0 60000 ∷ number (codes "rate") 1 100000
+    ∷ number (codes "search") 1 3600 ∷ why ∷ [])
 
 abbrev pub sim : App
 sim = with_rules (new_app (codes "sim")) (why ∷ [])
@@ -126,7 +127,8 @@ served = with_rules (new_app (codes "serve"))
     ∷ number (codes "sessions") 1 1000000 ∷ patience ∷ most_bytes ∷ number (codes "peers") 1 65535
     ∷ number (codes "peers-of-one") 1 65535 ∷ number (codes "session-seconds") 1 604800
     ∷ number (codes "memory") 1 1048576 ∷ valued (codes "report") ∷ valued (codes "learned")
-    ∷ valued (codes "keep") ∷ flag (codes "durable") ∷ number (codes "most-learned") 1 4294967295 ∷ flag (codes "read-only")
+    ∷ valued (codes "keep") ∷ flag (codes "durable") ∷ number (codes "most-learned") 1 4294967295
+    ∷ flag (codes "read-only")
     ∷ number (codes "report-items") 0 4294967295 ∷ valued (codes "metrics") ∷ flag (codes "log")
     ∷ text ∷ hash ∷ why ∷ [])
 
