@@ -271,7 +271,8 @@ impl fmt::Display for Why<'_> {
             ),
             Why::OddDigits { file, line, shown } => write!(
                 f,
-                "{file} line {line} has an odd number of hex digits: \"{shown}\". Are these lines of text? Then say --text."
+                "{file} line {line} has an odd number of hex digits: \"{shown}\". \
+                Are these lines of text? Then say --text."
             ),
             Why::BadLine { file, line, shown } => write!(
                 f,
