@@ -12,7 +12,7 @@ pub(crate) struct Shipped {
     pub text: &'static str,
 }
 
-const ALL_ROUND: Shipped = Shipped {
+pub(crate) const ALL_ROUND: Shipped = Shipped {
     name: "all-round",
     text: "bounds = \"short\"
 cap = 65536
@@ -41,7 +41,7 @@ split = [1, 1, 1, 1, 1, 1, 1, 1, 1, 1, 1, 1, 1, 1, 1]
 ",
 };
 
-const FEW_BYTES: Shipped = Shipped {
+pub(crate) const FEW_BYTES: Shipped = Shipped {
     name: "few-bytes",
     text: "bounds = \"short\"
 cap = 65536
@@ -62,7 +62,7 @@ split = [1, 1, 1, 1, 1]
 ",
 };
 
-const FEW_ROUNDS: Shipped = Shipped {
+pub(crate) const FEW_ROUNDS: Shipped = Shipped {
     name: "few-rounds",
     text: "bounds = \"short\"
 cap = 65536
@@ -84,7 +84,7 @@ split = [1, 1, 1, 1, 1, 1, 1, 1, 1, 1, 1, 1, 1, 1, 1, 1, 1, 1, 1, 1, 1, 1, 1, 1,
 ",
 };
 
-const NEWEST_LAST: Shipped = Shipped {
+pub(crate) const NEWEST_LAST: Shipped = Shipped {
     name: "newest-last",
     text: "bounds = \"short\"
 cap = 65536
@@ -113,7 +113,7 @@ split = [1024, 1024, 1024, 1024, 1024, 64, 8, 1]
 ",
 };
 
-const WHOLE_LIST: Shipped = Shipped {
+pub(crate) const WHOLE_LIST: Shipped = Shipped {
     name: "whole-list",
     text: "cap = 65536
 limit = 65536
@@ -125,7 +125,7 @@ list = true
 ",
 };
 
-const SMALL: Shipped = Shipped {
+pub(crate) const SMALL: Shipped = Shipped {
     name: "small",
     text: "cap = 256
 limit = 16
