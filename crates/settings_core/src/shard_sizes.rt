@@ -11,7 +11,7 @@ const FULL_SHARD: u64 = 64_000;
 
 /// The bits for a set of so many items: 0 where it needs no shards; else the least for which a shard has at most 64,000
 /// items on average. None where 12 are too few.
-#[tactic(auto, using(crate::proofs::Rooms::more_room, crate::proofs::Rooms::enough_room, crate::proofs::Rooms::no_room))]
+#[tactic(auto, using(crate::proofs::Rooms::more_room, crate::proofs::Rooms::some_bits, crate::proofs::Rooms::no_bits))]
 pub fn shard_bits_for(items: u32) -> Option<u8>
     ensures { result ≡ bits_for items }
 {
@@ -22,10 +22,13 @@ pub fn shard_bits_for(items: u32) -> Option<u8>
     let mut room = FULL_SHARD;
     let mut bits: u8 = 0;
     let mut more: u8 = 12;
-    while items > room && more > 0 {
+    while room < items {
+        if more == 0 {
+            return None;
+        }
         room *= 2;
         bits += 1;
         more -= 1;
     }
-    (items <= room).then_some(bits)
+    Some(bits)
 }
