@@ -3,7 +3,7 @@
 ghost use Rattle.std.specs.Prelude.{◌≡◌, ◌≤◌, codes, option_map, IfSome, IsSomeAnd, Some};
 ghost use Rattle.clap.specs.Words.{first_of, found_of, rows_of, subcommand_rows_of};
 ghost use Rattle.settings_core.specs.Calls.{AsksFor, CallsFor, Finds, HasForm, IsFlag, IsNumber, is_text};
-ghost use Rattle.settings_core.specs.Calls.{profile_number};
+ghost use Rattle.settings_core.specs.Calls.{is_hash, profile_number};
 ghost use Rattle.settings_core.specs.Spans.{IsLearnedCount, IsReportedCount, IsWithin, IsWorkerCount};
 
 use crate::commands::{AnswerWords, Call, CheckWords, Command, PlanWords, ServeWords, SyncWords};
@@ -88,7 +88,8 @@ fn flag_in(matches: &ArgMatches<'_>, id: &str) -> bool
 
 /// How items stand in files, and how they are printed.
 fn form_in(matches: &ArgMatches<'_>) -> ItemForm
-    ensures { IsFlag (codes "text") (rows_of (found_of matches.now)) (is_text result) }
+    ensures text { IsFlag (codes "text") (rows_of (found_of matches.now)) (is_text result) }
+    ensures whole { is_hash result ≡ false }
 {
     if flag_in(matches, "text") {
         ItemForm::Text
