@@ -1,6 +1,6 @@
 //! What given words ask for, as `clap` has read them.
 
-ghost use Rattle.std.specs.Prelude.{◌≡◌, ◌≤◌, codes, option_map, IfSome, IsSomeAnd, Some};
+ghost use Rattle.std.specs.Prelude.{◌≡◌, ◌≤◌, codes, false, option_map, IfSome, IsSomeAnd, Some};
 ghost use Rattle.clap.specs.Words.{first_of, found_of, rows_of, subcommand_rows_of};
 ghost use Rattle.settings_core.specs.Calls.{AsksFor, CallsFor, Finds, HasForm, IsFlag, IsNumber, is_text};
 ghost use Rattle.settings_core.specs.Calls.{is_hash, profile_number};
