@@ -12,9 +12,8 @@ pub(crate) struct Shipped {
     pub text: &'static str,
 }
 
-pub(crate) const ALL_ROUND: Shipped = Shipped {
-    name: "all-round",
-    text: "bounds = \"short\"
+/// That of `all-round`.
+const ALL_ROUND: &str = "bounds = \"short\"
 cap = 65536
 limit = 20
 rounds = 4
@@ -38,12 +37,10 @@ split = [1, 1, 1, 1, 1, 1, 1, 1, 1, 1, 1, 1, 1]
 [[row]]
 upto = 65536
 split = [1, 1, 1, 1, 1, 1, 1, 1, 1, 1, 1, 1, 1, 1, 1]
-",
-};
+";
 
-pub(crate) const FEW_BYTES: Shipped = Shipped {
-    name: "few-bytes",
-    text: "bounds = \"short\"
+/// That of `few-bytes`.
+const FEW_BYTES: &str = "bounds = \"short\"
 cap = 65536
 limit = 16
 rounds = 6
@@ -59,12 +56,10 @@ split = [1, 1, 1, 1]
 [[row]]
 upto = 65536
 split = [1, 1, 1, 1, 1]
-",
-};
+";
 
-pub(crate) const FEW_ROUNDS: Shipped = Shipped {
-    name: "few-rounds",
-    text: "bounds = \"short\"
+/// That of `few-rounds`.
+const FEW_ROUNDS: &str = "bounds = \"short\"
 cap = 65536
 limit = 64
 rounds = 2
@@ -81,12 +76,10 @@ split = [1, 1, 1, 1, 1, 1, 1, 1, 1, 1, 1, 1, 1, 1, 1, 1, 1, 1, 1, 1, 1, 1, 1, 1,
 upto = 65536
 split = [1, 1, 1, 1, 1, 1, 1, 1, 1, 1, 1, 1, 1, 1, 1, 1, 1, 1, 1, 1, 1, 1, 1, 1, 1, 1, 1, 1, 1, 1, 1, 1, 1, 1, 1, 1,
     1, 1, 1, 1, 1, 1, 1, 1, 1, 1, 1, 1, 1, 1, 1, 1, 1, 1, 1, 1, 1, 1, 1, 1, 1, 1, 1, 1]
-",
-};
+";
 
-pub(crate) const NEWEST_LAST: Shipped = Shipped {
-    name: "newest-last",
-    text: "bounds = \"short\"
+/// That of `newest-last`.
+const NEWEST_LAST: &str = "bounds = \"short\"
 cap = 65536
 limit = 48
 rounds = 5
@@ -110,24 +103,20 @@ split = [1, 1, 1, 1, 1, 1, 1, 1, 1, 1, 1, 1, 1]
 [[row]]
 upto = 65536
 split = [1024, 1024, 1024, 1024, 1024, 64, 8, 1]
-",
-};
+";
 
-pub(crate) const WHOLE_LIST: Shipped = Shipped {
-    name: "whole-list",
-    text: "cap = 65536
+/// That of `whole-list`.
+const WHOLE_LIST: &str = "cap = 65536
 limit = 65536
 rounds = 0
 
 [[row]]
 upto = 65536
 list = true
-",
-};
+";
 
-pub(crate) const SMALL: Shipped = Shipped {
-    name: "small",
-    text: "cap = 256
+/// That of `small`.
+const SMALL: &str = "cap = 256
 limit = 16
 rounds = 2
 
@@ -138,17 +127,34 @@ list = true
 [[row]]
 upto = 256
 split = [1, 1, 1, 1]
-",
-};
+";
 
 /// All of them. Of two that are as quick the first is taken.
 pub(crate) const SHIPPED: [Shipped; 6] = [
-    ALL_ROUND,
-    FEW_BYTES,
-    FEW_ROUNDS,
-    NEWEST_LAST,
-    WHOLE_LIST,
-    SMALL,
+    Shipped {
+        name: "all-round",
+        text: ALL_ROUND,
+    },
+    Shipped {
+        name: "few-bytes",
+        text: FEW_BYTES,
+    },
+    Shipped {
+        name: "few-rounds",
+        text: FEW_ROUNDS,
+    },
+    Shipped {
+        name: "newest-last",
+        text: NEWEST_LAST,
+    },
+    Shipped {
+        name: "whole-list",
+        text: WHOLE_LIST,
+    },
+    Shipped {
+        name: "small",
+        text: SMALL,
+    },
 ];
 
 /// The names of all of them, as a text.
@@ -156,15 +162,16 @@ pub const SHIPPED_NAMES: &str = "all-round, few-bytes, few-rounds, newest-last, 
 
 /// The text of the strategy that is shipped under this name, if one is.
 pub fn shipped_text(name: &str) -> Option<&'static str>
-    ensures { option_map (λ text. text.now) result ≡ shipped_text name.now }
+    ensures { option_map (λ text. text.now) result ≡ shipped_text name.now ALL_ROUND.now FEW_BYTES.now FEW_ROUNDS.now
+        NEWEST_LAST.now WHOLE_LIST.now SMALL.now }
 {
     match name {
-        "all-round" => Some(ALL_ROUND.text),
-        "few-bytes" => Some(FEW_BYTES.text),
-        "few-rounds" => Some(FEW_ROUNDS.text),
-        "newest-last" => Some(NEWEST_LAST.text),
-        "whole-list" => Some(WHOLE_LIST.text),
-        "small" => Some(SMALL.text),
+        "all-round" => Some(ALL_ROUND),
+        "few-bytes" => Some(FEW_BYTES),
+        "few-rounds" => Some(FEW_ROUNDS),
+        "newest-last" => Some(NEWEST_LAST),
+        "whole-list" => Some(WHOLE_LIST),
+        "small" => Some(SMALL),
         _ => None,
     }
 }
