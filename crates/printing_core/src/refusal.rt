@@ -3,7 +3,7 @@
 ghost use Rattle.std.specs.Prelude.{◌≡◌, Some, None, option_map};
 ghost use Rattle.printing_core.specs.FaultsOf.{of_settings, of_scenario, of_input, of_log, of_listen, of_connect};
 ghost use Rattle.printing_core.specs.AddressTexts.{unreached_text};
-ghost use Rattle.printing_core.specs.Whys.{why_text, no_table_text};
+ghost use Rattle.printing_core.specs.Whys.{why_text, no_table_text, full_set_text, room_text};
 ghost use Rattle.printing_core.specs.SecondLines.{bad_line_text, scenario_text, error_text, message_text, session_text};
 ghost use Rattle.printing_core.specs.SecondLines.{peer_line, accept_text, listen_text, connect_text, message_flaw};
 ghost use Rattle.printing_core.specs.SecondLines.{session_flaw, unread_line, unread_input_text, output_text, IsSaid};
@@ -114,16 +114,23 @@ fn room_for(cap: usize, count: usize) -> Room
     }
 }
 
+/// The second line for a set of so many items in a file, above this cap.
+fn why_full<'a>(file: &'a str, cap: usize, count: usize) -> Why<'a>
+    ensures { why_text result ≡ full_set_text file.now cap (room_text (room_for cap count)) }
+{
+    Why::FullSet {
+        file,
+        cap,
+        room: room_for(cap, count),
+    }
+}
+
 /// The second line for a set in a file that is refused. None where memory runs out.
 fn why_set<'a>(alloc: Global, file: &'a str, fault: &SettingsFault) -> Option<Why<'a>>
     ensures { IsSaidOfSet file.now fault.now result }
 {
     match fault {
-        SettingsFault::TooManyItems { cap, count } => {
-            let room = room_for(*cap, *count);
-            let cap = *cap;
-            Some(Why::FullSet { file, cap, room })
-        }
+        SettingsFault::TooManyItems { cap, count } => Some(why_full(file, *cap, *count)),
         fault => why_file(alloc, file, fault),
     }
 }

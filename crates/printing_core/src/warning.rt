@@ -28,21 +28,27 @@ impl fmt::Display for KeyAdvice {
 /// A key of a strategy that says nothing, as it is shown.
 #[derive(Drop)]
 struct KeyWarning<'a> {
-    origin: RowOrigin<'a>,
+    file: &'a str,
+    row: Option<usize>,
     shown: String,
     advice: KeyAdvice,
 }
 
 impl fmt::Display for KeyWarning<'_> {
-    ghost output = { λ warning. Some (warning_text warning.origin.origin.file.now warning.origin.row
-        (string_bytes warning.shown) (option_map (λ key. key.now) warning.advice.0)) };
+    ghost output = { λ warning. Some (warning_text warning.file.now warning.row (string_bytes warning.shown)
+        (option_map (λ key. key.now) warning.advice.0)) };
 
     fn fmt<W: fmt::Write>(&self, f: &mut fmt::Formatter<W>) -> fmt::Result {
         let KeyWarning {
-            origin,
+            file,
+            row,
             shown,
             advice,
         } = self;
+        let origin = RowOrigin {
+            origin: Origin { file, node: None },
+            row: *row,
+        };
         write!(f, "{origin}: {shown} {advice}")
     }
 }
@@ -63,10 +69,9 @@ fn warning_of<'a>(
     file: &'a str,
     stray: StrayKey<'_>,
 ) -> Result<KeyWarning<'a>, AllocError> {
-    let origin = Origin { file, node: None };
-    let row = row_of(stray.place);
     Ok(KeyWarning {
-        origin: RowOrigin { origin, row },
+        file,
+        row: row_of(stray.place),
         shown: shown_line(alloc, stray.key.as_bytes())?,
         advice: KeyAdvice(meant_key(alloc, stray)?),
     })

@@ -23,3 +23,6 @@ returns-in-BadLine-clause-writes g c = rw c.in-BadLine.is c.write-in-BadLine.ens
 
 pub returns-in-FullSet-clause-writes : goal.returns-in-FullSet-clause-writes
 returns-in-FullSet-clause-writes g c = rw c.in-FullSet.is c.write-in-FullSet.ensures.writes
+
+pub returns-in-NoTable-clause-writes : goal.returns-in-NoTable-clause-writes
+returns-in-NoTable-clause-writes g c = rw c.in-NoTable.is c.write-in-NoTable.ensures.writes
