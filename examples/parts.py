@@ -13,6 +13,7 @@ is asked:
 
 from __future__ import annotations
 
+import argparse
 import asyncio
 import hashlib
 import json
@@ -42,6 +43,8 @@ LONGEST = 1 << 28
 """How many bytes a line has at most."""
 VIEWS = 4
 """How many views a server keeps."""
+DIFFERENT = 4
+"""The status of `compare --check` if the two sides differ, which is that of `rangesync sync --check`."""
 
 Json = dict[str, Any]
 
@@ -322,6 +325,22 @@ def told(fault: BaseException) -> str:
     if isinstance(fault, asyncio.TimeoutError):
         return f"a peer that was silent for {SECONDS:.0f} seconds"
     return f"{type(fault).__name__}: {fault}"
+
+
+def add_words(compare: argparse.ArgumentParser) -> None:
+    """The words that each `compare` takes."""
+    status = f"end with status {DIFFERENT} if the two sides differ, and with 0 if they are equal"
+    compare.add_argument("--check", action="store_true", help=status)
+    compare.add_argument("peer", metavar="HOST:PORT")
+
+
+def status_of(is_checked: bool, differs: bool, is_whole: bool = True) -> int:
+    """The status of a comparison that came to its end; `is_whole` says that nothing was left out of it."""
+    if not is_checked:
+        return 0
+    if differs:
+        return DIFFERENT
+    return 0 if is_whole else 1
 
 
 def main(name: str, work: Coroutine[Any, Any, int]) -> int:

@@ -71,9 +71,9 @@ def serve_words(folder: Path) -> Words:
     return [*example("folders"), "serve", str(folder), "--addr", "127.0.0.1:0"]
 
 
-def compare_words(here: Path, address: str, source: Path | None = None) -> Words:
-    fetch = ["--fetch", str(source)] if source else []
-    return [*example("folders"), "compare", str(here), *fetch, address]
+def compare_words(here: Path, address: str, source: Path | None = None, check: bool = False) -> Words:
+    options = [*(["--fetch", str(source)] if source else []), *(["--check"] if check else [])]
+    return [*example("folders"), "compare", str(here), *options, address]
 
 
 def rsync_only(here: Path, there: Path, words: str) -> str:
@@ -154,10 +154,12 @@ def unread(count: Count, folder: Path) -> None:
     try:
         with served(folder, [*as_user, *serve_words(there)]) as server:
             said = ran([*as_user, *compare_words(here, server.address, there)])
+            again = ran([*as_user, *compare_words(here, server.address, check=True)])
     finally:
         for path in closed:
             path.chmod(0o755)
     count.same("unread: found", (0, ["differs both"]), (said.status, found(said)))
+    count.same("unread: with --check, where nothing that was read differs", (1, []), (again.status, found(again)))
     wanted = [
         "folders: not compared: closed cannot be read here (Permission denied)",
         "folders: not compared: locked-here cannot be read here (Permission denied)",
@@ -168,6 +170,28 @@ def unread(count: Count, folder: Path) -> None:
     came = {str(path.relative_to(here)): path.read_text()[:5] for path in here.rglob("*") if path.is_file()}
     wanted_here = dict.fromkeys(["locked-here", "locked-there", "closed/file", "shut/file"], "here")
     count.same("unread: nothing wrong is fetched", {**wanted_here, "shut/mine": "mine", "both": "there"}, came)
+
+
+def checked(count: Count, folder: Path) -> None:
+    """The statuses with `--check`: 0 if both sides are equal, and 4 if they differ."""
+    here, there = folder / "checked-here", folder / "checked-there"
+    for top in here, there:
+        top.mkdir()
+        (top / "same").write_text("same")
+        (top / "other").write_text("old")
+    with served(folder, serve_words(there)) as server:
+        said = ran(compare_words(here, server.address, check=True))
+        count.same("checked: equal", (0, [], ""), (said.status, found(said), said.error))
+        (there / "other").write_text("new")
+        said = ran(compare_words(here, server.address, check=True))
+        count.same("checked: different", (4, ["differs other"], ""), (said.status, found(said), said.error))
+        said = ran(compare_words(here, server.address, there, check=True))
+        count.same("checked: fetched", (4, ["differs other"], ""), (said.status, found(said), said.error))
+        said = ran(compare_words(here, server.address, check=True))
+        count.same("checked: equal since it was fetched", (0, [], ""), (said.status, found(said), said.error))
+        (here / "mine").write_text("mine")
+        said = ran(compare_words(here, server.address, check=True))
+        count.same("checked: a file here alone", (4, ["ours mine"], ""), (said.status, found(said), said.error))
 
 
 def changed_meanwhile(count: Count, folder: Path) -> None:
@@ -219,7 +243,7 @@ def folders(count: Count, is_full: bool) -> None:
         return
     with own_folder() as folder:
         count.tries("folders: many", lambda count: many(count, folder, 50_000 if is_full else 5_000))
-        for test in odd_names, unread, changed_meanwhile, stopped:
+        for test in odd_names, unread, checked, changed_meanwhile, stopped:
             count.tries(f"folders: {test.__name__}", functools.partial(call_with, test, folder))
 
 

@@ -75,10 +75,11 @@ class Compared:
         words = ["serve", "--table", table, "--db", db or self.other.db, "--addr", "127.0.0.1:0"]
         return [*example("postgres"), *words]
 
-    def compare(self, table: str, address: str, in_a_part: int = 0) -> Said:
+    def compare(self, table: str, address: str, in_a_part: int = 0, check: bool = False) -> Said:
         """Runs `compare` at the first server, with parts of so many items."""
         self.repair.unlink(missing_ok=True)
         words = ["compare", "--table", table, "--db", self.one.db, "--repair", str(self.repair), address]
+        words += ["--check"] if check else []
         if not in_a_part:
             return ran([*example("postgres"), *words])
         lines = f"import sys, runpy; sys.path.insert(0, {str(TOP / 'examples')!r}); import parts; "
@@ -144,6 +145,24 @@ def odd_names(count: Count, pair: Compared) -> None:
         key = 'ROW(part, "no:2")::text'
         here, there = table_of(pair.one, ODD_NAME, key), table_of(pair.other, ODD_NAME, key)
         count.same("odd names: the truth", (10, 0, 0), kinds(here, there))
+
+
+def checked(count: Count, pair: Compared) -> None:
+    """The statuses with `--check`: 0 if both sides are equal, and 4 if they differ."""
+    for each in pair.one, pair.other:
+        each.sql("CREATE TABLE checked (id int PRIMARY KEY, note text); INSERT INTO checked VALUES (1, 'a'), (2, 'b');")
+    with served(pair.folder, pair.serve_words("checked")) as server:
+        said = pair.compare("checked", server.address, check=True)
+        count.same("checked: equal", (0, [], ""), (said.status, lines_of(said), said.error))
+        pair.other.sql("UPDATE checked SET note = 'c' WHERE id = 2;")
+        said = pair.compare("checked", server.address, check=True)
+        count.same("checked: different", (4, ["differs 2"], ""), (said.status, lines_of(said), said.error))
+        count.same("checked: mended", Said(0, "", ""), pair.one.file(pair.repair))
+        said = pair.compare("checked", server.address, check=True)
+        count.same("checked: equal since it was mended", (0, [], ""), (said.status, lines_of(said), said.error))
+        pair.one.sql("INSERT INTO checked VALUES (3, 'd');")
+        said = pair.compare("checked", server.address, check=True)
+        count.same("checked: a row here alone", (4, ["ours 3"], ""), (said.status, lines_of(said), said.error))
 
 
 def changed_meanwhile(count: Count, pair: Compared) -> None:
@@ -236,7 +255,7 @@ def postgres(count: Count, is_full: bool) -> None:
                 return
             pair = Compared(*servers, folder)
             people(count, pair, rows, in_a_part)
-            for test in odd_names, changed_meanwhile, refused, stopped:
+            for test in odd_names, checked, changed_meanwhile, refused, stopped:
                 count.tries(f"postgres: {test.__name__}", functools.partial(call_with, test, pair))
 
 
