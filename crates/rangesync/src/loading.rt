@@ -71,7 +71,7 @@ fn accepted<'a>(alloc: Global, path: &'a str, table: &Table) -> Result<Accepted,
 }
 
 /// The strategy in the file, accepted, or the one that is shipped under the name, where no file is there. Standard
-/// error is told of a key that says nothing, if it is told more. Else 80, 30 to 35 or 29, then 37, 36 or 38, and 90.
+/// error is told of a key of it that says nothing, if it is told more. Else 80, 30 to 35 or 29, then 37, 36 or 38, and 90.
 pub fn strategy_of<'a, R: Files + AllocGlobal, E: Write>(
     rt: &R,
     source: TableSource<'a>,
@@ -80,10 +80,11 @@ pub fn strategy_of<'a, R: Files + AllocGlobal, E: Write>(
     let alloc = rt.alloc();
     let TableSource { path, explains } = source;
     let table = table_of(rt, path)?;
+    let accepted = accepted(alloc, path, &table)?;
     if explains && let Some(stray) = stray_key(&table) {
         tell_stray_key(alloc, err, path, stray);
     }
-    accepted(alloc, path, &table)
+    Ok(accepted)
 }
 
 /// The set of the items of the file: at most `cap`. Else 80, 81, then 82, and 90.
