@@ -214,6 +214,12 @@ fn ending<'a, E: Write>(
     })
 }
 
+/// The refusal of the first shard that was not done, if there is one.
+fn refusal_in<'a>(first: Option<(u16, Refusal<'a>)>) -> Option<Refusal<'a>> {
+    let (_number, refusal) = first?;
+    Some(refusal)
+}
+
 /// Runs a session as the initiator for the directory of each server, and one for each shard that differs, and prints
 /// what all found together, to the file if one is asked for. If it is asked for, standard error is told what they cost,
 /// however they ended. Whether an item was found that one side lacks.
@@ -254,7 +260,7 @@ where
         costs,
         ..
     } = gathered;
-    let first = first.map(|(_, refusal)| refusal);
+    let first = refusal_in(first);
     undone.sort_unstable();
     if bits == 0
         && let Some(refusal) = first
