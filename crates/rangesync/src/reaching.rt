@@ -66,13 +66,12 @@ fn with_port(alloc: Global, word: &str, port: &str) -> Result<String, AllocError
 /// The addresses in a word, which has a comma between them, each with a port.
 fn all_with_ports(alloc: Global, word: &str) -> Result<String, AllocError> {
     let mut text = String::new(alloc);
-    let mut rest = word;
-    while let Some((address, others)) = rest.split_once(',') {
+    for (index, address) in word.split(',').enumerate() {
+        if index > 0 {
+            text.push_str(",")?;
+        }
         text.push_str(&with_port(alloc, address, DEFAULT_PORT)?)?;
-        text.push_str(",")?;
-        rest = others;
     }
-    text.push_str(&with_port(alloc, rest, DEFAULT_PORT)?)?;
     Ok(text)
 }
 

@@ -51,21 +51,19 @@ impl<'a> Work<'a> {
     }
 }
 
-/// A shard that is asked for over this connection, and the same work again, if it may be tried again.
+/// A shard that is asked for over this connection.
 #[derive(Drop)]
 struct Ready<'a> {
     work: Work<'a>,
-    again: Option<Work<'a>>,
     stream: Stream,
 }
 
 /// What came of the session over a shard.
 #[derive(Drop)]
-struct Came<'a> {
+struct Came {
     number: u16,
     found: Result<ShardPart, Fault>,
     cost: Option<(Stats, u32)>,
-    again: Option<Work<'a>>,
 }
 
 /// What was learned of a shard.
@@ -87,17 +85,8 @@ fn part_of(alloc: Global, number: u16, outcome: &Outcome) -> Result<ShardPart, F
 }
 
 /// Runs the session over a shard.
-fn run_one<'a, R: Wait + Clock>(
-    rt: &R,
-    alloc: Global,
-    asker: Asker<'_>,
-    ready: Ready<'a>,
-) -> Came<'a> {
-    let Ready {
-        work,
-        again,
-        stream,
-    } = ready;
+fn run_one<R: Wait + Clock>(rt: &R, alloc: Global, asker: Asker<'_>, ready: Ready<'_>) -> Came {
+    let Ready { work, stream } = ready;
     let Work {
         number,
         address: _,
@@ -112,33 +101,32 @@ fn run_one<'a, R: Wait + Clock>(
                 number,
                 found: part_of(alloc, number, &outcome),
                 cost: Some((stats, outcome.sent())),
-                again,
             }
         }
         Err(fault) => Came {
             number,
             found: Err(fault),
             cost: None,
-            again,
         },
     }
 }
 
 /// Runs these sessions at once, each in a thread of its own where one can be made.
-fn run_batch<'a, R: Threads + Wait + Clock + Sync>(
+fn run_batch<R: Threads + Wait + Clock + Sync>(
     rt: &R,
     alloc: Global,
     asker: Asker<'_>,
-    batch: Vec<Ready<'a>>,
-) -> Result<Vec<Came<'a>>, AllocError> {
+    batch: Vec<Ready<'_>>,
+) -> Result<Vec<Came>, AllocError> {
     thread::map_vec(rt, batch, &|ready| run_one(rt, alloc, asker, ready))
 }
 
-/// Shards that are asked for at once: those to which there is a connection, and those to which there is none, with the
-/// fault of the first of these.
+/// Shards that are asked for at once: those to which there is a connection, the same works again in the same order, if
+/// they are kept, and those to which there is none, with the fault of the first of these.
 #[derive(Drop)]
 struct Batch<'a> {
     ready: Vec<Ready<'a>>,
+    kept: Vec<Work<'a>>,
     left: Vec<Work<'a>>,
     fault: Option<Refusal<'a>>,
 }
@@ -158,16 +146,10 @@ impl<'a> Batch<'a> {
         }
         match connect_to(rt, work.address, crew.asker.limits.patience) {
             Ok(stream) => {
-                let again = if crew.keeps {
-                    Some(work.copy(rt.alloc())?)
-                } else {
-                    None
-                };
-                self.ready.push(Ready {
-                    work,
-                    again,
-                    stream,
-                })?;
+                if crew.keeps {
+                    self.kept.push(work.copy(rt.alloc())?)?;
+                }
+                self.ready.push(Ready { work, stream })?;
             }
             Err(refusal) => {
                 self.fault = Some(refusal);
@@ -187,6 +169,7 @@ fn connect_all<'a, R: Files + Net<Stream = TcpStream> + AllocGlobal>(
     let alloc = rt.alloc();
     let mut batch = Batch {
         ready: Vec::new(alloc),
+        kept: Vec::new(alloc),
         left: Vec::new(alloc),
         fault: None,
     };
@@ -243,12 +226,16 @@ impl<'a> Gathered<'a> {
 
     /// Takes what came of a session. Where it did not come to its end and may do so, its work is tried again, if it was
     /// kept.
-    fn take(&mut self, asker: Asker<'_>, came: Came<'a>) -> Result<(), AllocError> {
+    fn take(
+        &mut self,
+        asker: Asker<'_>,
+        came: Came,
+        again: Option<Work<'a>>,
+    ) -> Result<(), AllocError> {
         let Came {
             number,
             found,
             cost,
-            again,
         } = came;
         let mut received = 0;
         if let Some((stats, sent)) = cost {
@@ -284,10 +271,18 @@ impl<'a> Gathered<'a> {
         Ok(())
     }
 
-    /// Takes what came of sessions.
-    fn take_all(&mut self, asker: Asker<'_>, all: Vec<Came<'a>>) -> Result<(), AllocError> {
+    /// Takes what came of sessions, whose works are these in the same order, if they were kept.
+    fn take_all(
+        &mut self,
+        asker: Asker<'_>,
+        all: Vec<Came>,
+        kept: Vec<Work<'a>>,
+    ) -> Result<(), AllocError> {
+        let mut kept = kept;
+        kept.reverse();
         for came in all {
-            self.take(asker, came)?;
+            let again = kept.pop();
+            self.take(asker, came, again)?;
         }
         Ok(())
     }
@@ -370,9 +365,14 @@ fn run_some<'a, R>(
 where
     R: Files + Net<Stream = TcpStream> + Threads + Wait + Clock + AllocGlobal + Sync,
 {
-    let Batch { ready, left, fault } = connect_all(rt, crew, works)?;
+    let Batch {
+        ready,
+        kept,
+        left,
+        fault,
+    } = connect_all(rt, crew, works)?;
     let came = run_batch(rt, rt.alloc(), crew.asker, ready)?;
-    gathered.take_all(crew.asker, came)?;
+    gathered.take_all(crew.asker, came, kept)?;
     gathered.leave_unreached(crew, left, fault)
 }
 
