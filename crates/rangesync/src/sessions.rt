@@ -58,12 +58,21 @@ struct Ready<'a> {
     stream: Stream,
 }
 
-/// What came of the session over a shard.
+/// How the session over a shard ended.
 #[derive(Drop)]
-struct Came {
+struct Heard {
     number: u16,
     found: Result<ShardPart, Fault>,
     cost: Option<(Stats, u32)>,
+}
+
+/// What came of the session over a shard, and its work, if it was kept.
+#[derive(Drop)]
+struct Came<'a> {
+    number: u16,
+    found: Result<ShardPart, Fault>,
+    cost: Option<(Stats, u32)>,
+    again: Option<Work<'a>>,
 }
 
 /// What was learned of a shard.
@@ -85,7 +94,7 @@ fn part_of(alloc: Global, number: u16, outcome: &Outcome) -> Result<ShardPart, F
 }
 
 /// Runs the session over a shard.
-fn run_one<R: Wait + Clock>(rt: &R, alloc: Global, asker: Asker<'_>, ready: Ready<'_>) -> Came {
+fn run_one<R: Wait + Clock>(rt: &R, alloc: Global, asker: Asker<'_>, ready: Ready<'_>) -> Heard {
     let Ready { work, stream } = ready;
     let Work {
         number,
@@ -97,13 +106,13 @@ fn run_one<R: Wait + Clock>(rt: &R, alloc: Global, asker: Asker<'_>, ready: Read
     match converse(rt, alloc, &accepted, log, talk, (&stream, &stream)) {
         Ok((outcome, stats)) => {
             finish(rt, &stream, asker.left(stats));
-            Came {
+            Heard {
                 number,
                 found: part_of(alloc, number, &outcome),
                 cost: Some((stats, outcome.sent())),
             }
         }
-        Err(fault) => Came {
+        Err(fault) => Heard {
             number,
             found: Err(fault),
             cost: None,
@@ -117,7 +126,7 @@ fn run_batch<R: Threads + Wait + Clock + Sync>(
     alloc: Global,
     asker: Asker<'_>,
     batch: Vec<Ready<'_>>,
-) -> Result<Vec<Came>, AllocError> {
+) -> Result<Vec<Heard>, AllocError> {
     thread::map_vec(rt, batch, &|ready| run_one(rt, alloc, asker, ready))
 }
 
@@ -226,16 +235,12 @@ impl<'a> Gathered<'a> {
 
     /// Takes what came of a session. Where it did not come to its end and may do so, its work is tried again, if it was
     /// kept.
-    fn take(
-        &mut self,
-        asker: Asker<'_>,
-        came: Came,
-        again: Option<Work<'a>>,
-    ) -> Result<(), AllocError> {
+    fn take(&mut self, asker: Asker<'_>, came: Came<'a>) -> Result<(), AllocError> {
         let Came {
             number,
             found,
             cost,
+            again,
         } = came;
         let mut received = 0;
         if let Some((stats, sent)) = cost {
@@ -275,14 +280,26 @@ impl<'a> Gathered<'a> {
     fn take_all(
         &mut self,
         asker: Asker<'_>,
-        all: Vec<Came>,
+        all: Vec<Heard>,
         kept: Vec<Work<'a>>,
     ) -> Result<(), AllocError> {
         let mut kept = kept;
         kept.reverse();
-        for came in all {
-            let again = kept.pop();
-            self.take(asker, came, again)?;
+        for heard in all {
+            let Heard {
+                number,
+                found,
+                cost,
+            } = heard;
+            self.take(
+                asker,
+                Came {
+                    number,
+                    found,
+                    cost,
+                    again: kept.pop(),
+                },
+            )?;
         }
         Ok(())
     }
