@@ -151,7 +151,6 @@ fn ended(
 fn a_flood_goes_and_another_goes_on(rt: HostRuntime) -> Result<(), Fail> {
     let alloc = rt.alloc();
     let limits = HubLimits {
-        places: 2,
         memory: 10_000,
         idle: 1_000,
         whole: 2_000,
@@ -161,7 +160,6 @@ fn a_flood_goes_and_another_goes_on(rt: HostRuntime) -> Result<(), Fail> {
     let calm = Fed::of(Vec::from_slice(alloc, EMPTY_SAYS)?, 2);
     let calm = admitted(&rt, alloc, &mut hub, calm, 1);
     let greedy = admitted(&rt, alloc, &mut hub, Fed::of(flood(alloc)?, 4_096), 2);
-    assert!(rt; hub.is_full());
     pump_both(&rt, alloc, &mut hub, (calm, greedy), &accepted)?;
     assert!(rt; hub.over_budget() == Some(greedy));
     let gone = hub.take(greedy).expect(&rt, "a peer");
@@ -193,7 +191,6 @@ fn came_from(
 fn the_most_silent_of_an_origin(rt: HostRuntime) -> Result<(), Fail> {
     let alloc = rt.alloc();
     let limits = HubLimits {
-        places: 3,
         memory: 10_000,
         idle: 1_000,
         whole: 2_000,
