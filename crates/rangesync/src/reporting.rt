@@ -12,7 +12,7 @@ use line_file::Device;
 use peer_loops::PartGate;
 use peer_threads::{Gate, Outcome};
 use printing_core::{
-    Fault, Reporting, learned_line, left_out_line, report_text, shard_report_text, tell_full,
+    Fault, Reporting, Session, learned_line, left_out_line, report_text, tell_full,
 };
 use shard_core::Which;
 use std::alloc::Global;
@@ -51,27 +51,11 @@ struct Desk<'a, D, E> {
 
 impl<D: Device + Drop, E: Write + Drop> Desk<'_, D, E> {
     /// Reports a session that is over.
-    fn report(&mut self, alloc: Global, reporting: Reporting, serial: u64, outcome: &Outcome) {
+    fn report(&mut self, alloc: Global, reporting: Reporting, session: Session, outcome: &Outcome) {
         if let Some(book) = &mut self.books.report {
             book.put(
                 &mut self.err,
-                report_text(alloc, reporting, serial, outcome),
-            );
-        }
-    }
-
-    /// Reports a session over a part of the set that is over.
-    fn report_part(
-        &mut self,
-        alloc: Global,
-        reporting: Reporting,
-        (serial, which): (u64, Which),
-        outcome: &Outcome,
-    ) {
-        if let Some(book) = &mut self.books.report {
-            book.put(
-                &mut self.err,
-                shard_report_text(alloc, reporting, serial, which, outcome),
+                report_text(alloc, reporting, session, outcome),
             );
         }
     }
@@ -352,7 +336,11 @@ impl<R: Wait + Clock, D: Device + Drop, E: Write + Drop> Gate for Reporter<'_, '
     fn ended(&self, serial: u64, outcome: &Outcome) {
         self.ask_anew();
         let mut desk = self.desk.lock(self.rt);
-        desk.report(self.alloc, self.rules.reporting, serial, outcome);
+        let session = Session {
+            serial,
+            which: None,
+        };
+        desk.report(self.alloc, self.rules.reporting, session, outcome);
     }
 
     fn admits(&self, _serial: u64, count: usize) -> usize {
@@ -388,6 +376,10 @@ impl<R: Wait + Clock, D: Device + Drop, E: Write + Drop> PartGate for Reporter<'
     fn ended_in(&self, serial: u64, which: Which, outcome: &Outcome) {
         self.ask_anew();
         let mut desk = self.desk.lock(self.rt);
-        desk.report_part(self.alloc, self.rules.reporting, (serial, which), outcome);
+        let session = Session {
+            serial,
+            which: Some(which),
+        };
+        desk.report(self.alloc, self.rules.reporting, session, outcome);
     }
 }
