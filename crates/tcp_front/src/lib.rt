@@ -26,5 +26,5 @@ pub use limits::{Limits, limited};
 pub use listener::{Listener, listen};
 pub use ready::Arrival;
 pub use stream::Stream;
-pub use unix_socket::{connect_unix, listen_unix};
+pub use unix_socket::{Identity, connect_unix, listen_unix};
 pub use unreached::Unreached;

@@ -7,6 +7,7 @@ use crate::patience::bounded;
 use crate::socket::Socket;
 use crate::stream::Stream;
 use crate::unreached::{Unreached, path_flaw, unix_unheard, unix_unmet};
+use std::fs::Metadata;
 use std::io::ErrorKind;
 use std::net::Net;
 use std::os::unix::fs::{FileTypeExt, MetadataExt};
@@ -15,11 +16,21 @@ use std::rt::Files;
 use std::time::Clock;
 use std::{fs, io};
 
-/// Which file stands at a path, by the numbers of the system: those of the device and of the file on it.
+/// Which file it is, by the numbers of the system: those of the device and of the file on it.
 #[derive(Clone, Copy, Debug, PartialEq, Eq)]
-struct Identity {
+pub struct Identity {
     device: u64,
     number: u64,
+}
+
+impl Identity {
+    /// Which file this is known of.
+    pub fn of(metadata: &Metadata) -> Identity {
+        Identity {
+            device: metadata.dev(),
+            number: metadata.ino(),
+        }
+    }
 }
 
 /// The file of a Unix socket that is listened at.
@@ -36,10 +47,7 @@ fn socket_at<R: Files>(rt: &R, path: &str) -> Option<Identity> {
     if !metadata.file_type().is_socket() {
         return None;
     }
-    Some(Identity {
-        device: metadata.dev(),
-        number: metadata.ino(),
-    })
+    Some(Identity::of(&metadata))
 }
 
 impl<'a> SocketFile<'a> {
