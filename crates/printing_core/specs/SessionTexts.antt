@@ -4,7 +4,6 @@
 --     listed_text l ours theirs  both differences, listed as l says: the items in this order, or how many they are
 --     synced_text l v k a        the lines of a session that ended: its version, the messages sent, and what was
 --                                learned, each item once, rising
---     merged_text l c ours theirs     those of all shards together
 --     session_fault o, session_learned o     why a session did not end, or what it learned
 --     IsSyncOf l o result        what `sync` prints of a session, or the fault that it ends with
 --     finds_any o                whether a session came to its end and found an item that one side lacks
@@ -25,7 +24,6 @@ use Rattle.printing_core.specs.Endings.{fault_in}
 use Rattle.printing_core.specs.ItemTexts.{item_line}
 use Rattle.printing_core.specs.declared.session_texts.Listing.{Listing}
 use Rattle.printing_core.specs.declared.session_texts.Listing.TheVariants as listings
-use Rattle.printing_core.specs.declared.shard_texts.MergedCounts.{MergedCounts}
 use Rattle.printing_core.specs.declared.fault.Fault.{Fault}
 use Rattle.printing_core.specs.declared.fault.Fault.TheVariants.{Session, PeerRefused, ReaderFailed, WriterFailed}
 use Rattle.printing_core.specs.declared.fault.Fault.TheVariants.{Memory}
@@ -59,13 +57,6 @@ counts_text version sent = codes "version " ++ (decimal version ++ (codes "\nsen
 
 abbrev pub synced_text : Listing → ℕ → ℕ → Knowledge → List ℕ
 synced_text listing version sent k = counts_text version sent ++ learned_text listing k
-
-abbrev pub merged_head : MergedCounts → List ℕ
-merged_head c = codes "shards " ++ (decimal c.shards ++ (codes " differ " ++ (decimal c.differ
-    ++ (codes "\nsent " ++ (decimal c.sent ++ codes "\n")))))
-
-abbrev pub merged_text : Listing → MergedCounts → List Item → List Item → List ℕ
-merged_text listing c ours theirs = merged_head c ++ listed_text listing ours theirs
 
 abbrev pub of_direction : Direction → Fault
 of_direction directions.Read = ReaderFailed

@@ -36,7 +36,7 @@ pub use progress::{
     end_progress, tell_again, tell_file_read, tell_hashing, tell_input_read, tell_progress,
 };
 pub use refusal::{Refusal, STANDARD_INPUT};
-pub use reports::{Reporting, Session, learned_line, left_out_line, report_text};
+pub use reports::{Reporting, SessionName, learned_line, left_out_line, report_text};
 pub use session_texts::{Listing, finds_any, listening_line, outcome_text, served_text};
 pub use shard_texts::{MergedCounts, merged_text, tell_undone, undone_text};
 pub use shown::shown_line;

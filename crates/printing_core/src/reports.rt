@@ -28,14 +28,14 @@ pub struct Reporting {
 
 /// Which session is reported. It prints as its name.
 #[derive(Clone, Copy, Debug, PartialEq, Eq)]
-pub struct Session {
+pub struct SessionName {
     /// Its serial.
     pub serial: u64,
     /// The shard, or the directory, that it spoke of; `None`: it spoke of a whole set.
     pub which: Option<Which>,
 }
 
-impl fmt::Display for Session {
+impl fmt::Display for SessionName {
     ghost output = { λ s. Some (session_name s.serial s.which) };
 
     fn fmt<W: fmt::Write>(&self, f: &mut fmt::Formatter<W>) -> fmt::Result {
@@ -61,7 +61,7 @@ pub(crate) fn of_direction(side: Direction) -> Fault
 /// The first line of a session that ended: that of a directory has no version.
 fn head_line(
     alloc: Global,
-    session: Session,
+    session: SessionName,
     version: usize,
     sent: u32,
 ) -> Result<String, AllocError>
@@ -74,7 +74,7 @@ fn head_line(
 }
 
 /// The line of a session that did not end.
-fn stopped_line(alloc: Global, session: Session, fault: Fault) -> Result<String, AllocError>
+fn stopped_line(alloc: Global, session: SessionName, fault: Fault) -> Result<String, AllocError>
     ensures { IfOk result (λ text. string_bytes text ≡ stopped_line session.serial session.which fault) }
 {
     format!(in alloc; "{session} {fault}\n")
@@ -146,7 +146,7 @@ fn push_reported(
 pub fn report_text(
     alloc: Global,
     reporting: Reporting,
-    session: Session,
+    session: SessionName,
     outcome: &Outcome,
 ) -> Result<String, AllocError>
     ensures { IfOk result (λ text. string_bytes text

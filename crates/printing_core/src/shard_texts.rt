@@ -2,8 +2,7 @@
 
 ghost use Rattle.std.specs.Prelude.{◌≡◌, ◌++◌, IfOk, OnOk, flat_map, string_bytes};
 ghost use Rattle.printing_core.specs.Lines.{spaced};
-ghost use Rattle.printing_core.specs.SessionTexts.{merged_head, merged_text};
-ghost use Rattle.printing_core.specs.ShardTexts.{first_text, undone_text};
+ghost use Rattle.printing_core.specs.ShardTexts.{merged_head, merged_text, first_text, undone_text};
 
 use crate::fault::Fault;
 use crate::session_texts::{Both, Listing, push_listed};

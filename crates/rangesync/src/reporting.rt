@@ -12,7 +12,7 @@ use line_file::Device;
 use peer_loops::PartGate;
 use peer_threads::{Gate, Outcome};
 use printing_core::{
-    Fault, Reporting, Session, learned_line, left_out_line, report_text, tell_full,
+    Fault, Reporting, SessionName, learned_line, left_out_line, report_text, tell_full,
 };
 use shard_core::Which;
 use std::alloc::Global;
@@ -51,7 +51,13 @@ struct Desk<'a, D, E> {
 
 impl<D: Device + Drop, E: Write + Drop> Desk<'_, D, E> {
     /// Reports a session that is over.
-    fn report(&mut self, alloc: Global, reporting: Reporting, session: Session, outcome: &Outcome) {
+    fn report(
+        &mut self,
+        alloc: Global,
+        reporting: Reporting,
+        session: SessionName,
+        outcome: &Outcome,
+    ) {
         if let Some(book) = &mut self.books.report {
             book.put(
                 &mut self.err,
@@ -336,7 +342,7 @@ impl<R: Wait + Clock, D: Device + Drop, E: Write + Drop> Gate for Reporter<'_, '
     fn ended(&self, serial: u64, outcome: &Outcome) {
         self.ask_anew();
         let mut desk = self.desk.lock(self.rt);
-        let session = Session {
+        let session = SessionName {
             serial,
             which: None,
         };
@@ -376,7 +382,7 @@ impl<R: Wait + Clock, D: Device + Drop, E: Write + Drop> PartGate for Reporter<'
     fn ended_in(&self, serial: u64, which: Which, outcome: &Outcome) {
         self.ask_anew();
         let mut desk = self.desk.lock(self.rt);
-        let session = Session {
+        let session = SessionName {
             serial,
             which: Some(which),
         };

@@ -2,9 +2,9 @@
 --     port_of a              what follows the last `:`, if there is one
 --     port_is_too_high a     whether this is decimal digits, and a number above 65535
 --     path_flaw path         what is wrong with the path of a Unix socket itself, if anything is
---     unknown, unheard, unmet, unix_unheard, unix_unmet     the cause, by what the system said of the look-up of a text,
---                            of listening, of connecting, for which there were so many seconds, and of the last two at
---                            a path; none where memory ran out
+--     unknown, unheard, unmet     the cause, by what the system said of the look-up of a text, of listening, and of
+--                            connecting, for which there were so many seconds; none where memory ran out
+--     unix_unheard, unix_unmet     the last two at a path
 --     listen_fault, connect_fault, accept_fault     the fault
 use Rattle.std.specs.Prelude.{ℕ, Bool, false, ◌&&◌, ◌==◌, nat_lt, List, [], ◌∷◌, length, if◌then◌else◌}
 use Rattle.std.specs.Prelude.{Option, Some, None}

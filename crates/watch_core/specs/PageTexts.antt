@@ -14,8 +14,8 @@ use Rattle.watch_core.specs.Counting.{most}
 use Rattle.watch_core.specs.Pieces.{seconds_text, address_text, known_text, named_ending_text}
 use Rattle.watch_core.specs.declared.counts.Counts.{Counts}
 use Rattle.watch_core.specs.declared.endings.EndingCounts.{EndingCounts}
-use Rattle.watch_core.specs.declared.page.TheConstants.{FRONT, TITLE, SET, FILE, TILES, TABLE, BAR, TABLE_END, LAST, ROW}
-use Rattle.watch_core.specs.declared.page.TheConstants.{END}
+use Rattle.watch_core.specs.declared.page.TheConstants.{FRONT, TITLE, SET, FILE, TILES, TABLE, BAR, TABLE_END, LAST}
+use Rattle.watch_core.specs.declared.page.TheConstants.{ROW, END}
 use Rattle.watch_core.specs.declared.standing.Standing.{Standing}
 use Rattle.watch_core.specs.declared.visit.Visit.{Visit}
 
@@ -48,7 +48,8 @@ abbrev pub named : List ℕ → List ℕ → List ℕ
 named template value = if length value == 0 then [] else filled template (value ∷ [])
 
 unfoldable pub title : Standing → List ℕ
-title s = filled TITLE.now (s.program.now ∷ s.address.now ∷ []) ++ (named SET.now s.set.now ++ named FILE.now s.file.now)
+title s = filled TITLE.now (s.program.now ∷ s.address.now ∷ [])
+    ++ (named SET.now s.set.now ++ named FILE.now s.file.now)
 
 unfoldable pub tiles : Standing → List ℕ
 tiles s = filled TILES.now (map decimal (s.items ∷ s.cap ∷ s.version ∷ s.inserted ∷ s.dropped ∷ s.waiting ∷ s.failures
