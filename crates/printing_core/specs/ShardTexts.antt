@@ -6,6 +6,9 @@
 --     undone_text ns f               which shards were not done, and why the first of these was not
 --     progress_text done of items    how far a call is, over what stood on the line
 --     progress_end                   nothing on the line
+--     file_read_text percent seconds how much of a file was read, over what stood on the line
+--     input_read_text mib            how many MiB of an input were read
+--     hashing_text items             so many items are hashed
 --     again_text seconds             a session is tried again
 use Rattle.std.specs.Prelude.{ℕ, List, [], ◌∷◌, ◌++◌, length, codes, flat_map}
 use Rattle.std.specs.Fmt.{decimal}
@@ -70,6 +73,16 @@ progress_text done of items = 13 ∷ (codes "shards " ++ (decimal done ++ (codes
 
 abbrev pub progress_end : List ℕ
 progress_end = 13 ∷ 27 ∷ codes "[K"
+
+abbrev pub file_read_text : ℕ → ℕ → List ℕ
+file_read_text percent seconds = 13 ∷ 27 ∷ (codes "[Kread " ++ (decimal percent ++ (codes " % "
+    ++ (decimal seconds ++ codes " s left"))))
+
+abbrev pub input_read_text : ℕ → List ℕ
+input_read_text mib = 13 ∷ 27 ∷ (codes "[Kread " ++ (decimal mib ++ codes " MiB"))
+
+abbrev pub hashing_text : ℕ → List ℕ
+hashing_text items = 13 ∷ 27 ∷ (codes "[Khashing " ++ (decimal items ++ codes " items"))
 
 abbrev pub again_text : ℕ → List ℕ
 again_text seconds = codes "trying again in " ++ (decimal seconds ++ codes " s\n")

@@ -37,7 +37,9 @@ pub use printed::{
     tell, tell_address, tell_dropped, tell_no_text, tell_shard_flaw, tell_stats, tell_unwritten,
     tell_words,
 };
-pub use progress::{end_progress, tell_again, tell_progress};
+pub use progress::{
+    end_progress, tell_again, tell_file_read, tell_hashing, tell_input_read, tell_progress,
+};
 pub use refusal::Refusal;
 pub use reports::{Reporting, learned_line, left_out_line, report_text};
 pub use session_texts::{Listing, finds_any, listening_line, outcome_text, served_text};

@@ -1,7 +1,8 @@
-//! How far a call is, on one line of a terminal; and that it tries again.
+//! How far a call is, and how far a set is loaded, on one line of a terminal; and that a call tries again.
 
 ghost use Rattle.std.specs.Prelude.{◌≡◌, Some};
 ghost use Rattle.printing_core.specs.ShardTexts.{progress_text, progress_end, again_text};
+ghost use Rattle.printing_core.specs.ShardTexts.{file_read_text, input_read_text, hashing_text};
 
 use std::fmt;
 use std::io::Write;
@@ -57,4 +58,61 @@ impl fmt::Display for Again {
 /// Prints that a session is tried again in so many seconds. A line that is not taken changes nothing.
 pub fn tell_again<E: Write>(err: &mut E, seconds: u32) {
     let _told = write!(err, "{}", Again(seconds));
+}
+
+/// So many percent of a file were read, and the rest takes so many seconds at the same speed.
+#[derive(Clone, Copy)]
+struct FileRead {
+    percent: u64,
+    seconds: u64,
+}
+
+impl fmt::Display for FileRead {
+    ghost output = { λ r. Some (file_read_text r.percent r.seconds) };
+
+    fn fmt<W: fmt::Write>(&self, f: &mut fmt::Formatter<W>) -> fmt::Result {
+        let FileRead { percent, seconds } = *self;
+        write!(f, "\r\x1b[Kread {percent} % {seconds} s left")
+    }
+}
+
+/// Prints over the line how much of a file was read, and how long the rest takes. What is not taken changes nothing.
+pub fn tell_file_read<E: Write>(err: &mut E, percent: u64, seconds: u64) {
+    let _told = write!(err, "{}", FileRead { percent, seconds });
+}
+
+/// So many MiB were read of an input whose length is not known.
+#[derive(Clone, Copy)]
+struct InputRead(u64);
+
+impl fmt::Display for InputRead {
+    ghost output = { λ r. Some (input_read_text r.0) };
+
+    fn fmt<W: fmt::Write>(&self, f: &mut fmt::Formatter<W>) -> fmt::Result {
+        let mib = self.0;
+        write!(f, "\r\x1b[Kread {mib} MiB")
+    }
+}
+
+/// Prints over the line how many MiB of an input were read. What is not taken changes nothing.
+pub fn tell_input_read<E: Write>(err: &mut E, mib: u64) {
+    let _told = write!(err, "{}", InputRead(mib));
+}
+
+/// So many items are hashed.
+#[derive(Clone, Copy)]
+struct Hashing(usize);
+
+impl fmt::Display for Hashing {
+    ghost output = { λ h. Some (hashing_text h.0) };
+
+    fn fmt<W: fmt::Write>(&self, f: &mut fmt::Formatter<W>) -> fmt::Result {
+        let items = self.0;
+        write!(f, "\r\x1b[Khashing {items} items")
+    }
+}
+
+/// Prints over the line that so many items are hashed. What is not taken changes nothing.
+pub fn tell_hashing<E: Write>(err: &mut E, items: usize) {
+    let _told = write!(err, "{}", Hashing(items));
 }

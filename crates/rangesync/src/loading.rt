@@ -116,11 +116,14 @@ pub struct Sources<'a> {
     pub items: Option<&'a str>,
     /// The path of the file in which the set is kept, if there is one.
     pub keep: Option<&'a str>,
+    /// Whether standard error is shown how far the items of shards are loaded.
+    pub shows: bool,
 }
 
 impl<'a> Sources<'a> {
-    /// Where a server begins from that is asked for in these words, and whether standard error is told more.
-    pub fn of_server(words: ServeWords<'a>, explains: bool) -> Sources<'a> {
+    /// Where a server begins from that is asked for in these words; whether standard error is told more, and whether it
+    /// is shown how far all is.
+    pub fn of_server(words: ServeWords<'a>, explains: bool, shows: bool) -> Sources<'a> {
         Sources {
             table: TableSource {
                 path: words.table,
@@ -130,11 +133,13 @@ impl<'a> Sources<'a> {
             form: words.form,
             items: words.items,
             keep: words.keep,
+            shows,
         }
     }
 
-    /// Where a `sync` begins from that is asked for in these words, and whether standard error is told more.
-    pub fn of_asker(words: SyncWords<'a>, explains: bool) -> Sources<'a> {
+    /// Where a `sync` begins from that is asked for in these words; whether standard error is told more, and whether it
+    /// is shown how far all is.
+    pub fn of_asker(words: SyncWords<'a>, explains: bool, shows: bool) -> Sources<'a> {
         Sources {
             table: TableSource {
                 path: words.table,
@@ -144,6 +149,7 @@ impl<'a> Sources<'a> {
             form: words.form,
             items: Some(words.items),
             keep: None,
+            shows,
         }
     }
 

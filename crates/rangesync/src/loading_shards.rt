@@ -8,6 +8,7 @@ ghost use Rattle.shard_core.specs.Spans.{AreKept};
 use crate::books::Kept;
 use crate::disk::Opened;
 use crate::loading::{Sources, open_kept, strategy_of};
+use crate::showing::{Screen, Shown};
 use io_core::Watched;
 use item_core::Item;
 use item_files::ReadFault;
@@ -16,10 +17,11 @@ use settings_core::Sharding;
 use shard_core::{join_shards, shard_count};
 use shard_loading::{LoadFault, LoadOptions, ShardedSet, read_shards};
 use std::alloc::Global;
-use std::fs::File;
+use std::fs::{File, OpenFile};
 use std::io::{ErrorKind, Read, Write};
 use std::rt::Files;
 use std::thread::Threads;
+use std::time::Clock;
 use std::{fs, io};
 use strategy_check::Accepted;
 
@@ -42,32 +44,44 @@ fn unread(error: &io::Error) -> LoadFault {
     }
 }
 
+/// How many bytes a file has that is open, where that is known.
+fn size_of(file: &File) -> Option<u64> {
+    Some(file.metadata().ok()?.len())
+}
+
 /// The shards of the items of the file.
-fn file_shards<R: Files + AllocGlobal>(
-    rt: &R,
+fn file_shards<R: Files<File = File> + Clock + AllocGlobal, E: Write>(
     path: &str,
     options: LoadOptions,
+    screen: &mut Screen<'_, R, E>,
 ) -> Result<Vec<Vec<Item>>, LoadFault>
     requires low { options.bits ≤ max_bits }
     requires span { (options.first ≤ options.last) × (options.last < 2 ^ options.bits) }
     ensures { IfOk result (λ v. AreKept options.bits options.first options.last options.cap (held v.items)) }
 {
+    let rt = screen.rt();
     match fs::open(rt, path) {
-        Ok(file) => read_shards(rt.alloc(), &mut Watched::new(file), options),
+        Ok(file) => {
+            let size = size_of(&file);
+            let reader = Shown::new(screen, file, size);
+            read_shards(rt.alloc(), &mut Watched::new(reader), options)
+        }
         Err(error) => Err(unread(&error)),
     }
 }
 
 /// The shards of the items of the input.
-fn input_shards<'a, I: Read + Drop>(
-    alloc: Global,
+fn input_shards<'a, R: Clock + AllocGlobal, I: Read + Drop, E: Write>(
     reader: I,
     options: LoadOptions,
+    screen: &mut Screen<'_, R, E>,
 ) -> Result<Vec<Vec<Item>>, Refusal<'a>>
     requires low { options.bits ≤ max_bits }
     requires span { (options.first ≤ options.last) × (options.last < 2 ^ options.bits) }
     ensures { IfOk result (λ v. AreKept options.bits options.first options.last options.cap (held v.items)) }
 {
+    let alloc = screen.rt().alloc();
+    let reader = Shown::new(screen, reader, None);
     match read_shards(alloc, &mut Watched::new(reader), options) {
         Ok(shards) => Ok(shards),
         Err(fault) => Err(Refusal::of_shards_input(alloc, options.cap, fault)),
@@ -76,66 +90,71 @@ fn input_shards<'a, I: Read + Drop>(
 
 /// The shards of the items of the file, or of the input; of no items, if neither is given. Else 80, 81, then 82, and
 /// 90.
-fn item_shards<'a, R: Files + AllocGlobal, I: Read + Drop>(
-    rt: &R,
+fn item_shards<'a, R: Files<File = File> + Clock + AllocGlobal, I: Read + Drop, E: Write>(
     items: Option<&'a str>,
     reader: I,
     options: LoadOptions,
+    screen: &mut Screen<'_, R, E>,
 ) -> Result<Vec<Vec<Item>>, Refusal<'a>>
     requires low { options.bits ≤ max_bits }
     requires span { (options.first ≤ options.last) × (options.last < 2 ^ options.bits) }
     ensures { IfOk result (λ v. AreKept options.bits options.first options.last options.cap (held v.items)) }
 {
-    let alloc = rt.alloc();
+    let alloc = screen.rt().alloc();
     match items {
-        Some("-") => input_shards(alloc, reader, options),
-        Some(path) => match file_shards(rt, path, options) {
+        Some("-") => input_shards(reader, options, screen),
+        Some(path) => match file_shards(path, options, screen) {
             Ok(shards) => Ok(shards),
             Err(fault) => Err(Refusal::of_shards_file(alloc, path, options.cap, fault)),
         },
-        None => input_shards(alloc, io::empty(), options),
+        None => input_shards(io::empty(), options, screen),
     }
 }
 
 /// The shards of the items of a file that is open.
-fn reread_shards(
-    alloc: Global,
+fn reread_shards<R: Clock + AllocGlobal, E: Write>(
     opened: &mut Opened,
     options: LoadOptions,
+    screen: &mut Screen<'_, R, E>,
 ) -> Result<Vec<Vec<Item>>, LoadFault>
     requires low { options.bits ≤ max_bits }
     requires span { (options.first ≤ options.last) × (options.last < 2 ^ options.bits) }
     ensures { IfOk result (λ v. AreKept options.bits options.first options.last options.cap (held v.items)) }
 {
+    let alloc = screen.rt().alloc();
     match opened.reader() {
-        Ok(reader) => read_shards(alloc, &mut Watched::new(reader), options),
+        Ok(reader) => {
+            let size = size_of(reader);
+            let reader = Shown::new(screen, reader, size);
+            read_shards(alloc, &mut Watched::new(reader), options)
+        }
         Err(error) => Err(unread(&error)),
     }
 }
 
 /// The shards of the items of both, of which the second are those of a file.
-fn joined_shards(
-    alloc: Global,
+fn joined_shards<R: Clock + AllocGlobal, E: Write>(
     shards: Vec<Vec<Item>>,
     opened: &mut Opened,
     options: LoadOptions,
+    screen: &mut Screen<'_, R, E>,
 ) -> Result<Vec<Vec<Item>>, LoadFault>
     requires low { options.bits ≤ max_bits }
     requires span { (options.first ≤ options.last) × (options.last < 2 ^ options.bits) }
     requires own { AreKept options.bits options.first options.last options.cap (held shards.items) }
     ensures { IfOk result (λ v. AreKept options.bits options.first options.last options.cap (held v.items)) }
 {
-    let more = reread_shards(alloc, opened, options)?;
+    let more = reread_shards(opened, options, screen)?;
     Ok(join_shards(shards, &more, options.first, options.cap)?)
 }
 
 /// The same with the shards of the file in which the set is kept, if there is one. Else 80, 81, then 82, and 90.
-fn with_kept<'a>(
-    alloc: Global,
+fn with_kept<'a, R: Clock + AllocGlobal, E: Write>(
     keep: Option<&'a str>,
     opened: &mut Option<Opened>,
     shards: Vec<Vec<Item>>,
     options: LoadOptions,
+    screen: &mut Screen<'_, R, E>,
 ) -> Result<Vec<Vec<Item>>, Refusal<'a>>
     requires low { options.bits ≤ max_bits }
     requires span { (options.first ≤ options.last) × (options.last < 2 ^ options.bits) }
@@ -145,7 +164,8 @@ fn with_kept<'a>(
     let Some(opened) = opened else {
         return Ok(shards);
     };
-    match joined_shards(alloc, shards, opened, options) {
+    let alloc = screen.rt().alloc();
+    match joined_shards(shards, opened, options, screen) {
         Ok(shards) => Ok(shards),
         Err(fault) => Err(kept_refusal(alloc, keep, options.cap, fault)),
     }
@@ -175,6 +195,47 @@ fn enough_places<'a>(accepted: &Accepted, table: &'a str, bits: u8) -> Result<()
     Ok(())
 }
 
+/// How many items all shards have.
+fn count_of(shards: &[Vec<Item>]) -> usize {
+    let mut count: usize = 0;
+    for shard in shards {
+        count = count.saturating_add(shard.len());
+    }
+    count
+}
+
+/// The logs of some shards of the items in the files, or in the input. Up to four threads hash the items. Else 80, 81,
+/// then 82, and 90.
+fn load_all<'a, R, I: Read + Drop, E: Write>(
+    sources: Sources<'a>,
+    accepted: Accepted,
+    options: LoadOptions,
+    reader: I,
+    screen: &mut Screen<'_, R, E>,
+) -> Result<LoadedShards, Refusal<'a>>
+where
+    R: Files<File = File> + AllocGlobal + Threads + Clock + Sync,
+    requires low { options.bits ≤ max_bits }
+    requires span { (options.first ≤ options.last) × (options.last < 2 ^ options.bits) }
+    requires cap { options.cap ≡ accepted.table.cap }
+    requires places { 2 ^ options.bits ≤ accepted.table.cap }
+    ensures places { IfOk result (λ o. 2 ^ o.set.bits ≤ o.accepted.table.cap) }
+    ensures cap { IfOk result (λ o. o.set.cap ≡ o.accepted.table.cap) }
+{
+    let rt = screen.rt();
+    let shards = item_shards(sources.items, reader, options, screen)?;
+    let mut kept = open_kept(rt, sources, screen.err())?;
+    let shards = with_kept(sources.keep, &mut kept.opened, shards, options, screen)?;
+    screen.hash(count_of(&shards));
+    let LoadOptions { bits, first, .. } = options;
+    let set = ShardedSet::of(rt, rt.alloc(), bits, first, accepted.cap(), shards)?;
+    Ok(LoadedShards {
+        accepted,
+        set,
+        kept,
+    })
+}
+
 /// The strategy in one file and the logs of some shards of the items in the others, or in the input. Up to four threads
 /// hash the items.
 ///
@@ -183,7 +244,7 @@ fn enough_places<'a>(accepted: &Accepted, table: &'a str, bits: u8) -> Result<()
 /// then those of the file in which the set is kept, in the same way. Items of other shards are left out.
 pub fn load_shards<
     'a,
-    R: Files<File = File> + AllocGlobal + Threads + Sync,
+    R: Files<File = File> + AllocGlobal + Threads + Clock + Sync,
     I: Read + Drop,
     E: Write,
 >(
@@ -196,7 +257,6 @@ pub fn load_shards<
     ensures places { IfOk result (λ o. 2 ^ o.set.bits ≤ o.accepted.table.cap) }
     ensures cap { IfOk result (λ o. o.set.cap ≡ o.accepted.table.cap) }
 {
-    let alloc = rt.alloc();
     let accepted = strategy_of(rt, sources.table, err)?;
     let Sharding { bits, first, last } = sharding;
     enough_places(&accepted, sources.table.path, bits)?;
@@ -207,13 +267,8 @@ pub fn load_shards<
         last,
         cap: accepted.cap() as usize,
     };
-    let shards = item_shards(rt, sources.items, reader, options)?;
-    let mut kept = open_kept(rt, sources, err)?;
-    let shards = with_kept(alloc, sources.keep, &mut kept.opened, shards, options)?;
-    let set = ShardedSet::of(rt, alloc, bits, first, accepted.cap(), shards)?;
-    Ok(LoadedShards {
-        accepted,
-        set,
-        kept,
-    })
+    let mut screen = Screen::begin(rt, err, sources.shows);
+    let loaded = load_all(sources, accepted, options, reader, &mut screen);
+    screen.clear();
+    loaded
 }

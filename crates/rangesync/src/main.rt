@@ -24,6 +24,7 @@ mod run;
 mod serve;
 mod sessions;
 mod sharding;
+mod showing;
 mod stdio;
 mod stocking;
 mod sync;

@@ -118,7 +118,7 @@ where
 {
     let (reader, outputs) = ends;
     let serving = Serving::asked(words, target.set);
-    let sources = Sources::of_server(words, target.explains);
+    let sources = Sources::of_server(words, target.explains, target.shows);
     if words.stdio {
         let loaded = load(rt, sources, io::empty(), err)?;
         serve_stdio(rt, loaded, serving, (reader, outputs.out), err)
@@ -145,7 +145,7 @@ where
 {
     let (reader, out) = ends;
     let asking = Asking::asked(words, target.set, target.explains);
-    let sources = Sources::of_asker(words, target.explains);
+    let sources = Sources::of_asker(words, target.explains, target.shows);
     let differ = if words.stdio {
         let loaded = load(rt, sources, io::empty(), err)?;
         sync_stdio(rt, loaded, asking, (reader, out), err)?

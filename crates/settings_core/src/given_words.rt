@@ -7,7 +7,7 @@ ghost use Rattle.settings_core.specs.Calls.{is_hash, profile_number};
 ghost use Rattle.settings_core.specs.Spans.{IsLearnedCount, IsReportedCount, IsWithin, IsWorkerCount};
 
 use crate::commands::{AnswerWords, Call, CheckWords, Command, PlanWords, ServeWords, SyncWords};
-use crate::known_words::{
+use crate::spans::{
     MAX_AT_ONCE, MAX_ITEM_LENGTH, MAX_ITEMS, MAX_MEMORY, MAX_PATIENCE, MAX_PEERS,
     MAX_PLANNED_ITEMS, MAX_RATE, MAX_RETRIES, MAX_ROUND_TRIP, MAX_SEARCH, MAX_SESSION_SECONDS,
     MAX_SESSIONS, MAX_SHARD_BITS, MAX_WORKERS, MIN_BYTES, MIN_ITEM_LENGTH,

@@ -7,9 +7,11 @@ mod commands;
 mod given_words;
 mod known_words;
 mod retries;
+mod session_words;
 mod shard_sizes;
 mod shard_words;
 mod sharding;
+mod spans;
 mod stdio_words;
 mod words;
 
