@@ -1,7 +1,7 @@
 -- What a call does to a list of values.
---     ChangesAt place xs ys P     the value at this place becomes one of which P holds, and the others stay; where there
---                                 is none all stay
-use Rattle.std.specs.Prelude.{◌≡◌, ◌⊎◌, ◌<◌, ◌≤◌, ℕ, List, length, slice_set, Option, Some, None}
+--     ChangesAt place xs ys P     the value at this place becomes one that stands so to it, and the others stay; where
+--                                 there is none all stay
+use Rattle.std.specs.Prelude.{◌≡◌, ◌⊎◌, ℕ, List, slice_set, Option, Some, None}
 use Rattle.std.specs.List.{slice_get}
 
 abbrev pub ChangesAt : {A : Type 0} → Option ℕ → List A → List A → (A → A → Type 0) → Type 0

@@ -37,14 +37,14 @@ pub enum Front<'a> {
 
 impl<'a> Front<'a> {
     /// What the set is called, if peers have to say it.
-    fn set(self) -> Option<SetName<'a>> {
+    pub fn set(self) -> Option<SetName<'a>> {
         match self {
             Front::Open => None,
             Front::Named(set) | Front::Cut(set) => Some(set),
         }
     }
 
-    /// The part that is meant by a peer which speaks of this one: none of a set that is not cut.
+    /// The part that a gate is told of where a session was over this one: none of a set that is not cut.
     pub(crate) fn told(self, which: Which) -> Option<Which> {
         match self {
             Front::Cut(_) => Some(which),

@@ -122,11 +122,11 @@ impl<'a> Desks<'a> {
         rt: &T,
         alloc: Global,
         common: &Common<'_, G>,
-        over: Over,
+        over: &Over,
         outcome: &Outcome,
     ) -> bool
-        ensures put { ChangesAt (place_for self.old.first over.part) self.old.list.items self.new.list.items
-            (λ d e. (e.part ≡ d.part) × PutsInOf over.id (G.lets_in common.now.gate.now) d.part.now.own outcome.now
+        ensures put { ChangesAt (place_for self.old.first over.now.part) self.old.list.items self.new.list.items
+            (λ d e. (e.part ≡ d.part) × PutsInOf over.now.id (G.lets_in common.now.gate.now) d.part.now.own outcome.now
             d.seat.view e.seat.view) }
     {
         let Some(place) = self.place_of(over.part) else {

@@ -28,4 +28,4 @@ pub use crowd::{PeerLimits, Service};
 pub use hub_core::Origins;
 pub use part::Parts;
 pub use part_gate::PartGate;
-pub use serving::serve_peers;
+pub use serving::{Served, serve_peers};

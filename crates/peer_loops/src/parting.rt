@@ -39,7 +39,7 @@ fn close_session<R: Wait, G: PartGate>(site: &Site<'_, R, G>, id: SessionId, out
 
 /// Ends the session in the table, and tells the gate how it ended. Where the session never came into the table, nobody
 /// is told.
-fn tell_end<R: Wait, G: PartGate>(site: &Site<'_, R, G>, over: Over, outcome: &Outcome) {
+fn tell_end<R: Wait, G: PartGate>(site: &Site<'_, R, G>, over: &Over, outcome: &Outcome) {
     let Some(id) = over.id else {
         return;
     };
@@ -55,12 +55,12 @@ fn tell_end<R: Wait, G: PartGate>(site: &Site<'_, R, G>, over: Over, outcome: &O
 fn conclude<R: Wait, G: PartGate>(
     site: &Site<'_, R, G>,
     desks: &mut Desks<'_>,
-    over: Over,
+    over: &Over,
     outcome: &Outcome,
 )
-    ensures put { ChangesAt (place_for desks.old.first over.part) desks.old.list.items desks.new.list.items
-        (λ d e. (e.part ≡ d.part) × PutsInOf over.id (G.lets_in site.now.common.now.gate.now) d.part.now.own outcome.now
-        d.seat.view e.seat.view) }
+    ensures put { ChangesAt (place_for desks.old.first over.now.part) desks.old.list.items desks.new.list.items
+        (λ d e. (e.part ≡ d.part) × PutsInOf over.now.id (G.lets_in site.now.common.now.gate.now) d.part.now.own
+        outcome.now d.seat.view e.seat.view) }
 {
     tell_end(site, over, outcome);
     if desks.put_in(site.rt, site.alloc, site.common, over, outcome) {
@@ -180,7 +180,7 @@ impl Loop {
         site.crowd.count_one_less(site.rt, peer.origin());
         let serial = over.id.as_ref().map(|id| id.serial());
         let gone = parted(peer, serial, parting, self.now);
-        conclude(site, desks, over, &gone.outcome);
+        conclude(site, desks, &over, &gone.outcome);
         let gone = Gone {
             outcome: shown(site.alloc, over.part, gone.outcome),
             ..gone

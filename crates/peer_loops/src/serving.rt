@@ -11,6 +11,7 @@ use crate::part::Parts;
 use crate::part_gate::PartGate;
 use crate::site::Site;
 use outcome_core::WorkersReport;
+use std::alloc::Global;
 use std::net::Net;
 use std::sync::{Mutex, Wait};
 use std::thread::{Threads, join};
@@ -99,11 +100,56 @@ fn run_half<R: Threads + Clock + Wait + Sync, G: PartGate + Sync>(
     first.saturating_add(second)
 }
 
-/// What is told where no loop could be started.
-fn none_started() -> WorkersReport {
-    WorkersReport {
+/// What loops did that have served, and how many items all parts have at the end.
+#[derive(Clone, Copy, Debug, PartialEq, Eq)]
+pub struct Served {
+    /// What they did.
+    pub report: WorkersReport,
+    /// The number of items.
+    pub items: usize,
+}
+
+/// So many seats at each part, for so many loops. None where memory runs out.
+fn pool_of<'a, R: Wait>(
+    rt: &R,
+    alloc: Global,
+    parts: &'a mut Parts,
+    loops: u8,
+) -> Option<Pool<'a>> {
+    let desks = Desks::at(rt, alloc, parts)?;
+    Some(Mutex::new(desks.for_loops(rt, alloc, usize::from(loops))?))
+}
+
+/// Serves by so many loops of each kind.
+fn serve_all<R: Net + Threads + Clock + Wait + AllocGlobal + Sync, G: PartGate + Sync>(
+    rt: &R,
+    common: &Common<'_, G>,
+    parts: &mut Parts,
+    listener: &Listener<'_, R>,
+    service: Service<'_>,
+) -> WorkersReport
+    requires count { (1 ≤ service.loops) × (service.loops ≤ 16) }
+{
+    let both_kinds = service.loops * 2;
+    let nothing = WorkersReport {
         started: 0,
         fault: None,
+    };
+    let Some(pool) = pool_of(rt, rt.alloc(), parts, both_kinds) else {
+        return nothing;
+    };
+    let crowd = match Crowd::new(rt, rt.alloc(), service) {
+        Ok(crowd) if listener.never_wait().is_ok() => crowd,
+        _ => return nothing,
+    };
+    let span = Span {
+        first: 0,
+        count: both_kinds,
+    };
+    let started = run_half(rt, common, &crowd, &pool, listener, span);
+    WorkersReport {
+        started,
+        fault: crowd.into_fault(),
     }
 }
 
@@ -121,32 +167,16 @@ fn none_started() -> WorkersReport {
 pub fn serve_peers<R: Net + Threads + Clock + Wait + AllocGlobal + Sync, G: PartGate + Sync>(
     rt: &R,
     common: &Common<'_, G>,
-    parts: &mut Parts,
+    parts: Parts,
     listener: &Listener<'_, R>,
     service: Service<'_>,
-) -> WorkersReport
+) -> Served
     requires count { (1 ≤ service.loops) × (service.loops ≤ 16) }
 {
-    let loops = service.loops;
-    let alloc = rt.alloc();
-    let Some(desks) = Desks::at(rt, alloc, parts) else {
-        return none_started();
-    };
-    let Some(all) = desks.for_loops(rt, alloc, usize::from(loops * 2)) else {
-        return none_started();
-    };
-    let pool = Mutex::new(all);
-    let crowd = match Crowd::new(rt, alloc, service) {
-        Ok(crowd) if listener.never_wait().is_ok() => crowd,
-        _ => return none_started(),
-    };
-    let span = Span {
-        first: 0,
-        count: loops * 2,
-    };
-    let started = run_half(rt, common, &crowd, &pool, listener, span);
-    WorkersReport {
-        started,
-        fault: crowd.into_fault(),
+    let mut parts = parts;
+    let report = serve_all(rt, common, &mut parts, listener, service);
+    Served {
+        report,
+        items: parts.count(rt),
     }
 }

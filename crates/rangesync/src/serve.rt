@@ -17,7 +17,7 @@ use crate::reaching::listen_at;
 use crate::reporting::{Closed, Reporter, Rules};
 use crate::watching::{Beginning, Window, open_window, watch};
 use io_core::{Watched, WriterFailed, write_output};
-use peer_loops::{Board, Common, Front, Parts, PeerLimits, Service, serve_peers};
+use peer_loops::{Board, Common, Front, Parts, PeerLimits, Served, Service, serve_peers};
 use peer_threads::WorkersReport;
 use printing_core::{
     Fault, Refusal, Reporting, listening_line, refusal_of, served_text, tell_address, tell_dropped,
@@ -235,16 +235,16 @@ type Desk<'r, 'a, R, E> = Reporter<'r, 'a, R, Disk<File>, E>;
 fn work<R: Loops, E: Write + Drop + Send>(
     rt: &R,
     common: &Common<'_, Desk<'_, '_, R, E>>,
-    parts: &mut Parts,
+    parts: Parts,
     listener: &Listener<'_, R>,
     service: Service<'_>,
-) -> WorkersReport
+) -> Served
     requires workers { IsWorkerCount service.loops }
 {
-    let report = serve_peers(rt, common, parts, listener, service);
+    let served = serve_peers(rt, common, parts, listener, service);
     common.gate.end();
     service.board.end(rt);
-    report
+    served
 }
 
 /// Prints a line for each session, if that is asked for, and answers those who watch the server, if there is a window,
@@ -276,11 +276,11 @@ fn log_and_show<R: Loops, E: Write + Drop + Send, L: Write + Drop + Send>(
 fn work_shown<R: Loops, E: Write + Drop + Send, L: Write + Drop + Send>(
     rt: &R,
     common: &Common<'_, Desk<'_, '_, R, E>>,
-    parts: &mut Parts,
+    parts: Parts,
     doors: (&Listener<'_, R>, Option<&Window<'_, R>>),
     service: Service<'_>,
     log: Option<L>,
-) -> WorkersReport
+) -> Served
     requires workers { IsWorkerCount service.loops }
 {
     let (listener, window) = doors;
@@ -288,14 +288,14 @@ fn work_shown<R: Loops, E: Write + Drop + Send, L: Write + Drop + Send>(
         return work(rt, common, parts, listener, service);
     }
     let board = service.board;
-    let (_shown, report) = join(
+    let (_shown, served) = join(
         rt,
         move || log_and_show(rt, common, window, board, log),
-        move || -> WorkersReport
+        move || -> Served
             requires { IsWorkerCount service.loops }
         { work(rt, common, parts, listener, service) },
     );
-    report
+    served
 }
 
 /// Serves in a thread, while this one does what a thread that `join` makes cannot do: it tends the files, if there are
@@ -303,21 +303,21 @@ fn work_shown<R: Loops, E: Write + Drop + Send, L: Write + Drop + Send>(
 fn work_tended<R: Loops, E: Write + Drop + Send, L: Write + Drop + Send, T: FnOnce() + Drop>(
     rt: &R,
     common: &Common<'_, Desk<'_, '_, R, E>>,
-    parts: &mut Parts,
+    parts: Parts,
     doors: (&Listener<'_, R>, Option<&Window<'_, R>>),
     service: Service<'_>,
     log: Option<L>,
     tend: T,
-) -> WorkersReport
+) -> Served
     requires workers { IsWorkerCount service.loops }
     requires tends { T.pre tend }
 {
     if !common.gate.may_wait() {
         return work_shown(rt, common, parts, doors, service, log);
     }
-    let (report, _tended) = join(
+    let (served, _tended) = join(
         rt,
-        move || -> WorkersReport
+        move || -> Served
             requires { IsWorkerCount service.loops }
         {
             common.gate.begin();
@@ -325,7 +325,7 @@ fn work_tended<R: Loops, E: Write + Drop + Send, L: Write + Drop + Send, T: FnOn
         },
         tend,
     );
-    report
+    served
 }
 
 /// The refusal of a run whose workers ended so, and whose files were closed so.
@@ -394,7 +394,7 @@ pub fn serve<'a, R: Files<File = File> + Loops, O: Write + Drop, E: Write + Drop
     let beginning = Beginning::now(rt, serving.address, &set);
     let beginning = beginning.named(serving.watching.set, serving.paths.keep);
     let accepted = Arc::new(alloc, accepted)?;
-    let mut parts = parts_of(alloc, &accepted, serving.front, set)?;
+    let parts = parts_of(alloc, &accepted, serving.front, set)?;
     let sessions = Mutex::new(SessionTable::new(alloc, places(serving.limits.peers))?);
     let board = Board::new(alloc)?;
     let books = open_books(rt, serving.paths, kept, err)?;
@@ -417,15 +417,15 @@ pub fn serve<'a, R: Files<File = File> + Loops, O: Write + Drop, E: Write + Drop
     let log = serving.watching.log.then_some(lines);
     let doors = (&listener, window.as_ref());
     let tend = || reporter.tend();
-    let report = work_tended(rt, &common, &mut parts, doors, service, log, tend);
+    let served = work_tended(rt, &common, parts, doors, service, log, tend);
     reporter.follow(When::Last);
     remove_files(rt, &listener, window.as_ref());
     let closed = reporter.close();
     tell_dropped(err, closed.dropped);
     let totals = sessions.into_inner().totals();
-    let text = served_text(alloc, totals, parts.count(rt))?;
+    let text = served_text(alloc, totals, served.items)?;
     write_output(&mut Watched::new(out), text.as_bytes())?;
-    match ending(report, closed) {
+    match ending(served.report, closed) {
         Ok(()) => Ok(()),
         Err(fault) => Err(Refusal::of_serving(serving.address, fault)),
     }

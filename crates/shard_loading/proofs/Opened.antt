@@ -2,7 +2,7 @@
 use Rattle.std.proofs.Common.{◌≡◌, ℕ, zero, suc, ◌+◌, ◌-◌, ◌≤◌, Bool, true, false, List, [], ◌∷◌, ◌++◌, length, map}
 use Rattle.std.proofs.Common.{take, drop, fold, refl, sym, ap, subst, ◌∙◌}
 use Rattle.std.specs.Prelude.{if◌then◌else◌, Vec}
-use Rattle.std.specs.List.{AllByRecursion, range_with_len}
+use Rattle.std.specs.List.{range_with_len}
 use Rattle.std.specs.declared.alloc.Global.{Global}
 use Rattle.std.proofs.lemmas.List.{length-map, take-map}
 use Rattle.std.proofs.lemmas.List.FromFn.{length-map-range_with_len}
@@ -27,12 +27,12 @@ Sets = List (List Item)
 sets_front : (cap n : ℕ) (Xs : Sets) → AreSets cap Xs → AreSets cap (take n Xs)
 sets_front cap zero Xs all = tt
 sets_front cap (suc n) [] all = tt
-sets_front cap (suc n) (X ∷ Xs) (one, others) = (one, sets_front cap n Xs others)
+sets_front cap (suc n) (X ∷ Xs) (set, few, others) = (set, few, sets_front cap n Xs others)
 
 sets_back : (cap n : ℕ) (Xs : Sets) → AreSets cap Xs → AreSets cap (drop n Xs)
 sets_back cap zero Xs all = all
 sets_back cap (suc n) [] all = tt
-sets_back cap (suc n) (X ∷ Xs) (one, others) = sets_back cap n Xs others
+sets_back cap (suc n) (X ∷ Xs) (set, few, others) = sets_back cap n Xs others
 
 abbrev pub listed : Vec Item Global → List Item
 listed v = v.items
@@ -71,7 +71,7 @@ module _ (sets : (b s : ℕ) (A : List Item) → IsSet A → IsSet (shard b A s)
   sets_from : (b cap : ℕ) (A : List Item) → IsSet A → (s n : ℕ) → HasRoom cap (map (shard b A) (range_with_len s n)) →
       AreSets cap (map (shard b A) (range_with_len s n))
   sets_from b cap A set s zero room = tt
-  sets_from b cap A set s (suc n) (few, others) = ((sets b s A set, few), sets_from b cap A set (s + 1) n others)
+  sets_from b cap A set s (suc n) (few, others) = (sets b s A set, few, sets_from b cap A set (s + 1) n others)
 
   pub are_sets : (b first last cap : ℕ) (Xs : Sets) → AreKept b first last cap Xs → AreSets cap Xs
   are_sets b first last cap Xs (room, (A, set, is)) =
@@ -110,7 +110,7 @@ content_opened A set = content_after [] A ∙ same_set (set_of A) A (set_of_is_s
 
 pub contents_opened : (cap : ℕ) (Xs : Sets) → AreSets cap Xs → contents (opened_all cap Xs) ≡ Xs
 contents_opened cap [] all = refl
-contents_opened cap (X ∷ Xs) ((set, few), others) =
+contents_opened cap (X ∷ Xs) (set, few, others) =
     λ i. content_opened X set i ∷ contents_opened cap Xs others i
 
 -- ---- entries

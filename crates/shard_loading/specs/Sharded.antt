@@ -4,7 +4,7 @@
 --     opened_all cap Xs   their logs as they are opened
 --     HaveCap cap ls      each log has this cap
 --     contents ls         the items of each log
-use Rattle.std.specs.Prelude.{◌≡◌, ℕ, ◌≤◌, List, length, map}
+use Rattle.std.specs.Prelude.{◌≡◌, ⊤, ℕ, ◌≤◌, List, [], ◌∷◌, length, map}
 use Rattle.std.specs.List.{AllByRecursion}
 use Rattle.definitions.specs.Items.{Item}
 use Rattle.definitions.specs.Sets.{IsSet}
@@ -18,7 +18,8 @@ pub record Sharded : Type 0 where
   pub logs : List LogState
 
 abbrev pub AreSets : ℕ → List (List Item) → Type 0
-AreSets cap Xs = AllByRecursion (λ X. IsSet X × (length X ≤ cap)) Xs
+AreSets cap [] = ⊤
+AreSets cap (X ∷ Xs) = IsSet X × (length X ≤ cap) × AreSets cap Xs
 
 abbrev pub opened_all : ℕ → List (List Item) → List LogState
 opened_all cap Xs = map (λ X. opened cap X 1) Xs

@@ -13,29 +13,35 @@ use std::alloc::{AllocError, Global};
 use std::thread::{Threads, join};
 use version_log::Log;
 
+/// How the logs of shards are opened.
+#[derive(Clone, Copy)]
+pub struct Opening {
+    /// The most items that a shard may have.
+    pub cap: u32,
+    ghost room: { IsCap cap },
+}
+
 /// The log of a shard, whose list is let go.
-fn log_of(alloc: Global, cap: u32, items: Vec<Item>) -> Result<Log<Tree>, AllocError>
-    requires cap { IsCap cap }
+fn log_of(alloc: Global, opening: Opening, items: Vec<Item>) -> Result<Log<Tree>, AllocError>
     requires set { IsSet items.items }
-    requires fits { length items.items ≤ cap }
-    ensures { IfOk result (λ l. l ≡ opened cap items.items 1) }
+    requires fits { length items.items ≤ opening.cap }
+    ensures { IfOk result (λ l. l ≡ opened opening.cap items.items 1) }
 {
-    Log::of_set(alloc, cap, &items)
+    Log::of_set(alloc, opening.cap, &items)
 }
 
 /// The logs of these shards. Each list is let go as soon as its log is there.
 fn logs_of(
     alloc: Global,
-    cap: u32,
+    opening: Opening,
     lists: Vec<Vec<Item>>,
 ) -> Result<Vec<Log<Tree>>, AllocError>
-    requires cap { IsCap cap }
-    requires sets { AreSets cap (held lists.items) }
-    ensures { IfOk result (λ v. v.items ≡ opened_all cap (held lists.items)) }
+    requires sets { AreSets opening.cap (held lists.items) }
+    ensures { IfOk result (λ v. v.items ≡ opened_all opening.cap (held lists.items)) }
 {
     let mut logs = Vec::with_capacity(alloc, lists.len())?;
     for items in lists {
-        logs.push(log_of(alloc, cap, items)?)?;
+        logs.push(log_of(alloc, opening, items)?)?;
     }
     Ok(logs)
 }
@@ -66,29 +72,28 @@ fn both(front: Vec<Log<Tree>>, back: Vec<Log<Tree>>) -> Result<Vec<Log<Tree>>, A
 pub fn logs_by<R: Threads + Sync>(
     rt: &R,
     alloc: Global,
-    cap: u32,
+    opening: Opening,
     lists: Vec<Vec<Item>>,
     halvings: u32,
 ) -> Result<Vec<Log<Tree>>, AllocError>
-    requires cap { IsCap cap }
-    requires sets { AreSets cap (held lists.items) }
-    ensures { IfOk result (λ v. v.items ≡ opened_all cap (held lists.items)) }
+    requires sets { AreSets opening.cap (held lists.items) }
+    ensures { IfOk result (λ v. v.items ≡ opened_all opening.cap (held lists.items)) }
 {
     if halvings == 0 || lists.len() < 2 {
-        return logs_of(alloc, cap, lists);
+        return logs_of(alloc, opening, lists);
     }
     let (front, back) = cut_in_two(lists)?;
     let less = halvings - 1;
     let (low, high) = join(
         rt,
         move || -> Result<Vec<Log<Tree>>, AllocError>
-            requires { IsSync R.row × IsCap cap × AreSets cap (held front.items) }
-            ensures { IfOk result (λ v. v.items ≡ opened_all cap (held front.items)) }
-        { logs_by(rt, alloc, cap, front, less) },
+            requires { IsSync R.row × AreSets opening.cap (held front.items) }
+            ensures { IfOk result (λ v. v.items ≡ opened_all opening.cap (held front.items)) }
+        { logs_by(rt, alloc, opening, front, less) },
         move || -> Result<Vec<Log<Tree>>, AllocError>
-            requires { IsSync R.row × IsCap cap × AreSets cap (held back.items) }
-            ensures { IfOk result (λ v. v.items ≡ opened_all cap (held back.items)) }
-        { logs_by(rt, alloc, cap, back, less) },
+            requires { IsSync R.row × AreSets opening.cap (held back.items) }
+            ensures { IfOk result (λ v. v.items ≡ opened_all opening.cap (held back.items)) }
+        { logs_by(rt, alloc, opening, back, less) },
     );
     both(low?, high?)
 }

@@ -13,7 +13,7 @@ ghost use Rattle.shard_core.specs.Splits.{held};
 ghost use Rattle.shard_core.specs.Spans.{span_shards, span_directory, AreKept};
 ghost use Rattle.shard_loading.specs.Sharded.{HaveCap, opened_all, contents};
 
-use crate::logs::logs_by;
+use crate::logs::{Opening, logs_by};
 use item_core::Item;
 use range_tree::Tree;
 use shard_core::{ShardSum, directory_from, shard_count};
@@ -85,7 +85,7 @@ impl ShardedSet {
         ensures contents { IfOk result (λ s. contents s.logs ≡ held shards.items) }
     {
         shard_core::laws::shards_make_the_set();
-        let logs = logs_by(rt, alloc, cap, shards, 2)?;
+        let logs = logs_by(rt, alloc, Opening { cap }, shards, 2)?;
         Ok(ShardedSet {
             bits,
             first,

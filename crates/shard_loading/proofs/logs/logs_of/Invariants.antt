@@ -6,7 +6,7 @@ use Rattle.shard_loading.proofs.logs.logs_of.Given as goal
 
 abbrev pub invariant-loop-items : goal.invariant-loop-items
 invariant-loop-items l = record {
-  rest : l.logs.items ++ opened_all l.cap (held (into_iter_items l.items-iterator))
-      ≡ opened_all l.cap (held l.fn.lists.items);
-  sets : AreSets l.cap (held (into_iter_items l.items-iterator));
+  rest : l.logs.items ++ opened_all l.opening.cap (held (into_iter_items l.items-iterator))
+      ≡ opened_all l.opening.cap (held l.fn.lists.items);
+  sets : AreSets l.opening.cap (held (into_iter_items l.items-iterator));
 }

@@ -8,7 +8,9 @@ use Rattle.shard_loading.proofs.sharded_set.ShardedSet.of.Goals as goal
 pub logs_by-requires-clause-sets : goal.logs_by-requires-clause-sets
 logs_by-requires-clause-sets g c =
     let (last, rises, within, kept) = c.requires.shards in
-    are_sets c.shards_make_the_set.ensures.sets c.args.bits c.args.first last c.args.cap (held c.args.shards.items) kept
+    let sets = are_sets c.shards_make_the_set.ensures.sets c.args.bits c.args.first last c.args.cap
+    (held c.args.shards.items) kept in
+    search (rules, sets)
 
 pub invariant_of-result : goal.invariant_of-result
 invariant_of-result g c =

@@ -1,4 +1,4 @@
--- The entry of a shard in a directory.
+-- The entry of a part in a directory.
 use Rattle.std.proofs.Common.{◌≡◌, ℕ, List, refl}
 use Rattle.definitions.specs.Items.{Item}
 use Rattle.shard_core.specs.Shards.{entry, entry_for}
