@@ -92,7 +92,7 @@ impl<'s, 'a, R: Clock, E: Write, I> Shown<'s, 'a, R, E, I> {
     /// How much was read: so many percent, or so many MiB where the size is not known.
     fn amount(&self) -> u64 {
         match self.size {
-            Some(size) => (self.read.saturating_mul(100) / size).min(100),
+            Some(size) => (self.read.saturating_mul(100) / size.max(1)).min(100),
             None => self.read / MIB,
         }
     }
