@@ -282,6 +282,13 @@ impl<R: Wait + Clock, D: Device + Drop, E: Write + Drop> Reporter<'_, '_, R, D, 
             self.looking.ask(self.rt);
         }
     }
+
+    /// Reports a session that is over.
+    fn report(&self, session: SessionName, outcome: &Outcome) {
+        self.ask_anew();
+        let mut desk = self.desk.lock(self.rt);
+        desk.report(self.alloc, self.rules.reporting, session, outcome);
+    }
 }
 
 impl<R, E: Write + Drop> Reporter<'_, '_, R, Disk<File>, E>
@@ -340,13 +347,8 @@ impl<R: Wait + Clock, D: Device + Drop, E: Write + Drop> Gate for Reporter<'_, '
     }
 
     fn ended(&self, serial: u64, outcome: &Outcome) {
-        self.ask_anew();
-        let mut desk = self.desk.lock(self.rt);
-        let session = SessionName {
-            serial,
-            which: None,
-        };
-        desk.report(self.alloc, self.rules.reporting, session, outcome);
+        let which = None;
+        self.report(SessionName { serial, which }, outcome);
     }
 
     fn admits(&self, _serial: u64, count: usize) -> usize {
@@ -379,13 +381,7 @@ impl<R: Wait + Clock, D: Device + Drop, E: Write + Drop> Gate for Reporter<'_, '
 }
 
 impl<R: Wait + Clock, D: Device + Drop, E: Write + Drop> PartGate for Reporter<'_, '_, R, D, E> {
-    fn ended_in(&self, serial: u64, which: Which, outcome: &Outcome) {
-        self.ask_anew();
-        let mut desk = self.desk.lock(self.rt);
-        let session = SessionName {
-            serial,
-            which: Some(which),
-        };
-        desk.report(self.alloc, self.rules.reporting, session, outcome);
+    fn ended_in(&self, serial: u64, which: Option<Which>, outcome: &Outcome) {
+        self.report(SessionName { serial, which }, outcome);
     }
 }
