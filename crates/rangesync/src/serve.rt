@@ -2,8 +2,8 @@
 
 ghost use Rattle.std.specs.Prelude.{◌≡◌, ◌≤◌, true, false, Some};
 ghost use Rattle.std.specs.Arc.{arc_value};
-ghost use Rattle.shard_core.specs.Shards.{max_bits};
 ghost use Rattle.settings_core.specs.Spans.{IsWorkerCount};
+ghost use Rattle.shard_loading.specs.Sharded.{HaveCap};
 ghost use Rattle.rangesync.specs.Limits.{IsLimitsOf};
 
 use crate::books::{Paths, open_books};
@@ -23,10 +23,10 @@ use printing_core::{
     Fault, Refusal, Reporting, listening_line, refusal_of, served_text, tell_address, tell_dropped,
     tell_in_memory,
 };
+use range_tree::Tree;
 use session_table::SessionTable;
 use settings_core::ServeWords;
 use shard_core::OneShard;
-use shard_loading::ShardedSet;
 use std::alloc::{AllocError, Global};
 use std::fs::File;
 use std::io::Write;
@@ -37,6 +37,7 @@ use std::thread::join;
 use std::time::Clock;
 use strategy_check::Accepted;
 use tcp_front::{Limits, Listener};
+use version_log::Log;
 
 /// How sessions are served.
 #[derive(Clone, Copy)]
@@ -335,29 +336,30 @@ fn ending(report: WorkersReport, closed: Closed) -> Result<(), Fault> {
 }
 
 /// Which items may be put into the part of this number: those of its shard, if the set is cut into shards, else all.
-fn own_of(front: Front<'_>, bits: u8, number: u16) -> Option<OneShard>
-    requires { bits ≤ max_bits }
-{
+fn own_of(front: Front<'_>, number: u16) -> Option<OneShard> {
     match front {
-        Front::Cut(_) => Some(OneShard { bits, number }),
+        Front::Cut(set) => Some(OneShard {
+            bits: set.bits,
+            number,
+        }),
         Front::Open | Front::Named(_) => None,
     }
 }
 
-/// The parts of a set, as loops serve them.
+/// The parts with these logs, of which the first has this number.
 fn parts_of(
     alloc: Global,
     accepted: &Arc<Accepted>,
     front: Front<'_>,
-    set: ShardedSet,
+    first: u16,
+    logs: Vec<Log<Tree>>,
 ) -> Result<Parts, AllocError>
-    requires { set.cap ≤ (arc_value accepted.now).table.cap }
+    requires { HaveCap (arc_value accepted.now).table.cap logs.items }
 {
-    let bits = set.bits();
-    let mut number = set.first();
-    let mut parts = Parts::new(alloc, number);
-    for log in set.into_logs() {
-        parts.add(alloc, accepted, own_of(front, bits, number), log)?;
+    let mut parts = Parts::new(alloc, first);
+    let mut number = first;
+    for log in logs {
+        parts.add(alloc, accepted, own_of(front, number), log)?;
         number = number.saturating_add(1);
     }
     Ok(parts)
@@ -394,7 +396,8 @@ pub fn serve<'a, R: Files<File = File> + Loops, O: Write + Drop, E: Write + Drop
     let beginning = Beginning::now(rt, serving.address, &set);
     let beginning = beginning.named(serving.watching.set, serving.paths.keep);
     let accepted = Arc::new(alloc, accepted)?;
-    let parts = parts_of(alloc, &accepted, serving.front, set)?;
+    let first = set.first();
+    let parts = parts_of(alloc, &accepted, serving.front, first, set.into_logs())?;
     let sessions = Mutex::new(SessionTable::new(alloc, places(serving.limits.peers))?);
     let board = Board::new(alloc)?;
     let books = open_books(rt, serving.paths, kept, err)?;
