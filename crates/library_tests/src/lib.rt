@@ -17,7 +17,6 @@
 //! | `selectors` | `shard_core`, the name of a set |
 //! | `session_tables` | `session_table` |
 //! | `sessions` | `session_core` |
-//! | `shard_logs` | `shard_log` |
 //! | `shards` | `shard_core` |
 //! | `stores` | `store_core` |
 //! | `strategies` | `strategy_core` |
@@ -51,7 +50,6 @@ mod session_tables;
 #[cfg(test)]
 mod sessions;
 #[cfg(test)]
-mod shard_logs;
 #[cfg(test)]
 mod shards;
 #[cfg(test)]

@@ -243,7 +243,7 @@ fn logs_of_four_shards(rt: HostRuntime) {
     let logs = set.into_logs();
     assert!(rt; logs.len() == 4);
     assert!(rt; logs[0].count() == 2 && logs[1].count() == 0 && logs[3].count() == 1);
-    assert!(rt; logs[3].number() == 3 && logs[3].store().has(&item(&rt, b"a")));
+    assert!(rt; logs[3].store().has(&item(&rt, b"a")));
 }
 
 #[test]
@@ -252,7 +252,6 @@ fn shards_of_others_are_left_out(rt: HostRuntime) {
     assert!(rt; set.first() == 2 && set.shards() == 2);
     let logs = set.into_logs();
     assert!(rt; logs.len() == 2);
-    assert!(rt; logs[0].number() == 2 && logs[1].number() == 3);
     assert!(rt; logs[0].count() == 0 && logs[1].count() == 1);
 }
 

@@ -50,30 +50,22 @@ struct Desk<'a, D, E> {
 }
 
 impl<D: Device + Drop, E: Write + Drop> Desk<'_, D, E> {
-    /// Reports a session that is over.
-    fn report(&mut self, alloc: Global, reporting: Reporting, serial: u64, outcome: &Outcome) {
-        if let Some(book) = &mut self.books.report {
-            book.put(
-                &mut self.err,
-                report_text(alloc, reporting, serial, outcome),
-            );
-        }
-    }
-
-    /// Reports a session over a part of the set that is over.
-    fn report_part(
+    /// Reports a session that is over: over this part of a set of shards, or over a whole set.
+    fn report(
         &mut self,
         alloc: Global,
         reporting: Reporting,
-        (serial, which): (u64, Which),
+        (serial, part): (u64, Option<Which>),
         outcome: &Outcome,
     ) {
-        if let Some(book) = &mut self.books.report {
-            book.put(
-                &mut self.err,
-                shard_report_text(alloc, reporting, serial, which, outcome),
-            );
-        }
+        let Some(book) = &mut self.books.report else {
+            return;
+        };
+        let text = match part {
+            Some(which) => shard_report_text(alloc, reporting, serial, which, outcome),
+            None => report_text(alloc, reporting, serial, outcome),
+        };
+        book.put(&mut self.err, text);
     }
 
     /// Writes an item that the log took.
@@ -292,6 +284,13 @@ impl<R: Wait + Clock, D: Device + Drop, E: Write + Drop> Reporter<'_, '_, R, D, 
             self.looking.ask(self.rt);
         }
     }
+
+    /// Reports a session that is over.
+    fn report(&self, serial: u64, part: Option<Which>, outcome: &Outcome) {
+        self.ask_anew();
+        let mut desk = self.desk.lock(self.rt);
+        desk.report(self.alloc, self.rules.reporting, (serial, part), outcome);
+    }
 }
 
 impl<R, E: Write + Drop> Reporter<'_, '_, R, Disk<File>, E>
@@ -350,9 +349,7 @@ impl<R: Wait + Clock, D: Device + Drop, E: Write + Drop> Gate for Reporter<'_, '
     }
 
     fn ended(&self, serial: u64, outcome: &Outcome) {
-        self.ask_anew();
-        let mut desk = self.desk.lock(self.rt);
-        desk.report(self.alloc, self.rules.reporting, serial, outcome);
+        self.report(serial, None, outcome);
     }
 
     fn admits(&self, _serial: u64, count: usize) -> usize {
@@ -385,9 +382,7 @@ impl<R: Wait + Clock, D: Device + Drop, E: Write + Drop> Gate for Reporter<'_, '
 }
 
 impl<R: Wait + Clock, D: Device + Drop, E: Write + Drop> PartGate for Reporter<'_, '_, R, D, E> {
-    fn ended_in(&self, serial: u64, which: Which, outcome: &Outcome) {
-        self.ask_anew();
-        let mut desk = self.desk.lock(self.rt);
-        desk.report_part(self.alloc, self.rules.reporting, (serial, which), outcome);
+    fn ended_in(&self, serial: u64, part: Option<Which>, outcome: &Outcome) {
+        self.report(serial, part, outcome);
     }
 }
