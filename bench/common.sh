@@ -22,22 +22,6 @@ build_plain() {
   ln -sf target/release/plain out/plain
 }
 
-# The names of these crates and of all that are below them.
-crates_below() {
-  awk -v names="$*" '
-    { sub(/#.*/, "") }
-    split($0, sides, ":") == 2 && split(sides[1], head, " ") { uses[head[1]] = sides[2] }
-    END {
-      count = split(names, left, " ")
-      for (i = 1; i <= count; i++) {
-        if (!(left[i] in uses) || seen[left[i]]++) continue
-        print left[i]
-        more = split(uses[left[i]], used, " ")
-        for (j = 1; j <= more; j++) left[++count] = used[j]
-      }
-    }' "$top/crates.txt"
-}
-
 # A repository of its own in an empty folder: the program of the folder NAME as a crate, and the crates below it. Each
 # module of the program is a file NAME/*.rt.in.
 make_repository() {
@@ -45,12 +29,12 @@ make_repository() {
   shift 2
   rm -rf "$room"
   mkdir -p "$room/.git" "$room/crates/$name/src"
-  for crate in $(crates_below "$@"); do
+  "$top/below" "$@" > "$room/crates.txt"
+  for crate in $(sed 's/[ :].*//' "$room/crates.txt"); do
     mkdir "$room/crates/$crate"
     (cd "$top/crates/$crate" && cp -a src "$room/crates/$crate" && for file in specs proofs; do
       [ ! -d $file ] || cp -a $file "$room/crates/$crate"
     done)
-    grep "^$crate:" "$top/crates.txt" >> "$room/crates.txt"
   done
   for file in "$name"/*.rt.in; do
     cp "$file" "$room/crates/$name/src/$(basename "$file" .in)"
@@ -80,9 +64,8 @@ build_program() {
 
 # Proves and builds the program of the folder proved, out/proved, once for all scripts.
 build_proved() {
-  build_program proved definitions codec_laws rank_laws laws item_core digest_core store_core range_tree io_core \
-    wire_core place_core answer_core strategy_core rank_core strategy_check ends_core version_log atomic_table \
-    version_lock item_files settings_core
+  build_program proved laws item_core digest_core store_core range_tree io_core wire_core place_core answer_core \
+    strategy_core rank_core strategy_check ends_core version_log atomic_table version_lock settings_core
 }
 
 # Builds both.

@@ -16,22 +16,9 @@ LIBRARY = "rangesync_c"
 
 
 def read_uses() -> dict[str, list[str]]:
-    """What each crate of crates.txt uses."""
-    uses = {}
-    for line in (TOP / "crates.txt").read_text(encoding="utf-8").splitlines():
-        name, colon, used = line.partition("#")[0].partition(":")
-        if colon:
-            uses[name.split()[0]] = used.split()
-    return uses
-
-
-def below(name: str, uses: dict[str, list[str]], found: list[str]) -> list[str]:
-    """The crates below one, each after those that it uses."""
-    for used in uses[name]:
-        if used in uses and used not in found:
-            below(used, uses, found)
-            found.append(used)
-    return found
+    """What the library and each crate below it uses."""
+    lines = subprocess.run([TOP / "below", LIBRARY], stdout=subprocess.PIPE, text=True, check=True).stdout.splitlines()
+    return {name.split()[0]: used.split() for name, _, used in (line.partition(":") for line in lines)}
 
 
 def library_of(name: str, uses: dict[str, list[str]]) -> pathlib.Path:
@@ -46,7 +33,7 @@ def main() -> int:
     for name in dict.fromkeys(["std", *uses[LIBRARY]]):
         words += ["--extern", f"{name}={library_of(name, uses)}"]
     words += ["-L", f"dependency={KIT / 'rlibs'}"]
-    for name in below(LIBRARY, uses, []):
+    for name in [it for it in uses if it != LIBRARY]:
         words += ["-L", f"dependency={library_of(name, uses).parent}"]
     words += ["--antt-project", str(KIT / "rattle/logic/antt-project.json"), "--logic-built", str(KIT / "logic_built")]
     words += ["--links", f"{LIBRARY}=", "--jobs", str(os.cpu_count() or 1)]

@@ -11,7 +11,7 @@ use Rattle.answer_core.specs.declared.answering.AnswerFault.{AnswerFault}
 use Rattle.answer_core.specs.declared.answering.AnswerFault.TheVariants.{CannotRead, Wire, Misplaced, Memory}
 
 abbrev pub of_input : InputFault → AnswerFault
-of_input inputs.CannotRead = CannotRead
+of_input (inputs.CannotRead f) = CannotRead
 of_input inputs.Memory = Memory
 
 abbrev pub of_decoding : DecodeError → AnswerFault

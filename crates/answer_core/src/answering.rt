@@ -31,7 +31,7 @@ impl From<InputFault> for AnswerFault {
 
     fn from(fault: InputFault) -> AnswerFault {
         match fault {
-            InputFault::CannotRead => AnswerFault::CannotRead,
+            InputFault::CannotRead(_) => AnswerFault::CannotRead,
             InputFault::Memory => AnswerFault::Memory,
         }
     }

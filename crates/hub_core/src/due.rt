@@ -8,7 +8,7 @@ ghost use Rattle.hub_core.specs.Greetings as greetings;
 use digest_core::{Counted, Fingerprint, Summary};
 
 /// The length of a hello.
-pub(crate) const HELLO: usize = 4;
+pub const HELLO: usize = 4;
 
 /// Where the body of the first frame begins: after the hello and the length.
 const BODY: usize = 8;

@@ -1,6 +1,6 @@
 //! All peers at once, within limits of number, memory and time.
 
-ghost use Rattle.std.specs.Prelude.{◌≡◌, ◌<◌, ◌≤◌, ◌↔◌, ◌-◌, ◌^◌, ◌||◌, nat_le, nat_lt, ℕ, true, false, [], Some, None};
+ghost use Rattle.std.specs.Prelude.{◌≡◌, ◌<◌, ◌≤◌, ◌↔◌, ◌-◌, ◌^◌, ◌||◌, nat_lt, ℕ, true, false, [], Some, None};
 ghost use Rattle.std.specs.Prelude.{IfOk, IfErr, OnOk, OnErr, IfSome, IfNone, IsSome, length, option_copied};
 ghost use Rattle.std.specs.Arc.{arc_value};
 ghost use Rattle.std.specs.Io.Take.{take_remaining};
@@ -94,25 +94,11 @@ impl<I: Read, O: Write> Hub<I, O> {
         }
     }
 
-    /// Their limits.
-    pub fn limits(&self) -> HubLimits
-        ensures { result ≡ self.now.limits }
-    {
-        self.limits
-    }
-
     /// How many peers there are.
     pub fn len(&self) -> usize
         ensures { result ≡ slab_len self.now.peers }
     {
         self.peers.len()
-    }
-
-    /// Whether all places are taken.
-    pub fn is_full(&self) -> bool
-        ensures { result ≡ nat_le self.now.limits.places (slab_len self.now.peers) }
-    {
-        self.peers.len() >= self.limits.places
     }
 
     /// The key of the next peer.

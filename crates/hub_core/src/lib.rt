@@ -12,6 +12,7 @@ mod peer;
 mod stage;
 mod step;
 
+pub use due::HELLO;
 pub use greeting::Greeting;
 pub use hub::Hub;
 pub use limits::HubLimits;

@@ -3,8 +3,6 @@
 /// What peers may cost.
 #[derive(Clone, Copy, Debug, PartialEq, Eq)]
 pub struct HubLimits {
-    /// How many peers there are at once, at most.
-    pub places: usize,
     /// How many bytes of memory are counted for all of them, at most.
     pub memory: u64,
     /// How many milliseconds a peer may be silent.

@@ -1,2 +1,3 @@
 pub mod Watch
 pub mod Inputs
+pub mod ReadFaults

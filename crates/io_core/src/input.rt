@@ -3,7 +3,9 @@
 ghost use Rattle.std.specs.Prelude.{vec_len, ◌≡◌, ◌<◌, ◌≤◌, ◌⊎◌, ◌-◌, false, length, Err, IfOk, OnOk, IsTrue};
 ghost use Rattle.io_core.specs.Inputs.{WasRead, ReadsMore, IsTooLong};
 ghost use Rattle.io_core.specs.declared.input.InputFault.TheVariants as faults;
+ghost use Rattle.io_core.specs.declared.read_fault.ReadFault.{ReadFault};
 
+use crate::read_fault::ReadFault;
 use crate::watched::Watched;
 use std::alloc::{AllocError, Global};
 use std::io::Read;
@@ -17,8 +19,8 @@ const CHUNK: usize = 65_536;
 /// Why an input was not read.
 #[derive(Clone, Copy, Debug, PartialEq, Eq)]
 pub enum InputFault {
-    /// The reader failed, or the input is above its limit.
-    CannotRead,
+    /// The reader failed, for this reason, or the input is above its limit.
+    CannotRead(ReadFault),
     /// Memory ran out.
     Memory,
 }
@@ -49,10 +51,11 @@ fn read_more<R: Read>(
     ensures more { IfOk result (λ n. ReadsMore (R.remaining reader.old.inner) (R.remaining reader.new.inner)
         input.old.items input.new.items n) }
     ensures fine { OnOk result (reader.new.failed ≡ false) }
-    ensures unread { result ≡ Err InputFault.CannotRead → IsTrue reader.new.failed }
+    ensures unread { (f : ReadFault) → result ≡ Err (InputFault.CannotRead f) → IsTrue reader.new.failed }
 {
-    let Ok(count) = reader.read(chunk) else {
-        return Err(InputFault::CannotRead);
+    let count = match reader.read(chunk) {
+        Ok(count) => count,
+        Err(error) => return Err(InputFault::CannotRead(ReadFault::of(&error))),
     };
     input.extend_from_slice(&chunk[..count])?;
     Ok(count)
@@ -63,14 +66,14 @@ pub fn read_input<R: Read>(alloc: Global, reader: &mut Watched<R>) -> Result<Vec
     requires { reader.old.failed ≡ false }
     ensures input { IfOk result (λ v. WasRead (R.remaining reader.old.inner) (R.remaining reader.new.inner)
         reader.new.failed v.items) }
-    ensures unread { result ≡ Err InputFault.CannotRead →
+    ensures unread { (f : ReadFault) → result ≡ Err (InputFault.CannotRead f) →
         IsTrue reader.new.failed ⊎ IsTooLong (R.remaining reader.old.inner) (R.remaining reader.new.inner) }
 {
     let mut input = Vec::new(alloc);
     let mut chunk = room_for(alloc, CHUNK)?;
     'chunks: while read_more(reader, &mut chunk, &mut input)? > 0 {
         if input.len() > MAX_INPUT {
-            return Err(InputFault::CannotRead);
+            return Err(InputFault::CannotRead(ReadFault::TooLong));
         }
     }
     Ok(input)

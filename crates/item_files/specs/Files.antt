@@ -6,7 +6,7 @@
 use Rattle.std.specs.Prelude.{◌≡◌, ◌⊎◌, ◌≤◌, ℕ, List, length, Option, Result, Ok, Err}
 use Rattle.std.specs.Io.KnownBytes.{Consumes, IsAtEnd}
 use Rattle.definitions.specs.Items.{IsBytes}
-use Rattle.item_files.specs.declared.read_fault.ReadFault.{ReadFault}
+use Rattle.io_core.specs.declared.read_fault.ReadFault.{ReadFault}
 use Rattle.item_files.specs.declared.fault.SettingsFault.{SettingsFault}
 use Rattle.item_files.specs.declared.fault.SettingsFault.TheVariants.{CannotRead, Memory}
 

@@ -4,6 +4,5 @@ pub mod Accepts
 pub mod Faults
 pub mod Files
 pub mod ItemFiles
-pub mod ReadFaults
 pub mod StrategyFlaws
 pub mod StrayKeys

@@ -5,23 +5,19 @@ ghost use Rattle.item_files.specs.Faults.{of_check};
 ghost use Rattle.item_files.specs.declared.fault.SettingsFault.TheVariants as faults;
 
 use crate::bad_line::BadLine;
-use crate::read_fault::ReadFault;
 use crate::strategy_flaw::StrategyFlaw;
+use io_core::ReadFault;
 use std::alloc::{AllocError, AllocFailed};
 use strategy_check::{CheckError, CheckFault};
-use thiserror::Error;
 
 /// Why a file, or a text, is refused, and where.
-#[derive(Clone, Copy, Debug, Error)]
+#[derive(Clone, Copy, Debug)]
 pub enum SettingsFault {
     /// The file was not opened or not read, or is above 16,777,216 bytes.
-    #[error("the file cannot be read, or is above 16,777,216 bytes")]
     CannotRead(ReadFault),
     /// This is the first line of an item file that spells no item in the form of the file.
-    #[error("line {} is not 1 to 64 bytes in hex", .0.number)]
     BadItemLine(BadLine),
     /// An item file has more different items than the cap.
-    #[error("there are {count} different items, more than the cap, {cap}")]
     TooManyItems {
         /// The cap.
         cap: usize,
@@ -29,13 +25,10 @@ pub enum SettingsFault {
         count: usize,
     },
     /// A strategy file holds no strategy: the first test that fails.
-    #[error("the file holds no strategy (refusal {})", .0.fault.number())]
     Strategy(StrategyFlaw),
     /// A strategy is not accepted.
-    #[error("the strategy is not accepted (refusal {})", .0.number())]
     Check(CheckFault),
     /// Memory ran out.
-    #[error("memory ran out")]
     Memory,
 }
 

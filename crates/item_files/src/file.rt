@@ -4,22 +4,11 @@ ghost use Rattle.std.specs.Prelude.{IfOk, IfErr};
 ghost use Rattle.item_files.specs.Files.{IsFileText, IsAllOf, IsUnread};
 
 use crate::fault::SettingsFault;
-use crate::read_fault::{Explained, ReadFault};
-use io_core::{InputFault, Watched, read_input};
+use io_core::{InputFault, ReadFault, Watched, read_input};
 use std::alloc::Global;
 use std::io::Read;
 use std::rt::Files;
 use std::{fs, io};
-
-/// Why an input was not read: what its reader said, or that it is too long.
-fn unread(fault: InputFault, said: Option<ReadFault>) -> SettingsFault
-    ensures { IsUnread result }
-{
-    match fault {
-        InputFault::CannotRead => SettingsFault::CannotRead(said.unwrap_or(ReadFault::TooLong)),
-        InputFault::Memory => SettingsFault::Memory,
-    }
-}
 
 /// What is left to read, up to 16,777,216 bytes. Refused 80 where it is not read.
 pub fn read_text<R: Read + Drop>(alloc: Global, reader: R) -> Result<Vec<u8>, SettingsFault>
@@ -28,16 +17,13 @@ pub fn read_text<R: Read + Drop>(alloc: Global, reader: R) -> Result<Vec<u8>, Se
     ensures whole { IfOk result (λ v. IsAllOf (R.remaining reader) v.items) }
     ensures unread { IfErr result IsUnread }
 {
-    let mut reader = Watched::new(Explained {
-        inner: reader,
-        fault: None,
-    });
-    match read_input(alloc, &mut reader) {
+    match read_input(alloc, &mut Watched::new(reader)) {
         Ok(text) => {
             codec_laws::are_bytes(&text);
             Ok(text)
         }
-        Err(fault) => Err(unread(fault, reader.into_inner().fault)),
+        Err(InputFault::CannotRead(cause)) => Err(SettingsFault::CannotRead(cause)),
+        Err(InputFault::Memory) => Err(SettingsFault::Memory),
     }
 }
 

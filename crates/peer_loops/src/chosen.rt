@@ -6,7 +6,7 @@ ghost use Rattle.peer_loops.specs.ShardSpans.{part_in};
 
 use crate::desks::Desks;
 use digest_core::{Fingerprint, Summary};
-use hub_core::{Greeting, Peer, Stage};
+use hub_core::{Greeting, HELLO, Peer, Stage};
 use shard_core::{AfterSelector, Selecting, SetName, Which};
 use std::io::Write;
 use tcp_front::Half;
@@ -14,9 +14,6 @@ use wire_core::encode_fault;
 
 /// What is read of a peer: its input, or what comes after the selector of it.
 pub(crate) type Reader = AfterSelector<Half>;
-
-/// The length of our hello.
-const HELLO: usize = 4;
 
 /// The number of the refusal of a peer that speaks of a set that is not here.
 const WRONG_SET: u8 = 55;

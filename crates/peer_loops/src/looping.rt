@@ -78,7 +78,6 @@ fn limits_of<R, G>(site: &Site<'_, R, G>) -> HubLimits {
     let limits = &site.crowd.limits;
     let loops = (site.crowd.loops as u64).saturating_mul(2).max(1);
     HubLimits {
-        places: limits.peers as usize,
         memory: limits.memory / loops,
         idle: milliseconds(limits.patience),
         whole: milliseconds(limits.session_seconds),

@@ -1,4 +1,3 @@
 mod FirstLines
 mod Plain
-mod Ports
 mod ReadAgain

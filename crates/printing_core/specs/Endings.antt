@@ -29,7 +29,7 @@ difference_status checks differ = if checks && differ then 4 else 0
 
 -- 3 is Truncated: the connection ended in the middle of a message
 abbrev pub may_pass : Fault → Bool
-may_pass (Connect kind) = true
+may_pass Connect = true
 may_pass ReaderFailed = true
 may_pass WriterFailed = true
 may_pass (Session code) = code == 3

@@ -46,7 +46,7 @@ of_answer answers.Io = WriterFailed
 of_answer answers.Memory = Memory
 
 abbrev pub of_input : InputFault → Fault
-of_input inputs.CannotRead = CannotRead
+of_input (inputs.CannotRead f) = CannotRead
 of_input inputs.Memory = Memory
 
 abbrev pub of_decoding : DecodeError → Fault
@@ -86,15 +86,11 @@ of_log logs.Full = TooManyItems
 of_log logs.Memory = Memory
 
 abbrev pub of_listen : ListenFault → Fault
-of_listen (listens.NoAddress kind) = Bind kind
-of_listen (listens.Bind kind) = Bind kind
-of_listen (listens.Socket at kind) = Bind kind
+of_listen (listens.Unreached cause) = Bind
 of_listen listens.Memory = Memory
 
 abbrev pub of_connect : ConnectFault → Fault
-of_connect (connects.NoAddress kind) = Connect kind
-of_connect (connects.Connect kind) = Connect kind
-of_connect (connects.Socket at kind) = Connect kind
+of_connect (connects.Unreached cause) = Connect
 of_connect connects.Memory = Memory
 
 abbrev pub of_source : SourceFault → Fault
@@ -105,25 +101,15 @@ of_source sources.Memory = Memory
 -- that were not done
 abbrev pub status_of : Fault → ℕ
 status_of CannotRead = 3
-status_of (BadItemLine line) = 1
-status_of NotHex = 1
-status_of TooManyItems = 1
-status_of BadScenario = 1
-status_of (BadStep step) = 1
-status_of (Strategy f) = 1
-status_of (Check f) = 1
-status_of (Wire f) = 1
-status_of Misplaced = 1
-status_of (Bind kind) = 3
-status_of (Connect kind) = 3
+status_of Bind = 3
+status_of Connect = 3
 status_of Accept = 3
-status_of (Session code) = 1
-status_of (PeerRefused code) = 1
 status_of ReaderFailed = 3
 status_of WriterFailed = 3
 status_of LinesLost = 3
 status_of Incomplete = 3
 status_of Memory = 3
+status_of fault = 1
 
 -- 2 for words that the program does not know; 0 for help that was printed, 3 where it was not, or for memory
 abbrev pub IsWordsStatus : WordsFault → ℕ → Type 0

@@ -48,8 +48,8 @@ fault_line (Check f) = check_line f
 fault_line (Wire f) =
     codes "refused " ++ (decimal (fault_number f) ++ (codes " " ++ session_refusal_name (fault_number f)))
 fault_line Misplaced = codes "refused 20 Misplaced"
-fault_line (Bind kind) = codes "refused 60 Bind"
-fault_line (Connect kind) = codes "refused 61 Connect"
+fault_line Bind = codes "refused 60 Bind"
+fault_line Connect = codes "refused 61 Connect"
 fault_line Accept = codes "refused 62 Accept"
 fault_line (Session code) = codes "refused " ++ (decimal code ++ (codes " " ++ session_refusal_name code))
 fault_line (PeerRefused code) = codes "peer refused " ++ decimal code

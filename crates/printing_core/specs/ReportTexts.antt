@@ -1,7 +1,8 @@
 -- What `serve` writes of its sessions to its files.
+--     session_name s w             a session, and the shard, or the directory, that it spoke of, if it did of one
 --     learned_lines form k         the lines of both differences: ours rising, then theirs rising, items in this form
 --     first_lines n lines          the first n of these lines, or all; then how many were left out, if any were
---     report_text form most s o    a session that is over: its head and both differences, at most `most` lines of them
+--     report_text form most s w o  a session that is over: its head and both differences, at most `most` lines of them
 --                                  if it is a number; or why it did not end
 --     left_out_line s n            that n items which this session learned were not put in
 use Rattle.std.specs.Prelude.{ℕ, ◌-◌, ◌==◌, if◌then◌else◌, List, [], ◌∷◌, ◌++◌, length, map, take, flat_map, codes}
@@ -11,19 +12,29 @@ use Rattle.definitions.specs.Sets.{set_of}
 use Rattle.definitions.specs.Talks.{Knowledge}
 use Rattle.outcome_core.specs.declared.outcome.Outcome.{Outcome}
 use Rattle.outcome_core.specs.declared.outcome.Outcome.TheVariants.{Ended, Refused, PeerRefused, Io, Memory}
+use Rattle.shard_core.specs.declared.selector.Which.{Which}
+use Rattle.shard_core.specs.declared.selector.Which.TheVariants.{Shard, Directory}
 use Rattle.item_files.specs.declared.form.ItemForm.{ItemForm}
 use Rattle.printing_core.specs.SessionTexts.{named_line, learned_text, of_direction}
 use Rattle.printing_core.specs.Lines.{fault_line}
+use Rattle.printing_core.specs.declared.session_texts.Listing.TheVariants.{Items}
 use Rattle.printing_core.specs.declared.fault.Fault.{Fault}
 use Rattle.printing_core.specs.declared.fault.Fault.TheVariants as faults
 
-abbrev pub stopped_line : ℕ → Fault → List ℕ
-stopped_line serial fault = codes "session " ++ (decimal serial ++ (32 ∷ (fault_line fault ++ codes "\n")))
+abbrev pub session_name : ℕ → Option Which → List ℕ
+session_name serial None = codes "session " ++ decimal serial
+session_name serial (Some (Shard shard)) = codes "session " ++ (decimal serial ++ (codes " shard " ++ decimal shard))
+session_name serial (Some Directory) = codes "session " ++ (decimal serial ++ codes " directory")
 
-abbrev pub head_line : ℕ → ℕ → ℕ → List ℕ
-head_line serial version sent =
-    codes "session " ++ (decimal serial ++ (codes " version " ++ (decimal version ++ (codes " sent "
-    ++ (decimal sent ++ codes "\n")))))
+abbrev pub stopped_line : ℕ → Option Which → Fault → List ℕ
+stopped_line serial which fault = session_name serial which ++ (32 ∷ (fault_line fault ++ codes "\n"))
+
+-- that of a directory has no version
+abbrev pub head_line : ℕ → Option Which → ℕ → ℕ → List ℕ
+head_line serial (Some Directory) version sent =
+    session_name serial (Some Directory) ++ (codes " sent " ++ (decimal sent ++ codes "\n"))
+head_line serial which version sent = session_name serial which ++ (codes " version " ++ (decimal version
+    ++ (codes " sent " ++ (decimal sent ++ codes "\n"))))
 
 abbrev pub learned_lines : ItemForm → Knowledge → List (List ℕ)
 learned_lines form k = map (named_line form (codes "ours")) (set_of k.ours)
@@ -39,18 +50,19 @@ more_line count = if count == 0 then [] else codes "more " ++ (decimal count ++ 
 abbrev pub first_lines : ℕ → List (List ℕ) → List ℕ
 first_lines n lines = text_of (take n lines) ++ more_line (length lines - n)
 
--- all lines, where no number is given
-abbrev pub reported_text : ItemForm → Option ℕ → Knowledge → List ℕ
-reported_text form None k = learned_text form k
-reported_text form (Some most) k = first_lines most (learned_lines form k)
+-- all lines, where no number is given; the items of a directory are none of the set
+abbrev pub reported_text : ItemForm → Option ℕ → Option Which → Knowledge → List ℕ
+reported_text form most (Some Directory) k = []
+reported_text form None which k = learned_text (Items form) k
+reported_text form (Some most) which k = first_lines most (learned_lines form k)
 
-abbrev pub report_text : ItemForm → Option ℕ → ℕ → Outcome → List ℕ
-report_text form most serial (Ended learned sent version) =
-    head_line serial version sent ++ reported_text form most learned
-report_text form most serial (Refused code sent) = stopped_line serial (faults.Session code)
-report_text form most serial (PeerRefused code sent) = stopped_line serial (faults.PeerRefused code)
-report_text form most serial (Io side sent) = stopped_line serial (of_direction side)
-report_text form most serial (Memory sent) = stopped_line serial faults.Memory
+abbrev pub report_text : ItemForm → Option ℕ → ℕ → Option Which → Outcome → List ℕ
+report_text form most serial which (Ended learned sent version) =
+    head_line serial which version sent ++ reported_text form most which learned
+report_text form most serial which (Refused code sent) = stopped_line serial which (faults.Session code)
+report_text form most serial which (PeerRefused code sent) = stopped_line serial which (faults.PeerRefused code)
+report_text form most serial which (Io side sent) = stopped_line serial which (of_direction side)
+report_text form most serial which (Memory sent) = stopped_line serial which faults.Memory
 
 abbrev pub left_out_line : ℕ → ℕ → List ℕ
 left_out_line serial count =

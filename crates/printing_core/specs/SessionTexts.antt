@@ -1,12 +1,14 @@
 -- What `serve` and `sync` print on standard output.
 --     listening_line address     the first line of `serve`
 --     served_text t n            its lines at the end: the totals, and the number of items
+--     listed_text l ours theirs  both differences, listed as l says: the items in this order, or how many they are
 --     synced_text l v k a        the lines of a session that ended: its version, the messages sent, and what was
---                                learned, listed as l says
+--                                learned, each item once, rising
+--     session_fault o, session_learned o     why a session did not end, or what it learned
 --     IsSyncOf l o result        what `sync` prints of a session, or the fault that it ends with
 --     finds_any o                whether a session came to its end and found an item that one side lacks
 use Rattle.std.specs.Prelude.{ℕ, ◌≡◌, List, ◌∷◌, ◌++◌, length, nat_lt, Bool, false, ◌||◌, String, codes, flat_map}
-use Rattle.std.specs.Prelude.{Result, Ok, Err, string_bytes}
+use Rattle.std.specs.Prelude.{Option, Some, None, Result, Ok, Err, string_bytes}
 use Rattle.std.specs.declared.alloc.Global.{Global}
 use Rattle.std.specs.Fmt.{decimal}
 use Rattle.definitions.specs.Items.{Item}
@@ -18,6 +20,7 @@ use Rattle.outcome_core.specs.declared.outcome.Direction.TheVariants as directio
 use Rattle.outcome_core.specs.declared.outcome.Outcome.{Outcome}
 use Rattle.outcome_core.specs.declared.outcome.Outcome.TheVariants as outcomes
 use Rattle.item_files.specs.declared.form.ItemForm.{ItemForm}
+use Rattle.printing_core.specs.Endings.{fault_in}
 use Rattle.printing_core.specs.ItemTexts.{item_line}
 use Rattle.printing_core.specs.declared.session_texts.Listing.{Listing}
 use Rattle.printing_core.specs.declared.session_texts.Listing.TheVariants as listings
@@ -40,37 +43,41 @@ served_text t n = totals_line t ++ (codes "items " ++ (decimal n ++ codes "\n"))
 abbrev pub named_line : ItemForm → List ℕ → Item → List ℕ
 named_line form name x = name ++ (32 ∷ item_line form x)
 
+abbrev pub listed_text : Listing → List Item → List Item → List ℕ
+listed_text (listings.Items form) ours theirs = flat_map (named_line form (codes "ours")) ours
+    ++ flat_map (named_line form (codes "theirs")) theirs
+listed_text listings.Counts ours theirs = codes "ours " ++ (decimal (length ours)
+    ++ (codes "\ntheirs " ++ (decimal (length theirs) ++ codes "\n")))
+
+abbrev pub learned_text : Listing → Knowledge → List ℕ
+learned_text listing k = listed_text listing (set_of k.ours) (set_of k.theirs)
+
 abbrev pub counts_text : ℕ → ℕ → List ℕ
 counts_text version sent = codes "version " ++ (decimal version ++ (codes "\nsent " ++ (decimal sent ++ codes "\n")))
 
--- the items in rising order
-abbrev pub learned_text : ItemForm → Knowledge → List ℕ
-learned_text form k = flat_map (named_line form (codes "ours")) (set_of k.ours)
-    ++ flat_map (named_line form (codes "theirs")) (set_of k.theirs)
-
-abbrev pub number_lines : ℕ → ℕ → List ℕ
-number_lines ours theirs = codes "ours " ++ (decimal ours ++ (codes "\ntheirs " ++ (decimal theirs ++ codes "\n")))
-
--- the items, or how many they are, each counted once
-abbrev pub listed_text : Listing → Knowledge → List ℕ
-listed_text (listings.Items form) k = learned_text form k
-listed_text listings.Counts k = number_lines (length (set_of k.ours)) (length (set_of k.theirs))
-
 abbrev pub synced_text : Listing → ℕ → ℕ → Knowledge → List ℕ
-synced_text listing version sent k = counts_text version sent ++ listed_text listing k
+synced_text listing version sent k = counts_text version sent ++ learned_text listing k
 
 abbrev pub of_direction : Direction → Fault
 of_direction directions.Read = ReaderFailed
 of_direction directions.Write = WriterFailed
 
+abbrev pub session_fault : Outcome → Option Fault
+session_fault (outcomes.Ended learned sent version) = None
+session_fault (outcomes.Refused code sent) = Some (Session code)
+session_fault (outcomes.PeerRefused code sent) = Some (PeerRefused code)
+session_fault (outcomes.Io side sent) = Some (of_direction side)
+session_fault (outcomes.Memory sent) = Some Memory
+
+abbrev pub session_learned : Outcome → Option Knowledge
+session_learned (outcomes.Ended learned sent version) = Some learned
+session_learned outcome = None
+
 abbrev pub IsSyncOf : Listing → Outcome → Result (String Global) Fault → Type 0
 IsSyncOf listing (outcomes.Ended learned sent version) (Ok text) =
     string_bytes text ≡ synced_text listing version sent learned
 IsSyncOf listing (outcomes.Ended learned sent version) (Err f) = f ≡ Memory
-IsSyncOf listing (outcomes.Refused code sent) result = result ≡ Err (Session code)
-IsSyncOf listing (outcomes.PeerRefused code sent) result = result ≡ Err (PeerRefused code)
-IsSyncOf listing (outcomes.Io side sent) result = result ≡ Err (of_direction side)
-IsSyncOf listing (outcomes.Memory sent) result = result ≡ Err Memory
+IsSyncOf listing outcome result = fault_in result ≡ session_fault outcome
 
 abbrev pub finds_any : Outcome → Bool
 finds_any (outcomes.Ended learned sent version) = nat_lt 0 (length learned.ours) || nat_lt 0 (length learned.theirs)

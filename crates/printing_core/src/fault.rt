@@ -12,7 +12,6 @@ use outcome_core::SourceFault;
 use shard_loading::LoadFault;
 use sim_core::{ScenarioError, ScenarioFault};
 use std::alloc::{AllocError, AllocFailed};
-use std::io::ErrorKind;
 use strategy_check::CheckFault;
 use strategy_core::StrategyFault;
 use tcp_front::{ConnectFault, ListenFault};
@@ -45,10 +44,10 @@ pub enum Fault {
     Wire(WireFault),
     /// A part of the message is no Sum.
     Misplaced,
-    /// No listener was made: what the system said.
-    Bind(ErrorKind),
-    /// No connection was made: what the system said.
-    Connect(ErrorKind),
+    /// No listener was made.
+    Bind,
+    /// No connection was made.
+    Connect,
     /// A connection could not be accepted.
     Accept,
     /// A session was refused here, with this number.
@@ -86,7 +85,7 @@ impl From<InputFault> for Fault {
 
     fn from(fault: InputFault) -> Fault {
         match fault {
-            InputFault::CannotRead => Fault::CannotRead,
+            InputFault::CannotRead(_) => Fault::CannotRead,
             InputFault::Memory => Fault::Memory,
         }
     }
@@ -178,9 +177,7 @@ impl From<ListenFault> for Fault {
 
     fn from(fault: ListenFault) -> Fault {
         match fault {
-            ListenFault::NoAddress(kind) => Fault::Bind(kind),
-            ListenFault::Bind(kind) => Fault::Bind(kind),
-            ListenFault::Socket { at: _, kind } => Fault::Bind(kind),
+            ListenFault::Unreached(_) => Fault::Bind,
             ListenFault::Memory => Fault::Memory,
         }
     }
@@ -191,9 +188,7 @@ impl From<ConnectFault> for Fault {
 
     fn from(fault: ConnectFault) -> Fault {
         match fault {
-            ConnectFault::NoAddress(kind) => Fault::Connect(kind),
-            ConnectFault::Connect(kind) => Fault::Connect(kind),
-            ConnectFault::Socket { at: _, kind } => Fault::Connect(kind),
+            ConnectFault::Unreached(_) => Fault::Connect,
             ConnectFault::Memory => Fault::Memory,
         }
     }

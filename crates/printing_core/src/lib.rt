@@ -5,32 +5,27 @@ mod accepted;
 mod costs;
 mod ending;
 mod fault;
-mod flaws;
 mod hexed;
 mod item_text;
 mod printed;
 mod progress;
+mod reasons;
 mod refusal;
 mod reports;
 mod session_texts;
-mod shard_flaws;
-mod shard_refusals;
-mod shard_reports;
 mod shard_texts;
 mod shown;
 mod stats;
 mod stdio;
 mod told;
-mod unix_causes;
-mod unreached;
+mod wants;
 mod warning;
 mod why;
 
 pub use accepted::accepted_text;
 pub use costs::{push_cost, push_plan, push_sample, push_shards};
-pub use ending::{difference_status, refusal_of};
+pub use ending::{difference_status, learned_in, refusal_of, refusal_of_session};
 pub use fault::Fault;
-pub use flaws::{InputFlaw, ServerFlaw, Unread};
 pub use hexed::{decode_text, encode_lines};
 pub use item_text::{push_item, text_is_read_again};
 pub use printed::{
@@ -40,19 +35,16 @@ pub use printed::{
 pub use progress::{
     end_progress, tell_again, tell_file_read, tell_hashing, tell_input_read, tell_progress,
 };
-pub use refusal::Refusal;
-pub use reports::{Reporting, learned_line, left_out_line, report_text};
+pub use refusal::{Refusal, STANDARD_INPUT};
+pub use reports::{Reporting, SessionName, learned_line, left_out_line, report_text};
 pub use session_texts::{Listing, finds_any, listening_line, outcome_text, served_text};
-pub use shard_flaws::ShardsFlaw;
-pub use shard_reports::shard_report_text;
 pub use shard_texts::{MergedCounts, merged_text, tell_undone, undone_text};
 pub use shown::shown_line;
 pub use stats::{Stats, Tally};
-pub use stdio::{PeerFlaw, learned_in, refusal_of_session, tell_name_flaw, tell_stdio_flaw};
+pub use stdio::{tell_name_flaw, tell_stdio_flaw};
 pub use told::{
     Cause, tell_full, tell_in_memory, tell_left_out, tell_left_waiting, tell_not_followed,
     tell_replaced, tell_torn, tell_unwritten_cause, tell_written_again,
 };
-pub use unreached::Unreached;
 pub use warning::tell_stray_key;
-pub use why::{Origin, Room, Why, tell_why};
+pub use why::{Origin, OtherSide, Why, tell_why};

@@ -24,25 +24,15 @@ impl Fault {
     {
         match self {
             Fault::CannotRead
-            | Fault::Bind(_)
-            | Fault::Connect(_)
+            | Fault::Bind
+            | Fault::Connect
             | Fault::Accept
             | Fault::ReaderFailed
             | Fault::WriterFailed
             | Fault::LinesLost
             | Fault::Incomplete
             | Fault::Memory => 3,
-            Fault::BadItemLine { line: _ }
-            | Fault::NotHex
-            | Fault::TooManyItems
-            | Fault::BadScenario
-            | Fault::BadStep { step: _ }
-            | Fault::Strategy(_)
-            | Fault::Check(_)
-            | Fault::Wire(_)
-            | Fault::Misplaced
-            | Fault::Session { code: _ }
-            | Fault::PeerRefused { code: _ } => 1,
+            _ => 1,
         }
     }
 }
@@ -102,8 +92,8 @@ impl fmt::Display for Fault {
                 write!(f, "refused {code} {}", session_refusal_name(code))
             }
             Fault::Misplaced => write!(f, "refused 20 Misplaced"),
-            Fault::Bind(_) => write!(f, "refused 60 Bind"),
-            Fault::Connect(_) => write!(f, "refused 61 Connect"),
+            Fault::Bind => write!(f, "refused 60 Bind"),
+            Fault::Connect => write!(f, "refused 61 Connect"),
             Fault::Accept => write!(f, "refused 62 Accept"),
             Fault::Session { code } => {
                 write!(f, "refused {code} {}", session_refusal_name(*code))

@@ -1,44 +1,37 @@
 //! Refusals: the one line of each, and the second line where there is something to say.
 
-ghost use Rattle.std.specs.Prelude.{◌≡◌, Some, None, option_map};
-ghost use Rattle.printing_core.specs.FaultsOf.{of_settings, of_scenario, of_input, of_log, of_listen, of_connect};
-ghost use Rattle.printing_core.specs.AddressTexts.{unreached_text};
-ghost use Rattle.printing_core.specs.Whys.{why_text, no_table_text, full_set_text, room_text};
-ghost use Rattle.printing_core.specs.SecondLines.{bad_line_text, scenario_text, error_text, message_text, session_text};
-ghost use Rattle.printing_core.specs.SecondLines.{peer_line, accept_text, listen_text, connect_text, message_flaw};
-ghost use Rattle.printing_core.specs.SecondLines.{session_flaw, unread_line, unread_input_text, output_text, IsSaid};
-ghost use Rattle.printing_core.specs.SecondLines.{IsSaidOfLine, IsSaidOfFile, IsSaidOfInput, IsSaidOfSet, room_for};
-ghost use Rattle.printing_core.specs.SecondLines.{long_session_text, session_text_after};
+ghost use Rattle.std.specs.Prelude.{◌≡◌, ◌≤◌, ◌^◌, Some, None};
+ghost use Rattle.printing_core.specs.FaultsOf.{of_settings, of_scenario, of_input, of_load, of_log, of_listen};
+ghost use Rattle.printing_core.specs.FaultsOf.{of_connect};
+ghost use Rattle.printing_core.specs.SecondLines.{IsSaidOfFile, IsSaidOfSet, IsSaidOfShards, input_why, scenario_why};
+ghost use Rattle.printing_core.specs.SecondLines.{message_why, session_why, peer_why, listen_why, connect_why};
+ghost use Rattle.printing_core.specs.SecondLines.{serving_why};
 ghost use Rattle.printing_core.specs.declared.fault.Fault.TheVariants as faults;
-ghost use Rattle.printing_core.specs.declared.flaws.Unread.TheVariants as unreads;
+ghost use Rattle.printing_core.specs.declared.why.Why.TheVariants as whys;
+ghost use Rattle.io_core.specs.declared.read_fault.ReadFault.TheVariants as reads;
 
 use crate::fault::Fault;
-use crate::flaws::{InputFlaw, ServerFlaw, Unread, refusing};
-use crate::shown::shown_line;
-use crate::stdio::peer_flaw;
-use crate::unreached::{Unreached, connect_cause, listen_cause};
-use crate::why::{Origin, Room, Why};
-use io_core::{InputFault, WriterFailed};
-use item_files::{BadLine, LineFlaw, SettingsFault, StrategyFlaw};
-use settings_core::shard_bits_for;
-use sim_core::{ScenarioError, ScenarioFault};
+use crate::reasons::{
+    why_connect, why_file, why_input, why_listen, why_message, why_peer, why_scenario, why_serving,
+    why_session, why_set, why_shards,
+};
+use crate::why::Why;
+use io_core::{InputFault, ReadFault, WriterFailed};
+use item_files::SettingsFault;
+use shard_loading::LoadFault;
+use sim_core::ScenarioError;
 use std::alloc::{AllocError, AllocFailed, Global};
-use strategy_core::StrategyFault;
 use tcp_front::{ConnectFault, Limits, ListenFault};
 use version_log::LogFault;
-use wire_core::WireFault;
 
-/// The greatest cap of a strategy.
-const MAX_CAP: usize = 65_536;
+/// What stands in place of a file's name where items, or a scenario, are in none.
+pub const STANDARD_INPUT: &str = "standard input";
 
-/// A set is cut into at most 2 to this power shards.
-const MAX_BITS: u8 = 12;
+/// The number of the refusal of a shard that no server has, or two have.
+const NO_SHARD: u8 = 56;
 
-/// The number of the refusal of a message that ends too early.
-const TRUNCATED: u8 = 3;
-
-/// What stands in place of a file's name where items or a strategy are in none.
-pub(crate) const STANDARD_INPUT: &str = "standard input";
+/// The number of the refusal of a directory with an item that is no entry.
+const BAD_ENTRY: u8 = 57;
 
 /// Why a run is refused, and where that is seen.
 #[derive(Debug, Drop)]
@@ -49,251 +42,9 @@ pub struct Refusal<'a> {
     pub why: Option<Why<'a>>,
 }
 
-/// The second line for a bad line of a file of items. None where memory runs out.
-pub(crate) fn why_bad_line<'a>(alloc: Global, file: &'a str, bad: &BadLine) -> Option<Why<'a>>
-    ensures { IsSaidOfLine bad.now.flaw (bad_line_text file.now bad.now) result }
-{
-    let line = bad.number;
-    match bad.flaw {
-        LineFlaw::ByteOrderMark => Some(Why::ByteOrderMark { file }),
-        LineFlaw::TooLong => {
-            let shown = shown_line(alloc, bad.front.bytes()).ok()?;
-            Some(Why::LongLine { file, line, shown })
-        }
-        LineFlaw::NotHex => {
-            let shown = shown_line(alloc, bad.front.bytes()).ok()?;
-            Some(Why::NotHex { file, line, shown })
-        }
-        LineFlaw::OddDigits => {
-            let shown = shown_line(alloc, bad.front.bytes()).ok()?;
-            Some(Why::OddDigits { file, line, shown })
-        }
-        LineFlaw::NoItem => {
-            let shown = shown_line(alloc, bad.front.bytes()).ok()?;
-            Some(Why::BadLine { file, line, shown })
-        }
-    }
-}
-
-/// The second line for a file that is refused. None where memory runs out.
-fn why_file<'a>(alloc: Global, file: &'a str, fault: &SettingsFault) -> Option<Why<'a>>
-    ensures { IsSaidOfFile file.now fault.now result }
-{
-    let origin = Origin { file, node: None };
-    match fault {
-        SettingsFault::CannotRead(fault) => {
-            let cause = Unread::from(*fault);
-            Some(Why::Unread { file, cause })
-        }
-        SettingsFault::BadItemLine(bad) => why_bad_line(alloc, file, bad),
-        SettingsFault::TooManyItems { cap, count: _ } => {
-            Some(Why::TooManyItems { origin, cap: *cap })
-        }
-        SettingsFault::Strategy(flaw) => Some(Why::Strategy {
-            origin,
-            flaw: *flaw,
-        }),
-        SettingsFault::Check(fault) => Some(Why::NotAccepted {
-            origin,
-            fault: *fault,
-        }),
-        SettingsFault::Memory => None,
-    }
-}
-
-/// Where there is room for a set of so many items, above this cap.
-fn room_for(cap: usize, count: usize) -> Room
-    ensures { result ≡ room_for cap count }
-{
-    if cap < MAX_CAP {
-        Room::Cap
-    } else {
-        let count = count.min(u32::MAX as usize) as u32;
-        let bits = shard_bits_for(count).unwrap_or(MAX_BITS);
-        Room::Shards { bits }
-    }
-}
-
-/// The second line for a set of so many items in a file, above this cap.
-fn why_full<'a>(file: &'a str, cap: usize, count: usize) -> Why<'a>
-    ensures { why_text result ≡ full_set_text file.now cap (room_text (room_for cap count)) }
-{
-    Why::FullSet {
-        file,
-        cap,
-        room: room_for(cap, count),
-    }
-}
-
-/// The second line for a set in a file that is refused. None where memory runs out.
-fn why_set<'a>(alloc: Global, file: &'a str, fault: &SettingsFault) -> Option<Why<'a>>
-    ensures { IsSaidOfSet file.now fault.now result }
-{
-    match fault {
-        SettingsFault::TooManyItems { cap, count } => Some(why_full(file, *cap, *count)),
-        fault => why_file(alloc, file, fault),
-    }
-}
-
-/// The second line for items of standard input that are refused. None where memory runs out.
-fn why_input(alloc: Global, fault: &SettingsFault) -> Option<Why<'static>>
-    ensures { IsSaidOfInput fault.now result }
-{
-    match fault {
-        SettingsFault::CannotRead(_) => Some(Why::Input(InputFlaw::CannotRead)),
-        fault => why_file(alloc, STANDARD_INPUT, fault),
-    }
-}
-
-/// The second line for a scenario that is refused, if that is not for want of memory.
-fn why_scenario(fault: ScenarioFault) -> Why<'static>
-    ensures { why_text result ≡ scenario_text fault }
-{
-    let file = STANDARD_INPUT;
-    match fault {
-        ScenarioFault::NotToml => Why::Strategy {
-            origin: Origin { file, node: None },
-            flaw: StrategyFlaw {
-                fault: StrategyFault::NotToml,
-                row: None,
-                number: None,
-            },
-        },
-        ScenarioFault::Strategy { node, flaw } => Why::Strategy {
-            origin: Origin {
-                file,
-                node: Some(node),
-            },
-            flaw,
-        },
-        ScenarioFault::Check { node, fault } => Why::NotAccepted {
-            origin: Origin {
-                file,
-                node: Some(node),
-            },
-            fault,
-        },
-        ScenarioFault::TooManyItems { node, cap } => Why::TooManyItems {
-            origin: Origin {
-                file,
-                node: Some(node),
-            },
-            cap: cap as usize,
-        },
-        ScenarioFault::BadScenario => Why::Input(InputFlaw::NotScenario),
-        ScenarioFault::BadStep { step } => Why::Input(InputFlaw::NotStep { step }),
-    }
-}
-
-/// Why the input of `answer`, as hex or as bytes, is no message.
-fn message_flaw(is_hexed: bool, fault: WireFault) -> InputFlaw
-    ensures { result ≡ message_flaw is_hexed fault }
-{
-    match fault {
-        WireFault::Truncated => InputFlaw::Cut,
-        _ => {
-            if is_hexed {
-                InputFlaw::NotMessage
-            } else {
-                InputFlaw::NotBytes
-            }
-        }
-    }
-}
-
-/// The second line for a message that is refused, where there is something to say.
-fn why_message(is_hexed: bool, fault: Fault) -> Option<Why<'static>>
-    ensures { IsSaid result (message_text is_hexed fault) }
-{
-    match fault {
-        Fault::CannotRead => Some(Why::Input(InputFlaw::CannotRead)),
-        Fault::NotHex => Some(Why::Input(InputFlaw::NotHex)),
-        Fault::Wire(fault) => Some(Why::Input(message_flaw(is_hexed, fault))),
-        Fault::Misplaced => Some(Why::Input(InputFlaw::NotSum)),
-        Fault::WriterFailed => Some(Why::Output),
-        _ => None,
-    }
-}
-
-/// What a server did that a session was refused here with this number.
-fn session_flaw(code: u8) -> Option<ServerFlaw>
-    ensures { result ≡ session_flaw code }
-{
-    match code {
-        1 => Some(ServerFlaw::Stranger),
-        3 => Some(ServerFlaw::Ended),
-        12 => Some(ServerFlaw::TooManyParts),
-        2..=26 => Some(ServerFlaw::Unruly),
-        _ => None,
-    }
-}
-
-/// The second line for a session with a server that did not end well, where there is something to say.
-fn why_session(limits: Limits, fault: Fault) -> Option<Why<'static>>
-    ensures { IsSaid result (session_text limits fault) }
-{
-    let patience = limits.patience;
-    match fault {
-        Fault::Session { code } => match session_flaw(code) {
-            Some(flaw) => Some(Why::Server(flaw)),
-            None => None,
-        },
-        Fault::PeerRefused { code } => Some(Why::Server(refusing(code))),
-        Fault::ReaderFailed => Some(Why::Server(ServerFlaw::Silent { patience })),
-        Fault::WriterFailed => Some(Why::Server(ServerFlaw::NotTaking { patience })),
-        _ => None,
-    }
-}
-
-/// The same for a session of which as many bytes were read as may be.
-fn why_long_session(limits: Limits, fault: Fault) -> Option<Why<'static>>
-    ensures { IsSaid result (long_session_text limits fault) }
-{
-    match fault {
-        Fault::Session { code: TRUNCATED } => Some(Why::Server(ServerFlaw::TooMuch {
-            most_bytes: limits.most_bytes,
-        })),
-        _ => why_session(limits, fault),
-    }
-}
-
-/// The second line for a session over standard input and output that did not end well, where there is something to
-/// say; so many bytes may be read.
-fn why_peer(fault: Fault, most_bytes: u32) -> Option<Why<'static>>
-    ensures { IsSaid result (peer_line fault most_bytes) }
-{
-    match peer_flaw(fault, most_bytes) {
-        Some(flaw) => Some(Why::Peer(flaw)),
-        None => None,
-    }
-}
-
-/// The second line for an address that is not listened at, or not reached, for this cause.
-fn why_address<'a>(address: &'a str, cause: Option<Unreached>) -> Option<Why<'a>>
-    ensures { IsSaid result (option_map (unreached_text address.now) cause) }
-{
-    match cause {
-        Some(cause) => Some(Why::Address { address, cause }),
-        None => None,
-    }
-}
-
-/// The second line for a server at this address whose workers ended, where there is something to say.
-fn why_serving<'a>(address: &'a str, fault: Fault) -> Option<Why<'a>>
-    ensures { IsSaid result (accept_text address.now fault) }
-{
-    match fault {
-        Fault::Accept => Some(Why::Address {
-            address,
-            cause: Unreached::NoRoom,
-        }),
-        _ => None,
-    }
-}
-
 impl<'a> Refusal<'a> {
     /// The refusal for this fault, with this second line.
-    pub(crate) fn new(fault: Fault, why: Option<Why<'a>>) -> Refusal<'a>
+    fn new(fault: Fault, why: Option<Why<'a>>) -> Refusal<'a>
         ensures fault { result.fault ≡ fault }
         ensures why { result.why ≡ why.entry }
     {
@@ -303,7 +54,7 @@ impl<'a> Refusal<'a> {
     /// The refusal of a file of items, or of a strategy.
     pub fn of_file(alloc: Global, file: &'a str, fault: SettingsFault) -> Refusal<'a>
         ensures fault { result.fault ≡ of_settings fault }
-        ensures why { IsSaidOfFile file.now fault result.why }
+        ensures why { IsSaidOfFile file.entry fault result.why }
     {
         let why = why_file(alloc, file, &fault);
         Refusal::new(Fault::from(fault), why)
@@ -312,143 +63,161 @@ impl<'a> Refusal<'a> {
     /// The refusal of a file of the items of a set that may be cut into shards.
     pub fn of_set_file(alloc: Global, file: &'a str, fault: SettingsFault) -> Refusal<'a>
         ensures fault { result.fault ≡ of_settings fault }
-        ensures why { IsSaidOfSet file.now fault result.why }
+        ensures why { IsSaidOfSet file.entry fault result.why }
     {
         let why = why_set(alloc, file, &fault);
+        Refusal::new(Fault::from(fault), why)
+    }
+
+    /// The refusal of a file of items of shards, of at most `cap` items each.
+    pub fn of_shards_file(alloc: Global, file: &'a str, cap: usize, fault: LoadFault) -> Refusal<'a>
+        ensures fault { result.fault ≡ of_load fault }
+        ensures why { IsSaidOfShards file.entry cap fault result.why }
+    {
+        let why = why_shards(alloc, file, cap, &fault);
         Refusal::new(Fault::from(fault), why)
     }
 
     /// The refusal of a strategy that is in no file, where those of these names are shipped.
     pub fn of_no_table(file: &'a str, names: &'static str) -> Refusal<'a>
         ensures fault { result.fault ≡ Fault.CannotRead }
-        ensures why { IsSaid result.why (Some (no_table_text file.now names.now)) }
+        ensures why { result.why ≡ Some (whys.NoTable file.entry names.entry) }
     {
         Refusal::new(Fault::CannotRead, Some(Why::NoTable { file, names }))
     }
 
-    /// The refusal of items of standard input.
-    pub fn of_input(alloc: Global, fault: SettingsFault) -> Refusal<'a>
-        ensures fault { result.fault ≡ of_settings fault }
-        ensures why { IsSaidOfInput fault result.why }
+    /// The refusal of a strategy whose cap is below the number of shards, 2 to the power of `bits`.
+    pub fn of_few_places(file: &'a str, bits: u8) -> Refusal<'a>
+        requires { bits ≤ 12 }
+        ensures fault { result.fault ≡ Fault.TooManyItems }
+        ensures why { result.why ≡ Some (whys.FewPlaces file.entry (2 ^ bits)) }
     {
-        let why = why_input(alloc, &fault);
-        Refusal::new(Fault::from(fault), why)
+        let shards = 1 << bits;
+        Refusal::new(Fault::TooManyItems, Some(Why::FewPlaces { file, shards }))
     }
 
     /// The refusal of a file that is not opened.
-    pub fn of_unread(file: &'a str, cause: Unread) -> Refusal<'a>
+    pub fn of_unread(file: &'a str, cause: ReadFault) -> Refusal<'a>
         ensures fault { result.fault ≡ Fault.CannotRead }
-        ensures why { IsSaid result.why (Some (unread_line file.now cause)) }
+        ensures why { result.why ≡ Some (whys.Unread file.entry cause) }
     {
         Refusal::new(Fault::CannotRead, Some(Why::Unread { file, cause }))
-    }
-
-    /// The refusal of the input of `answer`, as hex or as bytes, or of its output.
-    pub fn of_message(is_hexed: bool, fault: Fault) -> Refusal<'a>
-        ensures fault { result.fault ≡ fault }
-        ensures why { IsSaid result.why (message_text is_hexed fault) }
-    {
-        Refusal::new(fault, why_message(is_hexed, fault))
-    }
-
-    /// The refusal of a session with a server, within these limits.
-    pub fn of_session(limits: Limits, fault: Fault) -> Refusal<'a>
-        ensures fault { result.fault ≡ fault }
-        ensures why { IsSaid result.why (session_text limits fault) }
-    {
-        Refusal::new(fault, why_session(limits, fault))
-    }
-
-    /// The refusal of a session with a server, within these limits, of which so many bytes were read.
-    pub fn of_session_after(limits: Limits, received: u64, fault: Fault) -> Refusal<'a>
-        ensures fault { result.fault ≡ fault }
-        ensures why { IsSaid result.why (session_text_after limits received fault) }
-    {
-        if received < u64::from(limits.most_bytes) {
-            Refusal::of_session(limits, fault)
-        } else {
-            Refusal::new(fault, why_long_session(limits, fault))
-        }
-    }
-
-    /// The refusal of a session over standard input and output, of which so many bytes may be read.
-    pub fn of_peer(most_bytes: u32, fault: Fault) -> Refusal<'a>
-        ensures fault { result.fault ≡ fault }
-        ensures why { IsSaid result.why (peer_line fault most_bytes) }
-    {
-        Refusal::new(fault, why_peer(fault, most_bytes))
     }
 
     /// The refusal of a file that takes no more.
     pub fn of_unwritten(file: &'a str) -> Refusal<'a>
         ensures fault { result.fault ≡ Fault.WriterFailed }
-        ensures why { IsSaid result.why (Some (unread_line file.now unreads.Unwritable)) }
+        ensures why { result.why ≡ Some (whys.Unread file.entry reads.Unwritable) }
     {
-        let cause = Unread::Unwritable;
+        let cause = ReadFault::Unwritable;
         Refusal::new(Fault::WriterFailed, Some(Why::Unread { file, cause }))
+    }
+
+    /// The refusal of an input of this name.
+    pub fn of_input(file: &'a str, fault: InputFault) -> Refusal<'a>
+        ensures fault { result.fault ≡ of_input fault }
+        ensures why { result.why ≡ input_why file.entry fault }
+    {
+        Refusal::new(Fault::from(fault), why_input(file, fault))
+    }
+
+    /// The refusal of a scenario in an input of this name.
+    pub fn of_scenario(file: &'a str, error: ScenarioError) -> Refusal<'a>
+        ensures fault { result.fault ≡ of_scenario error }
+        ensures why { result.why ≡ scenario_why file.entry error }
+    {
+        Refusal::new(Fault::from(error), why_scenario(file, error))
+    }
+
+    /// The refusal of the input of `answer`, as hex or as bytes, or of its output.
+    pub fn of_message(is_hexed: bool, fault: Fault) -> Refusal<'a>
+        ensures fault { result.fault ≡ fault }
+        ensures why { result.why ≡ message_why is_hexed fault }
+    {
+        Refusal::new(fault, why_message(is_hexed, fault))
+    }
+
+    /// The refusal of a session with a server, of which so many bytes were read.
+    pub fn of_session_after(limits: Limits, received: u64, fault: Fault) -> Refusal<'a>
+        ensures fault { result.fault ≡ fault }
+        ensures why { result.why ≡ session_why limits received fault }
+    {
+        Refusal::new(fault, why_session(limits, received, fault))
+    }
+
+    /// The refusal of a session over standard input and output, of which so many bytes may be read.
+    pub fn of_peer(most_bytes: u32, fault: Fault) -> Refusal<'a>
+        ensures fault { result.fault ≡ fault }
+        ensures why { result.why ≡ peer_why most_bytes fault }
+    {
+        Refusal::new(fault, why_peer(most_bytes, fault))
     }
 
     /// The refusal of a listener at this address.
     pub fn of_listen(address: &'a str, fault: ListenFault) -> Refusal<'a>
         ensures fault { result.fault ≡ of_listen fault }
-        ensures why { IsSaid result.why (listen_text address.now fault) }
+        ensures why { result.why ≡ listen_why address.entry fault }
     {
-        let why = why_address(address, listen_cause(address, fault));
-        Refusal::new(Fault::from(fault), why)
+        Refusal::new(Fault::from(fault), why_listen(address, fault))
     }
 
-    /// The refusal of a connection to this address, for which there were so many seconds.
-    pub fn of_connect(address: &'a str, fault: ConnectFault, seconds: u32) -> Refusal<'a>
+    /// The refusal of a connection to this address.
+    pub fn of_connect(address: &'a str, fault: ConnectFault) -> Refusal<'a>
         ensures fault { result.fault ≡ of_connect fault }
-        ensures why { IsSaid result.why (connect_text address.now fault seconds) }
+        ensures why { result.why ≡ connect_why address.entry fault }
     {
-        let why = why_address(address, connect_cause(address, fault, seconds));
-        Refusal::new(Fault::from(fault), why)
+        Refusal::new(Fault::from(fault), why_connect(address, fault))
     }
 
-    /// The refusal of a server at this address whose workers ended.
-    pub fn of_serving(address: &'a str, fault: Fault) -> Refusal<'a>
+    /// The refusal of a server whose workers ended.
+    pub fn of_serving(fault: Fault) -> Refusal<'a>
         ensures fault { result.fault ≡ fault }
-        ensures why { IsSaid result.why (accept_text address.now fault) }
+        ensures why { result.why ≡ serving_why fault }
     {
-        Refusal::new(fault, why_serving(address, fault))
+        Refusal::new(fault, why_serving(fault))
+    }
+
+    /// The refusal of servers of which none has this shard.
+    pub fn of_no_shard(shard: u16) -> Refusal<'a>
+        ensures fault { result.fault ≡ Fault.Session 56 }
+        ensures why { result.why ≡ Some (whys.NoServer shard) }
+    {
+        Refusal::new(
+            Fault::Session { code: NO_SHARD },
+            Some(Why::NoServer { shard }),
+        )
+    }
+
+    /// The refusal of servers of which two have this shard.
+    pub fn of_two_servers(shard: u16) -> Refusal<'a>
+        ensures fault { result.fault ≡ Fault.Session 56 }
+        ensures why { result.why ≡ Some (whys.TwoServers shard) }
+    {
+        Refusal::new(
+            Fault::Session { code: NO_SHARD },
+            Some(Why::TwoServers { shard }),
+        )
+    }
+
+    /// The refusal of a server whose directory has an item that is no entry.
+    pub fn of_bad_entry() -> Refusal<'a>
+        ensures fault { result.fault ≡ Fault.Session 57 }
+        ensures why { result.why ≡ Some whys.BadEntry }
+    {
+        Refusal::new(Fault::Session { code: BAD_ENTRY }, Some(Why::BadEntry))
     }
 }
 
 impl From<Fault> for Refusal<'_> {
-    ghost from_gives = { λ f r. (r.fault ≡ f) × IsSaid r.why None };
+    ghost from_gives = { λ f r. (r.fault ≡ f) × (r.why ≡ None) };
 
     fn from(fault: Fault) -> Self {
         Refusal { fault, why: None }
     }
 }
 
-impl From<ScenarioError> for Refusal<'_> {
-    ghost from_gives = { λ e r. (r.fault ≡ of_scenario e) × IsSaid r.why (error_text e) };
-
-    fn from(error: ScenarioError) -> Self {
-        let why = match error {
-            ScenarioError::Fault(fault) => Some(why_scenario(fault)),
-            ScenarioError::Memory => None,
-        };
-        Refusal::new(Fault::from(error), why)
-    }
-}
-
-impl From<InputFault> for Refusal<'_> {
-    ghost from_gives = { λ f r. (r.fault ≡ of_input f) × IsSaid r.why (unread_input_text f) };
-
-    fn from(fault: InputFault) -> Self {
-        let why = match fault {
-            InputFault::CannotRead => Some(Why::Input(InputFlaw::CannotRead)),
-            InputFault::Memory => None,
-        };
-        Refusal::new(Fault::from(fault), why)
-    }
-}
-
 impl From<LogFault> for Refusal<'_> {
-    ghost from_gives = { λ f r. (r.fault ≡ of_log f) × IsSaid r.why None };
+    ghost from_gives = { λ f r. (r.fault ≡ of_log f) × (r.why ≡ None) };
 
     fn from(fault: LogFault) -> Self {
         Refusal::from(Fault::from(fault))
@@ -456,7 +225,7 @@ impl From<LogFault> for Refusal<'_> {
 }
 
 impl From<WriterFailed> for Refusal<'_> {
-    ghost from_gives = { λ _ r. (r.fault ≡ faults.WriterFailed) × IsSaid r.why (Some output_text) };
+    ghost from_gives = { λ _ r. (r.fault ≡ faults.WriterFailed) × (r.why ≡ Some whys.Output) };
 
     fn from(failed: WriterFailed) -> Self {
         Refusal::new(Fault::from(failed), Some(Why::Output))
@@ -464,7 +233,7 @@ impl From<WriterFailed> for Refusal<'_> {
 }
 
 impl From<AllocError> for Refusal<'_> {
-    ghost from_gives = { λ _ r. (r.fault ≡ faults.Memory) × IsSaid r.why None };
+    ghost from_gives = { λ _ r. (r.fault ≡ faults.Memory) × (r.why ≡ None) };
 
     fn from(_refused: AllocError) -> Self {
         Refusal::from(Fault::Memory)
@@ -472,7 +241,7 @@ impl From<AllocError> for Refusal<'_> {
 }
 
 impl<T: Drop> From<AllocFailed<T>> for Refusal<'_> {
-    ghost from_gives = { λ _ r. (r.fault ≡ faults.Memory) × IsSaid r.why None };
+    ghost from_gives = { λ _ r. (r.fault ≡ faults.Memory) × (r.why ≡ None) };
 
     fn from(_refused: AllocFailed<T>) -> Self {
         Refusal::from(Fault::Memory)

@@ -1,19 +1,21 @@
 //! What `serve` writes of its sessions to its files.
 
-ghost use Rattle.std.specs.Prelude.{◌≡◌, ◌++◌, IfOk, OnOk, string_bytes, take};
+ghost use Rattle.std.specs.Prelude.{◌≡◌, ◌++◌, IfOk, OnOk, Some, string_bytes, take};
 ghost use Rattle.printing_core.specs.SessionTexts.{of_direction};
 ghost use Rattle.printing_core.specs.ItemTexts.{item_line};
-ghost use Rattle.printing_core.specs.ReportTexts.{stopped_line, learned_lines, more_line, first_lines, reported_text};
-ghost use Rattle.printing_core.specs.ReportTexts.{report_text, left_out_line};
+ghost use Rattle.printing_core.specs.ReportTexts.{session_name, head_line, stopped_line, learned_lines, more_line};
+ghost use Rattle.printing_core.specs.ReportTexts.{first_lines, reported_text, report_text, left_out_line};
 
 use crate::fault::Fault;
 use crate::item_text::push_item;
-use crate::session_texts::{Naming, push_learned, push_lines, rising};
+use crate::session_texts::{Listing, Naming, push_learned, push_lines, rising};
 use ends_core::Learned;
 use item_core::Item;
 use item_files::ItemForm;
 use outcome_core::{Direction, Outcome};
+use shard_core::Which;
 use std::alloc::{AllocError, Global};
+use std::fmt;
 
 /// How sessions are reported.
 #[derive(Clone, Copy, Debug, PartialEq, Eq)]
@@ -22,6 +24,28 @@ pub struct Reporting {
     pub form: ItemForm,
     /// How many lines of items a session may have; `None`: as many as it has items.
     pub most: Option<u32>,
+}
+
+/// Which session is reported. It prints as its name.
+#[derive(Clone, Copy, Debug, PartialEq, Eq)]
+pub struct SessionName {
+    /// Its serial.
+    pub serial: u64,
+    /// The shard, or the directory, that it spoke of; `None`: it spoke of a whole set.
+    pub which: Option<Which>,
+}
+
+impl fmt::Display for SessionName {
+    ghost output = { λ s. Some (session_name s.serial s.which) };
+
+    fn fmt<W: fmt::Write>(&self, f: &mut fmt::Formatter<W>) -> fmt::Result {
+        let serial = self.serial;
+        match self.which {
+            None => write!(f, "session {serial}"),
+            Some(Which::Shard(shard)) => write!(f, "session {serial} shard {shard}"),
+            Some(Which::Directory) => write!(f, "session {serial} directory"),
+        }
+    }
 }
 
 /// What failed of a connection, as a fault.
@@ -34,11 +58,26 @@ pub(crate) fn of_direction(side: Direction) -> Fault
     }
 }
 
-/// The line of a session that did not end.
-fn stopped_line(alloc: Global, serial: u64, fault: Fault) -> Result<String, AllocError>
-    ensures { IfOk result (λ text. string_bytes text ≡ stopped_line serial fault) }
+/// The first line of a session that ended: that of a directory has no version.
+fn head_line(
+    alloc: Global,
+    session: SessionName,
+    version: usize,
+    sent: u32,
+) -> Result<String, AllocError>
+    ensures { IfOk result (λ text. string_bytes text ≡ head_line session.serial session.which version sent) }
 {
-    format!(in alloc; "session {serial} {fault}\n")
+    match session.which {
+        Some(Which::Directory) => format!(in alloc; "{session} sent {sent}\n"),
+        _ => format!(in alloc; "{session} version {version} sent {sent}\n"),
+    }
+}
+
+/// The line of a session that did not end.
+fn stopped_line(alloc: Global, session: SessionName, fault: Fault) -> Result<String, AllocError>
+    ensures { IfOk result (λ text. string_bytes text ≡ stopped_line session.serial session.which fault) }
+{
+    format!(in alloc; "{session} {fault}\n")
 }
 
 /// Appends how many lines were left out, if any were.
@@ -82,31 +121,36 @@ fn push_first(
     push_more(text, (ours.len() + theirs.len()).saturating_sub(most))
 }
 
-/// Appends both differences as they are reported.
-pub(crate) fn push_reported(
+/// Appends both differences as they are reported; nothing for the directory, whose items are none of the set.
+fn push_reported(
     alloc: Global,
     text: &mut String,
     reporting: Reporting,
+    which: Option<Which>,
     learned: &Learned,
 ) -> Result<(), AllocError>
     ensures { OnOk result (string_bytes text.new ≡ string_bytes text.old
-        ++ reported_text reporting.form reporting.most learned.now) }
+        ++ reported_text reporting.form reporting.most which learned.now) }
 {
+    if let Some(Which::Directory) = which {
+        return Ok(());
+    }
     match reporting.most {
         Some(most) => push_first(alloc, text, reporting.form, learned, most as usize),
-        None => push_learned(alloc, text, reporting.form, learned),
+        None => push_learned(alloc, text, Listing::Items(reporting.form), learned),
     }
 }
 
-/// The lines of a session with this serial that is over: its version, the messages sent and both differences, each
-/// rising, as it is reported; or, in one line, why it did not end.
+/// The lines of a session that is over: its version, the messages sent and both differences, each rising, as it is
+/// reported; of the directory the messages sent alone; or, in one line, why it did not end.
 pub fn report_text(
     alloc: Global,
     reporting: Reporting,
-    serial: u64,
+    session: SessionName,
     outcome: &Outcome,
 ) -> Result<String, AllocError>
-    ensures { IfOk result (λ text. string_bytes text ≡ report_text reporting.form reporting.most serial outcome.now) }
+    ensures { IfOk result (λ text. string_bytes text
+        ≡ report_text reporting.form reporting.most session.serial session.which outcome.now) }
 {
     match outcome {
         Outcome::Ended {
@@ -114,18 +158,18 @@ pub fn report_text(
             sent,
             version,
         } => {
-            let mut text = format!(in alloc; "session {serial} version {version} sent {sent}\n")?;
-            push_reported(alloc, &mut text, reporting, learned)?;
+            let mut text = head_line(alloc, session, *version, *sent)?;
+            push_reported(alloc, &mut text, reporting, session.which, learned)?;
             Ok(text)
         }
         Outcome::Refused { code, .. } => {
-            stopped_line(alloc, serial, Fault::Session { code: *code })
+            stopped_line(alloc, session, Fault::Session { code: *code })
         }
         Outcome::PeerRefused { code, .. } => {
-            stopped_line(alloc, serial, Fault::PeerRefused { code: *code })
+            stopped_line(alloc, session, Fault::PeerRefused { code: *code })
         }
-        Outcome::Io { side, .. } => stopped_line(alloc, serial, of_direction(*side)),
-        Outcome::Memory { .. } => stopped_line(alloc, serial, Fault::Memory),
+        Outcome::Io { side, .. } => stopped_line(alloc, session, of_direction(*side)),
+        Outcome::Memory { .. } => stopped_line(alloc, session, Fault::Memory),
     }
 }
 

@@ -1,9 +1,9 @@
 //! What is printed of sessions over the network.
 
-ghost use Rattle.std.specs.Prelude.{◌≡◌, ◌++◌, IfOk, OnOk, length, flat_map, string_bytes};
+ghost use Rattle.std.specs.Prelude.{◌≡◌, ◌++◌, IfOk, OnOk, flat_map, string_bytes};
 ghost use Rattle.definitions.specs.Sets.{set_of};
 ghost use Rattle.printing_core.specs.SessionTexts.{listening_line, served_text, named_line, counts_text, learned_text};
-ghost use Rattle.printing_core.specs.SessionTexts.{number_lines, listed_text, finds_any, IsSyncOf};
+ghost use Rattle.printing_core.specs.SessionTexts.{listed_text, finds_any, IsSyncOf};
 
 use crate::fault::Fault;
 use crate::item_text::push_item;
@@ -98,55 +98,52 @@ pub(crate) fn rising(alloc: Global, items: &PackedItems) -> Result<Vec<Item>, Al
     Ok(distinct(items.to_vec(alloc)?))
 }
 
-/// Appends a line for each own item that the peer lacks, and then one for each item of the peer that is lacked here.
-pub(crate) fn push_learned(
+/// Both differences of two sets.
+#[derive(Clone, Copy)]
+pub(crate) struct Both<'a> {
+    /// Own items that the peer lacks.
+    pub ours: &'a [Item],
+    /// Items of the peer that are lacked here.
+    pub theirs: &'a [Item],
+}
+
+/// Appends both differences in this order: a line for each item, or how many they are, as two lines.
+pub(crate) fn push_listed(
     alloc: Global,
     text: &mut String,
-    form: ItemForm,
-    learned: &Learned,
+    listing: Listing,
+    both: Both<'_>,
 ) -> Result<(), AllocError>
-    ensures { OnOk result (string_bytes text.new ≡ string_bytes text.old ++ learned_text form learned.now) }
-{
-    let ours = rising(alloc, learned.ours())?;
-    push_lines(alloc, text, Naming { name: "ours", form }, &ours)?;
-    let theirs = rising(alloc, learned.theirs())?;
-    let name = Naming {
-        name: "theirs",
-        form,
-    };
-    push_lines(alloc, text, name, &theirs)
-}
-
-/// Appends how many own items the peer lacks, and how many of the peer are lacked here, as two lines.
-pub(crate) fn push_numbers(text: &mut String, ours: usize, theirs: usize) -> Result<(), AllocError>
-    ensures { OnOk result (string_bytes text.new ≡ string_bytes text.old ++ number_lines ours theirs) }
-{
-    write!(text, "ours {ours}\ntheirs {theirs}\n")
-}
-
-/// Appends the numbers of what was learned, each item once.
-fn push_counted(alloc: Global, text: &mut String, learned: &Learned) -> Result<(), AllocError>
     ensures { OnOk result (string_bytes text.new ≡ string_bytes text.old
-        ++ number_lines (length (set_of learned.now.ours)) (length (set_of learned.now.theirs))) }
+        ++ listed_text listing both.entry.ours.now both.entry.theirs.now) }
 {
-    let only_ours = rising(alloc, learned.ours())?;
-    let only_theirs = rising(alloc, learned.theirs())?;
-    push_numbers(text, only_ours.len(), only_theirs.len())
+    let Both { ours, theirs } = both;
+    match listing {
+        Listing::Items(form) => {
+            push_lines(alloc, text, Naming { name: "ours", form }, ours)?;
+            let name = "theirs";
+            push_lines(alloc, text, Naming { name, form }, theirs)
+        }
+        Listing::Counts => write!(text, "ours {}\ntheirs {}\n", ours.len(), theirs.len()),
+    }
 }
 
-/// Appends what was learned: the items, or their numbers.
-fn push_listed(
+/// Appends what was learned, each item once, rising.
+pub(crate) fn push_learned(
     alloc: Global,
     text: &mut String,
     listing: Listing,
     learned: &Learned,
 ) -> Result<(), AllocError>
-    ensures { OnOk result (string_bytes text.new ≡ string_bytes text.old ++ listed_text listing learned.now) }
+    ensures { OnOk result (string_bytes text.new ≡ string_bytes text.old ++ learned_text listing learned.now) }
 {
-    match listing {
-        Listing::Items(form) => push_learned(alloc, text, form, learned),
-        Listing::Counts => push_counted(alloc, text, learned),
-    }
+    let ours = rising(alloc, learned.ours())?;
+    let theirs = rising(alloc, learned.theirs())?;
+    let both = Both {
+        ours: &ours,
+        theirs: &theirs,
+    };
+    push_listed(alloc, text, listing, both)
 }
 
 /// The version, and the messages sent, as two lines.
@@ -167,7 +164,7 @@ pub fn outcome_text(alloc: Global, listing: Listing, outcome: &Outcome) -> Resul
             version,
         } => {
             let mut text = counts_text(alloc, *version, *sent)?;
-            push_listed(alloc, &mut text, listing, learned)?;
+            push_learned(alloc, &mut text, listing, learned)?;
             Ok(text)
         }
         Outcome::Refused { code, .. } => Err(Fault::Session { code: *code }),

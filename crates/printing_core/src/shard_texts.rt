@@ -2,13 +2,11 @@
 
 ghost use Rattle.std.specs.Prelude.{◌≡◌, ◌++◌, IfOk, OnOk, flat_map, string_bytes};
 ghost use Rattle.printing_core.specs.Lines.{spaced};
-ghost use Rattle.printing_core.specs.ShardTexts.{merged_head, both_lines, listed_items, merged_text};
-ghost use Rattle.printing_core.specs.ShardTexts.{first_text, undone_text};
+ghost use Rattle.printing_core.specs.ShardTexts.{merged_head, merged_text, first_text, undone_text};
 
 use crate::fault::Fault;
-use crate::session_texts::{Listing, Naming, push_lines, push_numbers as push_counts};
+use crate::session_texts::{Both, Listing, push_listed};
 use item_core::Item;
-use item_files::ItemForm;
 use std::alloc::{AllocError, Global};
 use std::io::Write;
 
@@ -35,42 +33,6 @@ fn merged_head(alloc: Global, counts: MergedCounts) -> Result<String, AllocError
     format!(in alloc; "shards {shards} differ {differ}\nsent {sent}\n")
 }
 
-/// Appends a line for each own item that the peer lacks, and then one for each item of the peer that is lacked here.
-fn push_both(
-    alloc: Global,
-    text: &mut String,
-    form: ItemForm,
-    ours: &[Item],
-    theirs: &[Item],
-) -> Result<(), AllocError>
-    ensures { OnOk result (string_bytes text.new ≡ string_bytes text.old ++ both_lines form ours.now theirs.now) }
-{
-    let name = Naming { name: "ours", form };
-    push_lines(alloc, text, name, ours)?;
-    let name = Naming {
-        name: "theirs",
-        form,
-    };
-    push_lines(alloc, text, name, theirs)
-}
-
-/// Appends both differences as they are asked for: the items in the order given, or their numbers.
-fn push_items(
-    alloc: Global,
-    text: &mut String,
-    listing: Listing,
-    ours: &[Item],
-    theirs: &[Item],
-) -> Result<(), AllocError>
-    ensures { OnOk result (string_bytes text.new ≡ string_bytes text.old
-        ++ listed_items listing ours.now theirs.now) }
-{
-    match listing {
-        Listing::Items(form) => push_both(alloc, text, form, ours, theirs),
-        Listing::Counts => push_counts(text, ours.len(), theirs.len()),
-    }
-}
-
 /// The lines of all shards: the counts, and both differences as they are asked for, in the order given.
 pub fn merged_text(
     alloc: Global,
@@ -82,7 +44,7 @@ pub fn merged_text(
     ensures { IfOk result (λ text. string_bytes text ≡ merged_text listing counts ours.now theirs.now) }
 {
     let mut text = merged_head(alloc, counts)?;
-    push_items(alloc, &mut text, listing, ours, theirs)?;
+    push_listed(alloc, &mut text, listing, Both { ours, theirs })?;
     Ok(text)
 }
 

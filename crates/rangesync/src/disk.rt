@@ -3,7 +3,7 @@
 use io_core::{Watched, write_output};
 use item_files::ReadFault;
 use line_file::{Device, LineFile, torn_length};
-use printing_core::{Fault, Refusal, Unread, tell_torn};
+use printing_core::{Fault, Refusal, tell_torn};
 use std::alloc::Global;
 use std::cmp::Ordering;
 use std::fs::{File, Metadata, OpenFile, OpenOptions, TryLockError};
@@ -125,17 +125,16 @@ pub fn all_of(alloc: Global, file: &File) -> io::Result<Vec<u8>> {
 fn unopened<'a>(path: &'a str, error: &io::Error) -> Refusal<'a> {
     match error.kind() {
         ErrorKind::OutOfMemory => Refusal::from(Fault::Memory),
-        ErrorKind::InvalidData => Refusal::of_unread(path, Unread::NoLines),
+        ErrorKind::InvalidData => Refusal::of_unread(path, ReadFault::NoLines),
         _ => Refusal::of_unread(path, unopened_cause(error)),
     }
 }
 
 /// Why a file is not opened to be written to.
-fn unopened_cause(error: &io::Error) -> Unread {
+fn unopened_cause(error: &io::Error) -> ReadFault {
     match ReadFault::of(error) {
-        ReadFault::NoMoreFiles => Unread::NoMoreFiles,
-        ReadFault::Folder => Unread::Folder,
-        _ => Unread::Unwritable,
+        cause @ (ReadFault::NoMoreFiles | ReadFault::Folder) => cause,
+        _ => ReadFault::Unwritable,
     }
 }
 
@@ -229,7 +228,7 @@ fn open_locked<'a, R: Files<File = File>>(rt: &R, path: &'a str) -> Result<File,
         Err(error) => return Err(unopened(path, &error)),
     };
     match file.try_lock() {
-        Err(TryLockError::WouldBlock) => Err(Refusal::of_unread(path, Unread::Locked)),
+        Err(TryLockError::WouldBlock) => Err(Refusal::of_unread(path, ReadFault::Locked)),
         _ => Ok(file),
     }
 }

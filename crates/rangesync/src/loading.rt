@@ -12,7 +12,7 @@ use item_files::{
     ItemForm, ReadFault, SettingsFault, accepted_in, document, read_document, read_input_items,
     read_items, stray_key,
 };
-use printing_core::{Fault, Refusal, tell_stray_key};
+use printing_core::{Fault, Refusal, STANDARD_INPUT, tell_stray_key};
 use range_tree::Tree;
 use settings_core::{ServeWords, SyncWords};
 use shard_loading::ShardedSet;
@@ -119,6 +119,8 @@ pub struct Sources<'a> {
     pub keep: Option<&'a str>,
     /// Whether standard error is shown how far the items of shards are loaded.
     pub shows: bool,
+    /// Whether what is learned is written to files, which may be the item file.
+    pub learns: bool,
 }
 
 impl<'a> Sources<'a> {
@@ -134,6 +136,7 @@ impl<'a> Sources<'a> {
             form: words.form,
             items: words.items,
             keep: words.keep,
+            learns: words.keep.is_some() || words.learned.is_some(),
             shows,
         }
     }
@@ -150,6 +153,7 @@ impl<'a> Sources<'a> {
             form: words.form,
             items: Some(words.items),
             keep: None,
+            learns: false,
             shows,
         }
     }
@@ -192,7 +196,7 @@ fn item_set<'a, R: Files + AllocGlobal, I: Read + Drop>(
     if items == "-" {
         return match read_input_items(alloc, sources.form, reader, cap) {
             Ok(items) => Ok(items),
-            Err(fault) => Err(Refusal::of_input(alloc, fault)),
+            Err(fault) => Err(Refusal::of_file(alloc, STANDARD_INPUT, fault)),
         };
     }
     match read_items(rt, sources.form, items, cap) {
@@ -207,7 +211,10 @@ pub(crate) fn open_kept<'a, R: Files<File = File> + AllocGlobal, E: Write>(
     sources: Sources<'a>,
     err: &mut E,
 ) -> Result<Kept, Refusal<'a>> {
-    let items = sources.item_path().and_then(|path| item_file(rt, path));
+    let items = match sources.item_path() {
+        Some(path) if sources.learns => item_file(rt, path),
+        _ => None,
+    };
     let opened = match sources.keep {
         Some(path) => Some(open_lines(rt, path, items, err)?),
         None => None,

@@ -11,7 +11,7 @@ use crate::showing::{Screen, Shown};
 use io_core::Watched;
 use item_core::Item;
 use item_files::ReadFault;
-use printing_core::{Fault, Refusal};
+use printing_core::{Fault, Refusal, STANDARD_INPUT};
 use settings_core::Sharding;
 use shard_core::{join_shards, shard_count};
 use shard_loading::{LoadFault, LoadOptions, ShardedSet, read_shards};
@@ -72,7 +72,7 @@ fn input_shards<'a, R: Clock + AllocGlobal, I: Read + Drop, E: Write>(
     let reader = Shown::new(screen, reader, None);
     match read_shards(alloc, &mut Watched::new(reader), options) {
         Ok(shards) => Ok(shards),
-        Err(fault) => Err(Refusal::of_shards_input(alloc, options.cap, fault)),
+        Err(fault) => Err(Refusal::of_shards_file(alloc, STANDARD_INPUT, options.cap, fault)),
     }
 }
 

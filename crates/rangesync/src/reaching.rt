@@ -51,7 +51,7 @@ pub fn connect_to<'a, R: Files + Net<Stream = TcpStream>>(
 ) -> Result<Stream, Refusal<'a>> {
     match connect_at(rt, word, patience) {
         Ok(stream) => Ok(stream),
-        Err(fault) => Err(Refusal::of_connect(word, fault, patience)),
+        Err(fault) => Err(Refusal::of_connect(word, fault)),
     }
 }
 

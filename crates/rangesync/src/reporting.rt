@@ -12,7 +12,7 @@ use line_file::Device;
 use peer_loops::PartGate;
 use peer_threads::{Gate, Outcome};
 use printing_core::{
-    Fault, Reporting, learned_line, left_out_line, report_text, shard_report_text, tell_full,
+    Fault, Reporting, SessionName, learned_line, left_out_line, report_text, tell_full,
 };
 use shard_core::Which;
 use std::alloc::Global;
@@ -50,22 +50,20 @@ struct Desk<'a, D, E> {
 }
 
 impl<D: Device + Drop, E: Write + Drop> Desk<'_, D, E> {
-    /// Reports a session that is over: over this part of a set of shards, or over a whole set.
+    /// Reports a session that is over.
     fn report(
         &mut self,
         alloc: Global,
         reporting: Reporting,
-        (serial, part): (u64, Option<Which>),
+        session: SessionName,
         outcome: &Outcome,
     ) {
-        let Some(book) = &mut self.books.report else {
-            return;
-        };
-        let text = match part {
-            Some(which) => shard_report_text(alloc, reporting, serial, which, outcome),
-            None => report_text(alloc, reporting, serial, outcome),
-        };
-        book.put(&mut self.err, text);
+        if let Some(book) = &mut self.books.report {
+            book.put(
+                &mut self.err,
+                report_text(alloc, reporting, session, outcome),
+            );
+        }
     }
 
     /// Writes an item that the log took.
@@ -286,10 +284,10 @@ impl<R: Wait + Clock, D: Device + Drop, E: Write + Drop> Reporter<'_, '_, R, D, 
     }
 
     /// Reports a session that is over.
-    fn report(&self, serial: u64, part: Option<Which>, outcome: &Outcome) {
+    fn report(&self, session: SessionName, outcome: &Outcome) {
         self.ask_anew();
         let mut desk = self.desk.lock(self.rt);
-        desk.report(self.alloc, self.rules.reporting, (serial, part), outcome);
+        desk.report(self.alloc, self.rules.reporting, session, outcome);
     }
 }
 
@@ -349,7 +347,11 @@ impl<R: Wait + Clock, D: Device + Drop, E: Write + Drop> Gate for Reporter<'_, '
     }
 
     fn ended(&self, serial: u64, outcome: &Outcome) {
-        self.report(serial, None, outcome);
+        let session = SessionName {
+            serial,
+            which: None,
+        };
+        self.report(session, outcome);
     }
 
     fn admits(&self, _serial: u64, count: usize) -> usize {
@@ -383,6 +385,10 @@ impl<R: Wait + Clock, D: Device + Drop, E: Write + Drop> Gate for Reporter<'_, '
 
 impl<R: Wait + Clock, D: Device + Drop, E: Write + Drop> PartGate for Reporter<'_, '_, R, D, E> {
     fn ended_in(&self, serial: u64, part: Option<Which>, outcome: &Outcome) {
-        self.report(serial, part, outcome);
+        let session = SessionName {
+            serial,
+            which: part,
+        };
+        self.report(session, outcome);
     }
 }

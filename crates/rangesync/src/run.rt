@@ -21,12 +21,12 @@ use answer_core::{answer, list_reply};
 use io_core::{Watched, read_input, write_output};
 use peer_loops::Front;
 use printing_core::{
-    Fault, Refusal, Why, decode_text, difference_status, encode_lines, tell, tell_name_flaw,
-    tell_shard_flaw, tell_stdio_flaw, tell_why, tell_words,
+    Fault, Refusal, STANDARD_INPUT, Why, decode_text, difference_status, encode_lines, tell,
+    tell_name_flaw, tell_shard_flaw, tell_stdio_flaw, tell_why, tell_words,
 };
 use settings_core::{AnswerWords, Call, Command, ServeWords, Sharding, SyncWords, read_words};
 use shard_core::SetName;
-use sim_core::{scenario_of, sim_text};
+use sim_core::{ScenarioError, scenario_of, sim_text};
 use std::alloc::Global;
 use std::convert::AsStr;
 use std::fs::File;
@@ -80,15 +80,25 @@ fn answer_for<'a, R: Files + AllocGlobal, I: Read + Drop, O: Write + Drop>(
     }
 }
 
+/// What is shown of the sessions of the scenario that a text is.
+fn simulated(alloc: Global, text: &[u8]) -> Result<String, ScenarioError> {
+    sim_text(alloc, scenario_of(alloc, text)?)
+}
+
 /// Runs the scenario of the input, and prints what is shown of its sessions.
 fn sim<I: Read + Drop, O: Write + Drop>(
     alloc: Global,
     reader: I,
     out: O,
 ) -> Result<(), Refusal<'static>> {
-    let input = read_input(alloc, &mut Watched::new(reader))?;
-    let text = sim_text(alloc, scenario_of(alloc, &input)?)?;
-    write_output(&mut Watched::new(out), text.as_bytes())?;
+    let input = match read_input(alloc, &mut Watched::new(reader)) {
+        Ok(input) => input,
+        Err(fault) => return Err(Refusal::of_input(STANDARD_INPUT, fault)),
+    };
+    match simulated(alloc, &input) {
+        Ok(text) => write_output(&mut Watched::new(out), text.as_bytes())?,
+        Err(error) => return Err(Refusal::of_scenario(STANDARD_INPUT, error)),
+    }
     Ok(())
 }
 

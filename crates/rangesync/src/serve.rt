@@ -430,6 +430,6 @@ pub fn serve<'a, R: Files<File = File> + Loops, O: Write + Drop, E: Write + Drop
     write_output(&mut Watched::new(out), text.as_bytes())?;
     match ending(served.report, closed) {
         Ok(()) => Ok(()),
-        Err(fault) => Err(Refusal::of_serving(serving.address, fault)),
+        Err(fault) => Err(Refusal::of_serving(fault)),
     }
 }

@@ -6,16 +6,13 @@ ghost use Rattle.sim_core.specs.declared.scenario_fault.ScenarioError.TheVariant
 use item_files::StrategyFlaw;
 use std::alloc::{AllocError, AllocFailed};
 use strategy_check::CheckFault;
-use thiserror::Error;
 
 /// Why a text is no scenario: the first test that fails. Nodes and steps are counted from 0, as steps name nodes.
-#[derive(Clone, Copy, Debug, PartialEq, Eq, Error)]
+#[derive(Clone, Copy, Debug, PartialEq, Eq)]
 pub enum ScenarioFault {
     /// The bytes are no TOML text.
-    #[error("there is no TOML text (refusal 30)")]
     NotToml,
     /// A node has no strategy.
-    #[error("node {node} has no strategy (refusal {})", .flaw.fault.number())]
     Strategy {
         /// The number of the node.
         node: usize,
@@ -23,7 +20,6 @@ pub enum ScenarioFault {
         flaw: StrategyFlaw,
     },
     /// A node's strategy is not accepted.
-    #[error("the strategy of node {node} is not accepted (refusal {})", .fault.number())]
     Check {
         /// The number of the node.
         node: usize,
@@ -31,7 +27,6 @@ pub enum ScenarioFault {
         fault: CheckFault,
     },
     /// A node has more different items than its cap.
-    #[error("node {node} has more different items than its cap, {cap}")]
     TooManyItems {
         /// The number of the node.
         node: usize,
@@ -40,10 +35,8 @@ pub enum ScenarioFault {
     },
     /// `node` is no array of 2 to 16 tables, `steps` no array of at most 100,000 texts, or `items` no array of texts
     /// that are each 1 to 64 bytes in hex.
-    #[error("the nodes, the steps or the items are none")]
     BadScenario,
     /// A text spells no step.
-    #[error("step {step} is none")]
     BadStep {
         /// The number of the first such step.
         step: usize,
@@ -51,13 +44,11 @@ pub enum ScenarioFault {
 }
 
 /// Why a scenario could not be read, or not be run.
-#[derive(Clone, Copy, Debug, PartialEq, Eq, Error)]
+#[derive(Clone, Copy, Debug, PartialEq, Eq)]
 pub enum ScenarioError {
     /// The text is no scenario.
-    #[error("the text is no scenario: {0}")]
     Fault(ScenarioFault),
     /// Memory ran out.
-    #[error("memory ran out")]
     Memory,
 }
 

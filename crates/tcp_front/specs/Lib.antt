@@ -1,5 +1,5 @@
 pub use Rattle.definitions.specs.Refusals
+pub mod Causes
 pub mod Faults
 pub mod Misses
 pub mod Origins
-pub mod Paths

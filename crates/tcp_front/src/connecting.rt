@@ -1,28 +1,12 @@
 //! A connection that is made.
 
-ghost use Rattle.std.specs.IoError.{error_kind};
-ghost use Rattle.tcp_front.specs.Faults.{IsToldAs};
-
-use crate::fault::{ConnectFault, told};
+use crate::fault::ConnectFault;
 use crate::patience::{bounded, seconds};
 use crate::stream::Stream;
+use crate::unreached::{Unreached, port_is_too_high, unknown, unmet};
 use std::io;
 use std::io::ErrorKind;
 use std::net::{Net, SocketAddr, TcpStream, ToSocketAddrs};
-
-/// Why the text of an address was not looked up.
-fn unknown(error: &io::Error) -> ConnectFault
-    ensures { IsToldAs (error_kind error.now) ConnectFault.Memory ConnectFault.NoAddress result }
-{
-    told(error).map_or(ConnectFault::Memory, ConnectFault::NoAddress)
-}
-
-/// Why a connection was not made.
-fn fault_of(error: &io::Error) -> ConnectFault
-    ensures { IsToldAs (error_kind error.now) ConnectFault.Memory ConnectFault.Connect result }
-{
-    told(error).map_or(ConnectFault::Memory, ConnectFault::Connect)
-}
 
 /// A connection to this address, none of whose calls takes longer.
 fn reach<R: Net<Stream = TcpStream>>(
@@ -40,9 +24,12 @@ fn reach_any<R: Net<Stream = TcpStream>>(
     address: &str,
     patience: u32,
 ) -> Result<Stream, ConnectFault> {
+    if port_is_too_high(address) {
+        return Err(ConnectFault::Unreached(Unreached::PortTooHigh));
+    }
     let places = match address.to_socket_addrs(rt) {
         Ok(places) => places,
-        Err(error) => return Err(unknown(&error)),
+        Err(error) => return Err(ConnectFault::of(unknown(&error))),
     };
     let mut last = io::Error::from(ErrorKind::InvalidInput);
     for place in places {
@@ -51,7 +38,7 @@ fn reach_any<R: Net<Stream = TcpStream>>(
             Err(error) => last = error,
         }
     }
-    Err(fault_of(&last))
+    Err(ConnectFault::of(unmet(&last, patience)))
 }
 
 /// Connects to an address: an IP address or a host's name, and a port, as `127.0.0.1:7700`. Small messages are sent at

@@ -1,34 +1,37 @@
 //! Why there is no listener, or no connection.
 
 ghost use Rattle.std.specs.Prelude.{◌≡◌};
-ghost use Rattle.std.specs.Prelude.{None, Some};
-ghost use Rattle.std.specs.IoError.{error_kind};
-ghost use Rattle.tcp_front.specs.Faults.{IsToldAs, listen_fault_number, connect_fault_number};
+ghost use Rattle.tcp_front.specs.Causes.{listen_fault, connect_fault};
+ghost use Rattle.tcp_front.specs.Faults.{listen_fault_number, connect_fault_number};
 
-use crate::at_path::AtPath;
-use std::io;
-use std::io::ErrorKind;
+use crate::unreached::Unreached;
 
 /// Why there is no listener.
 #[derive(Clone, Copy, Debug, PartialEq, Eq)]
 pub enum ListenFault {
-    /// The text names no address: what its look-up said.
-    NoAddress(ErrorKind),
-    /// The address is in use, or may not be listened at: what the system said.
-    Bind(ErrorKind),
-    /// No socket is made at the path: what stands there, and what the system said.
-    Socket { at: AtPath, kind: ErrorKind },
+    /// The address is not listened at.
+    Unreached(Unreached),
     /// Memory ran out.
     Memory,
 }
 
 impl ListenFault {
+    /// The fault of this cause; of memory, where there is none.
+    pub(crate) fn of(cause: Option<Unreached>) -> ListenFault
+        ensures { result ≡ listen_fault cause }
+    {
+        match cause {
+            Some(cause) => ListenFault::Unreached(cause),
+            None => ListenFault::Memory,
+        }
+    }
+
     /// The number of the refusal: 60 or 90.
     pub fn number(self) -> u8
         ensures { result ≡ listen_fault_number self }
     {
         match self {
-            ListenFault::NoAddress(_) | ListenFault::Bind(_) | ListenFault::Socket { .. } => 60,
+            ListenFault::Unreached(_) => 60,
             ListenFault::Memory => 90,
         }
     }
@@ -37,35 +40,30 @@ impl ListenFault {
 /// Why there is no connection.
 #[derive(Clone, Copy, Debug, PartialEq, Eq)]
 pub enum ConnectFault {
-    /// The text names no address: what its look-up said.
-    NoAddress(ErrorKind),
-    /// Nobody answers at the address: what the system said.
-    Connect(ErrorKind),
-    /// Nobody answers at the path of a socket: what stands there, and what the system said.
-    Socket { at: AtPath, kind: ErrorKind },
+    /// The address is not reached.
+    Unreached(Unreached),
     /// Memory ran out.
     Memory,
 }
 
 impl ConnectFault {
+    /// The fault of this cause; of memory, where there is none.
+    pub(crate) fn of(cause: Option<Unreached>) -> ConnectFault
+        ensures { result ≡ connect_fault cause }
+    {
+        match cause {
+            Some(cause) => ConnectFault::Unreached(cause),
+            None => ConnectFault::Memory,
+        }
+    }
+
     /// The number of the refusal: 61 or 90.
     pub fn number(self) -> u8
         ensures { result ≡ connect_fault_number self }
     {
         match self {
-            ConnectFault::NoAddress(_) | ConnectFault::Connect(_) | ConnectFault::Socket { .. } =>
-                61,
+            ConnectFault::Unreached(_) => 61,
             ConnectFault::Memory => 90,
         }
-    }
-}
-
-/// What the system said, unless memory ran out.
-pub(crate) fn told(error: &io::Error) -> Option<ErrorKind>
-    ensures { IsToldAs (error_kind error.now) None (λ kind. Some kind) result }
-{
-    match error.kind() {
-        ErrorKind::OutOfMemory => None,
-        kind => Some(kind),
     }
 }

@@ -1,7 +1,6 @@
 //! Connections over TCP and Unix sockets: a listener that workers share, and a connection that is made.
 #![tactic(auto)]
 
-mod at_path;
 mod closing;
 mod connecting;
 mod fault;
@@ -17,8 +16,8 @@ mod stream;
 mod tests;
 mod trying;
 mod unix_socket;
+mod unreached;
 
-pub use at_path::AtPath;
 pub use closing::finish;
 pub use connecting::connect;
 pub use fault::{ConnectFault, ListenFault};
@@ -27,4 +26,5 @@ pub use limits::{Limits, limited};
 pub use listener::{Listener, listen};
 pub use ready::Arrival;
 pub use stream::Stream;
-pub use unix_socket::{connect_unix, listen_unix};
+pub use unix_socket::{Identity, connect_unix, listen_unix};
+pub use unreached::Unreached;

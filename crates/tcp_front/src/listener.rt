@@ -1,10 +1,11 @@
 //! A listener that workers share.
 
+ghost use Rattle.std.specs.Prelude.{◌≡◌};
 ghost use Rattle.std.specs.IoError.{error_kind};
-ghost use Rattle.tcp_front.specs.Faults.{IsToldAs};
+ghost use Rattle.tcp_front.specs.Causes.{accept_fault};
 
 use crate::closing::finish;
-use crate::fault::{ListenFault, told};
+use crate::fault::ListenFault;
 use crate::half::{Half, halves};
 use crate::limits::{Limits, limited};
 use crate::patience::bounded;
@@ -12,6 +13,7 @@ use crate::socket::Socket;
 use crate::stream::Stream;
 use crate::trying::{Attempt, present};
 use crate::unix_socket::SocketFile;
+use crate::unreached::{Unreached, port_is_too_high, unheard, unknown};
 use outcome_core::{Source, SourceFault};
 use std::alloc::Global;
 use std::io;
@@ -39,25 +41,14 @@ pub struct Listener<'a, C> {
     clock: &'a C,
 }
 
-/// Why the text of an address was not looked up.
-fn unknown(error: &io::Error) -> ListenFault
-    ensures { IsToldAs (error_kind error.now) ListenFault.Memory ListenFault.NoAddress result }
-{
-    told(error).map_or(ListenFault::Memory, ListenFault::NoAddress)
-}
-
-/// Why a listener was not made.
-fn listen_fault(error: &io::Error) -> ListenFault
-    ensures { IsToldAs (error_kind error.now) ListenFault.Memory ListenFault.Bind result }
-{
-    told(error).map_or(ListenFault::Memory, ListenFault::Bind)
-}
-
 /// Why a connection was not accepted.
 pub(crate) fn accept_fault(error: &io::Error) -> SourceFault
-    ensures { IsToldAs (error_kind error.now) SourceFault.Memory (λ _. SourceFault.Accept) result }
+    ensures { result ≡ accept_fault (error_kind error.now) }
 {
-    told(error).map_or(SourceFault::Memory, |_| SourceFault::Accept)
+    match error.kind() {
+        ErrorKind::OutOfMemory => SourceFault::Memory,
+        _ => SourceFault::Accept,
+    }
 }
 
 /// A socket that listens at the first address of the text at which it may.
@@ -65,9 +56,12 @@ fn bind_any<R: Net<Listener = TcpListener, Stream = TcpStream>>(
     rt: &R,
     address: &str,
 ) -> Result<TcpListener, ListenFault> {
+    if port_is_too_high(address) {
+        return Err(ListenFault::Unreached(Unreached::PortTooHigh));
+    }
     let places = match address.to_socket_addrs(rt) {
         Ok(places) => places,
-        Err(error) => return Err(unknown(&error)),
+        Err(error) => return Err(ListenFault::of(unknown(&error))),
     };
     let mut last = io::Error::from(ErrorKind::InvalidInput);
     for place in places {
@@ -76,7 +70,7 @@ fn bind_any<R: Net<Listener = TcpListener, Stream = TcpStream>>(
             Err(error) => last = error,
         }
     }
-    Err(listen_fault(&last))
+    Err(ListenFault::of(unheard(&last)))
 }
 
 /// Listens at an address: an IP address or a host's name, and a port, as `127.0.0.1:7700`; at port 0 the system chooses

@@ -1,15 +1,13 @@
 //! Unix sockets: the file that one has is made, a stale one is replaced, and it is removed at the end.
 
-ghost use Rattle.std.specs.IoError.{error_kind};
-ghost use Rattle.tcp_front.specs.Faults.{IsToldAs};
-
-use crate::at_path::{AtPath, at_path};
-use crate::fault::{ConnectFault, ListenFault, told};
+use crate::fault::{ConnectFault, ListenFault};
 use crate::limits::Limits;
 use crate::listener::Listener;
 use crate::patience::bounded;
 use crate::socket::Socket;
 use crate::stream::Stream;
+use crate::unreached::{Unreached, path_flaw, unix_unheard, unix_unmet};
+use std::fs::Metadata;
 use std::io::ErrorKind;
 use std::net::Net;
 use std::os::unix::fs::{FileTypeExt, MetadataExt};
@@ -18,11 +16,21 @@ use std::rt::Files;
 use std::time::Clock;
 use std::{fs, io};
 
-/// Which file stands at a path, by the numbers of the system: those of the device and of the file on it.
+/// Which file it is, by the numbers of the system: those of the device and of the file on it.
 #[derive(Clone, Copy, Debug, PartialEq, Eq)]
-struct Identity {
+pub struct Identity {
     device: u64,
     number: u64,
+}
+
+impl Identity {
+    /// Which file this is known of.
+    pub fn of(metadata: &Metadata) -> Identity {
+        Identity {
+            device: metadata.dev(),
+            number: metadata.ino(),
+        }
+    }
 }
 
 /// The file of a Unix socket that is listened at.
@@ -39,10 +47,7 @@ fn socket_at<R: Files>(rt: &R, path: &str) -> Option<Identity> {
     if !metadata.file_type().is_socket() {
         return None;
     }
-    Some(Identity {
-        device: metadata.dev(),
-        number: metadata.ino(),
-    })
+    Some(Identity::of(&metadata))
 }
 
 impl<'a> SocketFile<'a> {
@@ -62,29 +67,16 @@ impl<'a> SocketFile<'a> {
     }
 }
 
-/// Why no socket was made at a path at which this stands.
-fn listen_fault(at: AtPath, error: &io::Error) -> ListenFault
-    ensures { IsToldAs (error_kind error.now) ListenFault.Memory (ListenFault.Socket at) result }
-{
-    told(error).map_or(ListenFault::Memory, |kind| ListenFault::Socket { at, kind })
-}
-
-/// Why nobody was reached at a path at which this stands.
-fn connect_fault(at: AtPath, error: &io::Error) -> ConnectFault
-    ensures { IsToldAs (error_kind error.now) ConnectFault.Memory (ConnectFault.Socket at) result }
-{
-    told(error).map_or(
-        ConnectFault::Memory,
-        |kind| ConnectFault::Socket { at, kind },
-    )
-}
-
-/// A path that may be a socket's: the system gives an empty one a name of its own choice.
-fn named(path: &str) -> io::Result<&str> {
-    if path.is_empty() {
-        return Err(io::Error::from(ErrorKind::InvalidInput));
+/// What stands at a path, if it is known and is no socket.
+fn standing_at<R: Files>(rt: &R, path: &str) -> Option<Unreached> {
+    let metadata = fs::metadata(rt, path).ok()?;
+    if metadata.is_dir() {
+        Some(Unreached::Folder)
+    } else if metadata.file_type().is_socket() {
+        None
+    } else {
+        Some(Unreached::NotASocket)
     }
-    Ok(path)
 }
 
 /// Whether nobody listens at the path, who would be refused.
@@ -100,16 +92,28 @@ fn is_stale<R: Files + Net>(rt: &R, path: &str) -> bool {
     socket_at(rt, path).is_some() && refuses(rt, path)
 }
 
-/// Makes a socket at the path. One that is stale is removed before.
-fn bind<R: Files + Net>(rt: &R, path: &str) -> io::Result<UnixListener> {
-    let path = named(path)?;
-    match UnixListener::bind(rt, path) {
-        Err(error) if error.kind() == ErrorKind::AddrInUse && is_stale(rt, path) => {
-            fs::remove_file(rt, path)?;
-            UnixListener::bind(rt, path)
+/// Makes a socket in place of the stale one at the path.
+fn replace<R: Files + Net>(rt: &R, path: &str) -> io::Result<UnixListener> {
+    fs::remove_file(rt, path)?;
+    UnixListener::bind(rt, path)
+}
+
+/// Makes a socket at the path. One that is stale is replaced.
+fn bind<R: Files + Net>(rt: &R, path: &str) -> Result<UnixListener, ListenFault> {
+    let made = match UnixListener::bind(rt, path) {
+        Err(error) if error.kind() == ErrorKind::AddrInUse => {
+            if let Some(flaw) = standing_at(rt, path) {
+                return Err(ListenFault::Unreached(flaw));
+            }
+            if is_stale(rt, path) {
+                replace(rt, path)
+            } else {
+                Err(error)
+            }
         }
         made => made,
-    }
+    };
+    made.map_err(|error| ListenFault::of(unix_unheard(&error)))
 }
 
 /// Listens at a Unix socket, which is made at this path with the mode that the process gives to files; for all else it
@@ -124,31 +128,33 @@ pub fn listen_unix<'a, R: Files + Net + Clock + AllocGlobal>(
     connections: Option<u32>,
     limits: Limits,
 ) -> Result<Listener<'a, R>, ListenFault> {
-    match bind(rt, path) {
-        Ok(socket) => {
-            let file = SocketFile::of(rt, path);
-            Ok(Listener::new(rt, Socket::Unix(socket), connections, limits).with_file(file))
-        }
-        Err(error) => Err(listen_fault(at_path(rt, path), &error)),
+    if let Some(flaw) = path_flaw(path) {
+        return Err(ListenFault::Unreached(flaw));
     }
+    let socket = Socket::Unix(bind(rt, path)?);
+    let file = SocketFile::of(rt, path);
+    Ok(Listener::new(rt, socket, connections, limits).with_file(file))
 }
 
 /// A connection to who listens at the path, none of whose reads and writes takes longer.
 fn reach<R: Net>(rt: &R, path: &str, patience: u32) -> io::Result<Stream> {
-    let stream = UnixStream::connect(rt, named(path)?)?;
-    bounded(Stream::Unix(stream), patience)
+    bounded(Stream::Unix(UnixStream::connect(rt, path)?), patience)
 }
 
 /// Connects to a Unix socket. A read or a write that takes longer than this many seconds fails.
 ///
-/// Fails with 61 if the path is empty or has more than 107 bytes, or nobody listens there, and with 90.
+/// Fails with 61 if the path is empty or has more than 107 bytes, something else stands there, or nobody listens there,
+/// and with 90.
 pub fn connect_unix<R: Files + Net>(
     rt: &R,
     path: &str,
     patience: u32,
 ) -> Result<Stream, ConnectFault> {
+    if let Some(flaw) = path_flaw(path).or_else(|| standing_at(rt, path)) {
+        return Err(ConnectFault::Unreached(flaw));
+    }
     match reach(rt, path, patience) {
         Ok(stream) => Ok(stream),
-        Err(error) => Err(connect_fault(at_path(rt, path), &error)),
+        Err(error) => Err(ConnectFault::of(unix_unmet(&error))),
     }
 }

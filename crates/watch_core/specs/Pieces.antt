@@ -4,6 +4,7 @@
 --     known_text n             a number, or `-`
 --     reason_text between e    how a visit ended, as a word, and after `between` the number of a refusal
 --     named_ending_text e      how a visit ended, for a person: the number and the name of a refusal
+--     cell_text c              a value as a page has it
 use Rattle.std.specs.Prelude.{ℕ, ◌/◌, ◌%◌, List, ◌++◌, codes, Option, Some, None}
 use Rattle.std.specs.Fmt.{decimal}
 use Rattle.std.specs.Net.Text.{socket_text}
@@ -12,6 +13,8 @@ use Rattle.outcome_core.specs.Names.{session_refusal_name}
 use Rattle.outcome_core.specs.declared.outcome.Direction.TheVariants.{Read, Write}
 use Rattle.watch_core.specs.declared.endings.Ending.{Ending}
 use Rattle.watch_core.specs.declared.endings.Ending.TheVariants as endings
+use Rattle.watch_core.specs.declared.pieces.Cell.{Cell}
+use Rattle.watch_core.specs.declared.pieces.Cell.TheVariants as cells
 
 abbrev pub seconds_text : ℕ → List ℕ
 seconds_text millis = decimal (millis / 1000) ++ (codes "." ++ (decimal (millis / 100 % 10)
@@ -41,3 +44,11 @@ named_ending_text (endings.PeerRefused code) =
 named_ending_text (endings.Io Read) = codes "io read"
 named_ending_text (endings.Io Write) = codes "io write"
 named_ending_text endings.Memory = codes "memory"
+
+abbrev pub cell_text : Cell → List ℕ
+cell_text (cells.Text text) = text.now
+cell_text (cells.Number n) = decimal n
+cell_text (cells.Known n) = known_text n
+cell_text (cells.Address address) = address_text address
+cell_text (cells.Ending ending) = named_ending_text ending
+cell_text (cells.Seconds millis) = seconds_text millis

@@ -8,6 +8,7 @@ use Rattle.std.specs.Prelude.{◌≡◌, ℕ, ◌<◌, ◌≤◌, ◌⊎◌, Lis
 use Rattle.std.specs.Fmt.{decimal}
 use Rattle.httparse.specs.Grammar.{HasNoRequest, MayBecomeRequest, NeverHasRequest, ReadsRequest, RequestHead}
 use Rattle.httparse.specs.Spans.{RequestExceeds}
+use Rattle.watch_core.specs.declared.replying.TheConstants.{CAUTION, POLICY}
 use Rattle.watch_core.specs.declared.requests.Asked.{Asked}
 use Rattle.watch_core.specs.declared.requests.Asked.TheVariants.{Metrics, Page, Missing, Method, Malformed, TooLong}
 
@@ -51,12 +52,11 @@ status_text TooLong =
 
 -- nothing is kept, or taken for something else
 unfoldable pub caution : List ℕ
-caution = codes "Cache-Control: no-store\r\nX-Content-Type-Options: nosniff\r\nReferrer-Policy: no-referrer\r\n"
+caution = CAUTION.now
 
 -- nothing is run, and nothing is fetched from elsewhere
 unfoldable pub policy : List ℕ
-policy =
-    codes "Content-Security-Policy: default-src 'none'; style-src 'unsafe-inline'; frame-ancestors 'none'\r\n"
+policy = POLICY.now
 
 -- the last lines before a body of n bytes
 unfoldable pub length_text : ℕ → List ℕ

@@ -6,6 +6,7 @@ mod counts;
 mod durations;
 mod endings;
 mod escaping;
+mod filling;
 mod logged;
 mod metrics;
 mod never_markup;

@@ -1,7 +1,8 @@
 //! Pieces that several texts have.
 
 ghost use Rattle.std.specs.Prelude.{Some};
-ghost use Rattle.watch_core.specs.Pieces.{address_text, known_text, named_ending_text, reason_text, seconds_text};
+ghost use Rattle.watch_core.specs.Pieces.{address_text, cell_text, known_text, named_ending_text, reason_text};
+ghost use Rattle.watch_core.specs.Pieces.{seconds_text};
 
 use crate::endings::Ending;
 use outcome_core::{Direction, session_refusal_name};
@@ -104,6 +105,38 @@ impl fmt::Display for Named {
                 side: Direction::Write,
             } => write!(f, "io write"),
             Ending::Memory => write!(f, "memory"),
+        }
+    }
+}
+
+/// A value that stands in a page.
+#[derive(Clone, Copy)]
+pub(crate) enum Cell<'a> {
+    /// A text.
+    Text(&'a str),
+    /// A number.
+    Number(u64),
+    /// A number, or `-`.
+    Known(Option<u64>),
+    /// An address, or `-`.
+    Address(Option<SocketAddr>),
+    /// How a visit ended.
+    Ending(Ending),
+    /// Thousandths of a second, as seconds.
+    Seconds(u64),
+}
+
+impl fmt::Display for Cell<'_> {
+    ghost output = { λ cell. Some (cell_text cell) };
+
+    fn fmt<W: fmt::Write>(&self, f: &mut fmt::Formatter<W>) -> fmt::Result {
+        match *self {
+            Cell::Text(text) => write!(f, "{text}"),
+            Cell::Number(number) => write!(f, "{number}"),
+            Cell::Known(number) => write!(f, "{}", Known(number)),
+            Cell::Address(address) => write!(f, "{}", Address(address)),
+            Cell::Ending(ending) => write!(f, "{}", Named(ending)),
+            Cell::Seconds(millis) => write!(f, "{}", Seconds(millis)),
         }
     }
 }

@@ -13,7 +13,7 @@ chunks-init g c = record {
 
 pub returns-then-len-gt-MAX_INPUT-clause-unread : goal.returns-then-len-gt-MAX_INPUT-clause-unread
 returns-then-len-gt-MAX_INPUT-clause-unread g c =
-    λ _. inr (
+    λ _ _. inr (
       c.read_more.new.input.items,
       read_on (g.R.Read.remaining c.args.reader.now.inner) (g.R.Read.remaining c.chunks.reader.inner)
           (g.R.Read.remaining c.read_more.new.reader.inner) c.chunks.input.items c.read_more.new.input.items

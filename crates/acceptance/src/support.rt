@@ -1,7 +1,0 @@
-//! What the tests share.
-
-pub(crate) mod devices;
-pub(crate) mod frames;
-pub(crate) mod letters;
-pub(crate) mod shown;
-pub(crate) mod tables;

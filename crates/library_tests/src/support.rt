@@ -1,0 +1,5 @@
+//! What the tests share.
+
+pub(crate) mod devices;
+pub(crate) mod frames;
+pub(crate) mod tables;

@@ -1,7 +1,0 @@
-use Rattle.std.proofs.Common.{◌∙◌, rules}
-use Rattle.printing_core.proofs.Ports.{too_high}
-use Rattle.printing_core.proofs.unreached.is_too_high.Goals as goal
-
-pub returns : goal.returns
-returns c = c.is_err.ensures.value ∙ too_high c.args.digits.now c.parse.result (search rules) (search rules)
-    c.parse.ensures.value.0
