@@ -1,60 +1,33 @@
-//! Tests of one library each.
-//!
-//! They lie here, since a crate with tests of its own is proved once more with them.
+//! What no clause says of the libraries, and no worked case and no table of words shows.
 //!
 //! | File | Tests |
 //! |---|---|
-//! | `checks` | `strategy_check` |
-//! | `devices` | `io_core` |
-//! | `fingerprints` | `digest_core` |
-//! | `hubs` | `hub_core` |
-//! | `items` | `item_core` |
-//! | `line_files` | `line_file` |
-//! | `links` | `link_core` |
-//! | `loads` | `shard_loading` |
-//! | `logs` | `version_log` |
-//! | `ranks` | `rank_core` |
-//! | `selectors` | `shard_core`, the name of a set |
-//! | `session_tables` | `session_table` |
-//! | `sessions` | `session_core` |
-//! | `shards` | `shard_core` |
-//! | `stores` | `store_core` |
-//! | `strategies` | `strategy_core` |
-//! | `trees` | `range_tree` |
+//! | `calls` | one run through each call that takes memory and that the program does not make |
+//! | `trees` | trees that grow by one item at a time, and that threads load |
+//! | `floods` | the longest reply, and one that would be longer |
+//! | `streams` | what a stream answers is passed on, and noted |
+//! | `line_files` | which calls of a device are made, and which failure is told |
+//! | `engines` | `serve_one` and `dial_one` over memory, by readers and writers that fail, each call in turn |
+//! | `workers` | `run_workers`: what is inserted, what is dropped, the source's fault, two sessions at a time |
+//! | `locks` | two threads at one log |
+//! | `support/` | what the tests share: readers, writers and a gate, frames, strategies |
 #![tactic(auto)]
 
 #[cfg(test)]
-mod checks;
+mod calls;
 #[cfg(test)]
-mod devices;
+mod engines;
 #[cfg(test)]
-mod fingerprints;
-#[cfg(test)]
-mod hubs;
-#[cfg(test)]
-mod items;
+mod floods;
 #[cfg(test)]
 mod line_files;
 #[cfg(test)]
-mod links;
+mod locks;
 #[cfg(test)]
-mod loads;
+mod streams;
 #[cfg(test)]
-mod logs;
-#[cfg(test)]
-mod ranks;
-#[cfg(test)]
-mod selectors;
-#[cfg(test)]
-mod session_tables;
-#[cfg(test)]
-mod sessions;
-#[cfg(test)]
-#[cfg(test)]
-mod shards;
-#[cfg(test)]
-mod stores;
-#[cfg(test)]
-mod strategies;
+mod support;
 #[cfg(test)]
 mod trees;
+#[cfg(test)]
+mod workers;

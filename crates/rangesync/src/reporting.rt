@@ -347,8 +347,11 @@ impl<R: Wait + Clock, D: Device + Drop, E: Write + Drop> Gate for Reporter<'_, '
     }
 
     fn ended(&self, serial: u64, outcome: &Outcome) {
-        let which = None;
-        self.report(SessionName { serial, which }, outcome);
+        let session = SessionName {
+            serial,
+            which: None,
+        };
+        self.report(session, outcome);
     }
 
     fn admits(&self, _serial: u64, count: usize) -> usize {
@@ -381,7 +384,11 @@ impl<R: Wait + Clock, D: Device + Drop, E: Write + Drop> Gate for Reporter<'_, '
 }
 
 impl<R: Wait + Clock, D: Device + Drop, E: Write + Drop> PartGate for Reporter<'_, '_, R, D, E> {
-    fn ended_in(&self, serial: u64, which: Option<Which>, outcome: &Outcome) {
-        self.report(SessionName { serial, which }, outcome);
+    fn ended_in(&self, serial: u64, part: Option<Which>, outcome: &Outcome) {
+        let session = SessionName {
+            serial,
+            which: part,
+        };
+        self.report(session, outcome);
     }
 }

@@ -5,11 +5,9 @@ ghost use Rattle.std.specs.Prelude.{◌≡◌, ◌≤◌};
 use crate::engines::opened;
 use crate::support::devices::{PieceReader, PieceWriter, Rule, Witness};
 use crate::support::frames::{
-    AA_BEFORE_D, ABC_IS_NEW, ABC_TO_EMPTY, EMPTY_TO_ABC, END, HELLO, LIST_OF_NOTHING, SUM_OF_ABC,
-    SUM_OF_ONES, X_AND_Y_FROM_D, joined,
+    ABC_TO_EMPTY, EMPTY_TO_ABC, END, HELLO, LIST_OF_NOTHING, TEACHES_ABC, TEACHES_THREE, joined,
 };
-use crate::support::letters::{item, items};
-use crate::support::tables::{BINARY_EIGHT, accepted};
+use crate::support::tables::{accepted, item, letters};
 use item_core::Item;
 use peer_threads::{Shared, Source, SourceFault, WorkersReport, run_workers};
 use range_tree::Tree;
@@ -21,12 +19,6 @@ use std::sync::{Mutex, OnceLock, Wait};
 use std::test::Fail;
 use std::thread::Threads;
 use version_log::Log;
-
-/// What a peer says that has abc, to a side with no items.
-const TEACHES_ABC: &[&[u8]] = &[HELLO, SUM_OF_ABC, END, ABC_IS_NEW, END];
-
-/// What a peer says that has aa, x and y, in this order, to a side with a to g.
-const TEACHES_THREE: &[&[u8]] = &[HELLO, SUM_OF_ONES, END, AA_BEFORE_D, X_AND_Y_FROM_D, END];
 
 /// Connections whose peers all say the same, 0 to 2 of them; after them there is none, or a fault.
 #[derive(Drop)]
@@ -114,7 +106,7 @@ fn worked<T: Threads + Wait + Abort + Sync>(
     workers: u8,
 ) -> Result<(WorkersReport, Log<Tree>), Fail> {
     assert!(rt; 1 <= workers && workers <= 16);
-    let accepted = accepted(rt, alloc, BINARY_EIGHT);
+    let accepted = accepted(rt, alloc);
     let (lock, mut seat) = opened(rt, alloc, &accepted, items, next_writer);
     let sessions = Mutex::new(SessionTable::new(alloc, 2)?);
     let shared = Shared {
@@ -133,42 +125,20 @@ fn told(rt: &impl Abort, end: &OnceLock<String>, wanted: &str) {
     assert_eq!(rt; text.as_str(), wanted);
 }
 
-/// What became of the items that the sessions of these peers taught.
-#[derive(Clone, Copy, Debug, PartialEq, Eq)]
-struct Kept {
-    /// How many the log took, and how many found no room or no memory.
-    taken: u64,
-    full: u64,
-    no_memory: u64,
-    /// How many sessions were settled, and how many of their items were left out.
-    settled: u64,
-    left_out: u64,
-}
-
-/// Compares what became of learned items. As many connections are to be closed as there were, and none before its
-/// session was settled.
-fn keeps(rt: &impl Abort, peers: &Peers<'_>, wanted: Kept) {
+/// Compares how many items the log took, how many found no room, how many sessions were settled, and how many items
+/// these left out. As many connections are to be closed as there were, and none before its session was settled.
+fn keeps(rt: &impl Abort, peers: &Peers<'_>, wanted: [u64; 4]) {
     let gate = peers.gate;
-    let told = Kept {
-        taken: gate.taken.load(Ordering::SeqCst),
-        full: gate.full.load(Ordering::SeqCst),
-        no_memory: gate.no_memory.load(Ordering::SeqCst),
-        settled: gate.settled.load(Ordering::SeqCst),
-        left_out: gate.left_out.load(Ordering::SeqCst),
-    };
+    let told = [
+        gate.taken.load(Ordering::SeqCst),
+        gate.full.load(Ordering::SeqCst),
+        gate.settled.load(Ordering::SeqCst),
+        gate.left_out.load(Ordering::SeqCst),
+    ];
     assert_eq!(rt; told, wanted);
     assert_eq!(rt; peers.closed.load(Ordering::SeqCst), peers.count);
-    assert_eq!(rt; peers.settled.load(Ordering::SeqCst), wanted.settled);
+    assert_eq!(rt; peers.settled.load(Ordering::SeqCst), wanted[2]);
 }
-
-/// Nothing was learned.
-const NOTHING: Kept = Kept {
-    taken: 0,
-    full: 0,
-    no_memory: 0,
-    settled: 0,
-    left_out: 0,
-};
 
 /// Compares a report.
 fn reports(rt: &impl Abort, report: WorkersReport, started: u8, fault: Option<SourceFault>) {
@@ -186,17 +156,12 @@ fn ends_with(rt: &impl Abort, log: &Log<Tree>, count: usize, writer: u32, bytes:
 #[test]
 fn one_writer_number_is_left(rt: HostRuntime) -> Result<(), Fail> {
     let alloc = rt.alloc();
-    let gate = Witness::new(alloc, Rule::Always);
+    let gate = Witness::new(alloc, Rule::Always, usize::MAX);
     let peers = Peers::new(alloc, &gate, TEACHES_ABC, 1, None);
     let (report, log) = worked(&rt, alloc, &[], 4_294_967_295, &peers, 3)?;
     reports(&rt, report, 1, None);
     told(&rt, &gate.first, "Ended ours - theirs abc version 0 sent 1");
-    let wanted = Kept {
-        taken: 1,
-        settled: 1,
-        ..NOTHING
-    };
-    keeps(&rt, &peers, wanted);
+    keeps(&rt, &peers, [1, 0, 1, 0]);
     ends_with(&rt, &log, 1, 4_294_967_295, b"abc");
     let written = joined(alloc, &[HELLO, LIST_OF_NOTHING, END])?;
     assert_eq!(rt; *peers.first.lock(&rt), written);
@@ -206,7 +171,7 @@ fn one_writer_number_is_left(rt: HostRuntime) -> Result<(), Fail> {
 #[test]
 fn source_that_fails_at_once(rt: HostRuntime) -> Result<(), Fail> {
     let alloc = rt.alloc();
-    let gate = Witness::new(alloc, Rule::Always);
+    let gate = Witness::new(alloc, Rule::Always, usize::MAX);
     let peers = Peers::new(alloc, &gate, &[], 0, Some(SourceFault::Accept));
     let (report, log) = worked(&rt, alloc, &[], 1, &peers, 3)?;
     reports(&rt, report, 3, Some(SourceFault::Accept));
@@ -215,49 +180,35 @@ fn source_that_fails_at_once(rt: HostRuntime) -> Result<(), Fail> {
     Ok(())
 }
 
-/// Serves a peer that teaches aa, x and y over a log of seven items, which has room for one more: it is to take aa.
+/// Serves a peer that teaches aa, x and y over a log of seven items, which has room for one more: it is to take aa, and
+/// so many of the others found no room.
 fn takes_one_of_three<T: Threads + Wait + Abort + Sync>(
     rt: &T,
     alloc: Global,
     gate: &Witness,
-    wanted: Kept,
+    full: u64,
 ) -> Result<(), Fail> {
     let peers = Peers::new(alloc, gate, TEACHES_THREE, 1, None);
-    let seven = items(rt, alloc, b"abcdefg")?;
+    let seven = letters(rt, alloc, b"abcdefg")?;
     let (report, log) = worked(rt, alloc, &seven, 1, &peers, 1)?;
     reports(rt, report, 1, None);
-    keeps(rt, &peers, wanted);
+    keeps(rt, &peers, [1, full, 1, 2]);
     ends_with(rt, &log, 8, 1, b"aa");
     Ok(())
 }
 
-// Workers that add in another order than learned, or do not tell that the log was full, fail in this test.
+// Workers that add in another order than learned, do not tell that the log was full, try to put in more than is
+// admitted, or count only what found no room, fail in this test.
 #[test]
-fn room_for_one_of_three(rt: HostRuntime) -> Result<(), Fail> {
+fn one_of_three_goes_in(rt: HostRuntime) -> Result<(), Fail> {
     let alloc = rt.alloc();
-    let gate = Witness::new(alloc, Rule::Always);
-    let wanted = Kept {
-        taken: 1,
-        full: 2,
-        settled: 1,
-        left_out: 2,
-        ..NOTHING
-    };
-    takes_one_of_three(&rt, alloc, &gate, wanted)
-}
-
-// Workers that try to put in more than is admitted, or count only what found no room, fail in this test.
-#[test]
-fn one_of_three_is_admitted(rt: HostRuntime) -> Result<(), Fail> {
-    let alloc = rt.alloc();
-    let gate = Witness::admitting(alloc, 1);
-    let wanted = Kept {
-        taken: 1,
-        settled: 1,
-        left_out: 2,
-        ..NOTHING
-    };
-    takes_one_of_three(&rt, alloc, &gate, wanted)
+    takes_one_of_three(
+        &rt,
+        alloc,
+        &Witness::new(alloc, Rule::Always, usize::MAX),
+        2,
+    )?;
+    takes_one_of_three(&rt, alloc, &Witness::new(alloc, Rule::Always, 1), 0)
 }
 
 // The gate holds the first session until the second has ended, so both learn abc, which the log lacks. Workers that
@@ -265,16 +216,11 @@ fn one_of_three_is_admitted(rt: HostRuntime) -> Result<(), Fail> {
 #[test]
 fn two_learn_the_same(rt: HostRuntime) -> Result<(), Fail> {
     let alloc = rt.alloc();
-    let gate = Witness::new(alloc, Rule::SecondFirst);
+    let gate = Witness::new(alloc, Rule::SecondFirst, usize::MAX);
     let peers = Peers::new(alloc, &gate, TEACHES_ABC, 2, None);
     let (report, log) = worked(&rt, alloc, &[], 1, &peers, 2)?;
     reports(&rt, report, 2, None);
-    let wanted = Kept {
-        taken: 1,
-        settled: 2,
-        ..NOTHING
-    };
-    keeps(&rt, &peers, wanted);
+    keeps(&rt, &peers, [1, 0, 2, 0]);
     assert!(rt; log.version() == 1 && *log.entry(0).item() == item(&rt, b"abc"));
     Ok(())
 }
@@ -284,7 +230,7 @@ fn two_learn_the_same(rt: HostRuntime) -> Result<(), Fail> {
 #[test]
 fn two_sessions_at_a_time(rt: HostRuntime) -> Result<(), Fail> {
     let alloc = rt.alloc();
-    let gate = Witness::new(alloc, Rule::SecondFirst);
+    let gate = Witness::new(alloc, Rule::SecondFirst, usize::MAX);
     let peers = Peers::new(alloc, &gate, EMPTY_TO_ABC, 2, None);
     let abc = [item(&rt, b"abc")];
     let (report, log) = worked(&rt, alloc, &abc, 1, &peers, 2)?;

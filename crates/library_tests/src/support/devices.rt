@@ -1,8 +1,8 @@
-//! Readers and writers that do little at a time, gates, and outcomes as text, for the tests of sessions in threads.
+//! Readers and writers that do little at a time and that fail, a gate, and outcomes as text.
 
-use crate::support::shown::shown_learned;
+use ends_core::Learned;
 use item_core::Item;
-use peer_threads::{Direction, Gate, Outcome};
+use peer_threads::{Gate, Outcome};
 use std::alloc::{AllocError, Global};
 use std::io;
 use std::io::{ErrorKind, Read, Write};
@@ -99,7 +99,7 @@ pub(crate) enum Rule {
 }
 
 /// A gate that keeps how each session ended, as text, how often it was told of an end, how many items the log took, how
-/// many found no room or no memory, how many sessions were settled, and how many of their items were left out.
+/// many found no room, how many sessions were settled, and how many of their items were left out.
 #[derive(Drop)]
 pub(crate) struct Witness {
     pub(crate) alloc: Global,
@@ -111,34 +111,25 @@ pub(crate) struct Witness {
     pub(crate) told: AtomicU64,
     pub(crate) taken: AtomicU64,
     pub(crate) full: AtomicU64,
-    pub(crate) no_memory: AtomicU64,
     pub(crate) settled: AtomicU64,
     pub(crate) left_out: AtomicU64,
 }
 
 impl Witness {
-    /// A gate that admits all items.
-    pub(crate) fn new(alloc: Global, rule: Rule) -> Witness {
+    /// A gate that admits at most so many items of a session.
+    pub(crate) fn new(alloc: Global, rule: Rule, most: usize) -> Witness {
         Witness {
             alloc,
             rule,
-            most: usize::MAX,
+            most,
             first: OnceLock::new(),
             second: OnceLock::new(),
             told: AtomicU64::new(0),
             taken: AtomicU64::new(0),
             full: AtomicU64::new(0),
-            no_memory: AtomicU64::new(0),
             settled: AtomicU64::new(0),
             left_out: AtomicU64::new(0),
         }
-    }
-
-    /// A gate that admits at most so many items of a session.
-    pub(crate) fn admitting(alloc: Global, most: usize) -> Witness {
-        let mut gate = Witness::new(alloc, Rule::Always);
-        gate.most = most;
-        gate
     }
 
     // Looks 100,000,000 times whether the second session has ended.
@@ -152,6 +143,15 @@ impl Witness {
             }
         }
         false
+    }
+
+    /// Where the end of the session with this serial is kept.
+    fn end_of(&self, serial: u64) -> &OnceLock<String> {
+        if serial == 1 {
+            &self.first
+        } else {
+            &self.second
+        }
     }
 }
 
@@ -169,12 +169,7 @@ impl Gate for Witness {
         let Ok(text) = shown_outcome(self.alloc, outcome) else {
             return;
         };
-        let place = if serial == 1 {
-            &self.first
-        } else {
-            &self.second
-        };
-        let _there = place.try_set(text);
+        let _there = self.end_of(serial).try_set(text);
     }
 
     fn admits(&self, _serial: u64, _count: usize) -> usize {
@@ -186,24 +181,39 @@ impl Gate for Witness {
     }
 
     fn dropped(&self, fault: LogFault, count: usize) {
-        let told = match fault {
-            LogFault::Full => &self.full,
-            LogFault::Memory => &self.no_memory,
-        };
-        told.fetch_add(count as u64, Ordering::SeqCst);
+        if fault == LogFault::Full {
+            self.full.fetch_add(count as u64, Ordering::SeqCst);
+        }
     }
 
     fn settled(&self, serial: u64, left_out: usize) {
         // only a session that it was told of
-        let place = if serial == 1 {
-            &self.first
-        } else {
-            &self.second
-        };
-        self.settled
-            .fetch_add(u64::from(place.get().is_some()), Ordering::SeqCst);
+        let is_told = self.end_of(serial).get().is_some();
+        self.settled.fetch_add(u64::from(is_told), Ordering::SeqCst);
         self.left_out.fetch_add(left_out as u64, Ordering::SeqCst);
     }
+}
+
+/// Appends the items, or `-` if there are none.
+fn push_items(text: &mut String, items: &[Item]) -> Result<(), AllocError> {
+    if items.is_empty() {
+        text.push('-')?;
+    }
+    for item in items {
+        for byte in item.bytes() {
+            text.push(char::from(*byte))?;
+        }
+    }
+    Ok(())
+}
+
+fn shown_learned(alloc: Global, learned: &Learned) -> Result<String, AllocError> {
+    let mut text = String::new(alloc);
+    text.push_str("ours ")?;
+    push_items(&mut text, &learned.ours().to_vec(alloc)?)?;
+    text.push_str(" theirs ")?;
+    push_items(&mut text, &learned.theirs().to_vec(alloc)?)?;
+    Ok(text)
 }
 
 fn shown_end(alloc: Global, outcome: &Outcome) -> Result<String, AllocError> {
@@ -218,14 +228,7 @@ fn shown_end(alloc: Global, outcome: &Outcome) -> Result<String, AllocError> {
         }
         Outcome::Refused { code, .. } => format!(in alloc; "Refused {code}"),
         Outcome::PeerRefused { code, .. } => format!(in alloc; "PeerRefused {code}"),
-        Outcome::Io {
-            side: Direction::Read,
-            ..
-        } => format!(in alloc; "Io Read"),
-        Outcome::Io {
-            side: Direction::Write,
-            ..
-        } => format!(in alloc; "Io Write"),
+        Outcome::Io { side, .. } => format!(in alloc; "Io {side:?}"),
         Outcome::Memory { .. } => format!(in alloc; "Memory"),
     }
 }

@@ -2,6 +2,4 @@
 
 pub(crate) mod devices;
 pub(crate) mod frames;
-pub(crate) mod letters;
-pub(crate) mod shown;
 pub(crate) mod tables;
