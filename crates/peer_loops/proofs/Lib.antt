@@ -1,1 +1,2 @@
-mod Puttings
+mod Entries
+mod Places

@@ -4,11 +4,12 @@
 --     Tells parting stage version o      a session that refused, or whose peer did, says so, whatever came after it;
 --                                        one that ended and was said whole says what it has learned, and of which
 --                                        version; any other is broken, and says as sent what was written whole
---     PutsInOf id lets_in o v w          what was learned is put into the log, where the session is in the table
+--     PutsInOf id lets_in own o v w      what was learned is put into the log, where the session is in the table
 --     shown_in which o                   the outcome of which the board is told: over the directory no items are found
 use Rattle.std.specs.Prelude.{◌≡◌, ℕ, ◌-◌, Bool, Option, Some, None, if◌then◌else◌}
 use Rattle.session_table.specs.declared.session.SessionId.{SessionId}
 use Rattle.definitions.specs.Talks.{Knowledge, nothing}
+use Rattle.shard_core.specs.declared.shard.OneShard.{OneShard}
 use Rattle.shard_core.specs.declared.selector.Which.{Which}
 use Rattle.shard_core.specs.declared.selector.Which.TheVariants.{Shard, Directory}
 use Rattle.outcome_core.specs.declared.outcome.Direction.TheVariants as directions
@@ -57,9 +58,9 @@ TellsOf None parting stage version o = o ≡ broken_at parting stage
 abbrev pub Tells : Parting → Stage → ℕ → Outcome → Type 0
 Tells parting stage version o = TellsOf (state_in stage) parting stage version o
 
-abbrev pub PutsInOf : Option SessionId → (ℕ → ℕ → ℕ → Type 0) → Outcome → View → View → Type 0
-PutsInOf None lets_in o v w = w ≡ v
-PutsInOf (Some id) lets_in o v w = PutsInBy lets_in id.serial o v w
+abbrev pub PutsInOf : Option SessionId → (ℕ → ℕ → ℕ → Type 0) → Option OneShard → Outcome → View → View → Type 0
+PutsInOf None lets_in own o v w = w ≡ v
+PutsInOf (Some id) lets_in own o v w = PutsInBy lets_in id.serial own o v w
 
 abbrev pub found_none : Outcome → Outcome
 found_none (outcomes.Ended learned sent version) = outcomes.Ended nothing sent version

@@ -1,9 +1,7 @@
 //! Peers who come to a loop: connections that it accepts, and peers that another loop hands over.
 
-ghost use Rattle.std.specs.Prelude.{◌≡◌};
-
 use crate::chosen::reader_of;
-use crate::desk::Desk;
+use crate::desks::Desks;
 use crate::ending::Parting;
 use crate::looping::{Kind, Loop, PAUSE};
 use crate::note::Guest;
@@ -81,25 +79,21 @@ impl Loop {
     pub(crate) fn take_in<R: Wait, G: PartGate>(
         &mut self,
         site: &Site<'_, R, G>,
-        desk: &mut Desk<'_, G>,
-    )
-        ensures shared { desk.new.shared ≡ desk.old.shared }
-    {
+        desks: &mut Desks<'_>,
+    ) {
         match self.kind {
-            Kind::Accepts => self.accept_once(site, desk),
-            Kind::Takes => self.take_guests(site, desk),
+            Kind::Accepts => self.accept_once(site, desks),
+            Kind::Takes => self.take_guests(site, desks),
         }
     }
 
     /// Accepts one connection, if somebody may be there: so it is served before this loop takes another, and the other
     /// loops, which were woken too, take those. Where nobody will come, they are told.
-    fn accept_once<R: Wait, G: PartGate>(&mut self, site: &Site<'_, R, G>, desk: &mut Desk<'_, G>)
-        ensures shared { desk.new.shared ≡ desk.old.shared }
-    {
+    fn accept_once<R: Wait, G: PartGate>(&mut self, site: &Site<'_, R, G>, desks: &mut Desks<'_>) {
         if !self.accepting.tries(self.now) {
             return;
         }
-        self.accepting = self.accept_next(site, desk);
+        self.accepting = self.accept_next(site, desks);
         if self.accepting == Accepting::Done {
             site.crowd.wake_all();
         }
@@ -109,12 +103,10 @@ impl Loop {
     fn accept_next<R: Wait, G: PartGate>(
         &mut self,
         site: &Site<'_, R, G>,
-        desk: &mut Desk<'_, G>,
-    ) -> Accepting
-        ensures shared { desk.new.shared ≡ desk.old.shared }
-    {
+        desks: &mut Desks<'_>,
+    ) -> Accepting {
         match site.listener.arrival() {
-            Ok(arrival) => self.accept(site, desk, arrival),
+            Ok(arrival) => self.accept(site, desks, arrival),
             Err(fault) => {
                 site.crowd.fail(site.rt, fault);
                 Accepting::Done
@@ -126,15 +118,13 @@ impl Loop {
     fn accept<R: Wait, G: PartGate>(
         &mut self,
         site: &Site<'_, R, G>,
-        desk: &mut Desk<'_, G>,
+        desks: &mut Desks<'_>,
         arrival: Arrival,
-    ) -> Accepting
-        ensures shared { desk.new.shared ≡ desk.old.shared }
-    {
+    ) -> Accepting {
         match arrival {
             Arrival::Came(reader, writer) => {
                 self.misses = 0;
-                self.admit_new(site, desk, reader, writer);
+                self.admit_new(site, desks, reader, writer);
                 Accepting::More
             }
             Arrival::Gone => Accepting::More,
@@ -144,7 +134,7 @@ impl Loop {
                 Accepting::Waits
             }
             Arrival::NoMore => Accepting::Done,
-            Arrival::NoRoom => self.miss(site, desk),
+            Arrival::NoRoom => self.miss(site, desks),
         }
     }
 
@@ -152,17 +142,15 @@ impl Loop {
     fn miss<R: Wait, G: PartGate>(
         &mut self,
         site: &Site<'_, R, G>,
-        desk: &mut Desk<'_, G>,
-    ) -> Accepting
-        ensures shared { desk.new.shared ≡ desk.old.shared }
-    {
+        desks: &mut Desks<'_>,
+    ) -> Accepting {
         self.misses = self.misses.saturating_add(1);
         if self.misses > MOST_MISSES {
             site.crowd.fail(site.rt, SourceFault::Accept);
             return Accepting::Done;
         }
         if self.leavers.is_empty() {
-            self.let_a_silent_one_go(site, desk);
+            self.let_a_silent_one_go(site, desks);
         }
         self.leavers.close_all();
         Accepting::NoRoom {
@@ -190,25 +178,21 @@ impl Loop {
     fn let_a_silent_one_go<R: Wait, G: PartGate>(
         &mut self,
         site: &Site<'_, R, G>,
-        desk: &mut Desk<'_, G>,
-    )
-        ensures shared { desk.new.shared ≡ desk.old.shared }
-    {
+        desks: &mut Desks<'_>,
+    ) {
         let Some(key) = self.next_to_go(site) else {
             return;
         };
         let heard = self.hub.get(key).map_or(self.now, |peer| peer.heard());
         if self.now.saturating_sub(heard) >= SILENT {
-            self.let_go(site, desk, key, Parting::TimeIsOver);
+            self.let_go(site, desks, key, Parting::TimeIsOver);
         }
     }
 
     /// Lets a peer go that makes room.
-    fn make_room<R: Wait, G: PartGate>(&mut self, site: &Site<'_, R, G>, desk: &mut Desk<'_, G>)
-        ensures shared { desk.new.shared ≡ desk.old.shared }
-    {
+    fn make_room<R: Wait, G: PartGate>(&mut self, site: &Site<'_, R, G>, desks: &mut Desks<'_>) {
         if let Some(key) = self.next_to_go(site) {
-            self.let_go(site, desk, key, Parting::TimeIsOver);
+            self.let_go(site, desks, key, Parting::TimeIsOver);
         }
     }
 
@@ -217,18 +201,16 @@ impl Loop {
     fn count_in<R: Wait, G: PartGate>(
         &mut self,
         site: &Site<'_, R, G>,
-        desk: &mut Desk<'_, G>,
+        desks: &mut Desks<'_>,
         origin: Option<u128>,
-    ) -> bool
-        ensures shared { desk.new.shared ≡ desk.old.shared }
-    {
+    ) -> bool {
         if site.crowd.count_one_more(site.rt, origin) {
             return true;
         }
         let Some(key) = self.most_silent_of(origin) else {
             return false;
         };
-        self.let_go(site, desk, key, Parting::TimeIsOver);
+        self.let_go(site, desks, key, Parting::TimeIsOver);
         site.crowd.count_one_more(site.rt, origin)
     }
 
@@ -238,34 +220,30 @@ impl Loop {
     fn admit_new<R: Wait, G: PartGate>(
         &mut self,
         site: &Site<'_, R, G>,
-        desk: &mut Desk<'_, G>,
+        desks: &mut Desks<'_>,
         reader: Half,
         writer: Half,
-    )
-        ensures shared { desk.new.shared ≡ desk.old.shared }
-    {
+    ) {
         let origin = reader.origin();
-        if !self.count_in(site, desk, origin) {
+        if !self.count_in(site, desks, origin) {
             return;
         }
         if site.crowd.is_crowded() {
-            self.make_room(site, desk);
+            self.make_room(site, desks);
         }
         let most_bytes = u64::from(site.crowd.limits.most_bytes);
         let serial = self.serial;
         self.serial = serial.saturating_add(1);
-        let reader = reader_of(site.crowd.set, reader);
+        let reader = reader_of(site.crowd.front, reader);
         let peer = Peer::new(site.alloc, reader, writer, most_bytes, serial, self.now);
         let peer = peer.from_origin(origin);
-        self.admit(site, desk, Guest { peer, id: None });
+        self.admit(site, desks, Guest { peer, id: None });
     }
 
     /// Takes in all whom other loops hand over.
-    fn take_guests<R: Wait, G: PartGate>(&mut self, site: &Site<'_, R, G>, desk: &mut Desk<'_, G>)
-        ensures shared { desk.new.shared ≡ desk.old.shared }
-    {
+    fn take_guests<R: Wait, G: PartGate>(&mut self, site: &Site<'_, R, G>, desks: &mut Desks<'_>) {
         for guest in site.crowd.guests(site.rt, site.alloc, self.index) {
-            self.admit(site, desk, guest);
+            self.admit(site, desks, guest);
         }
     }
 
@@ -285,23 +263,21 @@ impl Loop {
     fn admit<R: Wait, G: PartGate>(
         &mut self,
         site: &Site<'_, R, G>,
-        desk: &mut Desk<'_, G>,
+        desks: &mut Desks<'_>,
         guest: Guest,
-    )
-        ensures shared { desk.new.shared ≡ desk.old.shared }
-    {
+    ) {
         let no_memory = Parting::Failed(LinkFault::Memory);
         let key = self.hub.next_key();
         let fd = guest.peer.reader().inner().as_raw_fd();
         if !self.register(key, fd, guest.id) {
-            self.part_with(site, desk, guest, no_memory);
+            self.part_with(site, desks, guest, no_memory);
             return;
         }
         let Guest { peer, id } = guest;
         match self.hub.admit(peer) {
             // the system reports at once that it can be written to
             Ok(_key) => {}
-            Err(peer) => self.part_with(site, desk, Guest { peer, id }, no_memory),
+            Err(peer) => self.part_with(site, desks, Guest { peer, id }, no_memory),
         }
     }
 }

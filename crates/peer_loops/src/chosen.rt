@@ -4,7 +4,7 @@ ghost use Rattle.std.specs.Prelude.{◌≡◌};
 ghost use Rattle.shard_core.specs.Selectors.{selecting};
 ghost use Rattle.peer_loops.specs.ShardSpans.{part_in};
 
-use crate::shards::Shards;
+use crate::desks::Desks;
 use digest_core::{Fingerprint, Summary};
 use hub_core::{Greeting, HELLO, Peer, Stage};
 use shard_core::{AfterSelector, Selecting, SetName, Which};
@@ -21,9 +21,38 @@ const WRONG_SET: u8 = 55;
 /// The number of the refusal of a peer whose input ended too early.
 const TRUNCATED: u8 = 3;
 
+/// What peers have to say before their hello.
+#[derive(Clone, Copy)]
+pub enum Front<'a> {
+    /// Nothing: all speak of the only part.
+    Open,
+    /// What the set is called: they speak of the only part.
+    Named(SetName<'a>),
+    /// What the set is called, and of which of its shards they speak, or of the directory.
+    Cut(SetName<'a>),
+}
+
+impl<'a> Front<'a> {
+    /// What the set is called, if peers have to say it.
+    pub fn set(self) -> Option<SetName<'a>> {
+        match self {
+            Front::Open => None,
+            Front::Named(set) | Front::Cut(set) => Some(set),
+        }
+    }
+
+    /// The part that a gate is told of where a session was over this one: none of a set that is not cut.
+    pub(crate) fn told(self, which: Which) -> Option<Which> {
+        match self {
+            Front::Cut(_) => Some(which),
+            Front::Open | Front::Named(_) => None,
+        }
+    }
+}
+
 /// What is read of a peer that has come: what comes after its selector, where it has to say of which set it speaks.
-pub(crate) fn reader_of(set: Option<SetName<'_>>, reader: Half) -> Reader {
-    match set {
+pub(crate) fn reader_of(front: Front<'_>, reader: Half) -> Reader {
+    match front.set() {
         Some(_) => AfterSelector::new(reader),
         None => AfterSelector::whole(reader),
     }
@@ -35,7 +64,7 @@ fn is_known(greeting: &Greeting) -> bool {
 }
 
 /// The part of a set of which a peer speaks, if it has said so.
-pub(crate) fn part_of(set: SetName<'_>, reader: &Reader) -> Option<Which>
+fn said_of(set: SetName<'_>, reader: &Reader) -> Option<Which>
     ensures { result ≡ part_in (selecting set.entry.name.now set.entry.bits reader.now.came) }
 {
     match set.read(reader.came()) {
@@ -44,33 +73,43 @@ pub(crate) fn part_of(set: SetName<'_>, reader: &Reader) -> Option<Which>
     }
 }
 
-/// The number of the refusal of a peer that speaks of another set, of none, of a shard that is not kept, or whose input
-/// ended before it said of which shard.
-fn refusal_at(set: SetName<'_>, shards: Option<&Shards>, reader: &Reader) -> Option<u8> {
-    let refusal = set.refusal(reader.came());
-    if refusal.is_some() {
-        return refusal;
+/// The part of which a peer speaks, if it has said so: of a set that is not cut the only one.
+pub(crate) fn part_of(front: Front<'_>, reader: &Reader) -> Option<Which> {
+    match front {
+        Front::Cut(set) => said_of(set, reader),
+        Front::Open | Front::Named(_) => Some(Which::Shard(0)),
     }
-    let shards = shards?;
-    match part_of(set, reader) {
-        Some(which) if shards.keeps(which) => None,
+}
+
+/// The number of the refusal of a peer that speaks of a part that is not kept, or whose input ended before it said of
+/// which.
+fn part_refusal(desks: &Desks<'_>, part: Option<Which>) -> Option<u8> {
+    match part {
+        Some(which) if desks.keeps(which) => None,
         Some(_) => Some(WRONG_SET),
         // its input ended inside a selector that was right so far
         None => Some(TRUNCATED),
     }
 }
 
-/// The number of the refusal of a peer that speaks of another set, of none, or of a shard that is not kept, once that
-/// is known.
+/// The number of the refusal of a peer that speaks of another set, of none, or of a part that is not kept, once that is
+/// known.
 pub(crate) fn refusal_of(
-    set: SetName<'_>,
-    shards: Option<&Shards>,
+    front: Front<'_>,
+    desks: &Desks<'_>,
     peer: &Peer<Reader, Half>,
 ) -> Option<u8> {
+    let set = front.set()?;
     match peer.stage() {
-        Stage::Greeting(greeting) if is_known(greeting) => refusal_at(set, shards, peer.reader()),
-        _ => None,
+        Stage::Greeting(greeting) if is_known(greeting) => {}
+        _ => return None,
     }
+    let reader = peer.reader();
+    let refusal = set.refusal(reader.came());
+    if refusal.is_some() {
+        return refusal;
+    }
+    part_refusal(desks, part_of(front, reader))
 }
 
 /// Writes what can be written at once of a fault frame, after our hello.

@@ -1,15 +1,15 @@
-//! What all loops share beside the log.
+//! What all loops share beside the parts.
 
 ghost use Rattle.std.specs.Prelude.{◌≤◌};
 
 use crate::board::Board;
+use crate::chosen::Front;
 use crate::looping::Kind;
 use crate::note::Guest;
-use crate::shards::Shards;
 use hub_core::Origins;
 use mio::{Poll, Waker};
 use outcome_core::SourceFault;
-use shard_core::SetName;
+use range_tree::Tree;
 use std::alloc::{AllocError, Global};
 use std::net::Net;
 use std::sync::atomic::{AtomicUsize, Ordering};
@@ -43,11 +43,8 @@ pub struct Service<'a> {
     pub limits: PeerLimits,
     /// What is told of them, for those who watch.
     pub board: &'a Board,
-    /// What the set is called, if peers have to say of which set they speak.
-    pub set: Option<SetName<'a>>,
-    /// The shards of a set that is cut into shards, if it is: sessions are over these then, and over none of the log.
-    /// There must be a set name too.
-    pub shards: Option<&'a Shards>,
+    /// What peers have to say before their hello.
+    pub front: Front<'a>,
 }
 
 /// Where peers wait for a loop, and how it is woken.
@@ -58,7 +55,7 @@ pub(crate) struct Inlet {
     waker: OnceLock<Waker>,
 }
 
-/// What all loops share beside the log.
+/// What all loops share beside the parts.
 #[derive(Drop)]
 pub(crate) struct Crowd<'a> {
     pub(crate) alloc: Global,
@@ -66,10 +63,11 @@ pub(crate) struct Crowd<'a> {
     pub(crate) limits: PeerLimits,
     /// What is told of them.
     pub(crate) board: &'a Board,
-    /// What the set is called, if peers have to say it.
-    pub(crate) set: Option<SetName<'a>>,
-    /// The shards, if sessions are over these.
-    pub(crate) shards: Option<&'a Shards>,
+    /// What peers have to say before their hello.
+    pub(crate) front: Front<'a>,
+    /// The directory of the parts, if it was made, and nothing was put in since. Whoever makes it holds it and asks one
+    /// part after the other; whoever puts items in has let the part go before it takes the directory.
+    pub(crate) directory: Mutex<Option<Tree>>,
     /// Of how many loops each kind has.
     pub(crate) loops: usize,
     inlets: Vec<Inlet>,
@@ -120,8 +118,7 @@ impl<'a> Crowd<'a> {
             loops,
             limits,
             board,
-            set,
-            shards,
+            front,
         } = service;
         let loops = usize::from(loops);
         let both_kinds = loops.saturating_mul(2);
@@ -129,8 +126,8 @@ impl<'a> Crowd<'a> {
             alloc,
             limits,
             board,
-            set,
-            shards,
+            front,
+            directory: Mutex::new(None),
             loops,
             inlets: inlets(alloc, both_kinds)?,
             polls: Mutex::new(polls(rt, alloc, both_kinds)?),

@@ -1,48 +1,65 @@
-//! A loop's seat at the log.
+//! A loop's seat at the log of one part.
 
-ghost use Rattle.std.specs.Prelude.{◌≡◌, ◌≤◌, length, IsSome, IfOk, OnOk, Some};
+ghost use Rattle.std.specs.Prelude.{◌≡◌, ◌≤◌, length, true, IsSome, IfOk, IfSome, OnOk, Some};
 ghost use Rattle.std.specs.Arc.{arc_value};
 ghost use Rattle.slab.specs.Slab.{get};
+ghost use Rattle.definitions.specs.Histories.{content};
+ghost use Rattle.shard_core.specs.Shards.{entry_for};
 ghost use Rattle.hub_core.specs.Hubs.{OthersStay};
 ghost use Rattle.hub_core.specs.Peers.{Opens, version_after};
 ghost use Rattle.peer_threads.specs.Outcomes.{peer_at};
-ghost use Rattle.peer_threads.specs.Workers.{IsSettled, LookedOrNot, MayWork};
+ghost use Rattle.peer_threads.specs.Workers.{IsSettled, LookedOrNot, are_own};
+ghost use Rattle.peer_loops.specs.Partings.{PutsInOf};
 
 use crate::chosen::Reader;
+use crate::common::Common;
+use crate::part::{Part, Root};
 use ends_core::Learned;
 use hub_core::Hub;
-use peer_threads::{Gate, Shared, settle};
+use item_core::Item;
+use peer_threads::{Gate, Harvest, Outcome, Shared, settle};
 use range_tree::Tree;
+use session_table::SessionId;
+use shard_core::{ShardSum, entry_of};
 use std::alloc::{AllocError, Global};
 use std::sync::Wait;
 use tcp_front::Half;
 use version_lock::Seat;
-use version_log::WritersSpent;
 
-/// A loop's seat at the log: sessions are opened over the versions that it pins, and it puts in what they learned.
+/// A loop's seat at the log of a part: sessions are opened over the versions that it pins, and it puts in what they
+/// learned. All that it has entered is of the part.
 #[derive(Drop)]
-pub(crate) struct Desk<'a, G> {
-    shared: &'a Shared<'a, Tree, G>,
-    seat: Seat<Tree>,
-    ghost lock: { seat.table_id ≡ shared.now.lock.now },
-    ghost fits: { seat.view.cap ≤ (arc_value shared.now.accepted.now).table.cap },
+pub(crate) struct Desk<'a> {
+    pub(crate) part: &'a Part,
+    pub(crate) seat: Seat<Tree>,
+    ghost lock: { seat.table_id ≡ part.now.lock },
+    ghost fits: { seat.view.cap ≤ (arc_value part.now.accepted).table.cap },
     ghost enrolled: { IsSome seat.view.writer },
+    ghost own: { are_own part.now.own seat.view.entered ≡ true },
 }
 
-impl<'a, G: Gate> Desk<'a, G> {
-    /// Gives the seat a writer number. Fails where there is none left.
-    pub(crate) fn new<T: Wait>(
-        rt: &T,
-        shared: &'a Shared<'a, Tree, G>,
-        seat: Seat<Tree>,
-    ) -> Result<Desk<'a, G>, WritersSpent>
-        requires lock { seat.table_id ≡ shared.now.lock.now }
-        requires seat { MayWork (arc_value shared.now.accepted.now).table.cap seat.view }
-        ensures shared { IfOk result (λ desk. desk.shared.now.lock.now ≡ shared.now.lock.now) }
+impl<'a> Desk<'a> {
+    /// A seat at this part that has a writer number, where there is one left.
+    pub(crate) fn at<T: Wait>(rt: &T, root: &'a mut Root) -> Option<Desk<'a>> {
+        let mut seat = root.part.lock.split_seat(&mut root.seat);
+        root.part.lock.enroll(rt, &mut seat).ok()?;
+        Some(Desk {
+            part: &root.part,
+            seat,
+        })
+    }
+
+    /// One more seat at the same part.
+    pub(crate) fn split<T: Wait>(&mut self, rt: &T) -> Option<Desk<'a>>
+        ensures same { self.new.part ≡ self.old.part }
+        ensures part { IfSome result (λ d. d.part ≡ self.old.part) }
     {
-        let mut seat = seat;
-        let _writer = shared.lock.enroll(rt, &mut seat)?;
-        Ok(Desk { shared, seat })
+        let mut seat = self.part.lock.split_seat(&mut self.seat);
+        self.part.lock.enroll(rt, &mut seat).ok()?;
+        Some(Desk {
+            part: self.part,
+            seat,
+        })
     }
 
     /// Pins the newest version, and opens the session of this peer over it, if it is there.
@@ -53,26 +70,87 @@ impl<'a, G: Gate> Desk<'a, G> {
         hub: &mut Hub<Reader, Half>,
         key: usize,
     ) -> Result<(), AllocError>
-        ensures shared { self.new.shared ≡ self.old.shared }
+        ensures part { self.new.part ≡ self.old.part }
         ensures view { LookedOrNot self.old.seat.view self.new.seat.view }
         ensures opens { OnOk result ((p q : _) → get hub.old.peers key ≡ Some p → get hub.new.peers key ≡ Some q →
-            Opens (peer_at (arc_value self.old.shared.now.accepted.now) self.new.seat.view) p.stage q.stage) }
+            Opens (peer_at (arc_value self.old.part.now.accepted) self.new.seat.view) p.stage q.stage) }
         ensures version { OnOk result ((p q : _) → get hub.old.peers key ≡ Some p → get hub.new.peers key ≡ Some q →
             q.version ≡ version_after p.stage p.version (length self.new.seat.view.base)) }
         ensures others { OthersStay hub.old.peers hub.new.peers key }
     {
-        let pin = self.shared.lock.pin(rt, alloc, &mut self.seat)?;
+        let pin = self.part.lock.pin(rt, alloc, &mut self.seat)?;
         let version = pin.version();
-        hub.open(alloc, key, self.shared.accepted, pin.into_store(), version)
+        hub.open(alloc, key, &self.part.accepted, pin.into_store(), version)
             .unwrap_or(Ok(()))
     }
 
-    /// Puts into the log what a session learned of its peer, as far as the gate admits it.
-    pub(crate) fn settle<T: Wait>(&mut self, rt: &T, alloc: Global, serial: u64, learned: &Learned)
-        ensures shared { self.new.shared ≡ self.old.shared }
-        ensures put { IsSettled (G.lets_in self.old.shared.now.gate.now) serial learned.now.theirs self.old.seat.view
+    /// The entry of the newest version in a directory.
+    pub(crate) fn entry<T: Wait>(
+        &mut self,
+        rt: &T,
+        alloc: Global,
+        number: u16,
+    ) -> Result<Item, AllocError>
+        ensures part { self.new.part ≡ self.old.part }
+        ensures view { LookedOrNot self.old.seat.view self.new.seat.view }
+        ensures entry { IfOk result (λ x. x ≡ entry_for number (content self.new.seat.view.base)) }
+    {
+        let _cap = self.part.accepted.cap(); // proof only: there are at most 65,536 items
+        let pin = self.part.lock.pin(rt, alloc, &mut self.seat)?;
+        Ok(entry_of(number, ShardSum::of(pin.store())))
+    }
+
+    /// Puts into the log what a session learned that ended so, if it is in the table, as far as the gate admits it and
+    /// it is of the part. Whether something was put in, or was there.
+    pub(crate) fn put_in<T: Wait, G: Gate>(
+        &mut self,
+        rt: &T,
+        alloc: Global,
+        common: &Common<'_, G>,
+        id: Option<SessionId>,
+        outcome: &Outcome,
+    ) -> bool
+        ensures part { self.new.part ≡ self.old.part }
+        ensures put { PutsInOf id (G.lets_in common.now.gate.now) self.old.part.now.own outcome.now self.old.seat.view
             self.new.seat.view }
     {
-        settle(rt, alloc, self.shared, &mut self.seat, serial, learned);
+        let Some(id) = id else {
+            return false;
+        };
+        match outcome {
+            Outcome::Ended { learned, .. } => {
+                let left_out = self.settle(rt, alloc, common, id.serial(), learned);
+                left_out < learned.theirs().len()
+            }
+            _ => false,
+        }
+    }
+
+    /// Puts into the log what the session with this serial learned of its peer, in the same way. How many items are
+    /// left out.
+    fn settle<T: Wait, G: Gate>(
+        &mut self,
+        rt: &T,
+        alloc: Global,
+        common: &Common<'_, G>,
+        serial: u64,
+        learned: &Learned,
+    ) -> usize
+        ensures part { self.new.part ≡ self.old.part }
+        ensures put { IsSettled (G.lets_in common.now.gate.now) serial self.old.part.now.own learned.now.theirs
+            self.old.seat.view self.new.seat.view result }
+    {
+        let shared = Shared {
+            lock: &self.part.lock,
+            accepted: &self.part.accepted,
+            sessions: common.sessions,
+            gate: common.gate,
+        };
+        let harvest = Harvest {
+            serial,
+            own: self.part.own,
+            learned,
+        };
+        settle(rt, alloc, &shared, &mut self.seat, harvest)
     }
 }

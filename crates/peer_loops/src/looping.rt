@@ -1,10 +1,8 @@
 //! One loop: it waits until streams are ready, and goes on with those.
 
-ghost use Rattle.std.specs.Prelude.{◌≡◌};
-
 use crate::arriving::Accepting;
 use crate::chosen::Reader;
-use crate::desk::Desk;
+use crate::desks::Desks;
 use crate::ending::Parting;
 use crate::leaving::Leavers;
 use crate::note::Notes;
@@ -141,33 +139,27 @@ impl Loop {
     }
 
     /// Goes on with those that were left off.
-    fn go_on_soon<R: Wait, G: PartGate>(&mut self, site: &Site<'_, R, G>, desk: &mut Desk<'_, G>)
-        ensures shared { desk.new.shared ≡ desk.old.shared }
-    {
+    fn go_on_soon<R: Wait, G: PartGate>(&mut self, site: &Site<'_, R, G>, desks: &mut Desks<'_>) {
         let mut soon = Vec::new(site.alloc);
         std::mem::swap(&mut soon, &mut self.soon);
         for key in soon {
             self.notes.set_listed(key, false);
-            self.go_on(site, desk, key);
+            self.go_on(site, desks, key);
         }
     }
 
     /// Tries again to open the sessions for which there was no place.
-    fn open_waiting<R: Wait, G: PartGate>(&mut self, site: &Site<'_, R, G>, desk: &mut Desk<'_, G>)
-        ensures shared { desk.new.shared ≡ desk.old.shared }
-    {
+    fn open_waiting<R: Wait, G: PartGate>(&mut self, site: &Site<'_, R, G>, desks: &mut Desks<'_>) {
         let mut waiting = Vec::new(site.alloc);
         std::mem::swap(&mut waiting, &mut self.waiting);
         for key in waiting {
             self.notes.set_listed(key, false);
-            self.go_on(site, desk, key);
+            self.go_on(site, desks, key);
         }
     }
 
     /// Lets those go whose time is over.
-    fn sweep<R: Wait, G: PartGate>(&mut self, site: &Site<'_, R, G>, desk: &mut Desk<'_, G>)
-        ensures shared { desk.new.shared ≡ desk.old.shared }
-    {
+    fn sweep<R: Wait, G: PartGate>(&mut self, site: &Site<'_, R, G>, desks: &mut Desks<'_>) {
         self.leavers.close_late(self.now);
         if self.now.saturating_sub(self.swept) < TICK {
             return;
@@ -177,7 +169,7 @@ impl Loop {
             let Some(key) = self.hub.late(self.now) else {
                 return;
             };
-            self.let_go(site, desk, key, Parting::TimeIsOver);
+            self.let_go(site, desks, key, Parting::TimeIsOver);
         }
     }
 
@@ -185,15 +177,13 @@ impl Loop {
     fn meet<R: Wait, G: PartGate>(
         &mut self,
         site: &Site<'_, R, G>,
-        desk: &mut Desk<'_, G>,
+        desks: &mut Desks<'_>,
         token: Token,
-    )
-        ensures shared { desk.new.shared ≡ desk.old.shared }
-    {
+    ) {
         if token == LISTENER || token == WAKER {
             self.accepting = self.accepting.again();
         } else if !self.leavers.read_on(self.poll.registry(), token) {
-            self.go_on(site, desk, token.0);
+            self.go_on(site, desks, token.0);
         }
     }
 
@@ -201,18 +191,16 @@ impl Loop {
     fn turn<R: Wait, G: PartGate>(
         &mut self,
         site: &Site<'_, R, G>,
-        desk: &mut Desk<'_, G>,
+        desks: &mut Desks<'_>,
         events: &Events,
-    )
-        ensures shared { desk.new.shared ≡ desk.old.shared }
-    {
-        self.go_on_soon(site, desk);
+    ) {
+        self.go_on_soon(site, desks);
         for event in events {
-            self.meet(site, desk, event.token());
+            self.meet(site, desks, event.token());
         }
-        self.open_waiting(site, desk);
-        self.take_in(site, desk);
-        self.sweep(site, desk);
+        self.open_waiting(site, desks);
+        self.take_in(site, desks);
+        self.sweep(site, desks);
     }
 
     /// Shows those who watch what it has now.
@@ -226,10 +214,8 @@ impl Loop {
     pub(crate) fn run<R: Wait + Clock, G: PartGate>(
         &mut self,
         site: &Site<'_, R, G>,
-        desk: &mut Desk<'_, G>,
-    ) -> io::Result<()>
-        ensures shared { desk.new.shared ≡ desk.old.shared }
-    {
+        desks: &mut Desks<'_>,
+    ) -> io::Result<()> {
         let mut events = Events::with_capacity(site.alloc, EVENTS)?;
         for _ in site.rt.forever() {
             if self.is_done(site) {
@@ -239,7 +225,7 @@ impl Loop {
             self.poll.poll(&mut events, Some(wait))?;
             let passed = site.rt.monotonic()?;
             self.now = u64::try_from(passed.as_millis()).unwrap_or(u64::MAX);
-            self.turn(site, desk, &events);
+            self.turn(site, desks, &events);
             self.show(site);
         }
         unreachable!()

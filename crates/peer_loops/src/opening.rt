@@ -1,6 +1,6 @@
-//! How the session of a peer is opened: over the log, or over a part of a set of shards.
+//! How the session of a peer is opened: over the part of which it speaks, or over the directory.
 
-ghost use Rattle.std.specs.Prelude.{◌≡◌, OnOk, Some};
+ghost use Rattle.std.specs.Prelude.{◌≡◌, OnOk, Some, IfOk, IfSome};
 ghost use Rattle.std.specs.Arc.{arc_value};
 ghost use Rattle.slab.specs.Slab.{get};
 ghost use Rattle.ends_core.specs.Sides.{peer_of};
@@ -9,75 +9,85 @@ ghost use Rattle.hub_core.specs.Hubs.{OthersStay};
 ghost use Rattle.hub_core.specs.Peers.{Opens, version_after};
 
 use crate::chosen::{Reader, part_of};
-use crate::desk::Desk;
+use crate::desks::Desks;
 use crate::looping::Loop;
-use crate::part_gate::PartGate;
-use crate::shards::Shards;
 use crate::site::Site;
 use hub_core::Hub;
+use range_tree::Tree;
 use shard_core::Which;
-use shard_log::Pinned;
 use std::alloc::{AllocError, Global};
 use std::sync::{Arc, Wait};
 use store_core::RangeStore;
 use strategy_check::Accepted;
 use tcp_front::Half;
 
-/// Opens the session of this peer over a version of a part, if it is there. A version has no more items than the
-/// strategy allows; it is tested here once more.
+/// Opens the session of this peer over the directory, if it is there. There are no more parts than the strategy allows
+/// items; it is tested here once more.
 fn open_over(
     alloc: Global,
     hub: &mut Hub<Reader, Half>,
     key: usize,
     accepted: &Arc<Accepted>,
-    pinned: Pinned,
+    store: Tree,
 ) -> Result<(), AllocError>
     ensures opens { OnOk result ((p q : _) → get hub.old.peers key ≡ Some p → get hub.new.peers key ≡ Some q →
-        Opens (peer_of (arc_value accepted.now) (tree_items pinned.store)) p.stage q.stage) }
+        Opens (peer_of (arc_value accepted.now) (tree_items store)) p.stage q.stage) }
     ensures version { OnOk result ((p q : _) → get hub.old.peers key ≡ Some p → get hub.new.peers key ≡ Some q →
-        q.version ≡ version_after p.stage p.version pinned.version) }
+        q.version ≡ version_after p.stage p.version 0) }
     ensures others { OthersStay hub.old.peers hub.new.peers key }
 {
-    let Pinned { store, version } = pinned;
     if store.len() > accepted.cap() as usize {
         return Err(AllocError);
     }
-    hub.open(alloc, key, accepted, store, version)
-        .unwrap_or(Ok(()))
+    hub.open(alloc, key, accepted, store, 0).unwrap_or(Ok(()))
+}
+
+/// The directory that is kept; it is made first where there is none.
+fn directory_in<R: Wait, G>(
+    site: &Site<'_, R, G>,
+    desks: &mut Desks<'_>,
+    kept: &mut Option<Tree>,
+) -> Result<Tree, AllocError>
+    ensures { IfOk result (λ tree. IfSome kept.new (λ own. tree_items tree ≡ tree_items own)) }
+{
+    if kept.is_none() {
+        *kept = Some(desks.directory_now(site.rt, site.alloc)?);
+    }
+    match kept {
+        Some(tree) => tree.copy(site.alloc),
+        None => Err(AllocError),
+    }
 }
 
 impl Loop {
     /// The part of which this peer speaks, if it has said so.
     fn meant<R, G>(&self, site: &Site<'_, R, G>, key: usize) -> Option<Which> {
-        part_of(site.crowd.set?, self.hub.get(key)?.reader())
+        part_of(site.crowd.front, self.hub.get(key)?.reader())
     }
 
-    /// Pins the newest version of the part of which this peer speaks, and opens its session over it.
-    fn open_part<R: Wait, G>(
+    /// Opens the session of this peer over the directory.
+    fn open_directory<R: Wait, G>(
         &mut self,
         site: &Site<'_, R, G>,
-        shards: &Shards,
+        desks: &mut Desks<'_>,
         key: usize,
     ) -> Result<(), AllocError> {
-        let Some(which) = self.meant(site, key) else {
-            return Err(AllocError);
-        };
-        let pinned = shards.pin(site.rt, site.alloc, which)?;
-        open_over(site.alloc, &mut self.hub, key, site.shared.accepted, pinned)
+        let store = directory_in(site, desks, &mut site.crowd.directory.lock(site.rt))?;
+        open_over(site.alloc, &mut self.hub, key, site.common.accepted, store)
     }
 
-    /// Opens the session of this peer: over a part, if the server has shards, else over the log.
-    pub(crate) fn open_session<R: Wait, G: PartGate>(
+    /// Opens the session of this peer over the newest version of the part of which it speaks. A part that is not kept
+    /// has none: who asks for it was refused before.
+    pub(crate) fn open_session<R: Wait, G>(
         &mut self,
         site: &Site<'_, R, G>,
-        desk: &mut Desk<'_, G>,
+        desks: &mut Desks<'_>,
         key: usize,
-    ) -> Result<(), AllocError>
-        ensures shared { desk.new.shared ≡ desk.old.shared }
-    {
-        match site.crowd.shards {
-            Some(shards) => self.open_part(site, shards, key),
-            None => desk.open(site.rt, site.alloc, &mut self.hub, key),
+    ) -> Result<(), AllocError> {
+        match self.meant(site, key) {
+            Some(Which::Directory) => self.open_directory(site, desks, key),
+            Some(which) => desks.open(site.rt, site.alloc, &mut self.hub, which, key),
+            None => Err(AllocError),
         }
     }
 }

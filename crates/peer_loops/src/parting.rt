@@ -2,16 +2,16 @@
 
 ghost use Rattle.std.specs.Prelude.{◌≡◌};
 ghost use Rattle.outcome_core.specs.declared.outcome.Outcome as outcomes;
+ghost use Rattle.peer_loops.specs.Changes.{ChangesAt};
 ghost use Rattle.peer_loops.specs.Partings.{PutsInOf, Tells, shown_in};
+ghost use Rattle.peer_loops.specs.ShardSpans.{place_for};
 
 use crate::chosen::{Reader, part_of, tell_refusal};
-use crate::desk::Desk;
+use crate::desks::{Desks, Over};
 use crate::ending::{Parting, outcome_of};
 use crate::looping::Loop;
 use crate::note::Guest;
 use crate::part_gate::PartGate;
-use crate::putting::filled_by;
-use crate::shards::Shards;
 use crate::site::Site;
 use crate::visiting::{Leaver, profile_of, visit_of};
 use ends_core::Learned;
@@ -30,68 +30,41 @@ const NO_MEMORY: u8 = 90;
 /// Ends the session in the table, and gives its place back.
 fn close_session<R: Wait, G: PartGate>(site: &Site<'_, R, G>, id: SessionId, outcome: &Outcome) {
     let _closed = site
-        .shared
+        .common
         .sessions
         .lock(site.rt)
         .close(id, kind_of(outcome));
     site.crowd.give_place_back();
 }
 
-/// Ends the session in the table, tells the gate how it ended, and puts in what was learned. Where the session never
-/// came into the table, nobody is told.
+/// Ends the session in the table, and tells the gate how it ended. Where the session never came into the table, nobody
+/// is told.
+fn tell_end<R: Wait, G: PartGate>(site: &Site<'_, R, G>, over: &Over, outcome: &Outcome) {
+    let Some(id) = over.id else {
+        return;
+    };
+    close_session(site, id, outcome);
+    if let Some(which) = over.part {
+        let part = site.crowd.front.told(which);
+        site.common.gate.ended_in(id.serial(), part, outcome);
+    }
+}
+
+/// The same, and then puts in what was learned. If something was put in, the directory is made anew when somebody asks
+/// for it.
 fn conclude<R: Wait, G: PartGate>(
     site: &Site<'_, R, G>,
-    desk: &mut Desk<'_, G>,
-    id: Option<SessionId>,
+    desks: &mut Desks<'_>,
+    over: &Over,
     outcome: &Outcome,
 )
-    ensures shared { desk.new.shared ≡ desk.old.shared }
-    ensures put { PutsInOf id (G.lets_in desk.old.shared.now.gate.now) outcome.now desk.old.seat.view
-        desk.new.seat.view }
+    ensures put { ChangesAt (place_for desks.old.first over.now.part) desks.old.list.items desks.new.list.items
+        (λ d e. (e.part ≡ d.part) × PutsInOf over.now.id (G.lets_in site.now.common.now.gate.now) d.part.now.own
+        outcome.now d.seat.view e.seat.view) }
 {
-    let Some(id) = id else {
-        return;
-    };
-    let serial = id.serial();
-    close_session(site, id, outcome);
-    site.shared.gate.ended(serial, outcome);
-    if let Outcome::Ended { learned, .. } = outcome {
-        desk.settle(site.rt, site.alloc, serial, learned);
-    }
-}
-
-/// The same of a session over a part of a set of shards: what was learned is put into the log of its shard. No desk has
-/// to do with it.
-fn conclude_part<R: Wait, G: PartGate>(
-    site: &Site<'_, R, G>,
-    shards: &Shards,
-    (id, which): (Option<SessionId>, Option<Which>),
-    outcome: &Outcome,
-) {
-    let Some(id) = id else {
-        return;
-    };
-    let serial = id.serial();
-    close_session(site, id, outcome);
-    if let Some(which) = which {
-        site.shared.gate.ended_in(serial, which, outcome);
-        settle_part(site, shards, (which, serial), outcome);
-    }
-}
-
-/// Puts what a session over a part learned into the log of its shard, if it ended, and if it was over a shard.
-fn settle_part<R: Wait, G: PartGate>(
-    site: &Site<'_, R, G>,
-    shards: &Shards,
-    (which, serial): (Which, u64),
-    outcome: &Outcome,
-) {
-    let Outcome::Ended { learned, .. } = outcome else {
-        return;
-    };
-    if let Some(number) = filled_by(which) {
-        let gate = site.shared.gate;
-        shards.settle(site.rt, site.alloc, gate, (number, serial), learned);
+    tell_end(site, over, outcome);
+    if desks.put_in(site.rt, site.alloc, site.common, over, outcome) {
+        *site.crowd.directory.lock(site.rt) = None;
     }
 }
 
@@ -167,73 +140,49 @@ impl Loop {
     pub(crate) fn let_go<R: Wait, G: PartGate>(
         &mut self,
         site: &Site<'_, R, G>,
-        desk: &mut Desk<'_, G>,
+        desks: &mut Desks<'_>,
         key: usize,
         parting: Parting,
-    )
-        ensures shared { desk.new.shared ≡ desk.old.shared }
-    {
+    ) {
         let id = self.notes.id(key);
         if let Some(peer) = self.hub.take(key) {
-            self.part_with(site, desk, Guest { peer, id }, parting);
+            self.part_with(site, desks, Guest { peer, id }, parting);
         }
     }
 
-    /// Lets a peer go that is not in the hub: one of the whole set, or one of a part of it.
+    /// Lets a peer go that is not in the hub.
     pub(crate) fn part_with<R: Wait, G: PartGate>(
         &mut self,
         site: &Site<'_, R, G>,
-        desk: &mut Desk<'_, G>,
-        guest: Guest,
-        parting: Parting,
-    )
-        ensures shared { desk.new.shared ≡ desk.old.shared }
-    {
-        match site.crowd.shards {
-            Some(shards) => self.part_of_shards(site, shards, guest, parting),
-            None => self.part(site, desk, guest, parting),
-        }
-    }
-
-    /// Lets a peer go that is not in the hub. Its connection is read on for a while.
-    fn part<R: Wait, G: PartGate>(
-        &mut self,
-        site: &Site<'_, R, G>,
-        desk: &mut Desk<'_, G>,
-        guest: Guest,
-        parting: Parting,
-    )
-        ensures shared { desk.new.shared ≡ desk.old.shared }
-        ensures put { (o : outcomes.Outcome) × Tells parting guest.peer.stage guest.peer.version o
-            × PutsInOf guest.id (G.lets_in desk.old.shared.now.gate.now) o desk.old.seat.view desk.new.seat.view }
-    {
-        let Guest { peer, id } = guest;
-        site.crowd.count_one_less(site.rt, peer.origin());
-        let serial = id.as_ref().map(|id| id.serial());
-        let gone = parted(peer, serial, parting, self.now);
-        conclude(site, desk, id, &gone.outcome);
-        self.see_off(site, gone);
-    }
-
-    /// The same of a peer of a server that has shards.
-    fn part_of_shards<R: Wait, G: PartGate>(
-        &mut self,
-        site: &Site<'_, R, G>,
-        shards: &Shards,
+        desks: &mut Desks<'_>,
         guest: Guest,
         parting: Parting,
     ) {
         let Guest { peer, id } = guest;
+        let part = part_of(site.crowd.front, peer.reader());
+        self.part(site, desks, peer, Over { id, part }, parting);
+    }
+
+    /// Lets a peer go that is not in the hub, and whose session was this. Its connection is read on for a while.
+    fn part<R: Wait, G: PartGate>(
+        &mut self,
+        site: &Site<'_, R, G>,
+        desks: &mut Desks<'_>,
+        peer: Peer<Reader, Half>,
+        over: Over,
+        parting: Parting,
+    )
+        ensures put { (o : outcomes.Outcome) × Tells parting peer.stage peer.version o
+            × ChangesAt (place_for desks.old.first over.part) desks.old.list.items desks.new.list.items
+            (λ d e. (e.part ≡ d.part) × PutsInOf over.id (G.lets_in site.now.common.now.gate.now) d.part.now.own o
+            d.seat.view e.seat.view) }
+    {
         site.crowd.count_one_less(site.rt, peer.origin());
-        let serial = id.as_ref().map(|id| id.serial());
-        let which = match site.crowd.set {
-            Some(set) => part_of(set, peer.reader()),
-            None => None,
-        };
+        let serial = over.id.as_ref().map(|id| id.serial());
         let gone = parted(peer, serial, parting, self.now);
-        conclude_part(site, shards, (id, which), &gone.outcome);
+        conclude(site, desks, &over, &gone.outcome);
         let gone = Gone {
-            outcome: shown(site.alloc, which, gone.outcome),
+            outcome: shown(site.alloc, over.part, gone.outcome),
             ..gone
         };
         self.see_off(site, gone);

@@ -1,8 +1,7 @@
 //! Where a loop runs.
 
+use crate::common::Common;
 use crate::crowd::Crowd;
-use peer_threads::Shared;
-use range_tree::Tree;
 use std::alloc::Global;
 use tcp_front::Listener;
 
@@ -11,7 +10,7 @@ use tcp_front::Listener;
 pub(crate) struct Site<'a, R, G> {
     pub(crate) rt: &'a R,
     pub(crate) alloc: Global,
-    pub(crate) shared: &'a Shared<'a, Tree, G>,
+    pub(crate) common: &'a Common<'a, G>,
     pub(crate) crowd: &'a Crowd<'a>,
     pub(crate) listener: &'a Listener<'a, R>,
 }

@@ -1,9 +1,7 @@
 //! One peer's session, from its first message to its end.
 
-ghost use Rattle.std.specs.Prelude.{◌≡◌};
-
 use crate::chosen::refusal_of;
-use crate::desk::Desk;
+use crate::desks::Desks;
 use crate::ending::Parting;
 use crate::looping::{Kind, Loop};
 use crate::note::Guest;
@@ -24,25 +22,23 @@ impl Loop {
     pub(crate) fn go_on<R: Wait, G: PartGate>(
         &mut self,
         site: &Site<'_, R, G>,
-        desk: &mut Desk<'_, G>,
+        desks: &mut Desks<'_>,
         key: usize,
-    )
-        ensures shared { desk.new.shared ≡ desk.old.shared }
-    {
+    ) {
         let mut room = [0u8; ROOM];
         let before = self.sent(key);
         let did = self.hub.pump(site.alloc, key, &mut room, self.now);
         self.count(site, key, before);
-        if let Some(code) = self.refusal(site, key) {
-            self.let_go(site, desk, key, Parting::Refuses(code));
+        if let Some(code) = self.refusal(site, desks, key) {
+            self.let_go(site, desks, key, Parting::Refuses(code));
             return;
         }
         match did {
-            Some(Ok(step)) => self.follow(site, desk, key, step.pause),
-            Some(Err(fault)) => self.let_go(site, desk, key, Parting::Failed(fault)),
+            Some(Ok(step)) => self.follow(site, desks, key, step.pause),
+            Some(Err(fault)) => self.let_go(site, desks, key, Parting::Failed(fault)),
             None => {}
         }
-        self.keep_within(site, desk);
+        self.keep_within(site, desks);
     }
 
     /// How many messages were said to this peer.
@@ -59,7 +55,7 @@ impl Loop {
         if sent == before {
             return;
         }
-        let mut sessions = site.shared.sessions.lock(site.rt);
+        let mut sessions = site.common.sessions.lock(site.rt);
         for _message in before..sent {
             let _counted = sessions.note_sent(id);
         }
@@ -69,18 +65,16 @@ impl Loop {
     fn follow<R: Wait, G: PartGate>(
         &mut self,
         site: &Site<'_, R, G>,
-        desk: &mut Desk<'_, G>,
+        desks: &mut Desks<'_>,
         key: usize,
         pause: StepPause,
-    )
-        ensures shared { desk.new.shared ≡ desk.old.shared }
-    {
+    ) {
         match pause {
-            StepPause::Opens => self.open(site, desk, key),
-            StepPause::Over => self.let_go(site, desk, key, Parting::Over),
-            StepPause::More if self.is_long(site, key) => self.hand_over(site, desk, key),
-            StepPause::More => self.soon(site, desk, key),
-            StepPause::Waits if self.is_long(site, key) => self.hand_over(site, desk, key),
+            StepPause::Opens => self.open(site, desks, key),
+            StepPause::Over => self.let_go(site, desks, key, Parting::Over),
+            StepPause::More if self.is_long(site, key) => self.hand_over(site, desks, key),
+            StepPause::More => self.soon(site, desks, key),
+            StepPause::Waits if self.is_long(site, key) => self.hand_over(site, desks, key),
             StepPause::Waits => {}
         }
     }
@@ -96,13 +90,11 @@ impl Loop {
     pub(crate) fn soon<R: Wait, G: PartGate>(
         &mut self,
         site: &Site<'_, R, G>,
-        desk: &mut Desk<'_, G>,
+        desks: &mut Desks<'_>,
         key: usize,
-    )
-        ensures shared { desk.new.shared ≡ desk.old.shared }
-    {
+    ) {
         if !self.notes.set_listed(key, true) && self.soon.push(key).is_err() {
-            self.let_go(site, desk, key, Parting::Failed(LinkFault::Memory));
+            self.let_go(site, desks, key, Parting::Failed(LinkFault::Memory));
         }
     }
 
@@ -110,42 +102,37 @@ impl Loop {
     fn wait_for_place<R: Wait, G: PartGate>(
         &mut self,
         site: &Site<'_, R, G>,
-        desk: &mut Desk<'_, G>,
+        desks: &mut Desks<'_>,
         key: usize,
-    )
-        ensures shared { desk.new.shared ≡ desk.old.shared }
-    {
+    ) {
         if !self.notes.set_listed(key, true) && self.waiting.push(key).is_err() {
-            self.let_go(site, desk, key, Parting::Failed(LinkFault::Memory));
+            self.let_go(site, desks, key, Parting::Failed(LinkFault::Memory));
         }
     }
 
     /// The number of the refusal of this peer, if it speaks of no set that is here.
-    fn refusal<R, G>(&self, site: &Site<'_, R, G>, key: usize) -> Option<u8> {
-        let set = site.crowd.set?;
-        refusal_of(set, site.crowd.shards, self.hub.get(key)?)
+    fn refusal<R, G>(&self, site: &Site<'_, R, G>, desks: &Desks<'_>, key: usize) -> Option<u8> {
+        refusal_of(site.crowd.front, desks, self.hub.get(key)?)
     }
 
     /// Opens the session of this peer, if the table has a place for it; else the peer waits.
     fn open<R: Wait, G: PartGate>(
         &mut self,
         site: &Site<'_, R, G>,
-        desk: &mut Desk<'_, G>,
+        desks: &mut Desks<'_>,
         key: usize,
-    )
-        ensures shared { desk.new.shared ≡ desk.old.shared }
-    {
+    ) {
         if !site.crowd.take_place() {
-            self.wait_for_place(site, desk, key);
+            self.wait_for_place(site, desks, key);
             return;
         }
-        let opened = self.open_session(site, desk, key);
+        let opened = self.open_session(site, desks, key);
         self.book(site, key);
         if opened.is_err() {
-            self.let_go(site, desk, key, Parting::Failed(LinkFault::Memory));
+            self.let_go(site, desks, key, Parting::Failed(LinkFault::Memory));
             return;
         }
-        self.soon(site, desk, key);
+        self.soon(site, desks, key);
     }
 
     /// Enters the session of this peer into the table, if its first message was answered; else its place is given back.
@@ -164,7 +151,7 @@ impl Loop {
             return false;
         }
         let opened = site
-            .shared
+            .common
             .sessions
             .lock(site.rt)
             .open(peer.stage().bound());
@@ -180,11 +167,9 @@ impl Loop {
     fn hand_over<R: Wait, G: PartGate>(
         &mut self,
         site: &Site<'_, R, G>,
-        desk: &mut Desk<'_, G>,
+        desks: &mut Desks<'_>,
         key: usize,
-    )
-        ensures shared { desk.new.shared ≡ desk.old.shared }
-    {
+    ) {
         let index = site.crowd.taker_of(key);
         let id = self.notes.id(key);
         let Some(peer) = self.hub.take(key) else {
@@ -193,19 +178,17 @@ impl Loop {
         let fd = peer.reader().inner().as_raw_fd();
         let _gone = self.poll.registry().deregister(&mut SourceFd(&fd));
         if let Err(guest) = site.crowd.hand_over(site.rt, index, Guest { peer, id }) {
-            self.part_with(site, desk, guest, Parting::Failed(LinkFault::Memory));
+            self.part_with(site, desks, guest, Parting::Failed(LinkFault::Memory));
         }
     }
 
     /// Lets the peers go of which most is kept, until all keep no more than they may.
-    fn keep_within<R: Wait, G: PartGate>(&mut self, site: &Site<'_, R, G>, desk: &mut Desk<'_, G>)
-        ensures shared { desk.new.shared ≡ desk.old.shared }
-    {
+    fn keep_within<R: Wait, G: PartGate>(&mut self, site: &Site<'_, R, G>, desks: &mut Desks<'_>) {
         for _peer in 0..self.hub.len() {
             let Some(key) = self.hub.over_budget() else {
                 return;
             };
-            self.let_go(site, desk, key, Parting::Failed(LinkFault::Memory));
+            self.let_go(site, desks, key, Parting::Failed(LinkFault::Memory));
         }
     }
 }

@@ -3,18 +3,24 @@
 --                                        seen no less, and its writer, its entries and its cap are the same
 --     MayWork cap v                      a worker may begin with the seat, under a strategy for so many items
 --     PutIn x v w                        the seat has put the item into the log, or found it there
---     PutInOrDropped x v w dropped       .. or dropped it, since there was no room
---     PutInAll xs v w dropped            it has done so with each of these, in order, but for so many that were dropped
---     IsSettled lets_in serial xs v w    it has done so with the first of these, as many as the gate lets in of the
---                                        session with this serial
---     PutsInBy lets_in serial o v w      .. of what the outcome says was learned of the peer; nothing where it did not
---                                        end
---     PutsInLearned lets_in o v w        the same of a session whose serial is not said
+--     is_own own x                       the item is of this shard; of no shard but of a whole set each item is
+--     are_own own h                      each of these entries is
+--     PutInOrDropped own x v w dropped   .. or dropped it, since there was no room, or since it is of another shard
+--     PutInAll own xs v w dropped        it has done so with each of these, in order, but for so many that were dropped
+--     IsSettled lets_in serial own xs v w left   it has done so with the first of these, as many as the gate lets in of
+--                                        the session with this serial; so many are left out
+--     PutsInBy lets_in serial own o v w      .. of what the outcome says was learned of the peer; nothing where it did
+--                                        not end
+--     PutsInLearned lets_in o v w        the same of a session over a whole set whose serial is not said
 --     LookedOrNot v w                    the seat was used for one `pin`, or is as before
 --     Taught spoke learned               what was learned of a session that ended; or none, of one that did not
-use Rattle.std.specs.Prelude.{◌≡◌, ◌≤◌, ◌⊎◌, ◌+◌, ℕ, List, [], ◌∷◌, length, take, Option, Some, None, ⊤}
+use Rattle.std.specs.Prelude.{◌≡◌, ◌≤◌, ◌⊎◌, ◌+◌, ◌-◌, ℕ, Bool, true, false, ◌&&◌, List, [], ◌∷◌, length, take}
+use Rattle.std.specs.Prelude.{Option, Some, None, ⊤}
 use Rattle.definitions.specs.Items.{Item}
+use Rattle.definitions.specs.Histories.{History}
 use Rattle.definitions.specs.Talks.{Knowledge}
+use Rattle.shard_core.specs.Shards.{lies_in}
+use Rattle.shard_core.specs.declared.shard.OneShard.{OneShard}
 use Rattle.version_log.specs.declared.answer.Added.{Added}
 use Rattle.version_log.specs.declared.answer.LogFault.TheVariants.{Full, Memory}
 use Rattle.version_lock.specs.declared.view.View.{View}
@@ -38,35 +44,49 @@ pub record MayWork (cap : ℕ) (v : View) : Type 0 where
 abbrev pub PutIn : Item → View → View → Type 0
 PutIn x v w = (did : Added) × DidInsert x v did w
 
+abbrev pub is_own : Option OneShard → Item → Bool
+is_own None x = true
+is_own (Some one) x = lies_in one.bits one.number x
+
+abbrev pub are_own : Option OneShard → History → Bool
+are_own own [] = true
+are_own own (e ∷ h) = is_own own e.1 && are_own own h
+
 -- .. or has dropped it, since there was no room
-abbrev pub PutInOrDropped : Item → View → View → ℕ → Type 0
-PutInOrDropped x v w dropped =
-    (PutIn x v w × (dropped ≡ 0)) ⊎ (DidNotInsert x v Full w × (dropped ≡ 1))
+abbrev pub PutInOrFull : Item → View → View → ℕ → Type 0
+PutInOrFull x v w dropped = (PutIn x v w × (dropped ≡ 0)) ⊎ (DidNotInsert x v Full w × (dropped ≡ 1))
+
+-- .. or since it is of another shard
+abbrev pub PutInOrDropped : Option OneShard → Item → View → View → ℕ → Type 0
+PutInOrDropped own x v w dropped =
+    ((is_own own x ≡ true) × PutInOrFull x v w dropped)
+    ⊎ ((is_own own x ≡ false) × (w ≡ v) × (dropped ≡ 1))
 
 -- each is put in or dropped, in order; where memory runs out, that one and all that are left are dropped
-abbrev pub PutInAll : List Item → View → View → ℕ → Type 0
-PutInAll [] v w dropped = (w ≡ v) × (dropped ≡ 0)
-PutInAll (x ∷ xs) v w dropped =
-    ((next : View) × (one others : ℕ) × PutInOrDropped x v next one × PutInAll xs next w others
+abbrev pub PutInAll : Option OneShard → List Item → View → View → ℕ → Type 0
+PutInAll own [] v w dropped = (w ≡ v) × (dropped ≡ 0)
+PutInAll own (x ∷ xs) v w dropped =
+    ((next : View) × (one others : ℕ) × PutInOrDropped own x v next one × PutInAll own xs next w others
     × (dropped ≡ one + others))
     ⊎ (DidNotInsert x v Memory w × (dropped ≡ length (x ∷ xs)))
 
 -- `lets_in` is what the gate says of a session: of so many items it lets in so many
-abbrev pub IsSettled : (ℕ → ℕ → ℕ → Type 0) → ℕ → List Item → View → View → Type 0
-IsSettled lets_in serial xs v w = (count dropped : ℕ) × lets_in serial (length xs) count
-    × PutInAll (take count xs) v w dropped
+abbrev pub IsSettled : (ℕ → ℕ → ℕ → Type 0) → ℕ → Option OneShard → List Item → View → View → ℕ → Type 0
+IsSettled lets_in serial own xs v w left = (count dropped : ℕ) × lets_in serial (length xs) count
+    × PutInAll own (take count xs) v w dropped × (left ≡ length xs - length (take count xs) + dropped)
 
-abbrev pub PutsInBy : (ℕ → ℕ → ℕ → Type 0) → ℕ → Outcome → View → View → Type 0
-PutsInBy lets_in serial (outcomes.Ended learned sent version) v w = IsSettled lets_in serial learned.theirs v w
-PutsInBy lets_in serial (outcomes.Refused code sent) v w = w ≡ v
-PutsInBy lets_in serial (outcomes.PeerRefused code sent) v w = w ≡ v
-PutsInBy lets_in serial (outcomes.Io side sent) v w = w ≡ v
-PutsInBy lets_in serial (outcomes.Memory sent) v w = w ≡ v
+abbrev pub PutsInBy : (ℕ → ℕ → ℕ → Type 0) → ℕ → Option OneShard → Outcome → View → View → Type 0
+PutsInBy lets_in serial own (outcomes.Ended learned sent version) v w =
+    (left : ℕ) × IsSettled lets_in serial own learned.theirs v w left
+PutsInBy lets_in serial own (outcomes.Refused code sent) v w = w ≡ v
+PutsInBy lets_in serial own (outcomes.PeerRefused code sent) v w = w ≡ v
+PutsInBy lets_in serial own (outcomes.Io side sent) v w = w ≡ v
+PutsInBy lets_in serial own (outcomes.Memory sent) v w = w ≡ v
 
--- .. of a session whose serial is not said
+-- .. of a session over a whole set whose serial is not said
 abbrev pub PutsInLearned : (ℕ → ℕ → ℕ → Type 0) → Outcome → View → View → Type 0
 PutsInLearned lets_in (outcomes.Ended learned sent version) v w =
-    (serial : ℕ) × IsSettled lets_in serial learned.theirs v w
+    (serial left : ℕ) × IsSettled lets_in serial None learned.theirs v w left
 PutsInLearned lets_in (outcomes.Refused code sent) v w = w ≡ v
 PutsInLearned lets_in (outcomes.PeerRefused code sent) v w = w ≡ v
 PutsInLearned lets_in (outcomes.Io side sent) v w = w ≡ v

@@ -26,5 +26,5 @@ pub use gate::{Gate, OpenGate};
 pub use kind::kind_of;
 pub use outcome_core::{Direction, Outcome, Source, SourceFault, WorkersReport};
 pub use shared::Shared;
-pub use worker::settle;
+pub use worker::{Harvest, settle};
 pub use workers::run_workers;

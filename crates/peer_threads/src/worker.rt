@@ -1,6 +1,6 @@
 //! One worker: it takes connections from the source, serves each, and adds what their peers were first to know.
 
-ghost use Rattle.std.specs.Prelude.{◌≡◌, ◌≤◌, ◌+◌, false, IsSome, IfOk, IfErr, OnOk, OnErr, length, take};
+ghost use Rattle.std.specs.Prelude.{◌≡◌, ◌≤◌, ◌+◌, true, false, IsSome, IfOk, IfErr, OnOk, OnErr, length, take};
 ghost use Rattle.std.specs.Arc.{arc_value};
 ghost use Rattle.definitions.specs.Histories.{content};
 ghost use Rattle.definitions.specs.Ranks.{rank_by};
@@ -10,7 +10,7 @@ ghost use Rattle.outcome_core.specs.declared.outcome.Outcome as outcomes;
 ghost use Rattle.peer_threads.specs.Choices.{ChosenSpeaks};
 ghost use Rattle.peer_threads.specs.Outcomes.{traffic, seen, peer_at};
 ghost use Rattle.peer_threads.specs.Workers.{MayWork, PutIn, PutInAll, IsSettled, LookedOrNot, Taught, PutsInLearned};
-ghost use Rattle.peer_threads.specs.Workers.{PutInOrDropped, learned_in};
+ghost use Rattle.peer_threads.specs.Workers.{PutInOrDropped, PutInOrFull, are_own, is_own, learned_in};
 ghost use Rattle.version_log.specs.declared.answer.LogFault.TheVariants.{Memory};
 
 use crate::connection::Connection;
@@ -21,6 +21,7 @@ use crate::shared::Shared;
 use ends_core::Learned;
 use item_core::Item;
 use outcome_core::{Outcome, Source, SourceFault};
+use shard_core::OneShard;
 use std::alloc::{AllocError, Global};
 use std::io::{Read, Write};
 use std::sync::{OnceLock, Wait};
@@ -140,7 +141,12 @@ fn serve<T: Wait, S: RangeStore, G: Gate, R: Read + Drop, W: Write + Drop>(
         × PutsInLearned (G.lets_in shared.now.gate.now) o between seat.new.view }
 {
     if let Some((serial, learned)) = talk_to(rt, alloc, shared, seat, &mut connection) {
-        settle(rt, alloc, shared, seat, serial, &learned);
+        let harvest = Harvest {
+            serial,
+            own: None,
+            learned: &learned,
+        };
+        let _left_out = settle(rt, alloc, shared, seat, harvest);
     }
     connection
 }
@@ -185,45 +191,68 @@ fn talk_to<T: Wait, S: RangeStore, G: Gate, R: Read, W: Write>(
     }
 }
 
-/// Puts into the log what the gate admits of the items that the session with this serial learned of its peer, in the
-/// order learned, and tells the gate how many are left out. An item for which there is no room is dropped; where memory
-/// runs out, so are all that are left.
+/// What a session that ended learned, and where it may be put.
+#[derive(Clone, Copy)]
+pub struct Harvest<'a> {
+    /// The serial of the session.
+    pub serial: u64,
+    /// The shard that the log has the items of; none if it has those of a whole set.
+    pub own: Option<OneShard>,
+    /// What the session learned.
+    pub learned: &'a Learned,
+}
+
+/// Puts into the log what the gate admits of the items that a session learned of its peer, in the order learned, and
+/// tells the gate how many are left out. An item of another shard, or for which there is no room, is dropped; where
+/// memory runs out, so are all that are left. How many are left out.
 pub fn settle<T: Wait, S: RangeStore, G: Gate>(
     rt: &T,
     alloc: Global,
     shared: &Shared<'_, S, G>,
     seat: &mut Seat<S>,
-    serial: u64,
-    learned: &Learned,
-)
+    harvest: Harvest<'_>,
+) -> usize
     requires lock { seat.old.table_id ≡ shared.now.lock.now }
     requires enrolled { IsSome seat.old.view.writer }
     ensures seat { seat.new.table_id ≡ seat.old.table_id }
     ensures kept { (seat.new.view.writer ≡ seat.old.view.writer) × (seat.new.view.cap ≡ seat.old.view.cap) }
-    ensures put { IsSettled (G.lets_in shared.now.gate.now) serial learned.now.theirs seat.old.view seat.new.view }
+    ensures put { IsSettled (G.lets_in shared.now.gate.now) harvest.entry.serial harvest.entry.own
+        harvest.entry.learned.now.theirs seat.old.view seat.new.view result }
+    // What it has entered before was of the shard, and so all is.
+    ensures own { are_own harvest.entry.own seat.old.view.entered ≡ true →
+        are_own harvest.entry.own seat.new.view.entered ≡ true }
 {
+    let Harvest {
+        serial,
+        own,
+        learned,
+    } = harvest;
     let theirs = learned.theirs();
     let count = theirs.len();
     let admitted = count_of_first(theirs, shared.gate.admits(serial, count));
-    let dropped = add_first(rt, alloc, shared, seat, theirs, admitted);
-    shared.gate.settled(serial, count - admitted + dropped);
+    let dropped = add_first(rt, alloc, shared, seat, own, theirs, admitted);
+    let left_out = count - admitted + dropped;
+    shared.gate.settled(serial, left_out);
+    left_out
 }
 
 // How many the first so many items are: all where there are no more.
 fn count_of_first(items: &PackedItems, count: usize) -> usize
     ensures first { take result items.now ≡ take count items.now }
+    ensures size { result ≡ length (take count items.now) }
     ensures few { result ≤ length items.now }
 {
     count.min(items.len())
 }
 
-// Adds the first so many of the items to the log, in order. An item for which there is no room is dropped. Where memory
-// runs out it stops, and all that are left of them are dropped. How many were dropped, of which the gate is told.
+// Adds the first so many of the items to the log, in order. One of another shard, or for which there is no room, is
+// dropped. Where memory runs out it stops, and all that are left of them are dropped. How many were dropped.
 fn add_first<T: Wait, S: RangeStore, G: Gate>(
     rt: &T,
     alloc: Global,
     shared: &Shared<'_, S, G>,
     seat: &mut Seat<S>,
+    own: Option<OneShard>,
     items: &PackedItems,
     first: usize,
 ) -> usize
@@ -233,11 +262,11 @@ fn add_first<T: Wait, S: RangeStore, G: Gate>(
     ensures seat { seat.new.table_id ≡ seat.old.table_id }
     ensures kept { (seat.new.view.writer ≡ seat.old.view.writer) × (seat.new.view.cap ≡ seat.old.view.cap) }
     ensures dropped { result ≤ first }
-    ensures put { PutInAll (take first items.now) seat.old.view seat.new.view result }
+    ensures put { PutInAll own (take first items.now) seat.old.view seat.new.view result }
 {
     let mut dropped = 0;
     for place in 0..first {
-        match add_or_drop(rt, alloc, shared, seat, &items.item(place)) {
+        match add_own(rt, alloc, shared, seat, own, &items.item(place)) {
             Ok(count) => dropped += count,
             Err(AllocError) => {
                 let left = first - place;
@@ -247,6 +276,39 @@ fn add_first<T: Wait, S: RangeStore, G: Gate>(
         }
     }
     dropped
+}
+
+// Whether the item is of this shard; of no shard but of a whole set each item is.
+fn is_own(own: Option<OneShard>, item: &Item) -> bool
+    ensures { result ≡ is_own own item.now }
+{
+    match own {
+        Some(one) => one.owns(item),
+        None => true,
+    }
+}
+
+// Adds the item to the log, if it is of this shard. How many were dropped.
+fn add_own<T: Wait, S: RangeStore, G: Gate>(
+    rt: &T,
+    alloc: Global,
+    shared: &Shared<'_, S, G>,
+    seat: &mut Seat<S>,
+    own: Option<OneShard>,
+    item: &Item,
+) -> Result<usize, AllocError>
+    requires lock { seat.old.table_id ≡ shared.now.lock.now }
+    requires enrolled { IsSome seat.old.view.writer }
+    ensures seat { seat.new.table_id ≡ seat.old.table_id }
+    ensures kept { (seat.new.view.writer ≡ seat.old.view.writer) × (seat.new.view.cap ≡ seat.old.view.cap) }
+    ensures few { IfOk result (λ count. count ≤ 1) }
+    ensures put { IfOk result (PutInOrDropped own item.now seat.old.view seat.new.view) }
+    ensures memory { OnErr result (DidNotInsert item.now seat.old.view Memory seat.new.view) }
+{
+    if !is_own(own, item) {
+        return Ok(1);
+    }
+    add_or_drop(rt, alloc, shared, seat, item)
 }
 
 // Adds the item to the log. Where there is no room for it, it is dropped, and the gate is told. How many were dropped.
@@ -262,7 +324,7 @@ fn add_or_drop<T: Wait, S: RangeStore, G: Gate>(
     ensures seat { seat.new.table_id ≡ seat.old.table_id }
     ensures kept { (seat.new.view.writer ≡ seat.old.view.writer) × (seat.new.view.cap ≡ seat.old.view.cap) }
     ensures few { IfOk result (λ count. count ≤ 1) }
-    ensures put { IfOk result (PutInOrDropped item.now seat.old.view seat.new.view) }
+    ensures put { IfOk result (PutInOrFull item.now seat.old.view seat.new.view) }
     ensures memory { OnErr result (DidNotInsert item.now seat.old.view Memory seat.new.view) }
 {
     match add(rt, alloc, shared, seat, item) {

@@ -15,6 +15,7 @@ use item_files::{
 use printing_core::{Fault, Refusal, STANDARD_INPUT, tell_stray_key};
 use range_tree::Tree;
 use settings_core::{ServeWords, SyncWords};
+use shard_loading::ShardedSet;
 use std::alloc::{AllocError, Global};
 use std::fs::File;
 use std::io::{Read, Write};
@@ -25,13 +26,13 @@ use strategy_check::Accepted;
 use toml::value::Table;
 use version_log::Log;
 
-/// A strategy that was accepted, and a log of at most as many items as its cap.
+/// A strategy that was accepted, and a set or some of its shards, each of at most as many items as its cap.
 #[derive(Drop)]
 pub struct Loaded {
     /// The strategy.
     pub accepted: Accepted,
-    /// The log, whose cap is the strategy's.
-    pub log: Log<Tree>,
+    /// The set, or its shards, whose cap is the strategy's.
+    pub set: ShardedSet,
     /// What else was opened.
     pub kept: Kept,
 }
@@ -308,7 +309,7 @@ pub fn load<'a, R: Files<File = File> + AllocGlobal + Threads + Sync, I: Read + 
     reader: I,
     err: &mut E,
 ) -> Result<Loaded, Refusal<'a>>
-    ensures { IfOk result (λ o. o.log.cap ≡ o.accepted.table.cap) }
+    ensures { IfOk result (λ o. o.set.cap ≡ o.accepted.table.cap) }
 {
     let alloc = rt.alloc();
     let accepted = strategy_of(rt, sources.table, err)?;
@@ -324,9 +325,10 @@ pub fn load<'a, R: Files<File = File> + AllocGlobal + Threads + Sync, I: Read + 
     };
     let (store, bytes) = stored(rt, alloc, items)?;
     let log = Log::of_store(alloc, accepted.cap(), store, bytes)?;
+    let set = ShardedSet::whole(alloc, log)?;
     Ok(Loaded {
         accepted,
-        log,
+        set,
         kept,
     })
 }

@@ -5,9 +5,8 @@ ghost use Rattle.shard_core.specs.Shards.{max_bits};
 ghost use Rattle.shard_core.specs.Splits.{held};
 ghost use Rattle.shard_core.specs.Spans.{AreKept};
 
-use crate::books::Kept;
 use crate::disk::Opened;
-use crate::loading::{Sources, open_kept, strategy_of};
+use crate::loading::{Loaded, Sources, open_kept, strategy_of};
 use crate::showing::{Screen, Shown};
 use io_core::Watched;
 use item_core::Item;
@@ -24,17 +23,6 @@ use std::thread::Threads;
 use std::time::Clock;
 use std::{fs, io};
 use strategy_check::Accepted;
-
-/// A strategy that was accepted, and some shards of a set, each of at most as many items as its cap.
-#[derive(Drop)]
-pub struct LoadedShards {
-    /// The strategy.
-    pub accepted: Accepted,
-    /// The shards.
-    pub set: ShardedSet,
-    /// What else was opened.
-    pub kept: Kept,
-}
 
 /// Why a file is not read that was not opened, or not set to its start.
 fn unread(error: &io::Error) -> LoadFault {
@@ -212,7 +200,7 @@ fn load_all<'a, R, I: Read + Drop, E: Write>(
     options: LoadOptions,
     reader: I,
     screen: &mut Screen<'_, R, E>,
-) -> Result<LoadedShards, Refusal<'a>>
+) -> Result<Loaded, Refusal<'a>>
 where
     R: Files<File = File> + AllocGlobal + Threads + Clock + Sync,
     requires low { options.bits ≤ max_bits }
@@ -229,7 +217,7 @@ where
     screen.hash(count_of(&shards));
     let LoadOptions { bits, first, .. } = options;
     let set = ShardedSet::of(rt, rt.alloc(), bits, first, accepted.cap(), shards)?;
-    Ok(LoadedShards {
+    Ok(Loaded {
         accepted,
         set,
         kept,
@@ -253,7 +241,7 @@ pub fn load_shards<
     sharding: Sharding,
     reader: I,
     err: &mut E,
-) -> Result<LoadedShards, Refusal<'a>>
+) -> Result<Loaded, Refusal<'a>>
     ensures places { IfOk result (λ o. 2 ^ o.set.bits ≤ o.accepted.table.cap) }
     ensures cap { IfOk result (λ o. o.set.cap ≡ o.accepted.table.cap) }
 {

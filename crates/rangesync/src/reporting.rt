@@ -282,6 +282,13 @@ impl<R: Wait + Clock, D: Device + Drop, E: Write + Drop> Reporter<'_, '_, R, D, 
             self.looking.ask(self.rt);
         }
     }
+
+    /// Reports a session that is over.
+    fn report(&self, session: SessionName, outcome: &Outcome) {
+        self.ask_anew();
+        let mut desk = self.desk.lock(self.rt);
+        desk.report(self.alloc, self.rules.reporting, session, outcome);
+    }
 }
 
 impl<R, E: Write + Drop> Reporter<'_, '_, R, Disk<File>, E>
@@ -340,13 +347,11 @@ impl<R: Wait + Clock, D: Device + Drop, E: Write + Drop> Gate for Reporter<'_, '
     }
 
     fn ended(&self, serial: u64, outcome: &Outcome) {
-        self.ask_anew();
-        let mut desk = self.desk.lock(self.rt);
         let session = SessionName {
             serial,
             which: None,
         };
-        desk.report(self.alloc, self.rules.reporting, session, outcome);
+        self.report(session, outcome);
     }
 
     fn admits(&self, _serial: u64, count: usize) -> usize {
@@ -379,13 +384,11 @@ impl<R: Wait + Clock, D: Device + Drop, E: Write + Drop> Gate for Reporter<'_, '
 }
 
 impl<R: Wait + Clock, D: Device + Drop, E: Write + Drop> PartGate for Reporter<'_, '_, R, D, E> {
-    fn ended_in(&self, serial: u64, which: Which, outcome: &Outcome) {
-        self.ask_anew();
-        let mut desk = self.desk.lock(self.rt);
+    fn ended_in(&self, serial: u64, part: Option<Which>, outcome: &Outcome) {
         let session = SessionName {
             serial,
-            which: Some(which),
+            which: part,
         };
-        desk.report(self.alloc, self.rules.reporting, session, outcome);
+        self.report(session, outcome);
     }
 }

@@ -11,14 +11,15 @@ use crate::loops::Loops;
 use crate::naming::{set_of, told_of};
 use crate::planning::plan;
 use crate::reaching::{addresses_of, at_addresses};
-use crate::serve::{Outputs, Serving, Stock, serve};
+use crate::serve::{Outputs, Serving, serve};
 use crate::sharding::shards_of;
 use crate::stdio::{flaw_of, serve_stdio, sync_stdio};
-use crate::stocking::stock_logged;
+use crate::stocking::load_logged;
 use crate::sync::{Asking, sync};
 use crate::sync_shards::{AskingShards, sync_shards};
 use answer_core::{answer, list_reply};
 use io_core::{Watched, read_input, write_output};
+use peer_loops::Front;
 use printing_core::{
     Fault, Refusal, STANDARD_INPUT, Why, decode_text, difference_status, encode_lines, tell,
     tell_name_flaw, tell_shard_flaw, tell_stdio_flaw, tell_why, tell_words,
@@ -114,6 +115,20 @@ struct Target<'a> {
     explains: bool,
 }
 
+impl<'a> Target<'a> {
+    /// What peers have to say to a server of it before their hello.
+    fn front(&self) -> Front<'a> {
+        let Some(set) = self.set else {
+            return Front::Open;
+        };
+        if self.sharding.is_some() {
+            Front::Cut(set)
+        } else {
+            Front::Named(set)
+        }
+    }
+}
+
 /// Does what `serve` is asked for: one session over standard input and output, or sessions with those who connect.
 fn serve_as_asked<'a, R, I: Read + Drop, O: Write + Drop, E: Write + Drop + Send>(
     rt: &'a R,
@@ -127,7 +142,7 @@ where
     requires { IsWorkerCount words.workers }
 {
     let (reader, outputs) = ends;
-    let serving = Serving::asked(words, target.set);
+    let serving = Serving::asked(words, target.front());
     let sources = Sources::of_server(words, target.explains, target.shows);
     if words.stdio {
         let loaded = load(rt, sources, io::empty(), err)?;
@@ -135,8 +150,8 @@ where
     } else {
         let Outputs { out, mut log } = outputs;
         let input = (reader, words.log);
-        let stock = stock_logged(rt, sources, target.sharding, input, &mut log, err)?;
-        serve(rt, stock, serving, Outputs { out, log }, err)
+        let loaded = load_logged(rt, sources, target.sharding, input, &mut log, err)?;
+        serve(rt, loaded, serving, Outputs { out, log }, err)
     }
 }
 

@@ -3,6 +3,7 @@
 ghost use Rattle.std.specs.Prelude.{◌≡◌, ◌≤◌, true, false, Some};
 ghost use Rattle.std.specs.Arc.{arc_value};
 ghost use Rattle.settings_core.specs.Spans.{IsWorkerCount};
+ghost use Rattle.shard_loading.specs.Sharded.{HaveCap};
 ghost use Rattle.rangesync.specs.Limits.{IsLimitsOf};
 
 use crate::books::{Paths, open_books};
@@ -16,8 +17,8 @@ use crate::reaching::listen_at;
 use crate::reporting::{Closed, Reporter, Rules};
 use crate::watching::{Beginning, Window, open_window, watch};
 use io_core::{Watched, WriterFailed, write_output};
-use peer_loops::{Board, PeerLimits, Service, Shards, serve_peers};
-use peer_threads::{Shared, WorkersReport};
+use peer_loops::{Board, Common, Front, Parts, PeerLimits, Served, Service, serve_peers};
+use peer_threads::WorkersReport;
 use printing_core::{
     Fault, Refusal, Reporting, listening_line, refusal_of, served_text, tell_address, tell_dropped,
     tell_in_memory,
@@ -25,8 +26,7 @@ use printing_core::{
 use range_tree::Tree;
 use session_table::SessionTable;
 use settings_core::ServeWords;
-use shard_core::SetName;
-use shard_log::ShardLog;
+use shard_core::OneShard;
 use std::alloc::{AllocError, Global};
 use std::fs::File;
 use std::io::Write;
@@ -35,8 +35,9 @@ use std::rt::Files;
 use std::sync::{Arc, Mutex, Wait};
 use std::thread::join;
 use std::time::Clock;
+use strategy_check::Accepted;
 use tcp_front::{Limits, Listener};
-use version_lock::{Seat, VersionLock};
+use version_log::Log;
 
 /// How sessions are served.
 #[derive(Clone, Copy)]
@@ -55,15 +56,15 @@ pub struct Serving<'a> {
     pub rules: Rules,
     /// How those see it who watch it.
     pub watching: Watching<'a>,
-    /// What the set is called, if peers have to say it.
-    pub set: Option<SetName<'a>>,
+    /// What peers have to say before their hello.
+    pub front: Front<'a>,
 }
 
 impl<'a> Serving<'a> {
-    /// What is asked for in these words, of a set that is called so.
-    pub fn asked(words: ServeWords<'a>, set: Option<SetName<'a>>) -> Serving<'a>
+    /// What is asked for in these words, and what peers have to say before their hello.
+    pub fn asked(words: ServeWords<'a>, front: Front<'a>) -> Serving<'a>
         ensures served { (result.address ≡ words.entry.address) × (result.workers ≡ words.entry.workers)
-            × (result.sessions ≡ words.entry.sessions) × (result.set ≡ set.entry) }
+            × (result.sessions ≡ words.entry.sessions) × (result.front ≡ front.entry) }
         ensures limits { IsLimitsOf words.entry result.limits }
         ensures files { (result.paths.report ≡ words.entry.report) × (result.paths.learned ≡ words.entry.learned)
             × (result.paths.keep ≡ words.entry.keep) × (result.rules.is_durable ≡ words.entry.durable) }
@@ -102,31 +103,8 @@ impl<'a> Serving<'a> {
                 log: words.log,
                 set: words.set,
             },
-            set,
+            front,
         }
-    }
-}
-
-/// What a server serves: the log that was loaded; or the shards of a set, beside an empty log.
-#[derive(Drop)]
-pub struct Stock {
-    /// What was loaded.
-    pub loaded: Loaded,
-    /// The logs of the shards, whose numbers follow one another, if the set is cut into shards.
-    pub shards: Option<Vec<ShardLog>>,
-}
-
-impl Stock {
-    /// How many items were loaded: those of all shards, if the set is cut into shards.
-    pub fn count(&self) -> u64 {
-        let Some(shards) = &self.shards else {
-            return self.loaded.log.count() as u64;
-        };
-        let mut count: u64 = 0;
-        for shard in shards {
-            count = count.saturating_add(shard.count() as u64);
-        }
-        count
     }
 }
 
@@ -254,30 +232,27 @@ fn forgets(serving: Serving<'_>) -> bool {
 /// The gate of a server: it writes to the files of a disk.
 type Desk<'r, 'a, R, E> = Reporter<'r, 'a, R, Disk<File>, E>;
 
-/// Serves by loops, who are lent this seat, until the source has no more.
+/// Serves by loops until the source has no more.
 fn work<R: Loops, E: Write + Drop + Send>(
     rt: &R,
-    shared: &Shared<'_, Tree, Desk<'_, '_, R, E>>,
-    seat: Seat<Tree>,
+    common: &Common<'_, Desk<'_, '_, R, E>>,
+    parts: Parts,
     listener: &Listener<'_, R>,
     service: Service<'_>,
-) -> WorkersReport
-    requires lock { seat.table_id ≡ shared.now.lock.now }
-    requires fits { seat.view.cap ≤ (arc_value shared.now.accepted.now).table.cap }
+) -> Served
     requires workers { IsWorkerCount service.loops }
 {
-    let mut seat = seat;
-    let report = serve_peers(rt, shared, &mut seat, listener, service);
-    shared.gate.end();
+    let served = serve_peers(rt, common, parts, listener, service);
+    common.gate.end();
     service.board.end(rt);
-    report
+    served
 }
 
 /// Prints a line for each session, if that is asked for, and answers those who watch the server, if there is a window,
 /// until the server is done.
 fn log_and_show<R: Loops, E: Write + Drop + Send, L: Write + Drop + Send>(
     rt: &R,
-    shared: &Shared<'_, Tree, Desk<'_, '_, R, E>>,
+    common: &Common<'_, Desk<'_, '_, R, E>>,
     window: Option<&Window<'_, R>>,
     board: &Board,
     log: Option<L>,
@@ -286,7 +261,7 @@ fn log_and_show<R: Loops, E: Write + Drop + Send, L: Write + Drop + Send>(
         rt,
         move || {
             if let Some(window) = window {
-                watch(rt, window, shared, board);
+                watch(rt, window, common, board);
             }
         },
         move || {
@@ -301,63 +276,57 @@ fn log_and_show<R: Loops, E: Write + Drop + Send, L: Write + Drop + Send>(
 /// each session, if that is asked for. If no thread can be made, that is done after them, and ends at once.
 fn work_shown<R: Loops, E: Write + Drop + Send, L: Write + Drop + Send>(
     rt: &R,
-    shared: &Shared<'_, Tree, Desk<'_, '_, R, E>>,
-    seat: Seat<Tree>,
+    common: &Common<'_, Desk<'_, '_, R, E>>,
+    parts: Parts,
     doors: (&Listener<'_, R>, Option<&Window<'_, R>>),
     service: Service<'_>,
     log: Option<L>,
-) -> WorkersReport
-    requires lock { seat.table_id ≡ shared.now.lock.now }
-    requires fits { seat.view.cap ≤ (arc_value shared.now.accepted.now).table.cap }
+) -> Served
     requires workers { IsWorkerCount service.loops }
 {
     let (listener, window) = doors;
     if window.is_none() && log.is_none() {
-        return work(rt, shared, seat, listener, service);
+        return work(rt, common, parts, listener, service);
     }
     let board = service.board;
-    let (_shown, report) = join(
+    let (_shown, served) = join(
         rt,
-        move || log_and_show(rt, shared, window, board, log),
-        move || -> WorkersReport
-            requires { (seat.table_id ≡ shared.now.lock.now)
-                × (seat.view.cap ≤ (arc_value shared.now.accepted.now).table.cap) × IsWorkerCount service.loops }
-        { work(rt, shared, seat, listener, service) },
+        move || log_and_show(rt, common, window, board, log),
+        move || -> Served
+            requires { IsWorkerCount service.loops }
+        { work(rt, common, parts, listener, service) },
     );
-    report
+    served
 }
 
 /// Serves in a thread, while this one does what a thread that `join` makes cannot do: it tends the files, if there are
 /// any. If no thread can be made, that ends after two seconds, and then this one serves.
 fn work_tended<R: Loops, E: Write + Drop + Send, L: Write + Drop + Send, T: FnOnce() + Drop>(
     rt: &R,
-    shared: &Shared<'_, Tree, Desk<'_, '_, R, E>>,
-    seat: Seat<Tree>,
+    common: &Common<'_, Desk<'_, '_, R, E>>,
+    parts: Parts,
     doors: (&Listener<'_, R>, Option<&Window<'_, R>>),
     service: Service<'_>,
     log: Option<L>,
     tend: T,
-) -> WorkersReport
-    requires lock { seat.table_id ≡ shared.now.lock.now }
-    requires fits { seat.view.cap ≤ (arc_value shared.now.accepted.now).table.cap }
+) -> Served
     requires workers { IsWorkerCount service.loops }
     requires tends { T.pre tend }
 {
-    if !shared.gate.may_wait() {
-        return work_shown(rt, shared, seat, doors, service, log);
+    if !common.gate.may_wait() {
+        return work_shown(rt, common, parts, doors, service, log);
     }
-    let (report, _tended) = join(
+    let (served, _tended) = join(
         rt,
-        move || -> WorkersReport
-            requires { (seat.table_id ≡ shared.now.lock.now)
-                × (seat.view.cap ≤ (arc_value shared.now.accepted.now).table.cap) × IsWorkerCount service.loops }
+        move || -> Served
+            requires { IsWorkerCount service.loops }
         {
-            shared.gate.begin();
-            work_shown(rt, shared, seat, doors, service, log)
+            common.gate.begin();
+            work_shown(rt, common, parts, doors, service, log)
         },
         tend,
     );
-    report
+    served
 }
 
 /// The refusal of a run whose workers ended so, and whose files were closed so.
@@ -366,69 +335,69 @@ fn ending(report: WorkersReport, closed: Closed) -> Result<(), Fault> {
     closed.all_written()
 }
 
-/// These shards, as loops serve them.
-fn shards_of(alloc: Global, logs: Option<Vec<ShardLog>>) -> Result<Option<Shards>, AllocError> {
-    match logs {
-        Some(logs) => Ok(Some(Shards::new(alloc, logs)?)),
-        None => Ok(None),
+/// Which items may be put into the part of this number: those of its shard, if the set is cut into shards, else all.
+fn own_of(front: Front<'_>, number: u16) -> Option<OneShard> {
+    match front {
+        Front::Cut(set) => Some(OneShard {
+            bits: set.bits,
+            number,
+        }),
+        Front::Open | Front::Named(_) => None,
     }
 }
 
-/// What a server begins with that serves these shards, or else its log.
-fn beginning_with<'a, R: Wait>(
-    rt: &R,
-    beginning: Beginning<'a>,
-    shards: Option<&Shards>,
-) -> Beginning<'a> {
-    match shards {
-        Some(shards) => beginning.with_shards(rt, shards),
-        None => beginning,
+/// The parts with these logs, of which the first has this number.
+fn parts_of(
+    alloc: Global,
+    accepted: &Arc<Accepted>,
+    front: Front<'_>,
+    first: u16,
+    logs: Vec<Log<Tree>>,
+) -> Result<Parts, AllocError>
+    requires { HaveCap (arc_value accepted.now).table.cap logs.items }
+{
+    let mut parts = Parts::new(alloc, first);
+    let mut number = first;
+    for log in logs {
+        parts.add(alloc, accepted, own_of(front, number), log)?;
+        number = number.saturating_add(1);
     }
-}
-
-/// How many items a server has whose log has so many: those of the shards, if it serves them.
-fn items_in<R: Wait>(rt: &R, items: usize, shards: Option<&Shards>) -> usize {
-    match shards {
-        Some(shards) => shards.count(rt),
-        None => items,
-    }
+    Ok(parts)
 }
 
 /// Serves sessions until there are no more connections, and prints what was counted. What is asked for of each session
 /// goes to its files; what cannot be written waits, and is tried again at the next line and each second. Standard error
 /// is told when that begins and when it goes on, and at the end how many learned items were dropped, if any were.
 ///
-/// Where it is asked for, those who watch are answered, and standard error gets a line for each session. Of shards the
-/// number of items that is printed is that of all.
+/// Where it is asked for, those who watch are answered, and standard error gets a line for each session. The number of
+/// items that is printed is that of all parts.
 ///
 /// Else 90, 80, 60, or `io write`; and after what was counted 62, or 90 where no worker started, or `io write` where
 /// lines of a file are lost.
 pub fn serve<'a, R: Files<File = File> + Loops, O: Write + Drop, E: Write + Drop + Send>(
     rt: &'a R,
-    stock: Stock,
+    loaded: Loaded,
     serving: Serving<'a>,
     outputs: Outputs<O, E>,
     err: &mut E,
 ) -> Result<(), Refusal<'a>>
-    requires cap { stock.loaded.log.cap ≡ stock.loaded.accepted.table.cap }
+    requires cap { loaded.set.cap ≡ loaded.accepted.table.cap }
     requires workers { IsWorkerCount serving.workers }
 {
     let alloc = rt.alloc();
     let Outputs { out, log: lines } = outputs;
     let mut out = out;
-    let Stock { loaded, shards } = stock;
     let Loaded {
         accepted,
-        log,
+        set,
         kept,
     } = loaded;
-    let shards = shards_of(alloc, shards)?;
     let cap = accepted.cap() as usize;
-    let beginning = Beginning::now(rt, serving.address, &log);
+    let beginning = Beginning::now(rt, serving.address, &set);
     let beginning = beginning.named(serving.watching.set, serving.paths.keep);
-    let beginning = beginning_with(rt, beginning, shards.as_ref());
     let accepted = Arc::new(alloc, accepted)?;
-    let (lock, mut seat) = VersionLock::new(alloc, log)?;
+    let first = set.first();
+    let parts = parts_of(alloc, &accepted, serving.front, first, set.into_logs())?;
     let sessions = Mutex::new(SessionTable::new(alloc, places(serving.limits.peers))?);
     let board = Board::new(alloc)?;
     let books = open_books(rt, serving.paths, kept, err)?;
@@ -437,33 +406,29 @@ pub fn serve<'a, R: Files<File = File> + Loops, O: Write + Drop, E: Write + Drop
         tell_in_memory(err);
     }
     let reporter = Reporter::new(rt, alloc, serving.rules, cap, books, &mut *err);
-    let shared = Shared {
-        lock: &lock,
+    let common = Common {
         accepted: &accepted,
         sessions: &sessions,
         gate: &reporter,
     };
-    let own = lock.split_seat(&mut seat);
     let service = Service {
         loops: serving.workers,
         limits: serving.limits,
         board: &board,
-        set: serving.set,
-        shards: shards.as_ref(),
+        front: serving.front,
     };
     let log = serving.watching.log.then_some(lines);
     let doors = (&listener, window.as_ref());
-    let report = work_tended(rt, &shared, own, doors, service, log, || reporter.tend());
+    let tend = || reporter.tend();
+    let served = work_tended(rt, &common, parts, doors, service, log, tend);
     reporter.follow(When::Last);
     remove_files(rt, &listener, window.as_ref());
     let closed = reporter.close();
     tell_dropped(err, closed.dropped);
     let totals = sessions.into_inner().totals();
-    let items = lock.close_with(rt, seat).count();
-    let items = items_in(rt, items, shards.as_ref());
-    let text = served_text(alloc, totals, items)?;
+    let text = served_text(alloc, totals, served.items)?;
     write_output(&mut Watched::new(out), text.as_bytes())?;
-    match ending(report, closed) {
+    match ending(served.report, closed) {
         Ok(()) => Ok(()),
         Err(fault) => Err(Refusal::of_serving(fault)),
     }

@@ -19,7 +19,7 @@ use crate::serve::Serving;
 use crate::sync::{Asking, ask, millis_since};
 use digest_core::{Counted, Fingerprint, Summary};
 use io_core::{Watched, write_output};
-use peer_threads::{Connection, Gate, Outcome, Shared, serve_one, settle};
+use peer_threads::{Connection, Gate, Harvest, Outcome, Shared, serve_one, settle};
 use printing_core::{
     Fault, Refusal, Stats, Tally, finds_any, outcome_text, refusal_of_session, served_text,
     tell_dropped, tell_stats,
@@ -101,7 +101,12 @@ fn answer_peer<T: Wait, G: Gate, I: Read, O: Write>(
             sent,
             version,
         } => {
-            settle(rt, alloc, shared, seat, SERIAL, &learned);
+            let harvest = Harvest {
+                serial: SERIAL,
+                own: None,
+                learned: &learned,
+            };
+            let _left_out = settle(rt, alloc, shared, seat, harvest);
             Outcome::Ended {
                 learned,
                 sent,
@@ -266,17 +271,17 @@ pub fn serve_stdio<'a, R, I: Read + Drop, O: Write + Drop, E: Write + Send>(
 ) -> Result<(), Refusal<'a>>
 where
     R: Files<File = File> + Wait + Clock + AllocGlobal,
-    requires cap { loaded.log.cap ≡ loaded.accepted.table.cap }
+    requires cap { loaded.set.cap ≡ loaded.accepted.table.cap }
 {
     let alloc = rt.alloc();
     let Loaded {
         accepted,
-        log,
+        set,
         kept,
     } = loaded;
     let cap = accepted.cap() as usize;
     let accepted = Arc::new(alloc, accepted)?;
-    let (lock, mut seat) = VersionLock::new(alloc, log)?;
+    let (lock, mut seat) = VersionLock::new(alloc, set.into_first())?;
     let sessions = Mutex::new(SessionTable::starting_at(alloc, 1, SERIAL)?);
     let books = open_books(rt, serving.paths, kept, err)?;
     if lock.enroll(rt, &mut seat).is_err() {
@@ -292,7 +297,7 @@ where
     };
     let (reader, writer) = ends;
     let ends = (limited(reader, serving.limits.most_bytes), writer);
-    let answered = answer_one(rt, &shared, &mut seat, ends, serving.set);
+    let answered = answer_one(rt, &shared, &mut seat, ends, serving.front.set());
     let closed = reporter.close();
     let totals = sessions.into_inner().totals();
     if serving.watching.log {
@@ -322,7 +327,7 @@ pub fn sync_stdio<'a, R, I: Read + Drop, O: Write + Drop, E: Write>(
 ) -> Result<bool, Refusal<'a>>
 where
     R: Files<File = File> + Wait + Clock + AllocGlobal,
-    requires cap { loaded.log.cap ≡ loaded.accepted.table.cap }
+    requires cap { loaded.set.cap ≡ loaded.accepted.table.cap }
 {
     let file = create_file(rt, asking.out)?;
     let (outcome, stats) = ask(rt, loaded, asking, ends)?;

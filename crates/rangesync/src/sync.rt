@@ -201,16 +201,16 @@ pub fn ask<R: Wait + Clock + AllocGlobal, I: Read + Drop, O: Write + Drop>(
     asking: Asking<'_>,
     ends: (I, O),
 ) -> Result<(Outcome, Stats), Fault>
-    requires cap { loaded.log.cap ≡ loaded.accepted.table.cap }
+    requires cap { loaded.set.cap ≡ loaded.accepted.table.cap }
 {
     let alloc = rt.alloc();
     let Loaded {
         accepted,
-        log,
+        set,
         kept: _,
     } = loaded;
     let accepted = Arc::new(alloc, accepted)?;
-    converse(rt, alloc, &accepted, log, asking.talk(), ends)
+    converse(rt, alloc, &accepted, set.into_first(), asking.talk(), ends)
 }
 
 /// Connects, and runs one session as the initiator over this log, which is let go. What comes of it, and what it cost.
@@ -255,15 +255,16 @@ fn ask_again<'a, R, E: Write>(
 ) -> Result<(Outcome, Stats), Refusal<'a>>
 where
     R: Files + Net<Stream = TcpStream> + Wait + Clock + AllocGlobal,
-    requires cap { loaded.log.cap ≡ loaded.accepted.table.cap }
+    requires cap { loaded.set.cap ≡ loaded.accepted.table.cap }
 {
     let alloc = rt.alloc();
     let Loaded {
         accepted,
-        log,
+        set,
         kept: _,
     } = loaded;
     let accepted = Arc::new(alloc, accepted)?;
+    let log = set.into_first();
     let mut tries = Tries::new(asking.retry, asking.explains);
     for _try in 0..tries.left() {
         let asked = ask_at(rt, &accepted, log.copy(alloc)?, asking);
@@ -288,7 +289,7 @@ pub fn sync<'a, R, O: Write + Drop, E: Write>(
 ) -> Result<bool, Refusal<'a>>
 where
     R: Files<File = File> + Net<Stream = TcpStream> + Wait + Clock + AllocGlobal,
-    requires cap { loaded.log.cap ≡ loaded.accepted.table.cap }
+    requires cap { loaded.set.cap ≡ loaded.accepted.table.cap }
 {
     let file = create_file(rt, asking.out)?;
     let (outcome, stats) = ask_again(rt, loaded, asking, err)?;

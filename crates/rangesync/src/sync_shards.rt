@@ -8,20 +8,20 @@ ghost use Rattle.shard_core.specs.Shards.{max_bits};
 ghost use Rattle.shard_core.specs.Choices.{AreBelow};
 ghost use Rattle.shard_core.specs.Parts.{ours_of, theirs_of, asked_of, KnowsShards, NoClash, Covers};
 ghost use Rattle.printing_core.specs.ShardTexts.{merged_text};
-ghost use Rattle.shard_loading.specs.Sharded.{AreLogs};
+ghost use Rattle.shard_loading.specs.Sharded.{HaveCap};
 
 use crate::costs::Costs;
 use crate::directories::{Asker, Own, choose};
 use crate::disk::{create_file, print_to};
-use crate::loading_shards::LoadedShards;
+use crate::loading::Loaded;
 use crate::sessions::{Crew, Gathered, Work, run_sessions};
 use crate::sync::Asking;
 use crate::trying::Tries;
 use printing_core::{
     Fault, Listing, MergedCounts, Refusal, end_progress, merged_text, tell_undone,
 };
+use range_tree::Tree;
 use shard_core::{Asked, SetName, ShardPart, merge};
-use shard_log::ShardLog;
 use std::alloc::{AllocError, Global};
 use std::fs::File;
 use std::io::Write;
@@ -31,6 +31,7 @@ use std::sync::{Arc, Wait};
 use std::thread::Threads;
 use std::time::Clock;
 use strategy_check::Accepted;
+use version_log::Log;
 
 /// With whom sessions over shards are run.
 #[derive(Clone, Copy)]
@@ -89,42 +90,46 @@ fn address_of<'a>(asked: &[Asked], addresses: &[&'a str], number: u16) -> Option
     Some(addresses[asked[place].server])
 }
 
-/// Appends the work on a shard, if it is asked for; its log is let go if it is not.
+/// Appends the work on the shard of this number, if it is asked for; its log is let go if it is not.
 fn push_work<'a>(
     works: &mut Vec<Work<'a>>,
     accepted: &Arc<Accepted>,
+    number: u16,
     address: Option<&'a str>,
-    log: ShardLog,
+    log: Log<Tree>,
 ) -> Result<(), AllocError>
-    requires { log.log.cap ≤ (arc_value accepted.now).table.cap }
+    requires { log.cap ≤ (arc_value accepted.now).table.cap }
 {
     let Some(address) = address else {
         return Ok(());
     };
     works.push(Work {
-        number: log.number(),
+        number,
         address,
         accepted: Arc::try_clone(accepted)?,
-        log: log.into_log(),
+        log,
     })?;
     Ok(())
 }
 
-/// The work on each of these shards that is asked for.
+/// The work on each of these shards that is asked for, of which the first has this number.
 fn works_of<'a>(
     alloc: Global,
     accepted: &Arc<Accepted>,
-    logs: Vec<ShardLog>,
+    first: u16,
+    logs: Vec<Log<Tree>>,
     asked: &[Asked],
     addresses: &[&'a str],
 ) -> Result<Vec<Work<'a>>, AllocError>
-    requires logs { (b first : ℕ) × AreLogs b first (arc_value accepted.now).table.cap logs.items }
+    requires logs { HaveCap (arc_value accepted.now).table.cap logs.items }
     requires servers { AreBelow (length addresses.now) asked.now }
 {
     let mut works = Vec::new(alloc);
+    let mut number = first;
     for log in logs {
-        let address = address_of(asked, addresses, log.number());
-        push_work(&mut works, accepted, address, log)?;
+        let address = address_of(asked, addresses, number);
+        push_work(&mut works, accepted, number, address, log)?;
+        number = number.saturating_add(1);
     }
     Ok(works)
 }
@@ -132,7 +137,7 @@ fn works_of<'a>(
 /// Asks for all shards that differ. How many these are; of the whole set, whether it is asked for.
 fn ask_all<'a, R, E: Write>(
     rt: &R,
-    loaded: LoadedShards,
+    loaded: Loaded,
     asking: AskingShards<'a>,
     addresses: &[&'a str],
     gathered: &mut Gathered<'a>,
@@ -145,7 +150,7 @@ where
     requires servers { 0 < length addresses.now }
 {
     let alloc = rt.alloc();
-    let LoadedShards {
+    let Loaded {
         accepted,
         set,
         kept: _,
@@ -157,18 +162,19 @@ where
     };
     let cap = accepted.cap();
     let entries = set.directory(alloc)?;
+    let first = set.first();
     let accepted = Arc::new(alloc, accepted)?;
     let own = Own {
         accepted: &accepted,
         cap,
         entries: &entries,
-        first: set.first(),
+        first,
         last: set.last(),
     };
     let mut tries = Tries::new(asking.asking.retry, asking.asking.explains);
     let again = (&mut tries, &mut *err);
     let asked = choose(rt, own, asker, addresses, &mut gathered.costs, again)?;
-    let works = works_of(alloc, &accepted, set.into_logs(), &asked, addresses)?;
+    let works = works_of(alloc, &accepted, first, set.into_logs(), &asked, addresses)?;
     let crew = Crew {
         asker,
         at_once: asking.at_once,
@@ -229,7 +235,7 @@ fn refusal_in<'a>(first: Option<(u16, Refusal<'a>)>) -> Option<Refusal<'a>> {
 /// printed, standard error is told which were not done, and it is `incomplete`.
 pub fn sync_shards<'a, R, O: Write + Drop, E: Write>(
     rt: &R,
-    loaded: LoadedShards,
+    loaded: Loaded,
     asking: AskingShards<'a>,
     out: O,
     err: &mut E,

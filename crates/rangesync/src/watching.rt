@@ -8,11 +8,10 @@ use crate::reporting::Reporter;
 use io_core::{Watched, WriterFailed, write_output};
 use mio::unix::SourceFd;
 use mio::{Events, Interest, Poll, Token};
-use peer_loops::{Board, Origins, Shards};
-use peer_threads::Shared;
+use peer_loops::{Board, Common, Origins};
 use printing_core::Refusal;
-use range_tree::Tree;
 use settings_core::VERSION;
+use shard_loading::ShardedSet;
 use slab::Slab;
 use std::alloc::{AllocError, Global};
 use std::fs::File;
@@ -24,7 +23,6 @@ use std::rt::Files;
 use std::sync::Wait;
 use std::time::{Clock, Duration};
 use tcp_front::{Arrival, Half, Limits, Listener};
-use version_log::Log;
 use watch_core::{Asked, Standing, metrics_line, refusal_text, response};
 
 /// How many may ask at once. For a further one another makes room.
@@ -65,15 +63,17 @@ pub struct Beginning<'a> {
 }
 
 impl<'a> Beginning<'a> {
-    /// That of a server with this log, at this address, which begins now.
-    pub fn now<R: Clock>(rt: &R, address: &'a str, log: &Log<Tree>) -> Beginning<'a> {
+    /// That of a server of this set, at this address, which begins now. The set is at the version that has as many
+    /// items.
+    pub fn now<R: Clock>(rt: &R, address: &'a str, set: &ShardedSet) -> Beginning<'a> {
+        let items = set.count();
         Beginning {
             address,
             set: "",
             file: "",
-            items: log.count() as u64,
-            cap: u64::from(log.cap()),
-            version: log.version() as u64,
+            items,
+            cap: u64::from(set.cap()).saturating_mul(set.shards() as u64),
+            version: items,
             moment: rt.monotonic().map_or(0, |moment| millis_of(moment)),
         }
     }
@@ -83,18 +83,6 @@ impl<'a> Beginning<'a> {
         Beginning {
             set: set.unwrap_or(""),
             file: file.unwrap_or(""),
-            ..self
-        }
-    }
-
-    /// The same of a server of these shards, whose own log has no items and the cap of each. A set that is cut into
-    /// shards is at the version that has as many items.
-    pub fn with_shards<R: Wait>(self, rt: &R, shards: &Shards) -> Beginning<'a> {
-        let items = shards.count(rt) as u64;
-        Beginning {
-            items,
-            cap: self.cap.saturating_mul(shards.len() as u64),
-            version: items,
             ..self
         }
     }
@@ -163,12 +151,12 @@ type Desk<'r, 'a, R, E> = Reporter<'r, 'a, R, Disk<File>, E>;
 /// How the server stands now.
 fn standing<'a, R: Wait, E: Write + Drop>(
     rt: &R,
-    shared: &Shared<'_, Tree, Desk<'_, '_, R, E>>,
+    common: &Common<'_, Desk<'_, '_, R, E>>,
     board: &Board,
     beginning: Beginning<'a>,
     now: u64,
 ) -> Standing<'a> {
-    let inserted = shared.gate.inserted();
+    let inserted = common.gate.inserted();
     Standing {
         program: VERSION,
         address: beginning.address,
@@ -178,10 +166,10 @@ fn standing<'a, R: Wait, E: Write + Drop>(
         cap: beginning.cap,
         version: beginning.version.saturating_add(inserted),
         inserted,
-        dropped: shared.gate.dropped_so_far(),
-        waiting: shared.gate.waiting_lines(),
-        failures: shared.gate.failed(),
-        live: shared.sessions.lock(rt).live() as u64,
+        dropped: common.gate.dropped_so_far(),
+        waiting: common.gate.waiting_lines(),
+        failures: common.gate.failed(),
+        live: common.sessions.lock(rt).live() as u64,
         peers: board.peers(),
         kept: board.kept(),
         ran: now.saturating_sub(beginning.moment),
@@ -353,13 +341,13 @@ impl Callers {
 fn answer_all<R: Wait + AllocGlobal, E: Write + Drop>(
     rt: &R,
     callers: &mut Callers,
-    shared: &Shared<'_, Tree, Desk<'_, '_, R, E>>,
+    common: &Common<'_, Desk<'_, '_, R, E>>,
     board: &Board,
     beginning: Beginning<'_>,
 ) {
     for key in 0..MOST_CALLERS {
         if let Some(asked) = callers.go_on(key) {
-            let standing = standing(rt, shared, board, beginning, callers.now);
+            let standing = standing(rt, common, board, beginning, callers.now);
             callers.answer(key, answer_to(rt, board, &standing, asked));
         }
     }
@@ -369,7 +357,7 @@ fn answer_all<R: Wait + AllocGlobal, E: Write + Drop>(
 pub fn watch<R, E: Write + Drop>(
     rt: &R,
     window: &Window<'_, R>,
-    shared: &Shared<'_, Tree, Desk<'_, '_, R, E>>,
+    common: &Common<'_, Desk<'_, '_, R, E>>,
     board: &Board,
 )
 where
@@ -394,7 +382,7 @@ where
         }
         callers.wait(rt, &mut events, if is_more { 0 } else { TICK });
         is_more = callers.accept_all(alloc, listener);
-        answer_all(rt, &mut callers, shared, board, *beginning);
+        answer_all(rt, &mut callers, common, board, *beginning);
         callers.close_late();
     }
 }

@@ -27,7 +27,7 @@ pub use joining::join_shards;
 pub use part::{Merged, ShardPart, merge};
 pub use selector::{MAX_NAME, Selecting, Which, push_selector, read_selector};
 pub use set_name::SetName;
-pub use shard::{MAX_BITS, shard_count, shard_of};
+pub use shard::{MAX_BITS, OneShard, shard_count, shard_of};
 pub use shard_sum::{MAX_COUNT, ShardSum};
 pub use span::{deal_span, into_span};
 pub use unequal::Unequal;

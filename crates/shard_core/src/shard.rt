@@ -1,6 +1,6 @@
 ghost use Rattle.std.specs.Prelude.{◌≡◌, ◌-◌, ◌/◌, ◌<◌, ◌≤◌, ◌^◌, length};
 ghost use Rattle.std.specs.Int.{w16, from_be_bytes};
-ghost use Rattle.shard_core.specs.Shards.{max_bits, shard_number};
+ghost use Rattle.shard_core.specs.Shards.{lies_in, max_bits, shard_number};
 
 use item_core::Item;
 use sha2::{Digest, Sha256};
@@ -43,4 +43,23 @@ pub fn shard_of(item: &Item, bits: u8) -> u16
 {
     let digest = Sha256::digest(item.bytes());
     first_bits(number(&digest[..2]), bits)
+}
+
+/// One shard of a set that is cut into 2 to the power of `bits`.
+#[derive(Clone, Copy, Debug, PartialEq, Eq)]
+pub struct OneShard {
+    /// The number of bits.
+    pub bits: u8,
+    /// The number of the shard.
+    pub number: u16,
+    ghost low: { bits ≤ max_bits },
+}
+
+impl OneShard {
+    /// Whether the item lies in this shard.
+    pub fn owns(&self, item: &Item) -> bool
+        ensures { result ≡ lies_in self.now.bits self.now.number item.now }
+    {
+        shard_of(item, self.bits) == self.number
+    }
 }

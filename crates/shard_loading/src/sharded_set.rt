@@ -1,24 +1,26 @@
 //! Some shards of a set, from one number on, each with its log.
 
-ghost use Rattle.std.specs.Prelude.{◌≡◌, ◌+◌, ◌-◌, ◌<◌, ◌≤◌, ◌^◌, ℕ, List, length, map, sum, IfOk};
+ghost use Rattle.std.specs.Prelude.{◌≡◌, ◌+◌, ◌-◌, ◌<◌, ◌≤◌, ◌^◌, ℕ, List, [], ◌∷◌, length, map, sum, IfOk};
 ghost use Rattle.std.specs.List.{range_with_len};
 ghost use Rattle.std.specs.Thread.{IsSync};
 ghost use Rattle.definitions.specs.Items.{Item as Bytes};
 ghost use Rattle.definitions.specs.Sets.{IsSet};
+ghost use Rattle.definitions.specs.Histories.{content};
 ghost use Rattle.version_log.specs.Logs.{IsCap};
 ghost use Rattle.shard_core.specs.Shards.{max_bits};
 ghost use Rattle.shard_core.specs.Directories.{sum_of, entries_from};
 ghost use Rattle.shard_core.specs.Splits.{held};
 ghost use Rattle.shard_core.specs.Spans.{span_shards, span_directory, AreKept};
-ghost use Rattle.shard_loading.specs.Sharded.{AreLogs, opened_from, contents};
+ghost use Rattle.shard_loading.specs.Sharded.{HaveCap, opened_all, contents};
 
 use crate::logs::{Opening, logs_by};
 use item_core::Item;
+use range_tree::Tree;
 use shard_core::{ShardSum, directory_from, shard_count};
-use shard_log::ShardLog;
 use std::alloc::{AllocError, Global};
 use std::marker::Model;
 use std::thread::Threads;
+use version_log::Log;
 
 /// Some shards of a set, whose numbers follow one another, each with its log.
 #[derive(Drop)]
@@ -26,30 +28,39 @@ pub struct ShardedSet {
     bits: u8,
     first: u16,
     cap: u32,
-    logs: Vec<ShardLog>,
+    logs: Vec<Log<Tree>>,
 }
 
 impl Model for ShardedSet {
     ghost use Rattle.std.specs.Prelude.{◌+◌, ◌<◌, ◌≤◌, ◌^◌, length};
     ghost use Rattle.shard_core.specs.Shards.{max_bits};
-    ghost use Rattle.shard_loading.specs.Sharded.{Sharded, AreLogs};
+    ghost use Rattle.shard_loading.specs.Sharded.{Sharded, HaveCap};
 
     ghost Value = { Sharded };
 
     ghost view = { λ a. record { bits = a.bits; first = a.first; cap = a.cap; logs = a.logs.items } };
 
     ghost invariant = { λ a. (a.bits ≤ max_bits) × (0 < length a.logs.items)
-        × (a.first + length a.logs.items ≤ 2 ^ a.bits) × AreLogs a.bits a.first a.cap a.logs.items };
+        × (a.first + length a.logs.items ≤ 2 ^ a.bits) × HaveCap a.cap a.logs.items };
+}
+
+/// What is counted and summed of the items of a log.
+fn sum_in(log: &Log<Tree>) -> ShardSum
+    ensures { result ≡ sum_of (content log.now.history) }
+{
+    let _cap = log.cap(); // proof only: there are at most 65,536 items
+    let _count = log.count(); // proof only: as many items as entries
+    ShardSum::of(log.store())
 }
 
 /// What is counted and summed of each log.
-fn sums_of(alloc: Global, logs: &[ShardLog]) -> Result<Vec<ShardSum>, AllocError>
+fn sums_of(alloc: Global, logs: &[Log<Tree>]) -> Result<Vec<ShardSum>, AllocError>
     ensures sums { IfOk result (λ v. v.items ≡ map sum_of (contents logs.now)) }
     ensures count { IfOk result (λ v. length v.items ≡ length logs.now) }
 {
     let mut sums = Vec::with_capacity(alloc, logs.len())?;
     for log in logs {
-        sums.push(log.sum())?;
+        sums.push(sum_in(log))?;
     }
     Ok(sums)
 }
@@ -70,16 +81,29 @@ impl ShardedSet {
         requires shards { (last : ℕ) × (first ≤ last) × (last < 2 ^ bits)
             × AreKept bits first last cap (held shards.items) }
         ensures set { IfOk result (λ s. s
-            ≡ record { bits = bits; first = first; cap = cap; logs = opened_from bits first cap (held shards.items) }) }
+            ≡ record { bits = bits; first = first; cap = cap; logs = opened_all cap (held shards.items) }) }
         ensures contents { IfOk result (λ s. contents s.logs ≡ held shards.items) }
     {
         shard_core::laws::shards_make_the_set();
-        shard_log::laws::a_shard_is_its_own();
-        let opening = Opening { bits, cap };
-        let logs = logs_by(rt, alloc, opening, first, shards, 2)?;
+        let logs = logs_by(rt, alloc, Opening { cap }, shards, 2)?;
         Ok(ShardedSet {
             bits,
             first,
+            cap,
+            logs,
+        })
+    }
+
+    /// A set that is not cut, with this log.
+    pub fn whole(alloc: Global, log: Log<Tree>) -> Result<ShardedSet, AllocError>
+        ensures { IfOk result (λ s. s ≡ record { bits = 0; first = 0; cap = log.cap; logs = log ∷ [] }) }
+    {
+        let cap = log.cap();
+        let mut logs = Vec::with_capacity(alloc, 1)?;
+        logs.push(log)?;
+        Ok(ShardedSet {
+            bits: 0,
+            first: 0,
             cap,
             logs,
         })
@@ -118,6 +142,22 @@ impl ShardedSet {
         self.logs.len()
     }
 
+    /// The greatest number of items that a shard may have.
+    pub fn cap(&self) -> u32
+        ensures { result ≡ self.now.cap }
+    {
+        self.cap
+    }
+
+    /// How many items all shards have.
+    pub fn count(&self) -> u64 {
+        let mut count: u64 = 0;
+        for log in &self.logs {
+            count = count.saturating_add(log.count() as u64);
+        }
+        count
+    }
+
     /// The entries of the shards, which are a set.
     pub fn directory(&self, alloc: Global) -> Result<Vec<Item>, AllocError>
         ensures entries { IfOk result (λ v. v.items
@@ -135,9 +175,9 @@ impl ShardedSet {
     }
 
     /// The logs, in the order of their numbers.
-    pub fn into_logs(self) -> Vec<ShardLog>
+    pub fn into_logs(self) -> Vec<Log<Tree>>
         ensures logs { result.items ≡ self.logs }
-        ensures follow { AreLogs self.bits self.first self.cap result.items }
+        ensures cap { HaveCap self.cap result.items }
     {
         let ShardedSet {
             bits: _,
@@ -146,5 +186,13 @@ impl ShardedSet {
             logs,
         } = self;
         logs
+    }
+
+    /// The log of the first shard: of a set that is not cut the log of all.
+    pub fn into_first(self) -> Log<Tree>
+        ensures { result.cap ≡ self.cap }
+    {
+        let mut logs = self.into_logs();
+        logs.swap_remove(0)
     }
 }

@@ -1,8 +1,4 @@
-use Rattle.std.proofs.Common.{◌≡◌}
 use Rattle.peer_loops.proofs.looping.Loop.run.Given as goal
 
 abbrev pub invariant-loop : goal.invariant-loop
-invariant-loop g l =
-    (goal.iterator-loop g).can_next l.iterator'
-    × (goal.iterator-loop g).is_finite l.iterator'
-    × (l.desk.shared ≡ l.fn.desk.shared)
+invariant-loop g l = (goal.iterator-loop g).can_next l.iterator' × (goal.iterator-loop g).is_finite l.iterator'
