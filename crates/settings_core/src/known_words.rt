@@ -8,7 +8,8 @@ ghost use Rattle.settings_core.specs.Program as program;
 use crate::arguments::{Argument, command_of};
 use crate::session_words::{serve_words, sync_words};
 use crate::spans::{
-    MAX_ITEM_LENGTH, MAX_ITEMS, MAX_PLANNED_ITEMS, MAX_RATE, MAX_ROUND_TRIP, MAX_SEARCH, MIN_ITEM_LENGTH,
+    MAX_ITEM_LENGTH, MAX_ITEMS, MAX_PLANNED_ITEMS, MAX_RATE, MAX_ROUND_TRIP, MAX_SEARCH,
+    MIN_ITEM_LENGTH,
 };
 use std::alloc::{AllocError, Global};
 

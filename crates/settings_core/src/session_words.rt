@@ -8,8 +8,8 @@ use crate::addresses::DEFAULT_ADDRESS;
 use crate::arguments::{Argument, command_of, with_arguments};
 use crate::known_words::{HASH, ITEMS_HELP, TABLE, TEXT, WHY};
 use crate::spans::{
-    MAX_AT_ONCE, MAX_MEMORY, MAX_PATIENCE, MAX_PEERS, MAX_RETRIES, MAX_SESSION_SECONDS, MAX_SESSIONS,
-    MAX_SHARD_BITS, MAX_WORKERS, MIN_BYTES,
+    MAX_AT_ONCE, MAX_MEMORY, MAX_PATIENCE, MAX_PEERS, MAX_RETRIES, MAX_SESSION_SECONDS,
+    MAX_SESSIONS, MAX_SHARD_BITS, MAX_WORKERS, MIN_BYTES,
 };
 use std::alloc::{AllocError, Global};
 
