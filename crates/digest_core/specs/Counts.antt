@@ -7,7 +7,7 @@ use Rattle.std.proofs.lemmas.Bool.{eqb-true, eq-eqb, and_parts, and_from}
 use Rattle.definitions.specs.Items.{Item}
 use Rattle.definitions.specs.Fingerprints.{IsLanes, IsExact, Counted, join_lanes, same_lanes, counted_lanes}
 use Rattle.definitions.specs.Wire.{IsProfile, IsFingerprint, counted_profile}
-use Rattle.codec_laws.proofs.Made.{counted_real}
+use Rattle.laws.proofs.Made.{counted_real}
 use Rattle.digest_core.specs.Laws as lanes
 
 pub record IsCounted (f : Counted) : Type 0 where

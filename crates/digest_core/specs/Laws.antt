@@ -8,7 +8,7 @@ use Rattle.sha2.specs.Sha256.{sha256}
 use Rattle.definitions.specs.Items.{Item}
 use Rattle.definitions.specs.Fingerprints.{Lanes, IsLanes, IsExact, join_lanes, two_lanes}
 use Rattle.definitions.specs.Wire.{IsProfile, IsFingerprint, two_lane_profile}
-use Rattle.codec_laws.proofs.Made.{two_lanes_real}
+use Rattle.laws.proofs.Made.{two_lanes_real}
 
 pub add_mod : (m a b : ℕ) → (a + b) % m ≡ (a % m + b % m) % m
 add_mod m a b = sym (mod-add-mod a m (b % m) ∙ add-mod-mod a b m)

@@ -4,7 +4,7 @@ ghost use Rattle.definitions.specs.Items as items;
 ghost use Rattle.definitions.specs.Fingerprints.{join_lanes, two_lanes};
 ghost use Rattle.definitions.specs.Wire.{IsFingerprint, lanes_text, lanes_read, two_lane_profile};
 
-use crate::laws;
+use crate::laws::bytes_are_exact;
 use crate::summary::Summary;
 use item_core::Item;
 use sha2::{Digest, Sha256};
@@ -88,8 +88,8 @@ impl Fingerprint {
         ensures value { result ≡ lanes_read bytes }
         ensures back { lanes_text result ≡ bytes }
     {
-        laws::bytes_are_exact();
-        codec_laws::reads_are_bytes();
+        bytes_are_exact();
+        laws::codec::reads_are_bytes();
         Fingerprint {
             first: lane(&bytes[..16]),
             second: lane(&bytes[16..]),

@@ -48,6 +48,6 @@ pub fn bytes_are_exact()
     ensures bytes { (bytes : List ℕ) → IsBytes bytes → length bytes ≡ 32 → lanes_text (lanes_read bytes) ≡ bytes }
     ensures are_lanes { (bytes : List ℕ) → IsBytes bytes → IsLanes (lanes_read bytes) }
 {
-    codec_laws::two_lanes_are_real();
-    codec_laws::reads_are_bytes();
+    laws::codec::two_lanes_are_real();
+    laws::codec::reads_are_bytes();
 }

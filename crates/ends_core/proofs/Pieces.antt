@@ -13,7 +13,7 @@ use Rattle.definitions.specs.Items.{Item, Range}
 use Rattle.definitions.specs.Replies.{inner_cuts}
 use Rattle.definitions.specs.Sets.{items_in}
 use Rattle.definitions.specs.Strategies.{Table, shares}
-use Rattle.rank_laws.specs.Laws.{IsCut}
+use Rattle.laws.specs.Ranks.{IsCut}
 use Rattle.laws.specs.Cutting.{pieces_at}
 use Rattle.store_core.specs.Stores.{span}
 use Rattle.ends_core.proofs.RunningSums.{cuts_within}

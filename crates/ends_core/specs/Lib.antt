@@ -19,3 +19,10 @@ pub mod Standing
 pub use Rattle.definitions.specs.Engines
 pub use Rattle.definitions.specs.Theorems
 pub mod Sides
+pub use Rattle.definitions.specs.Faults
+pub use Rattle.store_core.specs.Flat
+pub use Rattle.wire_core.specs.Refused
+pub use Rattle.io_core.specs.Inputs
+pub mod ListPeer
+pub mod FaultsOf
+pub mod Answered

@@ -20,7 +20,7 @@ use Rattle.definitions.specs.Wire.{Profile, IsMessage}
 use Rattle.definitions.specs.Ends.{End, Stage, Fresh, Waits, Over, Spent, is_over}
 use Rattle.definitions.specs.Engines.{Speaker, says, session, own, takes, messages_in}
 use Rattle.laws.specs.Hearing.{OwnIsFew, OwnIsShort}
-use Rattle.codec_laws.specs.Parts.{HeardAreMessages}
+use Rattle.laws.specs.Parts.{HeardAreMessages}
 use Rattle.strategy_check.specs.Checked.{Checked}
 
 abbrev pub peer_of : Checked → List Item → Peer

@@ -14,16 +14,16 @@ use strategy_check::Accepted;
 fn bound_laws<F: Summary>()
     ensures { BoundLaws F.summary F.profile }
 {
-    codec_laws::heard_are_messages::<F>();
-    laws::messages_have_ranges::<F>();
-    laws::initiator_stops::<F>();
-    laws::responder_stops::<F>();
-    laws::ends_keep_limits::<F>();
-    laws::initiator_learns::<F>();
-    laws::responder_learns::<F>();
-    laws::own_is_few::<F>();
-    laws::own_is_short::<F>();
-    rank_laws::ranks_are_read();
+    laws::codec::heard_are_messages::<F>();
+    laws::talks::messages_have_ranges::<F>();
+    laws::talks::initiator_stops::<F>();
+    laws::talks::responder_stops::<F>();
+    laws::talks::ends_keep_limits::<F>();
+    laws::talks::initiator_learns::<F>();
+    laws::talks::responder_learns::<F>();
+    laws::talks::own_is_few::<F>();
+    laws::talks::own_is_short::<F>();
+    laws::ranks::ranks_are_read();
 }
 
 /// A side that goes by an accepted strategy sends few messages and short lists, and learns just what the messages that

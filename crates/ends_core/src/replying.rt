@@ -46,7 +46,7 @@ fn answer_to<S: RangeStore, F: Summary>(
     requires part { IsPart F.profile (Listing range.now listed.now) }
     ensures { IfOk result (λ part. part ≡ replies.answer_to (S.content store.now) range.now listed.now) }
 {
-    codec_laws::answers_fit::<F>();
+    laws::codec::answers_fit::<F>();
     let marks = marks_of(alloc, store, listed)?;
     let mut unlisted = Vec::new(alloc);
     push_unlisted(&mut unlisted, &store.items(alloc, range)?, listed)?;
@@ -67,7 +67,7 @@ fn list_of<S: RangeStore, F: Summary>(
     requires at { span at.from at.to (S.content store.now) ≡ items_in (S.content store.now) range }
     ensures { IfOk result (λ part. part ≡ Listing range (items_in (S.content store.now) range)) }
 {
-    codec_laws::sets_fit::<F>();
+    laws::codec::sets_fit::<F>();
     Ok(Part::listing(range, store.items_at(alloc, at)?))
 }
 
@@ -177,9 +177,9 @@ fn push_cut<S: RangeStore, F: Summary>(
         (replies.cutup strategy.now.bounds (S.content store.now) range.now
         (shares strategy.now (length (items_in (S.content store.now) range.now))))) }
 {
-    rank_laws::shares_are_parts();
-    laws::cuts_have_ranges();
-    laws::cuts_are_pieces();
+    laws::ranks::shares_are_parts();
+    laws::talks::cuts_have_ranges();
+    laws::talks::cuts_are_pieces();
     let _ = range.lower(); // proof only: the range rises
     let places = places_of(alloc, strategy, count_at(strategy, at))?;
     let bounds = bounds_at(alloc, strategy.bounds(), store, at, &places)?;

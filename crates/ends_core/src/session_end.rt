@@ -94,7 +94,7 @@ impl<S: RangeStore, F: Summary> SessionEnd<Initiating, S, F> {
         ensures message { IfOk result (λ r. r.1 ≡ opening F.summary (S.content store)) }
         ensures memory { IfErr result (λ s. s ≡ store) }
     {
-        laws::whole_has_all();
+        laws::talks::whole_has_all();
         let _ = accepted.cap(); // proof only: the strategy was checked
         match begin(alloc, sum_in(&store, &Range::whole())) {
             Ok((place, first)) => Ok((
@@ -135,10 +135,10 @@ impl<R: Role, S: RangeStore, F: Summary> SessionEnd<R, S, F> {
         ensures after { IfSome (told_in result) (λ o. self.new ≡ after_part F.summary self.old part.now o) }
         ensures memory { IfNone (told_in result) (self.new ≡ self.old) }
     {
-        laws::ends_stand_firm::<F>();
-        laws::ends_hear_on::<F>();
-        laws::ends_keep_peers::<F>();
-        laws::parts_are_taken::<F>();
+        laws::talks::ends_stand_firm::<F>();
+        laws::talks::ends_hear_on::<F>();
+        laws::talks::ends_keep_peers::<F>();
+        laws::talks::parts_are_taken::<F>();
         let _ = part.range(); // proof only: the part has a spelling
         self.end.take(alloc, part)
     }
@@ -155,12 +155,12 @@ impl<R: Role, S: RangeStore, F: Summary> SessionEnd<R, S, F> {
         ensures memory { IfNone (answer_in result) (self.new ≡ self.old) }
         ensures short { KeepsLimit self.old result }
     {
-        laws::ends_stand_firm::<F>();
-        laws::ends_hear_on::<F>();
-        laws::ends_keep_peers::<F>();
-        laws::parts_are_taken::<F>();
-        laws::replies_are_short::<F>();
-        rank_laws::ranks_are_read();
+        laws::talks::ends_stand_firm::<F>();
+        laws::talks::ends_hear_on::<F>();
+        laws::talks::ends_keep_peers::<F>();
+        laws::talks::parts_are_taken::<F>();
+        laws::talks::replies_are_short::<F>();
+        laws::ranks::ranks_are_read();
         self.end.end(alloc)
     }
 
@@ -192,15 +192,15 @@ impl<R: Role, S: RangeStore, F: Summary> SessionEnd<R, S, F> {
         ensures ended { IfSome (answer_in result) (λ a. self.new ≡ after_message F.summary self.old message.now a) }
         ensures dropped { IfNone (answer_in result) (self.new ≡ fresh self.old.steps self.old.end) }
     {
-        laws::ends_stand_firm::<F>();
-        laws::ends_hear_on::<F>();
-        laws::ends_keep_peers::<F>();
-        laws::opening_is_exact::<F>();
-        laws::placing_is_exact::<F>();
-        laws::messages_have_ranges::<F>();
-        laws::parts_are_taken::<F>();
-        laws::replies_are_short::<F>();
-        rank_laws::ranks_are_read();
+        laws::talks::ends_stand_firm::<F>();
+        laws::talks::ends_hear_on::<F>();
+        laws::talks::ends_keep_peers::<F>();
+        laws::talks::opening_is_exact::<F>();
+        laws::talks::placing_is_exact::<F>();
+        laws::talks::messages_have_ranges::<F>();
+        laws::talks::parts_are_taken::<F>();
+        laws::talks::replies_are_short::<F>();
+        laws::ranks::ranks_are_read();
         let _ = message.parts(); // proof only: its parts have spellings
         self.end.receive(alloc, message)
     }
@@ -218,8 +218,8 @@ impl<R: Role, S: RangeStore, F: Summary> SessionEnd<R, S, F> {
         ensures sent { result ≡ self.now.end.sent }
         ensures few { result ≤ rank_by self.now.steps (length self.now.end.peer.items) + most_of R.side }
     {
-        laws::ends_stand_firm::<F>();
-        rank_laws::ranks_are_read();
+        laws::talks::ends_stand_firm::<F>();
+        laws::ranks::ranks_are_read();
         self.end.sent()
     }
 
@@ -236,7 +236,7 @@ impl<R: Role, S: RangeStore, F: Summary> SessionEnd<R, S, F> {
         ensures ours { IsDistinct same_item self.now.end.learned.ours }
         ensures theirs { IsDistinct same_item self.now.end.learned.theirs }
     {
-        laws::ends_stand_firm::<F>();
+        laws::talks::ends_stand_firm::<F>();
         self.end.learned()
     }
 

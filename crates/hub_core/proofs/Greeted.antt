@@ -11,9 +11,9 @@ use Rattle.std.specs.Io.KnownBytes.{Consumes, Appends}
 use Rattle.std.proofs.KnownBytes.{Consumes-nil, Appends-nil, Appends-trans}
 use Rattle.std.proofs.lemmas.List.{take-append-le, length-take-le}
 use Rattle.std.proofs.Math.Seq.{take-add}
-use Rattle.link_core.specs.Links.{count_of}
-use Rattle.link_core.specs.declared.fault.LinkFault.{LinkFault}
-use Rattle.link_core.proofs.Moving.{reads-joined, counts-both}
+use Rattle.session_core.specs.Links.{count_of}
+use Rattle.session_core.specs.declared.fault.LinkFault.{LinkFault}
+use Rattle.session_core.proofs.Moving.{reads-joined, counts-both}
 use Rattle.hub_core.specs.declared.step.Step.{Step}
 use Rattle.hub_core.specs.Greetings.{GreetingState, IsGreeting, Greets, own_hello, told}
 use Rattle.hub_core.specs.Steps.{GreetsSo, both_of}

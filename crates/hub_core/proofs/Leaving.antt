@@ -1,4 +1,4 @@
--- Why a call left off: of a greeting by its last read or write, of a session by what `link_core` says of it.
+-- Why a call left off: of a greeting by its last read or write, of a session by what `session_core` says of it.
 --
 -- How a read or a write leaves off is read from what it did: where it waits it moved no byte, so what was due of our
 -- hello before is due after; where more is to be done bytes were moved, or it was interrupted, or the input has ended.
@@ -11,15 +11,15 @@ use Rattle.definitions.specs.Fingerprints.{Lanes}
 use Rattle.definitions.specs.Fingerprints as prints
 use Rattle.definitions.specs.Wire.{Profile, two_lane_profile, counted_profile}
 use Rattle.session_core.specs.Sessions.{SessionState}
-use Rattle.link_core.specs.Links.{Stands, StandsAt, Fails}
-use Rattle.link_core.specs.Polls.{ReadsSo, WritesSo}
-use Rattle.link_core.specs.declared.fault.LinkFault.{LinkFault}
-use Rattle.link_core.specs.declared.fault.LinkFault.TheVariants as faults
-use Rattle.link_core.specs.declared.polled.Last.{Last}
-use Rattle.link_core.specs.declared.polled.Last.TheVariants as lasts
-use Rattle.link_core.specs.declared.pumped.Pause.{Pause}
-use Rattle.link_core.specs.declared.pumped.Pause.TheVariants as ends
-use Rattle.link_core.specs.declared.pumped.Pumped.{Pumped}
+use Rattle.session_core.specs.Links.{Stands, StandsAt, Fails}
+use Rattle.session_core.specs.Polls.{ReadsSo, WritesSo}
+use Rattle.session_core.specs.declared.fault.LinkFault.{LinkFault}
+use Rattle.session_core.specs.declared.fault.LinkFault.TheVariants as faults
+use Rattle.session_core.specs.declared.polled.Last.{Last}
+use Rattle.session_core.specs.declared.polled.Last.TheVariants as lasts
+use Rattle.session_core.specs.declared.pumped.Pause.{Pause}
+use Rattle.session_core.specs.declared.pumped.Pause.TheVariants as ends
+use Rattle.session_core.specs.declared.pumped.Pumped.{Pumped}
 use Rattle.hub_core.specs.Greetings.{GreetingState, IsGreeting}
 use Rattle.hub_core.specs.Firsts.{is_due}
 use Rattle.hub_core.specs.Steps.{LeavesAt, LeavesGreeting, is_ready, pause_at, pause_in, step_in, both_of}

@@ -15,11 +15,11 @@ use Rattle.definitions.specs.Engines.{responding}
 use Rattle.definitions.specs.Worlds.{Responder}
 use Rattle.ends_core.specs.Roles.{most_of}
 use Rattle.session_core.specs.Sessions.{SessionState, Knows}
-use Rattle.link_core.specs.Links.{Moves, MovesSo}
-use Rattle.link_core.specs.Polls.{Poll}
-use Rattle.link_core.specs.declared.polled.Last.TheVariants as lasts
-use Rattle.link_core.specs.declared.fault.LinkFault.{LinkFault}
-use Rattle.link_core.specs.declared.pumped.Pumped.{Pumped}
+use Rattle.session_core.specs.Links.{Moves, MovesSo}
+use Rattle.session_core.specs.Polls.{Poll}
+use Rattle.session_core.specs.declared.polled.Last.TheVariants as lasts
+use Rattle.session_core.specs.declared.fault.LinkFault.{LinkFault}
+use Rattle.session_core.specs.declared.pumped.Pumped.{Pumped}
 use Rattle.hub_core.specs.Greetings.{GreetingState, Greets}
 use Rattle.hub_core.specs.Steps.{GreetsSo, step_in}
 use Rattle.hub_core.specs.Peers.{Goes, GoesSo, Knowing, PeerState, bound_in, fresh}

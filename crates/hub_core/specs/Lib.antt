@@ -1,5 +1,5 @@
-pub use Rattle.link_core.specs.Links
-pub use Rattle.link_core.specs.Polls
+pub use Rattle.session_core.specs.Links
+pub use Rattle.session_core.specs.Polls
 pub use Rattle.slab.specs.Slab
 pub mod Greetings
 pub mod Firsts

@@ -30,11 +30,11 @@ use Rattle.session_core.specs.Kept.{kept_by}
 use Rattle.session_core.specs.Sessions.{SessionState, Knows, is_open}
 use Rattle.session_core.specs.declared.state.State.{State}
 use Rattle.session_core.specs.declared.state.State.TheVariants as states
-use Rattle.link_core.specs.Links.{count_of, Fails, IsWaiting, IsOver, IsMore}
-use Rattle.link_core.specs.Polls.{Poll}
-use Rattle.link_core.specs.declared.fault.LinkFault.{LinkFault}
-use Rattle.link_core.specs.declared.polled.Last.{Last}
-use Rattle.link_core.specs.declared.polled.Last.TheVariants as lasts
+use Rattle.session_core.specs.Links.{count_of, Fails, IsWaiting, IsOver, IsMore}
+use Rattle.session_core.specs.Polls.{Poll}
+use Rattle.session_core.specs.declared.fault.LinkFault.{LinkFault}
+use Rattle.session_core.specs.declared.polled.Last.{Last}
+use Rattle.session_core.specs.declared.polled.Last.TheVariants as lasts
 use Rattle.hub_core.specs.Greetings.{is_counted, told}
 use Rattle.hub_core.specs.Steps.{LeavesGreeting}
 use Rattle.hub_core.specs.declared.step.Step.{Step}

@@ -8,13 +8,13 @@
 --     GreetsSo .. result       nothing was lost, and the bytes are counted, unless the call failed
 use Rattle.std.specs.Prelude.{◌≡◌, ◌⊎◌, ◌<◌, ◌≤◌, ℕ, ◌+◌, ◌-◌, ◌^◌, ◌||◌, min, Bool, true, false, List, [], length}
 use Rattle.std.specs.Prelude.{Option, Result, Ok, Err}
-use Rattle.link_core.specs.Links.{count_of, Fails}
-use Rattle.link_core.specs.declared.fault.LinkFault.{LinkFault}
-use Rattle.link_core.specs.declared.polled.Last.{Last}
-use Rattle.link_core.specs.declared.polled.Last.TheVariants as lasts
-use Rattle.link_core.specs.declared.pumped.Pause.{Pause}
-use Rattle.link_core.specs.declared.pumped.Pause.TheVariants as ends
-use Rattle.link_core.specs.declared.pumped.Pumped.{Pumped}
+use Rattle.session_core.specs.Links.{count_of, Fails}
+use Rattle.session_core.specs.declared.fault.LinkFault.{LinkFault}
+use Rattle.session_core.specs.declared.polled.Last.{Last}
+use Rattle.session_core.specs.declared.polled.Last.TheVariants as lasts
+use Rattle.session_core.specs.declared.pumped.Pause.{Pause}
+use Rattle.session_core.specs.declared.pumped.Pause.TheVariants as ends
+use Rattle.session_core.specs.declared.pumped.Pumped.{Pumped}
 use Rattle.hub_core.specs.Firsts.{is_due}
 use Rattle.hub_core.specs.Greetings.{GreetingState, Greets}
 use Rattle.hub_core.specs.declared.step.StepPause.{StepPause}

@@ -3,7 +3,7 @@
 ghost use Rattle.std.specs.Prelude.{◌≡◌, ◌≢◌, ◌<◌, ◌≤◌, ◌+◌, ◌++◌, [], true, false, length, take, drop, OnOk};
 ghost use Rattle.std.specs.Prelude.{OnErr, IfOk};
 ghost use Rattle.std.specs.Io.KnownBytes.{Consumes, Appends};
-ghost use Rattle.link_core.specs.declared.fault.LinkFault.TheVariants as faults;
+ghost use Rattle.session_core.specs.declared.fault.LinkFault.TheVariants as faults;
 ghost use Rattle.hub_core.specs.Greetings as greetings;
 ghost use Rattle.hub_core.specs.Greetings.{Greets, own_hello};
 ghost use Rattle.hub_core.specs.Steps.{GreetsSo, LeavesGreeting, is_ready};
@@ -11,7 +11,7 @@ ghost use Rattle.hub_core.specs.Steps.{GreetsSo, LeavesGreeting, is_ready};
 use crate::due::{HELLO, is_counted, is_due, rest_of};
 use crate::step::{Step, StepPause, both, pause_of};
 use digest_core::{Counted, Fingerprint, Summary};
-use link_core::{Last, LinkFault, Polled};
+use session_core::{Last, LinkFault, Polled};
 use std::alloc::{AllocError, Global};
 use std::io::{Read, Write};
 use std::marker::Model;

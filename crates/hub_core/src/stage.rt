@@ -10,9 +10,8 @@ use crate::greeting::Greeting;
 use crate::step::{Step, StepPause};
 use digest_core::{Counted, Fingerprint};
 use ends_core::{Learned, Responding};
-use link_core::{LinkFault, Pause, Polled, Pumped, pump};
 use range_tree::Tree;
-use session_core::{Session, State};
+use session_core::{LinkFault, Pause, Polled, Pumped, Session, State, pump};
 use std::alloc::Global;
 use std::io::{Read, Write};
 

@@ -3,7 +3,7 @@
 ghost use Rattle.std.specs.Prelude.{◌≡◌};
 ghost use Rattle.hub_core.specs.Steps.{both_of, pause_at};
 
-use link_core::{Last, LinkFault};
+use session_core::{Last, LinkFault};
 
 /// How a call left off.
 #[derive(Clone, Copy, Debug, PartialEq, Eq)]

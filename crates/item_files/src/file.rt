@@ -19,7 +19,7 @@ pub fn read_text<R: Read + Drop>(alloc: Global, reader: R) -> Result<Vec<u8>, Se
 {
     match read_input(alloc, &mut Watched::new(reader)) {
         Ok(text) => {
-            codec_laws::are_bytes(&text);
+            laws::codec::are_bytes(&text);
             Ok(text)
         }
         Err(InputFault::CannotRead(cause)) => Err(SettingsFault::CannotRead(cause)),

@@ -23,7 +23,7 @@ use Rattle.definitions.proofs.Words.{FollowsAll, cut_range, open_parts}
 use Rattle.definitions.proofs.Lemmas.{cond_both, false≢true, and_parts, or_cases, leb-true, leb-false, All-map}
 use Rattle.definitions.proofs.Lemmas.{All-every, All-append}
 use Rattle.laws.specs.Cutting.{CutsAreExact, TalksHaveRanges}
-use Rattle.rank_laws.proofs.Tables.{covers}
+use Rattle.laws.proofs.Tables.{covers}
 use Rattle.laws.proofs.Placing.{rises_append, Placed-from_accepted, opening_exact}
 use Rattle.laws.proofs.OpenRanges.{sums-cuts}
 use Rattle.laws.proofs.Saying.{answers-All, after-peer}

@@ -24,7 +24,7 @@ use Rattle.definitions.proofs.Lemmas.{common_steps, length-append, mul-add, mul_
 use Rattle.definitions.proofs.Lemmas.{ltb-false, cases_lt, or_parts, nat_list_cmp_total, length-map, list_any-append}
 use Rattle.definitions.proofs.Lemmas.{IsStrictlySortedBy-filter, filter-append, item_cmp-eq, same_item-itself}
 use Rattle.definitions.proofs.Lemmas.{All-append, All-every}
-use Rattle.rank_laws.proofs.Tables.{length-shares, widest-positive, length-le-sum, sum-shares_by, shares_by-positive}
+use Rattle.laws.proofs.Tables.{length-shares, widest-positive, length-le-sum, sum-shares_by, shares_by-positive}
 use Rattle.laws.proofs.Times.{when, times, times-append, times-filter, has-times, has-filter, times_le_one, times_below}
 use Rattle.laws.proofs.Times.{all_above}
 use Rattle.laws.proofs.Knowledge.{reply-in_open_le, contains-whole, items_in-whole}

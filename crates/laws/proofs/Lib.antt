@@ -26,3 +26,15 @@ pub mod Telling
 pub mod Finishing
 pub mod Refuted
 pub mod Sizes
+pub mod Tables
+pub mod Checks
+pub mod Staircases
+pub mod StepsAlone
+pub mod Fields
+pub mod Marks
+pub mod Bodies
+pub mod Messages
+pub mod Streams
+pub mod Made
+pub mod Kept
+pub mod Paid

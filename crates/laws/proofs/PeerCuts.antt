@@ -15,7 +15,7 @@ use Rattle.definitions.proofs.Words.{Range, contains, IsSet, items_in, inner_cut
 use Rattle.definitions.proofs.Words.{Table, act, shares, is_split, Summary, Part, Sum, Listing, Answer, Message}
 use Rattle.definitions.proofs.Words.{has_open, IsRankTable, Ready, bound_at}
 use Rattle.definitions.proofs.Lemmas.{cond_both, length-filter, count_by-le-length, All-map, All-append}
-use Rattle.rank_laws.proofs.Tables.{sum-shares_by, shares_by-positive}
+use Rattle.laws.proofs.Tables.{sum-shares_by, shares_by-positive}
 use Rattle.laws.proofs.Times.{when}
 use Rattle.laws.proofs.Cuts.{IsWithin, length-items_in-le, CutsRise, ranges-rise, ranges-IsWithin, AreCuts}
 use Rattle.laws.proofs.Cuts.{cutup-AreCuts, spread, spread-ranges_between}

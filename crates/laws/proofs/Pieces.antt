@@ -10,7 +10,7 @@ use Rattle.std.proofs.Math.Seq.{take-append_seam, drop-append_seam}
 use Rattle.std.proofs.lemmas.List.{append-nil, drop-take, length-map}
 use Rattle.definitions.proofs.Lemmas.{drop-drop}
 use Rattle.definitions.proofs.Words.{Item, Range, IsSet, items_in, inner_cuts, cutup, Bounds, bound_at, ranges_between}
-use Rattle.rank_laws.specs.Laws.{IsCut}
+use Rattle.laws.specs.Ranks.{IsCut}
 use Rattle.laws.specs.Cutting.{CutsArePieces, pieces_at}
 use Rattle.laws.proofs.Cuts.{flat_map-ranges, cutup-AreCuts, length-ranges_between}
 

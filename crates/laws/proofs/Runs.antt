@@ -28,7 +28,7 @@ use Rattle.definitions.proofs.Lemmas.{or_right, cases_lt, and_parts, cases_eq, t
 use Rattle.definitions.proofs.Lemmas.{get_or-set_same, get_or_past, get_or-set_other, set_past, fold-append}
 use Rattle.definitions.proofs.Lemmas.{list_any-append, list_any_at, bytes_eq-Decides, get_or_from_slice_get, All-map}
 use Rattle.definitions.proofs.Lemmas.{All-append, All-at, same_item-itself}
-use Rattle.rank_laws.proofs.Checks.{ranks_by-at}
+use Rattle.laws.proofs.Checks.{ranks_by-at}
 use Rattle.laws.proofs.Times.{set_of-IsSet, has-filter, has-set_of}
 use Rattle.laws.proofs.Knowledge.{exact_knowledge, sound_knowledge}
 use Rattle.laws.proofs.Ends.{messages_are_few, lists_are_short}

@@ -14,7 +14,7 @@ use Rattle.definitions.specs.Replies.{Peer, inner_cuts, cutup}
 use Rattle.definitions.specs.Talks.{talk}
 use Rattle.definitions.specs.Messages.{RangesRise}
 use Rattle.definitions.specs.Theorems.{Ready}
-use Rattle.rank_laws.specs.Laws.{IsCut}
+use Rattle.laws.specs.Ranks.{IsCut}
 
 pub record IsExactCut (P : Peer) (X : Range) (Ys : List Range) : Type 0 where
   -- the parts hold so many own items as the table says

@@ -7,3 +7,6 @@ pub mod Hearing
 pub mod Sessions
 pub mod Sizes
 pub mod Weaker
+pub mod Ranks
+pub mod Codec
+pub mod Parts

@@ -2,7 +2,7 @@
 
 ghost use Rattle.std.specs.Prelude.{◌≡◌, Some};
 
-use line_file::{Device, LineFile, Unwritten};
+use io_core::{Device, LineFile, Unwritten};
 use std::alloc::Global;
 use std::io;
 use std::io::ErrorKind;

@@ -1,7 +1,7 @@
 //! What a stream answers is passed on, and noted. The contracts of `Read` and `Write` have no word for an error.
 
 use io_core::Watched;
-use link_core::{Last, Polled};
+use session_core::{Last, Polled};
 use std::io;
 use std::io::{ErrorKind, Read, Write};
 

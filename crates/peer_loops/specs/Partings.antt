@@ -12,14 +12,14 @@ use Rattle.definitions.specs.Talks.{Knowledge, nothing}
 use Rattle.shard_core.specs.declared.shard.OneShard.{OneShard}
 use Rattle.shard_core.specs.declared.selector.Which.{Which}
 use Rattle.shard_core.specs.declared.selector.Which.TheVariants.{Shard, Directory}
-use Rattle.outcome_core.specs.declared.outcome.Direction.TheVariants as directions
-use Rattle.outcome_core.specs.declared.outcome.Outcome.{Outcome}
-use Rattle.outcome_core.specs.declared.outcome.Outcome.TheVariants as outcomes
+use Rattle.session_table.specs.declared.outcome.Direction.TheVariants as directions
+use Rattle.session_table.specs.declared.outcome.Outcome.{Outcome}
+use Rattle.session_table.specs.declared.outcome.Outcome.TheVariants as outcomes
 use Rattle.version_lock.specs.declared.view.View.{View}
 use Rattle.peer_threads.specs.Workers.{PutsInBy}
 use Rattle.session_core.specs.declared.state.State.{State}
 use Rattle.session_core.specs.declared.state.State.TheVariants as states
-use Rattle.link_core.specs.declared.fault.LinkFault.TheVariants as faults
+use Rattle.session_core.specs.declared.fault.LinkFault.TheVariants as faults
 use Rattle.hub_core.specs.Peers.{Learns, owes, sent_in, state_in}
 use Rattle.hub_core.specs.declared.stage.Stage.{Stage}
 use Rattle.peer_loops.specs.declared.ending.Parting.{Parting}

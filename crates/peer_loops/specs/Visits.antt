@@ -4,9 +4,9 @@
 --                            end
 --     IsTold l o v           what is told of a peer of which this is known, and whose session ended so
 use Rattle.std.specs.Prelude.{◌≡◌, ℕ, ◌-◌, length, Option, Some, None}
-use Rattle.outcome_core.specs.Sent.{sent_in}
-use Rattle.outcome_core.specs.declared.outcome.Outcome.{Outcome}
-use Rattle.outcome_core.specs.declared.outcome.Outcome.TheVariants as outcomes
+use Rattle.session_table.specs.Sent.{sent_in}
+use Rattle.session_table.specs.declared.outcome.Outcome.{Outcome}
+use Rattle.session_table.specs.declared.outcome.Outcome.TheVariants as outcomes
 use Rattle.hub_core.specs.declared.stage.Stage.{Stage}
 use Rattle.hub_core.specs.declared.stage.Stage.TheVariants as stages
 use Rattle.watch_core.specs.Counting.{ending_of}

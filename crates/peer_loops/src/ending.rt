@@ -2,15 +2,14 @@
 
 ghost use Rattle.std.specs.Prelude.{◌≡◌, Some, if◌then◌else◌};
 ghost use Rattle.hub_core.specs.Peers.{sent_in, state_in};
-ghost use Rattle.outcome_core.specs.declared.outcome.Direction.TheVariants as directions;
+ghost use Rattle.session_table.specs.declared.outcome.Direction.TheVariants as directions;
 ghost use Rattle.session_core.specs.declared.state.State.TheVariants as states;
 ghost use Rattle.peer_loops.specs.Partings.{Tells, TellsEnded, broken_by, whole_in};
 ghost use Rattle.peer_loops.specs.declared.ending.Parting.TheVariants as partings;
 
 use hub_core::Stage;
-use link_core::LinkFault;
 use peer_threads::{Direction, Outcome};
-use session_core::State;
+use session_core::{LinkFault, State};
 
 /// Why a peer is let go.
 #[derive(Clone, Copy, Debug, PartialEq, Eq)]

@@ -1,7 +1,7 @@
 //! How a loop lets a peer go.
 
 ghost use Rattle.std.specs.Prelude.{◌≡◌};
-ghost use Rattle.outcome_core.specs.declared.outcome.Outcome as outcomes;
+ghost use Rattle.session_table.specs.declared.outcome.Outcome as outcomes;
 ghost use Rattle.peer_loops.specs.Changes.{ChangesAt};
 ghost use Rattle.peer_loops.specs.Partings.{PutsInOf, Tells, shown_in};
 ghost use Rattle.peer_loops.specs.ShardSpans.{place_for};
@@ -16,8 +16,8 @@ use crate::site::Site;
 use crate::visiting::{Leaver, profile_of, visit_of};
 use ends_core::Learned;
 use hub_core::{Peer, Stage};
-use link_core::LinkFault;
 use peer_threads::{Outcome, kind_of};
+use session_core::LinkFault;
 use session_table::SessionId;
 use shard_core::Which;
 use std::alloc::Global;

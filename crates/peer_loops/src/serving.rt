@@ -10,7 +10,7 @@ use crate::looping::{Kind, Loop};
 use crate::part::Parts;
 use crate::part_gate::PartGate;
 use crate::site::Site;
-use outcome_core::WorkersReport;
+use session_table::WorkersReport;
 use std::alloc::Global;
 use std::net::Net;
 use std::sync::{Mutex, Wait};

@@ -8,8 +8,8 @@ use crate::note::Guest;
 use crate::part_gate::PartGate;
 use crate::site::Site;
 use hub_core::StepPause;
-use link_core::LinkFault;
 use mio::unix::SourceFd;
+use session_core::LinkFault;
 use std::os::fd::AsRawFd;
 use std::sync::Wait;
 

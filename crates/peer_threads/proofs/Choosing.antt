@@ -18,8 +18,8 @@ use Rattle.definitions.specs.Replies.{Peer}
 use Rattle.definitions.specs.Streams.{Before_hello, Fed, feed, stays}
 use Rattle.definitions.specs.Wire.{Profile, two_lane_profile, counted_profile}
 use Rattle.wire_core.specs.Feeds.{fault_at}
-use Rattle.outcome_core.specs.declared.outcome.Outcome.{Outcome}
-use Rattle.outcome_core.specs.declared.outcome.Outcome.TheVariants as outcomes
+use Rattle.session_table.specs.declared.outcome.Outcome.{Outcome}
+use Rattle.session_table.specs.declared.outcome.Outcome.TheVariants as outcomes
 use Rattle.peer_threads.specs.declared.stop.Stop.{Stop}
 use Rattle.peer_threads.specs.declared.stop.Stop.TheVariants as stops
 use Rattle.peer_threads.specs.Choices.{is_counted, ChosenSpeaks, ChosenUnopened, ChosenFirst}
@@ -29,7 +29,7 @@ use Rattle.peer_threads.specs.Senders.{SenderState, sender_state}
 use Rattle.peer_threads.specs.Outcomes.{Origin, Reader, After, Takes, traffic, traffic_after}
 use Rattle.peer_threads.specs.Outcomes.{Speaks, SpeaksUnopened, Unopened, CameFirst}
 use Rattle.ends_core.specs.Sides.{KeepsBounds}
-use Rattle.outcome_core.specs.Sent.{sent_in}
+use Rattle.session_table.specs.Sent.{sent_in}
 use Rattle.peer_threads.specs.Stops.{outcome_of}
 use Rattle.peer_threads.specs.Underway.{WhyStopped, IsNone, Leaves, first_held}
 use Rattle.peer_threads.proofs.Endings.{anyhow, bears, bears-unopened}

@@ -7,8 +7,8 @@ use Rattle.std.specs.Io.KnownBytes.{Consumes, Keeps}
 use Rattle.definitions.specs.Accounts.{Seen}
 use Rattle.definitions.specs.Items.{IsBytes}
 use Rattle.definitions.specs.Refusals.{truncated}
-use Rattle.codec_laws.proofs.Fields.{front_fits}
-use Rattle.outcome_core.specs.declared.outcome.Direction.TheVariants as directions
+use Rattle.laws.proofs.Fields.{front_fits}
+use Rattle.session_table.specs.declared.outcome.Direction.TheVariants as directions
 use Rattle.peer_threads.specs.declared.stop.Stop.{Stop}
 use Rattle.peer_threads.specs.declared.stop.Stop.TheVariants as stops
 use Rattle.peer_threads.specs.Hellos.{NoMore, NoHello}

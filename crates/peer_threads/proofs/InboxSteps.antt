@@ -15,8 +15,8 @@ use Rattle.definitions.specs.Refusals.{truncated}
 use Rattle.definitions.specs.Accounts.{Seen}
 use Rattle.definitions.specs.Wire.{Profile, IsProfile, Event}
 use Rattle.definitions.specs.Streams.{Standing, Before_hello, In_message, Meaning_over, Faulted, Fed, feed}
-use Rattle.codec_laws.proofs.Fields.{IsBytes-both, rest_fits, front_fits}
-use Rattle.codec_laws.proofs.Streams.{feeds_joined}
+use Rattle.laws.proofs.Fields.{IsBytes-both, rest_fits, front_fits}
+use Rattle.laws.proofs.Streams.{feeds_joined}
 use Rattle.wire_core.specs.Events.{event_value}
 use Rattle.wire_core.specs.Feeds.{StreamState, Holds, fed_into, Continues, fault_at}
 use Rattle.wire_core.specs.Feeds.{refusal_in, UnlessMemory}

@@ -21,7 +21,7 @@ use Rattle.definitions.specs.Replies.{Peer}
 use Rattle.definitions.specs.Strategies.{Table}
 use Rattle.definitions.specs.Refusals.{misplaced, table_full, serials_spent}
 use Rattle.definitions.specs.Streams.{Before_hello, feed, messages_of}
-use Rattle.codec_laws.specs.Parts.{FeedsJoin}
+use Rattle.laws.specs.Parts.{FeedsJoin}
 use Rattle.definitions.specs.Wire.{Profile, IsProfile, Event, Came, Ended}
 use Rattle.definitions.specs.Ends.{responder, is_over}
 use Rattle.definitions.specs.Engines.{responding, says}
@@ -32,17 +32,17 @@ use Rattle.ends_core.specs.Turns.{fresh}
 use Rattle.strategy_check.specs.Checked.{Checked}
 use Rattle.version_lock.specs.declared.view.View.{View}
 use Rattle.version_lock.specs.Calls.{PinState, IsPinOf}
-use Rattle.outcome_core.specs.declared.outcome.Direction.TheVariants as directions
+use Rattle.session_table.specs.declared.outcome.Direction.TheVariants as directions
 use Rattle.peer_threads.specs.declared.stop.Stop.{Stop}
 use Rattle.peer_threads.specs.declared.stop.Stop.TheVariants as stops
-use Rattle.outcome_core.specs.declared.outcome.Outcome.{Outcome}
+use Rattle.session_table.specs.declared.outcome.Outcome.{Outcome}
 use Rattle.peer_threads.specs.Outcomes.{Traffic, Origin, Takes, traffic_of, traffic_after, Speaks}
 use Rattle.ends_core.specs.Sides.{KeepsBounds}
 use Rattle.peer_threads.specs.Outcomes.{Unopened, IsTimely}
 use Rattle.peer_threads.specs.Outcomes.{CameFirst}
 use Rattle.ends_core.specs.Sides.{peer_of}
 use Rattle.peer_threads.specs.Outcomes.{peer_at}
-use Rattle.outcome_core.specs.Sent.{sent_in}
+use Rattle.session_table.specs.Sent.{sent_in}
 use Rattle.peer_threads.specs.Inboxes.{InboxState, HasRead, StopsAt, ReadOn, Reads}
 use Rattle.peer_threads.specs.Senders.{SenderState, sender_state, hello_due, HasWritten, Adds, BreaksIn}
 use Rattle.peer_threads.specs.Stops.{outcome_of}

@@ -7,9 +7,9 @@ use Rattle.definitions.specs.Fingerprints.{two_lanes, counted_lanes}
 use Rattle.definitions.specs.Engines.{responding}
 use Rattle.definitions.specs.Replies.{Peer}
 use Rattle.definitions.specs.Wire.{Profile, two_lane_profile, counted_profile}
-use Rattle.outcome_core.specs.declared.outcome.Outcome.{Outcome}
+use Rattle.session_table.specs.declared.outcome.Outcome.{Outcome}
 use Rattle.peer_threads.specs.Outcomes.{Traffic, Origin, Speaks, SpeaksUnopened, CameFirst}
-use Rattle.outcome_core.specs.Sent.{sent_in}
+use Rattle.session_table.specs.Sent.{sent_in}
 
 abbrev pub begins_with_hello : {F : Type 0} → Profile F → List ℕ → Bool
 begins_with_hello P bytes = bytes_eq (take 4 bytes) P.hello

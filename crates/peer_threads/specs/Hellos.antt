@@ -9,7 +9,7 @@ use Rattle.definitions.specs.Accounts.{Seen}
 use Rattle.definitions.specs.Items.{IsBytes}
 use Rattle.definitions.specs.Refusals.{truncated}
 use Rattle.peer_threads.specs.declared.hello.Hello.{Hello}
-use Rattle.outcome_core.specs.declared.outcome.Direction.TheVariants as directions
+use Rattle.session_table.specs.declared.outcome.Direction.TheVariants as directions
 use Rattle.peer_threads.specs.declared.stop.Stop.{Stop}
 use Rattle.peer_threads.specs.declared.stop.Stop.TheVariants as stops
 

@@ -21,8 +21,8 @@ use Rattle.definitions.specs.Streams.{Before_hello, Faulted, Fed, feed}
 use Rattle.wire_core.specs.Events.{event_value}
 use Rattle.wire_core.specs.Feeds.{StreamState, Holds, fault_at}
 use Rattle.wire_core.specs.declared.event.Event as declared
-use Rattle.outcome_core.specs.declared.outcome.Direction.{Direction}
-use Rattle.outcome_core.specs.declared.outcome.Direction.TheVariants as directions
+use Rattle.session_table.specs.declared.outcome.Direction.{Direction}
+use Rattle.session_table.specs.declared.outcome.Direction.TheVariants as directions
 use Rattle.peer_threads.specs.declared.stop.Stop.{Stop}
 use Rattle.peer_threads.specs.declared.stop.Stop.TheVariants as stops
 

@@ -19,8 +19,8 @@ pub use Rattle.laws.specs.Hearing as HearingLaws
 pub use Rattle.ends_core.specs.EndStates
 pub use Rattle.ends_core.specs.Turns
 pub use Rattle.ends_core.specs.Sides
-pub use Rattle.outcome_core.specs.Faults
-pub use Rattle.outcome_core.specs.Sent
+pub use Rattle.session_table.specs.SourceFaults
+pub use Rattle.session_table.specs.Sent
 pub mod Outcomes
 pub mod Choices
 pub mod Stops

@@ -9,10 +9,10 @@
 --     rest_of b                            what is left to be read and fed: each event makes it less
 use Rattle.std.specs.Prelude.{◌≡◌, ℕ, ◌+◌, ◌-◌, ◌*◌, ◌≤◌, ◌^◌, ◌⊎◌, min, false, Bool, length, Result, Ok, Err}
 use Rattle.std.specs.Prelude.{IsTrue, OnOk, ⊤}
-use Rattle.outcome_core.specs.declared.outcome.Outcome.{Outcome}
-use Rattle.outcome_core.specs.declared.outcome.Outcome.TheVariants as outcomes
-use Rattle.outcome_core.specs.declared.outcome.Direction.{Direction}
-use Rattle.outcome_core.specs.declared.outcome.Direction.TheVariants as directions
+use Rattle.session_table.specs.declared.outcome.Outcome.{Outcome}
+use Rattle.session_table.specs.declared.outcome.Outcome.TheVariants as outcomes
+use Rattle.session_table.specs.declared.outcome.Direction.{Direction}
+use Rattle.session_table.specs.declared.outcome.Direction.TheVariants as directions
 use Rattle.peer_threads.specs.declared.stop.Stop.{Stop}
 use Rattle.peer_threads.specs.declared.stop.Stop.TheVariants as stops
 use Rattle.peer_threads.specs.Inboxes.{InboxState}

@@ -32,11 +32,11 @@ use Rattle.ends_core.specs.Sides.{KeepsBounds, peer_of, said_to}
 use Rattle.session_table.specs.declared.totals.CloseKind.{CloseKind}
 use Rattle.session_table.specs.declared.totals.CloseKind.TheVariants as kinds
 use Rattle.version_lock.specs.declared.view.View.{View}
-use Rattle.outcome_core.specs.Sent.{sent_in}
-use Rattle.outcome_core.specs.declared.outcome.Outcome.{Outcome}
-use Rattle.outcome_core.specs.declared.outcome.Outcome.TheVariants.{Ended, Refused, PeerRefused, Io, Memory}
-use Rattle.outcome_core.specs.declared.outcome.Direction.{Direction}
-use Rattle.outcome_core.specs.declared.outcome.Direction.TheVariants as directions
+use Rattle.session_table.specs.Sent.{sent_in}
+use Rattle.session_table.specs.declared.outcome.Outcome.{Outcome}
+use Rattle.session_table.specs.declared.outcome.Outcome.TheVariants.{Ended, Refused, PeerRefused, Io, Memory}
+use Rattle.session_table.specs.declared.outcome.Direction.{Direction}
+use Rattle.session_table.specs.declared.outcome.Direction.TheVariants as directions
 
 -- a reader that has these bytes left; or bytes that were read before, and then such a reader
 pub data Origin : Type 0 where

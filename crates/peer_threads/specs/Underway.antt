@@ -35,13 +35,13 @@ use Rattle.definitions.specs.Accounts.{Seen, BrokeOff}
 use Rattle.laws.specs.Hearing.{adds}
 use Rattle.ends_core.specs.EndStates.{EndState}
 use Rattle.ends_core.specs.Turns.{fresh, after_parts}
-use Rattle.outcome_core.specs.declared.outcome.Outcome.{Outcome}
-use Rattle.outcome_core.specs.declared.outcome.Direction.{Direction}
-use Rattle.outcome_core.specs.declared.outcome.Direction.TheVariants as directions
+use Rattle.session_table.specs.declared.outcome.Outcome.{Outcome}
+use Rattle.session_table.specs.declared.outcome.Direction.{Direction}
+use Rattle.session_table.specs.declared.outcome.Direction.TheVariants as directions
 use Rattle.peer_threads.specs.declared.stop.Stop.{Stop}
 use Rattle.peer_threads.specs.declared.stop.Stop.TheVariants as stops
 use Rattle.peer_threads.specs.Outcomes.{Traffic, Takes, SaidAll, Bears, call_of, IsTimely, IsCut}
-use Rattle.outcome_core.specs.Sent.{sent_in}
+use Rattle.session_table.specs.Sent.{sent_in}
 use Rattle.ends_core.specs.Sides.{called_by, said_to, session_at}
 use Rattle.peer_threads.specs.Inboxes.{InboxState, HasRead, StopsAt}
 use Rattle.peer_threads.specs.Senders.{SenderState, HasWritten, Adds, BreaksIn, WroteSo, refusal_text}

@@ -26,8 +26,8 @@ use Rattle.version_log.specs.declared.answer.LogFault.TheVariants.{Full, Memory}
 use Rattle.version_lock.specs.declared.view.View.{View}
 use Rattle.version_lock.specs.Beginnings.{StartsWith}
 use Rattle.version_lock.specs.Calls.{Looked, DidInsert, DidNotInsert}
-use Rattle.outcome_core.specs.declared.outcome.Outcome.{Outcome}
-use Rattle.outcome_core.specs.declared.outcome.Outcome.TheVariants as outcomes
+use Rattle.session_table.specs.declared.outcome.Outcome.{Outcome}
+use Rattle.session_table.specs.declared.outcome.Outcome.TheVariants as outcomes
 
 pub record Outlives (v w : View) : Type 0 where
   pub seen : StartsWith w.seen v.seen

@@ -13,7 +13,7 @@ use crate::stop::Stop;
 use digest_core::Summary;
 use ends_core::{Role, SessionEnd};
 use io_core::Watched;
-use outcome_core::Outcome;
+use session_table::Outcome;
 use std::io::Write;
 use store_core::RangeStore;
 

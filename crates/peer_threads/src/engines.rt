@@ -42,8 +42,8 @@ use crate::talk::{end, exchange_laws, say, take, talk};
 use digest_core::{Counted, Fingerprint, Summary};
 use ends_core::{Role, SessionEnd};
 use io_core::Watched;
-use outcome_core::Outcome;
 use place_core::{Place, PlaceFault};
+use session_table::Outcome;
 use std::alloc::{AllocError, Global};
 use std::io::{Read, Write};
 use std::sync::Wait;
@@ -364,7 +364,7 @@ fn serve_after<T: Wait, S: RangeStore, G: Gate, R: Read, W: Write, F: Summary>(
     ensures fared { (start : ℕ) → InStep start connection.old.reader.reads hello.reads →
         HasFared start connection.new.reader.failed connection.new.reader.reads result }
 {
-    codec_laws::feeds_join::<F>();
+    laws::codec::feeds_join::<F>();
     sides_keep_bounds::<F>(shared.accepted);
     let host = Host::of(rt, alloc, shared);
     let mut sender = Sender::<F>::new();

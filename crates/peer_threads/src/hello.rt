@@ -7,7 +7,7 @@ ghost use Rattle.peer_threads.specs.Listening.{InStep, Fares};
 
 use crate::stop::Stop;
 use io_core::Watched;
-use outcome_core::Direction;
+use session_table::Direction;
 use std::io::Read;
 use wire_core::WireFault;
 
@@ -37,7 +37,7 @@ pub(crate) fn read_hello<R: Read>(reader: &mut Watched<R>) -> Result<Hello, Stop
     };
     let mut came = 0;
     'reads: while came < LENGTH {
-        codec_laws::are_bytes(&hello.bytes);
+        laws::codec::are_bytes(&hello.bytes);
         hello.reads += 1;
         let Ok(count) = reader.read(&mut hello.bytes[came..]) else {
             return Err(Stop::Io(Direction::Read));
@@ -47,6 +47,6 @@ pub(crate) fn read_hello<R: Read>(reader: &mut Watched<R>) -> Result<Hello, Stop
         }
         came += count;
     }
-    codec_laws::are_bytes(&hello.bytes);
+    laws::codec::are_bytes(&hello.bytes);
     Ok(hello)
 }

@@ -14,7 +14,7 @@ use crate::piece::Piece;
 use crate::stop::Stop;
 use digest_core::Summary;
 use io_core::Watched;
-use outcome_core::Direction;
+use session_table::Direction;
 use std::alloc::{AllocError, Global};
 use std::io::Read;
 use std::marker::Model;

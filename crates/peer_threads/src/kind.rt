@@ -3,8 +3,7 @@
 ghost use Rattle.std.specs.Prelude.{◌≡◌};
 ghost use Rattle.peer_threads.specs.Outcomes.{kind_of};
 
-use outcome_core::Outcome;
-use session_table::CloseKind;
+use session_table::{CloseKind, Outcome};
 
 /// How the table of sessions counts an outcome. A session that the peer refused is refused.
 pub fn kind_of(outcome: &Outcome) -> CloseKind

@@ -24,7 +24,7 @@ pub use connection::Connection;
 pub use engines::{dial_one, serve_one};
 pub use gate::{Gate, OpenGate};
 pub use kind::kind_of;
-pub use outcome_core::{Direction, Outcome, Source, SourceFault, WorkersReport};
+pub use session_table::{Direction, Outcome, Source, SourceFault, WorkersReport};
 pub use shared::Shared;
 pub use worker::{Harvest, settle};
 pub use workers::run_workers;

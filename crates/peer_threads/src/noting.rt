@@ -2,7 +2,7 @@
 
 use crate::gate::Gate;
 use item_core::Item;
-use outcome_core::Outcome;
+use session_table::Outcome;
 use std::sync::OnceLock;
 use version_log::LogFault;
 

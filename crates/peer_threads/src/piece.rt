@@ -84,7 +84,7 @@ impl Piece {
         self.from = 0;
         self.end = 0;
         self.end = reader.read(&mut self.room)?;
-        codec_laws::are_bytes(self.rest());
+        laws::codec::are_bytes(self.rest());
         Ok(self.end)
     }
 }

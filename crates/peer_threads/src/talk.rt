@@ -34,9 +34,9 @@ use wire_core::{Event, Message, Part, encode_message};
 pub(crate) fn exchange_laws<F: Summary>()
     ensures { Laws F.summary F.profile }
 {
-    laws::hearings_go_on::<F>();
-    laws::own_begins::<F>();
-    laws::bytes_agree::<F>();
+    laws::talks::hearings_go_on::<F>();
+    laws::talks::own_begins::<F>();
+    laws::talks::bytes_agree::<F>();
 }
 
 /// Says one message: takes all memory for it, counts it in the table, writes it, and asks the gate.

@@ -9,7 +9,7 @@ ghost use Rattle.peer_threads.specs.Workers.{Outlives, MayWork};
 use crate::gate::Gate;
 use crate::shared::Shared;
 use crate::worker::{Intake, work};
-use outcome_core::{Source, SourceFault, WorkersReport};
+use session_table::{Source, SourceFault, WorkersReport};
 use std::alloc::Global;
 use std::sync::Wait;
 use std::thread::{Threads, join};

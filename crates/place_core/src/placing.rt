@@ -28,8 +28,8 @@ pub fn place_message<F: Summary>(sent: &Message<F>, message: &Message<F>) -> Res
     ensures fault { fault_in result ≡ placing.place_fault sent.now message.now }
     ensures placed { Apart (open_ranges sent.now) → IsOk result ↔ placing.Placed sent.now message.now }
 {
-    laws::placing_is_exact::<F>();
-    laws::messages_have_ranges::<F>();
+    laws::talks::placing_is_exact::<F>();
+    laws::talks::messages_have_ranges::<F>();
     let own = sent.parts();
     let received = message.parts();
     let mut cursor = Cursor::start::<F>();
@@ -44,7 +44,7 @@ pub fn place_opening<F: Summary>(message: &Message<F>) -> Result<(), PlaceFault>
     ensures fault { fault_in result ≡ placing.opening_fault message.now }
     ensures opening { IsOk result ↔ IsOpening message.now }
 {
-    laws::opening_is_exact::<F>();
+    laws::talks::opening_is_exact::<F>();
     let received = message.parts();
     let none = &received[..0];
     let mut cursor = Cursor::First;

@@ -4,8 +4,8 @@
 --     difference_status checks differ    the status of a session that came to its end
 --     may_pass f         whether a session with this fault may come to its end if it is tried again
 use Rattle.std.specs.Prelude.{ℕ, Bool, true, false, ◌&&◌, Option, Some, None, Result, Ok, Err, ◌==◌, if◌then◌else◌}
-use Rattle.outcome_core.specs.declared.source.SourceFault.{SourceFault}
-use Rattle.outcome_core.specs.declared.report.WorkersReport.{WorkersReport}
+use Rattle.session_table.specs.declared.source.SourceFault.{SourceFault}
+use Rattle.session_table.specs.declared.report.WorkersReport.{WorkersReport}
 use Rattle.printing_core.specs.FaultsOf.{of_source}
 use Rattle.printing_core.specs.declared.fault.Fault.{Fault}
 use Rattle.printing_core.specs.declared.fault.Fault.TheVariants.{Memory, Connect, ReaderFailed, WriterFailed, Session}

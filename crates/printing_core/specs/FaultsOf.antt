@@ -9,10 +9,10 @@ use Rattle.wire_core.specs.declared.fault.DecodeError.{DecodeError}
 use Rattle.wire_core.specs.declared.fault.DecodeError.TheVariants as errors
 use Rattle.io_core.specs.declared.input.InputFault.{InputFault}
 use Rattle.io_core.specs.declared.input.InputFault.TheVariants as inputs
-use Rattle.answer_core.specs.declared.listing.ListReplyFault.{ListReplyFault}
-use Rattle.answer_core.specs.declared.listing.ListReplyFault.TheVariants as lists
-use Rattle.answer_core.specs.declared.answering.AnswerFault.{AnswerFault}
-use Rattle.answer_core.specs.declared.answering.AnswerFault.TheVariants as answers
+use Rattle.ends_core.specs.declared.listing.ListReplyFault.{ListReplyFault}
+use Rattle.ends_core.specs.declared.listing.ListReplyFault.TheVariants as lists
+use Rattle.ends_core.specs.declared.answering.AnswerFault.{AnswerFault}
+use Rattle.ends_core.specs.declared.answering.AnswerFault.TheVariants as answers
 use Rattle.item_files.specs.declared.fault.SettingsFault.{SettingsFault}
 use Rattle.item_files.specs.declared.fault.SettingsFault.TheVariants as settings
 use Rattle.shard_loading.specs.declared.fault.LoadFault.{LoadFault}
@@ -29,8 +29,8 @@ use Rattle.tcp_front.specs.declared.fault.ListenFault.{ListenFault}
 use Rattle.tcp_front.specs.declared.fault.ListenFault.TheVariants as listens
 use Rattle.tcp_front.specs.declared.fault.ConnectFault.{ConnectFault}
 use Rattle.tcp_front.specs.declared.fault.ConnectFault.TheVariants as connects
-use Rattle.outcome_core.specs.declared.source.SourceFault.{SourceFault}
-use Rattle.outcome_core.specs.declared.source.SourceFault.TheVariants as sources
+use Rattle.session_table.specs.declared.source.SourceFault.{SourceFault}
+use Rattle.session_table.specs.declared.source.SourceFault.TheVariants as sources
 use Rattle.printing_core.specs.declared.fault.Fault.{Fault}
 use Rattle.printing_core.specs.declared.fault.Fault.TheVariants.{CannotRead, BadItemLine, NotHex, TooManyItems}
 use Rattle.printing_core.specs.declared.fault.Fault.TheVariants.{BadScenario, BadStep, Strategy, Check, Wire, Misplaced}

@@ -10,8 +10,8 @@ use Rattle.std.specs.Prelude.{Option, Some, None}
 use Rattle.std.specs.Fmt.{decimal}
 use Rattle.definitions.specs.Sets.{set_of}
 use Rattle.definitions.specs.Talks.{Knowledge}
-use Rattle.outcome_core.specs.declared.outcome.Outcome.{Outcome}
-use Rattle.outcome_core.specs.declared.outcome.Outcome.TheVariants.{Ended, Refused, PeerRefused, Io, Memory}
+use Rattle.session_table.specs.declared.outcome.Outcome.{Outcome}
+use Rattle.session_table.specs.declared.outcome.Outcome.TheVariants.{Ended, Refused, PeerRefused, Io, Memory}
 use Rattle.shard_core.specs.declared.selector.Which.{Which}
 use Rattle.shard_core.specs.declared.selector.Which.TheVariants.{Shard, Directory}
 use Rattle.item_files.specs.declared.form.ItemForm.{ItemForm}

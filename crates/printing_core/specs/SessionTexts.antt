@@ -15,10 +15,10 @@ use Rattle.definitions.specs.Items.{Item}
 use Rattle.definitions.specs.Sets.{set_of}
 use Rattle.definitions.specs.Talks.{Knowledge}
 use Rattle.session_table.specs.declared.totals.Totals.{Totals}
-use Rattle.outcome_core.specs.declared.outcome.Direction.{Direction}
-use Rattle.outcome_core.specs.declared.outcome.Direction.TheVariants as directions
-use Rattle.outcome_core.specs.declared.outcome.Outcome.{Outcome}
-use Rattle.outcome_core.specs.declared.outcome.Outcome.TheVariants as outcomes
+use Rattle.session_table.specs.declared.outcome.Direction.{Direction}
+use Rattle.session_table.specs.declared.outcome.Direction.TheVariants as directions
+use Rattle.session_table.specs.declared.outcome.Outcome.{Outcome}
+use Rattle.session_table.specs.declared.outcome.Outcome.TheVariants as outcomes
 use Rattle.item_files.specs.declared.form.ItemForm.{ItemForm}
 use Rattle.printing_core.specs.Endings.{fault_in}
 use Rattle.printing_core.specs.ItemTexts.{item_line}

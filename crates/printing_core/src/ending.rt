@@ -8,7 +8,7 @@ ghost use Rattle.printing_core.specs.SessionTexts.{session_fault, session_learne
 use crate::fault::Fault;
 use crate::reports::of_direction;
 use ends_core::Learned;
-use outcome_core::{Outcome, WorkersReport};
+use session_table::{Outcome, WorkersReport};
 
 /// The refusal of a run whose workers ended so: the source's fault, or 90 where no worker started.
 pub fn refusal_of(report: WorkersReport) -> Result<(), Fault>

@@ -5,10 +5,10 @@ ghost use Rattle.printing_core.specs.FaultsOf.{of_answer, of_input, of_decoding,
 ghost use Rattle.printing_core.specs.FaultsOf.{of_log, of_listen, of_connect, of_source, of_load};
 ghost use Rattle.printing_core.specs.declared.fault.Fault.TheVariants as faults;
 
-use answer_core::{AnswerFault, ListReplyFault};
+use ends_core::{AnswerFault, ListReplyFault};
 use io_core::{InputFault, WriterFailed};
 use item_files::SettingsFault;
-use outcome_core::SourceFault;
+use session_table::SourceFault;
 use shard_loading::LoadFault;
 use sim_core::{ScenarioError, ScenarioFault};
 use std::alloc::{AllocError, AllocFailed};

@@ -6,7 +6,7 @@ ghost use Rattle.printing_core.specs.Lines.{strategy_line, check_line, fault_lin
 
 use crate::fault::Fault;
 use crate::stats::Stats;
-use outcome_core::session_refusal_name;
+use session_table::session_refusal_name;
 use settings_core::{ShardFlaw, WordsFault};
 use std::fmt;
 use std::io::Write;

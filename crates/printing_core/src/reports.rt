@@ -12,7 +12,7 @@ use crate::session_texts::{Listing, Naming, push_learned, push_lines, rising};
 use ends_core::Learned;
 use item_core::Item;
 use item_files::ItemForm;
-use outcome_core::{Direction, Outcome};
+use session_table::{Direction, Outcome};
 use shard_core::Which;
 use std::alloc::{AllocError, Global};
 use std::fmt;

@@ -3,7 +3,7 @@
 use crate::wants::{AddressWant, CheckWant, FlawWant, LineWant, RowOrigin};
 use io_core::ReadFault;
 use item_files::{LineFlaw, StrategyFlaw};
-use outcome_core::session_refusal_name;
+use session_table::session_refusal_name;
 use std::fmt;
 use std::io::Write;
 use strategy_check::CheckFault;

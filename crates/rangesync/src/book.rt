@@ -1,7 +1,7 @@
 //! A file of lines that a server writes to, and what standard error is told of it.
 
 use crate::following::Followed;
-use line_file::{Device, LineFile, Unwritten, torn_length};
+use io_core::{Device, LineFile, Unwritten, torn_length};
 use printing_core::{
     Cause, tell_left_out, tell_left_waiting, tell_unwritten, tell_unwritten_cause,
     tell_written_again,

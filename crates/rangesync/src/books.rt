@@ -2,7 +2,7 @@
 
 use crate::book::{Book, Name};
 use crate::disk::{Disk, ItemFile, Opened, open_lines};
-use line_file::Device;
+use io_core::Device;
 use printing_core::Refusal;
 use std::alloc::Global;
 use std::fs::File;

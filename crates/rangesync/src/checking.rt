@@ -5,10 +5,10 @@ ghost use Rattle.std.specs.Arc.{arc_value};
 ghost use Rattle.settings_core.specs.Spans.{IsItemLength};
 
 use crate::loading::{TableSource, strategy_of};
-use cost_core::{Sample, cost_of};
 use io_core::{Watched, write_output};
 use printing_core::{Fault, Refusal, accepted_text, push_cost, push_sample};
 use settings_core::CheckWords;
+use sim_core::{Sample, cost_of};
 use std::alloc::Global;
 use std::io::Write;
 use std::rt::Files;

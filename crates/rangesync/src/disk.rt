@@ -1,8 +1,7 @@
 //! Files of lines on a disk: opened, healed, locked, and written at their ends.
 
-use io_core::{Watched, write_output};
+use io_core::{Device, LineFile, Watched, torn_length, write_output};
 use item_files::ReadFault;
-use line_file::{Device, LineFile, torn_length};
 use printing_core::{Fault, Refusal, tell_torn};
 use std::alloc::Global;
 use std::cmp::Ordering;

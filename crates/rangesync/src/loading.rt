@@ -6,7 +6,6 @@ ghost use Rattle.range_tree.specs.Trees.{tree_items};
 
 use crate::books::Kept;
 use crate::disk::{Opened, item_file, open_lines};
-use cost_core::{SHIPPED_NAMES, shipped_text};
 use item_core::Item;
 use item_files::{
     ItemForm, ReadFault, SettingsFault, accepted_in, document, read_document, read_input_items,
@@ -16,6 +15,7 @@ use printing_core::{Fault, Refusal, STANDARD_INPUT, tell_stray_key};
 use range_tree::Tree;
 use settings_core::{ServeWords, SyncWords};
 use shard_loading::ShardedSet;
+use sim_core::{SHIPPED_NAMES, shipped_text};
 use std::alloc::{AllocError, Global};
 use std::fs::File;
 use std::io::{Read, Write};

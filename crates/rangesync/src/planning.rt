@@ -1,16 +1,16 @@
 //! The command `plan`.
 
 ghost use Rattle.std.specs.Prelude.{◌≤◌, IfOk, IfSome};
-ghost use Rattle.cost_core.specs.Plans.{IsPlanned};
-ghost use Rattle.cost_core.specs.Samples.{IsSample};
+ghost use Rattle.sim_core.specs.Plans.{IsPlanned};
+ghost use Rattle.sim_core.specs.Samples.{IsSample};
 ghost use Rattle.settings_core.specs.Spans.{IsPlannedCount, IsItemCount, IsItemLength, IsRate};
 
 use crate::checking::length_of;
 use crate::loading::{TableSource, strategy_of};
-use cost_core::{Line, Planned, Sample, Task, planned_for, quickest, searched, shipped_text};
 use io_core::{Watched, read_input, write_output};
 use printing_core::{Fault, Refusal, push_plan, push_shards};
 use settings_core::{PlanWords, shard_bits_for};
+use sim_core::{Line, Planned, Sample, Task, planned_for, quickest, searched, shipped_text};
 use std::alloc::Global;
 use std::fs;
 use std::io::Write;

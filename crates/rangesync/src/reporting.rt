@@ -6,9 +6,9 @@ use crate::disk::Disk;
 use crate::following::When;
 use crate::logging::millis_of;
 use crate::looking::Looking;
+use io_core::Device;
 use item_core::Item;
 use item_files::ItemForm;
-use line_file::Device;
 use peer_loops::PartGate;
 use peer_threads::{Gate, Outcome};
 use printing_core::{

@@ -17,7 +17,7 @@ use crate::stdio::{flaw_of, serve_stdio, sync_stdio};
 use crate::stocking::load_logged;
 use crate::sync::{Asking, sync};
 use crate::sync_shards::{AskingShards, sync_shards};
-use answer_core::{answer, list_reply};
+use ends_core::{answer, list_reply};
 use io_core::{Watched, read_input, write_output};
 use peer_loops::Front;
 use printing_core::{

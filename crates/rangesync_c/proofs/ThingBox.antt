@@ -1,6 +1,6 @@
 -- A handle owns what a loose box of a `Thing` owns, and both own what a box of it does: the pointer, the handle of the
 -- allocator, the value that the pointer points to and the right to free it. What the pointer's type names is no part of
--- that, since the machine has one type of pointer. So a handle is read as a box too, by the steps of the crate `loose`.
+-- that, since the machine has one type of pointer. So a handle is read as a box too, by the steps of `loose.rt`.
 use mathlib.Core.List.{[]}
 use mir.Syntax.{Sym, impl, tnil, dnil}
 use denote.RattleType.{RattleType}
@@ -13,7 +13,7 @@ use Rattle.rangesync_c.specs.contracts.held.Thing as thing
 use Rattle.rangesync_c.specs.contracts.held.Held as held
 use Rattle.rangesync_c.specs.contracts.held.Slot as slot
 use Rattle.rangesync_c.proofs.held.Thing.TheLaws as of_thing
-use Rattle.loose.specs.contracts.Loose as loose
+use Rattle.rangesync_c.specs.contracts.loose.Loose as loose
 
 -- a `Thing` in a `Box` of the heap
 abbrev pub E : Bx

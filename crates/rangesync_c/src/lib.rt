@@ -6,6 +6,7 @@ mod codes;
 mod held;
 mod items;
 mod learned;
+mod loose;
 mod sessions;
 mod sets;
 mod strategies;

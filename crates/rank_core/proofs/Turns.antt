@@ -12,7 +12,7 @@ use Rattle.definitions.specs.Ranks.{IsStaircase}
 use Rattle.definitions.specs.Climbs.{above_all_by, push_step, Climbing, Stuck_at, At, climbing_next, climb_to}
 use Rattle.definitions.specs.Climbs.{climbing_end, find_steps}
 use Rattle.definitions.specs.Ranks.{IsLeastRankTable, IsServing, ranks_by}
-use Rattle.rank_laws.specs.Laws.{IsGradual}
+use Rattle.laws.specs.Ranks.{IsGradual}
 use Rattle.strategy_core.specs.Acts.{greatest}
 use Rattle.rank_core.specs.Refused.{Finds, Climbs}
 use Rattle.rank_core.specs.declared.fault.RankFault.TheVariants.{NoDescent, BadCertificate}

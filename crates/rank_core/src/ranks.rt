@@ -37,10 +37,10 @@ impl Ranks {
         ensures least { IfOk result (λ steps. IsLeastRankTable strategy.now (ranks_by steps strategy.now.cap)) }
         ensures serving { IfOk result (λ steps. IsServing strategy.now steps) }
     {
-        rank_laws::loop_finds();
-        rank_laws::least_where_not_stuck();
-        rank_laws::least_ranks_are_gradual();
-        rank_laws::staircase_and_back();
+        laws::ranks::loop_finds();
+        laws::ranks::least_where_not_stuck();
+        laws::ranks::least_ranks_are_gradual();
+        laws::ranks::staircase_and_back();
         let mut steps = Vec::new(alloc);
         if parts(strategy, 0).is_none() {
             return Err(RankError::Fault(RankFault::NoDescent { count: 0 }));
@@ -59,7 +59,7 @@ impl Ranks {
     pub fn from_steps(alloc: Global, steps: &[u32]) -> Result<Ranks, RankError>
         ensures { Brings result steps.now (steps_fault steps.now) }
     {
-        rank_laws::steps_are_tested();
+        laws::ranks::steps_are_tested();
         if let Some(count) = fault(steps) {
             return Err(RankError::Fault(RankFault::BadCertificate { count }));
         }
@@ -111,7 +111,7 @@ impl Ranks {
         ensures exact { Fits result (first_unfit strategy.now self.now) }
         ensures serving { IfOk result (λ _. IsServing strategy.now self.now) }
     {
-        rank_laws::none_unfit();
+        laws::ranks::none_unfit();
         for count in 0..strategy.cap() + 1 {
             if self.misfits(strategy, count) {
                 return Err(count);

@@ -21,7 +21,7 @@ use Rattle.definitions.specs.Streams.{Before_hello}
 use Rattle.definitions.specs.Ends.{End, is_live}
 use Rattle.definitions.specs.Engines.{Speaker}
 use Rattle.definitions.specs.Hearing.{Goes_on}
-use Rattle.codec_laws.proofs.Fields.{rest_fits}
+use Rattle.laws.proofs.Fields.{rest_fits}
 use Rattle.ends_core.specs.EndStates.{EndState}
 use Rattle.session_core.specs.Outboxes.{OutboxState, outbox_state}
 use Rattle.session_core.specs.Sessions.{TalkState, SessionState, is_open, frame_due, due, IsBegun, Begins, beginning}

@@ -2,3 +2,4 @@ pub mod Heard
 pub mod Steps
 pub mod Calls
 pub mod Waiting
+pub mod Moving

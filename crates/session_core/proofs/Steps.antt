@@ -24,8 +24,8 @@ use Rattle.definitions.specs.Ends.{End, is_live, is_over}
 use Rattle.definitions.specs.Engines.{Speaker, says, own, session, messages_in}
 use Rattle.definitions.specs.Hearing.{Hearing, Goes_on, Over_at, hears, hearing_to, goes_unless}
 use Rattle.laws.specs.Hearing.{has_stopped, AgreesBy}
-use Rattle.codec_laws.specs.Parts.{joined}
-use Rattle.codec_laws.proofs.Fields.{IsBytes-both}
+use Rattle.laws.specs.Parts.{joined}
+use Rattle.laws.proofs.Fields.{IsBytes-both}
 use Rattle.wire_core.specs.Feeds.{StreamState, Holds, fed_into, fault_at}
 use Rattle.ends_core.specs.EndStates.{EndState}
 use Rattle.session_core.specs.declared.state.State.{State}

@@ -3,7 +3,7 @@
 use Rattle.definitions.specs.Fingerprints.{Summary}
 use Rattle.definitions.specs.Wire.{Profile}
 use Rattle.laws.specs.Hearing.{HearingsGoOn, BytesAgree}
-use Rattle.codec_laws.specs.Parts.{FeedsJoin}
+use Rattle.laws.specs.Parts.{FeedsJoin}
 
 pub record Laws {F : Type 0} (S : Summary F) (W : Profile F) : Type 0 where
   pub go_on : HearingsGoOn S

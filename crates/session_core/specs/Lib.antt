@@ -20,3 +20,5 @@ pub mod Outboxes
 pub mod Sessions
 pub mod Kept
 pub mod Laws
+pub mod Polls
+pub mod Links

@@ -1,11 +1,19 @@
 //! A session of this side, bytes in and bytes out: no reader, no writer and no thread.
 #![tactic(auto)]
 
+mod fault;
 mod outbox;
+mod polled;
+mod pumped;
+mod pumping;
 mod session;
 mod size;
 mod state;
 mod talk;
 
+pub use fault::LinkFault;
+pub use polled::{Last, Polled};
+pub use pumped::{Pause, Pumped};
+pub use pumping::pump;
 pub use session::Session;
 pub use state::State;

@@ -57,9 +57,9 @@ impl<R: Role, S: RangeStore, F: Summary> Model for Session<R, S, F> {
 fn stream_laws<F: Summary>()
     ensures { Laws F.summary F.profile }
 {
-    codec_laws::feeds_join::<F>();
-    laws::hearings_go_on::<F>();
-    laws::bytes_agree::<F>();
+    laws::codec::feeds_join::<F>();
+    laws::talks::hearings_go_on::<F>();
+    laws::talks::bytes_agree::<F>();
 }
 
 /// How many bytes came after the last whole frame, where so many did before a piece of this length.
@@ -166,7 +166,7 @@ impl<R: Role, S: RangeStore, F: Summary> Session<R, S, F> {
         ensures memory { OnErr result (self.new ≡ self.old) }
     {
         stream_laws::<F>();
-        codec_laws::are_bytes(piece);
+        laws::codec::are_bytes(piece);
         if self.over {
             return Ok(piece.len());
         }
@@ -376,8 +376,8 @@ impl<R: Role, S: RangeStore, F: Summary> Session<R, S, F> {
         ensures ours { IsDistinct same_item self.now.talk.held.end.learned.ours }
         ensures theirs { IsDistinct same_item self.now.talk.held.end.learned.theirs }
     {
-        laws::initiator_learns::<F>();
-        laws::responder_learns::<F>();
+        laws::talks::initiator_learns::<F>();
+        laws::talks::responder_learns::<F>();
         let learned = self.talk.end().learned();
         match self.talk.state() {
             State::Ended => Some(learned),

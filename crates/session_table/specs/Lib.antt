@@ -4,3 +4,6 @@ pub mod Counts
 pub mod Tables
 pub mod Faults
 pub mod Views
+pub mod SourceFaults
+pub mod Names
+pub mod Sent

@@ -2,11 +2,19 @@
 #![tactic(auto)]
 
 mod fault;
+mod names;
+mod outcome;
+mod report;
 mod session;
+mod source;
 mod table;
 mod totals;
 
 pub use fault::TableFault;
+pub use names::{refusal_name, session_refusal_name};
+pub use outcome::{Direction, Outcome};
+pub use report::WorkersReport;
 pub use session::SessionId;
+pub use source::{Source, SourceFault};
 pub use table::SessionTable;
 pub use totals::{CloseKind, Totals};

@@ -2,3 +2,4 @@ mod Finishing
 mod Numbers
 mod ScenarioReadings
 mod Sims
+mod Turns

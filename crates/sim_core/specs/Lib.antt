@@ -8,3 +8,8 @@ pub mod Runs
 pub mod ScenarioOpens
 pub mod Scenarios
 pub mod StepTexts
+pub use Rattle.session_core.specs.Sessions
+pub mod Costs
+pub mod Plans
+pub mod Samples
+pub mod Shipped

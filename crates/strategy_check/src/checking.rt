@@ -18,12 +18,12 @@ fn least_ranks(alloc: Global, strategy: &Strategy) -> Result<Ranks, CheckError>
     ensures least { IfOk result (λ steps. IsLeastRankTable strategy.now (ranks_by steps strategy.now.cap)) }
     ensures checked { IfOk result (λ steps. IsChecked (record { table = strategy.now; steps = steps })) }
 {
-    rank_laws::check_by_the_steps();
-    rank_laws::loop_finds();
-    rank_laws::check_accepts();
-    rank_laws::check_with_accepts();
-    rank_laws::deep_by_the_steps();
-    rank_laws::none_unfit();
+    laws::ranks::check_by_the_steps();
+    laws::ranks::loop_finds();
+    laws::ranks::check_accepts();
+    laws::ranks::check_with_accepts();
+    laws::ranks::deep_by_the_steps();
+    laws::ranks::none_unfit();
     if let Some(upto) = long_list(strategy) {
         return Err(CheckError::Fault(CheckFault::ListTooLong { upto }));
     }
@@ -44,7 +44,7 @@ pub fn check(alloc: Global, strategy: Strategy) -> Result<Accepted, (Strategy, C
     ensures least { IfOk result (λ a. IsLeastRankTable strategy (ranks_by a.steps strategy.cap)) }
     ensures refused { IfErr result (λ e. e.1 ≢ errors.Memory → meaning.Accepted strategy → ⊥) }
 {
-    rank_laws::check_accepts();
+    laws::ranks::check_accepts();
     match least_ranks(alloc, &strategy) {
         Ok(ranks) => Ok(Accepted { strategy, ranks }),
         Err(error) => Err((strategy, error)),
@@ -56,8 +56,8 @@ fn serves(strategy: &Strategy, ranks: &Ranks) -> Result<(), CheckFault>
     ensures exact { Passes result (check_with_fault strategy.now ranks.now) }
     ensures checked { IfOk result (λ _. IsChecked (record { table = strategy.now; steps = ranks.now })) }
 {
-    rank_laws::deep_by_the_steps();
-    rank_laws::check_with_accepts();
+    laws::ranks::deep_by_the_steps();
+    laws::ranks::check_with_accepts();
     if let Some(upto) = long_list(strategy) {
         return Err(CheckFault::ListTooLong { upto });
     }

@@ -15,8 +15,8 @@ use Rattle.std.specs.declared.io.ErrorKind.{ErrorKind}
 use Rattle.std.specs.declared.io.ErrorKind.TheVariants as kinds
 use Rattle.tcp_front.specs.declared.unreached.Unreached.{Unreached}
 use Rattle.tcp_front.specs.declared.unreached.Unreached.TheVariants as causes
-use Rattle.outcome_core.specs.declared.source.SourceFault.{SourceFault}
-use Rattle.outcome_core.specs.declared.source.SourceFault.TheVariants as sources
+use Rattle.session_table.specs.declared.source.SourceFault.{SourceFault}
+use Rattle.session_table.specs.declared.source.SourceFault.TheVariants as sources
 use Rattle.tcp_front.specs.declared.fault.ListenFault.{ListenFault}
 use Rattle.tcp_front.specs.declared.fault.ListenFault.TheVariants as listens
 use Rattle.tcp_front.specs.declared.fault.ConnectFault.{ConnectFault}

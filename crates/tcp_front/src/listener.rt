@@ -14,7 +14,7 @@ use crate::stream::Stream;
 use crate::trying::{Attempt, present};
 use crate::unix_socket::SocketFile;
 use crate::unreached::{Unreached, port_is_too_high, unheard, unknown};
-use outcome_core::{Source, SourceFault};
+use session_table::{Source, SourceFault};
 use std::alloc::Global;
 use std::io;
 use std::io::{ErrorKind, Take};

@@ -7,7 +7,7 @@ use crate::half::{Half, halves};
 use crate::listener::{Listener, accept_fault};
 use crate::stream::Stream;
 use crate::trying::{Miss, miss_of};
-use outcome_core::SourceFault;
+use session_table::SourceFault;
 use std::io;
 use std::io::ErrorKind;
 use std::net::SocketAddr;

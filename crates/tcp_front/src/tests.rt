@@ -3,7 +3,7 @@
 
 use crate::origin::origin_of;
 use crate::{Limits, connect, listen};
-use outcome_core::{Source, SourceFault};
+use session_table::{Source, SourceFault};
 use std::io;
 use std::net::{IpAddr, Ipv4Addr, Ipv6Addr, SocketAddr};
 

@@ -3,7 +3,7 @@
 --     others    no other count changes
 use Rattle.std.proofs.Common.{◌≡◌, refl, sym, ap, subst, ◌<◌, get_or-set_same, get_or-set_other}
 use Rattle.std.specs.Prelude.{◌≢◌, slice_index}
-use Rattle.outcome_core.specs.declared.outcome.Direction.TheVariants.{Read, Write}
+use Rattle.session_table.specs.declared.outcome.Direction.TheVariants.{Read, Write}
 use Rattle.watch_core.specs.Counting.{HasNumbers, IsEnding, count_of, plus, with_ending}
 use Rattle.watch_core.specs.declared.endings.Ending.{Ending}
 use Rattle.watch_core.specs.declared.endings.Ending.TheVariants as endings

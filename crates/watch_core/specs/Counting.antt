@@ -14,9 +14,9 @@
 --     visits_of c              how many visits are counted
 use Rattle.std.specs.Prelude.{◌≡◌, ℕ, ◌+◌, ◌-◌, ◌^◌, min, List, [], ◌∷◌, map, set, slice_index, slice_index_or}
 use Rattle.std.specs.Prelude.{◌<◌, length, ⊤, EachIndex, nat_le, if◌then◌else◌, Option, Some, None, replicate}
-use Rattle.outcome_core.specs.declared.outcome.Direction.TheVariants.{Read, Write}
-use Rattle.outcome_core.specs.declared.outcome.Outcome.{Outcome}
-use Rattle.outcome_core.specs.declared.outcome.Outcome.TheVariants as outcomes
+use Rattle.session_table.specs.declared.outcome.Direction.TheVariants.{Read, Write}
+use Rattle.session_table.specs.declared.outcome.Outcome.{Outcome}
+use Rattle.session_table.specs.declared.outcome.Outcome.TheVariants as outcomes
 use Rattle.watch_core.specs.declared.endings.Ending.{Ending}
 use Rattle.watch_core.specs.declared.endings.Ending.TheVariants as endings
 use Rattle.watch_core.specs.declared.endings.EndingCounts.{EndingCounts}

@@ -9,7 +9,7 @@ use Rattle.std.specs.Prelude.{ℕ, ◌+◌, ◌-◌, ◌*◌, ◌/◌, min, max,
 use Rattle.std.specs.Prelude.{Bool, not, ◌||◌, flat_map, length, nat_lt}
 use Rattle.std.specs.Fmt.{decimal}
 use Rattle.std.specs.List.{position_or_len, before_first, after_first}
-use Rattle.outcome_core.specs.Names.{session_refusal_name}
+use Rattle.session_table.specs.Names.{session_refusal_name}
 use Rattle.watch_core.specs.Counting.{most}
 use Rattle.watch_core.specs.Pieces.{seconds_text, address_text, known_text, named_ending_text}
 use Rattle.watch_core.specs.declared.counts.Counts.{Counts}

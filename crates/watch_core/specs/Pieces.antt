@@ -9,8 +9,8 @@ use Rattle.std.specs.Prelude.{ℕ, ◌/◌, ◌%◌, List, ◌++◌, codes, Opti
 use Rattle.std.specs.Fmt.{decimal}
 use Rattle.std.specs.Net.Text.{socket_text}
 use Rattle.std.specs.declared.net.socket_addr.SocketAddr.{SocketAddr}
-use Rattle.outcome_core.specs.Names.{session_refusal_name}
-use Rattle.outcome_core.specs.declared.outcome.Direction.TheVariants.{Read, Write}
+use Rattle.session_table.specs.Names.{session_refusal_name}
+use Rattle.session_table.specs.declared.outcome.Direction.TheVariants.{Read, Write}
 use Rattle.watch_core.specs.declared.endings.Ending.{Ending}
 use Rattle.watch_core.specs.declared.endings.Ending.TheVariants as endings
 use Rattle.watch_core.specs.declared.pieces.Cell.{Cell}

@@ -3,7 +3,7 @@
 ghost use Rattle.std.specs.Prelude.{◌≡◌, ◌<◌, length};
 ghost use Rattle.watch_core.specs.Counting.{ending_of, no_endings, with_ending, with_one_more};
 
-use outcome_core::{Direction, Outcome};
+use session_table::{Direction, Outcome};
 
 /// How many numbers a refusal may have.
 const NUMBERS: usize = 256;

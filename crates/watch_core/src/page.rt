@@ -11,7 +11,7 @@ use crate::filling::{push, push_filled};
 use crate::pieces::Cell;
 use crate::standing::Standing;
 use crate::visit::Visit;
-use outcome_core::refusal_name;
+use session_table::refusal_name;
 use std::alloc::{AllocError, Global};
 
 /// The page up to what it says of the server.

@@ -5,7 +5,7 @@ ghost use Rattle.watch_core.specs.Pieces.{address_text, cell_text, known_text, n
 ghost use Rattle.watch_core.specs.Pieces.{seconds_text};
 
 use crate::endings::Ending;
-use outcome_core::{Direction, session_refusal_name};
+use session_table::{Direction, session_refusal_name};
 use std::fmt;
 use std::net::SocketAddr;
 

@@ -6,7 +6,7 @@ use Rattle.definitions.specs.Messages.{Message}
 use Rattle.definitions.specs.Wire.{Profile, Spells, IsMessage}
 use Rattle.definitions.specs.Faults.{FaultyMessage}
 use Rattle.definitions.specs.Streams.{message_in}
-use Rattle.codec_laws.specs.Codec.{MessageIsExact}
+use Rattle.laws.specs.Codec.{MessageIsExact}
 use Rattle.wire_core.specs.Refused.{Gives, IfFault, fault_number}
 use Rattle.wire_core.specs.declared.fault.DecodeError.{DecodeError}
 use Rattle.wire_core.specs.declared.fault.DecodeError.TheVariants as errors

@@ -8,7 +8,7 @@ use Rattle.definitions.specs.Reading.{event_at}
 use Rattle.definitions.specs.Items.{IsBytes}
 use Rattle.definitions.specs.Streams as streams
 use Rattle.definitions.specs.Streams.{Fed, fed_by, feed_frames, feed, stays}
-use Rattle.codec_laws.specs.Parts.{FeedsJoin, FeedsRest, IsEndOf}
+use Rattle.laws.specs.Parts.{FeedsJoin, FeedsRest, IsEndOf}
 use Rattle.wire_core.specs.Events.{event_values}
 use Rattle.wire_core.specs.Standings.{standing_of, left_at, put_after, goes_on, fed_as}
 use Rattle.wire_core.specs.declared.event.Event as declared

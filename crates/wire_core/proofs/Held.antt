@@ -4,8 +4,8 @@ use Rattle.std.proofs.lemmas.List.{append-nil}
 use Rattle.definitions.specs.Items.{IsBytes}
 use Rattle.definitions.specs.Wire.{Profile, max_body, Event}
 use Rattle.definitions.specs.Streams.{Standing, Before_hello, Fed, feed, stays, Means}
-use Rattle.codec_laws.specs.Codec.{FeedIsExact}
-use Rattle.codec_laws.specs.Parts.{FeedsJoin, FeedsRest, joined}
+use Rattle.laws.specs.Codec.{FeedIsExact}
+use Rattle.laws.specs.Parts.{FeedsJoin, FeedsRest, joined}
 use Rattle.wire_core.specs.Events.{event_values}
 use Rattle.wire_core.specs.Standings.{put_after}
 use Rattle.wire_core.specs.Feeds.{StreamState, fed_into, events_since, Continues, UnlessMemory}

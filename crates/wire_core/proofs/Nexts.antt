@@ -19,9 +19,9 @@ use Rattle.definitions.specs.Reading.{event_at}
 use Rattle.definitions.specs.Streams.{Standing, Before_hello, In_message, Meaning_over, Faulted}
 use Rattle.definitions.specs.Streams.{Fed, with_event, go_on, fed_by, feed_frames, feed, stays}
 use Rattle.definitions.proofs.Lemmas.{bytes_eq-Decides}
-use Rattle.codec_laws.proofs.Fields.{IsBytes-both, rest_fits, front_fits}
-use Rattle.codec_laws.specs.Codec.{NextIsExact}
-use Rattle.codec_laws.specs.Parts.{FeedsJoin, joined}
+use Rattle.laws.proofs.Fields.{IsBytes-both, rest_fits, front_fits}
+use Rattle.laws.specs.Codec.{NextIsExact}
+use Rattle.laws.specs.Parts.{FeedsJoin, joined}
 use Rattle.wire_core.specs.Standings.{is_over, put_after}
 use Rattle.wire_core.specs.Events.{event_value, event_values}
 use Rattle.wire_core.specs.Feeds.{StreamState, fed_into, Continues, fault_at, refusal_in, UnlessMemory, IfMemory}

@@ -8,7 +8,7 @@ use Rattle.definitions.specs.Wire.{Profile, Event, Input, IsPart, Came, One_mess
 use Rattle.definitions.specs.Refusals.{trailing}
 use Rattle.definitions.specs.Reading.{◌>>=◌, event_in, fields_at, nothing_after}
 use Rattle.wire_core.specs.Readers.{byte_at}
-use Rattle.codec_laws.specs.Codec.{BodyIsExact}
+use Rattle.laws.specs.Codec.{BodyIsExact}
 
 -- the body of a part that is no longer than a body may be is that of a part with a spelling
 pub part_read : {F : Type 0} (P : Profile F) → BodyIsExact P → (bytes : List ℕ) → IsBytes bytes →

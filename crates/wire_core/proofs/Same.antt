@@ -4,7 +4,7 @@ use Rattle.std.specs.Prelude.{bytes_eq}
 use Rattle.std.proofs.lemmas.Slice.Eq.{bytes_eq-Decides}
 use Rattle.definitions.specs.Wire.{mark_bytes}
 use Rattle.definitions.specs.Reading.{marks_in}
-use Rattle.codec_laws.specs.Parts.{MarksComeBack}
+use Rattle.laws.specs.Parts.{MarksComeBack}
 use Rattle.wire_core.specs.Same.{same_marks, marks_Decides}
 
 -- two tests that answer alike

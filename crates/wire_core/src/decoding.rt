@@ -80,8 +80,8 @@ fn parts_in<F: Summary>(alloc: Global, bytes: &[u8]) -> Result<Vec<Part<F>>, Dec
 fn message_of<F: Summary>(alloc: Global, bytes: &[u8]) -> Result<Message<F>, DecodeError>
     ensures { Gives (λ message. message) result (message_in F.profile bytes.now) }
 {
-    codec_laws::reads_are_bytes();
-    codec_laws::message_is_exact::<F>();
+    laws::codec::reads_are_bytes();
+    laws::codec::message_is_exact::<F>();
     Ok(Message::of_parts(parts_in(alloc, bytes)?))
 }
 
@@ -98,7 +98,7 @@ pub fn decode_message<F: Summary>(alloc: Global, bytes: &[u8]) -> Result<Message
     ensures fault { IfFault result (FaultyMessage F.profile bytes.now) }
     ensures exact { Gives (λ message. message) result (message_in F.profile bytes.now) }
 {
-    codec_laws::reads_are_bytes();
-    codec_laws::message_is_exact::<F>();
+    laws::codec::reads_are_bytes();
+    laws::codec::message_is_exact::<F>();
     message_of(alloc, bytes)
 }

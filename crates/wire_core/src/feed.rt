@@ -92,10 +92,10 @@ impl<F: Summary> Feed<F> {
         // The cutting does not matter: the events of all calls are those of the stream.
         ensures joined { UnlessMemory result (Continues F.profile self.old piece.now self.new) }
     {
-        codec_laws::feed_is_exact::<F>();
-        codec_laws::feeds_join::<F>();
-        codec_laws::are_bytes(&self.kept);
-        codec_laws::are_bytes(piece);
+        laws::codec::feed_is_exact::<F>();
+        laws::codec::feeds_join::<F>();
+        laws::codec::are_bytes(&self.kept);
+        laws::codec::are_bytes(piece);
         self.read(alloc, piece, out)
     }
 
@@ -151,10 +151,10 @@ impl<F: Summary> Feed<F> {
         // The events of all calls are those of the stream.
         ensures joined { UnlessMemory result (Continues F.profile self.old (taken_by result piece.now) self.new) }
     {
-        codec_laws::next_is_exact::<F>();
-        codec_laws::feeds_join::<F>();
-        codec_laws::are_bytes(&self.kept);
-        codec_laws::are_bytes(piece);
+        laws::codec::next_is_exact::<F>();
+        laws::codec::feeds_join::<F>();
+        laws::codec::are_bytes(&self.kept);
+        laws::codec::are_bytes(piece);
         let taken = next_length(&self.kept, piece, self.standing);
         let mut events = Vec::new(alloc);
         self.read(alloc, &piece[..taken], &mut events)?;

@@ -36,7 +36,7 @@ impl Marks {
         requires { length marks.now < 2 ^ 32 }
         ensures { IfOk result (λ m. m ≡ marks.now) }
     {
-        codec_laws::marks_come_back();
+        laws::codec::marks_come_back();
         Ok(Marks {
             bytes: packed(alloc, marks)?,
             count: marks.len() as u32,
@@ -101,7 +101,7 @@ impl PartialEq for Marks {
     ghost laws = { partial_equiv_from_equiv (lists_equiv bool_eq_equiv) };
 
     fn eq(&self, other: &Self) -> bool {
-        codec_laws::marks_come_back();
+        laws::codec::marks_come_back();
         self.len() == other.len() && self.bytes() == other.bytes()
     }
 }
@@ -147,7 +147,7 @@ pub fn has_padding(bytes: &[u8], count: u32) -> bool
     requires { length bytes.now ≡ mark_bytes_for count }
     ensures { result ≡ not (bytes_eq bytes.now (mark_bytes (marks_in count bytes.now))) }
 {
-    codec_laws::padding_is_last();
+    laws::codec::padding_is_last();
     let used = count % 8;
     used != 0 && bytes.last().is_some_and(|byte| byte >> used != 0)
 }

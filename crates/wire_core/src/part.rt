@@ -184,8 +184,8 @@ impl<F: Summary> Part<F> {
         ensures fault { IfErr result (λ e. faults.part_fault F.profile (part_of range body)
             ≡ Some (part_fault_number e)) }
     {
-        codec_laws::part_fault_is_exact::<F>();
-        codec_laws::items_fault_is_exact();
+        laws::codec::part_fault_is_exact::<F>();
+        laws::codec::items_fault_is_exact();
         if let Some(fault) = items_fault(&range, body.items()) {
             return Err(fault);
         }

@@ -34,8 +34,8 @@ pub fn are_few<F: Summary>(kept: &[u8], standing: Standing)
     requires { feed F.profile (standing_of standing) kept.now ≡ stays (standing_of standing) kept.now }
     ensures { length kept.now < 4 + max_body }
 {
-    codec_laws::feeds_rest::<F>();
-    codec_laws::are_bytes(kept);
+    laws::codec::feeds_rest::<F>();
+    laws::codec::are_bytes(kept);
     let _ = standing;
 }
 
@@ -175,7 +175,7 @@ pub fn read_after<F: Summary>(
     'pieces: while taken < kept.len() && !rest.is_empty() {
         let count = wanted(&kept[taken..]).max(1).min(rest.len());
         let (front, back) = rest.split_at(count);
-        codec_laws::are_bytes(back);
+        laws::codec::are_bytes(back);
         there = read_kept(alloc, kept, &mut taken, front, there, out)?;
         rest = back;
     }

@@ -129,8 +129,8 @@ pub fn part_in<F: Summary>(alloc: Global, body: &[u8]) -> Result<Option<Part<F>>
     requires { length body.now ≤ max_body }
     ensures { Gives event_of result (reading.event_in F.profile One_message body.now) }
 {
-    codec_laws::reads_are_bytes();
-    codec_laws::body_is_exact::<F>();
+    laws::codec::reads_are_bytes();
+    laws::codec::body_is_exact::<F>();
     let Some(fields) = fields_in(alloc, body)? else {
         return Ok(None);
     };

@@ -5,7 +5,7 @@ ghost use Rattle.definitions.specs.Items.{IsBytes};
 ghost use Rattle.definitions.specs.Wire.{Stream, Counts};
 ghost use Rattle.definitions.specs.Reading as reading;
 ghost use Rattle.definitions.specs.Streams.{Fed, go_on, with_event, fed_by, feed_frames, feed_start, feed, stays};
-ghost use Rattle.codec_laws.specs.Parts.{IsEndOf};
+ghost use Rattle.laws.specs.Parts.{IsEndOf};
 ghost use Rattle.wire_core.specs.Refused.{Gives};
 ghost use Rattle.wire_core.specs.Events.{event_value, event_values};
 ghost use Rattle.wire_core.specs.Standings.{standing_of, left_at, put_after, goes_on, IfMore, fed_as};
@@ -170,8 +170,8 @@ pub fn read_piece<F: Summary>(
     ensures end { OnOk result (IsEndOf bytes.old.now bytes.new.now) }
     ensures before { take (length out.old.items) out.new.items ≡ out.old.items }
 {
-    codec_laws::feeds_join::<F>();
-    codec_laws::feeds_rest::<F>();
-    codec_laws::are_bytes(bytes);
+    laws::codec::feeds_join::<F>();
+    laws::codec::feeds_rest::<F>();
+    laws::codec::are_bytes(bytes);
     read_on(alloc, bytes, standing, out)
 }

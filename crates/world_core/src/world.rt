@@ -48,7 +48,7 @@ impl<F: Summary> Model for World<F> {
 fn look_laws<F: Summary>()
     ensures { Laws F.summary }
 {
-    laws::sessions_tell::<F>();
+    laws::talks::sessions_tell::<F>();
 }
 
 /// And of one whose message is delivered.
@@ -56,8 +56,8 @@ fn delivery_laws<F: Summary>()
     ensures { DeliveryLaws F.summary }
 {
     look_laws::<F>();
-    laws::sessions_go_on::<F>();
-    laws::sessions_keep_nodes::<F>();
+    laws::talks::sessions_go_on::<F>();
+    laws::talks::sessions_keep_nodes::<F>();
 }
 
 /// The nodes of a run that begins.
@@ -94,12 +94,12 @@ impl<F: Summary> World<F> {
         ensures items { HasItemsOfRuns F.summary self.now }
         ensures ends { EndsByDeliveries F.summary self.now }
     {
-        laws::history_claim::<F>();
-        laws::sessions_end::<F>();
-        laws::headline::<F>();
-        laws::knowledge_is_sound::<F>();
-        laws::talks_begin::<F>();
-        laws::cost_claim::<F>();
+        laws::talks::history_claim::<F>();
+        laws::talks::sessions_end::<F>();
+        laws::talks::headline::<F>();
+        laws::talks::knowledge_is_sound::<F>();
+        laws::talks::talks_begin::<F>();
+        laws::talks::cost_claim::<F>();
         store_core::laws::set_of_a_list();
         self.sessions.len()
     }
@@ -112,8 +112,8 @@ impl<F: Summary> World<F> {
             (λ did. did_of did ≡ (worlds.insert_at self.old node item (slice_get self.old.nodes node)).1) }
         ensures memory { OnErr result (self.new ≡ self.old) }
     {
-        laws::sessions_stay::<F>();
-        laws::sessions_keep_nodes::<F>();
+        laws::talks::sessions_stay::<F>();
+        laws::talks::sessions_keep_nodes::<F>();
         let Some(node) = self.nodes.get_mut(node) else {
             return Ok(Did::Idle);
         };
@@ -130,8 +130,8 @@ impl<F: Summary> World<F> {
             (slice_get self.old.nodes responder)).1) }
         ensures memory { OnErr result (self.new ≡ self.old) }
     {
-        laws::sessions_open::<F>();
-        laws::sessions_keep_nodes::<F>();
+        laws::talks::sessions_open::<F>();
+        laws::talks::sessions_keep_nodes::<F>();
         if initiator == responder {
             return Ok(Did::Idle);
         }
@@ -222,7 +222,7 @@ impl<F: Summary> World<F> {
         ensures memory { OnErr result (IsCutShort F.summary self.old (step_of step) self.new) }
         ensures absorbed { OnOk result (AbsorbsAll F.summary self.old (step_of step) self.new) }
     {
-        laws::absorb_claim::<F>();
+        laws::talks::absorb_claim::<F>();
         self.do_step(alloc, step)
     }
 

@@ -2,7 +2,7 @@ use Rattle.std.proofs.Common.{rules, ◌≡◌, [], ◌∷◌, Err, sym, ap, ◌
 use Rattle.std.proofs.lemmas.Result.{err_from_is_err_and}
 use Rattle.definitions.specs.Wire.{Came, Ended}
 use Rattle.peer_threads.specs.declared.stop.Stop.TheVariants as stops
-use Rattle.outcome_core.specs.declared.outcome.Direction.TheVariants as directions
+use Rattle.session_table.specs.declared.outcome.Direction.TheVariants as directions
 use Rattle.peer_threads.specs.Outcomes.{seen}
 use Rattle.peer_threads.specs.Listening.{InStep}
 use Rattle.peer_threads.specs.Underway.{IsNone}

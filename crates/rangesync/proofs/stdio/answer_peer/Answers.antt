@@ -1,6 +1,6 @@
 use Rattle.std.proofs.Common.{rules, ◌≡◌, ℕ, refl}
-use Rattle.outcome_core.specs.declared.outcome.Outcome.{Outcome}
-use Rattle.outcome_core.specs.declared.outcome.Outcome.TheVariants as outcomes
+use Rattle.session_table.specs.declared.outcome.Outcome.{Outcome}
+use Rattle.session_table.specs.declared.outcome.Outcome.TheVariants as outcomes
 use Rattle.version_lock.specs.declared.view.View.{View}
 use Rattle.peer_threads.specs.Workers.{HasNotEnded, PutsInLearned}
 use Rattle.rangesync.proofs.stdio.answer_peer.Goals as goal

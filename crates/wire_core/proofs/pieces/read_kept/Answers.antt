@@ -1,6 +1,6 @@
 use Rattle.std.proofs.Common.{rules, ◌≡◌, ◌++◌, ◌-◌, length, drop, sym, ap, subst, ◌∙◌}
 use Rattle.definitions.specs.Streams.{feed, stays}
-use Rattle.codec_laws.specs.Parts.{IsEndOf}
+use Rattle.laws.specs.Parts.{IsEndOf}
 use Rattle.wire_core.specs.Events.{event_values}
 use Rattle.wire_core.specs.Standings.{standing_of, put_after}
 use Rattle.wire_core.proofs.Feeding.{slice_back, drop_kept, end_of_dropped, end_dropped}

@@ -1,4 +1,4 @@
-use Rattle.codec_laws.specs.Parts.{IsEndOf}
+use Rattle.laws.specs.Parts.{IsEndOf}
 use Rattle.wire_core.specs.Events.{event_values}
 use Rattle.wire_core.specs.Standings.{standing_of}
 use Rattle.wire_core.proofs.Feeding.{if_ok, piece_joined, piece_rests}

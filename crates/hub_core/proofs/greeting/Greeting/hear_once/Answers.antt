@@ -1,8 +1,8 @@
 use Rattle.std.proofs.Common.{rules, ◌≡◌, ◌≤◌, false, [], None, Ok, Err, take, length, refl, subst}
-use Rattle.link_core.specs.Polls.{ReadsSo}
-use Rattle.link_core.specs.declared.fault.LinkFault.TheVariants as faults
-use Rattle.link_core.specs.declared.polled.Last.{Last}
-use Rattle.link_core.specs.declared.polled.Last.TheVariants as lasts
+use Rattle.session_core.specs.Polls.{ReadsSo}
+use Rattle.session_core.specs.declared.fault.LinkFault.TheVariants as faults
+use Rattle.session_core.specs.declared.polled.Last.{Last}
+use Rattle.session_core.specs.declared.polled.Last.TheVariants as lasts
 use Rattle.hub_core.specs.Steps.{is_ready, pause_at}
 use Rattle.hub_core.proofs.Greeted.{greets-lost, counted-take, came-long}
 use Rattle.hub_core.proofs.Leaving.{heard-leaves, heard-fails, still-waits}

@@ -1,7 +1,7 @@
 use Rattle.std.proofs.Common.{rules, ◌≡◌, ◌+◌, ◌<◌, ◌≤◌, ◌^◌, inr, [], length, refl, ap, arith, IsTrue}
 use Rattle.peer_threads.specs.Outcomes.{seen}
 use Rattle.peer_threads.specs.Inboxes.{InboxState, IsUnread}
-use Rattle.outcome_core.specs.declared.outcome.Direction.TheVariants as directions
+use Rattle.session_table.specs.declared.outcome.Direction.TheVariants as directions
 use Rattle.peer_threads.proofs.InboxSteps.{reads_nothing, came, ended_read}
 use Rattle.peer_threads.proofs.inbox.Inbox.read_more.Goals as goal
 

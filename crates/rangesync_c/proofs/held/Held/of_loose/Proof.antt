@@ -22,7 +22,7 @@ use denote.Triple.Statement.{Contract}
 use denote.Triple.Walked.{Stays, stay_dropped, Goes-dropped, walk_of, says, ends_at}
 use Rattle.std.proofs.raw_atomic.Walks.{proved_at}
 use Rattle.std_alloc.proofs.BoxSteps.Form.{D, word}
-use Rattle.loose.proofs.AsBox.{Owns, as_box, in_one_word, from_the_word}
+use Rattle.rangesync_c.proofs.AsBox.{Owns, as_box, in_one_word, from_the_word}
 use Rattle.rangesync_c.proofs.ThingBox.{E, Loosened, handle_of, handle_name, loose_name}
 use Rattle.rangesync_c.proofs.Remade.{remakes}
 use Rattle.rangesync_c.specs.contracts.held.Held.of_loose as f

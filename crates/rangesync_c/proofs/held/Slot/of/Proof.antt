@@ -23,7 +23,7 @@ use denote.Triple.Walked.{Stays, stay_dropped, Goes-dropped, walk_of, says, ends
 use Rattle.std.specs.Prelude.{Some}
 use Rattle.std.proofs.raw_atomic.Walks.{proved_at}
 use Rattle.std_alloc.proofs.BoxSteps.Form.{D, word}
-use Rattle.loose.proofs.AsBox.{Owns, in_one_word, from_the_word}
+use Rattle.rangesync_c.proofs.AsBox.{Owns, in_one_word, from_the_word}
 use Rattle.rangesync_c.proofs.ThingBox.{E, Handle, boxed, slot_of, handle_name, slot_name}
 use Rattle.rangesync_c.proofs.Remade.{remakes}
 use Rattle.rangesync_c.specs.contracts.held.Slot.of as f

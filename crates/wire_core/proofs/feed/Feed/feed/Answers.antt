@@ -1,6 +1,6 @@
 use Rattle.std.proofs.Common.{rules}
 use Rattle.definitions.specs.Items.{IsBytes}
-use Rattle.codec_laws.proofs.Fields.{IsBytes-both}
+use Rattle.laws.proofs.Fields.{IsBytes-both}
 use Rattle.wire_core.specs.Events.{event_values}
 use Rattle.wire_core.proofs.Held.{held_joined, held_means, unless_so}
 use Rattle.wire_core.proofs.feed.Feed.feed.Goals as goal

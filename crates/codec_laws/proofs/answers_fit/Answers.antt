@@ -1,5 +1,0 @@
-use Rattle.codec_laws.proofs.Made.{answers_fit_lem}
-use Rattle.codec_laws.proofs.answers_fit.Goals as goal
-
-pub returns : goal.returns
-returns g c = λ P. answers_fit_lem P

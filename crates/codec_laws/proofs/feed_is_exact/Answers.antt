@@ -1,5 +1,0 @@
-use Rattle.codec_laws.proofs.Streams.{feed_exact}
-use Rattle.codec_laws.proofs.feed_is_exact.Goals as goal
-
-pub returns : goal.returns
-returns g c = λ P real. feed_exact P real

@@ -1,5 +1,0 @@
-use Rattle.codec_laws.proofs.Messages.{message_exact}
-use Rattle.codec_laws.proofs.message_is_exact.Goals as goal
-
-pub returns : goal.returns
-returns g c = λ P real. message_exact P real

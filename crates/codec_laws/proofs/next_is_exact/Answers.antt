@@ -1,5 +1,0 @@
-use Rattle.codec_laws.proofs.Messages.{next_exact}
-use Rattle.codec_laws.proofs.next_is_exact.Goals as goal
-
-pub returns : goal.returns
-returns g c = λ P real. next_exact P real

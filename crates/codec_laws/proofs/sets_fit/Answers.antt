@@ -1,5 +1,0 @@
-use Rattle.codec_laws.proofs.Made.{sets_fit_lem}
-use Rattle.codec_laws.proofs.sets_fit.Goals as goal
-
-pub returns : goal.returns
-returns g c = λ P. sets_fit_lem P

@@ -1,6 +1,0 @@
-use Rattle.std.proofs.Common.{IfSome}
-use Rattle.cost_core.specs.Plans.{IsPlanned}
-use Rattle.cost_core.proofs.planning.quickest.Given as goal
-
-abbrev pub invariant-loop-shipped : goal.invariant-loop-shipped
-invariant-loop-shipped l = IfSome l.best (IsPlanned l.task.sample)

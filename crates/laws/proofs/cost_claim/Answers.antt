@@ -1,5 +1,0 @@
-use Rattle.laws.proofs.Few.{cost_claim}
-use Rattle.laws.proofs.cost_claim.Goals as goal
-
-pub returns : goal.returns
-returns g c = λ S. cost_claim S

@@ -1,5 +1,0 @@
-use Rattle.laws.proofs.Pieces.{cuts_are_pieces}
-use Rattle.laws.proofs.cuts_are_pieces.Goals as goal
-
-pub returns : goal.returns
-returns c = cuts_are_pieces

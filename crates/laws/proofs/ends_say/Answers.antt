@@ -1,5 +1,0 @@
-use Rattle.laws.proofs.Saying.{ends_say}
-use Rattle.laws.proofs.ends_say.Goals as goal
-
-pub returns : goal.returns
-returns g c = λ S. ends_say S

@@ -1,5 +1,0 @@
-use Rattle.laws.proofs.Turns.{ends_talk}
-use Rattle.laws.proofs.ends_talk.Goals as goal
-
-pub returns : goal.returns
-returns g c = λ S. ends_talk S

@@ -1,5 +1,0 @@
-use Rattle.laws.proofs.Said.{frames_say}
-use Rattle.laws.proofs.frames_say.Goals as goal
-
-pub returns : goal.returns
-returns g c = λ S. frames_say S

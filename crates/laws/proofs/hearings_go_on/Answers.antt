@@ -1,5 +1,0 @@
-use Rattle.laws.proofs.GoingOn.{hearings_go_on}
-use Rattle.laws.proofs.hearings_go_on.Goals as goal
-
-pub returns : goal.returns
-returns g c = λ S. hearings_go_on S

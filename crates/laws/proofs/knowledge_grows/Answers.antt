@@ -1,5 +1,0 @@
-use Rattle.laws.proofs.Knowledge.{knowledge_grows}
-use Rattle.laws.proofs.knowledge_grows.Goals as goal
-
-pub returns : goal.returns
-returns g c = knowledge_grows

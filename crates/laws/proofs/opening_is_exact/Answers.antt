@@ -1,5 +1,0 @@
-use Rattle.laws.proofs.Placing.{opening_exact}
-use Rattle.laws.proofs.opening_is_exact.Goals as goal
-
-pub returns : goal.returns
-returns g c = opening_exact

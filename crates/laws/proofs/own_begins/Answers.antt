@@ -1,5 +1,0 @@
-use Rattle.laws.proofs.Said.{own_begins}
-use Rattle.laws.proofs.own_begins.Goals as goal
-
-pub returns : goal.returns
-returns g c = λ S. own_begins S

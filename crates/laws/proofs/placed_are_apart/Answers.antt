@@ -1,5 +1,0 @@
-use Rattle.laws.proofs.OpenRanges.{placed_are_apart}
-use Rattle.laws.proofs.placed_are_apart.Goals as goal
-
-pub returns : goal.returns
-returns g c = placed_are_apart

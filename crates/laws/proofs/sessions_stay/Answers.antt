@@ -1,5 +1,0 @@
-use Rattle.laws.proofs.Staying.{sessions_stay}
-use Rattle.laws.proofs.sessions_stay.Goals as goal
-
-pub returns : goal.returns
-returns g c = λ S. sessions_stay S

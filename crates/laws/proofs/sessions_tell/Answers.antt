@@ -1,5 +1,0 @@
-use Rattle.laws.proofs.Telling.{sessions_tell}
-use Rattle.laws.proofs.sessions_tell.Goals as goal
-
-pub returns : goal.returns
-returns g c = λ S. sessions_tell S

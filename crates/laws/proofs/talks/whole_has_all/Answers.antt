@@ -1,0 +1,5 @@
+use Rattle.laws.proofs.Knowledge.{items_in-whole}
+use Rattle.laws.proofs.talks.whole_has_all.Goals as goal
+
+pub returns : goal.returns
+returns c = items_in-whole

@@ -1,5 +1,0 @@
-use Rattle.laws.proofs.Turns.{talks_go_on}
-use Rattle.laws.proofs.talks_go_on.Goals as goal
-
-pub returns : goal.returns
-returns g c = λ S. talks_go_on S

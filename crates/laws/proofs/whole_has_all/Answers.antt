@@ -1,5 +1,0 @@
-use Rattle.laws.proofs.Knowledge.{items_in-whole}
-use Rattle.laws.proofs.whole_has_all.Goals as goal
-
-pub returns : goal.returns
-returns c = items_in-whole

@@ -1,3 +1,0 @@
-pub use Rattle.session_core.specs.Sessions
-pub mod Polls
-pub mod Links

@@ -1,9 +1,0 @@
--- The numbers of refusals.
-use Rattle.std.specs.Prelude.{ℕ}
-use Rattle.definitions.specs.Refusals.{accept, no_memory}
-use Rattle.outcome_core.specs.declared.source.SourceFault.{SourceFault}
-use Rattle.outcome_core.specs.declared.source.SourceFault.TheVariants.{Accept, Memory}
-
-abbrev pub source_fault_number : SourceFault → ℕ
-source_fault_number Accept = accept
-source_fault_number Memory = no_memory

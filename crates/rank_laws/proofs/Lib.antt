@@ -1,4 +1,0 @@
-pub mod Tables
-pub mod Checks
-pub mod Staircases
-pub mod StepsAlone

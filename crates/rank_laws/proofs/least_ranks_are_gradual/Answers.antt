@@ -1,5 +1,0 @@
-use Rattle.rank_laws.proofs.StepsAlone.{least_ranks_are_gradual}
-use Rattle.rank_laws.proofs.least_ranks_are_gradual.Goals as goal
-
-pub returns : goal.returns
-returns c = λ T e. least_ranks_are_gradual T e

@@ -1,5 +1,0 @@
-use Rattle.rank_laws.proofs.Checks.{serving, none_unfit}
-use Rattle.rank_laws.proofs.none_unfit.Goals as goal
-
-pub returns : goal.returns
-returns c = λ T steps. (serving T steps, none_unfit T steps)

@@ -1,0 +1,9 @@
+use Rattle.std.proofs.Common.{◌≤◌}
+use Rattle.sim_core.specs.Plans.{IsPlanned}
+use Rattle.sim_core.proofs.searching.searched.Given as goal
+
+abbrev pub invariant-loop : goal.invariant-loop
+invariant-loop g l = record {
+  planned : IsPlanned l.task.sample l.found.planned;
+  never_slower : l.found.planned.micros ≤ l.fn.start.micros;
+}
