@@ -20,7 +20,7 @@ use std::fs::File;
 use std::io::{Read, Write};
 use std::rt::Files;
 use std::thread::Threads;
-use store_core::{laws, spans};
+use store_core::{set_laws, spans};
 use strategy_check::Accepted;
 use toml::value::Table;
 use version_log::Log;
@@ -255,7 +255,7 @@ fn joined(items: Vec<Item>, more: &[Item], cap: usize) -> Result<Vec<Item>, Sett
     ensures rises { IfOk result (λ v. IsSet v.items) }
     ensures few { IfOk result (λ v. length v.items ≤ cap) }
 {
-    laws::set_of_a_list();
+    set_laws::set_of_a_list();
     let mut items = items;
     items.extend_from_slice(more)?;
     let items = spans::distinct(items);

@@ -8,7 +8,7 @@ use crate::entries::Entries;
 use item_core::Item;
 use std::alloc::{AllocError, Global};
 use std::collections::BTreeSet;
-use store_core::{RangeStore, Span, laws, spans};
+use store_core::{RangeStore, Span, set_laws, spans};
 
 /// How many items are copied at a time.
 const BLOCK: usize = 1_024;
@@ -21,8 +21,8 @@ pub(crate) fn first_entries(alloc: Global, items: &[Item]) -> Result<Entries, Al
     ensures once { IfOk result (λ entries. IsHistory entries) }
     ensures count { IfOk result (λ entries. length entries ≡ length (set_of items.now)) }
 {
-    laws::set_of_a_list();
-    laws::adding_an_item();
+    set_laws::set_of_a_list();
+    set_laws::adding_an_item();
     let mut seen = BTreeSet::new(alloc);
     let mut entries = Entries::with_room(alloc, items.len(), spans::bytes_in(items))?;
     for item in items {

@@ -12,7 +12,7 @@ use crate::first_entries::{first_entries, first_entries_of};
 use item_core::Item;
 use std::alloc::{AllocError, Global};
 use std::marker::Model;
-use store_core::{Insertion, RangeStore, laws, spans};
+use store_core::{Insertion, RangeStore, set_laws, spans};
 
 /// Who brought which item, in order, and a store of the items. Each item stands once.
 ///
@@ -118,7 +118,7 @@ impl<S: RangeStore> Log<S> {
         ensures memory { result ≡ Err LogFault.Memory →
             insertion self.old.cap self.old.history item ≡ New (length self.old.history + 1) }
     {
-        laws::set_of_a_list();
+        set_laws::set_of_a_list();
         if self.store.has(&item) {
             return Ok(Added::Already);
         }
