@@ -5,24 +5,24 @@
 -- with its reply to M, and the two meet again in that; a message with no open part leaves both over. So by induction
 -- both lists are those of the talk, which ends, and both ends are over. A side whose end is over refused nothing.
 -- docs/LAWS.md: Two sessions meet.
-use Rattle.std.proofs.Common.{◌≡◌, ℕ, zero, suc, ◌+◌, ◌<◌, ◌≤◌, Bool, true, false, List, [], ◌∷◌, ◌++◌, length, Some}
-use Rattle.std.proofs.Common.{Option, refl, sym, ap, subst, ◌∙◌, arith}
+use Rattle.std.proofs.Common.{◌≡◌, ℕ, zero, suc, ◌<◌, ◌≤◌, Bool, true, false, List, [], ◌∷◌, ◌++◌, length}
+use Rattle.std.proofs.Common.{refl, sym, ap, subst, ◌∙◌, arith}
 use Rattle.std.specs.Prelude.{if◌then◌else◌}
-use Rattle.definitions.proofs.Words.{AllByRecursion, IsBytes, Summary, Message, has_open, open_parts, opening, RangesRise}
-use Rattle.definitions.proofs.Words.{Peer, reply, of_first, of_second, talk, talk_from, Profile, IsMessage, session_text}
-use Rattle.definitions.proofs.Words.{Ready, rank, End, Ends, Replies, Over, Waits, Stage, after, after_answer, heard}
-use Rattle.definitions.proofs.Words.{initiator, responder, stage_after_reply, Speaker, initiating, responding, answers}
-use Rattle.definitions.proofs.Words.{answer, replied, says, session, message_bound, is_live, initiator_knows, responder_knows}
+use Rattle.definitions.proofs.Words.{AllByRecursion, IsBytes, Summary, Message, has_open, open_parts, opening}
+use Rattle.definitions.proofs.Words.{reply, of_first, of_second, talk, talk_from, Profile, IsMessage}
+use Rattle.definitions.proofs.Words.{End, Ends, Replies, Over, Waits, after, after_answer, heard}
+use Rattle.definitions.proofs.Words.{initiator, responder, Speaker, initiating, responding, answers}
+use Rattle.definitions.proofs.Words.{answer, replied, says, is_live, initiator_knows, responder_knows}
 use Rattle.definitions.proofs.Words.{KnowsDifference, KnowsNothingWrong}
-use Rattle.definitions.specs.Engines.{messages_in, own}
+use Rattle.definitions.specs.Engines.{messages_in}
 use Rattle.definitions.specs.Ends.{is_over}
 use Rattle.definitions.specs.Hearing.{Hearing, Goes_on, Over_at, Peer_refused, Refused_for, hearing_to, first_fault}
 use Rattle.definitions.proofs.Lemmas.{All-map}
 use Rattle.laws.specs.Hearing.{AgreesBy}
-use Rattle.laws.specs.Meeting.{AreSpelled, IsPeer, HasSaid, HaveMet, TwoSessionsMeet, refusal_text, written_to}
+use Rattle.laws.specs.Meeting.{AreSpelled, TwoSessionsMeet, written_to}
 use Rattle.laws.proofs.Turns.{Meets, not_refused, hears, meets_on, two_meet, ends_talk}
 use Rattle.laws.proofs.Saying.{says_none, answers-counted}
-use Rattle.laws.proofs.Hearing.{bytes_agree, over-not-live}
+use Rattle.laws.proofs.Hearing.{bytes_agree}
 use Rattle.laws.proofs.Ends.{messages_are_few, messages_have_ranges, lists_are_short}
 use Rattle.laws.proofs.Stops.{initiator_stops, responder_stops}
 use Rattle.laws.proofs.Streams.{heard_messages, refused_heard}

@@ -3,16 +3,16 @@
 -- is a range, and its Sum has a spelling. Lists of a set's items and its Answers fit (Made). A reply with too many parts
 -- is not said, so each message that is said has a spelling.
 -- docs/LAWS.md: Two sessions meet.
-use Rattle.std.proofs.Common.{◌≡◌, ℕ, zero, suc, ◌+◌, ◌-◌, ◌<◌, ◌≤◌, Bool, List, [], ◌∷◌, ◌++◌, length, filter}
-use Rattle.std.proofs.Common.{Option, Some, None, get_or, map, sum, refl, sym, ap, subst, ◌∙◌, arith}
+use Rattle.std.proofs.Common.{◌≡◌, ℕ, ◌+◌, ◌-◌, ◌<◌, ◌≤◌, List, [], ◌∷◌, length}
+use Rattle.std.proofs.Common.{Option, Some, None, get_or, map, sum, refl, sym, subst, ◌∙◌, arith}
 use Rattle.definitions.proofs.Words.{AllByRecursion, Item, IsItem, IsBytes, IsLower, IsUpper, IsRange, Range, Rises, whole}
 use Rattle.definitions.proofs.Words.{ranges_between, separator, IsSet, items_in, inner_cuts, bound_at, Bounds, At_items}
-use Rattle.definitions.proofs.Words.{Short, Table, act, shares, Summary, Part, Sum, Listing, Message, has_open, opening}
-use Rattle.definitions.proofs.Words.{Peer, sum_of, answer_to, reply, Profile, IsProfile, IsPart, IsMessage, range_text}
+use Rattle.definitions.proofs.Words.{Short, act, shares, Summary, Message, has_open, opening}
+use Rattle.definitions.proofs.Words.{Peer, sum_of, reply, Profile, IsProfile, IsPart, IsMessage, range_text}
 use Rattle.definitions.proofs.Words.{max_parts, AreParts, End, Ends, Replies, Refuses, after, answer, answer_unless}
 use Rattle.definitions.proofs.Words.{answers, replied, stage_fault, is_sendable, reply_or_refuse, too_many_parts}
 use Rattle.definitions.specs.Wire.{IsFingerprint}
-use Rattle.definitions.proofs.Lemmas.{All-append, All-at, All-map, All-filter, cond_both, leb-true, length-append}
+use Rattle.definitions.proofs.Lemmas.{All-append, All-at, All-map, cond_both, leb-true, length-append}
 use Rattle.definitions.proofs.Lemmas.{sum_by-cons}
 use Rattle.laws.proofs.Tables.{sum-shares_by, shares_by-positive}
 use Rattle.laws.proofs.PeerCuts.{peer_cuts, peer_cutup, peer_cutup-rises, All-into_map, reply-each}
