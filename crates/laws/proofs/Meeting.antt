@@ -5,24 +5,25 @@
 -- with its reply to M, and the two meet again in that; a message with no open part leaves both over. So by induction
 -- both lists are those of the talk, which ends, and both ends are over. A side whose end is over refused nothing.
 -- docs/LAWS.md: Two sessions meet.
-use Rattle.std.proofs.Common.{◌≡◌, ℕ, zero, suc, ◌<◌, ◌≤◌, Bool, true, false, List, [], ◌∷◌, ◌++◌, length}
+use Rattle.std.proofs.Common.{◌≡◌, ℕ, zero, suc, ◌<◌, ◌≤◌, Bool, true, false, List, [], ◌∷◌, ◌++◌, length, take}
 use Rattle.std.proofs.Common.{refl, sym, ap, subst, ◌∙◌, arith}
 use Rattle.std.specs.Prelude.{if◌then◌else◌}
-use Rattle.definitions.proofs.Words.{AllByRecursion, IsBytes, Summary, Message, has_open, open_parts, opening}
-use Rattle.definitions.proofs.Words.{reply, of_first, of_second, talk, talk_from, Profile, IsMessage}
-use Rattle.definitions.proofs.Words.{End, Ends, Replies, Over, Waits, after, after_answer, heard}
-use Rattle.definitions.proofs.Words.{initiator, responder, Speaker, initiating, responding, answers}
-use Rattle.definitions.proofs.Words.{answer, replied, says, is_live, initiator_knows, responder_knows}
-use Rattle.definitions.proofs.Words.{KnowsDifference, KnowsNothingWrong}
-use Rattle.definitions.specs.Engines.{messages_in}
+use Rattle.std.proofs.Math.Seq.{take-length}
+use Rattle.definitions.proofs.Words.{AllByRecursion, IsBytes, Summary, Message, has_open, open_parts, opening, Peer}
+use Rattle.definitions.proofs.Words.{reply, of_first, of_second, talk, talk_from, initiator_knows, responder_knows}
+use Rattle.definitions.proofs.Words.{KnowsDifference, KnowsNothingWrong, Profile, IsMessage, session_text, End, Ends}
+use Rattle.definitions.proofs.Words.{Replies, Over, Waits, after, after_answer, heard, is_live, initiator, responder}
+use Rattle.definitions.proofs.Words.{Speaker, initiating, responding, answers, answer, replied, says, session}
+use Rattle.definitions.specs.Engines.{messages_in, own}
 use Rattle.definitions.specs.Ends.{is_over}
+use Rattle.definitions.specs.Accounts.{Role, Initiates, Responds, speaker_of}
 use Rattle.definitions.specs.Hearing.{Hearing, Goes_on, Over_at, Peer_refused, Refused_for, hearing_to, first_fault}
-use Rattle.definitions.proofs.Lemmas.{All-map}
+use Rattle.definitions.proofs.Lemmas.{All-map, append-nil}
 use Rattle.laws.specs.Hearing.{AgreesBy}
-use Rattle.laws.specs.Meeting.{AreSpelled, TwoSessionsMeet, written_to}
+use Rattle.laws.specs.Meeting.{AreSpelled, TwoSessionsMeet, EndedCallsWriteAll, written_to, refusal_text}
 use Rattle.laws.proofs.Turns.{Meets, not_refused, hears, meets_on, two_meet, ends_talk}
 use Rattle.laws.proofs.Saying.{says_none, answers-counted}
-use Rattle.laws.proofs.Hearing.{bytes_agree}
+use Rattle.laws.proofs.Hearing.{bytes_agree, over-not-live}
 use Rattle.laws.proofs.Ends.{messages_are_few, messages_have_ranges, lists_are_short}
 use Rattle.laws.proofs.Stops.{initiator_stops, responder_stops}
 use Rattle.laws.proofs.Streams.{heard_messages, refused_heard}
@@ -95,14 +96,14 @@ module _ {F : Type 0} (S : Summary F) where
 
 -- ==== Two sides
 
--- a side whose session is over refused nothing
-ended : {F : Type 0} (e : End F) (said called : List (Message F)) (h : Hearing F) → e.stage ≡ Over →
-    AgreesBy e said called h → h ≡ Over_at e
+-- a side whose session is over refused nothing, and said all that was called for
+ended : {F : Type 0} (e : End F) (said called : List (Message F)) (h : Hearing F) → is_over e.stage ≡ true →
+    AgreesBy e said called h → (h ≡ Over_at e) × (called ≡ said)
 ended e said called (Goes_on f t) over (is, live, same) =
-    let dead : is_live f.stage ≡ false = ap (λ x. is_live x.stage) is ∙ ap is_live over in absurd cc
-ended e said called (Over_at f) over (is, at, same) = ap Over_at is
-ended e said called (Peer_refused code) over (goes, same) = let wrong = ap is_over over in absurd cc
-ended e said called (Refused_for code) over (goes, same) = let wrong = ap is_over over in absurd cc
+    let dead : is_live f.stage ≡ false = ap (λ x. is_live x.stage) is ∙ over-not-live e.stage over in absurd cc
+ended e said called (Over_at f) over (is, at, same) = (ap Over_at is, same)
+ended e said called (Peer_refused code) over (goes, same) = absurd cc
+ended e said called (Refused_for code) over (goes, same) = absurd cc
 
 module _ {F : Type 0} (S : Summary F) (W : Profile F) where
   -- it is heard as it was said, and a refusal after it is no message
@@ -144,14 +145,14 @@ module _ {F : Type 0} (S : Summary F) (W : Profile F) where
       let sound = sound_knowledge S I R k i.ready.set r.ready.set in
       record {
         initiator = record {
-          ended = ended (heard S (initiator S I) Bs) _ _ (hearing_to S W (initiating S I) first answered) m.speaker
-              (bytes_agree S W (initiating S I) first answered refl);
+          ended = (ended (heard S (initiator S I) Bs) _ _ (hearing_to S W (initiating S I) first answered)
+              (ap is_over m.speaker) (bytes_agree S W (initiating S I) first answered refl)).0;
           said = own;
           sent = omega (arith, answers-counted S (initiator S I) Bs, ap length own);
         };
         responder = record {
-          ended = ended (heard S (responder R) As) _ _ (hearing_to S W (responding R) second asked) m.hearer
-              (bytes_agree S W (responding R) second asked refl);
+          ended = (ended (heard S (responder R) As) _ _ (hearing_to S W (responding R) second asked)
+              (ap is_over m.hearer) (bytes_agree S W (responding R) second asked refl)).0;
           said = own';
           sent = omega (arith, answers-counted S (responder R) As, ap length own');
         };
@@ -179,3 +180,24 @@ module _ {F : Type 0} (S : Summary F) (W : Profile F) where
               subst (λ k. KnowsDifference k R.items I.items) (sym learned') exact.1,
             );
       }
+
+  -- ---- calls
+
+  -- a side is live before it gets anything
+  starts-live : (role : Role) (P : Peer) → is_live (speaker_of S role P).start.stage ≡ true
+  starts-live Initiates P = refl
+  starts-live Responds P = refl
+
+  pub ended_calls_write_all : EndedCallsWriteAll S W
+  ended_calls_write_all role P c k learned version speaks outcome =
+      let s : Speaker F = c.speaker in
+      let Ms : List (Message F) = messages_in W c.read in
+      let at = ended (session S s Ms) (says S s Ms) (own S s Ms) (hearing_to S W s c.reader.ended c.read) outcome.over
+      (bytes_agree S W s c.reader.ended c.read
+      (ap (λ x. is_live x.start.stage) speaks ∙ starts-live role P)) in (
+        outcome.wrote.written ∙ ap (λ n. session_text W (take n (own S s Ms))) (sym outcome.wrote.count)
+            ∙ ap (session_text W) (take-length (own S s Ms) ∙ at.1)
+            ∙ sym (append-nil (session_text W (says S s Ms)))
+            ∙ ap (λ x. session_text W (says S s Ms) ++ refusal_text (first_fault x)) (sym at.0),
+        outcome.learned_is,
+      )

@@ -6,6 +6,7 @@
 --     HasSaid s over bytes Ns     its session is over, and these are its messages
 --     HaveMet I R i r .. Ms       both sessions are over, and their messages are those of the talk Ms
 --     TwoSessionsMeet S W         however the two got there
+--     EndedCallsWriteAll S W      a call whose session has ended wrote all of it
 use Rattle.std.specs.Prelude.{◌≡◌, ℕ, ◌+◌, ◌≤◌, ◌<◌, Bool, List, [], ◌++◌, length, Option, Some, None}
 use Rattle.std.specs.List.{AllByRecursion}
 use Rattle.definitions.specs.Items.{Item, IsItem, IsBytes}
@@ -20,6 +21,7 @@ use Rattle.definitions.specs.Wire.{Profile, IsProfile, IsFingerprint, session_te
 use Rattle.definitions.specs.Engines.{Speaker, initiating, responding, says, session, messages_in}
 use Rattle.definitions.specs.Hearing.{Over_at, hearing_to, first_fault}
 use Rattle.definitions.specs.Worlds.{message_bound}
+use Rattle.definitions.specs.Accounts.{Call, Role, IsEnded, speaker_of}
 
 -- by which a side refuses, if it does
 abbrev pub refusal_text : Option ℕ → List ℕ
@@ -76,3 +78,9 @@ module _ {F : Type 0} (S : Summary F) (W : Profile F) where
       asked ≡ written_to (initiating S I) first answered → answered ≡ written_to (responding R) second asked →
       message_bound (rank f I) (rank g R) < k →
       HaveMet I R (rank f I) (rank g R) first second asked answered (talk S I R k)
+
+  -- so the law is one of such calls, too
+  abbrev pub EndedCallsWriteAll : Type 0
+  EndedCallsWriteAll = (role : Role) (P : Peer) (c : Call F) (k : ℕ) (learned : Knowledge) (version : ℕ) →
+      c.speaker ≡ speaker_of S role P → IsEnded S W c k learned version →
+      (c.written ≡ written_to c.speaker c.reader.ended c.read) × (learned ≡ learned_from c.speaker c.read)
