@@ -1,3 +1,3 @@
+mod Arrivals
 mod Once
-mod Packs
 mod Rising

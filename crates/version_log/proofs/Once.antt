@@ -1,20 +1,24 @@
 -- Histories in which each item stands once.
-use Rattle.std.proofs.Common.{◌≡◌, ℕ, ◌+◌, ◌<◌, ◌≤◌, Bool, true, false, not, List, [], ◌∷◌, ◌++◌, length, take}
+use Rattle.std.proofs.Common.{◌≡◌, ℕ, ◌+◌, ◌<◌, ◌≤◌, Bool, true, false, List, [], ◌∷◌, ◌++◌, length, take}
 use Rattle.std.proofs.Common.{drop, get_or, refl, sym, ap, subst, ◌∙◌, arith}
-use Rattle.std.specs.Prelude.{fold, IsTrue, if◌then◌else◌}
-use Rattle.std.specs.List.{AllByRecursion, IsDistinct, list_any}
-use Rattle.std.specs.BTreeMap.{is_at}
-use Rattle.std.specs.BTreeSet.{contains}
+use Rattle.std.specs.Prelude.{fold, Some, IfSome, Ok, nat_lt, if◌then◌else◌}
+use Rattle.std.specs.List.{AllByRecursion, IsDistinct, slice_get}
 use Rattle.std.specs.Ordering.{match_ordering}
 use Rattle.std.specs.declared.cmp.Ordering.{Ordering}
 use Rattle.std.specs.declared.cmp.Ordering.TheVariants.{Less, Equal, Greater}
 use Rattle.std.proofs.lemmas.List.Sums.{fold_more}
 use Rattle.std.proofs.lemmas.List.{take-append-drop}
-use Rattle.std.proofs.lemmas.Map.Text.{is_eq-slice_cmp}
+use Rattle.std.proofs.lemmas.List.{take_more}
+use Rattle.std.proofs.lemmas.Option.{get_or_from_slice_get}
 use Rattle.definitions.specs.Items.{Item, item_cmp, same_item}
-use Rattle.definitions.specs.Sets.{IsSet, has, add_item, union, set_of}
-use Rattle.definitions.specs.Histories.{History, IsHistory, items_of, content, with_item, opening_history}
-use Rattle.version_log.specs.Logs.{IsLog, log}
+use Rattle.definitions.specs.Sets.{has, add_item, union, set_of}
+use Rattle.definitions.specs.Histories.{History, IsHistory, items_of, content, with_item, opening_history, insertion}
+use Rattle.definitions.specs.Histories as histories
+use Rattle.version_log.specs.Answers.{insertion_in}
+use Rattle.version_log.specs.Logs.{IsLog, log, log_after}
+use Rattle.version_log.specs.declared.answer.Added.{Added}
+use Rattle.version_log.specs.declared.answer.Added.TheVariants.{New, Already}
+use Rattle.store_core.proofs.Made.{add_again, has_set_of, set_of_is_set}
 use Rattle.definitions.proofs.Lemmas.{All-append, All-both, All-every, same_item-eq, same_item-itself, item_cmp-eq}
 use Rattle.definitions.proofs.Lemmas.{or_parts, or_from, fold-append, length-append, length-map, map-append}
 
@@ -138,54 +142,19 @@ writers_after n h (x ∷ xs) some below =
 pub writers_opened : (n : ℕ) (xs : List Item) → 1 ≤ n → AllByRecursion (λ e. e.0 < n) (opening_history xs)
 writers_opened n xs some = writers_after n [] xs some tt
 
-not_twice : (b : Bool) → not (not b) ≡ b
-not_twice true = refl
-not_twice false = refl
+content_by : (h : History) (x : Item) (b : Bool) → has (items_of h) x ≡ b →
+    content (if b then h else h ++ (0, x) ∷ []) ≡ add_item (content h) x
+content_by h x true e = sym (add_again (content h) x (set_of_is_set (items_of h)) (has_set_of (items_of h) x ∙ e))
+content_by h x false e = content_push h 0 x
 
-has_by_order : (A : List Item) (x : Item) → list_any (is_at (item_cmp x)) A ≡ has A x
-has_by_order [] x = refl
-has_by_order (y ∷ ys) x = rw (is_eq-slice_cmp x y, has_by_order ys x) refl
+content_after : (h : History) (xs : List Item) → content (fold with_item h xs) ≡ union (content h) xs
+content_after h [] = refl
+content_after h (x ∷ xs) =
+    content_after (with_item h x) xs ∙ ap (λ A. union A xs) (content_by h x (has (items_of h) x) refl)
 
--- by the laws of sets
-module _ (are_sets : (xs : List Item) → IsSet (set_of xs))
-    (has_all : (xs : List Item) (x : Item) → has (set_of xs) x ≡ has xs x)
-    (again : (A : List Item) (x : Item) → IsSet A → IsTrue (has A x) → add_item A x ≡ A) where
-  content_by : (h : History) (x : Item) (b : Bool) → has (items_of h) x ≡ b →
-      content (if b then h else h ++ (0, x) ∷ []) ≡ add_item (content h) x
-  content_by h x true e = sym (again (content h) x (are_sets (items_of h)) (has_all (items_of h) x ∙ e))
-  content_by h x false e = content_push h 0 x
-
-  pub content_with : (h : History) (x : Item) → content (with_item h x) ≡ add_item (content h) x
-  content_with h x = content_by h x (has (items_of h) x) refl
-
-  content_after : (h : History) (xs : List Item) → content (fold with_item h xs) ≡ union (content h) xs
-  content_after h [] = refl
-  content_after h (x ∷ xs) = content_after (with_item h x) xs ∙ ap (λ A. union A xs) (content_with h x)
-
-  pub content_opened : (xs : List Item) → content (opening_history xs) ≡ set_of xs
-  content_opened xs = content_after [] xs
-
-  pub length_opened : (xs : List Item) → length (opening_history xs) ≡ length (set_of xs)
-  length_opened xs = sym (length-content (opening_history xs) (once_opened xs)) ∙ ap length (content_opened xs)
-
-  -- a set tells whether the item is new
-  pub is_new : (h : History) (K : List Item) (x : Item) (b : Bool) → K ≡ content h →
-      b ≡ not (contains item_cmp (record { keys = K }) x) → has (items_of h) x ≡ not b
-  is_new h K x b all test = sym (has_all (items_of h) x) ∙ ap (λ A. has A x) (sym all) ∙ sym (has_by_order K x)
-      ∙ sym (not_twice (contains item_cmp (record { keys = K }) x)) ∙ ap not (sym test)
-
-  -- one item more
-  pub opens : (xs : List Item) (i : ℕ) (x : Item) (h g : History) (K : List Item) (b : Bool) → i < length xs →
-      x ≡ get_or xs i x → h ≡ opening_history (take i xs) → K ≡ content h →
-      b ≡ not (contains item_cmp (record { keys = K }) x) → g ≡ (if not b then h else h ++ (0, x) ∷ []) →
-      (g ≡ opening_history (take (i + 1) xs)) × (add_item K x ≡ content g)
-  opens xs i x h g K b below at so_far all test grown =
-      let old = is_new h K x b all test in
-      let next : opening_history (take (i + 1) xs) ≡ with_item h x =
-      fold_more with_item [] xs i x below ∙ ap (λ y. with_item (opening_history (take i xs)) y) (sym at)
-      ∙ ap (λ f. with_item f x) (sym so_far) in
-      let with : with_item h x ≡ g = ap (λ t. if t then h else h ++ (0, x) ∷ []) old ∙ sym grown in
-      (sym with ∙ sym next, ap (λ A. add_item A x) all ∙ sym (content_with h x) ∙ ap content with)
+pub length_opened : (xs : List Item) → length (opening_history xs) ≡ length (set_of xs)
+length_opened xs =
+    sym (length-content (opening_history xs) (once_opened xs)) ∙ ap length (content_after [] xs)
 
 -- ---- a history that opens only grows
 
@@ -198,22 +167,75 @@ length_after h [] = omega arith
 length_after h (x ∷ xs) =
     omega (arith, length_with h x (has (items_of h) x), length_after (with_item h x) xs)
 
--- what the first items open has no more entries than what all do
-pub length_of_first : (n : ℕ) (xs : List Item) → length (opening_history (take n xs)) ≤ length (opening_history xs)
-length_of_first n xs =
-    let all : opening_history xs ≡ fold with_item (opening_history (take n xs)) (drop n xs) =
-    ap opening_history (sym (take-append-drop n xs)) ∙ fold-append with_item [] (take n xs) (drop n xs) in
-    let same = ap length all in
-    omega (arith, length_after (opening_history (take n xs)) (drop n xs))
+-- what the first items make of it has no more entries than what all do
+length_of_first : (n : ℕ) (h : History) (xs : List Item) →
+    length (fold with_item h (take n xs)) ≤ length (fold with_item h xs)
+length_of_first n h xs =
+    let all : fold with_item h xs ≡ fold with_item (fold with_item h (take n xs)) (drop n xs) =
+    ap (fold with_item h) (sym (take-append-drop n xs)) ∙ fold-append with_item h (take n xs) (drop n xs) in
+    omega (arith, ap length all, length_after (fold with_item h (take n xs)) (drop n xs))
 
--- so there is room for one more where it is new
-pub room_for_one : (xs : List Item) (i : ℕ) (x : Item) (h : History) → i < length xs → x ≡ get_or xs i x →
-    h ≡ opening_history (take i xs) → has (items_of h) x ≡ false → length (opening_history xs) ≤ 65536 →
-    length h < 65536
-room_for_one xs i x h below at so_far new few =
-    let next : opening_history (take (i + 1) xs) ≡ with_item h x =
-    fold_more with_item [] xs i x below ∙ ap (λ y. with_item (opening_history (take i xs)) y) (sym at)
-    ∙ ap (λ f. with_item f x) (sym so_far) in
-    let grown : with_item h x ≡ h ++ (0, x) ∷ [] = ap (λ b. if b then h else h ++ (0, x) ∷ []) new in
-    let same = ap length (next ∙ grown) in
-    omega (arith, length_of_first (i + 1) xs, length-append h ((0, x) ∷ []))
+-- the first items open a log, and the others come to it
+pub opened_on : (n : ℕ) (xs front others : List Item) (h : History) → front ≡ take n xs → others ≡ drop n xs →
+    h ≡ opening_history front → fold with_item h others ≡ opening_history xs
+opened_on n xs front others h is_front are_others opened =
+    (λ i. fold with_item (opened i) (are_others i)) ∙ ap (λ f. fold with_item (opening_history f) (drop n xs)) is_front
+    ∙ sym (fold-append with_item [] (take n xs) (drop n xs)) ∙ ap opening_history (take-append-drop n xs)
+
+-- ---- one insert
+
+new_in : (cap : ℕ) (h : History) (x : Item) (v : ℕ) (b : Bool) → has (content h) x ≡ b →
+    histories.New v ≡ insertion cap h x → has (items_of h) x ≡ false
+new_in cap h x v true e told = absurd (grind arith)
+new_in cap h x v false e told = sym (has_set_of (items_of h) x) ∙ e
+
+lacks_in : (cap : ℕ) (h : History) (x : Item) (b : Bool) → has (content h) x ≡ b →
+    histories.Full ≡ insertion cap h x → has (items_of h) x ≡ false
+lacks_in cap h x true e told = absurd (grind arith)
+lacks_in cap h x false e told = sym (has_set_of (items_of h) x) ∙ e
+
+old_by : (cap : ℕ) (h : History) (x : Item) (b room : Bool) → has (content h) x ≡ b →
+    nat_lt (length (content h)) cap ≡ room → histories.Already ≡ insertion cap h x → b ≡ true
+old_by cap h x true room e r told = refl
+old_by cap h x false true e r told = absurd (grind arith)
+old_by cap h x false false e r told = absurd (grind arith)
+
+old_in : (cap : ℕ) (h : History) (x : Item) → histories.Already ≡ insertion cap h x → has (items_of h) x ≡ true
+old_in cap h x told =
+    sym (has_set_of (items_of h) x)
+    ∙ old_by cap h x (has (content h) x) (nat_lt (length (content h)) cap) refl refl told
+
+with_new : (h : History) (x : Item) → has (items_of h) x ≡ false → with_item h x ≡ h ++ (0, x) ∷ []
+with_new h x new = ap (λ b. if b then h else h ++ (0, x) ∷ []) new
+
+with_old : (h : History) (x : Item) → has (items_of h) x ≡ true → with_item h x ≡ h
+with_old h x old = ap (λ b. if b then h else h ++ (0, x) ∷ []) old
+
+-- what an insert by writer 0 makes of a history, where there was room
+pub added_is : (cap next : ℕ) (h : History) (x : Item) (a : Added) →
+    IfSome (insertion_in (Ok a)) (λ o. o ≡ insertion cap h x) →
+    log_after (log cap h next) 0 x (insertion_in (Ok a)) ≡ log cap (with_item h x) next
+added_is cap next h x (New v) told = let new = new_in cap h x v (has (content h) x) refl told in
+    ap (λ g. log cap g next) (sym (with_new h x new))
+added_is cap next h x Already told = ap (λ g. log cap g next) (sym (with_old h x (old_in cap h x told)))
+
+-- where there was none, all items are more than the cap
+pub full_is : (cap : ℕ) (h : History) (xs : List Item) (k : ℕ) (x : Item) → k < length xs → x ≡ get_or xs k x →
+    length (fold with_item h (take k xs)) ≡ cap →
+    histories.Full ≡ insertion cap (fold with_item h (take k xs)) x → cap < length (fold with_item h xs)
+full_is cap h xs k x low at same told =
+    let g : History = fold with_item h (take k xs) in
+    let more : fold with_item h (take (k + 1) xs) ≡ with_item g x =
+    fold_more with_item h xs k x low ∙ ap (λ y. with_item g y) (sym at) in
+    let new = lacks_in cap g x (has (content g) x) refl told in
+    let grown = ap length (more ∙ with_new g x new) in
+    omega (arith, length-append g ((0, x) ∷ []), length_of_first (k + 1) h xs)
+
+-- ---- the items of the first entries, one more
+
+pub items_more : (h : History) (k : ℕ) (e : ℕ × Item) → k < length h → slice_get h k ≡ Some e →
+    items_of (take (k + 1) h) ≡ items_of (take k h) ++ e.1 ∷ []
+items_more h k e low is =
+    ap items_of (take_more h k e low)
+    ∙ map-append (λ (a : ℕ × Item). a.1) (take k h) (get_or h k e ∷ [])
+    ∙ ap (λ (a : ℕ × Item). items_of (take k h) ++ a.1 ∷ []) (get_or_from_slice_get h k e e is)

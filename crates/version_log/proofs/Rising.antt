@@ -1,23 +1,28 @@
--- What a log opens with where its items rise: an entry each, in their order.
-use Rattle.std.proofs.Common.{◌≡◌, ℕ, ◌+◌, ◌-◌, ◌≤◌, false, List, [], ◌∷◌, ◌++◌, length, map, fold, take, drop}
-use Rattle.std.proofs.Common.{append_assoc, refl, sym, ap, ◌∙◌, arith}
-use Rattle.std.proofs.Math.Seq.{take-add}
-use Rattle.std.proofs.lemmas.List.{drop-take, map-append}
+-- Items that rise: what a log opens with is an entry each, in their order.
+use Rattle.std.proofs.Common.{◌≡◌, ℕ, ◌+◌, ◌-◌, ◌<◌, ◌≤◌, false, List, [], ◌∷◌, ◌++◌, length, map, fold, take}
+use Rattle.std.proofs.Common.{get_or, append_assoc, refl, sym, ap, subst, ◌∙◌, arith}
+use Rattle.std.proofs.lemmas.List.{take_more}
 use Rattle.std.specs.List.{AllByRecursion, IsDistinct}
-use Rattle.std.specs.Ordering.{eq_by_cmp}
+use Rattle.std.specs.List.Sorted.{IsStrictlySortedBy}
+use Rattle.std.specs.Ordering.{eq_by_cmp, is_ge}
+use Rattle.std.specs.declared.cmp.Ordering.{Ordering}
+use Rattle.std.specs.declared.cmp.Ordering.TheVariants.{Less, Equal, Greater}
+use Rattle.std.proofs.lemmas.Cmp.{nat_list_cmp_total}
 use Rattle.std.proofs.lemmas.Map.Keys.{IsDistinct-from_sorted}
 use Rattle.std.proofs.lemmas.Map.Text.{is_eq-slice_cmp}
 use Rattle.definitions.specs.Items.{Item, item_cmp, same_item}
 use Rattle.definitions.specs.Sets.{IsSet, has, set_of}
 use Rattle.definitions.specs.Histories.{History, content, items_of, opening_history, with_item}
-use Rattle.definitions.proofs.Lemmas.{All-both, All-every, append-nil, length-map, or_from, or_parts}
-use Rattle.store_core.specs.Stores.{span}
+use Rattle.definitions.proofs.Lemmas.{All-append, All-both, All-every, append-nil, length-map, or_from, or_parts}
 use Rattle.store_core.proofs.Made.{same_set, set_of_is_set, has_set_of}
-use Rattle.version_log.proofs.Once.{differs_back, items_push}
+use Rattle.version_log.specs.declared.arrival.Arrival.{Arrival}
+use Rattle.version_log.specs.Arrivals.{HaveCome, history_of}
+use Rattle.version_log.specs.Logs.{IsLog, IsCap, IsNextWriter, log}
+use Rattle.version_log.proofs.Once.{differs_back, items_push, once_opened, writers_opened}
 
 -- an entry for each item, in their order
-abbrev pub entries_of : List Item → History
-entries_of xs = map (λ (x : Item). (0, x)) xs
+abbrev entries_by_0 : List Item → History
+entries_by_0 xs = map (λ (x : Item). (0, x)) xs
 
 -- ---- each item of a set stands once
 
@@ -48,7 +53,7 @@ still_lacks h x y lacks other =
     ap (λ xs. has xs y) (items_push h 0 x) ∙ lacks_push (items_of h) x y lacks (differs_back x y other)
 
 opened_after : (h : History) (xs : List Item) → AllByRecursion (λ y. has (items_of h) y ≡ false) xs →
-    IsDistinct same_item xs → fold with_item h xs ≡ h ++ entries_of xs
+    IsDistinct same_item xs → fold with_item h xs ≡ h ++ entries_by_0 xs
 unfolding IsDistinct
 opened_after h [] new once = sym (append-nil h)
 opened_after h (x ∷ xs) new once =
@@ -58,30 +63,86 @@ opened_after h (x ∷ xs) new once =
     All-both (λ y. has (items_of h) y ≡ false) (λ y. same_item x y ≡ false) (λ y. has (items_of grown) y ≡ false)
     (λ y a b. still_lacks h x y a b) xs new.1 once.0 in
     ap (λ g. fold with_item g xs) with ∙ opened_after grown xs later once.1
-    ∙ append_assoc h ((0, x) ∷ []) (entries_of xs)
+    ∙ append_assoc h ((0, x) ∷ []) (entries_by_0 xs)
 
-pub opened_with : (A : List Item) → IsSet A → opening_history A ≡ entries_of A
+opened_with : (A : List Item) → IsSet A → opening_history A ≡ entries_by_0 A
 opened_with A set = opened_after [] A (All-every (λ y. has [] y ≡ false) (λ y. refl) A) (once_in_set A set)
 
-items_of_entries : (xs : List Item) → items_of (entries_of xs) ≡ xs
+items_of_entries : (xs : List Item) → items_of (entries_by_0 xs) ≡ xs
 items_of_entries [] = refl
 items_of_entries (x ∷ xs) = ap (λ ys. x ∷ ys) (items_of_entries xs)
 
 set_again : (A : List Item) → IsSet A → set_of A ≡ A
 set_again A set = same_set (set_of A) A (set_of_is_set A) set (has_set_of A)
 
-pub content_with_all : (A : List Item) → IsSet A → content (entries_of A) ≡ A
+content_with_all : (A : List Item) → IsSet A → content (entries_by_0 A) ≡ A
 content_with_all A set = ap set_of (items_of_entries A) ∙ set_again A set
 
-pub length_with_all : (A : List Item) → length (entries_of A) ≡ length A
+length_with_all : (A : List Item) → length (entries_by_0 A) ≡ length A
 length_with_all A = length-map A (λ (x : Item). (0, x))
 
--- the entries of the items before a place, and of those from there up to another
-pub entries_on : (A : List Item) (from to : ℕ) → from ≤ to →
-    entries_of (take from A) ++ entries_of (span from to A) ≡ entries_of (take to A)
-entries_on A from to order =
-    let rest : from + (to - from) ≡ to = omega (arith, order) in
-    sym (map-append (λ (x : Item). (0, x)) (take from A) (span from to A))
-    ∙ ap (λ xs. entries_of (take from A ++ xs))
-    (ap (λ n. drop from (take n A)) (sym rest) ∙ drop-take from (to - from) A)
-    ∙ ap entries_of (sym (take-add from (to - from) A) ∙ ap (λ n. take n A) rest)
+-- a log that no entry has come to
+pub rests : (cap next : ℕ) (ls : List Arrival) (A : List Item) → ls ≡ [] → IsSet A → IsCap cap → IsNextWriter next →
+    length A ≤ cap →
+    HaveCome ls A × (A ≡ content (history_of ls A)) × IsLog (log cap (history_of ls A) next)
+rests cap next ls A none set is_cap is_next fits =
+    let with = opened_with A set in
+    let all : history_of [] A ≡ opening_history A = append-nil (entries_by_0 A) ∙ sym with in
+    rw (none, all) (
+      tt,
+      sym (ap content with ∙ content_with_all A set),
+      record {
+        once = once_opened A;
+        fits = omega (arith, ap length with, length_with_all A);
+        cap = is_cap;
+        writers = writers_opened next A is_next.0;
+        next_writer = is_next;
+      },
+    )
+
+pub history_at_rest : (ls : List Arrival) (A : List Item) → ls ≡ [] → IsSet A → history_of ls A ≡ opening_history A
+history_at_rest ls A none set =
+    ap (λ l. history_of l A) none ∙ append-nil (entries_by_0 A) ∙ sym (opened_with A set)
+
+-- ---- items that rise
+
+pub first_rises : (xs : List Item) → IsSet (take 1 xs)
+unfolding IsStrictlySortedBy
+first_rises [] = tt
+first_rises (x ∷ xs) = (tt, tt)
+
+last_is : (P : Item → Type 0) (xs : List Item) (y : Item) → AllByRecursion P (xs ++ y ∷ []) → P y
+last_is P [] y all = all.0
+last_is P (x ∷ xs) y all = last_is P xs y all.1
+
+one_more : (xs : List Item) (y z : Item) → item_cmp y z ≡ Less → IsSet (xs ++ y ∷ []) → IsSet ((xs ++ y ∷ []) ++ z ∷ [])
+unfolding IsStrictlySortedBy
+one_more [] y z less set = ((less, tt), (tt, tt))
+one_more (x ∷ xs) y z less set =
+    let before = last_is (λ q. item_cmp x q ≡ Less) xs y set.0 in (
+      All-append (λ q. item_cmp x q ≡ Less) (xs ++ y ∷ []) (z ∷ []) set.0
+          (nat_list_cmp_total.trans x y z before less, tt),
+      one_more xs y z less set.1,
+    )
+
+pub rises_on : (xs : List Item) (k : ℕ) (y z : Item) → 1 ≤ k → k < length xs → y ≡ get_or xs (k - 1) y →
+    z ≡ get_or xs k z → item_cmp y z ≡ Less → IsSet (take k xs) → IsSet (take (k + 1) xs)
+rises_on xs k y z some low is_y is_z less set =
+    let at : k - 1 + 1 ≡ k = omega arith in
+    let so_far : take k xs ≡ take (k - 1) xs ++ y ∷ [] = ap (λ n. take n xs) (sym at)
+    ∙ take_more xs (k - 1) y (omega arith) ∙ ap (λ w. take (k - 1) xs ++ w ∷ []) (sym is_y) in
+    let next : take (k + 1) xs ≡ (take (k - 1) xs ++ y ∷ []) ++ z ∷ [] =
+    take_more xs k z low ∙ (λ i. so_far i ++ sym is_z i ∷ []) in
+    subst IsSet (sym next) (one_more (take (k - 1) xs) y z less (subst IsSet so_far set))
+
+pub none_rises : (n : ℕ) (xs : List Item) → n ≡ 0 → IsSet (take n xs)
+unfolding IsStrictlySortedBy
+none_rises n xs none = rw none tt
+
+less_from : (x y : Item) (o : Ordering) → item_cmp x y ≡ o → false ≡ is_ge o → item_cmp x y ≡ Less
+less_from x y Less e before = e
+less_from x y Equal e before = absurd (cc)
+less_from x y Greater e before = absurd (cc)
+
+pub less_by : (x y : Item) → false ≡ is_ge (item_cmp x y) → item_cmp x y ≡ Less
+less_by x y before = less_from x y (item_cmp x y) refl before

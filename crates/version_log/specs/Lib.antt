@@ -3,4 +3,4 @@ pub use Rattle.definitions.specs.Sets
 pub use Rattle.definitions.specs.Histories
 pub mod Logs
 pub mod Answers
-pub mod Packs
+pub mod Arrivals

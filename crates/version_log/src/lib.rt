@@ -2,9 +2,9 @@
 #![tactic(auto)]
 
 mod answer;
-mod entries;
+mod arrival;
 mod entry;
-mod first_entries;
+mod front;
 mod log;
 
 pub use answer::{Added, LogFault, WritersSpent};

@@ -1,42 +1,46 @@
-ghost use Rattle.std.specs.Prelude.{◌≡◌, ◌+◌, ◌<◌, ◌≤◌, length, slice_get, Some, Err, IfOk, IfErr, IfSome};
+ghost use Rattle.std.specs.Prelude.{◌≡◌, ◌+◌, ◌<◌, ◌≤◌, length, take, fold, slice_get, Some, Err};
+ghost use Rattle.std.specs.Prelude.{IfOk, IfErr, IfSome, OnOk};
 ghost use Rattle.definitions.specs.Sets.{IsSet, set_of};
-ghost use Rattle.definitions.specs.Histories.{content, version, insertion, New};
-ghost use Rattle.version_log.specs.Logs.{IsLog, IsCap, IsNextWriter, max_next_writer, opened, log_after};
+ghost use Rattle.definitions.specs.Histories.{content, version, insertion, items_of, with_item, New};
+ghost use Rattle.version_log.specs.Logs.{IsLog, IsCap, IsNextWriter, max_next_writer, log, opened, log_after};
 ghost use Rattle.version_log.specs.Logs.{with_writer_given};
 ghost use Rattle.version_log.specs.Answers.{insertion_in};
 
 use crate::answer::{Added, LogFault, WritersSpent};
-use crate::entries::Entries;
+use crate::arrival::{Arrival, first_entry, later_entry, place_of};
 use crate::entry::Entry;
-use crate::first_entries::{first_entries, first_entries_of};
+use crate::front::rising_front;
 use item_core::Item;
 use std::alloc::{AllocError, Global};
 use std::marker::Model;
-use store_core::{Insertion, RangeStore, set_laws, spans};
+use store_core::{Insertion, RangeStore, set_laws, make_room};
 
 /// Who brought which item, in order, and a store of the items. Each item stands once.
 ///
 /// A version is the number of the first entries that it has. Contracts see a log as its cap, its history and the next
-/// writer number.
+/// writer number. The store alone keeps the items: of each entry that it did not open with, a log keeps who brought the
+/// item, and where it came into the store.
 #[derive(Drop)]
 pub struct Log<S: RangeStore> {
     cap: u32,
-    entries: Entries,
     store: S,
+    later: Vec<Arrival>,
     next_writer: u64,
 }
 
 impl<S: RangeStore> Model for Log<S> {
     ghost use Rattle.std.specs.Prelude.{◌≡◌};
     ghost use Rattle.definitions.specs.Histories.{content};
+    ghost use Rattle.version_log.specs.Arrivals.{HaveCome, history_of};
     ghost use Rattle.version_log.specs.Logs.{LogState, IsLog, log};
 
     ghost Value = { LogState };
 
-    ghost view = { λ p. log p.cap p.entries p.next_writer };
+    ghost view = { λ p. log p.cap (history_of p.later.items (S.content p.store)) p.next_writer };
 
-    ghost invariant = { λ p. (S.content p.store ≡ content p.entries)
-        × IsLog (log p.cap p.entries p.next_writer) };
+    ghost invariant = { λ p. HaveCome p.later.items (S.content p.store)
+        × (S.content p.store ≡ content (history_of p.later.items (S.content p.store)))
+        × IsLog (log p.cap (history_of p.later.items (S.content p.store)) p.next_writer) };
 }
 
 impl<S: RangeStore> Log<S> {
@@ -66,16 +70,26 @@ impl<S: RangeStore> Log<S> {
         ensures fits { IfOk result (λ _. length (set_of items.now) ≤ cap) }
         ensures full { IfErr result (λ e. e ≡ LogFault.Full → cap < length (set_of items.now)) }
     {
-        let store = S::from_items(alloc, Vec::from_slice(alloc, items)?)?;
-        if store.len() > cap as usize {
-            return Err(LogFault::Full);
+        let (front, others) = items.split_at(rising_front(items, cap as usize));
+        let store = S::from_rising(alloc, front)?;
+        let mut log = Log::at_rest(alloc, cap, store, next_writer);
+        log.add_all(alloc, others)?;
+        let _ = log.cap(); // proof only: there are no more entries
+        Ok(log)
+    }
+
+    /// Adds each item by writer 0 that is not there already. Else 40 where they are too many, or 90.
+    fn add_all(&mut self, alloc: Global, items: &[Item]) -> Result<(), LogFault>
+        requires { 0 < self.old.next_writer }
+        ensures log { OnOk result (self.new
+            ≡ log self.old.cap (fold with_item self.old.history items.now) self.old.next_writer) }
+        ensures full { IfErr result (λ e. e ≡ LogFault.Full →
+            self.old.cap < length (fold with_item self.old.history items.now)) }
+    {
+        for item in items {
+            let _added = self.add(alloc, 0, *item)?;
         }
-        Ok(Log {
-            cap,
-            entries: first_entries(alloc, items)?,
-            store,
-            next_writer,
-        })
+        Ok(())
     }
 
     /// The log of the items of a set, at most as many as the cap, by writer 0. The next writer number is 1.
@@ -88,22 +102,31 @@ impl<S: RangeStore> Log<S> {
         ensures { IfOk result (λ p. p ≡ opened cap items.now 1) }
     {
         let store = S::from_rising(alloc, items)?;
-        Log::of_store(alloc, cap, store, spans::bytes_in(items))
+        Ok(Log::of_store(alloc, cap, store))
     }
 
-    /// The log of the items of a store, as `of_set` makes it. The items have so many bytes in all, for which room is
-    /// made at once: another number takes more time or memory, and is no fault.
-    pub fn of_store(alloc: Global, cap: u32, store: S, bytes: usize) -> Result<Log<S>, AllocError>
+    /// The log of the items of a store, as `of_set` makes it.
+    pub fn of_store(alloc: Global, cap: u32, store: S) -> Log<S>
         requires cap { IsCap cap }
         requires fits { length (S.content store) ≤ cap }
-        ensures { IfOk result (λ p. p ≡ opened cap (S.content store) 1) }
+        ensures { result ≡ opened cap (S.content store) 1 }
     {
-        Ok(Log {
+        Log::at_rest(alloc, cap, store, 1)
+    }
+
+    /// The log of the items of a store, at most as many as the cap, by writer 0.
+    fn at_rest(alloc: Global, cap: u32, store: S, next_writer: u64) -> Log<S>
+        requires cap { IsCap cap }
+        requires next { IsNextWriter next_writer }
+        requires fits { length (S.content store) ≤ cap }
+        ensures { result ≡ opened cap (S.content store) next_writer }
+    {
+        Log {
             cap,
-            entries: first_entries_of(alloc, &store, bytes)?,
             store,
-            next_writer: 1,
-        })
+            later: Vec::new(alloc),
+            next_writer,
+        }
     }
 
     /// Adds an item that this writer brought, unless it is there already.
@@ -128,9 +151,11 @@ impl<S: RangeStore> Log<S> {
         let Insertion::New(store) = self.store.with(alloc, item)? else {
             return Ok(Added::Already);
         };
-        self.entries.push(writer, &item)?;
+        make_room(&mut self.later, 1)?;
+        let place = place_of(&self.store, &item) as u32;
+        self.later.push_reserved(Arrival { writer, place });
         self.store = store;
-        Ok(Added::New(self.entries.len()))
+        Ok(Added::New(self.store.len()))
     }
 
     /// Gives out the next writer number, which rises by one. Else 42, exactly where it is 4,294,967,296.
@@ -147,15 +172,28 @@ impl<S: RangeStore> Log<S> {
         Ok(writer)
     }
 
-    /// A store of the first so many entries' items. The newest version is copied; of an older one each item is hashed.
+    /// A store of the first so many entries' items. The newest version is copied; of an older one each item
+    /// is found among those that came later, and hashed.
     pub fn version_at(&self, alloc: Global, number: usize) -> Result<S, AllocError>
         requires { number ≤ length self.now.history }
         ensures { IfOk result (λ s. S.content s ≡ version self.now.history number) }
     {
-        if number == self.entries.len() {
+        if number == self.version() {
             return self.store.copy(alloc);
         }
-        S::from_items(alloc, self.entries.items(alloc, number)?)
+        S::from_items(alloc, self.first_items(alloc, number)?)
+    }
+
+    /// The items of the first so many entries, in their order.
+    fn first_items(&self, alloc: Global, count: usize) -> Result<Vec<Item>, AllocError>
+        requires { count ≤ length self.now.history }
+        ensures { IfOk result (λ items. items.items ≡ items_of (take count self.now.history)) }
+    {
+        let mut items = Vec::with_capacity(alloc, count)?;
+        for place in 0..count {
+            items.push(*self.entry(place).item())?;
+        }
+        Ok(items)
     }
 
     /// The same log again.
@@ -164,8 +202,8 @@ impl<S: RangeStore> Log<S> {
     {
         Ok(Log {
             cap: self.cap,
-            entries: self.entries.copy(alloc)?,
             store: self.store.copy(alloc)?,
+            later: Vec::from_slice(alloc, &self.later)?,
             next_writer: self.next_writer,
         })
     }
@@ -175,7 +213,7 @@ impl<S: RangeStore> Log<S> {
         ensures version { result ≡ length self.now.history }
         ensures count { result ≡ length (content self.now.history) }
     {
-        self.entries.len()
+        self.store.len()
     }
 
     /// The number of items, which is the number of entries.
@@ -206,7 +244,11 @@ impl<S: RangeStore> Log<S> {
         requires { index < length self.now.history }
         ensures { slice_get self.now.history index ≡ Some result }
     {
-        self.entries.entry(index)
+        let opening = self.store.len() - self.later.len();
+        match index.checked_sub(opening) {
+            None => first_entry(&self.store, &self.later, index),
+            Some(since) => later_entry(&self.store, &self.later, since),
+        }
     }
 
     /// The store of all items.

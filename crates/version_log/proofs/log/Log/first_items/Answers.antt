@@ -1,10 +1,10 @@
 use Rattle.std.proofs.Common.{rules, ◌<◌, ◌∙◌, ◌∷◌, ◌++◌, [], sym, length}
-use Rattle.version_log.proofs.Packs.{items_more}
-use Rattle.version_log.proofs.entries.Entries.items.Goals as goal
+use Rattle.version_log.proofs.Once.{items_more}
+use Rattle.version_log.proofs.log.Log.first_items.Goals as goal
 
 pub loop-place-preserved : goal.loop-place-preserved
-loop-place-preserved c =
-    let h = c.args.self.now in
+loop-place-preserved g c =
+    let h = c.args.self.now.history in
     let place = c.loop-place.place in
     let low : place < length h = search rules in
     c.in_ok-push.ensures.items
