@@ -1,7 +1,7 @@
 use Rattle.std.proofs.Common.{◌≡◌, ◌++◌, string_bytes, take}
 use Rattle.std.specs.Prelude.{flat_map}
 use Rattle.printing_core.specs.SessionTexts.{named_line}
-use Rattle.printing_core.proofs.session_texts.push_lines.Given as goal
+use Rattle.printing_core.proofs.sessions.push_lines.Given as goal
 
 abbrev pub invariant-loop-item : goal.invariant-loop-item
 invariant-loop-item l =

@@ -1,7 +1,7 @@
 use Rattle.std.proofs.Common.{◌≡◌, ◌++◌, string_bytes, take}
 use Rattle.std.specs.Prelude.{flat_map}
 use Rattle.printing_core.specs.Lines.{spaced}
-use Rattle.printing_core.proofs.shard_texts.push_numbers.Given as goal
+use Rattle.printing_core.proofs.sync_shards.push_numbers.Given as goal
 
 abbrev pub invariant-loop-number : goal.invariant-loop-number
 invariant-loop-number l =

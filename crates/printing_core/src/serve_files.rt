@@ -1,18 +1,17 @@
 //! What `serve` writes of its sessions to its files.
 
 ghost use Rattle.std.specs.Prelude.{◌≡◌, ◌++◌, IfOk, OnOk, Some, string_bytes, take};
-ghost use Rattle.printing_core.specs.SessionTexts.{of_direction};
 ghost use Rattle.printing_core.specs.ItemTexts.{item_line};
 ghost use Rattle.printing_core.specs.ReportTexts.{session_name, head_line, stopped_line, learned_lines, more_line};
 ghost use Rattle.printing_core.specs.ReportTexts.{first_lines, reported_text, report_text, left_out_line};
 
 use crate::fault::Fault;
 use crate::item_text::push_item;
-use crate::session_texts::{Listing, Naming, push_learned, push_lines, rising};
+use crate::sessions::{Listing, Naming, of_direction, push_learned, push_lines, rising};
 use ends_core::Learned;
 use item_core::Item;
 use item_files::ItemForm;
-use session_table::{Direction, Outcome};
+use session_table::Outcome;
 use shard_core::Which;
 use std::alloc::{AllocError, Global};
 use std::fmt;
@@ -45,16 +44,6 @@ impl fmt::Display for SessionName {
             Some(Which::Shard(shard)) => write!(f, "session {serial} shard {shard}"),
             Some(Which::Directory) => write!(f, "session {serial} directory"),
         }
-    }
-}
-
-/// What failed of a connection, as a fault.
-pub(crate) fn of_direction(side: Direction) -> Fault
-    ensures { result ≡ of_direction side }
-{
-    match side {
-        Direction::Read => Fault::ReaderFailed,
-        Direction::Write => Fault::WriterFailed,
     }
 }
 

@@ -3,7 +3,7 @@ use Rattle.std.specs.Prelude.{flat_map}
 use Rattle.definitions.specs.Sets.{set_of}
 use Rattle.printing_core.specs.SessionTexts.{named_line}
 use Rattle.printing_core.proofs.FirstLines.{all_pushed}
-use Rattle.printing_core.proofs.reports.push_first.Goals as goal
+use Rattle.printing_core.proofs.serve_files.push_first.Goals as goal
 
 pub returns : goal.returns
 returns c =

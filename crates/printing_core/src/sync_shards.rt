@@ -1,11 +1,11 @@
-//! What is printed of the shards of a set.
+//! What `sync` prints of the shards of a set.
 
 ghost use Rattle.std.specs.Prelude.{◌≡◌, ◌++◌, IfOk, OnOk, flat_map, string_bytes};
 ghost use Rattle.printing_core.specs.Lines.{spaced};
 ghost use Rattle.printing_core.specs.ShardTexts.{merged_head, merged_text, first_text, undone_text};
 
 use crate::fault::Fault;
-use crate::session_texts::{Both, Listing, push_listed};
+use crate::sessions::{Both, Listing, push_listed};
 use item_core::Item;
 use std::alloc::{AllocError, Global};
 use std::io::Write;

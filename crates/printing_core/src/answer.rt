@@ -1,4 +1,4 @@
-//! Messages as hex text.
+//! What `answer` reads and prints as hex text.
 
 ghost use Rattle.std.specs.Prelude.{◌≡◌, ◌≢◌, ◌++◌, filter, IfOk, IfErr, OnOk, IsErr, Ok};
 ghost use Rattle.hex.specs.Hex.{decode_of};

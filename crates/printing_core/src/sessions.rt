@@ -1,17 +1,19 @@
-//! What is printed of sessions over the network.
+//! What sessions come to, and what `serve` and `sync` print of them.
 
-ghost use Rattle.std.specs.Prelude.{◌≡◌, ◌++◌, IfOk, OnOk, flat_map, string_bytes};
+ghost use Rattle.std.specs.Prelude.{◌≡◌, ◌++◌, IfOk, OnOk, flat_map, option_map, string_bytes};
+ghost use Rattle.std.specs.Result.{result_ok};
 ghost use Rattle.definitions.specs.Sets.{set_of};
 ghost use Rattle.printing_core.specs.SessionTexts.{listening_line, served_text, named_line, counts_text, learned_text};
-ghost use Rattle.printing_core.specs.SessionTexts.{listed_text, finds_any, IsSyncOf};
+ghost use Rattle.printing_core.specs.SessionTexts.{listed_text, finds_any, IsSyncOf, session_fault, session_learned};
+ghost use Rattle.printing_core.specs.SessionTexts.{of_direction};
+ghost use Rattle.printing_core.specs.Endings.{report_fault, fault_in, difference_status, may_pass};
 
 use crate::fault::Fault;
 use crate::item_text::push_item;
-use crate::reports::of_direction;
 use ends_core::Learned;
 use item_core::Item;
 use item_files::ItemForm;
-use session_table::{Outcome, Totals};
+use session_table::{Direction, Outcome, Totals, WorkersReport};
 use std::alloc::{AllocError, Global};
 use store_core::PackedItems;
 use store_core::spans::distinct;
@@ -152,6 +154,16 @@ fn counts_text(alloc: Global, version: usize, sent: u32) -> Result<String, Alloc
     format!(in alloc; "version {version}\nsent {sent}\n")
 }
 
+/// What failed of a connection, as a fault.
+pub(crate) fn of_direction(side: Direction) -> Fault
+    ensures { result ≡ of_direction side }
+{
+    match side {
+        Direction::Read => Fault::ReaderFailed,
+        Direction::Write => Fault::WriterFailed,
+    }
+}
+
 /// The lines of a session that ended, its items as they are asked for; else why it did not.
 pub fn outcome_text(alloc: Global, listing: Listing, outcome: &Outcome) -> Result<String, Fault>
     ensures { IsSyncOf listing outcome.now result }
@@ -180,5 +192,59 @@ pub fn finds_any(outcome: &Outcome) -> bool
     match outcome {
         Outcome::Ended { learned, .. } => learned.ours().len() > 0 || learned.theirs().len() > 0,
         _ => false,
+    }
+}
+
+/// The refusal of a run whose workers ended so: the source's fault, or 90 where no worker started.
+pub fn refusal_of(report: WorkersReport) -> Result<(), Fault>
+    ensures { fault_in result ≡ report_fault report }
+{
+    match report.fault {
+        Some(fault) => Err(Fault::from(fault)),
+        None if report.started == 0 => Err(Fault::Memory),
+        None => Ok(()),
+    }
+}
+
+/// What a session learned, or why it did not end.
+pub fn learned_in(outcome: &Outcome) -> Result<&Learned, Fault>
+    ensures fault { fault_in result ≡ session_fault outcome.now }
+    ensures learned { option_map (λ learned. learned.now) (result_ok result) ≡ session_learned outcome.now }
+{
+    match outcome {
+        Outcome::Ended { learned, .. } => Ok(learned),
+        Outcome::Refused { code, .. } => Err(Fault::Session { code: *code }),
+        Outcome::PeerRefused { code, .. } => Err(Fault::PeerRefused { code: *code }),
+        Outcome::Io { side, .. } => Err(of_direction(*side)),
+        Outcome::Memory { .. } => Err(Fault::Memory),
+    }
+}
+
+/// Why a session did not end, if it did not.
+pub fn refusal_of_session(outcome: &Outcome) -> Result<(), Fault>
+    ensures { fault_in result ≡ session_fault outcome.now }
+{
+    learned_in(outcome)?;
+    Ok(())
+}
+
+/// The status of a session that came to its end: 4 where it is to say that the sets differ, and they do; else 0.
+pub fn difference_status(checks: bool, differ: bool) -> u8
+    ensures { result ≡ difference_status checks differ }
+{
+    if checks && differ { 4 } else { 0 }
+}
+
+impl Fault {
+    /// Whether a session that ended so may come to its end if it is tried again: nobody was reached, the connection
+    /// failed, or it ended in the middle of a message.
+    pub fn may_pass(self) -> bool
+        ensures { result ≡ may_pass self }
+    {
+        match self {
+            Fault::Connect | Fault::ReaderFailed | Fault::WriterFailed => true,
+            Fault::Session { code } => code == 3,
+            _ => false,
+        }
     }
 }

@@ -7,6 +7,7 @@ use crate::shown::shown_line;
 use std::alloc::Global;
 use std::fmt;
 use std::io::{ErrorKind, Write};
+use std::net::SocketAddr;
 use thiserror::Error;
 
 /// Why a file was not written to. It prints as a clause that follows the name of the file.
@@ -63,6 +64,25 @@ impl fmt::Display for Count {
         let Count(count, one, many) = *self;
         let counted = if count == 1 { one } else { many };
         write!(f, "{count} {counted}")
+    }
+}
+
+/// Prints the address that is listened at, if it is known. A line that is not taken changes nothing.
+pub fn tell_address<E: Write>(err: &mut E, address: Option<SocketAddr>) {
+    if let Some(address) = address {
+        let _told = writeln!(err, "listening {address}");
+    }
+}
+
+/// Prints that a file could not be written, which is named by its option. A line that is not taken changes nothing.
+pub fn tell_unwritten<E: Write>(err: &mut E, option: &str) {
+    let _told = writeln!(err, "{option} not written");
+}
+
+/// Prints how many learned items were dropped, if any were. A line that is not taken changes nothing.
+pub fn tell_dropped<E: Write>(err: &mut E, count: u64) {
+    if count > 0 {
+        let _told = writeln!(err, "dropped {count}");
     }
 }
 

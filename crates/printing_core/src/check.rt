@@ -1,10 +1,23 @@
-//! What sessions cost, as it is printed.
+//! What `check` and `plan` print.
 
-ghost use Rattle.std.specs.Prelude.{◌≡◌, ◌++◌, OnOk, string_bytes};
+ghost use Rattle.std.specs.Prelude.{◌≡◌, ◌++◌, IfOk, OnOk, string_bytes};
+ghost use Rattle.printing_core.specs.Lines.{accepted_text};
 ghost use Rattle.printing_core.specs.CostLines.{cost_line, plan_lines, sample_line, shards_line};
 
-use crate::stats::Seconds;
-use std::alloc::AllocError;
+use crate::sync_stats::Seconds;
+use std::alloc::{AllocError, Global};
+
+/// The line `accepted`, and then `steps` and the steps, with a space before each.
+pub fn accepted_text(alloc: Global, steps: &[u32]) -> Result<String, AllocError>
+    ensures { IfOk result (λ text. string_bytes text ≡ accepted_text steps.now) }
+{
+    let mut text = String::from_str(alloc, "accepted\nsteps")?;
+    for step in steps {
+        write!(text, " {step}")?;
+    }
+    text.push_str("\n")?;
+    Ok(text)
+}
 
 /// Appends the line of two sets that are made: how many items they have, and how many bytes an item has.
 pub fn push_sample(text: &mut String, items: u32, item_length: u32) -> Result<(), AllocError>

@@ -1,9 +1,10 @@
-//! What is printed of the cost of a session.
+//! What `sync` prints of the cost of a session.
 
 ghost use Rattle.std.specs.Prelude.{Some};
 ghost use Rattle.printing_core.specs.StatsTexts.{stats_text, both_line, seconds_text};
 
 use std::fmt;
+use std::io::Write;
 
 /// What went over a connection one way.
 #[derive(Clone, Copy, Debug, PartialEq, Eq)]
@@ -94,4 +95,9 @@ impl fmt::Display for Stats {
         let seconds = Seconds(self.millis);
         write!(f, "{messages}{parts}{bytes}seconds {seconds}\n")
     }
+}
+
+/// Prints what a session cost. Lines that are not taken change nothing.
+pub fn tell_stats<E: Write>(err: &mut E, stats: Stats) {
+    let _told = write!(err, "{stats}");
 }
