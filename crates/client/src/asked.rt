@@ -1,7 +1,7 @@
 //! What a `sync` is asked for.
 
 ghost use Rattle.std.specs.Prelude.{◌≡◌, ◌≤◌, true, false, IfOk};
-ghost use Rattle.printing_core.specs.declared.session_texts.Listing.TheVariants as listings;
+ghost use Rattle.printing_core.specs.declared.sessions.Listing.TheVariants as listings;
 
 use crate::stdio::sync_stdio;
 use crate::sync::sync;

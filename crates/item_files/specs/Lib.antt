@@ -4,5 +4,4 @@ pub mod Accepts
 pub mod Faults
 pub mod Files
 pub mod ItemFiles
-pub mod StrategyFlaws
 pub mod StrayKeys

@@ -8,8 +8,6 @@ mod form;
 mod item_file;
 mod profile;
 mod strategy_file;
-mod strategy_flaw;
-mod strategy_place;
 mod stray_keys;
 
 pub use bad_line::{BadLine, Front, LineFlaw};
@@ -19,5 +17,4 @@ pub use io_core::ReadFault;
 pub use item_file::{has_byte_order_mark, item_of, item_set, read_input_items, read_items};
 pub use profile::WireProfile;
 pub use strategy_file::{accepted_in, accepted_of, document, read_document, read_strategy};
-pub use strategy_flaw::{Key, NumberSpan, StrategyFlaw};
-pub use stray_keys::{KeyPlace, StrayKey, meant_key, stray_key};
+pub use stray_keys::{StrayKey, meant_key, stray_key};

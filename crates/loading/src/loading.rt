@@ -10,7 +10,7 @@ use item_files::{
     ItemForm, ReadFault, SettingsFault, accepted_in, document, read_document, read_input_items,
     read_items, stray_key,
 };
-use printing_core::{Fault, Refusal, STANDARD_INPUT, tell_stray_key};
+use printing_core::{Refusal, STANDARD_INPUT, tell_stray_key};
 use range_tree::Tree;
 use settings_core::{ServeWords, SyncWords};
 use shard_loading::ShardedSet;
@@ -173,10 +173,7 @@ impl<'a> Sources<'a> {
 
     /// The refusal of the file in which the set is kept.
     fn kept_refusal(&self, alloc: Global, fault: SettingsFault) -> Refusal<'a> {
-        match self.keep {
-            Some(path) => self.refusal(alloc, path, fault),
-            None => Refusal::from(Fault::from(fault)),
-        }
+        self.refusal(alloc, self.keep.unwrap_or(STANDARD_INPUT), fault)
     }
 }
 

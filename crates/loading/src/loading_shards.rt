@@ -11,7 +11,7 @@ use crate::showing::{Screen, Shown};
 use io_core::Watched;
 use item_core::Item;
 use item_files::ReadFault;
-use printing_core::{Fault, Refusal, STANDARD_INPUT};
+use printing_core::{Refusal, STANDARD_INPUT};
 use settings_core::Sharding;
 use shard_core::{join_shards, shard_count};
 use shard_loading::{LoadFault, LoadOptions, ShardedSet, read_shards};
@@ -166,10 +166,7 @@ fn kept_refusal<'a>(
     cap: usize,
     fault: LoadFault,
 ) -> Refusal<'a> {
-    match keep {
-        Some(path) => Refusal::of_shards_file(alloc, path, cap, fault),
-        None => Refusal::from(Fault::from(fault)),
-    }
+    Refusal::of_shards_file(alloc, keep.unwrap_or(STANDARD_INPUT), cap, fault)
 }
 
 /// Refuses a strategy whose cap is below the number of shards: of their entries there would be no directory.

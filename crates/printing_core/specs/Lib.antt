@@ -6,8 +6,8 @@ pub mod FaultsOf
 pub mod HexLines
 pub mod ItemTexts
 pub mod Lines
+pub mod Refusals
 pub mod ReportTexts
-pub mod SecondLines
 pub mod SessionTexts
 pub mod ShardTexts
 pub mod ShownLines

@@ -22,8 +22,8 @@ use Rattle.session_table.specs.declared.outcome.Outcome.TheVariants as outcomes
 use Rattle.item_files.specs.declared.form.ItemForm.{ItemForm}
 use Rattle.printing_core.specs.Endings.{fault_in}
 use Rattle.printing_core.specs.ItemTexts.{item_line}
-use Rattle.printing_core.specs.declared.session_texts.Listing.{Listing}
-use Rattle.printing_core.specs.declared.session_texts.Listing.TheVariants as listings
+use Rattle.printing_core.specs.declared.sessions.Listing.{Listing}
+use Rattle.printing_core.specs.declared.sessions.Listing.TheVariants as listings
 use Rattle.printing_core.specs.declared.fault.Fault.{Fault}
 use Rattle.printing_core.specs.declared.fault.Fault.TheVariants.{Session, PeerRefused, ReaderFailed, WriterFailed}
 use Rattle.printing_core.specs.declared.fault.Fault.TheVariants.{Memory}
