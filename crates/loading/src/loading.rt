@@ -1,6 +1,6 @@
 //! What a side of sessions begins with.
 
-ghost use Rattle.std.specs.Prelude.{◌≡◌, ◌≤◌, length, IfOk};
+ghost use Rattle.std.specs.Prelude.{◌≡◌, ◌≤◌, Some, None, length, IfOk};
 ghost use Rattle.definitions.specs.Sets.{IsSet};
 ghost use Rattle.range_tree.specs.Trees.{tree_items};
 
@@ -125,7 +125,11 @@ pub struct Sources<'a> {
 impl<'a> Sources<'a> {
     /// Where a server begins from that is asked for in these words; whether standard error is told more, and whether it
     /// is shown how far all is.
-    pub fn of_server(words: ServeWords<'a>, explains: bool, shows: bool) -> Sources<'a> {
+    pub fn of_server(words: ServeWords<'a>, explains: bool, shows: bool) -> Sources<'a>
+        ensures files { (result.table.path ≡ words.entry.table) × (result.items ≡ words.entry.items)
+            × (result.keep ≡ words.entry.keep) × (result.form ≡ words.entry.form) }
+        ensures told { (result.table.explains ≡ explains) × (result.shows ≡ shows) }
+    {
         Sources {
             table: TableSource {
                 path: words.table,
@@ -142,7 +146,11 @@ impl<'a> Sources<'a> {
 
     /// Where a `sync` begins from that is asked for in these words; whether standard error is told more, and whether it
     /// is shown how far all is.
-    pub fn of_asker(words: SyncWords<'a>, explains: bool, shows: bool) -> Sources<'a> {
+    pub fn of_asker(words: SyncWords<'a>, explains: bool, shows: bool) -> Sources<'a>
+        ensures files { (result.table.path ≡ words.entry.table) × (result.items ≡ Some words.entry.items)
+            × (result.keep ≡ None) × (result.form ≡ words.entry.form) }
+        ensures told { (result.table.explains ≡ explains) × (result.shows ≡ shows) }
+    {
         Sources {
             table: TableSource {
                 path: words.table,

@@ -2,6 +2,7 @@
 //! closes.
 
 use std::alloc::{AllocError, Global};
+use std::io;
 use std::io::{ErrorKind, Read, Write};
 use std::os::fd::{AsRawFd, RawFd};
 use tcp_front::Half;
@@ -33,7 +34,7 @@ enum Stage {
 /// How a call left off.
 #[derive(Clone, Copy, Debug, PartialEq, Eq)]
 pub enum Step {
-    /// There is nothing to do until the connection is ready, or a while is over.
+    /// There is nothing to do now; until its connection is ready, if that is not.
     Waits,
     /// This is asked for.
     Asks(Asked),
@@ -54,6 +55,8 @@ pub struct Caller {
     said: usize,
     /// How many bytes more are read.
     left: usize,
+    /// Whether the connection may go on without waiting.
+    is_ready: bool,
     /// When the connection is closed.
     until: u64,
     /// When a byte of it was last read or written.
@@ -72,6 +75,7 @@ impl Caller {
             answer: Vec::new(alloc),
             said: 0,
             left: MOST_BYTES,
+            is_ready: true,
             until: now.saturating_add(MOST_MILLISECONDS),
             heard: now,
         }
@@ -85,6 +89,25 @@ impl Caller {
     /// When a byte of it was last read or written.
     pub fn heard(&self) -> u64 {
         self.heard
+    }
+
+    /// Whether its connection may go on without waiting.
+    pub fn is_ready(&self) -> bool {
+        self.is_ready
+    }
+
+    /// From now on its connection may go on.
+    pub fn wake(&mut self) {
+        self.is_ready = true;
+    }
+
+    /// Its connection is to be waited for, if it failed for that; else it is to be closed.
+    fn after(&mut self, error: &io::Error) -> Step {
+        if error.kind() != ErrorKind::WouldBlock {
+            return Step::Gone;
+        }
+        self.is_ready = false;
+        Step::Waits
     }
 
     /// How many bytes were read of it and written to it.
@@ -110,8 +133,7 @@ impl Caller {
             let count = match self.reader.read(&mut room) {
                 Ok(0) => return Step::Gone,
                 Ok(count) => count,
-                Err(error) if error.kind() == ErrorKind::WouldBlock => return Step::Waits,
-                Err(_) => return Step::Gone,
+                Err(error) => return self.after(&error),
             };
             match self.keep(&room[..count]) {
                 Ok(Some(asked)) => return Step::Asks(asked),
@@ -128,32 +150,22 @@ impl Caller {
         self.stage = Stage::Hears;
     }
 
-    /// Writes what is left of the answer. Whether that is all of it; none where the connection failed.
-    fn write_rest(&mut self) -> Option<bool> {
-        for _ in 0..TURNS {
-            let Some(rest) = self.answer.get(self.said..) else {
-                return None;
-            };
-            if rest.is_empty() {
-                return Some(true);
-            }
-            match self.writer.write(rest) {
-                Ok(0) => return None,
-                Ok(count) => self.said = self.said.saturating_add(count),
-                Err(error) if error.kind() == ErrorKind::WouldBlock => return Some(false),
-                Err(_) => return None,
-            }
-        }
-        Some(false)
-    }
-
     /// Writes what is left of the answer, and then says that no more comes.
     fn say(&mut self) -> Step {
-        match self.write_rest() {
-            None => Step::Gone,
-            Some(false) => Step::Waits,
-            Some(true) => self.leave(),
+        for _ in 0..TURNS {
+            let Some(rest) = self.answer.get(self.said..) else {
+                return Step::Gone;
+            };
+            if rest.is_empty() {
+                return self.leave();
+            }
+            match self.writer.write(rest) {
+                Ok(0) => return Step::Gone,
+                Ok(count) => self.said = self.said.saturating_add(count),
+                Err(error) => return self.after(&error),
+            }
         }
+        Step::Waits
     }
 
     /// Says that no more comes, and reads on.
@@ -173,8 +185,7 @@ impl Caller {
             match self.reader.read(&mut room) {
                 Ok(0) => return Step::Gone,
                 Ok(count) => self.left = self.left.saturating_sub(count),
-                Err(error) if error.kind() == ErrorKind::WouldBlock => return Step::Waits,
-                Err(_) => return Step::Gone,
+                Err(error) => return self.after(&error),
             }
             if self.left == 0 {
                 return Step::Gone;

@@ -2,9 +2,9 @@
 
 use crate::callers::{Caller, Step};
 use crate::doors::listen_at;
-use crate::reporting::Reporter;
+use crate::reporting::DiskReporter;
 use io_core::{Watched, WriterFailed, write_output};
-use loading::{Disk, millis_of};
+use loading::millis_of;
 use mio::unix::SourceFd;
 use mio::{Events, Interest, Poll, Token};
 use peer_loops::{Board, Common, Origins};
@@ -13,7 +13,6 @@ use settings_core::VERSION;
 use shard_loading::ShardedSet;
 use slab::Slab;
 use std::alloc::{AllocError, Global};
-use std::fs::File;
 use std::io;
 use std::io::Write;
 use std::net::{Net, TcpListener, TcpStream};
@@ -144,13 +143,10 @@ impl<R> Window<'_, R> {
     }
 }
 
-/// The gate of a server: it writes to the files of a disk.
-type Desk<'r, 'a, R, E> = Reporter<'r, 'a, R, Disk<File>, E>;
-
 /// How the server stands now.
 fn standing<'a, R: Wait, E: Write + Drop>(
     rt: &R,
-    common: &Common<'_, Desk<'_, '_, R, E>>,
+    common: &Common<'_, DiskReporter<'_, '_, R, E>>,
     board: &Board,
     beginning: Beginning<'a>,
     now: u64,
@@ -229,14 +225,25 @@ impl Callers {
         })
     }
 
-    /// Waits until something is ready, and reads the clock.
-    fn wait<R: Clock>(&mut self, rt: &R, events: &mut Events, millis: u64) {
-        let wait = Duration::from_millis(millis);
+    /// Waits until something is ready, unless something is, and reads the clock.
+    fn wait<R: Clock>(&mut self, rt: &R, events: &mut Events, is_more: bool) {
+        let is_ready = is_more || self.all.iter().any(|(_key, caller)| caller.is_ready());
+        let wait = Duration::from_millis(if is_ready { 0 } else { TICK });
         if self.poll.poll(events, Some(wait)).is_err() {
             rt.sleep(Duration::from_millis(PAUSE));
         }
         if let Ok(moment) = rt.monotonic() {
             self.now = millis_of(moment);
+        }
+    }
+
+    /// Those of these events may go on.
+    fn wake(&mut self, events: &Events) {
+        for event in events {
+            let Token(key) = event.token();
+            if let Some(caller) = self.all.get_mut(key) {
+                caller.wake();
+            }
         }
     }
 
@@ -302,11 +309,12 @@ impl Callers {
         true
     }
 
-    /// Goes on with the caller of this key, if it is there. What it asks for, if that has come just now.
+    /// Goes on with the caller of this key, if it is there and may go on. What it asks for, if that has come just now.
     fn go_on(&mut self, key: usize) -> Option<Asked> {
-        let Some(caller) = self.all.get_mut(key) else {
+        let caller = self.all.get_mut(key)?;
+        if !caller.is_ready() {
             return None;
-        };
+        }
         match caller.go_on(self.now) {
             Step::Waits => None,
             Step::Asks(asked) => Some(asked),
@@ -340,7 +348,7 @@ impl Callers {
 fn answer_all<R: Wait + AllocGlobal, E: Write + Drop>(
     rt: &R,
     callers: &mut Callers,
-    common: &Common<'_, Desk<'_, '_, R, E>>,
+    common: &Common<'_, DiskReporter<'_, '_, R, E>>,
     board: &Board,
     beginning: Beginning<'_>,
 ) {
@@ -356,7 +364,7 @@ fn answer_all<R: Wait + AllocGlobal, E: Write + Drop>(
 pub fn watch<R, E: Write + Drop>(
     rt: &R,
     window: &Window<'_, R>,
-    common: &Common<'_, Desk<'_, '_, R, E>>,
+    common: &Common<'_, DiskReporter<'_, '_, R, E>>,
     board: &Board,
 )
 where
@@ -379,7 +387,8 @@ where
         if board.is_over(rt) {
             return;
         }
-        callers.wait(rt, &mut events, if is_more { 0 } else { TICK });
+        callers.wait(rt, &mut events, is_more);
+        callers.wake(&events);
         is_more = callers.accept_all(alloc, listener);
         answer_all(rt, &mut callers, common, board, *beginning);
         callers.close_late();
