@@ -16,10 +16,10 @@ use wire_core::encode_fault;
 pub(crate) type Reader = AfterSelector<Half>;
 
 /// The number of the refusal of a peer that speaks of a set that is not here.
-const WRONG_SET: u8 = 55;
+pub(crate) const WRONG_SET: u8 = 55;
 
 /// The number of the refusal of a peer whose input ended too early.
-const TRUNCATED: u8 = 3;
+pub(crate) const TRUNCATED: u8 = 3;
 
 /// What peers have to say before their hello.
 #[derive(Clone, Copy)]

@@ -4,12 +4,14 @@ ghost use Rattle.std.specs.Prelude.{◌≡◌, Some, if◌then◌else◌};
 ghost use Rattle.hub_core.specs.Peers.{sent_in, state_in};
 ghost use Rattle.session_table.specs.declared.outcome.Direction.TheVariants as directions;
 ghost use Rattle.session_core.specs.declared.state.State.TheVariants as states;
+ghost use Rattle.session_core.specs.declared.fault.LinkFault.TheVariants as faults;
 ghost use Rattle.peer_loops.specs.Partings.{Tells, TellsEnded, broken_by, whole_in};
 ghost use Rattle.peer_loops.specs.declared.ending.Parting.TheVariants as partings;
 
 use hub_core::Stage;
 use peer_threads::{Direction, Outcome};
 use session_core::{LinkFault, State};
+use std::alloc::AllocError;
 
 /// Why a peer is let go.
 #[derive(Clone, Copy, Debug, PartialEq, Eq)]
@@ -22,6 +24,14 @@ pub(crate) enum Parting {
     TimeIsOver,
     /// It speaks of no set that is here: the number of the refusal.
     Refuses(u8),
+}
+
+impl From<AllocError> for Parting {
+    ghost from_gives = { λ _ e. e ≡ partings.Failed faults.Memory };
+
+    fn from(_refused: AllocError) -> Parting {
+        Parting::Failed(LinkFault::Memory)
+    }
 }
 
 /// What failed of a session that was cut off: the writing, where it waited for that.

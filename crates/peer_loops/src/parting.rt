@@ -27,13 +27,19 @@ use tcp_front::Half;
 /// The number of the refusal where memory runs out.
 const NO_MEMORY: u8 = 90;
 
-/// Ends the session in the table, and gives its place back.
-fn close_session<R: Wait, G: PartGate>(site: &Site<'_, R, G>, id: SessionId, outcome: &Outcome) {
-    let _closed = site
-        .common
-        .sessions
-        .lock(site.rt)
-        .close(id, kind_of(outcome));
+/// Counts in the table what was said in the session, ends it there, and gives its place back.
+fn close_session<R: Wait, G: PartGate>(
+    site: &Site<'_, R, G>,
+    id: SessionId,
+    said: u32,
+    outcome: &Outcome,
+) {
+    let mut sessions = site.common.sessions.lock(site.rt);
+    for _message in 0..said {
+        let _counted = sessions.note_sent(id);
+    }
+    let _closed = sessions.close(id, kind_of(outcome));
+    drop(sessions);
     site.crowd.give_place_back();
 }
 
@@ -43,7 +49,7 @@ fn tell_end<R: Wait, G: PartGate>(site: &Site<'_, R, G>, over: &Over, outcome: &
     let Some(id) = over.id else {
         return;
     };
-    close_session(site, id, outcome);
+    close_session(site, id, over.said, outcome);
     if let Some(which) = over.part {
         let part = site.crowd.front.told(which);
         site.common.gate.ended_in(id.serial(), part, outcome);
@@ -160,7 +166,8 @@ impl Loop {
     ) {
         let Guest { peer, id } = guest;
         let part = part_of(site.crowd.front, peer.reader());
-        self.part(site, desks, peer, Over { id, part }, parting);
+        let said = peer.sent();
+        self.part(site, desks, peer, Over { id, part, said }, parting);
     }
 
     /// Lets a peer go that is not in the hub, and whose session was this. Its connection is read on for a while.
