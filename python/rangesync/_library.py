@@ -2,10 +2,12 @@
 
 from __future__ import annotations
 
+import contextlib
 import ctypes
 import os
 import threading
 import weakref
+from collections.abc import Iterator
 from pathlib import Path
 from typing import NoReturn, TypeVar, Union
 
@@ -106,11 +108,17 @@ class _Held:
         """It is given back once, so it is neither copied nor pickled."""
         raise TypeError(f"a {type(self).__name__} can be neither copied nor pickled")
 
-    def _ask(self, name: str, *arguments: object) -> None:
-        """Calls the library for this object."""
+    @contextlib.contextmanager
+    def _in_use(self) -> Iterator[None]:
+        """For calls with its handle: no other thread makes one meanwhile."""
         with self._lock:
             if not self._free.alive:
                 raise ValueError(f"this {type(self).__name__} is closed")
+            yield
+
+    def _ask(self, name: str, *arguments: object) -> None:
+        """Calls the library for this object."""
+        with self._in_use():
             _call(name, ctypes.byref(self._handle), *arguments)
 
     def _make(self, name: str, *arguments: object) -> _Handle:

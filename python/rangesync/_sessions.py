@@ -8,7 +8,7 @@ from collections.abc import Iterator
 from dataclasses import dataclass
 from typing import TYPE_CHECKING
 
-from ._library import Data, _bytes, _Held
+from ._library import Data, _bytes, _call, _Held
 from ._refused import Refused
 
 if TYPE_CHECKING:
@@ -108,11 +108,12 @@ class Session(_Held):
 
     def _items(self, name: str, count: int) -> list[bytes]:
         """So many items, in the order learned."""
-        room, used = ctypes.create_string_buffer(64), ctypes.c_size_t()
+        handle, room, used = ctypes.byref(self._handle), ctypes.create_string_buffer(64), ctypes.c_size_t()
         items = []
-        for place in range(count):
-            self._ask(name, place, room, 64, ctypes.byref(used))
-            items.append(ctypes.string_at(room, used.value))
+        with self._in_use():
+            for place in range(count):
+                _call(name, handle, place, room, 64, ctypes.byref(used))
+                items.append(ctypes.string_at(room, used.value))
         return items
 
     def ours(self) -> Iterator[bytes]:
@@ -125,4 +126,5 @@ class Session(_Held):
 
     def learned(self) -> Learned:
         """What it found, once it has ended. Raises `Refused` with the session's refusal, and 98 while it goes on."""
-        return Learned(list(self.ours()), list(self.theirs()))
+        ours, theirs = self._counts()
+        return Learned(sorted(self._items("rs_session_ours", ours)), sorted(self._items("rs_session_theirs", theirs)))

@@ -4,8 +4,8 @@ ghost use Rattle.std.specs.Prelude.{◌≤◌, IfSome};
 ghost use Rattle.std.specs.Arc.{arc_value};
 ghost use Rattle.settings_core.specs.Spans.{IsItemLength};
 
-use crate::loading::{TableSource, strategy_of};
 use io_core::{Watched, write_output};
+use loading::{TableSource, strategy_of};
 use printing_core::{Fault, Refusal, accepted_text, push_cost, push_sample};
 use settings_core::CheckWords;
 use sim_core::{Sample, cost_of};

@@ -1,36 +1,15 @@
 //! The program `rangesync`.
 #![tactic(auto)]
 
-mod book;
-mod books;
-mod callers;
+mod addresses;
+mod answering;
 mod checking;
-mod costs;
-mod directories;
-mod disk;
-mod following;
-mod limits;
-mod loading;
-mod loading_shards;
-mod logging;
-mod looking;
-mod loops;
-mod metering;
 mod naming;
 mod planning;
-mod reaching;
-mod reporting;
 mod run;
-mod serve;
-mod sessions;
 mod sharding;
-mod showing;
+mod simulating;
 mod stdio;
-mod stocking;
-mod sync;
-mod sync_shards;
-mod trying;
-mod watching;
 
 use printing_core::{Fault, tell, tell_no_text};
 use run::{StandardError, StandardInput};

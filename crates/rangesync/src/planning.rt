@@ -6,8 +6,8 @@ ghost use Rattle.sim_core.specs.Samples.{IsSample};
 ghost use Rattle.settings_core.specs.Spans.{IsPlannedCount, IsItemCount, IsItemLength, IsRate};
 
 use crate::checking::length_of;
-use crate::loading::{TableSource, strategy_of};
 use io_core::{Watched, read_input, write_output};
+use loading::{TableSource, strategy_of};
 use printing_core::{Fault, Refusal, push_plan, push_shards};
 use settings_core::{PlanWords, shard_bits_for};
 use sim_core::{Line, Planned, Sample, Task, planned_for, quickest, searched, shipped_text};

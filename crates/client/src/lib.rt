@@ -1,0 +1,16 @@
+//! `sync`: sessions with those who listen, over one set or over its shards, and what is printed of them.
+#![tactic(auto)]
+
+mod asked;
+mod costs;
+mod directories;
+mod printing;
+mod reaching;
+mod sessions;
+mod stdio;
+mod sync;
+mod sync_shards;
+mod talking;
+mod trying;
+
+pub use asked::sync_as_asked;

@@ -1,0 +1,104 @@
+//! One session as the initiator, over a reader and a writer.
+
+ghost use Rattle.std.specs.Prelude.{◌≡◌, ◌≤◌};
+ghost use Rattle.std.specs.Arc.{arc_value};
+
+use digest_core::{Counted, Fingerprint, Summary};
+use io_core::{Watched, write_output};
+use item_files::WireProfile;
+use loading::{Metered, millis_since};
+use peer_threads::{Connection, OpenGate, Outcome, Shared, dial_one};
+use printing_core::{Fault, Stats};
+use range_tree::Tree;
+use session_table::SessionTable;
+use shard_core::{SetName, Which};
+use std::alloc::Global;
+use std::io::{Read, Write};
+use std::sync::{Arc, Mutex, Wait};
+use std::time::{Clock, Instant};
+use strategy_check::Accepted;
+use tcp_front::limited;
+use version_lock::{Seat, VersionLock};
+use version_log::Log;
+
+/// How a session is run.
+#[derive(Clone, Copy)]
+pub struct Talk<'a> {
+    /// The wire profile that is spoken.
+    pub profile: WireProfile,
+    /// How many bytes are read.
+    pub most_bytes: u32,
+    /// Which set the other side is told, if it is told.
+    pub set: Option<(SetName<'a>, Which)>,
+}
+
+/// Speaks first in the profile of the summary, over this reader and this writer. What comes of it, and what it cost.
+fn dial<R: Wait + Clock, I: Read + Drop, O: Write + Drop, F: Summary>(
+    rt: &R,
+    alloc: Global,
+    shared: &Shared<'_, Tree, OpenGate>,
+    seat: &mut Seat<Tree>,
+    ends: (I, O),
+) -> (Outcome, Stats)
+    requires lock { seat.old.table_id ≡ shared.now.lock.now }
+    requires fits { seat.old.view.cap ≤ (arc_value shared.now.accepted.now).table.cap }
+    ensures { seat.new.table_id ≡ seat.old.table_id }
+{
+    let (reader, writer) = ends;
+    let start = Instant::now(rt).ok();
+    let mut connection = Connection::new(Metered::new(reader), Metered::new(writer));
+    let outcome = dial_one::<_, _, _, _, _, F>(rt, alloc, shared, seat, &mut connection);
+    let Connection { reader, writer } = connection;
+    let stats = Stats {
+        sent: writer.into_inner().tally(),
+        received: reader.into_inner().tally(),
+        millis: millis_since(rt, start),
+    };
+    (outcome, stats)
+}
+
+/// Writes of which set is spoken, if it is named: how many bytes. Else 90 or `io write`.
+fn name_set<O: Write>(
+    alloc: Global,
+    set: Option<(SetName<'_>, Which)>,
+    writer: &mut O,
+) -> Result<u64, Fault> {
+    let Some((set, which)) = set else {
+        return Ok(0);
+    };
+    let mut selector = Vec::new(alloc);
+    set.push(&mut selector, which)?;
+    write_output(&mut Watched::new(writer), &selector)?;
+    Ok(selector.len() as u64)
+}
+
+/// Runs one session as the initiator over this log, which is let go, and over this reader and this writer. What comes
+/// of it, and what it cost. Else 90, or `io write` before it has begun.
+pub fn converse<R: Wait + Clock, I: Read + Drop, O: Write + Drop>(
+    rt: &R,
+    alloc: Global,
+    accepted: &Arc<Accepted>,
+    log: Log<Tree>,
+    talk: Talk<'_>,
+    ends: (I, O),
+) -> Result<(Outcome, Stats), Fault>
+    requires cap { log.cap ≤ (arc_value accepted.now).table.cap }
+{
+    let (lock, mut seat) = VersionLock::new(alloc, log)?;
+    let sessions = Mutex::new(SessionTable::new(alloc, 1)?);
+    let shared = Shared {
+        lock: &lock,
+        accepted,
+        sessions: &sessions,
+        gate: &OpenGate,
+    };
+    let (reader, mut writer) = ends;
+    let named = name_set(alloc, talk.set, &mut writer)?;
+    let ends = (limited(reader, talk.most_bytes), writer);
+    let (outcome, mut stats) = match talk.profile {
+        WireProfile::One => dial::<_, _, _, Fingerprint>(rt, alloc, &shared, &mut seat, ends),
+        WireProfile::Two => dial::<_, _, _, Counted>(rt, alloc, &shared, &mut seat, ends),
+    };
+    stats.sent.bytes = stats.sent.bytes.saturating_add(named);
+    Ok((outcome, stats))
+}

@@ -1,0 +1,333 @@
+//! What a side of sessions begins with.
+
+ghost use Rattle.std.specs.Prelude.{◌≡◌, ◌≤◌, length, IfOk};
+ghost use Rattle.definitions.specs.Sets.{IsSet};
+ghost use Rattle.range_tree.specs.Trees.{tree_items};
+
+use crate::disk::{Kept, Opened, item_file, open_lines};
+use item_core::Item;
+use item_files::{
+    ItemForm, ReadFault, SettingsFault, accepted_in, document, read_document, read_input_items,
+    read_items, stray_key,
+};
+use printing_core::{Fault, Refusal, STANDARD_INPUT, tell_stray_key};
+use range_tree::Tree;
+use settings_core::{ServeWords, SyncWords};
+use shard_loading::ShardedSet;
+use sim_core::{SHIPPED_NAMES, shipped_text};
+use std::alloc::{AllocError, Global};
+use std::fs::File;
+use std::io::{Read, Write};
+use std::rt::Files;
+use std::thread::Threads;
+use store_core::{laws, spans};
+use strategy_check::Accepted;
+use toml::value::Table;
+use version_log::Log;
+
+/// A strategy that was accepted, and a set or some of its shards, each of at most as many items as its cap.
+#[derive(Drop)]
+pub struct Loaded {
+    /// The strategy.
+    pub accepted: Accepted,
+    /// The set, or its shards, whose cap is the strategy's.
+    pub set: ShardedSet,
+    /// What else was opened.
+    pub kept: Kept,
+}
+
+/// A strategy that is named, and whether standard error is told of keys that say nothing.
+#[derive(Clone, Copy)]
+pub struct TableSource<'a> {
+    /// The path of its file; or the name of one that is shipped, where no file is there.
+    pub path: &'a str,
+    /// Whether standard error is told.
+    pub explains: bool,
+}
+
+/// The table of the strategy in the file; or of the one that is shipped under the name, where no file is there. Else
+/// 80, 30 or 90.
+fn table_of<'a, R: Files + AllocGlobal>(rt: &R, path: &'a str) -> Result<Table, Refusal<'a>> {
+    let alloc = rt.alloc();
+    let read = match read_document(rt, path) {
+        Err(SettingsFault::CannotRead(ReadFault::Absent)) => match shipped_text(path) {
+            Some(text) => document(alloc, text.as_bytes()),
+            None => return Err(Refusal::of_no_table(path, SHIPPED_NAMES)),
+        },
+        read => read,
+    };
+    match read {
+        Ok(table) => Ok(table),
+        Err(fault) => Err(Refusal::of_file(alloc, path, fault)),
+    }
+}
+
+/// The strategy of this table, accepted. Else 31 to 35 or 29, then 37, 36 or 38, and 90.
+fn accepted<'a>(alloc: Global, path: &'a str, table: &Table) -> Result<Accepted, Refusal<'a>> {
+    match accepted_in(alloc, table) {
+        Ok(accepted) => Ok(accepted),
+        Err(fault) => Err(Refusal::of_file(alloc, path, fault)),
+    }
+}
+
+/// The strategy in the file, accepted, or the one that is shipped under the name, where no file is there. Standard
+/// error is told of a key of it that says nothing, if it is told more. Else 80, 30 to 35 or 29, then 37, 36 or 38, and 90.
+pub fn strategy_of<'a, R: Files + AllocGlobal, E: Write>(
+    rt: &R,
+    source: TableSource<'a>,
+    err: &mut E,
+) -> Result<Accepted, Refusal<'a>> {
+    let alloc = rt.alloc();
+    let TableSource { path, explains } = source;
+    let table = table_of(rt, path)?;
+    let accepted = accepted(alloc, path, &table)?;
+    if explains && let Some(stray) = stray_key(&table) {
+        tell_stray_key(alloc, err, path, stray);
+    }
+    Ok(accepted)
+}
+
+/// The set of the items of the file: at most `cap`. Else 80, 81, then 82, and 90.
+pub fn items_of<'a, R: Files + AllocGlobal>(
+    rt: &R,
+    form: ItemForm,
+    path: &'a str,
+    cap: usize,
+) -> Result<Vec<Item>, Refusal<'a>>
+    ensures rises { IfOk result (λ v. IsSet v.items) }
+    ensures few { IfOk result (λ v. length v.items ≤ cap) }
+{
+    match read_items(rt, form, path, cap) {
+        Ok(items) => Ok(items),
+        Err(fault) => Err(Refusal::of_file(rt.alloc(), path, fault)),
+    }
+}
+
+/// Where a side of sessions begins from.
+#[derive(Clone, Copy)]
+pub struct Sources<'a> {
+    /// The strategy.
+    pub table: TableSource<'a>,
+    /// Whether the set may be cut into shards.
+    pub may_cut: bool,
+    /// The form of the item files.
+    pub form: ItemForm,
+    /// The path of the item file, or `-` for the input; none where the set is only in the file that it is kept in.
+    pub items: Option<&'a str>,
+    /// The path of the file in which the set is kept, if there is one.
+    pub keep: Option<&'a str>,
+    /// Whether standard error is shown how far the items of shards are loaded.
+    pub shows: bool,
+    /// Whether what is learned is written to files, which may be the item file.
+    pub learns: bool,
+}
+
+impl<'a> Sources<'a> {
+    /// Where a server begins from that is asked for in these words; whether standard error is told more, and whether it
+    /// is shown how far all is.
+    pub fn of_server(words: ServeWords<'a>, explains: bool, shows: bool) -> Sources<'a> {
+        Sources {
+            table: TableSource {
+                path: words.table,
+                explains,
+            },
+            may_cut: !words.stdio,
+            form: words.form,
+            items: words.items,
+            keep: words.keep,
+            learns: words.keep.is_some() || words.learned.is_some(),
+            shows,
+        }
+    }
+
+    /// Where a `sync` begins from that is asked for in these words; whether standard error is told more, and whether it
+    /// is shown how far all is.
+    pub fn of_asker(words: SyncWords<'a>, explains: bool, shows: bool) -> Sources<'a> {
+        Sources {
+            table: TableSource {
+                path: words.table,
+                explains,
+            },
+            may_cut: !words.stdio,
+            form: words.form,
+            items: Some(words.items),
+            keep: None,
+            learns: false,
+            shows,
+        }
+    }
+
+    /// The path of the item file, if the items are in a file.
+    fn item_path(&self) -> Option<&'a str> {
+        self.items.filter(|path| *path != "-")
+    }
+
+    /// The refusal of the set in this file.
+    fn refusal(&self, alloc: Global, file: &'a str, fault: SettingsFault) -> Refusal<'a> {
+        if self.may_cut {
+            Refusal::of_set_file(alloc, file, fault)
+        } else {
+            Refusal::of_file(alloc, file, fault)
+        }
+    }
+
+    /// The refusal of the file in which the set is kept.
+    fn kept_refusal(&self, alloc: Global, fault: SettingsFault) -> Refusal<'a> {
+        match self.keep {
+            Some(path) => self.refusal(alloc, path, fault),
+            None => Refusal::from(Fault::from(fault)),
+        }
+    }
+}
+
+/// The set of the items of the file, or of the input. Else 80, 81, then 82, and 90.
+fn item_set<'a, R: Files + AllocGlobal, I: Read + Drop>(
+    rt: &R,
+    sources: Sources<'a>,
+    items: &'a str,
+    reader: I,
+    cap: usize,
+) -> Result<Vec<Item>, Refusal<'a>>
+    ensures rises { IfOk result (λ v. IsSet v.items) }
+    ensures few { IfOk result (λ v. length v.items ≤ cap) }
+{
+    let alloc = rt.alloc();
+    if items == "-" {
+        return match read_input_items(alloc, sources.form, reader, cap) {
+            Ok(items) => Ok(items),
+            Err(fault) => Err(Refusal::of_file(alloc, STANDARD_INPUT, fault)),
+        };
+    }
+    match read_items(rt, sources.form, items, cap) {
+        Ok(items) => Ok(items),
+        Err(fault) => Err(sources.refusal(alloc, items, fault)),
+    }
+}
+
+/// Opens and heals the file in which the set is kept, if there is one. Else 80 or 90.
+pub(crate) fn open_kept<'a, R: Files<File = File> + AllocGlobal, E: Write>(
+    rt: &R,
+    sources: Sources<'a>,
+    err: &mut E,
+) -> Result<Kept, Refusal<'a>> {
+    let items = match sources.item_path() {
+        Some(path) if sources.learns => item_file(rt, path),
+        _ => None,
+    };
+    let opened = match sources.keep {
+        Some(path) => Some(open_lines(rt, path, items, err)?),
+        None => None,
+    };
+    Ok(Kept { opened, items })
+}
+
+/// The items of a file that is open.
+fn reread(
+    alloc: Global,
+    opened: &mut Opened,
+    form: ItemForm,
+    cap: usize,
+) -> Result<Vec<Item>, SettingsFault> {
+    match opened.reader() {
+        Ok(reader) => read_input_items(alloc, form, reader, cap),
+        Err(error) => Err(SettingsFault::CannotRead(ReadFault::of(&error))),
+    }
+}
+
+/// The set of the items of the file in which it is kept, if there is one. Else 80, 81, then 82, and 90.
+fn kept_set<'a>(
+    alloc: Global,
+    sources: Sources<'a>,
+    opened: &mut Option<Opened>,
+    cap: usize,
+) -> Result<Vec<Item>, Refusal<'a>> {
+    let Some(opened) = opened else {
+        return Ok(Vec::new(alloc));
+    };
+    match reread(alloc, opened, sources.form, cap) {
+        Ok(items) => Ok(items),
+        Err(fault) => Err(sources.kept_refusal(alloc, fault)),
+    }
+}
+
+/// The set of the items of both. Else 82 where there are more different items than `cap`, or 90.
+fn joined(items: Vec<Item>, more: &[Item], cap: usize) -> Result<Vec<Item>, SettingsFault>
+    ensures rises { IfOk result (λ v. IsSet v.items) }
+    ensures few { IfOk result (λ v. length v.items ≤ cap) }
+{
+    laws::set_of_a_list();
+    let mut items = items;
+    items.extend_from_slice(more)?;
+    let items = spans::distinct(items);
+    if items.len() > cap {
+        let count = items.len();
+        return Err(SettingsFault::TooManyItems { cap, count });
+    }
+    Ok(items)
+}
+
+/// The set of the items of both, of which the second are those of the file in which the set is kept.
+fn joined_set<'a>(
+    alloc: Global,
+    items: Vec<Item>,
+    more: &[Item],
+    sources: Sources<'a>,
+    cap: usize,
+) -> Result<Vec<Item>, Refusal<'a>>
+    ensures rises { IfOk result (λ v. IsSet v.items) }
+    ensures few { IfOk result (λ v. length v.items ≤ cap) }
+{
+    match joined(items, more, cap) {
+        Ok(items) => Ok(items),
+        Err(fault) => Err(sources.kept_refusal(alloc, fault)),
+    }
+}
+
+/// The store of the items of a set, which up to four threads hash, and how many bytes the items have. The list is given
+/// up here, so that it is not there any more when the history is made.
+fn stored<R: Threads + Sync>(
+    rt: &R,
+    alloc: Global,
+    items: Vec<Item>,
+) -> Result<(Tree, usize), AllocError>
+    requires { IsSet items.items }
+    ensures { IfOk result (λ o. tree_items o.0 ≡ items.items) }
+{
+    let store = Tree::from_rising_on(rt, alloc, &items)?;
+    Ok((store, spans::bytes_in(&items)))
+}
+
+/// The strategy in one file and a log of the items in the others, or in the input. Up to four threads hash the items.
+///
+/// The strategy is judged first: 80, 30 to 35 or 29, then 37, 36 or 38. Then the items are: 80, 81, then 82 where there
+/// are more different items than the strategy's cap; and then those of the file in which the set is kept, in the same
+/// way.
+pub fn load<'a, R: Files<File = File> + AllocGlobal + Threads + Sync, I: Read + Drop, E: Write>(
+    rt: &R,
+    sources: Sources<'a>,
+    reader: I,
+    err: &mut E,
+) -> Result<Loaded, Refusal<'a>>
+    ensures { IfOk result (λ o. o.set.cap ≡ o.accepted.table.cap) }
+{
+    let alloc = rt.alloc();
+    let accepted = strategy_of(rt, sources.table, err)?;
+    let cap = accepted.cap() as usize;
+    let items = match sources.items {
+        Some(items) => item_set(rt, sources, items, reader, cap)?,
+        None => Vec::new(alloc),
+    };
+    let mut kept = open_kept(rt, sources, err)?;
+    let items = {
+        let more = kept_set(alloc, sources, &mut kept.opened, cap)?;
+        joined_set(alloc, items, &more, sources, cap)?
+    };
+    let (store, bytes) = stored(rt, alloc, items)?;
+    let log = Log::of_store(alloc, accepted.cap(), store, bytes)?;
+    let set = ShardedSet::whole(alloc, log)?;
+    Ok(Loaded {
+        accepted,
+        set,
+        kept,
+    })
+}

@@ -1,0 +1,393 @@
+//! A gate that writes to files what each session found and each item that the log took, and that bounds what one
+//! session may put into the log.
+
+use crate::books::{Books, close_book};
+use crate::following::When;
+use crate::looking::Looking;
+use io_core::Device;
+use item_core::Item;
+use item_files::ItemForm;
+use loading::{Disk, millis_of};
+use peer_loops::PartGate;
+use peer_threads::{Gate, Outcome};
+use printing_core::{
+    Fault, Reporting, SessionName, learned_line, left_out_line, report_text, tell_full,
+};
+use shard_core::Which;
+use std::alloc::Global;
+use std::fs::File;
+use std::io::Write;
+use std::rt::Files;
+use std::sync::atomic::{AtomicU64, Ordering};
+use std::sync::{Mutex, Wait};
+use std::time::Clock;
+use version_log::LogFault;
+
+/// After how many milliseconds it is looked at the paths without being asked, and what waits is tried again.
+const DUE: u64 = 1_000;
+
+/// What is written of a session, and how much of it may be put into the log.
+#[derive(Clone, Copy)]
+pub struct Rules {
+    /// How a session is reported.
+    pub reporting: Reporting,
+    /// How many items of one session may be put into the log, if there is a bound.
+    pub most_learned: Option<u32>,
+    /// Whether what is learned is to outlive a loss of power.
+    pub is_durable: bool,
+}
+
+/// What one thread at a time writes.
+#[derive(Drop)]
+struct Desk<'a, D, E> {
+    books: Books<'a, D>,
+    err: E,
+    /// How many items were dropped. It stops at the greatest number.
+    dropped: u64,
+    /// Whether it was told that the set is full.
+    is_full_told: bool,
+}
+
+impl<D: Device + Drop, E: Write + Drop> Desk<'_, D, E> {
+    /// Reports a session that is over.
+    fn report(
+        &mut self,
+        alloc: Global,
+        reporting: Reporting,
+        session: SessionName,
+        outcome: &Outcome,
+    ) {
+        if let Some(book) = &mut self.books.report {
+            book.put(
+                &mut self.err,
+                report_text(alloc, reporting, session, outcome),
+            );
+        }
+    }
+
+    /// Writes an item that the log took.
+    fn learn(&mut self, alloc: Global, form: ItemForm, item: &Item) {
+        if let Some(book) = &mut self.books.learned {
+            book.put(&mut self.err, learned_line(alloc, form, item));
+        }
+        if let Some(book) = &mut self.books.keep {
+            book.put(&mut self.err, learned_line(alloc, form, item));
+        }
+    }
+
+    /// Counts items that were dropped, and tells once that the set is full.
+    fn drop_more(&mut self, fault: LogFault, count: usize, items: usize) {
+        self.dropped = self.dropped.saturating_add(count as u64);
+        if fault == LogFault::Full && !self.is_full_told {
+            self.is_full_told = true;
+            tell_full(&mut self.err, items);
+        }
+    }
+
+    /// Reports that so many items of a session were not put in.
+    fn leave_out(&mut self, alloc: Global, serial: u64, count: usize) {
+        if count == 0 {
+            return;
+        }
+        if let Some(book) = &mut self.books.report {
+            book.put(&mut self.err, left_out_line(alloc, serial, count));
+        }
+    }
+
+    /// Sees that what was learned outlives a loss of power.
+    fn sync(&mut self) {
+        if let Some(book) = &mut self.books.learned {
+            book.sync(&mut self.err);
+        }
+        if let Some(book) = &mut self.books.keep {
+            book.sync(&mut self.err);
+        }
+    }
+
+    /// Tries again to write what waits.
+    fn try_again(&mut self) {
+        if let Some(book) = &mut self.books.report {
+            book.write(&mut self.err);
+        }
+        if let Some(book) = &mut self.books.learned {
+            book.write(&mut self.err);
+        }
+        if let Some(book) = &mut self.books.keep {
+            book.write(&mut self.err);
+        }
+    }
+
+    /// Writes what waits for the last time, and closes the files.
+    fn close(self) -> Closed {
+        let Desk {
+            books,
+            mut err,
+            dropped,
+            is_full_told: _,
+        } = self;
+        let report = close_book(books.report, &mut err);
+        let learned = close_book(books.learned, &mut err);
+        let keep = close_book(books.keep, &mut err);
+        Closed {
+            dropped,
+            is_written: report && learned && keep,
+        }
+    }
+}
+
+impl<E: Write + Drop> Desk<'_, Disk<File>, E> {
+    /// Goes on in files that others put in the place of those that are open. What the file had in which the set is
+    /// kept, and the one in its place has not, is added to it.
+    fn follow<R: Files<File = File> + AllocGlobal>(&mut self, rt: &R, form: ItemForm, when: When) {
+        if let Some(book) = &mut self.books.report {
+            book.follow(rt, when, &mut self.err);
+            book.leave_behind();
+        }
+        if let Some(book) = &mut self.books.learned {
+            book.follow(rt, when, &mut self.err);
+            book.leave_behind();
+        }
+        if let Some(book) = &mut self.books.keep {
+            book.follow(rt, when, &mut self.err);
+            book.carry_over(rt.alloc(), form, &mut self.err);
+        }
+    }
+}
+
+/// What is left to say once no session runs.
+#[derive(Clone, Copy, Debug, PartialEq, Eq)]
+pub struct Closed {
+    /// How many learned items were dropped.
+    pub dropped: u64,
+    /// Whether all that was to be written is written.
+    pub is_written: bool,
+}
+
+impl Closed {
+    /// Refuses if lines are lost.
+    pub fn all_written(self) -> Result<(), Fault> {
+        if self.is_written {
+            Ok(())
+        } else {
+            Err(Fault::LinesLost)
+        }
+    }
+}
+
+/// A gate that lets every session go on, and writes what is asked for of each.
+#[derive(Drop)]
+pub struct Reporter<'r, 'a, R: Wait, D, E> {
+    rt: &'r R,
+    alloc: Global,
+    rules: Rules,
+    /// The greatest number of items of the log.
+    cap: usize,
+    desk: Mutex<Desk<'a, D, E>>,
+    /// Whether each session is reported.
+    reports: bool,
+    looking: Looking,
+    /// How many items were put in, and how many were dropped, for those who watch.
+    inserted: AtomicU64,
+    dropped: AtomicU64,
+}
+
+impl<'r, 'a, R: Wait, D: Device + Drop, E: Write + Drop> Reporter<'r, 'a, R, D, E> {
+    /// Writes to these files from now on, and to this standard error what is to be told of them.
+    pub fn new(
+        rt: &'r R,
+        alloc: Global,
+        rules: Rules,
+        cap: usize,
+        books: Books<'a, D>,
+        err: E,
+    ) -> Reporter<'r, 'a, R, D, E> {
+        let reports = books.report.is_some();
+        let desk = Desk {
+            books,
+            err,
+            dropped: 0,
+            is_full_told: false,
+        };
+        Reporter {
+            rt,
+            alloc,
+            rules,
+            cap,
+            desk: Mutex::new(desk),
+            reports,
+            looking: Looking::new(),
+            inserted: AtomicU64::new(0),
+            dropped: AtomicU64::new(0),
+        }
+    }
+
+    /// How many items of peers were put into the log.
+    pub fn inserted(&self) -> u64 {
+        self.inserted.load(Ordering::SeqCst)
+    }
+
+    /// How many items of peers were dropped.
+    pub fn dropped_so_far(&self) -> u64 {
+        self.dropped.load(Ordering::SeqCst)
+    }
+
+    /// How many lines wait to be written, over all files.
+    pub fn waiting_lines(&self) -> u64 {
+        self.desk.lock(self.rt).books.waiting_lines()
+    }
+
+    /// How many writes failed, over all files.
+    pub fn failed(&self) -> u64 {
+        self.desk.lock(self.rt).books.failed()
+    }
+
+    /// Whether something is written that may have to be tried again.
+    pub fn may_wait(&self) -> bool {
+        self.desk.lock(self.rt).books.is_any()
+    }
+
+    /// Those who write begin now.
+    pub fn begin(&self) {
+        self.looking.begin(self.rt);
+    }
+
+    /// From now on no more is to be written.
+    pub fn end(&self) {
+        self.looking.end(self.rt);
+    }
+
+    /// Closes the files.
+    pub fn close(self) -> Closed {
+        let Reporter {
+            rt: _,
+            alloc: _,
+            rules: _,
+            cap: _,
+            desk,
+            reports: _,
+            looking: _,
+            inserted: _,
+            dropped: _,
+        } = self;
+        desk.into_inner().close()
+    }
+}
+
+impl<R: Wait + Clock, D: Device + Drop, E: Write + Drop> Reporter<'_, '_, R, D, E> {
+    /// Sees that it is looked what stands at the paths before a session is reported, if it is.
+    fn ask_anew(&self) {
+        if self.reports {
+            self.looking.forget(self.rt);
+            self.looking.ask(self.rt);
+        }
+    }
+
+    /// Reports a session that is over.
+    fn report(&self, session: SessionName, outcome: &Outcome) {
+        self.ask_anew();
+        let mut desk = self.desk.lock(self.rt);
+        desk.report(self.alloc, self.rules.reporting, session, outcome);
+    }
+}
+
+impl<R, E: Write + Drop> Reporter<'_, '_, R, Disk<File>, E>
+where
+    R: Files<File = File> + Wait + Clock + AllocGlobal,
+{
+    /// Goes on in files that others put in the place of those that are open.
+    pub fn follow(&self, when: When) {
+        let form = self.rules.reporting.form;
+        self.desk.lock(self.rt).follow(self.rt, form, when);
+    }
+
+    /// Looks what stands at the paths, each second and before something is written, and tries again each second to
+    /// write what waits; until the end. If those who write do not begin, it ends at once.
+    pub fn tend(&self) {
+        if !self.looking.attend(self.rt) {
+            return;
+        }
+        let mut last = self.now();
+        for _ in self.rt.forever() {
+            let turn = self.looking.wait(self.rt);
+            if turn.is_over {
+                self.looking.leave(self.rt);
+                return;
+            }
+            let now = self.now();
+            let is_due = !turn.is_asked || now.saturating_sub(last) >= DUE;
+            if is_due {
+                last = now;
+            }
+            self.look(is_due);
+            self.looking.answer(self.rt, turn);
+        }
+    }
+
+    /// The time in milliseconds of the steady clock; 0 if it fails.
+    fn now(&self) -> u64 {
+        self.rt.monotonic().map_or(0, |moment| millis_of(moment))
+    }
+
+    /// Goes on in files that others put in the place of those that are open; if a second is over, what waits is tried
+    /// again.
+    fn look(&self, is_due: bool) {
+        if is_due {
+            self.follow(When::Due);
+            self.desk.lock(self.rt).try_again();
+        } else {
+            self.follow(When::Asked);
+        }
+    }
+}
+
+impl<R: Wait + Clock, D: Device + Drop, E: Write + Drop> Gate for Reporter<'_, '_, R, D, E> {
+    fn pass(&self, _serial: u64, _sent: u32) -> bool {
+        true
+    }
+
+    fn ended(&self, serial: u64, outcome: &Outcome) {
+        let session = SessionName {
+            serial,
+            which: None,
+        };
+        self.report(session, outcome);
+    }
+
+    fn admits(&self, _serial: u64, count: usize) -> usize {
+        match self.rules.most_learned {
+            Some(most) => count.min(most as usize),
+            None => count,
+        }
+    }
+
+    fn took(&self, item: &Item) {
+        let form = self.rules.reporting.form;
+        self.inserted.fetch_add(1, Ordering::SeqCst);
+        self.looking.ask(self.rt);
+        self.desk.lock(self.rt).learn(self.alloc, form, item);
+    }
+
+    fn dropped(&self, fault: LogFault, count: usize) {
+        self.dropped.fetch_add(count as u64, Ordering::SeqCst);
+        self.desk.lock(self.rt).drop_more(fault, count, self.cap);
+    }
+
+    fn settled(&self, serial: u64, left_out: usize) {
+        let mut desk = self.desk.lock(self.rt);
+        desk.leave_out(self.alloc, serial, left_out);
+        if self.rules.is_durable {
+            desk.sync();
+        }
+        self.looking.forget(self.rt);
+    }
+}
+
+impl<R: Wait + Clock, D: Device + Drop, E: Write + Drop> PartGate for Reporter<'_, '_, R, D, E> {
+    fn ended_in(&self, serial: u64, part: Option<Which>, outcome: &Outcome) {
+        let session = SessionName {
+            serial,
+            which: part,
+        };
+        self.report(session, outcome);
+    }
+}
