@@ -21,9 +21,8 @@ use Rattle.session_core.specs.declared.polled.Last.TheVariants as lasts
 use Rattle.session_core.specs.declared.fault.LinkFault.{LinkFault}
 use Rattle.session_core.specs.declared.pumped.Pumped.{Pumped}
 use Rattle.hub_core.specs.Greetings.{GreetingState, Greets}
-use Rattle.hub_core.specs.Steps.{GreetsSo, step_in}
+use Rattle.hub_core.specs.Steps.{GreetsSo}
 use Rattle.hub_core.specs.Peers.{Goes, GoesSo, Knowing, PeerState, bound_in, fresh}
-use Rattle.hub_core.specs.declared.step.Step.{Step}
 use Rattle.hub_core.specs.declared.stage.Stage.{Stage}
 use Rattle.hub_core.specs.declared.stage.Stage.TheVariants as stages
 
@@ -52,7 +51,7 @@ goes-greeting g h unread left held holds read said lost m = record {
   );
 }
 
-pub greeting-goes : (r : Result Step LinkFault) (old : Stage) (g h : GreetingState)
+pub greeting-goes : (r : Result Pumped LinkFault) (old : Stage) (g h : GreetingState)
     (unread left held holds : Option (List ℕ)) → old ≡ stages.Greeting g → GreetsSo g h unread left held holds r →
     GoesSo old (stages.Greeting h) unread left held holds r
 greeting-goes (Ok s) old g h unread left held holds is (read, said, m, reads, writes) =
@@ -77,21 +76,20 @@ module _ {F : Type 0} (S : Summary F) (W : Profile F) (at : Box (SessionState F)
 
   session-so : (r : Result Pumped LinkFault) (c d : Box (SessionState F) Global)
       (unread left held holds : Option (List ℕ)) → MovesSo S W c.value d.value unread left held holds r →
-      GoesSo (at c) (at d) unread left held holds (step_in r)
+      GoesSo (at c) (at d) unread left held holds r
   session-so (Ok p) c d unread left held holds (read, said, m, reads, writes) =
       (read, said, goes-session c d unread left held holds read said [] m, reads, writes)
   session-so (Err f) c d unread left held holds (read, said, lost, m) =
       (read, said, lost, goes-session c d unread left held holds read said lost m)
 
-  pub session-goes : (r : Result Pumped LinkFault) (t : Result Step LinkFault) (old : Stage)
-      (b : Box (SessionState F) Global) (x y : SessionState F) (unread left held holds : Option (List ℕ)) →
-      old ≡ at b → x ≡ b.value → t ≡ step_in r → MovesSo S W x y unread left held holds r →
-      GoesSo old (at (with_value b y)) unread left held holds t
-  session-goes r t old b x y unread left held holds is same step m =
-      subst (λ u. GoesSo old (at (with_value b y)) unread left held holds u) (sym step)
-      (subst (λ o. GoesSo o (at (with_value b y)) unread left held holds (step_in r)) (sym is)
+  pub session-goes : (r : Result Pumped LinkFault) (old : Stage) (b : Box (SessionState F) Global)
+      (x y : SessionState F) (unread left held holds : Option (List ℕ)) →
+      old ≡ at b → x ≡ b.value → MovesSo S W x y unread left held holds r →
+      GoesSo old (at (with_value b y)) unread left held holds r
+  session-goes r old b x y unread left held holds is same m =
+      subst (λ o. GoesSo o (at (with_value b y)) unread left held holds r) (sym is)
       (session-so r b (with_value b y) unread left held holds
-      (subst (λ z. MovesSo S W z y unread left held holds r) same m)))
+      (subst (λ z. MovesSo S W z y unread left held holds r) same m))
 
 -- one that has just come
 pub fresh-made : {I O : Type 0} (way : Take I) (writer : O) (serial now : ℕ) (r : Poll (Take I)) (w : Poll O)

@@ -30,16 +30,14 @@ use Rattle.session_core.specs.Kept.{kept_by}
 use Rattle.session_core.specs.Sessions.{SessionState, Knows, is_open}
 use Rattle.session_core.specs.declared.state.State.{State}
 use Rattle.session_core.specs.declared.state.State.TheVariants as states
-use Rattle.session_core.specs.Links.{count_of, Fails, IsWaiting, IsOver, IsMore}
+use Rattle.session_core.specs.Links.{count_of, Fails, StandsAt}
 use Rattle.session_core.specs.Polls.{Poll}
 use Rattle.session_core.specs.declared.fault.LinkFault.{LinkFault}
 use Rattle.session_core.specs.declared.polled.Last.{Last}
 use Rattle.session_core.specs.declared.polled.Last.TheVariants as lasts
+use Rattle.session_core.specs.declared.pumped.Pumped.{Pumped}
 use Rattle.hub_core.specs.Greetings.{is_counted, told}
 use Rattle.hub_core.specs.Steps.{LeavesGreeting}
-use Rattle.hub_core.specs.declared.step.Step.{Step}
-use Rattle.hub_core.specs.declared.step.StepPause.{StepPause}
-use Rattle.hub_core.specs.declared.step.StepPause.TheVariants as pauses
 use Rattle.hub_core.specs.declared.stage.Stage.{Stage}
 use Rattle.hub_core.specs.declared.stage.Stage.TheVariants as stages
 
@@ -56,7 +54,7 @@ pub record Goes (old new : Stage) (unread left held holds : Option (List ℕ)) (
       Knowing P new (pushed ++ read) (taken ++ said)
 
 abbrev pub GoesSo : Stage → Stage → Option (List ℕ) → Option (List ℕ) → Option (List ℕ) → Option (List ℕ) →
-    Result Step LinkFault → Type 0
+    Result Pumped LinkFault → Type 0
 GoesSo old new unread left held holds (Ok s) = (read said : List ℕ) × Goes old new unread left held holds read said []
     × (s.read ≡ count_of read) × (s.written ≡ count_of said)
 GoesSo old new unread left held holds (Err f) =
@@ -64,18 +62,12 @@ GoesSo old new unread left held holds (Err f) =
 
 -- ---- why a call left off
 
-abbrev pub LeavesSession : {F : Type 0} → Profile F → StepPause → SessionState F → Last → Last → ℕ → ℕ → Type 0
-LeavesSession W pauses.Waits d r w read written = IsWaiting W d r w
-LeavesSession W pauses.More d r w read written = IsMore W d r w read written
-LeavesSession W pauses.Over d r w read written = IsOver W d
-LeavesSession W pauses.Opens d r w read written = ⊥
-
-abbrev pub LeavesOff : Stage → Last → Last → Result Step LinkFault → Type 0
+abbrev pub LeavesOff : Stage → Last → Last → Result Pumped LinkFault → Type 0
 LeavesOff (stages.Greeting g) r w result = LeavesGreeting g r w result
-LeavesOff (stages.Plain c) r w (Ok s) = LeavesSession two_lane_profile s.pause c.value r w s.read s.written
-LeavesOff (stages.Counted c) r w (Ok s) = LeavesSession counted_profile s.pause c.value r w s.read s.written
-LeavesOff (stages.Plain c) r w (Err f) = Fails {X = Step} (Err f) r w
-LeavesOff (stages.Counted c) r w (Err f) = Fails {X = Step} (Err f) r w
+LeavesOff (stages.Plain c) r w (Ok s) = StandsAt two_lane_profile s.pause c.value r w s.read s.written
+LeavesOff (stages.Counted c) r w (Ok s) = StandsAt counted_profile s.pause c.value r w s.read s.written
+LeavesOff (stages.Plain c) r w (Err f) = Fails {X = Pumped} (Err f) r w
+LeavesOff (stages.Counted c) r w (Err f) = Fails {X = Pumped} (Err f) r w
 
 -- ---- the profile
 
@@ -164,13 +156,13 @@ abbrev pub is_from : {I O : Type 0} → ℕ → PeerState I O → Bool
 is_from origin p = is_same origin p.origin
 
 -- when it was heard, and how many bytes came since our last message, after a step made now
-abbrev pub heard_by : ℕ → Step → ℕ → ℕ
+abbrev pub heard_by : ℕ → Pumped → ℕ → ℕ
 heard_by heard s now = if nat_eq s.read 0 && nat_eq s.written 0 then heard else now
 
-abbrev pub long_by : ℕ → Step → Bool → ℕ
+abbrev pub long_by : ℕ → Pumped → Bool → ℕ
 long_by long s is_same = if is_same then min (long + s.read) (2 ^ 64 - 1) else 0
 
-abbrev pub CountsSo : {I O : Type 0} → PeerState I O → PeerState I O → ℕ → Result Step LinkFault → Type 0
+abbrev pub CountsSo : {I O : Type 0} → PeerState I O → PeerState I O → ℕ → Result Pumped LinkFault → Type 0
 CountsSo p q now (Ok s) = (q.heard ≡ heard_by p.heard s now)
     × (q.long ≡ long_by p.long s (nat_eq (sent_in q.stage) (sent_in p.stage)))
 CountsSo p q now (Err f) = (q.heard ≡ p.heard) × (q.long ≡ p.long)

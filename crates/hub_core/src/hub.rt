@@ -15,9 +15,8 @@ ghost use Rattle.hub_core.specs.Peers.{CountsSo, GoesSo, LeavesOff, Opens, is_fr
 use crate::best::{Measure, better};
 use crate::limits::HubLimits;
 use crate::peer::Peer;
-use crate::step::Step;
 use range_tree::Tree;
-use session_core::LinkFault;
+use session_core::{LinkFault, Pumped};
 use slab::Slab;
 use std::alloc::{AllocError, Global};
 use std::io::{Read, Write};
@@ -161,7 +160,7 @@ impl<I: Read, O: Write> Hub<I, O> {
         key: usize,
         room: &mut [u8],
         now: u64,
-    ) -> Option<Result<Step, LinkFault>>
+    ) -> Option<Result<Pumped, LinkFault>>
         requires room { 0 < length room.old }
         ensures stays { IfSome result (λ did. (p q : _) → get self.old.peers key ≡ Some p →
             get self.new.peers key ≡ Some q → GoesSo p.stage q.stage (take_remaining I.remaining p.reader.way)

@@ -10,7 +10,6 @@ mod opening;
 mod origins;
 mod peer;
 mod stage;
-mod step;
 
 pub use due::HELLO;
 pub use greeting::Greeting;
@@ -19,4 +18,3 @@ pub use limits::HubLimits;
 pub use origins::Origins;
 pub use peer::Peer;
 pub use stage::Stage;
-pub use step::{Step, StepPause};

@@ -13,10 +13,9 @@ ghost use Rattle.hub_core.specs.Peers.{long_by, sent_in, state_in, version_after
 use crate::greeting::Greeting;
 use crate::opening::opened;
 use crate::stage::Stage;
-use crate::step::Step;
 use ends_core::Learned;
 use range_tree::Tree;
-use session_core::{LinkFault, Polled, State};
+use session_core::{LinkFault, Polled, Pumped, State};
 use std::alloc::{AllocError, Global};
 use std::io::{Read, Take, Write};
 use std::marker::Model;
@@ -59,7 +58,7 @@ impl<I, O> Model for Peer<I, O> {
 }
 
 /// When a peer was heard last, where this step was made now.
-fn heard_at(heard: u64, step: Step, now: u64) -> u64
+fn heard_at(heard: u64, step: Pumped, now: u64) -> u64
     ensures { result ≡ heard_by heard step now }
 {
     if step.read == 0 && step.written == 0 {
@@ -69,7 +68,7 @@ fn heard_at(heard: u64, step: Step, now: u64) -> u64
 }
 
 /// How many bytes came since our last message, where none was said in this step, or one was.
-fn long_after(long: u64, step: Step, is_same: bool) -> u64
+fn long_after(long: u64, step: Pumped, is_same: bool) -> u64
     ensures { result ≡ long_by long step is_same }
 {
     if !is_same {
@@ -236,7 +235,7 @@ impl<I: Read, O: Write> Peer<I, O> {
     }
 
     /// Reads and writes what can be read and written: at most 16 reads and writes. Its stream may be ready again.
-    pub fn pump(&mut self, alloc: Global, room: &mut [u8], now: u64) -> Result<Step, LinkFault>
+    pub fn pump(&mut self, alloc: Global, room: &mut [u8], now: u64) -> Result<Pumped, LinkFault>
         requires room { 0 < length room.old }
         ensures moved { GoesSo self.old.stage self.new.stage (take_remaining I.remaining self.old.reader.way)
             (take_remaining I.remaining self.new.reader.way) (O.contents self.old.writer.way)

@@ -2,16 +2,14 @@
 
 ghost use Rattle.std.specs.Prelude.{◌≡◌, ◌≢◌, ◌<◌, length, Some, IfSome, IfNone};
 ghost use Rattle.session_core.specs.declared.state.State.TheVariants as states;
-ghost use Rattle.hub_core.specs.Steps.{pause_in, step_in};
 ghost use Rattle.hub_core.specs.Peers as peers;
 ghost use Rattle.hub_core.specs.Peers.{GoesSo, LeavesOff, Learns, bound_in, goes_on, kept_in, sent_in, state_in};
 
 use crate::greeting::Greeting;
-use crate::step::{Step, StepPause};
 use digest_core::{Counted, Fingerprint};
 use ends_core::{Learned, Responding};
 use range_tree::Tree;
-use session_core::{LinkFault, Pause, Polled, Pumped, Session, State, pump};
+use session_core::{LinkFault, Polled, Pumped, Session, State, pump};
 use std::alloc::Global;
 use std::io::{Read, Write};
 
@@ -24,29 +22,6 @@ pub enum Stage {
     Plain(Box<Session<Responding, Tree, Fingerprint>>),
     /// It speaks profile 2.
     Counted(Box<Session<Responding, Tree, Counted>>),
-}
-
-/// The same pause, of a session.
-fn pause_of(pause: Pause) -> StepPause
-    ensures { result ≡ pause_in pause }
-{
-    match pause {
-        Pause::Waits => StepPause::Waits,
-        Pause::More => StepPause::More,
-        Pause::Over => StepPause::Over,
-    }
-}
-
-/// The same step, of a session.
-fn step_of(pumped: Result<Pumped, LinkFault>) -> Result<Step, LinkFault>
-    ensures { result ≡ step_in pumped }
-{
-    let pumped = pumped?;
-    Ok(Step {
-        pause: pause_of(pumped.pause),
-        read: pumped.read,
-        written: pumped.written,
-    })
 }
 
 impl Stage {
@@ -143,7 +118,7 @@ impl Stage {
         reader: &mut Polled<I>,
         writer: &mut Polled<O>,
         room: &mut [u8],
-    ) -> Result<Step, LinkFault>
+    ) -> Result<Pumped, LinkFault>
         requires room { 0 < length room.old }
         ensures moved { GoesSo self.old self.new (I.remaining reader.old.way) (I.remaining reader.new.way)
             (O.contents writer.old.way) (O.contents writer.new.way) result }
@@ -152,8 +127,8 @@ impl Stage {
     {
         match self {
             Stage::Greeting(greeting) => greeting.pump(reader, writer, room),
-            Stage::Plain(session) => step_of(pump(alloc, reader, writer, &mut **session, room)),
-            Stage::Counted(session) => step_of(pump(alloc, reader, writer, &mut **session, room)),
+            Stage::Plain(session) => pump(alloc, reader, writer, &mut **session, room),
+            Stage::Counted(session) => pump(alloc, reader, writer, &mut **session, room),
         }
     }
 }

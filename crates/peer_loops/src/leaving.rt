@@ -111,12 +111,7 @@ impl Leavers {
     }
 
     /// Reads on of the one with this token, if it is one's. Whether it is.
-    pub(crate) fn read_on(
-        &mut self,
-        registry: &Registry,
-        token: Token,
-        room: &mut [u8],
-    ) -> bool {
+    pub(crate) fn read_on(&mut self, registry: &Registry, token: Token, room: &mut [u8]) -> bool {
         let Some(key) = token.0.checked_sub(FIRST) else {
             return false;
         };

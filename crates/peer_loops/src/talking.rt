@@ -7,9 +7,8 @@ use crate::looping::{Kind, Loop};
 use crate::note::Guest;
 use crate::part_gate::PartGate;
 use crate::site::Site;
-use hub_core::StepPause;
 use mio::unix::SourceFd;
-use session_core::LinkFault;
+use session_core::{LinkFault, Pause};
 use session_table::SessionId;
 use std::os::fd::AsRawFd;
 use std::sync::Wait;
@@ -32,9 +31,7 @@ impl Loop {
         desks: &mut Desks<'_>,
         key: usize,
     ) {
-        let did = self
-            .hub
-            .pump(site.alloc, key, &mut self.room, self.now);
+        let did = self.hub.pump(site.alloc, key, &mut self.room, self.now);
         if let Some(code) = self.refusal(site, desks, key) {
             self.let_go(site, desks, key, Parting::Refuses(code));
             return;
@@ -53,15 +50,15 @@ impl Loop {
         site: &Site<'_, R, G>,
         desks: &mut Desks<'_>,
         key: usize,
-        pause: StepPause,
+        pause: Pause,
     ) {
         match pause {
-            StepPause::Opens => self.open(site, desks, key),
-            StepPause::Over => self.let_go(site, desks, key, Parting::Over),
-            StepPause::More if self.is_long(site, key) => self.hand_over(site, desks, key),
-            StepPause::More => self.list(site, desks, key, Until::Soon),
-            StepPause::Waits if self.is_long(site, key) => self.hand_over(site, desks, key),
-            StepPause::Waits => {}
+            Pause::Opens => self.open(site, desks, key),
+            Pause::Over => self.let_go(site, desks, key, Parting::Over),
+            Pause::More if self.is_long(site, key) => self.hand_over(site, desks, key),
+            Pause::More => self.list(site, desks, key, Until::Soon),
+            Pause::Waits if self.is_long(site, key) => self.hand_over(site, desks, key),
+            Pause::Waits => {}
         }
     }
 

@@ -1,7 +1,7 @@
 //! Reading, pushing, making due and writing, as far as a stream goes that never waits.
 
 ghost use Rattle.std.specs.Prelude.{◌≡◌, ◌≢◌, ◌<◌, ◌≤◌, ℕ, true, false, [], List, length, take, OnOk, OnErr};
-ghost use Rattle.session_core.specs.Links.{Fails, MovesSo, Stands, both_of};
+ghost use Rattle.session_core.specs.Links.{Fails, MovesSo, Stands};
 ghost use Rattle.session_core.specs.declared.fault.LinkFault.TheVariants as faults;
 ghost use Rattle.session_core.specs.declared.polled.Last.TheVariants as lasts;
 ghost use Rattle.session_core.specs.Sessions as sessions;
@@ -9,7 +9,7 @@ ghost use Rattle.session_core.specs.Sessions.{Pushes, due};
 
 use crate::fault::LinkFault;
 use crate::polled::{Last, Polled};
-use crate::pumped::{Pause, Pumped, pause_of};
+use crate::pumped::{Pause, Pumped, both, pause_of};
 use crate::session::Session;
 use crate::state::State;
 use digest_core::Summary;
@@ -146,17 +146,6 @@ fn move_once<I: Read, O: Write, R: Role, S: RangeStore, F: Summary>(
         });
     }
     hear_once(alloc, reader, session, room)
-}
-
-/// What two calls did, one after the other.
-fn both(first: Pumped, second: Pumped) -> Pumped
-    ensures { result ≡ both_of first second }
-{
-    Pumped {
-        pause: second.pause,
-        read: first.read.saturating_add(second.read),
-        written: first.written.saturating_add(second.written),
-    }
 }
 
 /// Makes due what the session has to say and writes it, and reads what is there and pushes it, as far as both go: at
