@@ -24,7 +24,7 @@ use Rattle.hub_core.specs.Greetings.{GreetingState, IsGreeting}
 use Rattle.hub_core.specs.Firsts.{is_due}
 use Rattle.hub_core.specs.Steps.{LeavesAt, LeavesGreeting, is_ready}
 use Rattle.hub_core.specs.Peers.{LeavesOff}
-use Rattle.hub_core.specs.declared.stage.Stage.TheVariants as stages
+use Rattle.hub_core.specs.declared.phase.Phase.TheVariants as phases
 
 -- ---- one read or write of a greeting
 
@@ -125,12 +125,12 @@ leaves-both s t g r w leaves = by t.pause leaves where
 -- ---- a session's
 
 pub plain-leaves : (q : Result Pumped LinkFault) (b : Box (SessionState Lanes) Global) (y : SessionState Lanes)
-    (r w : Last) → Stands two_lane_profile q y r w → Fails q r w → LeavesOff (stages.Plain (with_value b y)) r w q
+    (r w : Last) → Stands two_lane_profile q y r w → Fails q r w → LeavesOff (phases.Plain (with_value b y)) r w q
 plain-leaves (Ok p) b y r w stands fails = stands
 plain-leaves (Err f) b y r w stands fails = fails
 
 pub counted-leaves : (q : Result Pumped LinkFault) (b : Box (SessionState prints.Counted) Global)
     (y : SessionState prints.Counted) (r w : Last) → Stands counted_profile q y r w → Fails q r w →
-    LeavesOff (stages.Counted (with_value b y)) r w q
+    LeavesOff (phases.Counted (with_value b y)) r w q
 counted-leaves (Ok p) b y r w stands fails = stands
 counted-leaves (Err f) b y r w stands fails = fails

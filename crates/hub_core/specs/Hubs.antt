@@ -19,7 +19,7 @@ pub record HubState (I O : Type 0) : Type 0 where
   pub limits : HubLimits
 
 abbrev pub kept : {I O : Type 0} → PeerState I O → ℕ
-kept p = kept_in p.stage
+kept p = kept_in p.phase
 
 abbrev pub held_by : {I O : Type 0} → Slab (PeerState I O) → ℕ
 held_by peers = total kept peers.slots

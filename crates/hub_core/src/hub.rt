@@ -163,10 +163,10 @@ impl<I: Read, O: Write> Hub<I, O> {
     ) -> Option<Result<Pumped, LinkFault>>
         requires room { 0 < length room.old }
         ensures stays { IfSome result (λ did. (p q : _) → get self.old.peers key ≡ Some p →
-            get self.new.peers key ≡ Some q → GoesSo p.stage q.stage (take_remaining I.remaining p.reader.way)
+            get self.new.peers key ≡ Some q → GoesSo p.phase q.phase (take_remaining I.remaining p.reader.way)
             (take_remaining I.remaining q.reader.way) (O.contents p.writer.way) (O.contents q.writer.way) did) }
         ensures leaves { IfSome result (λ did. (q : _) → get self.new.peers key ≡ Some q →
-            LeavesOff q.stage q.reader.last q.writer.last did) }
+            LeavesOff q.phase q.reader.last q.writer.last did) }
         ensures counts { IfSome result (λ did. (p q : _) → get self.old.peers key ≡ Some p →
             get self.new.peers key ≡ Some q → CountsSo p q now did) }
         ensures there { IsSome (get self.new.peers key) ↔ IsSome (get self.old.peers key) }
@@ -196,9 +196,9 @@ impl<I: Read, O: Write> Hub<I, O> {
         requires { length (tree_items store) ≤ (arc_value accepted.now).table.cap }
         ensures opens { IfSome result (λ did. OnOk did ((p q : _) → get self.old.peers key ≡ Some p →
             get self.new.peers key ≡ Some q →
-            Opens (peer_of (arc_value accepted.now) (tree_items store)) p.stage q.stage)) }
+            Opens (peer_of (arc_value accepted.now) (tree_items store)) p.phase q.phase)) }
         ensures version { IfSome result (λ did. OnOk did ((p q : _) → get self.old.peers key ≡ Some p →
-            get self.new.peers key ≡ Some q → q.version ≡ version_after p.stage p.version version)) }
+            get self.new.peers key ≡ Some q → q.version ≡ version_after p.phase p.version version)) }
         ensures memory { IfSome result (λ did. OnErr did (get self.new.peers key ≡ get self.old.peers key)) }
         ensures there { IsSome (get self.new.peers key) ↔ IsSome (get self.old.peers key) }
         ensures others { OthersStay self.old.peers self.new.peers key }

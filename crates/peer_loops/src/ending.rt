@@ -8,7 +8,7 @@ ghost use Rattle.session_core.specs.declared.fault.LinkFault.TheVariants as faul
 ghost use Rattle.peer_loops.specs.Partings.{Tells, TellsEnded, broken_by, whole_in};
 ghost use Rattle.peer_loops.specs.declared.ending.Parting.TheVariants as partings;
 
-use hub_core::Stage;
+use hub_core::Phase;
 use peer_threads::{Direction, Outcome};
 use session_core::{LinkFault, State};
 use std::alloc::AllocError;
@@ -67,12 +67,12 @@ fn broken(parting: Parting, owes: bool, sent: u32) -> Outcome
 }
 
 /// The outcome of a session that came to its end, and was said whole.
-fn ended(stage: Stage, version: usize) -> Outcome
-    requires { state_in stage ≡ Some states.Ended }
-    ensures { TellsEnded partings.Over stage version result }
+fn ended(phase: Phase, version: usize) -> Outcome
+    requires { state_in phase ≡ Some states.Ended }
+    ensures { TellsEnded partings.Over phase version result }
 {
-    let sent = stage.sent();
-    match stage.into_learned() {
+    let sent = phase.sent();
+    match phase.into_learned() {
         Some(learned) => Outcome::Ended {
             learned,
             sent,
@@ -83,21 +83,21 @@ fn ended(stage: Stage, version: usize) -> Outcome
 }
 
 /// How many messages were written whole: one at most is said and not written.
-fn whole(stage: &Stage) -> u32
-    ensures { result ≡ whole_in stage.now }
+fn whole(phase: &Phase) -> u32
+    ensures { result ≡ whole_in phase.now }
 {
-    stage.sent().saturating_sub(u32::from(stage.owes()))
+    phase.sent().saturating_sub(u32::from(phase.owes()))
 }
 
 /// How the session ended of a peer that is let go.
-pub(crate) fn outcome_of(stage: Stage, version: usize, parting: Parting) -> Outcome
-    ensures { Tells parting stage version result }
+pub(crate) fn outcome_of(phase: Phase, version: usize, parting: Parting) -> Outcome
+    ensures { Tells parting phase version result }
 {
-    let sent = stage.sent();
-    match stage.state() {
+    let sent = phase.sent();
+    match phase.state() {
         Some(State::Refused(code)) => Outcome::Refused { code, sent },
         Some(State::PeerRefused(code)) => Outcome::PeerRefused { code, sent },
-        Some(State::Ended) if parting == Parting::Over => ended(stage, version),
-        _ => broken(parting, stage.owes(), whole(&stage)),
+        Some(State::Ended) if parting == Parting::Over => ended(phase, version),
+        _ => broken(parting, phase.owes(), whole(&phase)),
     }
 }

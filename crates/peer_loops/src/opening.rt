@@ -32,9 +32,9 @@ fn open_over(
     store: Tree,
 ) -> Result<(), Parting>
     ensures opens { OnOk result ((p q : _) → get hub.old.peers key ≡ Some p → get hub.new.peers key ≡ Some q →
-        Opens (peer_of (arc_value accepted.now) (tree_items store)) p.stage q.stage) }
+        Opens (peer_of (arc_value accepted.now) (tree_items store)) p.phase q.phase) }
     ensures version { OnOk result ((p q : _) → get hub.old.peers key ≡ Some p → get hub.new.peers key ≡ Some q →
-        q.version ≡ version_after p.stage p.version 0) }
+        q.version ≡ version_after p.phase p.version 0) }
     ensures others { OthersStay hub.old.peers hub.new.peers key }
 {
     if store.len() > accepted.cap() as usize {

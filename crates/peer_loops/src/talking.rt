@@ -127,7 +127,7 @@ impl Loop {
         if peer.sent() == 0 {
             return None;
         }
-        let bound = peer.stage().bound();
+        let bound = peer.phase().bound();
         site.common.sessions.lock(site.rt).open(bound).ok()
     }
 

@@ -39,7 +39,7 @@ pub struct Rules {
 
 /// What one thread at a time writes.
 #[derive(Drop)]
-struct Desk<'a, D, E> {
+struct Ledger<'a, D, E> {
     books: Books<'a, D>,
     err: E,
     /// How many items were dropped. It stops at the greatest number.
@@ -48,7 +48,7 @@ struct Desk<'a, D, E> {
     is_full_told: bool,
 }
 
-impl<D: Device + Drop, E: Write + Drop> Desk<'_, D, E> {
+impl<D: Device + Drop, E: Write + Drop> Ledger<'_, D, E> {
     /// Reports a session that is over.
     fn report(
         &mut self,
@@ -119,7 +119,7 @@ impl<D: Device + Drop, E: Write + Drop> Desk<'_, D, E> {
 
     /// Writes what waits for the last time, and closes the files.
     fn close(self) -> Closed {
-        let Desk {
+        let Ledger {
             books,
             mut err,
             dropped,
@@ -135,7 +135,7 @@ impl<D: Device + Drop, E: Write + Drop> Desk<'_, D, E> {
     }
 }
 
-impl<E: Write + Drop> Desk<'_, Disk<File>, E> {
+impl<E: Write + Drop> Ledger<'_, Disk<File>, E> {
     /// Goes on in files that others put in the place of those that are open. What the file had in which the set is
     /// kept, and the one in its place has not, is added to it.
     fn follow<R: Files<File = File> + AllocGlobal>(&mut self, rt: &R, form: ItemForm, when: When) {
@@ -182,7 +182,7 @@ pub struct Reporter<'r, 'a, R: Wait, D, E> {
     rules: Rules,
     /// The greatest number of items of the log.
     cap: usize,
-    desk: Mutex<Desk<'a, D, E>>,
+    ledger: Mutex<Ledger<'a, D, E>>,
     /// Whether each session is reported.
     reports: bool,
     looking: Looking,
@@ -202,7 +202,7 @@ impl<'r, 'a, R: Wait, D: Device + Drop, E: Write + Drop> Reporter<'r, 'a, R, D, 
         err: E,
     ) -> Reporter<'r, 'a, R, D, E> {
         let reports = books.report.is_some();
-        let desk = Desk {
+        let ledger = Ledger {
             books,
             err,
             dropped: 0,
@@ -213,7 +213,7 @@ impl<'r, 'a, R: Wait, D: Device + Drop, E: Write + Drop> Reporter<'r, 'a, R, D, 
             alloc,
             rules,
             cap,
-            desk: Mutex::new(desk),
+            ledger: Mutex::new(ledger),
             reports,
             looking: Looking::new(),
             inserted: AtomicU64::new(0),
@@ -233,17 +233,17 @@ impl<'r, 'a, R: Wait, D: Device + Drop, E: Write + Drop> Reporter<'r, 'a, R, D, 
 
     /// How many lines wait to be written, over all files.
     pub fn waiting_lines(&self) -> u64 {
-        self.desk.lock(self.rt).books.waiting_lines()
+        self.ledger.lock(self.rt).books.waiting_lines()
     }
 
     /// How many writes failed, over all files.
     pub fn failed(&self) -> u64 {
-        self.desk.lock(self.rt).books.failed()
+        self.ledger.lock(self.rt).books.failed()
     }
 
     /// Whether something is written that may have to be tried again.
     pub fn may_wait(&self) -> bool {
-        self.desk.lock(self.rt).books.is_any()
+        self.ledger.lock(self.rt).books.is_any()
     }
 
     /// Those who write begin now.
@@ -263,13 +263,13 @@ impl<'r, 'a, R: Wait, D: Device + Drop, E: Write + Drop> Reporter<'r, 'a, R, D, 
             alloc: _,
             rules: _,
             cap: _,
-            desk,
+            ledger,
             reports: _,
             looking: _,
             inserted: _,
             dropped: _,
         } = self;
-        desk.into_inner().close()
+        ledger.into_inner().close()
     }
 }
 
@@ -285,8 +285,8 @@ impl<R: Wait + Clock, D: Device + Drop, E: Write + Drop> Reporter<'_, '_, R, D, 
     /// Reports a session that is over.
     fn report(&self, session: SessionName, outcome: &Outcome) {
         self.ask_anew();
-        let mut desk = self.desk.lock(self.rt);
-        desk.report(self.alloc, self.rules.reporting, session, outcome);
+        let mut ledger = self.ledger.lock(self.rt);
+        ledger.report(self.alloc, self.rules.reporting, session, outcome);
     }
 }
 
@@ -297,7 +297,7 @@ where
     /// Goes on in files that others put in the place of those that are open.
     pub fn follow(&self, when: When) {
         let form = self.rules.reporting.form;
-        self.desk.lock(self.rt).follow(self.rt, form, when);
+        self.ledger.lock(self.rt).follow(self.rt, form, when);
     }
 
     /// Looks what stands at the paths, each second and before something is written, and tries again each second to
@@ -333,7 +333,7 @@ where
     fn look(&self, is_due: bool) {
         if is_due {
             self.follow(When::Due);
-            self.desk.lock(self.rt).try_again();
+            self.ledger.lock(self.rt).try_again();
         } else {
             self.follow(When::Asked);
         }
@@ -364,19 +364,19 @@ impl<R: Wait + Clock, D: Device + Drop, E: Write + Drop> Gate for Reporter<'_, '
         let form = self.rules.reporting.form;
         self.inserted.fetch_add(1, Ordering::SeqCst);
         self.looking.ask(self.rt);
-        self.desk.lock(self.rt).learn(self.alloc, form, item);
+        self.ledger.lock(self.rt).learn(self.alloc, form, item);
     }
 
     fn dropped(&self, fault: LogFault, count: usize) {
         self.dropped.fetch_add(count as u64, Ordering::SeqCst);
-        self.desk.lock(self.rt).drop_more(fault, count, self.cap);
+        self.ledger.lock(self.rt).drop_more(fault, count, self.cap);
     }
 
     fn settled(&self, serial: u64, left_out: usize) {
-        let mut desk = self.desk.lock(self.rt);
-        desk.leave_out(self.alloc, serial, left_out);
+        let mut ledger = self.ledger.lock(self.rt);
+        ledger.leave_out(self.alloc, serial, left_out);
         if self.rules.is_durable {
-            desk.sync();
+            ledger.sync();
         }
         self.looking.forget(self.rt);
     }

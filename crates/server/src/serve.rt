@@ -48,12 +48,12 @@ fn forgets(serving: Serving<'_>) -> bool {
 }
 
 /// The gate of a server: it writes to the files of a disk.
-type Desk<'r, 'a, R, E> = Reporter<'r, 'a, R, Disk<File>, E>;
+type DiskReporter<'r, 'a, R, E> = Reporter<'r, 'a, R, Disk<File>, E>;
 
 /// Serves by loops until the source has no more.
 fn work<R: Loops, E: Write + Drop + Send>(
     rt: &R,
-    common: &Common<'_, Desk<'_, '_, R, E>>,
+    common: &Common<'_, DiskReporter<'_, '_, R, E>>,
     parts: Parts,
     listener: &Listener<'_, R>,
     service: Service<'_>,
@@ -70,7 +70,7 @@ fn work<R: Loops, E: Write + Drop + Send>(
 /// until the server is done.
 fn log_and_show<R: Loops, E: Write + Drop + Send, L: Write + Drop + Send>(
     rt: &R,
-    common: &Common<'_, Desk<'_, '_, R, E>>,
+    common: &Common<'_, DiskReporter<'_, '_, R, E>>,
     window: Option<&Window<'_, R>>,
     board: &Board,
     log: Option<L>,
@@ -94,7 +94,7 @@ fn log_and_show<R: Loops, E: Write + Drop + Send, L: Write + Drop + Send>(
 /// each session, if that is asked for. If no thread can be made, that is done after them, and ends at once.
 fn work_shown<R: Loops, E: Write + Drop + Send, L: Write + Drop + Send>(
     rt: &R,
-    common: &Common<'_, Desk<'_, '_, R, E>>,
+    common: &Common<'_, DiskReporter<'_, '_, R, E>>,
     parts: Parts,
     doors: (&Listener<'_, R>, Option<&Window<'_, R>>),
     service: Service<'_>,
@@ -121,7 +121,7 @@ fn work_shown<R: Loops, E: Write + Drop + Send, L: Write + Drop + Send>(
 /// any. If no thread can be made, that ends after two seconds, and then this one serves.
 fn work_tended<R: Loops, E: Write + Drop + Send, L: Write + Drop + Send, T: FnOnce() + Drop>(
     rt: &R,
-    common: &Common<'_, Desk<'_, '_, R, E>>,
+    common: &Common<'_, DiskReporter<'_, '_, R, E>>,
     parts: Parts,
     doors: (&Listener<'_, R>, Option<&Window<'_, R>>),
     service: Service<'_>,

@@ -1,6 +1,6 @@
 //! The window through which a server is watched: a thread that answers HTTP with its metrics and a page.
 
-use crate::callers::{Caller, Step};
+use crate::callers::{Caller, CallerStep};
 use crate::doors::listen_at;
 use crate::reporting::Reporter;
 use io_core::{Watched, WriterFailed, write_output};
@@ -145,12 +145,12 @@ impl<R> Window<'_, R> {
 }
 
 /// The gate of a server: it writes to the files of a disk.
-type Desk<'r, 'a, R, E> = Reporter<'r, 'a, R, Disk<File>, E>;
+type DiskReporter<'r, 'a, R, E> = Reporter<'r, 'a, R, Disk<File>, E>;
 
 /// How the server stands now.
 fn standing<'a, R: Wait, E: Write + Drop>(
     rt: &R,
-    common: &Common<'_, Desk<'_, '_, R, E>>,
+    common: &Common<'_, DiskReporter<'_, '_, R, E>>,
     board: &Board,
     beginning: Beginning<'a>,
     now: u64,
@@ -308,9 +308,9 @@ impl Callers {
             return None;
         };
         match caller.go_on(self.now) {
-            Step::Waits => None,
-            Step::Asks(asked) => Some(asked),
-            Step::Gone => {
+            CallerStep::Waits => None,
+            CallerStep::Asks(asked) => Some(asked),
+            CallerStep::Gone => {
                 let _closed = self.all.try_remove(key);
                 None
             }
@@ -340,7 +340,7 @@ impl Callers {
 fn answer_all<R: Wait + AllocGlobal, E: Write + Drop>(
     rt: &R,
     callers: &mut Callers,
-    common: &Common<'_, Desk<'_, '_, R, E>>,
+    common: &Common<'_, DiskReporter<'_, '_, R, E>>,
     board: &Board,
     beginning: Beginning<'_>,
 ) {
@@ -356,7 +356,7 @@ fn answer_all<R: Wait + AllocGlobal, E: Write + Drop>(
 pub fn watch<R, E: Write + Drop>(
     rt: &R,
     window: &Window<'_, R>,
-    common: &Common<'_, Desk<'_, '_, R, E>>,
+    common: &Common<'_, DiskReporter<'_, '_, R, E>>,
     board: &Board,
 )
 where

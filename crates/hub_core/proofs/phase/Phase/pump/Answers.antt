@@ -1,24 +1,24 @@
 use Rattle.std.proofs.Common.{rules, ◌≡◌}
 use Rattle.definitions.specs.Fingerprints.{two_lanes, counted_lanes}
 use Rattle.definitions.specs.Wire.{two_lane_profile, counted_profile}
-use Rattle.hub_core.specs.declared.stage.Stage.TheVariants as stages
+use Rattle.hub_core.specs.declared.phase.Phase.TheVariants as phases
 use Rattle.hub_core.proofs.Peering.{session-goes}
 use Rattle.hub_core.proofs.Leaving.{plain-leaves, counted-leaves}
-use Rattle.hub_core.proofs.stage.Stage.pump.Goals as goal
+use Rattle.hub_core.proofs.phase.Phase.pump.Goals as goal
 
 pub returns-in-Plain-clause-moved : goal.returns-in-Plain-clause-moved
 returns-in-Plain-clause-moved g c =
-    let is : c.args.self.now ≡ stages.Plain c.in-Plain.session = search rules in
+    let is : c.args.self.now ≡ phases.Plain c.in-Plain.session = search rules in
     let same : c.deref_mut.result.now ≡ c.in-Plain.session.value = search rules in
-    session-goes two_lanes two_lane_profile stages.Plain (λ c d read said on. on)
+    session-goes two_lanes two_lane_profile phases.Plain (λ c d read said on. on)
     c.pump-in-Plain.result c.args.self.now c.in-Plain.session c.deref_mut.result.now
     c.pump-in-Plain.new.session _ _ _ _ is same c.pump-in-Plain.ensures.moved
 
 pub returns-in-Counted-clause-moved : goal.returns-in-Counted-clause-moved
 returns-in-Counted-clause-moved g c =
-    let is : c.args.self.now ≡ stages.Counted c.in-Counted.session = search rules in
+    let is : c.args.self.now ≡ phases.Counted c.in-Counted.session = search rules in
     let same : c.deref_mut-in-Counted.result.now ≡ c.in-Counted.session.value = search rules in
-    session-goes counted_lanes counted_profile stages.Counted (λ c d read said on. on)
+    session-goes counted_lanes counted_profile phases.Counted (λ c d read said on. on)
     c.pump-in-Counted.result c.args.self.now c.in-Counted.session
     c.deref_mut-in-Counted.result.now c.pump-in-Counted.new.session _ _ _ _ is same
     c.pump-in-Counted.ensures.moved

@@ -15,7 +15,7 @@ use std::io::{Read, Write};
 
 /// How far a peer is.
 #[derive(Drop)]
-pub enum Stage {
+pub enum Phase {
     /// Its session is not opened.
     Greeting(Greeting),
     /// It speaks profile 1.
@@ -24,15 +24,15 @@ pub enum Stage {
     Counted(Box<Session<Responding, Tree, Counted>>),
 }
 
-impl Stage {
+impl Phase {
     /// How many bytes of memory are counted for it.
     pub fn kept(&self) -> u64
         ensures { result ≡ kept_in self.now }
     {
         match self {
-            Stage::Greeting(greeting) => greeting.came().len() as u64,
-            Stage::Plain(session) => session.kept(),
-            Stage::Counted(session) => session.kept(),
+            Phase::Greeting(greeting) => greeting.came().len() as u64,
+            Phase::Plain(session) => session.kept(),
+            Phase::Counted(session) => session.kept(),
         }
     }
 
@@ -41,9 +41,9 @@ impl Stage {
         ensures { result ≡ sent_in self.now }
     {
         match self {
-            Stage::Greeting(_) => 0,
-            Stage::Plain(session) => session.sent(),
-            Stage::Counted(session) => session.sent(),
+            Phase::Greeting(_) => 0,
+            Phase::Plain(session) => session.sent(),
+            Phase::Counted(session) => session.sent(),
         }
     }
 
@@ -52,9 +52,9 @@ impl Stage {
         ensures { result ≡ bound_in self.now }
     {
         match self {
-            Stage::Greeting(_) => 0,
-            Stage::Plain(session) => session.bound(),
-            Stage::Counted(session) => session.bound(),
+            Phase::Greeting(_) => 0,
+            Phase::Plain(session) => session.bound(),
+            Phase::Counted(session) => session.bound(),
         }
     }
 
@@ -63,9 +63,9 @@ impl Stage {
         ensures { result ≡ peers.owes self.now }
     {
         match self {
-            Stage::Greeting(_) => false,
-            Stage::Plain(session) => !session.due().is_empty(),
-            Stage::Counted(session) => !session.due().is_empty(),
+            Phase::Greeting(_) => false,
+            Phase::Plain(session) => !session.due().is_empty(),
+            Phase::Counted(session) => !session.due().is_empty(),
         }
     }
 
@@ -74,9 +74,9 @@ impl Stage {
         ensures { result ≡ state_in self.now }
     {
         match self {
-            Stage::Greeting(_) => None,
-            Stage::Plain(session) => Some(session.state()),
-            Stage::Counted(session) => Some(session.state()),
+            Phase::Greeting(_) => None,
+            Phase::Plain(session) => Some(session.state()),
+            Phase::Counted(session) => Some(session.state()),
         }
     }
 
@@ -93,9 +93,9 @@ impl Stage {
         ensures none { IfNone result (state_in self.now ≢ Some states.Ended) }
     {
         match self {
-            Stage::Greeting(_) => None,
-            Stage::Plain(session) => session.learned(),
-            Stage::Counted(session) => session.learned(),
+            Phase::Greeting(_) => None,
+            Phase::Plain(session) => session.learned(),
+            Phase::Counted(session) => session.learned(),
         }
     }
 
@@ -105,9 +105,9 @@ impl Stage {
         ensures none { IfNone result (state_in self ≢ Some states.Ended) }
     {
         match self {
-            Stage::Greeting(_) => None,
-            Stage::Plain(session) => Box::into_inner(session).into_learned(),
-            Stage::Counted(session) => Box::into_inner(session).into_learned(),
+            Phase::Greeting(_) => None,
+            Phase::Plain(session) => Box::into_inner(session).into_learned(),
+            Phase::Counted(session) => Box::into_inner(session).into_learned(),
         }
     }
 
@@ -126,9 +126,9 @@ impl Stage {
         ensures room { length room.new ≡ length room.old }
     {
         match self {
-            Stage::Greeting(greeting) => greeting.pump(reader, writer, room),
-            Stage::Plain(session) => pump(alloc, reader, writer, &mut **session, room),
-            Stage::Counted(session) => pump(alloc, reader, writer, &mut **session, room),
+            Phase::Greeting(greeting) => greeting.pump(reader, writer, room),
+            Phase::Plain(session) => pump(alloc, reader, writer, &mut **session, room),
+            Phase::Counted(session) => pump(alloc, reader, writer, &mut **session, room),
         }
     }
 }
