@@ -42,25 +42,8 @@ fn say_once<O: Write, R: Role, S: RangeStore, F: Summary>(
     })
 }
 
-/// Pushes all of a piece. Where memory runs out, some of it may have been pushed.
-fn push_all<R: Role, S: RangeStore, F: Summary>(
-    alloc: Global,
-    session: &mut Session<R, S, F>,
-    piece: &[u8],
-) -> Result<(), LinkFault>
-    requires { sessions.is_open session.old.talk.state ≡ true }
-    ensures pushes { OnOk result (Pushes F.summary F.profile session.old piece.now session.new) }
-    ensures some { OnErr result ((n : ℕ) × Pushes F.summary F.profile session.old (take n piece.now) session.new) }
-    ensures fault { OnErr result (result ≡ Err faults.Memory) }
-{
-    let taken = session.push(alloc, piece)?;
-    if taken < piece.len() {
-        return Err(LinkFault::Memory);
-    }
-    Ok(())
-}
-
-/// Pushes what a read gave. At the end of the input the session is told so.
+/// Pushes what a read gave. At the end of the input the session is told so. Where memory runs out, some of the piece may
+/// have been pushed.
 fn hear<R: Role, S: RangeStore, F: Summary>(
     alloc: Global,
     session: &mut Session<R, S, F>,
@@ -76,7 +59,13 @@ fn hear<R: Role, S: RangeStore, F: Summary>(
     ensures waits { last ≡ lasts.Waits → session.new ≡ session.old }
 {
     match last {
-        Last::Moved => push_all(alloc, session, piece),
+        Last::Moved => {
+            let taken = session.push(alloc, piece)?;
+            if taken < piece.len() {
+                return Err(LinkFault::Memory);
+            }
+            Ok(())
+        }
         Last::Ended => {
             session.finish();
             Ok(())

@@ -258,7 +258,7 @@ impl<R: Role, S: RangeStore, F: Summary> Session<R, S, F> {
     {
         stream_laws::<F>();
         let begun = bytes_begun(self.begun, piece.len(), &event);
-        self.talk.hear_if(alloc, event)?;
+        self.talk.hear(alloc, event)?;
         self.feed = feed;
         self.begun = begun;
         Ok(())
