@@ -46,9 +46,9 @@ impl<I, O> Model for Hub<I, O> {
 
 /// Whether the time of a peer is over that was heard and came then.
 fn is_late(limits: &HubLimits, now: u64, heard: u64, arrived: u64) -> bool
-    ensures { result ≡ (nat_lt limits.now.idle (now - heard) || nat_lt limits.now.whole (now - arrived)) }
+    ensures { result ≡ (nat_lt limits.now.patience (now - heard) || nat_lt limits.now.session (now - arrived)) }
 {
-    now.saturating_sub(heard) > limits.idle || now.saturating_sub(arrived) > limits.whole
+    now.saturating_sub(heard) > limits.patience || now.saturating_sub(arrived) > limits.session
 }
 
 /// How old the last byte of a peer is, as a number.

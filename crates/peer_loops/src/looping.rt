@@ -83,8 +83,8 @@ fn limits_of<R, G>(site: &Site<'_, R, G>) -> HubLimits {
     let loops = (site.crowd.loops as u64).saturating_mul(2).max(1);
     HubLimits {
         memory: limits.memory / loops,
-        idle: milliseconds(limits.patience),
-        whole: milliseconds(limits.session_seconds),
+        patience: milliseconds(limits.patience),
+        session: milliseconds(limits.session_seconds),
     }
 }
 
