@@ -13,8 +13,8 @@ pub enum Pause {
     Waits,
     /// The call did as much as one call may: go on soon.
     More,
-    /// The first message is whole, or no byte comes after what has come: open the session. One that is open never leaves
-    /// off so.
+    /// The first message is whole, or no byte comes after what has come: open the session. None that is open leaves off
+    /// so.
     Opens,
     /// The session is over, and all of its text is written.
     Over,

@@ -42,8 +42,8 @@ fn say_once<O: Write, R: Role, S: RangeStore, F: Summary>(
     })
 }
 
-/// Pushes what a read gave. At the end of the input the session is told so. Where memory runs out, some of the piece may
-/// have been pushed.
+/// Pushes what a read gave. At the end of the input the session is told so. Where memory runs out, some of the piece
+/// may have been pushed.
 fn hear<R: Role, S: RangeStore, F: Summary>(
     alloc: Global,
     session: &mut Session<R, S, F>,

@@ -110,8 +110,8 @@ impl<R: Role, S: RangeStore, F: Summary> Talk<R, S, F> {
         self.told = false;
     }
 
-    /// Hears an event, if there is one: a part, the end of a message, or a fault frame. Where memory runs out nothing has
-    /// changed.
+    /// Hears an event, if there is one: a part, the end of a message, or a fault frame. Where memory runs out nothing
+    /// has changed.
     pub(crate) fn hear(&mut self, alloc: Global, event: Option<Event<F>>) -> Result<(), AllocError>
         requires { self.old.state ≡ states.Open }
         ensures heard { OnOk result (HearsIf F.summary F.profile self.old event self.new) }
