@@ -39,7 +39,7 @@ pub struct Rules {
 
 /// What one thread at a time writes.
 #[derive(Drop)]
-struct Writing<'a, D, E> {
+struct Ledger<'a, D, E> {
     books: Books<'a, D>,
     err: E,
     /// How many items were dropped. It stops at the greatest number.
@@ -48,7 +48,7 @@ struct Writing<'a, D, E> {
     is_full_told: bool,
 }
 
-impl<D: Device + Drop, E: Write + Drop> Writing<'_, D, E> {
+impl<D: Device + Drop, E: Write + Drop> Ledger<'_, D, E> {
     /// Puts this text into the report.
     fn report(&mut self, text: Result<String, AllocError>) {
         for book in self.books.all.iter_mut() {
@@ -95,7 +95,7 @@ impl<D: Device + Drop, E: Write + Drop> Writing<'_, D, E> {
 
     /// Writes what waits for the last time, and closes the files.
     fn close(self) -> Closed {
-        let Writing {
+        let Ledger {
             books,
             mut err,
             dropped,
@@ -112,7 +112,7 @@ impl<D: Device + Drop, E: Write + Drop> Writing<'_, D, E> {
     }
 }
 
-impl<E: Write + Drop> Writing<'_, Disk<File>, E> {
+impl<E: Write + Drop> Ledger<'_, Disk<File>, E> {
     /// Goes on in files that others put in the place of those that are open.
     fn follow<R: Files<File = File> + AllocGlobal>(&mut self, rt: &R, form: ItemForm, when: When) {
         for book in self.books.all.iter_mut() {
@@ -152,7 +152,7 @@ pub struct Reporter<'r, 'a, R: Wait, D, E> {
     rules: Rules,
     /// The greatest number of items of the log.
     cap: usize,
-    writing: Mutex<Writing<'a, D, E>>,
+    ledger: Mutex<Ledger<'a, D, E>>,
     /// Whether each session is reported.
     reports: bool,
     looking: Looking,
@@ -172,7 +172,7 @@ impl<'r, 'a, R: Wait, D: Device + Drop, E: Write + Drop> Reporter<'r, 'a, R, D, 
         err: E,
     ) -> Reporter<'r, 'a, R, D, E> {
         let reports = books.has_report();
-        let writing = Writing {
+        let ledger = Ledger {
             books,
             err,
             dropped: 0,
@@ -183,7 +183,7 @@ impl<'r, 'a, R: Wait, D: Device + Drop, E: Write + Drop> Reporter<'r, 'a, R, D, 
             alloc,
             rules,
             cap,
-            writing: Mutex::new(writing),
+            ledger: Mutex::new(ledger),
             reports,
             looking: Looking::new(),
             inserted: AtomicU64::new(0),
@@ -203,17 +203,17 @@ impl<'r, 'a, R: Wait, D: Device + Drop, E: Write + Drop> Reporter<'r, 'a, R, D, 
 
     /// How many lines wait to be written, over all files.
     pub fn waiting_lines(&self) -> u64 {
-        self.writing.lock(self.rt).books.waiting_lines()
+        self.ledger.lock(self.rt).books.waiting_lines()
     }
 
     /// How many writes failed, over all files.
     pub fn failed(&self) -> u64 {
-        self.writing.lock(self.rt).books.failed()
+        self.ledger.lock(self.rt).books.failed()
     }
 
     /// Whether something is written that may have to be tried again.
     pub fn may_wait(&self) -> bool {
-        self.writing.lock(self.rt).books.is_any()
+        self.ledger.lock(self.rt).books.is_any()
     }
 
     /// Those who write begin now.
@@ -233,13 +233,13 @@ impl<'r, 'a, R: Wait, D: Device + Drop, E: Write + Drop> Reporter<'r, 'a, R, D, 
             alloc: _,
             rules: _,
             cap: _,
-            writing,
+            ledger,
             reports: _,
             looking: _,
             inserted: _,
             dropped: _,
         } = self;
-        writing.into_inner().close()
+        ledger.into_inner().close()
     }
 }
 
@@ -250,7 +250,7 @@ impl<R: Wait + Clock, D: Device + Drop, E: Write + Drop> Reporter<'_, '_, R, D, 
             self.looking.forget(self.rt);
             self.looking.ask(self.rt);
             let text = report_text(self.alloc, self.rules.reporting, session, outcome);
-            self.writing.lock(self.rt).report(text);
+            self.ledger.lock(self.rt).report(text);
         }
     }
 }
@@ -262,7 +262,7 @@ where
     /// Goes on in files that others put in the place of those that are open.
     pub fn follow(&self, when: When) {
         let form = self.rules.reporting.form;
-        self.writing.lock(self.rt).follow(self.rt, form, when);
+        self.ledger.lock(self.rt).follow(self.rt, form, when);
     }
 
     /// Looks what stands at the paths, each second and before something is written, and tries again each second to
@@ -298,7 +298,7 @@ where
     fn look(&self, is_due: bool) {
         if is_due {
             self.follow(When::Due);
-            self.writing.lock(self.rt).try_again();
+            self.ledger.lock(self.rt).try_again();
         } else {
             self.follow(When::Asked);
         }
@@ -329,21 +329,21 @@ impl<R: Wait + Clock, D: Device + Drop, E: Write + Drop> Gate for Reporter<'_, '
         let form = self.rules.reporting.form;
         self.inserted.fetch_add(1, Ordering::SeqCst);
         self.looking.ask(self.rt);
-        self.writing.lock(self.rt).learn(self.alloc, form, item);
+        self.ledger.lock(self.rt).learn(self.alloc, form, item);
     }
 
     fn dropped(&self, fault: LogFault, count: usize) {
         self.dropped.fetch_add(count as u64, Ordering::SeqCst);
-        self.writing.lock(self.rt).drop_more(fault, count, self.cap);
+        self.ledger.lock(self.rt).drop_more(fault, count, self.cap);
     }
 
     fn settled(&self, serial: u64, left_out: usize) {
-        let mut writing = self.writing.lock(self.rt);
+        let mut ledger = self.ledger.lock(self.rt);
         if left_out > 0 && self.reports {
-            writing.report(left_out_line(self.alloc, serial, left_out));
+            ledger.report(left_out_line(self.alloc, serial, left_out));
         }
         if self.rules.is_durable {
-            writing.sync();
+            ledger.sync();
         }
         self.looking.forget(self.rt);
     }

@@ -1,6 +1,6 @@
 //! The window through which a server is watched: a thread that answers HTTP with its metrics and a page.
 
-use crate::callers::{Caller, Step};
+use crate::callers::{Caller, CallerStep};
 use crate::doors::listen_at;
 use crate::reporting::DiskReporter;
 use io_core::{Watched, WriterFailed, write_output};
@@ -316,9 +316,9 @@ impl Callers {
             return None;
         }
         match caller.go_on(self.now) {
-            Step::Waits => None,
-            Step::Asks(asked) => Some(asked),
-            Step::Gone => {
+            CallerStep::Waits => None,
+            CallerStep::Asks(asked) => Some(asked),
+            CallerStep::Gone => {
                 let _closed = self.all.try_remove(key);
                 None
             }

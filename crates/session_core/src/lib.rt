@@ -15,7 +15,7 @@ mod talk;
 pub use fault::LinkFault;
 pub use meeting::two_sessions_meet;
 pub use polled::{Last, Polled};
-pub use pumped::{Pause, Pumped};
+pub use pumped::{Pause, Pumped, both, pause_of};
 pub use pumping::pump;
 pub use session::Session;
 pub use state::State;

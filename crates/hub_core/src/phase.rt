@@ -2,22 +2,20 @@
 
 ghost use Rattle.std.specs.Prelude.{◌≡◌, ◌≢◌, ◌<◌, length, Some, IfSome, IfNone};
 ghost use Rattle.session_core.specs.declared.state.State.TheVariants as states;
-ghost use Rattle.hub_core.specs.Steps.{pause_in, step_in};
 ghost use Rattle.hub_core.specs.Peers as peers;
 ghost use Rattle.hub_core.specs.Peers.{GoesSo, LeavesOff, Learns, bound_in, goes_on, kept_in, sent_in, state_in};
 
 use crate::greeting::Greeting;
-use crate::step::{Step, StepPause};
 use digest_core::{Counted, Fingerprint};
 use ends_core::{Learned, Responding};
 use range_tree::Tree;
-use session_core::{LinkFault, Pause, Polled, Pumped, Session, State, pump};
+use session_core::{LinkFault, Polled, Pumped, Session, State, pump};
 use std::alloc::Global;
 use std::io::{Read, Write};
 
 /// How far a peer is.
 #[derive(Drop)]
-pub enum Stage {
+pub enum Phase {
     /// Its session is not opened.
     Greeting(Greeting),
     /// It speaks profile 1.
@@ -26,38 +24,15 @@ pub enum Stage {
     Counted(Box<Session<Responding, Tree, Counted>>),
 }
 
-/// The same pause, of a session.
-fn pause_of(pause: Pause) -> StepPause
-    ensures { result ≡ pause_in pause }
-{
-    match pause {
-        Pause::Waits => StepPause::Waits,
-        Pause::More => StepPause::More,
-        Pause::Over => StepPause::Over,
-    }
-}
-
-/// The same step, of a session.
-fn step_of(pumped: Result<Pumped, LinkFault>) -> Result<Step, LinkFault>
-    ensures { result ≡ step_in pumped }
-{
-    let pumped = pumped?;
-    Ok(Step {
-        pause: pause_of(pumped.pause),
-        read: pumped.read,
-        written: pumped.written,
-    })
-}
-
-impl Stage {
+impl Phase {
     /// How many bytes of memory are counted for it.
     pub fn kept(&self) -> u64
         ensures { result ≡ kept_in self.now }
     {
         match self {
-            Stage::Greeting(greeting) => greeting.came().len() as u64,
-            Stage::Plain(session) => session.kept(),
-            Stage::Counted(session) => session.kept(),
+            Phase::Greeting(greeting) => greeting.came().len() as u64,
+            Phase::Plain(session) => session.kept(),
+            Phase::Counted(session) => session.kept(),
         }
     }
 
@@ -66,9 +41,9 @@ impl Stage {
         ensures { result ≡ sent_in self.now }
     {
         match self {
-            Stage::Greeting(_) => 0,
-            Stage::Plain(session) => session.sent(),
-            Stage::Counted(session) => session.sent(),
+            Phase::Greeting(_) => 0,
+            Phase::Plain(session) => session.sent(),
+            Phase::Counted(session) => session.sent(),
         }
     }
 
@@ -77,9 +52,9 @@ impl Stage {
         ensures { result ≡ bound_in self.now }
     {
         match self {
-            Stage::Greeting(_) => 0,
-            Stage::Plain(session) => session.bound(),
-            Stage::Counted(session) => session.bound(),
+            Phase::Greeting(_) => 0,
+            Phase::Plain(session) => session.bound(),
+            Phase::Counted(session) => session.bound(),
         }
     }
 
@@ -88,9 +63,9 @@ impl Stage {
         ensures { result ≡ peers.owes self.now }
     {
         match self {
-            Stage::Greeting(_) => false,
-            Stage::Plain(session) => !session.due().is_empty(),
-            Stage::Counted(session) => !session.due().is_empty(),
+            Phase::Greeting(_) => false,
+            Phase::Plain(session) => !session.due().is_empty(),
+            Phase::Counted(session) => !session.due().is_empty(),
         }
     }
 
@@ -99,9 +74,9 @@ impl Stage {
         ensures { result ≡ state_in self.now }
     {
         match self {
-            Stage::Greeting(_) => None,
-            Stage::Plain(session) => Some(session.state()),
-            Stage::Counted(session) => Some(session.state()),
+            Phase::Greeting(_) => None,
+            Phase::Plain(session) => Some(session.state()),
+            Phase::Counted(session) => Some(session.state()),
         }
     }
 
@@ -118,9 +93,9 @@ impl Stage {
         ensures none { IfNone result (state_in self.now ≢ Some states.Ended) }
     {
         match self {
-            Stage::Greeting(_) => None,
-            Stage::Plain(session) => session.learned(),
-            Stage::Counted(session) => session.learned(),
+            Phase::Greeting(_) => None,
+            Phase::Plain(session) => session.learned(),
+            Phase::Counted(session) => session.learned(),
         }
     }
 
@@ -130,9 +105,9 @@ impl Stage {
         ensures none { IfNone result (state_in self ≢ Some states.Ended) }
     {
         match self {
-            Stage::Greeting(_) => None,
-            Stage::Plain(session) => Box::into_inner(session).into_learned(),
-            Stage::Counted(session) => Box::into_inner(session).into_learned(),
+            Phase::Greeting(_) => None,
+            Phase::Plain(session) => Box::into_inner(session).into_learned(),
+            Phase::Counted(session) => Box::into_inner(session).into_learned(),
         }
     }
 
@@ -143,7 +118,7 @@ impl Stage {
         reader: &mut Polled<I>,
         writer: &mut Polled<O>,
         room: &mut [u8],
-    ) -> Result<Step, LinkFault>
+    ) -> Result<Pumped, LinkFault>
         requires room { 0 < length room.old }
         ensures moved { GoesSo self.old self.new (I.remaining reader.old.way) (I.remaining reader.new.way)
             (O.contents writer.old.way) (O.contents writer.new.way) result }
@@ -151,9 +126,9 @@ impl Stage {
         ensures room { length room.new ≡ length room.old }
     {
         match self {
-            Stage::Greeting(greeting) => greeting.pump(reader, writer, room),
-            Stage::Plain(session) => step_of(pump(alloc, reader, writer, &mut **session, room)),
-            Stage::Counted(session) => step_of(pump(alloc, reader, writer, &mut **session, room)),
+            Phase::Greeting(greeting) => greeting.pump(reader, writer, room),
+            Phase::Plain(session) => pump(alloc, reader, writer, &mut **session, room),
+            Phase::Counted(session) => pump(alloc, reader, writer, &mut **session, room),
         }
     }
 }

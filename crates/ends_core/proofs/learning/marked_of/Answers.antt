@@ -1,9 +1,9 @@
-use Rattle.std.proofs.Common.{refl, append-nil, ◌≡◌, ◌<◌, length, get_or, rules}
+use Rattle.std.proofs.Common.{[], ◌≡◌, ◌∙◌, sym, ◌<◌, length, get_or, rules}
 use Rattle.ends_core.proofs.Marked.{none_marked, pushed}
-use Rattle.ends_core.proofs.learning.push_marked.Goals as goal
+use Rattle.ends_core.proofs.learning.marked_of.Goals as goal
 
 pub loop-index-init : goal.loop-index-init
-loop-index-init c = rw (none_marked c.args.marks.now, append-nil c.args.ours.now.items) refl
+loop-index-init c = c.new-found.ensures ∙ sym (none_marked c.args.marks.now)
 
 pub loop-index-preserved : goal.loop-index-preserved
 loop-index-preserved c =
@@ -12,5 +12,5 @@ loop-index-preserved c =
     let x = c.index-listed-index.result in
     let low : i < length xs = search rules in
     let here : get_or xs i x ≡ x = search rules in
-    pushed c.args.marks.now xs i x c.unwrap_or.result _ _ _ low here
+    pushed c.args.marks.now xs i x c.unwrap_or.result [] _ _ low here
     (search rules) c.loop-index.invariant c.in_ok-push_where.ensures
