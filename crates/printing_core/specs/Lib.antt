@@ -1,7 +1,5 @@
-pub mod Blanks
 pub mod Causes
 pub mod CostLines
-pub mod Endings
 pub mod FaultsOf
 pub mod HexLines
 pub mod ItemTexts

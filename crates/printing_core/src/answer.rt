@@ -2,8 +2,7 @@
 
 ghost use Rattle.std.specs.Prelude.{◌≡◌, ◌≢◌, ◌++◌, filter, IfOk, IfErr, OnOk, IsErr, Ok};
 ghost use Rattle.hex.specs.Hex.{decode_of};
-ghost use Rattle.printing_core.specs.Blanks.{is_solid};
-ghost use Rattle.printing_core.specs.HexLines.{line_of, hex_lines};
+ghost use Rattle.printing_core.specs.HexLines.{is_solid, line_of, hex_lines};
 
 use crate::fault::Fault;
 use hex::FromHexError;

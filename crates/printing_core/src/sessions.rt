@@ -5,8 +5,7 @@ ghost use Rattle.std.specs.Result.{result_ok};
 ghost use Rattle.definitions.specs.Sets.{set_of};
 ghost use Rattle.printing_core.specs.SessionTexts.{listening_line, served_text, named_line, counts_text, learned_text};
 ghost use Rattle.printing_core.specs.SessionTexts.{listed_text, finds_any, IsSyncOf, session_fault, session_learned};
-ghost use Rattle.printing_core.specs.SessionTexts.{of_direction};
-ghost use Rattle.printing_core.specs.Endings.{report_fault, fault_in, difference_status, may_pass};
+ghost use Rattle.printing_core.specs.SessionTexts.{of_direction, report_fault, fault_in, difference_status, may_pass};
 
 use crate::fault::Fault;
 use crate::item_text::push_item;
