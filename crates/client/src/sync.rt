@@ -35,11 +35,7 @@ pub fn ask<R: Wait + Clock + AllocGlobal, I: Read + Drop, O: Write + Drop>(
     requires cap { loaded.set.cap ≡ loaded.accepted.table.cap }
 {
     let alloc = rt.alloc();
-    let Loaded {
-        accepted,
-        set,
-        kept: _,
-    } = loaded;
+    let Loaded { accepted, set, .. } = loaded;
     let accepted = Arc::new(alloc, accepted)?;
     converse(rt, alloc, &accepted, set.into_first(), asking.talk(), ends)
 }
@@ -89,11 +85,7 @@ where
     requires cap { loaded.set.cap ≡ loaded.accepted.table.cap }
 {
     let alloc = rt.alloc();
-    let Loaded {
-        accepted,
-        set,
-        kept: _,
-    } = loaded;
+    let Loaded { accepted, set, .. } = loaded;
     let accepted = Arc::new(alloc, accepted)?;
     let log = set.into_first();
     let mut tries = Tries::new(asking.retry, asking.explains);

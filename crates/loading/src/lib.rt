@@ -10,7 +10,7 @@ mod metering;
 mod showing;
 mod target;
 
-pub use clock::{millis_of, millis_since};
+pub use clock::{millis_of, millis_since, now};
 pub use disk::{Disk, ItemFile, Kept, Opened, open_lines, unopened};
 pub use loading::{Loaded, Sources, TableSource, items_of, load, strategy_of};
 pub use loading_shards::load_shards;

@@ -1,13 +1,15 @@
 //! A gate that writes to files what each session found and each item that the log took, and that bounds what one
 //! session may put into the log.
 
+ghost use Rattle.server.specs.Admitting.{LetsIn};
+
 use crate::books::Books;
 use crate::following::When;
 use crate::looking::Looking;
 use io_core::Device;
 use item_core::Item;
 use item_files::ItemForm;
-use loading::{Disk, millis_of};
+use loading::{Disk, now};
 use peer_loops::PartGate;
 use peer_threads::{Gate, Outcome};
 use printing_core::{
@@ -99,7 +101,7 @@ impl<D: Device + Drop, E: Write + Drop> Ledger<'_, D, E> {
             books,
             mut err,
             dropped,
-            is_full_told: _,
+            ..
         } = self;
         let mut is_written = true;
         for book in books.all {
@@ -149,7 +151,8 @@ pub type DiskReporter<'r, 'a, R, E> = Reporter<'r, 'a, R, Disk<File>, E>;
 pub struct Reporter<'r, 'a, R: Wait, D, E> {
     rt: &'r R,
     alloc: Global,
-    rules: Rules,
+    /// What is written, and how much is put into the log.
+    pub rules: Rules,
     /// The greatest number of items of the log.
     cap: usize,
     ledger: Mutex<Ledger<'a, D, E>>,
@@ -228,17 +231,7 @@ impl<'r, 'a, R: Wait, D: Device + Drop, E: Write + Drop> Reporter<'r, 'a, R, D, 
 
     /// Closes the files.
     pub fn close(self) -> Closed {
-        let Reporter {
-            rt: _,
-            alloc: _,
-            rules: _,
-            cap: _,
-            ledger,
-            reports: _,
-            looking: _,
-            inserted: _,
-            dropped: _,
-        } = self;
+        let Reporter { ledger, .. } = self;
         ledger.into_inner().close()
     }
 }
@@ -271,14 +264,14 @@ where
         if !self.looking.attend(self.rt) {
             return;
         }
-        let mut last = self.now();
+        let mut last = now(self.rt);
         for _ in self.rt.forever() {
             let turn = self.looking.wait(self.rt);
             if turn.is_over {
                 self.looking.leave(self.rt);
                 return;
             }
-            let now = self.now();
+            let now = now(self.rt);
             let is_due = !turn.is_asked || now.saturating_sub(last) >= DUE;
             if is_due {
                 last = now;
@@ -286,11 +279,6 @@ where
             self.look(is_due);
             self.looking.answer(self.rt, turn);
         }
-    }
-
-    /// The time in milliseconds of the steady clock; 0 if it fails.
-    fn now(&self) -> u64 {
-        self.rt.monotonic().map_or(0, |moment| millis_of(moment))
     }
 
     /// Goes on in files that others put in the place of those that are open; if a second is over, what waits is tried
@@ -306,6 +294,8 @@ where
 }
 
 impl<R: Wait + Clock, D: Device + Drop, E: Write + Drop> Gate for Reporter<'_, '_, R, D, E> {
+    ghost lets_in = { λ reporter _. LetsIn reporter.rules.most_learned };
+
     fn pass(&self, _serial: u64, _sent: u32) -> bool {
         true
     }

@@ -208,8 +208,7 @@ pub fn serve<'a, R: Files<File = File> + Loops, O: Write + Drop, E: Write + Drop
         kept,
     } = loaded;
     let cap = accepted.cap() as usize;
-    let beginning = Beginning::now(rt, serving.address, &set);
-    let beginning = beginning.named(serving.watching.set, serving.paths.keep);
+    let beginning = Beginning::now(rt, &serving, &set);
     let accepted = Arc::new(alloc, accepted)?;
     let first = set.first();
     let parts = parts_of(alloc, &accepted, serving.front, first, set.into_logs())?;

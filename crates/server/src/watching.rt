@@ -1,10 +1,11 @@
 //! The window through which a server is watched: a thread that answers HTTP with its metrics and a page.
 
+use crate::asked::Serving;
 use crate::callers::{Caller, CallerStep};
 use crate::doors::listen_at;
 use crate::reporting::DiskReporter;
 use io_core::{Watched, WriterFailed, write_output};
-use loading::millis_of;
+use loading::{millis_of, now};
 use mio::unix::SourceFd;
 use mio::{Events, Interest, Poll, Token};
 use peer_loops::{Board, Common, Origins};
@@ -47,41 +48,27 @@ const NO_LIMITS: Limits = Limits {
 #[derive(Clone, Copy)]
 pub struct Beginning<'a> {
     /// The address at which sessions are served.
-    pub address: &'a str,
+    address: &'a str,
     /// What the set is called, and the file in which it is kept; empty where there is none.
     set: &'a str,
     file: &'a str,
     /// How many items the set has, and how many it may have.
     items: u64,
     cap: u64,
-    /// The number of the newest version.
-    version: u64,
     /// When the server began.
     moment: u64,
 }
 
 impl<'a> Beginning<'a> {
-    /// That of a server of this set, at this address, which begins now. The set is at the version that has as many
-    /// items.
-    pub fn now<R: Clock>(rt: &R, address: &'a str, set: &ShardedSet) -> Beginning<'a> {
-        let items = set.count();
+    /// That of a server of this set, which begins now.
+    pub fn now<R: Clock>(rt: &R, serving: &Serving<'a>, set: &ShardedSet) -> Beginning<'a> {
         Beginning {
-            address,
-            set: "",
-            file: "",
-            items,
+            address: serving.address,
+            set: serving.watching.set.unwrap_or(""),
+            file: serving.paths.keep.unwrap_or(""),
+            items: set.count(),
             cap: u64::from(set.cap()).saturating_mul(set.shards() as u64),
-            version: items,
-            moment: rt.monotonic().map_or(0, |moment| millis_of(moment)),
-        }
-    }
-
-    /// The same of a server whose set is called so, and kept in this file.
-    pub fn named(self, set: Option<&'a str>, file: Option<&'a str>) -> Beginning<'a> {
-        Beginning {
-            set: set.unwrap_or(""),
-            file: file.unwrap_or(""),
-            ..self
+            moment: now(rt),
         }
     }
 }
@@ -143,7 +130,7 @@ impl<R> Window<'_, R> {
     }
 }
 
-/// How the server stands now.
+/// How the server stands now. It is at the version that has as many items.
 fn standing<'a, R: Wait, E: Write + Drop>(
     rt: &R,
     common: &Common<'_, DiskReporter<'_, '_, R, E>>,
@@ -152,14 +139,15 @@ fn standing<'a, R: Wait, E: Write + Drop>(
     now: u64,
 ) -> Standing<'a> {
     let inserted = common.gate.inserted();
+    let items = beginning.items.saturating_add(inserted);
     Standing {
         program: VERSION,
         address: beginning.address,
         set: beginning.set,
         file: beginning.file,
-        items: beginning.items.saturating_add(inserted),
+        items,
         cap: beginning.cap,
-        version: beginning.version.saturating_add(inserted),
+        version: items,
         inserted,
         dropped: common.gate.dropped_so_far(),
         waiting: common.gate.waiting_lines(),
@@ -373,8 +361,8 @@ where
     let alloc = rt.alloc();
     let Window {
         listener,
-        address: _,
         beginning,
+        ..
     } = window;
     let Ok(mut callers) = Callers::new(rt, alloc, listener) else {
         return;
