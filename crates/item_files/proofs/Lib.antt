@@ -1,1 +1,5 @@
+mod Counts
+mod Cuts
+mod Pieces
 mod Places
+mod Took

@@ -4,5 +4,7 @@ pub mod Accepts
 pub mod Faults
 pub mod Files
 pub mod ItemFiles
+pub mod Loads
+pub mod PieceTexts
 pub mod StrategyFlaws
 pub mod StrayKeys

@@ -15,8 +15,8 @@ use Rattle.ends_core.specs.declared.answering.AnswerFault.{AnswerFault}
 use Rattle.ends_core.specs.declared.answering.AnswerFault.TheVariants as answers
 use Rattle.item_files.specs.declared.fault.SettingsFault.{SettingsFault}
 use Rattle.item_files.specs.declared.fault.SettingsFault.TheVariants as settings
-use Rattle.shard_loading.specs.declared.fault.LoadFault.{LoadFault}
-use Rattle.shard_loading.specs.declared.fault.LoadFault.TheVariants as loads
+use Rattle.item_files.specs.declared.load_fault.LoadFault.{LoadFault}
+use Rattle.item_files.specs.declared.load_fault.LoadFault.TheVariants as loads
 use Rattle.sim_core.specs.declared.scenario_fault.ScenarioFault.TheVariants as scenarios
 use Rattle.sim_core.specs.declared.scenario_fault.ScenarioError.{ScenarioError}
 use Rattle.sim_core.specs.declared.scenario_fault.ScenarioError.TheVariants as scenario_errors

@@ -9,7 +9,7 @@ use ends_core::{AnswerFault, ListReplyFault};
 use io_core::{InputFault, WriterFailed};
 use item_files::SettingsFault;
 use session_table::SourceFault;
-use shard_loading::LoadFault;
+use item_files::LoadFault;
 use sim_core::{ScenarioError, ScenarioFault};
 use std::alloc::{AllocError, AllocFailed};
 use strategy_check::CheckFault;

@@ -12,7 +12,7 @@ use crate::why::{Origin, OtherSide, Why};
 use io_core::{InputFault, ReadFault};
 use item_files::{BadLine, SettingsFault, StrategyFlaw};
 use settings_core::shard_bits_for;
-use shard_loading::LoadFault;
+use item_files::LoadFault;
 use sim_core::{ScenarioError, ScenarioFault};
 use std::alloc::Global;
 use strategy_core::StrategyFault;

@@ -18,7 +18,7 @@ use crate::reasons::{
 use crate::why::Why;
 use io_core::{InputFault, ReadFault, WriterFailed};
 use item_files::SettingsFault;
-use shard_loading::LoadFault;
+use item_files::LoadFault;
 use sim_core::ScenarioError;
 use std::alloc::{AllocError, AllocFailed, Global};
 use tcp_front::{ConnectFault, Limits, ListenFault};
