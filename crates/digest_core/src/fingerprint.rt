@@ -4,7 +4,7 @@ ghost use Rattle.definitions.specs.Items as items;
 ghost use Rattle.definitions.specs.Fingerprints.{join_lanes, two_lanes};
 ghost use Rattle.definitions.specs.Wire.{IsFingerprint, lanes_text, lanes_read, two_lane_profile};
 
-use crate::laws::bytes_are_exact;
+use crate::lane_laws::bytes_are_exact;
 use crate::summary::Summary;
 use item_core::Item;
 use sha2::{Digest, Sha256};

@@ -3,7 +3,7 @@
 
 mod counted;
 mod fingerprint;
-pub mod laws;
+pub mod lane_laws;
 mod summary;
 
 pub use counted::Counted;

@@ -4,7 +4,7 @@
 mod device;
 mod file;
 mod input;
-mod laws;
+mod line_laws;
 mod output;
 mod read_fault;
 mod torn;
@@ -13,7 +13,7 @@ mod watched;
 pub use device::Device;
 pub use file::{LineFile, Unwritten};
 pub use input::{InputFault, MAX_INPUT, read_input};
-pub use laws::{beginnings_are_whole, openings_are_whole};
+pub use line_laws::{beginnings_are_whole, openings_are_whole};
 pub use output::{WriterFailed, write_output};
 pub use read_fault::ReadFault;
 pub use torn::torn_length;

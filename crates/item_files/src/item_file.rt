@@ -31,7 +31,7 @@ use sha2::{Digest, Sha256};
 use std::alloc::Global;
 use std::io::Read;
 use std::rt::Files;
-use store_core::{laws, spans};
+use store_core::{set_laws, spans};
 
 /// Whether a byte is a blank of an item line.
 fn is_blank(byte: u8) -> bool
@@ -300,7 +300,7 @@ pub fn item_set(
     ensures set { IsSetOf (λ v. v.items) form text.now cap result }
     ensures rises { IfOk result (λ v. IsSet v.items) }
 {
-    laws::set_of_a_list();
+    set_laws::set_of_a_list();
     let items = spans::distinct(items_of(alloc, form, text)?);
     if items.len() > cap {
         let count = items.len();

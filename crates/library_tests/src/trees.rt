@@ -6,7 +6,7 @@ use std::alloc::Global;
 use std::process::Abort;
 use std::test::Fail;
 use std::thread::Threads;
-use store_core::{Insertion, RangeStore, laws, spans};
+use store_core::{Insertion, RangeStore, set_laws, spans};
 
 fn item(rt: &impl Abort, number: u16) -> Item {
     Item::new(&number.to_be_bytes()).ok().expect(rt, "an item")
@@ -39,7 +39,7 @@ fn is_same(rt: &impl Abort, alloc: Global, tree: &Tree, loaded: &Tree) -> Result
 
 /// The first numbers, loaded by one thread and by as many as four, and put in one by one.
 fn all_ways(rt: &(impl Abort + Threads + Sync), alloc: Global, count: u16) -> Result<(), Fail> {
-    laws::set_of_a_list();
+    set_laws::set_of_a_list();
     let mut items = Vec::new(alloc);
     for number in 0..count {
         items.push(item(rt, number))?;

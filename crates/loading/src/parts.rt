@@ -21,7 +21,7 @@ use settings_core::Sharding;
 use shard_core::join_shards;
 use std::alloc::{AllocError, Global};
 use std::io::Read;
-use store_core::{laws, spans};
+use store_core::{set_laws, spans};
 
 /// Why the parts of a set are not there.
 #[derive(Clone, Copy, Debug)]
@@ -91,7 +91,7 @@ fn joined(items: Vec<Item>, more: &[Item], cap: usize) -> Result<Vec<Item>, Sett
     ensures rises { IfOk result (λ v. IsSet v.items) }
     ensures few { IfOk result (λ v. length v.items ≤ cap) }
 {
-    laws::set_of_a_list();
+    set_laws::set_of_a_list();
     let mut items = items;
     items.extend_from_slice(more)?;
     let items = spans::distinct(items);
@@ -141,7 +141,7 @@ impl Cut {
         ensures read { IfOk result (λ v. IsRead self (IsAllOf (R.remaining reader)) (held v.items)) }
         ensures parts { IfOk result (λ v. AreParts self (held v.items)) }
     {
-        shard_core::laws::shards_make_the_set();
+        shard_core::shard_laws::shards_make_the_set();
         if self.sharding.is_some() {
             let options = self.options();
             return Ok(read_shards(alloc, &mut Watched::new(reader), options)?);
@@ -165,7 +165,7 @@ impl Cut {
             held v.items ≡ loaded_of (options_of self) (set_of (A ++ B))) }
         ensures parts { IfOk result (λ v. AreParts self (held v.items)) }
     {
-        shard_core::laws::shards_make_the_set();
+        shard_core::shard_laws::shards_make_the_set();
         let Some(sharding) = self.sharding else {
             let items = joined(only_part(parts), &only_part(more), self.cap)?;
             return Ok(one_part(alloc, items)?);

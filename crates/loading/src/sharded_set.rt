@@ -84,7 +84,7 @@ impl ShardedSet {
             ≡ record { bits = bits; first = first; cap = cap; logs = opened_all cap (held shards.items) }) }
         ensures contents { IfOk result (λ s. contents s.logs ≡ held shards.items) }
     {
-        shard_core::laws::shards_make_the_set();
+        shard_core::shard_laws::shards_make_the_set();
         let is_one = shards.len() == 1;
         let logs = logs_by(rt, alloc, Opening { cap, is_one }, shards, 2)?;
         Ok(ShardedSet {

@@ -25,5 +25,5 @@ pub(crate) fn sides_keep_bounds<F: Summary>(accepted: &Arc<Accepted>)
         (rank_by (arc_value accepted.now).steps (length (content h)) + 1) (arc_value accepted.now).table.limit }
 {
     ends_core::sides_keep_bounds::<F>(accepted);
-    store_core::laws::set_of_a_list();
+    store_core::set_laws::set_of_a_list();
 }

@@ -9,7 +9,7 @@ ghost use Rattle.range_tree.specs.Nodes.{first_item};
 use crate::heads::head_of;
 use crate::node::Node;
 use crate::nodes;
-use digest_core::{Fingerprint, Summary, laws};
+use digest_core::{Fingerprint, Summary, lane_laws};
 use item_core::Item;
 use std::alloc::{AllocError, Global};
 use std::marker::Model;
@@ -57,7 +57,7 @@ impl<P: Node> Row<P> {
     pub(crate) fn of(alloc: Global, nodes: Vec<Arc<P>>) -> Result<Row<P>, AllocError>
         ensures { IfOk result (λ row. row ≡ map arc_value nodes.items) }
     {
-        laws::lists_add_up();
+        lane_laws::lists_add_up();
         let mut ends = Vec::with_capacity(alloc, nodes.len())?;
         let mut sums = Vec::with_capacity(alloc, nodes.len())?;
         let mut heads = Vec::with_capacity(alloc, nodes.len())?;

@@ -6,7 +6,7 @@ ghost use Rattle.sim_core.specs.Samples.{IsSample};
 
 use item_core::Item;
 use std::alloc::{AllocError, Global};
-use store_core::laws;
+use store_core::set_laws;
 use store_core::spans::distinct;
 
 /// The words of four bytes of the longest item.
@@ -63,7 +63,7 @@ fn set_between(alloc: Global, first: u32, end: u32, size: usize) -> Result<Vec<I
     ensures rises { IfOk result (λ v. IsSet v.items) }
     ensures few { IfOk result (λ v. length v.items ≤ end - first) }
 {
-    laws::set_of_a_list();
+    set_laws::set_of_a_list();
     let items = items_between(alloc, first, end, size)?;
     Ok(distinct(items))
 }

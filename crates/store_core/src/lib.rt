@@ -4,10 +4,10 @@
 mod flat;
 mod flat_store;
 mod hashed_item;
-pub mod laws;
 mod packed_items;
 mod range_store;
 mod room;
+pub mod set_laws;
 mod span;
 pub mod spans;
 pub mod sums;

@@ -2,8 +2,8 @@
 #![tactic(auto)]
 
 mod fault;
-pub mod laws;
 mod lock;
+pub mod lock_laws;
 mod pin;
 mod seat;
 mod steps;

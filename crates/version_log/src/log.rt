@@ -13,7 +13,7 @@ use crate::front::rising_front;
 use item_core::Item;
 use std::alloc::{AllocError, Global};
 use std::marker::Model;
-use store_core::{Insertion, RangeStore, laws, make_room};
+use store_core::{Insertion, RangeStore, make_room, set_laws};
 
 /// Who brought which item, in order, and a store of the items. Each item stands once.
 ///
@@ -141,7 +141,7 @@ impl<S: RangeStore> Log<S> {
         ensures memory { result ≡ Err LogFault.Memory →
             insertion self.old.cap self.old.history item ≡ New (length self.old.history + 1) }
     {
-        laws::set_of_a_list();
+        set_laws::set_of_a_list();
         if self.store.has(&item) {
             return Ok(Added::Already);
         }

@@ -100,7 +100,7 @@ impl<F: Summary> World<F> {
         laws::talks::knowledge_is_sound::<F>();
         laws::talks::talks_begin::<F>();
         laws::talks::cost_claim::<F>();
-        store_core::laws::set_of_a_list();
+        store_core::set_laws::set_of_a_list();
         self.sessions.len()
     }
 

@@ -1,5 +1,0 @@
-use Rattle.digest_core.proofs.Unions.{disjoint}
-use Rattle.digest_core.proofs.laws.disjoint_sets_add_up.Goals as goal
-
-pub returns : goal.returns
-returns c = disjoint

@@ -1,5 +1,0 @@
-use Rattle.digest_core.proofs.Unions.{new_item}
-use Rattle.digest_core.proofs.laws.new_item_adds.Goals as goal
-
-pub returns : goal.returns
-returns c = new_item

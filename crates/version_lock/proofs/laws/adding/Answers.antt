@@ -1,5 +1,0 @@
-use Rattle.version_lock.proofs.StepLaws.{adds_one}
-use Rattle.version_lock.proofs.laws.adding.Goals as goal
-
-pub returns : goal.returns
-returns g = adds_one

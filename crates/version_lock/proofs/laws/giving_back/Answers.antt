@@ -1,5 +1,0 @@
-use Rattle.version_lock.proofs.StepLaws.{gives_it_back}
-use Rattle.version_lock.proofs.laws.giving_back.Goals as goal
-
-pub returns : goal.returns
-returns g = gives_it_back

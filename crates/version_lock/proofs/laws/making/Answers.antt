@@ -1,5 +1,0 @@
-use Rattle.version_lock.proofs.Opening.{has_opened}
-use Rattle.version_lock.proofs.laws.making.Goals as goal
-
-pub returns : goal.returns
-returns g = has_opened

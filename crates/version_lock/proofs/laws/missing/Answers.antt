@@ -1,5 +1,0 @@
-use Rattle.version_lock.proofs.StepLaws.{misses_it}
-use Rattle.version_lock.proofs.laws.missing.Goals as goal
-
-pub returns : goal.returns
-returns g = misses_it

@@ -1,5 +1,0 @@
-use Rattle.version_lock.proofs.StepLaws.{entered_it}
-use Rattle.version_lock.proofs.laws.who_entered.Goals as goal
-
-pub returns : goal.returns
-returns g = entered_it
