@@ -173,12 +173,13 @@ impl<'a> Caller<'a, '_> {
         rt: &R,
         log: Log<Tree>,
         costs: &mut Costs,
-        (tries, err): (&mut Tries, &mut E),
+        again: (&mut Tries, &mut E),
     ) -> Result<(Outcome, Stats), Refusal<'a>>
     where
         R: Files + Net<Stream = TcpStream> + Wait + Clock + AllocGlobal,
         requires cap { log.cap ≤ (arc_value self.now.accepted.now).table.cap }
     {
+        let (tries, err) = again;
         for _try in 0..tries.left() {
             let called = self.call(rt, log.copy(rt.alloc())?, costs);
             if !tries.wait(rt, fault_of(&called), err) {

@@ -177,13 +177,14 @@ fn size_of(file: &File) -> Option<u64> {
 fn read_parts<'a, R: Clock + AllocGlobal, I: Read + Drop, E: Write>(
     cut: Cut,
     origin: Origin<'a>,
-    (reader, size): (I, Option<u64>),
+    input: (I, Option<u64>),
     screen: &mut Screen<'_, R, E>,
 ) -> Result<Vec<Vec<Item>>, Refusal<'a>>
     ensures read { IfOk result (λ v. IsReadFrom cut (held v.items)) }
     ensures parts { IfOk result (λ v. AreParts cut (held v.items)) }
 {
     let alloc = screen.rt().alloc();
+    let (reader, size) = input;
     match cut.read(alloc, Shown::new(screen, reader, size)) {
         Ok(parts) => Ok(parts),
         Err(fault) => Err(origin.refusal(alloc, cut.cap, fault)),

@@ -7,7 +7,7 @@ ghost use Rattle.definitions.specs.Fingerprints.{two_lanes};
 ghost use Rattle.store_core.specs.Stores.{span, IfNew, is_new};
 
 use crate::span::Span;
-use crate::{laws, spans};
+use crate::{set_laws, spans};
 use digest_core::Fingerprint;
 use item_core::{Item, Range};
 use std::alloc::{AllocError, Global};
@@ -39,7 +39,7 @@ pub trait RangeStore: Drop + Sized {
     fn from_items(alloc: Global, items: Vec<Item>) -> Result<Self, AllocError>
         ensures { IfOk result (λ s. content s ≡ set_of items.items) }
     {
-        laws::set_of_a_list();
+        set_laws::set_of_a_list();
         Self::from_rising(alloc, &spans::distinct(items))
     }
 
