@@ -8,7 +8,7 @@ ghost use Rattle.shard_core.specs.Shards.{max_bits};
 ghost use Rattle.shard_core.specs.Choices.{AreBelow};
 ghost use Rattle.shard_core.specs.Parts.{ours_of, theirs_of, asked_of, KnowsShards, NoClash, Covers};
 ghost use Rattle.printing_core.specs.ShardTexts.{merged_text};
-ghost use Rattle.shard_loading.specs.Sharded.{HaveCap};
+ghost use Rattle.loading.specs.Sharded.{HaveCap};
 
 use crate::asked::Asking;
 use crate::costs::Costs;

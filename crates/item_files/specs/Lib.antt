@@ -4,4 +4,6 @@ pub mod Accepts
 pub mod Faults
 pub mod Files
 pub mod ItemFiles
+pub mod Loads
+pub mod PieceTexts
 pub mod StrayKeys

@@ -21,8 +21,8 @@ use Rattle.wire_core.specs.declared.fault.WireFault.TheVariants as wires
 use Rattle.item_files.specs.declared.bad_line.BadLine.{BadLine}
 use Rattle.item_files.specs.declared.fault.SettingsFault.{SettingsFault}
 use Rattle.item_files.specs.declared.fault.SettingsFault.TheVariants as settings
-use Rattle.shard_loading.specs.declared.fault.LoadFault.{LoadFault}
-use Rattle.shard_loading.specs.declared.fault.LoadFault.TheVariants as loads
+use Rattle.item_files.specs.declared.load_fault.LoadFault.{LoadFault}
+use Rattle.item_files.specs.declared.load_fault.LoadFault.TheVariants as loads
 use Rattle.sim_core.specs.declared.scenario_fault.ScenarioFault.TheVariants as scenarios
 use Rattle.sim_core.specs.declared.scenario_fault.ScenarioError.{ScenarioError}
 use Rattle.sim_core.specs.declared.scenario_fault.ScenarioError.TheVariants as errors

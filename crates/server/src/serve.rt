@@ -3,7 +3,7 @@
 ghost use Rattle.std.specs.Prelude.{◌≡◌};
 ghost use Rattle.std.specs.Arc.{arc_value};
 ghost use Rattle.settings_core.specs.Spans.{IsWorkerCount};
-ghost use Rattle.shard_loading.specs.Sharded.{HaveCap};
+ghost use Rattle.loading.specs.Sharded.{HaveCap};
 
 use crate::asked::Serving;
 use crate::books::open_books;

@@ -11,7 +11,7 @@ use mio::{Events, Interest, Poll, Token};
 use peer_loops::{Board, Common, Origins};
 use printing_core::Refusal;
 use settings_core::VERSION;
-use shard_loading::ShardedSet;
+use loading::ShardedSet;
 use slab::Slab;
 use std::alloc::{AllocError, Global};
 use std::io;

@@ -81,6 +81,9 @@ content_with_all A set = ap set_of (items_of_entries A) ∙ set_again A set
 length_with_all : (A : List Item) → length (entries_by_0 A) ≡ length A
 length_with_all A = length-map A (λ (x : Item). (0, x))
 
+pub content_opened : (A : List Item) → IsSet A → content (opening_history A) ≡ A
+content_opened A set = ap content (opened_with A set) ∙ content_with_all A set
+
 -- a log that no entry has come to
 pub rests : (cap next : ℕ) (ls : List Arrival) (A : List Item) → ls ≡ [] → IsSet A → IsCap cap → IsNextWriter next →
     length A ≤ cap →
@@ -90,7 +93,7 @@ rests cap next ls A none set is_cap is_next fits =
     let all : history_of [] A ≡ opening_history A = append-nil (entries_by_0 A) ∙ sym with in
     rw (none, all) (
       tt,
-      sym (ap content with ∙ content_with_all A set),
+      sym (content_opened A set),
       record {
         once = once_opened A;
         fits = omega (arith, ap length with, length_with_all A);

@@ -13,7 +13,7 @@ use crate::front::rising_front;
 use item_core::Item;
 use std::alloc::{AllocError, Global};
 use std::marker::Model;
-use store_core::{Insertion, RangeStore, set_laws, make_room};
+use store_core::{Insertion, RangeStore, make_room, set_laws};
 
 /// Who brought which item, in order, and a store of the items. Each item stands once.
 ///

@@ -1,6 +1,6 @@
 use Rattle.std.specs.Arc.{arc_value}
 use Rattle.std.specs.Vec.Iter.{into_iter_items}
-use Rattle.shard_loading.specs.Sharded.{HaveCap}
+use Rattle.loading.specs.Sharded.{HaveCap}
 use Rattle.client.proofs.sync_shards.works_of.Given as goal
 
 abbrev pub invariant-loop-log : goal.invariant-loop-log

@@ -1,0 +1,3 @@
+pub use Rattle.version_log.specs.Logs
+pub mod Loads
+pub mod Sharded

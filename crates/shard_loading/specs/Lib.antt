@@ -1,3 +1,0 @@
-pub mod Texts
-pub mod Loads
-pub mod Sharded
