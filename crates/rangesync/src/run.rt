@@ -1,6 +1,6 @@
 //! The program over any runtime, reader and writers.
 
-ghost use Rattle.std.specs.Prelude.{◌≡◌, ◌≤◌, IfOk, IfErr, map};
+ghost use Rattle.std.specs.Prelude.{◌≡◌, ◌≤◌, ◌⊎◌, IfOk, map};
 ghost use Rattle.settings_core.specs.Calls.{WordsAskFor};
 ghost use Rattle.settings_core.specs.Spans.{AreInSpan};
 ghost use Rattle.settings_core.specs.declared.commands.Call.{Call as Asked};
@@ -83,21 +83,17 @@ fn tell_second<E: Write>(err: &mut E, why: Option<Why<'_>>) {
     }
 }
 
-/// The status of what was done: that of a refusal after its line, and after a second one, if that is asked for.
-fn tell_done<E: Write>(err: &mut E, done: Result<u8, Refusal<'_>>, explains: bool) -> u8
-    ensures done { IfOk done.entry (λ status. result ≡ status) }
-    ensures refused { IfErr done.entry (λ refusal. result ≡ status_of refusal.fault) }
+/// Prints the line of a refusal, and a second one, if that is asked for, and gives the status.
+fn tell_refusal<E: Write>(err: &mut E, refusal: Refusal<'_>, explains: bool) -> u8
+    ensures status { result ≡ status_of refusal.entry.fault }
+    ensures few { (result ≡ 1) ⊎ (result ≡ 3) }
 {
-    match done {
-        Ok(status) => status,
-        Err(Refusal { fault, why }) => {
-            let status = tell(&mut *err, fault);
-            if explains {
-                tell_second(err, why);
-            }
-            status
-        }
+    let Refusal { fault, why } = refusal;
+    let status = tell(&mut *err, fault);
+    if explains {
+        tell_second(err, why);
     }
+    status
 }
 
 /// Runs the program on these words, of which the first is its own name, and gives the status: 0 done, 1 refused, 2 for
@@ -153,6 +149,8 @@ where
         explains: explains || is_terminal,
     };
     let ends = (input.reader, Outputs { out, log });
-    let done = obey(rt, command, target, ends, &mut err);
-    tell_done(&mut err, done, target.explains)
+    match obey(rt, command, target, ends, &mut err) {
+        Ok(status) => status,
+        Err(refusal) => tell_refusal(&mut err, refusal, target.explains),
+    }
 }
