@@ -13,10 +13,7 @@ ghost use Rattle.loading.specs.declared.parts.PartsFault.TheVariants as faults;
 
 use io_core::Watched;
 use item_core::Item;
-use item_files::{
-    ItemForm, LoadFault, LoadOptions, SettingsFault, read_input_items, read_shards,
-};
-use printing_core::Refusal;
+use item_files::{ItemForm, LoadFault, LoadOptions, SettingsFault, read_input_items, read_shards};
 use settings_core::Sharding;
 use shard_core::join_shards;
 use std::alloc::{AllocError, Global};
