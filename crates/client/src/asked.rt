@@ -1,7 +1,7 @@
 //! What a `sync` is asked for.
 
-ghost use Rattle.std.specs.Prelude.{◌≡◌, ◌≤◌, true, false, IfOk};
-ghost use Rattle.printing_core.specs.declared.session_texts.Listing.TheVariants as listings;
+ghost use Rattle.std.specs.Prelude.{◌≡◌, ◌⊎◌, true, false, IfOk, unwrap_or};
+ghost use Rattle.printing_core.specs.declared.sessions.Listing.TheVariants as listings;
 
 use crate::stdio::sync_stdio;
 use crate::sync::sync;
@@ -98,6 +98,13 @@ impl<'a> Asking<'a> {
     }
 }
 
+/// How many sessions over shards run at once.
+fn at_once_in(words: SyncWords<'_>) -> usize
+    ensures { result ≡ unwrap_or words.entry.at_once 8 }
+{
+    words.at_once.unwrap_or(AT_ONCE) as usize
+}
+
 /// Does what `sync` is asked for: one session, over standard input and output or with who listens; or one for each
 /// shard that differs. The status: 4 if it is to say that the sets differ, and they do, else 0.
 pub fn sync_as_asked<'a, R, I: Read + Drop, O: Write + Drop, E: Write + Drop>(
@@ -109,7 +116,7 @@ pub fn sync_as_asked<'a, R, I: Read + Drop, O: Write + Drop, E: Write + Drop>(
 ) -> Result<u8, Refusal<'a>>
 where
     R: Files<File = File> + Net<Stream = TcpStream> + Threads + Wait + Clock + AllocGlobal + Sync,
-    ensures { IfOk result (λ status. status ≤ 4) }
+    ensures { IfOk result (λ status. (status ≡ 0) ⊎ ((status ≡ 4) × (words.entry.checks ≡ true))) }
 {
     let (reader, out) = ends;
     let asking = Asking::asked(words, target.set, target.explains);
@@ -119,11 +126,13 @@ where
         sync_stdio(rt, loaded, asking, (reader, out), err)?
     } else if let (Some(sharding), Some(set)) = (target.sharding, target.set) {
         let loaded = load(rt, sources, Some(sharding), reader, err)?;
+        let at_once = at_once_in(words);
+        let shows = target.shows;
         let asking = AskingShards {
             asking,
             set,
-            at_once: words.at_once.unwrap_or(AT_ONCE) as usize,
-            shows: target.shows,
+            at_once,
+            shows,
         };
         sync_shards(rt, loaded, asking, out, err)?
     } else {

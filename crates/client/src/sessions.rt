@@ -98,9 +98,9 @@ fn run_one<R: Wait + Clock>(rt: &R, alloc: Global, asker: Asker<'_>, ready: Read
     let Ready { work, stream } = ready;
     let Work {
         number,
-        address: _,
         accepted,
         log,
+        ..
     } = work;
     let talk = asker.talk(Which::Shard(number));
     match converse_over(rt, alloc, &accepted, log, talk, &stream) {

@@ -28,11 +28,7 @@ pub fn ask<R: Wait + Clock + AllocGlobal, I: Read + Drop, O: Write + Drop>(
     requires cap { loaded.set.cap ≡ loaded.accepted.table.cap }
 {
     let alloc = rt.alloc();
-    let Loaded {
-        accepted,
-        set,
-        kept: _,
-    } = loaded;
+    let Loaded { accepted, set, .. } = loaded;
     let accepted = Arc::new(alloc, accepted)?;
     converse(rt, alloc, &accepted, set.into_first(), asking.talk(), ends)
 }

@@ -150,11 +150,7 @@ where
     requires servers { 0 < length addresses.now }
 {
     let alloc = rt.alloc();
-    let Loaded {
-        accepted,
-        set,
-        kept: _,
-    } = loaded;
+    let Loaded { accepted, set, .. } = loaded;
     let asker = Asker {
         profile: asking.asking.profile,
         limits: asking.asking.limits,

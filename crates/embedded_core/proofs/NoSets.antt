@@ -15,6 +15,7 @@ no_set form text a cap (settings.CannotRead f) same is = tt
 no_set form text a cap (settings.BadItemLine bad) same is = (bad, is)
 no_set form text a cap (settings.TooManyItems most count) same (items, are, more, at, is) =
     (items, are, subst (λ n. n < length (set_of items)) same more)
+no_set form text a cap settings.NotToml same is = is
 no_set form text a cap (settings.Strategy flaw) same is = is
 no_set form text a cap (settings.Check f) same is = is
 no_set form text a cap settings.Memory same is = tt

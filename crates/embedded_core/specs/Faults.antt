@@ -11,7 +11,6 @@ use Rattle.strategy_core.specs.Refused as strategy
 use Rattle.strategy_check.specs.Checked.{Checked}
 use Rattle.strategy_check.specs.Refused as check
 use Rattle.item_files.specs.Accepts.{IsAcceptedOf}
-use Rattle.item_files.specs.declared.strategy_flaw.StrategyFlaw.{StrategyFlaw}
 use Rattle.item_files.specs.declared.fault.SettingsFault.{SettingsFault}
 use Rattle.item_files.specs.declared.fault.SettingsFault.TheVariants as settings
 use Rattle.version_log.specs.declared.answer.LogFault.{LogFault}
@@ -24,7 +23,8 @@ length_fault_number lengths.Empty = codes.empty_item
 length_fault_number lengths.TooLong = codes.too_long
 
 abbrev pub embedded_fault_number : EmbeddedFault → ℕ
-embedded_fault_number (faults.Strategy f) = strategy.fault_number f
+embedded_fault_number faults.NotToml = codes.not_toml
+embedded_fault_number (faults.Strategy flaw) = strategy.fault_number flaw.fault
 embedded_fault_number (faults.Check f) = check.fault_number f
 embedded_fault_number faults.Full = 40
 embedded_fault_number (faults.Length f) = length_fault_number f
@@ -37,7 +37,8 @@ abbrev pub of_settings : SettingsFault → EmbeddedFault
 of_settings (settings.CannotRead f) = faults.Memory
 of_settings (settings.BadItemLine bad) = faults.BadItemLine
 of_settings (settings.TooManyItems cap count) = faults.TooManyItems
-of_settings (settings.Strategy flaw) = faults.Strategy flaw.fault
+of_settings settings.NotToml = faults.NotToml
+of_settings (settings.Strategy flaw) = faults.Strategy flaw
 of_settings (settings.Check f) = faults.Check f
 of_settings settings.Memory = faults.Memory
 
@@ -47,15 +48,11 @@ of_log logs.Memory = faults.Memory
 
 -- the text holds no strategy, or one that is not accepted, for this reason; or memory ran out
 abbrev pub IsUnfit : List ℕ → EmbeddedFault → Type 0
-IsUnfit text (faults.Strategy f) = (flaw : StrategyFlaw) × (flaw.fault ≡ f)
-    × IsAcceptedOf text (Err (settings.Strategy flaw))
+IsUnfit text faults.NotToml = IsAcceptedOf text (Err settings.NotToml)
+IsUnfit text (faults.Strategy flaw) = IsAcceptedOf text (Err (settings.Strategy flaw))
 IsUnfit text (faults.Check f) = IsAcceptedOf text (Err (settings.Check f))
-IsUnfit text faults.Full = ⊥
-IsUnfit text (faults.Length f) = ⊥
-IsUnfit text faults.EmptyRange = ⊥
-IsUnfit text faults.BadItemLine = ⊥
-IsUnfit text faults.TooManyItems = ⊥
 IsUnfit text faults.Memory = ⊤
+IsUnfit text f = ⊥
 
 -- what a text gives: its strategy, accepted; or why not
 abbrev pub IsStrategy : {X : Type 0} → (X → Checked) → List ℕ → Result X EmbeddedFault → Type 0

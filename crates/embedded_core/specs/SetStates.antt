@@ -88,11 +88,7 @@ IsNoSet form text a faults.BadItemLine = (bad : BadLine) × (file_items form tex
 IsNoSet form text a faults.TooManyItems = (items : List Item) × (file_items form text ≡ Ok items)
     × (a.table.cap < length (set_of items))
 IsNoSet form text a faults.Memory = ⊤
-IsNoSet form text a faults.Full = ⊥
-IsNoSet form text a faults.EmptyRange = ⊥
-IsNoSet form text a (faults.Strategy f) = ⊥
-IsNoSet form text a (faults.Check f) = ⊥
-IsNoSet form text a (faults.Length f) = ⊥
+IsNoSet form text a f = ⊥
 
 -- the items of the text, each once, by writer 0
 abbrev pub IsSetFrom : ItemForm → List ℕ → Checked → Result SetState EmbeddedFault → Type 0

@@ -8,14 +8,16 @@ use item_core::{EmptyRange, LengthFault};
 use item_files::SettingsFault;
 use std::alloc::{AllocError, AllocFailed};
 use strategy_check::CheckFault;
-use strategy_core::StrategyFault;
+use strategy_core::StrategyFlaw;
 use version_log::LogFault;
 
 /// Why a call is refused.
 #[derive(Clone, Copy, Debug, PartialEq, Eq)]
 pub enum EmbeddedFault {
-    /// A text is no strategy: 29 to 35.
-    Strategy(StrategyFault),
+    /// A text is no TOML: 30.
+    NotToml,
+    /// A table is no strategy: 29, or 31 to 35.
+    Strategy(StrategyFlaw),
     /// A strategy is not to be accepted: 36 to 39.
     Check(CheckFault),
     /// The set has as many items as its cap: 40.
@@ -39,7 +41,8 @@ impl EmbeddedFault {
         ensures above { 0 < result }
     {
         match self {
-            EmbeddedFault::Strategy(fault) => fault.number(),
+            EmbeddedFault::NotToml => 30,
+            EmbeddedFault::Strategy(flaw) => flaw.fault.number(),
             EmbeddedFault::Check(fault) => fault.number(),
             EmbeddedFault::Full => 40,
             EmbeddedFault::Length(fault) => fault.number(),
@@ -85,7 +88,8 @@ impl From<SettingsFault> for EmbeddedFault {
         match fault {
             SettingsFault::BadItemLine(_) => EmbeddedFault::BadItemLine,
             SettingsFault::TooManyItems { cap: _, count: _ } => EmbeddedFault::TooManyItems,
-            SettingsFault::Strategy(flaw) => EmbeddedFault::Strategy(flaw.fault),
+            SettingsFault::NotToml => EmbeddedFault::NotToml,
+            SettingsFault::Strategy(flaw) => EmbeddedFault::Strategy(flaw),
             SettingsFault::Check(fault) => EmbeddedFault::Check(fault),
             SettingsFault::CannotRead(_) | SettingsFault::Memory => EmbeddedFault::Memory,
         }

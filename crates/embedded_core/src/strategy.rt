@@ -15,7 +15,8 @@ fn accepted(alloc: Global, text: &[u8]) -> Result<Accepted, EmbeddedFault>
 {
     match accepted_of(alloc, text) {
         Ok(accepted) => Ok(accepted),
-        Err(SettingsFault::Strategy(flaw)) => Err(EmbeddedFault::Strategy(flaw.fault)),
+        Err(SettingsFault::NotToml) => Err(EmbeddedFault::NotToml),
+        Err(SettingsFault::Strategy(flaw)) => Err(EmbeddedFault::Strategy(flaw)),
         Err(SettingsFault::Check(fault)) => Err(EmbeddedFault::Check(fault)),
         Err(_) => Err(EmbeddedFault::Memory),
     }

@@ -154,8 +154,8 @@ impl<F: Summary> Draft<F> {
             self.old listed.now part.now) }
         ensures err { OnErr result (self.new ≡ self.old) }
     {
-        let fresh = learn_part(alloc, store, listed, part)?;
         let more = reply_part(alloc, strategy, store, part)?;
+        let fresh = learn_part(alloc, listed, part, &more)?;
         add_both(
             alloc,
             &mut self.learned,

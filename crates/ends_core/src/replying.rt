@@ -8,16 +8,15 @@ ghost use Rattle.definitions.specs.Items as items;
 ghost use Rattle.definitions.specs.Fingerprints.{two_lanes};
 ghost use Rattle.definitions.specs.Messages.{Sum, Listing};
 ghost use Rattle.definitions.specs.Replies as replies;
-ghost use Rattle.definitions.specs.Sets.{has, items_in};
+ghost use Rattle.definitions.specs.Sets.{IsSet, has, items_in, difference};
 ghost use Rattle.definitions.specs.Strategies.{IsTable, act, shares, is_split};
 ghost use Rattle.definitions.specs.Wire.{IsPart};
 ghost use Rattle.store_core.specs.Stores.{span};
 ghost use Rattle.laws.specs.Cutting.{pieces_at};
 
 use crate::cutting::{bounds_at, cut_range};
-use crate::learning::push_unlisted;
 use digest_core::{Fingerprint, Summary};
-use item_core::{Item, Range};
+use item_core::{Item, Range, is_listed};
 use std::alloc::{AllocError, Global};
 use store_core::{RangeStore, Span};
 use strategy_core::{Act, Strategy};
@@ -33,6 +32,23 @@ fn marks_of<S: RangeStore>(alloc: Global, store: &S, listed: &[Item]) -> Result<
         marks.push(!store.has(item))?;
     }
     Marks::new(alloc, &marks)
+}
+
+/// Appends the items that are not listed.
+fn push_unlisted(
+    unlisted: &mut Vec<Item>,
+    items: &[Item],
+    listed: &[Item],
+) -> Result<(), AllocError>
+    requires { IsSet listed.now }
+    ensures { OnOk result (unlisted.new.items ≡ unlisted.old.items ++ difference items.now listed.now) }
+{
+    for item in items {
+        if !is_listed(listed, item) {
+            unlisted.push(*item)?;
+        }
+    }
+    Ok(())
 }
 
 /// The answer to the list of a range.
@@ -241,29 +257,6 @@ fn push_compared<S: RangeStore, F: Summary>(
     push_differing(alloc, strategy, store, range, at, parts)
 }
 
-/// Appends the reply to a part.
-fn push_reply<S: RangeStore, F: Summary>(
-    alloc: Global,
-    strategy: &Strategy,
-    store: &S,
-    part: &Part<F>,
-    parts: &mut Vec<Part<F>>,
-) -> Result<(), AllocError>
-    requires { length (S.content store.now) ≤ strategy.now.cap }
-    ensures { OnOk result (parts.new.items ≡ parts.old.items ++ replies.reply_to F.summary
-        (record { table = strategy.now; items = S.content store.now }) part.now) }
-{
-    if let Some(sum) = part.fingerprint() {
-        return push_compared(alloc, strategy, store, part.range(), sum, parts);
-    }
-    let (PartKind::List, Some(listed)) = (part.kind(), part.items()) else {
-        return Ok(());
-    };
-    let _ = strategy.cap(); // proof only: a cap is below 2^17
-    parts.push(answer_to(alloc, store, part.range(), listed)?)?;
-    Ok(())
-}
-
 /// The reply to a part.
 pub(crate) fn reply_part<S: RangeStore, F: Summary>(
     alloc: Global,
@@ -276,6 +269,14 @@ pub(crate) fn reply_part<S: RangeStore, F: Summary>(
         (record { table = strategy.now; items = S.content store.now }) part.now) }
 {
     let mut parts = Vec::new(alloc);
-    push_reply(alloc, strategy, store, part, &mut parts)?;
+    if let Some(sum) = part.fingerprint() {
+        push_compared(alloc, strategy, store, part.range(), sum, &mut parts)?;
+        return Ok(parts);
+    }
+    let (PartKind::List, Some(listed)) = (part.kind(), part.items()) else {
+        return Ok(parts);
+    };
+    let _ = strategy.cap(); // proof only: a cap is below 2^17
+    parts.push(answer_to(alloc, store, part.range(), listed)?)?;
     Ok(parts)
 }

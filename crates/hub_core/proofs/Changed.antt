@@ -44,8 +44,8 @@ module _ {T : Type 0} (R : T → Type 0) where
 
 -- a test of both times
 pub late-is : {I O : Type 0} (limits : HubLimits) (now : ℕ) (p : PeerState I O) (h a : ℕ) (b : Bool) → h ≡ p.heard →
-    a ≡ p.arrived → b ≡ (nat_lt limits.idle (now - h) || nat_lt limits.whole (now - a)) → is_late limits now p ≡ b
+    a ≡ p.arrived → b ≡ (nat_lt limits.patience (now - h) || nat_lt limits.session (now - a)) → is_late limits now p ≡ b
 late-is limits now p h a b heard arrived is =
     sym (is
-    ∙ ap (λ (n : ℕ). nat_lt limits.idle (now - n) || nat_lt limits.whole (now - a)) heard
-    ∙ ap (λ (n : ℕ). nat_lt limits.idle (now - p.heard) || nat_lt limits.whole (now - n)) arrived)
+    ∙ ap (λ (n : ℕ). nat_lt limits.patience (now - n) || nat_lt limits.session (now - a)) heard
+    ∙ ap (λ (n : ℕ). nat_lt limits.patience (now - p.heard) || nat_lt limits.session (now - n)) arrived)

@@ -14,9 +14,10 @@ use Rattle.std.proofs.Math.Seq.{take-add}
 use Rattle.session_core.specs.Links.{count_of}
 use Rattle.session_core.specs.declared.fault.LinkFault.{LinkFault}
 use Rattle.session_core.proofs.Moving.{reads-joined, counts-both}
-use Rattle.hub_core.specs.declared.step.Step.{Step}
+use Rattle.session_core.specs.declared.pumped.Pumped.{Pumped}
 use Rattle.hub_core.specs.Greetings.{GreetingState, IsGreeting, Greets, own_hello, told}
-use Rattle.hub_core.specs.Steps.{GreetsSo, both_of}
+use Rattle.session_core.specs.Links.{both_of}
+use Rattle.hub_core.specs.Steps.{GreetsSo}
 
 -- ---- our hello
 
@@ -99,7 +100,7 @@ greets-trans g h i unread mid left held half holds read said more tells lost fir
       writes = second.writes ∙ ap (λ (l : List ℕ). l ++ tells) first.writes ∙ append_assoc (told g) said tells;
     }
 
-pub GreetsSo-both : (s t : Step) (g h i : GreetingState) (unread mid left held half holds : Option (List ℕ)) →
+pub GreetsSo-both : (s t : Pumped) (g h i : GreetingState) (unread mid left held half holds : Option (List ℕ)) →
     GreetsSo g h unread mid held half (Ok s) → GreetsSo h i mid left half holds (Ok t) →
     GreetsSo g i unread left held holds (Ok (both_of s t))
 GreetsSo-both s t g h i unread mid left held half holds (read, said, moves, reads, writes)
@@ -108,7 +109,7 @@ GreetsSo-both s t g h i unread mid left held half holds (read, said, moves, read
     let counts = counts-both _ _ _ _ read more said tells reads reads2 writes writes2 in
     (read ++ more, said ++ tells, both, counts.0, counts.1)
 
-pub GreetsSo-failed : (s : Step) (f : LinkFault) (g h i : GreetingState)
+pub GreetsSo-failed : (s : Pumped) (f : LinkFault) (g h i : GreetingState)
     (unread mid left held half holds : Option (List ℕ)) → GreetsSo g h unread mid held half (Ok s) →
     GreetsSo h i mid left half holds (Err f) → GreetsSo g i unread left held holds (Err f)
 GreetsSo-failed s f g h i unread mid left held half holds (read, said, moves, reads, writes)

@@ -11,23 +11,20 @@ use Rattle.definitions.specs.Fingerprints.{Lanes}
 use Rattle.definitions.specs.Fingerprints as prints
 use Rattle.definitions.specs.Wire.{Profile, two_lane_profile, counted_profile}
 use Rattle.session_core.specs.Sessions.{SessionState}
-use Rattle.session_core.specs.Links.{Stands, StandsAt, Fails}
+use Rattle.session_core.specs.Links.{Stands, Fails, pause_at, both_of}
 use Rattle.session_core.specs.Polls.{ReadsSo, WritesSo}
 use Rattle.session_core.specs.declared.fault.LinkFault.{LinkFault}
 use Rattle.session_core.specs.declared.fault.LinkFault.TheVariants as faults
 use Rattle.session_core.specs.declared.polled.Last.{Last}
 use Rattle.session_core.specs.declared.polled.Last.TheVariants as lasts
 use Rattle.session_core.specs.declared.pumped.Pause.{Pause}
-use Rattle.session_core.specs.declared.pumped.Pause.TheVariants as ends
+use Rattle.session_core.specs.declared.pumped.Pause.TheVariants as pauses
 use Rattle.session_core.specs.declared.pumped.Pumped.{Pumped}
 use Rattle.hub_core.specs.Greetings.{GreetingState, IsGreeting}
 use Rattle.hub_core.specs.Firsts.{is_due}
-use Rattle.hub_core.specs.Steps.{LeavesAt, LeavesGreeting, is_ready, pause_at, pause_in, step_in, both_of}
-use Rattle.hub_core.specs.Peers.{LeavesOff, LeavesSession}
-use Rattle.hub_core.specs.declared.step.Step.{Step}
-use Rattle.hub_core.specs.declared.step.StepPause.{StepPause}
-use Rattle.hub_core.specs.declared.step.StepPause.TheVariants as pauses
-use Rattle.hub_core.specs.declared.stage.Stage.TheVariants as stages
+use Rattle.hub_core.specs.Steps.{LeavesAt, LeavesGreeting, is_ready}
+use Rattle.hub_core.specs.Peers.{LeavesOff}
+use Rattle.hub_core.specs.declared.phase.Phase.TheVariants as phases
 
 -- ---- one read or write of a greeting
 
@@ -43,42 +40,42 @@ still-waits n room g h none waits came over =
     ap (λ (b : Bool). b || is_due h.came) over ∙ ap is_due same ∙ or-right g.over (is_due g.came) waits
 
 -- so many bytes had come before, and no byte of our hello was due
-pub heard-leaves : (n before : ℕ) (r w : Last) (g : GreetingState) (pause : StepPause) → ReadsSo n r →
+pub heard-leaves : (n before : ℕ) (r w : Last) (g : GreetingState) (pause : Pause) → ReadsSo n r →
     length g.came ≡ before + n → (4 ≤ before → g.said ≡ 4) → (r ≡ lasts.Ended → g.over ≡ true) →
     (r ≡ lasts.Waits → is_ready g ≡ false) → pause_at r faults.Read ≡ Ok pause → LeavesAt pause g r w n 0
 heard-leaves n before lasts.Unknown w g pause reads long written over idle is = absurd reads
 heard-leaves n before lasts.Moved w g pause reads long written over idle is =
     let more : pauses.More ≡ pause = cc in
-    subst (λ (p : StepPause). LeavesAt p g lasts.Moved w n 0) more (inl (omega (arith, reads)))
+    subst (λ (p : Pause). LeavesAt p g lasts.Moved w n 0) more (inl (omega (arith, reads)))
 heard-leaves n before lasts.Waits w g pause reads long written over idle is =
     let waits : pauses.Waits ≡ pause = cc in
     let none : 4 ≤ length g.came → g.said ≡ 4 = λ four. written (omega (arith, long, reads, four)) in
-    subst (λ (p : StepPause). LeavesAt p g lasts.Waits w n 0) waits (inr (none, idle refl, refl))
+    subst (λ (p : Pause). LeavesAt p g lasts.Waits w n 0) waits (inr (none, idle refl, refl))
 heard-leaves n before lasts.Interrupted w g pause reads long written over idle is =
     let more : pauses.More ≡ pause = cc in
-    subst (λ (p : StepPause). LeavesAt p g lasts.Interrupted w n 0) more (inr (inl refl))
+    subst (λ (p : Pause). LeavesAt p g lasts.Interrupted w n 0) more (inr (inl refl))
 heard-leaves n before lasts.Ended w g pause reads long written over idle is =
     let more : pauses.More ≡ pause = cc in
-    subst (λ (p : StepPause). LeavesAt p g lasts.Ended w n 0) more (inr (inr (inr (refl, over refl))))
+    subst (λ (p : Pause). LeavesAt p g lasts.Ended w n 0) more (inr (inr (inr (refl, over refl))))
 heard-leaves n before lasts.Failed w g pause reads long written over idle is = absurd (cc)
 
-pub said-leaves : (n before : ℕ) (r w : Last) (g : GreetingState) (pause : StepPause) → WritesSo n w →
+pub said-leaves : (n before : ℕ) (r w : Last) (g : GreetingState) (pause : Pause) → WritesSo n w →
     4 ≤ length g.came → before < 4 → g.said ≡ before + n → pause_at w faults.Write ≡ Ok pause → LeavesAt pause g r w 0 n
 said-leaves n before r lasts.Unknown g pause writes four some said is = absurd writes
 said-leaves n before r lasts.Moved g pause writes four some said is =
     let more : pauses.More ≡ pause = cc in
-    subst (λ (p : StepPause). LeavesAt p g r lasts.Moved 0 n) more (inl (omega (arith, writes)))
+    subst (λ (p : Pause). LeavesAt p g r lasts.Moved 0 n) more (inl (omega (arith, writes)))
 said-leaves n before r lasts.Waits g pause writes four some said is =
     let waits : pauses.Waits ≡ pause = cc in
     let few : g.said < 4 = omega (arith, some, said, writes) in
-    subst (λ (p : StepPause). LeavesAt p g r lasts.Waits 0 n) waits (inl (four, few, refl))
+    subst (λ (p : Pause). LeavesAt p g r lasts.Waits 0 n) waits (inl (four, few, refl))
 said-leaves n before r lasts.Interrupted g pause writes four some said is =
     let more : pauses.More ≡ pause = cc in
-    subst (λ (p : StepPause). LeavesAt p g r lasts.Interrupted 0 n) more (inr (inr (inl refl)))
+    subst (λ (p : Pause). LeavesAt p g r lasts.Interrupted 0 n) more (inr (inr (inl refl)))
 said-leaves n before r lasts.Ended g pause writes four some said is = absurd writes
 said-leaves n before r lasts.Failed g pause writes four some said is = absurd (cc)
 
-pub heard-fails : (r w : Last) (f : LinkFault) → pause_at r faults.Read ≡ Err f → Fails {X = Step} (Err f) r w
+pub heard-fails : (r w : Last) (f : LinkFault) → pause_at r faults.Read ≡ Err f → Fails {X = Pumped} (Err f) r w
 heard-fails lasts.Unknown w f is = absurd (cc)
 heard-fails lasts.Moved w f is = absurd (cc)
 heard-fails lasts.Waits w f is = absurd (cc)
@@ -86,9 +83,9 @@ heard-fails lasts.Interrupted w f is = absurd (cc)
 heard-fails lasts.Ended w f is = absurd (cc)
 heard-fails lasts.Failed w f is =
     let read : faults.Read ≡ f = cc in
-    subst (λ (x : LinkFault). Fails {X = Step} (Err x) lasts.Failed w) read refl
+    subst (λ (x : LinkFault). Fails {X = Pumped} (Err x) lasts.Failed w) read refl
 
-pub said-fails : (r w : Last) (f : LinkFault) → pause_at w faults.Write ≡ Err f → Fails {X = Step} (Err f) r w
+pub said-fails : (r w : Last) (f : LinkFault) → pause_at w faults.Write ≡ Err f → Fails {X = Pumped} (Err f) r w
 said-fails r lasts.Unknown f is = absurd (cc)
 said-fails r lasts.Moved f is = absurd (cc)
 said-fails r lasts.Waits f is = absurd (cc)
@@ -96,7 +93,7 @@ said-fails r lasts.Interrupted f is = absurd (cc)
 said-fails r lasts.Ended f is = absurd (cc)
 said-fails r lasts.Failed f is =
     let write : faults.Write ≡ f = cc in
-    subst (λ (x : LinkFault). Fails {X = Step} (Err x) r lasts.Failed) write refl
+    subst (λ (x : LinkFault). Fails {X = Pumped} (Err x) r lasts.Failed) write refl
 
 -- the session is asked for
 pub opens-leaves : (g : GreetingState) (r w : Last) → IsGreeting g → (4 ≤ length g.came → 4 ≤ g.said) →
@@ -114,10 +111,10 @@ ready-due g due = by g.over where
 
 -- ---- of two calls it is the second's
 
-pub leaves-both : (s t : Step) (g : GreetingState) (r w : Last) → LeavesGreeting g r w (Ok t) →
+pub leaves-both : (s t : Pumped) (g : GreetingState) (r w : Last) → LeavesGreeting g r w (Ok t) →
     LeavesGreeting g r w (Ok (both_of s t))
 leaves-both s t g r w leaves = by t.pause leaves where
-  by : (p : StepPause) → LeavesAt p g r w t.read t.written →
+  by : (p : Pause) → LeavesAt p g r w t.read t.written →
       LeavesAt p g r w (both_of s t).read (both_of s t).written
   by pauses.Waits l = l
   by pauses.Opens l = l
@@ -127,39 +124,13 @@ leaves-both s t g r w leaves = by t.pause leaves where
 
 -- ---- a session's
 
-session-at : {F : Type 0} (W : Profile F) (p : Pumped) (y : SessionState F) (r w : Last) → Stands W (Ok p) y r w →
-    LeavesSession W (pause_in p.pause) y r w p.read p.written
-session-at W p y r w stands = by p.pause stands where
-  by : (x : Pause) → StandsAt W x y r w p.read p.written → LeavesSession W (pause_in x) y r w p.read p.written
-  by ends.Waits s = s
-  by ends.More s = s
-  by ends.Over s = s
+pub plain-leaves : (q : Result Pumped LinkFault) (b : Box (SessionState Lanes) Global) (y : SessionState Lanes)
+    (r w : Last) → Stands two_lane_profile q y r w → Fails q r w → LeavesOff (phases.Plain (with_value b y)) r w q
+plain-leaves (Ok p) b y r w stands fails = stands
+plain-leaves (Err f) b y r w stands fails = fails
 
-fails-so : (f : LinkFault) (r w : Last) → Fails {X = Pumped} (Err f) r w → Fails {X = Step} (Err f) r w
-fails-so faults.Read r w is = is
-fails-so faults.Write r w is = is
-fails-so faults.Memory r w is = is
-
-plain-off : (q : Result Pumped LinkFault) (c : Box (SessionState Lanes) Global) (r w : Last) →
-    Stands two_lane_profile q c.value r w → Fails q r w → LeavesOff (stages.Plain c) r w (step_in q)
-plain-off (Ok p) c r w stands fails = session-at two_lane_profile p c.value r w stands
-plain-off (Err f) c r w stands fails = fails-so f r w fails
-
-counted-off : (q : Result Pumped LinkFault) (c : Box (SessionState prints.Counted) Global) (r w : Last) →
-    Stands counted_profile q c.value r w → Fails q r w → LeavesOff (stages.Counted c) r w (step_in q)
-counted-off (Ok p) c r w stands fails = session-at counted_profile p c.value r w stands
-counted-off (Err f) c r w stands fails = fails-so f r w fails
-
-pub plain-leaves : (q : Result Pumped LinkFault) (t : Result Step LinkFault) (b : Box (SessionState Lanes) Global)
-    (y : SessionState Lanes) (r w : Last) → t ≡ step_in q → Stands two_lane_profile q y r w → Fails q r w →
-    LeavesOff (stages.Plain (with_value b y)) r w t
-plain-leaves q t b y r w step stands fails =
-    subst (λ (u : Result Step LinkFault). LeavesOff (stages.Plain (with_value b y)) r w u) (sym step)
-    (plain-off q (with_value b y) r w stands fails)
-
-pub counted-leaves : (q : Result Pumped LinkFault) (t : Result Step LinkFault)
-    (b : Box (SessionState prints.Counted) Global) (y : SessionState prints.Counted) (r w : Last) → t ≡ step_in q →
-    Stands counted_profile q y r w → Fails q r w → LeavesOff (stages.Counted (with_value b y)) r w t
-counted-leaves q t b y r w step stands fails =
-    subst (λ (u : Result Step LinkFault). LeavesOff (stages.Counted (with_value b y)) r w u) (sym step)
-    (counted-off q (with_value b y) r w stands fails)
+pub counted-leaves : (q : Result Pumped LinkFault) (b : Box (SessionState prints.Counted) Global)
+    (y : SessionState prints.Counted) (r w : Last) → Stands counted_profile q y r w → Fails q r w →
+    LeavesOff (phases.Counted (with_value b y)) r w q
+counted-leaves (Ok p) b y r w stands fails = stands
+counted-leaves (Err f) b y r w stands fails = fails

@@ -20,7 +20,7 @@ use Rattle.session_core.specs.Outboxes.{outbox_state}
 use Rattle.session_core.specs.Sessions.{SessionState, Knows, Pushes, Takes, due, frame_of, with_talk, with_outbox}
 use Rattle.hub_core.specs.Greetings.{GreetingState, is_counted, told}
 use Rattle.hub_core.specs.Peers.{Knowing}
-use Rattle.hub_core.specs.declared.stage.Stage.TheVariants as stages
+use Rattle.hub_core.specs.declared.phase.Phase.TheVariants as phases
 
 module _ {F : Type 0} (S : Summary F) (W : Profile F) where
   -- as many bytes of the hello as were written are taken
@@ -69,10 +69,10 @@ module _ {F : Type 0} (S : Summary F) (W : Profile F) where
 pub known-counted : (P : Peer) (g : GreetingState) (b : Box (SessionState prints.Counted) Global) →
     is_counted g.came ≡ true →
     Knows counted_lanes counted_profile (responding P) b.value g.came (take g.said counted_profile.hello) →
-    Knowing P (stages.Counted b) g.came (told g)
+    Knowing P (phases.Counted b) g.came (told g)
 known-counted P g b is k = rw is k
 
 pub known-plain : (P : Peer) (g : GreetingState) (b : Box (SessionState Lanes) Global) → is_counted g.came ≡ false →
     Knows two_lanes two_lane_profile (responding P) b.value g.came (take g.said two_lane_profile.hello) →
-    Knowing P (stages.Plain b) g.came (told g)
+    Knowing P (phases.Plain b) g.came (told g)
 known-plain P g b is k = rw is k

@@ -19,7 +19,7 @@ pub record HubState (I O : Type 0) : Type 0 where
   pub limits : HubLimits
 
 abbrev pub kept : {I O : Type 0} → PeerState I O → ℕ
-kept p = kept_in p.stage
+kept p = kept_in p.phase
 
 abbrev pub held_by : {I O : Type 0} → Slab (PeerState I O) → ℕ
 held_by peers = total kept peers.slots
@@ -41,4 +41,4 @@ OthersStay old new key = (other : ℕ) → other ≢ key → get new other ≡ g
 
 -- it was silent for longer than it may be, or it has been there for longer
 abbrev pub is_late : {I O : Type 0} → HubLimits → ℕ → PeerState I O → Bool
-is_late limits now p = nat_lt limits.idle (now - p.heard) || nat_lt limits.whole (now - p.arrived)
+is_late limits now p = nat_lt limits.patience (now - p.heard) || nat_lt limits.session (now - p.arrived)

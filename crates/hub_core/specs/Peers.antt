@@ -1,13 +1,13 @@
 -- What is known of a peer, by all bytes that were read of it and all that were written to it.
---     Knowing P stage pushed taken        all of it, where its session speaks of P
+--     Knowing P phase pushed taken        all of it, where its session speaks of P
 --     Goes old new unread left held holds read said lost      what a call does: the bytes read are pushed and those
 --                                         written are taken, in order; lost were read and not pushed
 --     GoesSo .. result                    nothing was lost, and the bytes are counted, unless the call failed
---     LeavesOff stage r w result          why a call left off, and which way failed where one did
+--     LeavesOff phase r w result          why a call left off, and which way failed where one did
 --     CountsSo p q now result             when it was heard, and how many bytes came since our last message
---     IsChosen stage came                 the session is of the profile that these bytes choose
+--     IsChosen phase came                 the session is of the profile that these bytes choose
 --     Opens P old new                     the session of a greeting was opened
---     version_after stage was given       the version that a peer's session speaks of then
+--     version_after phase was given       the version that a peer's session speaks of then
 --     kept_in, sent_in, bound_in          what it keeps in memory, how many messages were said to it, and may be
 --     owes, state_in, goes_on, Learns     whether text is made and not written, how its session stands, whether it goes
 --                                         on, and what it has learned
@@ -30,33 +30,31 @@ use Rattle.session_core.specs.Kept.{kept_by}
 use Rattle.session_core.specs.Sessions.{SessionState, Knows, is_open}
 use Rattle.session_core.specs.declared.state.State.{State}
 use Rattle.session_core.specs.declared.state.State.TheVariants as states
-use Rattle.session_core.specs.Links.{count_of, Fails, IsWaiting, IsOver, IsMore}
+use Rattle.session_core.specs.Links.{count_of, Fails, StandsAt}
 use Rattle.session_core.specs.Polls.{Poll}
 use Rattle.session_core.specs.declared.fault.LinkFault.{LinkFault}
 use Rattle.session_core.specs.declared.polled.Last.{Last}
 use Rattle.session_core.specs.declared.polled.Last.TheVariants as lasts
+use Rattle.session_core.specs.declared.pumped.Pumped.{Pumped}
 use Rattle.hub_core.specs.Greetings.{is_counted, told}
 use Rattle.hub_core.specs.Steps.{LeavesGreeting}
-use Rattle.hub_core.specs.declared.step.Step.{Step}
-use Rattle.hub_core.specs.declared.step.StepPause.{StepPause}
-use Rattle.hub_core.specs.declared.step.StepPause.TheVariants as pauses
-use Rattle.hub_core.specs.declared.stage.Stage.{Stage}
-use Rattle.hub_core.specs.declared.stage.Stage.TheVariants as stages
+use Rattle.hub_core.specs.declared.phase.Phase.{Phase}
+use Rattle.hub_core.specs.declared.phase.Phase.TheVariants as phases
 
-abbrev pub Knowing : Peer → Stage → List ℕ → List ℕ → Type 0
-Knowing P (stages.Greeting g) pushed taken = (pushed ≡ g.came) × (taken ≡ told g)
-Knowing P (stages.Plain c) pushed taken = Knows two_lanes two_lane_profile (responding P) c.value pushed taken
-Knowing P (stages.Counted c) pushed taken = Knows counted_lanes counted_profile (responding P) c.value pushed taken
+abbrev pub Knowing : Peer → Phase → List ℕ → List ℕ → Type 0
+Knowing P (phases.Greeting g) pushed taken = (pushed ≡ g.came) × (taken ≡ told g)
+Knowing P (phases.Plain c) pushed taken = Knows two_lanes two_lane_profile (responding P) c.value pushed taken
+Knowing P (phases.Counted c) pushed taken = Knows counted_lanes counted_profile (responding P) c.value pushed taken
 
-pub record Goes (old new : Stage) (unread left held holds : Option (List ℕ)) (read said lost : List ℕ) : Type 0 where
+pub record Goes (old new : Phase) (unread left held holds : Option (List ℕ)) (read said lost : List ℕ) : Type 0 where
   pub consumed : Consumes unread left (read ++ lost)
   pub appended : Appends held holds said
   -- whatever was read and written before, this was read and written after it
   pub knows : (P : Peer) (pushed taken : List ℕ) → Knowing P old pushed taken →
       Knowing P new (pushed ++ read) (taken ++ said)
 
-abbrev pub GoesSo : Stage → Stage → Option (List ℕ) → Option (List ℕ) → Option (List ℕ) → Option (List ℕ) →
-    Result Step LinkFault → Type 0
+abbrev pub GoesSo : Phase → Phase → Option (List ℕ) → Option (List ℕ) → Option (List ℕ) → Option (List ℕ) →
+    Result Pumped LinkFault → Type 0
 GoesSo old new unread left held holds (Ok s) = (read said : List ℕ) × Goes old new unread left held holds read said []
     × (s.read ≡ count_of read) × (s.written ≡ count_of said)
 GoesSo old new unread left held holds (Err f) =
@@ -64,87 +62,81 @@ GoesSo old new unread left held holds (Err f) =
 
 -- ---- why a call left off
 
-abbrev pub LeavesSession : {F : Type 0} → Profile F → StepPause → SessionState F → Last → Last → ℕ → ℕ → Type 0
-LeavesSession W pauses.Waits d r w read written = IsWaiting W d r w
-LeavesSession W pauses.More d r w read written = IsMore W d r w read written
-LeavesSession W pauses.Over d r w read written = IsOver W d
-LeavesSession W pauses.Opens d r w read written = ⊥
-
-abbrev pub LeavesOff : Stage → Last → Last → Result Step LinkFault → Type 0
-LeavesOff (stages.Greeting g) r w result = LeavesGreeting g r w result
-LeavesOff (stages.Plain c) r w (Ok s) = LeavesSession two_lane_profile s.pause c.value r w s.read s.written
-LeavesOff (stages.Counted c) r w (Ok s) = LeavesSession counted_profile s.pause c.value r w s.read s.written
-LeavesOff (stages.Plain c) r w (Err f) = Fails {X = Step} (Err f) r w
-LeavesOff (stages.Counted c) r w (Err f) = Fails {X = Step} (Err f) r w
+abbrev pub LeavesOff : Phase → Last → Last → Result Pumped LinkFault → Type 0
+LeavesOff (phases.Greeting g) r w result = LeavesGreeting g r w result
+LeavesOff (phases.Plain c) r w (Ok s) = StandsAt two_lane_profile s.pause c.value r w s.read s.written
+LeavesOff (phases.Counted c) r w (Ok s) = StandsAt counted_profile s.pause c.value r w s.read s.written
+LeavesOff (phases.Plain c) r w (Err f) = Fails {X = Pumped} (Err f) r w
+LeavesOff (phases.Counted c) r w (Err f) = Fails {X = Pumped} (Err f) r w
 
 -- ---- the profile
 
-abbrev pub IsChosen : Stage → List ℕ → Type 0
-IsChosen (stages.Greeting g) came = ⊥
-IsChosen (stages.Plain c) came = is_counted came ≡ false
-IsChosen (stages.Counted c) came = is_counted came ≡ true
+abbrev pub IsChosen : Phase → List ℕ → Type 0
+IsChosen (phases.Greeting g) came = ⊥
+IsChosen (phases.Plain c) came = is_counted came ≡ false
+IsChosen (phases.Counted c) came = is_counted came ≡ true
 
 -- where it was open already nothing has changed
-abbrev pub Opens : Peer → Stage → Stage → Type 0
-Opens P (stages.Greeting g) new = Knowing P new g.came (told g) × IsChosen new g.came
-Opens P (stages.Plain c) new = new ≡ stages.Plain c
-Opens P (stages.Counted c) new = new ≡ stages.Counted c
+abbrev pub Opens : Peer → Phase → Phase → Type 0
+Opens P (phases.Greeting g) new = Knowing P new g.came (told g) × IsChosen new g.came
+Opens P (phases.Plain c) new = new ≡ phases.Plain c
+Opens P (phases.Counted c) new = new ≡ phases.Counted c
 
 -- a session that is opened speaks of this version, and one that was open of the one it spoke of
-abbrev pub version_after : Stage → ℕ → ℕ → ℕ
-version_after (stages.Greeting g) was given = given
-version_after (stages.Plain c) was given = was
-version_after (stages.Counted c) was given = was
+abbrev pub version_after : Phase → ℕ → ℕ → ℕ
+version_after (phases.Greeting g) was given = given
+version_after (phases.Plain c) was given = was
+version_after (phases.Counted c) was given = was
 
 -- ---- what a peer has
 
 -- the bytes that came, or what the session keeps
-abbrev pub kept_in : Stage → ℕ
-kept_in (stages.Greeting g) = min (length g.came) (2 ^ 64 - 1)
-kept_in (stages.Plain c) = kept_by c.value
-kept_in (stages.Counted c) = kept_by c.value
+abbrev pub kept_in : Phase → ℕ
+kept_in (phases.Greeting g) = min (length g.came) (2 ^ 64 - 1)
+kept_in (phases.Plain c) = kept_by c.value
+kept_in (phases.Counted c) = kept_by c.value
 
-abbrev pub sent_in : Stage → ℕ
-sent_in (stages.Greeting g) = 0
-sent_in (stages.Plain c) = c.value.talk.held.end.sent
-sent_in (stages.Counted c) = c.value.talk.held.end.sent
+abbrev pub sent_in : Phase → ℕ
+sent_in (phases.Greeting g) = 0
+sent_in (phases.Plain c) = c.value.talk.held.end.sent
+sent_in (phases.Counted c) = c.value.talk.held.end.sent
 
 -- how many messages its session says at most
-abbrev pub bound_in : Stage → ℕ
-bound_in (stages.Greeting g) = 0
-bound_in (stages.Plain c) =
+abbrev pub bound_in : Phase → ℕ
+bound_in (phases.Greeting g) = 0
+bound_in (phases.Plain c) =
     rank_by c.value.talk.held.steps (length c.value.talk.held.end.peer.items) + most_of Responder
-bound_in (stages.Counted c) =
+bound_in (phases.Counted c) =
     rank_by c.value.talk.held.steps (length c.value.talk.held.end.peer.items) + most_of Responder
 
 -- text of its session is made and not written
-abbrev pub owes : Stage → Bool
-owes (stages.Greeting g) = false
-owes (stages.Plain c) = nat_lt 0 (length c.value.talk.outbox.ready)
-owes (stages.Counted c) = nat_lt 0 (length c.value.talk.outbox.ready)
+abbrev pub owes : Phase → Bool
+owes (phases.Greeting g) = false
+owes (phases.Plain c) = nat_lt 0 (length c.value.talk.outbox.ready)
+owes (phases.Counted c) = nat_lt 0 (length c.value.talk.outbox.ready)
 
-abbrev pub state_in : Stage → Option State
-state_in (stages.Greeting g) = None
-state_in (stages.Plain c) = Some c.value.talk.state
-state_in (stages.Counted c) = Some c.value.talk.state
+abbrev pub state_in : Phase → Option State
+state_in (phases.Greeting g) = None
+state_in (phases.Plain c) = Some c.value.talk.state
+state_in (phases.Counted c) = Some c.value.talk.state
 
 -- its session is opened and goes on
-abbrev pub goes_on : Stage → Bool
-goes_on (stages.Greeting g) = false
-goes_on (stages.Plain c) = is_open c.value.talk.state
-goes_on (stages.Counted c) = is_open c.value.talk.state
+abbrev pub goes_on : Phase → Bool
+goes_on (phases.Greeting g) = false
+goes_on (phases.Plain c) = is_open c.value.talk.state
+goes_on (phases.Counted c) = is_open c.value.talk.state
 
 -- its session has ended, and has learned this
-abbrev pub Learns : Stage → Knowledge → Type 0
-Learns (stages.Greeting g) k = ⊥
-Learns (stages.Plain c) k = (c.value.talk.state ≡ states.Ended) × (k ≡ c.value.talk.held.end.learned)
-Learns (stages.Counted c) k = (c.value.talk.state ≡ states.Ended) × (k ≡ c.value.talk.held.end.learned)
+abbrev pub Learns : Phase → Knowledge → Type 0
+Learns (phases.Greeting g) k = ⊥
+Learns (phases.Plain c) k = (c.value.talk.state ≡ states.Ended) × (k ≡ c.value.talk.held.end.learned)
+Learns (phases.Counted c) k = (c.value.talk.state ≡ states.Ended) × (k ≡ c.value.talk.held.end.learned)
 
 pub record PeerState (I O : Type 0) : Type 0 where
   -- so many bytes are read of it at most
   pub reader : Poll (Take I)
   pub writer : Poll O
-  pub stage : Stage
+  pub phase : Phase
   -- the version of the set that its session speaks of
   pub version : ℕ
   pub serial : ℕ
@@ -164,15 +156,15 @@ abbrev pub is_from : {I O : Type 0} → ℕ → PeerState I O → Bool
 is_from origin p = is_same origin p.origin
 
 -- when it was heard, and how many bytes came since our last message, after a step made now
-abbrev pub heard_by : ℕ → Step → ℕ → ℕ
+abbrev pub heard_by : ℕ → Pumped → ℕ → ℕ
 heard_by heard s now = if nat_eq s.read 0 && nat_eq s.written 0 then heard else now
 
-abbrev pub long_by : ℕ → Step → Bool → ℕ
+abbrev pub long_by : ℕ → Pumped → Bool → ℕ
 long_by long s is_same = if is_same then min (long + s.read) (2 ^ 64 - 1) else 0
 
-abbrev pub CountsSo : {I O : Type 0} → PeerState I O → PeerState I O → ℕ → Result Step LinkFault → Type 0
+abbrev pub CountsSo : {I O : Type 0} → PeerState I O → PeerState I O → ℕ → Result Pumped LinkFault → Type 0
 CountsSo p q now (Ok s) = (q.heard ≡ heard_by p.heard s now)
-    × (q.long ≡ long_by p.long s (nat_eq (sent_in q.stage) (sent_in p.stage)))
+    × (q.long ≡ long_by p.long s (nat_eq (sent_in q.phase) (sent_in p.phase)))
 CountsSo p q now (Err f) = (q.heard ≡ p.heard) × (q.long ≡ p.long)
 
 -- one that has just come
@@ -180,7 +172,7 @@ abbrev pub fresh : {I O : Type 0} → Take I → O → ℕ → ℕ → PeerState
 fresh reader writer serial now = record {
   reader = record { way = reader; last = lasts.Unknown };
   writer = record { way = writer; last = lasts.Unknown };
-  stage = stages.Greeting (record { came = []; said = 0; over = false });
+  phase = phases.Greeting (record { came = []; said = 0; over = false });
   version = 0;
   serial = serial;
   heard = now;

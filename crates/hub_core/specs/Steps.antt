@@ -1,7 +1,4 @@
 -- What one call did.
---     pause_at last fault      how a read or a write leaves off
---     both_of s t              two calls, one after the other
---     pause_in, step_in        those of a session
 --     is_ready g               its session is to be opened
 --     IsIdle, IsBusy, IsDone   a greeting that waits, that goes on soon, that asks for its session
 --     LeavesGreeting .. result why a greeting's call left off, and which way failed where one did
@@ -13,28 +10,13 @@ use Rattle.session_core.specs.declared.fault.LinkFault.{LinkFault}
 use Rattle.session_core.specs.declared.polled.Last.{Last}
 use Rattle.session_core.specs.declared.polled.Last.TheVariants as lasts
 use Rattle.session_core.specs.declared.pumped.Pause.{Pause}
-use Rattle.session_core.specs.declared.pumped.Pause.TheVariants as ends
+use Rattle.session_core.specs.declared.pumped.Pause.TheVariants as pauses
 use Rattle.session_core.specs.declared.pumped.Pumped.{Pumped}
 use Rattle.hub_core.specs.Firsts.{is_due}
 use Rattle.hub_core.specs.Greetings.{GreetingState, Greets}
-use Rattle.hub_core.specs.declared.step.StepPause.{StepPause}
-use Rattle.hub_core.specs.declared.step.StepPause.TheVariants as pauses
-use Rattle.hub_core.specs.declared.step.Step.{Step}
-
-abbrev pub pause_at : Last → LinkFault → Result StepPause LinkFault
-pause_at lasts.Waits fault = Ok pauses.Waits
-pause_at lasts.Failed fault = Err fault
-pause_at last fault = Ok pauses.More
-
-abbrev pub both_of : Step → Step → Step
-both_of s t = record {
-  pause = t.pause;
-  read = min (s.read + t.read) (2 ^ 64 - 1);
-  written = min (s.written + t.written) (2 ^ 64 - 1);
-}
 
 abbrev pub GreetsSo : GreetingState → GreetingState → Option (List ℕ) → Option (List ℕ) → Option (List ℕ) →
-    Option (List ℕ) → Result Step LinkFault → Type 0
+    Option (List ℕ) → Result Pumped LinkFault → Type 0
 GreetsSo g h unread left held holds (Ok s) = (read said : List ℕ) × Greets g h unread left held holds read said []
     × (s.read ≡ count_of read) × (s.written ≡ count_of said)
 GreetsSo g h unread left held holds (Err f) =
@@ -59,22 +41,12 @@ IsBusy g r w read written =
 abbrev pub IsDone : GreetingState → Type 0
 IsDone g = (is_ready g ≡ true) × (4 ≤ length g.came → g.said ≡ 4)
 
-abbrev pub LeavesAt : StepPause → GreetingState → Last → Last → ℕ → ℕ → Type 0
+abbrev pub LeavesAt : Pause → GreetingState → Last → Last → ℕ → ℕ → Type 0
 LeavesAt pauses.Waits g r w read written = IsIdle g r w
 LeavesAt pauses.More g r w read written = IsBusy g r w read written
 LeavesAt pauses.Opens g r w read written = IsDone g
 LeavesAt pauses.Over g r w read written = ⊥
 
-abbrev pub LeavesGreeting : GreetingState → Last → Last → Result Step LinkFault → Type 0
+abbrev pub LeavesGreeting : GreetingState → Last → Last → Result Pumped LinkFault → Type 0
 LeavesGreeting g r w (Ok s) = LeavesAt s.pause g r w s.read s.written
-LeavesGreeting g r w (Err f) = Fails {X = Step} (Err f) r w
-
--- the step of a session
-abbrev pub pause_in : Pause → StepPause
-pause_in ends.Waits = pauses.Waits
-pause_in ends.More = pauses.More
-pause_in ends.Over = pauses.Over
-
-abbrev pub step_in : Result Pumped LinkFault → Result Step LinkFault
-step_in (Ok p) = Ok (record { pause = pause_in p.pause; read = p.read; written = p.written })
-step_in (Err f) = Err f
+LeavesGreeting g r w (Err f) = Fails {X = Pumped} (Err f) r w

@@ -9,9 +9,8 @@ ghost use Rattle.hub_core.specs.Greetings.{Greets, own_hello};
 ghost use Rattle.hub_core.specs.Steps.{GreetsSo, LeavesGreeting, is_ready};
 
 use crate::due::{HELLO, is_counted, is_due, rest_of};
-use crate::step::{Step, StepPause, both, pause_of};
 use digest_core::{Counted, Fingerprint, Summary};
-use session_core::{Last, LinkFault, Polled};
+use session_core::{Last, LinkFault, Pause, Polled, Pumped, both, pause_of};
 use std::alloc::{AllocError, Global};
 use std::io::{Read, Write};
 use std::marker::Model;
@@ -92,7 +91,7 @@ impl Greeting {
     }
 
     /// Writes once of our hello.
-    fn say_once<O: Write>(&mut self, writer: &mut Polled<O>) -> Result<Step, LinkFault>
+    fn say_once<O: Write>(&mut self, writer: &mut Polled<O>) -> Result<Pumped, LinkFault>
         requires four { 4 ≤ length self.old.came }
         requires some { self.old.said < 4 }
         ensures leaves { (r : _) → LeavesGreeting self.new r writer.new.last result }
@@ -103,7 +102,7 @@ impl Greeting {
         let count = writer.write(rest_of(&hello, self.said));
         self.said += count;
         let pause = pause_of(writer.last(), LinkFault::Write)?;
-        Ok(Step {
+        Ok(Pumped {
             pause,
             read: 0,
             written: count as u64,
@@ -128,7 +127,7 @@ impl Greeting {
         &mut self,
         reader: &mut Polled<I>,
         room: &mut [u8],
-    ) -> Result<Step, LinkFault>
+    ) -> Result<Pumped, LinkFault>
         requires room { 0 < length room.old }
         requires written { 4 ≤ length self.old.came → self.old.said ≡ 4 }
         requires waits { is_ready self.old ≡ false }
@@ -140,7 +139,7 @@ impl Greeting {
         let count = reader.read(room);
         self.keep(&room[..count], reader.last() == Last::Ended)?;
         let pause = pause_of(reader.last(), LinkFault::Read)?;
-        Ok(Step {
+        Ok(Pumped {
             pause,
             read: count as u64,
             written: 0,
@@ -153,7 +152,7 @@ impl Greeting {
         reader: &mut Polled<I>,
         writer: &mut Polled<O>,
         room: &mut [u8],
-    ) -> Result<Step, LinkFault>
+    ) -> Result<Pumped, LinkFault>
         requires room { 0 < length room.old }
         ensures moved { GreetsSo self.old self.new (I.remaining reader.old.way) (I.remaining reader.new.way)
             (O.contents writer.old.way) (O.contents writer.new.way) result }
@@ -164,8 +163,8 @@ impl Greeting {
             return self.say_once(writer);
         }
         if self.over || is_due(&self.came) {
-            return Ok(Step {
-                pause: StepPause::Opens,
+            return Ok(Pumped {
+                pause: Pause::Opens,
                 read: 0,
                 written: 0,
             });
@@ -179,7 +178,7 @@ impl Greeting {
         reader: &mut Polled<I>,
         writer: &mut Polled<O>,
         room: &mut [u8],
-    ) -> Result<Step, LinkFault>
+    ) -> Result<Pumped, LinkFault>
         requires room { 0 < length room.old }
         ensures moved { GreetsSo self.old self.new (I.remaining reader.old.way) (I.remaining reader.new.way)
             (O.contents writer.old.way) (O.contents writer.new.way) result }
@@ -188,7 +187,7 @@ impl Greeting {
     {
         let mut step = self.move_once(reader, writer, room)?;
         for _turn in 1..TURNS {
-            if step.pause != StepPause::More {
+            if step.pause != Pause::More {
                 return Ok(step);
             }
             let next = self.move_once(reader, writer, room)?;

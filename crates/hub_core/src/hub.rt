@@ -15,9 +15,8 @@ ghost use Rattle.hub_core.specs.Peers.{CountsSo, GoesSo, LeavesOff, Opens, is_fr
 use crate::best::{Measure, better};
 use crate::limits::HubLimits;
 use crate::peer::Peer;
-use crate::step::Step;
 use range_tree::Tree;
-use session_core::LinkFault;
+use session_core::{LinkFault, Pumped};
 use slab::Slab;
 use std::alloc::{AllocError, Global};
 use std::io::{Read, Write};
@@ -47,9 +46,9 @@ impl<I, O> Model for Hub<I, O> {
 
 /// Whether the time of a peer is over that was heard and came then.
 fn is_late(limits: &HubLimits, now: u64, heard: u64, arrived: u64) -> bool
-    ensures { result ≡ (nat_lt limits.now.idle (now - heard) || nat_lt limits.now.whole (now - arrived)) }
+    ensures { result ≡ (nat_lt limits.now.patience (now - heard) || nat_lt limits.now.session (now - arrived)) }
 {
-    now.saturating_sub(heard) > limits.idle || now.saturating_sub(arrived) > limits.whole
+    now.saturating_sub(heard) > limits.patience || now.saturating_sub(arrived) > limits.session
 }
 
 /// How old the last byte of a peer is, as a number.
@@ -161,13 +160,13 @@ impl<I: Read, O: Write> Hub<I, O> {
         key: usize,
         room: &mut [u8],
         now: u64,
-    ) -> Option<Result<Step, LinkFault>>
+    ) -> Option<Result<Pumped, LinkFault>>
         requires room { 0 < length room.old }
         ensures stays { IfSome result (λ did. (p q : _) → get self.old.peers key ≡ Some p →
-            get self.new.peers key ≡ Some q → GoesSo p.stage q.stage (take_remaining I.remaining p.reader.way)
+            get self.new.peers key ≡ Some q → GoesSo p.phase q.phase (take_remaining I.remaining p.reader.way)
             (take_remaining I.remaining q.reader.way) (O.contents p.writer.way) (O.contents q.writer.way) did) }
         ensures leaves { IfSome result (λ did. (q : _) → get self.new.peers key ≡ Some q →
-            LeavesOff q.stage q.reader.last q.writer.last did) }
+            LeavesOff q.phase q.reader.last q.writer.last did) }
         ensures counts { IfSome result (λ did. (p q : _) → get self.old.peers key ≡ Some p →
             get self.new.peers key ≡ Some q → CountsSo p q now did) }
         ensures there { IsSome (get self.new.peers key) ↔ IsSome (get self.old.peers key) }
@@ -197,9 +196,9 @@ impl<I: Read, O: Write> Hub<I, O> {
         requires { length (tree_items store) ≤ (arc_value accepted.now).table.cap }
         ensures opens { IfSome result (λ did. OnOk did ((p q : _) → get self.old.peers key ≡ Some p →
             get self.new.peers key ≡ Some q →
-            Opens (peer_of (arc_value accepted.now) (tree_items store)) p.stage q.stage)) }
+            Opens (peer_of (arc_value accepted.now) (tree_items store)) p.phase q.phase)) }
         ensures version { IfSome result (λ did. OnOk did ((p q : _) → get self.old.peers key ≡ Some p →
-            get self.new.peers key ≡ Some q → q.version ≡ version_after p.stage p.version version)) }
+            get self.new.peers key ≡ Some q → q.version ≡ version_after p.phase p.version version)) }
         ensures memory { IfSome result (λ did. OnErr did (get self.new.peers key ≡ get self.old.peers key)) }
         ensures there { IsSome (get self.new.peers key) ↔ IsSome (get self.old.peers key) }
         ensures others { OthersStay self.old.peers self.new.peers key }

@@ -9,8 +9,7 @@ mod limits;
 mod opening;
 mod origins;
 mod peer;
-mod stage;
-mod step;
+mod phase;
 
 pub use due::HELLO;
 pub use greeting::Greeting;
@@ -18,5 +17,4 @@ pub use hub::Hub;
 pub use limits::HubLimits;
 pub use origins::Origins;
 pub use peer::Peer;
-pub use stage::Stage;
-pub use step::{Step, StepPause};
+pub use phase::Phase;

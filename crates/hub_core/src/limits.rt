@@ -6,7 +6,7 @@ pub struct HubLimits {
     /// How many bytes of memory are counted for all of them, at most.
     pub memory: u64,
     /// How many milliseconds a peer may be silent.
-    pub idle: u64,
+    pub patience: u64,
     /// How many milliseconds a session may take.
-    pub whole: u64,
+    pub session: u64,
 }

@@ -11,7 +11,7 @@ ghost use Rattle.hub_core.specs.Greetings.{told};
 ghost use Rattle.hub_core.specs.Peers.{Knowing, IsChosen};
 
 use crate::greeting::Greeting;
-use crate::stage::Stage;
+use crate::phase::Phase;
 use digest_core::Summary;
 use ends_core::Responding;
 use range_tree::Tree;
@@ -85,17 +85,17 @@ pub(crate) fn opened(
     accepted: &Arc<Accepted>,
     store: Tree,
     greeting: &Greeting,
-) -> Result<Stage, AllocError>
+) -> Result<Phase, AllocError>
     requires { length (tree_items store) ≤ (arc_value accepted.now).table.cap }
-    ensures knows { IfOk result (λ stage. Knowing (peer_of (arc_value accepted.now) (tree_items store)) stage
+    ensures knows { IfOk result (λ phase. Knowing (peer_of (arc_value accepted.now) (tree_items store)) phase
         greeting.now.came (told greeting.now)) }
-    ensures chosen { IfOk result (λ stage. IsChosen stage greeting.now.came) }
+    ensures chosen { IfOk result (λ phase. IsChosen phase greeting.now.came) }
 {
     let accepted = Arc::try_clone(accepted)?;
     if greeting.is_counted() {
         let session = begun(alloc, accepted, store, greeting)?;
-        return Ok(Stage::Counted(Box::new(alloc, session)?));
+        return Ok(Phase::Counted(Box::new(alloc, session)?));
     }
     let session = begun(alloc, accepted, store, greeting)?;
-    Ok(Stage::Plain(Box::new(alloc, session)?))
+    Ok(Phase::Plain(Box::new(alloc, session)?))
 }

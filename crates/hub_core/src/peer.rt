@@ -12,11 +12,10 @@ ghost use Rattle.hub_core.specs.Peers.{long_by, sent_in, state_in, version_after
 
 use crate::greeting::Greeting;
 use crate::opening::opened;
-use crate::stage::Stage;
-use crate::step::Step;
+use crate::phase::Phase;
 use ends_core::Learned;
 use range_tree::Tree;
-use session_core::{LinkFault, Polled, State};
+use session_core::{LinkFault, Polled, Pumped, State};
 use std::alloc::{AllocError, Global};
 use std::io::{Read, Take, Write};
 use std::marker::Model;
@@ -31,7 +30,7 @@ const LONG: u64 = 65_536;
 pub struct Peer<I, O> {
     reader: Polled<Take<I>>,
     writer: Polled<O>,
-    stage: Stage,
+    phase: Phase,
     version: usize,
     serial: u64,
     heard: u64,
@@ -48,7 +47,7 @@ impl<I, O> Model for Peer<I, O> {
     ghost view = { λ p. record {
       reader = p.reader;
       writer = p.writer;
-      stage = p.stage;
+      phase = p.phase;
       version = p.version;
       serial = p.serial;
       heard = p.heard;
@@ -59,7 +58,7 @@ impl<I, O> Model for Peer<I, O> {
 }
 
 /// When a peer was heard last, where this step was made now.
-fn heard_at(heard: u64, step: Step, now: u64) -> u64
+fn heard_at(heard: u64, step: Pumped, now: u64) -> u64
     ensures { result ≡ heard_by heard step now }
 {
     if step.read == 0 && step.written == 0 {
@@ -69,7 +68,7 @@ fn heard_at(heard: u64, step: Step, now: u64) -> u64
 }
 
 /// How many bytes came since our last message, where none was said in this step, or one was.
-fn long_after(long: u64, step: Step, is_same: bool) -> u64
+fn long_after(long: u64, step: Pumped, is_same: bool) -> u64
     ensures { result ≡ long_by long step is_same }
 {
     if !is_same {
@@ -93,7 +92,7 @@ impl<I: Read, O: Write> Peer<I, O> {
         Peer {
             reader: Polled::new(reader.take(most_bytes)),
             writer: Polled::new(writer),
-            stage: Stage::Greeting(Greeting::new(alloc)),
+            phase: Phase::Greeting(Greeting::new(alloc)),
             version: 0,
             serial,
             heard: now,
@@ -111,24 +110,24 @@ impl<I: Read, O: Write> Peer<I, O> {
     }
 
     /// How far it is.
-    pub fn stage(&self) -> &Stage
-        ensures { result.now ≡ self.now.stage }
+    pub fn phase(&self) -> &Phase
+        ensures { result.now ≡ self.now.phase }
     {
-        &self.stage
+        &self.phase
     }
 
     /// How many bytes of memory are counted for it: those of a greeting, or what the session keeps.
     pub fn kept(&self) -> u64
-        ensures { result ≡ kept_in self.now.stage }
+        ensures { result ≡ kept_in self.now.phase }
     {
-        self.stage.kept()
+        self.phase.kept()
     }
 
     /// How many messages were said to it.
     pub fn sent(&self) -> u32
-        ensures { result ≡ sent_in self.now.stage }
+        ensures { result ≡ sent_in self.now.phase }
     {
-        self.stage.sent()
+        self.phase.sent()
     }
 
     /// What is read of it.
@@ -147,17 +146,17 @@ impl<I: Read, O: Write> Peer<I, O> {
 
     /// What its session has learned, where it has ended.
     pub fn learned(&self) -> Option<&Learned>
-        ensures learned { IfSome result (λ k. Learns self.now.stage k.now) }
-        ensures none { IfNone result (state_in self.now.stage ≢ Some states.Ended) }
+        ensures learned { IfSome result (λ k. Learns self.now.phase k.now) }
+        ensures none { IfNone result (state_in self.now.phase ≢ Some states.Ended) }
     {
-        self.stage.learned()
+        self.phase.learned()
     }
 
     /// How its session stands, if it is opened.
     pub fn state(&self) -> Option<State>
-        ensures { result ≡ state_in self.now.stage }
+        ensures { result ≡ state_in self.now.phase }
     {
-        self.stage.state()
+        self.phase.state()
     }
 
     /// The number of the version that its session speaks of; 0 before it is opened.
@@ -213,18 +212,18 @@ impl<I: Read, O: Write> Peer<I, O> {
     }
 
     /// How far it is, and both ways of its stream.
-    pub fn into_parts(self) -> (Stage, I, O)
-        ensures stage { result.0 ≡ self.stage }
+    pub fn into_parts(self) -> (Phase, I, O)
+        ensures phase { result.0 ≡ self.phase }
         ensures reader { result.1 ≡ take_inner self.reader.way }
         ensures writer { result.2 ≡ self.writer.way }
     {
         let Peer {
-            stage,
+            phase,
             reader,
             writer,
             ..
         } = self;
-        (stage, reader.into_inner().into_inner(), writer.into_inner())
+        (phase, reader.into_inner().into_inner(), writer.into_inner())
     }
 
     /// Its stream is ready again.
@@ -236,24 +235,24 @@ impl<I: Read, O: Write> Peer<I, O> {
     }
 
     /// Reads and writes what can be read and written: at most 16 reads and writes. Its stream may be ready again.
-    pub fn pump(&mut self, alloc: Global, room: &mut [u8], now: u64) -> Result<Step, LinkFault>
+    pub fn pump(&mut self, alloc: Global, room: &mut [u8], now: u64) -> Result<Pumped, LinkFault>
         requires room { 0 < length room.old }
-        ensures moved { GoesSo self.old.stage self.new.stage (take_remaining I.remaining self.old.reader.way)
+        ensures moved { GoesSo self.old.phase self.new.phase (take_remaining I.remaining self.old.reader.way)
             (take_remaining I.remaining self.new.reader.way) (O.contents self.old.writer.way)
             (O.contents self.new.writer.way) result }
-        ensures leaves { LeavesOff self.new.stage self.new.reader.last self.new.writer.last result }
+        ensures leaves { LeavesOff self.new.phase self.new.reader.last self.new.writer.last result }
         ensures counts { CountsSo self.old self.new now result }
         ensures same { (self.new.version ≡ self.old.version) × (self.new.serial ≡ self.old.serial)
             × (self.new.arrived ≡ self.old.arrived) × (self.new.origin ≡ self.old.origin) }
         ensures room { length room.new ≡ length room.old }
     {
         self.wake();
-        let sent = self.stage.sent();
+        let sent = self.phase.sent();
         let step = self
-            .stage
+            .phase
             .pump(alloc, &mut self.reader, &mut self.writer, room)?;
         self.heard = heard_at(self.heard, step, now);
-        self.long = long_after(self.long, step, self.stage.sent() == sent);
+        self.long = long_after(self.long, step, self.phase.sent() == sent);
         Ok(step)
     }
 
@@ -266,17 +265,17 @@ impl<I: Read, O: Write> Peer<I, O> {
         version: usize,
     ) -> Result<(), AllocError>
         requires { length (tree_items store) ≤ (arc_value accepted.now).table.cap }
-        ensures opens { OnOk result (Opens (peer_of (arc_value accepted.now) (tree_items store)) self.old.stage
-            self.new.stage) }
-        ensures version { OnOk result (self.new.version ≡ version_after self.old.stage self.old.version version) }
-        ensures same { self.new ≡ record self.old { stage = self.new.stage; version = self.new.version } }
+        ensures opens { OnOk result (Opens (peer_of (arc_value accepted.now) (tree_items store)) self.old.phase
+            self.new.phase) }
+        ensures version { OnOk result (self.new.version ≡ version_after self.old.phase self.old.version version) }
+        ensures same { self.new ≡ record self.old { phase = self.new.phase; version = self.new.version } }
         ensures memory { OnErr result (self.new ≡ self.old) }
     {
-        let Stage::Greeting(greeting) = &self.stage else {
+        let Phase::Greeting(greeting) = &self.phase else {
             return Ok(());
         };
-        let stage = opened(alloc, accepted, store, greeting)?;
-        self.stage = stage;
+        let phase = opened(alloc, accepted, store, greeting)?;
+        self.phase = phase;
         self.version = version;
         Ok(())
     }

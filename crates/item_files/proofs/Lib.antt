@@ -1,5 +1,4 @@
 mod Counts
 mod Cuts
 mod Pieces
-mod Places
 mod Took

@@ -11,22 +11,17 @@ use Rattle.toml.specs.declared.value.Value.{Value}
 use Rattle.definitions.specs.Strategies.{Table}
 use Rattle.definitions.specs.Ranks.{check_fault, found}
 use Rattle.strategy_core.specs.Texts.{IsDocument, IsText, table_in}
-use Rattle.strategy_core.specs.declared.fault.StrategyFault.TheVariants.{NotToml}
 use Rattle.strategy_check.specs.Checked.{Checked}
 use Rattle.strategy_check.specs.Refused.{fault_of}
-use Rattle.item_files.specs.StrategyFlaws.{flaw_in, whole}
 use Rattle.item_files.specs.declared.fault.SettingsFault.{SettingsFault}
-use Rattle.item_files.specs.declared.fault.SettingsFault.TheVariants.{CannotRead, BadItemLine, TooManyItems}
-use Rattle.item_files.specs.declared.fault.SettingsFault.TheVariants.{Strategy, Check, Memory}
+use Rattle.item_files.specs.declared.fault.SettingsFault.TheVariants.{NotToml, Strategy, Check, Memory}
 
 -- the first test that fails, and where; or why the strategy of the table is not accepted; or memory ran out
 abbrev pub IsUnfitIn : Members → SettingsFault → Type 0
-IsUnfitIn ms (Strategy flaw) = (table_in ms ≡ Err flaw.fault) × (flaw ≡ flaw_in ms flaw.fault)
+IsUnfitIn ms (Strategy flaw) = table_in ms ≡ Err flaw
 IsUnfitIn ms (Check f) = (T : Table) × (table_in ms ≡ Ok T) × (check_fault T ≡ Some (fault_of f))
 IsUnfitIn ms Memory = ⊤
-IsUnfitIn ms (CannotRead f) = ⊥
-IsUnfitIn ms (BadItemLine bad) = ⊥
-IsUnfitIn ms (TooManyItems cap count) = ⊥
+IsUnfitIn ms f = ⊥
 
 -- the strategy of the table, with the staircase of its least ranks
 abbrev pub IsAcceptedIn : Members → Result Checked SettingsFault → Type 0
@@ -34,23 +29,16 @@ IsAcceptedIn ms (Ok a) = (table_in ms ≡ Ok a.table) × (check_fault a.table �
 IsAcceptedIn ms (Err e) = IsUnfitIn ms e
 
 -- the text is no TOML; or memory ran out
-abbrev pub IsNoTable : List ℕ → SettingsFault → Type 0
-IsNoTable text (Strategy flaw) = (flaw ≡ whole NotToml) × (IsText text → ⊥)
-IsNoTable text Memory = ⊤
-IsNoTable text (Check f) = ⊥
-IsNoTable text (CannotRead f) = ⊥
-IsNoTable text (BadItemLine bad) = ⊥
-IsNoTable text (TooManyItems cap count) = ⊥
+abbrev pub IsNoTable : {X : Type 0} → List ℕ → Result X SettingsFault → Type 0
+IsNoTable text (Err NotToml) = IsText text → ⊥
+IsNoTable text (Err Memory) = ⊤
+IsNoTable text result = ⊥
 
 -- the table of a text, or that there is none
 abbrev pub Opens : Result (BTreeMap (String Global) Value) SettingsFault → List ℕ → Type 0
 Opens (Ok table) text = IsDocument text (table_view table)
-Opens (Err e) text = IsNoTable text e
-
-abbrev pub HasNoTable : List ℕ → Result Checked SettingsFault → Type 0
-HasNoTable text (Ok a) = ⊥
-HasNoTable text (Err e) = IsNoTable text e
+Opens (Err e) text = IsNoTable {X = Checked} text (Err e)
 
 -- the text is TOML, and its table gives this; or it is none
 abbrev pub IsAcceptedOf : List ℕ → Result Checked SettingsFault → Type 0
-IsAcceptedOf text result = HasNoTable text result ⊎ ((ms : Members) × IsDocument text ms × IsAcceptedIn ms result)
+IsAcceptedOf text result = IsNoTable text result ⊎ ((ms : Members) × IsDocument text ms × IsAcceptedIn ms result)

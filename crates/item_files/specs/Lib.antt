@@ -6,5 +6,4 @@ pub mod Files
 pub mod ItemFiles
 pub mod Loads
 pub mod PieceTexts
-pub mod StrategyFlaws
 pub mod StrayKeys

@@ -1,14 +1,14 @@
 //! Why a file of settings is refused, and where.
 
 ghost use Rattle.std.specs.Prelude.{◌≡◌};
-ghost use Rattle.item_files.specs.Faults.{of_check};
+ghost use Rattle.item_files.specs.Faults.{of_check, of_strategy};
 ghost use Rattle.item_files.specs.declared.fault.SettingsFault.TheVariants as faults;
 
 use crate::bad_line::BadLine;
-use crate::strategy_flaw::StrategyFlaw;
 use io_core::ReadFault;
 use std::alloc::{AllocError, AllocFailed};
 use strategy_check::{CheckError, CheckFault};
+use strategy_core::{StrategyError, StrategyFlaw};
 
 /// Why a file, or a text, is refused, and where.
 #[derive(Clone, Copy, Debug)]
@@ -24,7 +24,9 @@ pub enum SettingsFault {
         /// How many different items there are.
         count: usize,
     },
-    /// A strategy file holds no strategy: the first test that fails.
+    /// A strategy file is no TOML text.
+    NotToml,
+    /// A table is no strategy: the first test that fails, and where.
     Strategy(StrategyFlaw),
     /// A strategy is not accepted.
     Check(CheckFault),
@@ -39,6 +41,18 @@ impl From<CheckError> for SettingsFault {
         match error {
             CheckError::Fault(fault) => SettingsFault::Check(fault),
             CheckError::Memory => SettingsFault::Memory,
+        }
+    }
+}
+
+impl From<StrategyError> for SettingsFault {
+    ghost from_gives = { λ f e. e ≡ of_strategy f };
+
+    fn from(error: StrategyError) -> SettingsFault {
+        match error {
+            StrategyError::NotToml => SettingsFault::NotToml,
+            StrategyError::Fault(flaw) => SettingsFault::Strategy(flaw),
+            StrategyError::Memory => SettingsFault::Memory,
         }
     }
 }

@@ -13,8 +13,6 @@ mod piece;
 mod profile;
 mod reading;
 mod strategy_file;
-mod strategy_flaw;
-mod strategy_place;
 mod stray_keys;
 
 pub use bad_line::{BadLine, Front, LineFlaw};
@@ -27,5 +25,4 @@ pub use options::LoadOptions;
 pub use profile::WireProfile;
 pub use reading::{read_shards, read_shards_by};
 pub use strategy_file::{accepted_in, accepted_of, document, read_document, read_strategy};
-pub use strategy_flaw::{Key, NumberSpan, StrategyFlaw};
-pub use stray_keys::{KeyPlace, StrayKey, meant_key, stray_key};
+pub use stray_keys::{StrayKey, meant_key, stray_key};

@@ -10,7 +10,7 @@ use Rattle.std.proofs.Common.{append-nil}
 use Rattle.std.specs.Prelude.{fold}
 use Rattle.definitions.proofs.Lemmas.{fold-append}
 use Rattle.definitions.specs.Fingerprints.{Summary}
-use Rattle.definitions.specs.Messages.{Part, Message}
+use Rattle.definitions.specs.Messages.{Message}
 use Rattle.definitions.specs.Wire.{Profile, Event, Came, Ended, Failed}
 use Rattle.definitions.specs.Streams.{Standing, Before_hello, feed, messages_of}
 use Rattle.definitions.specs.Ends.{End, is_live}

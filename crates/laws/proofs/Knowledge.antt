@@ -13,7 +13,7 @@ use Rattle.std.proofs.Common.{sym, ap, ◌∙◌, arith, ◌<◌, zero, suc, ◌
 use Rattle.std.proofs.Common.{append_assoc}
 use Rattle.definitions.proofs.Words.{AllByRecursion, Item, contains, whole, IsSet, items_in, difference, Summary}
 use Rattle.definitions.proofs.Words.{IsExact, Part, Sum, Listing, Answer, Message, has_open, opening, Peer, reply_to}
-use Rattle.definitions.proofs.Words.{reply, learn, IsClearAt, talk_from, knows, of_first, IsClear, talk, sender}
+use Rattle.definitions.proofs.Words.{reply, learn, talk_from, knows, of_first, IsClear, talk, sender}
 use Rattle.definitions.proofs.Words.{Knowledge, nothing, and_then, of_second, IsHonest, KnowledgeIsExact, ListsSome}
 use Rattle.definitions.proofs.Words.{KnowledgeIsSound}
 use Rattle.definitions.proofs.Lemmas.{lt-ltb, ltb-true, append-nil, All-both}

@@ -38,3 +38,5 @@ pub mod Streams
 pub mod Made
 pub mod Kept
 pub mod Paid
+pub mod Spelled
+pub mod Meeting

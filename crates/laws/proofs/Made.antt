@@ -123,7 +123,7 @@ part_exact P real a made = grind (arith, length-append, length-items, items_exac
 
 -- ==== How long the bodies of lists are
 
-length-range_text : (X : Range) → IsRange X → length (range_text X) ≤ 130
+pub length-range_text : (X : Range) → IsRange X → length (range_text X) ≤ 130
 length-range_text X h = grind (arith, length-append)
 
 -- an item is a length byte and at most 64 bytes
@@ -133,7 +133,7 @@ length-texts_le [] h = omega arith
 length-texts_le (x ∷ xs) h = grind (arith, length-texts_le xs h.1, length-append)
 
 -- what holds of each element holds of those that are kept
-All-kept : {X : Type 0} (P : X → Type 0) (test : X → Bool) (xs : List X) → AllByRecursion P xs →
+pub All-kept : {X : Type 0} (P : X → Type 0) (test : X → Bool) (xs : List X) → AllByRecursion P xs →
     AllByRecursion P (filter test xs)
 All-kept P test [] h = tt
 All-kept P test (x ∷ xs) h = grind (arith, All-kept P test xs h.1)

@@ -138,7 +138,7 @@ pub reply_to_sum : {F : Type 0} (S : Summary F) (P : Peer) (X : Range) (g : F) (
     Holds (reply_to S P (Sum X g))
 reply_to_sum S P X g Holds equal cut list = grind arith
 
-All-into_map : {X Y : Type 0} (P : Y → Type 0) (g : X → Y) (xs : List X) → AllByRecursion (λ x. P (g x)) xs →
+pub All-into_map : {X Y : Type 0} (P : Y → Type 0) (g : X → Y) (xs : List X) → AllByRecursion (λ x. P (g x)) xs →
     AllByRecursion P (map g xs)
 All-into_map P g [] h = tt
 All-into_map P g (x ∷ xs) h = (h.0, All-into_map P g xs h.1)

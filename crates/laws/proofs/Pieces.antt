@@ -4,13 +4,12 @@
 -- in the parts of a cut are such lists (`flat_map-ranges`), and have the shares as their lengths (`cutup-AreCuts`).
 -- docs/LAWS.md: A cut is exact.
 use Rattle.std.proofs.Common.{◌≡◌, ℕ, ◌+◌, ◌<◌, List, [], ◌∷◌, ◌++◌, length, take, drop, map, refl, sym, ap, ◌∙◌}
-use Rattle.std.proofs.Common.{arith, subst, sum}
-use Rattle.std.specs.List.{flat_map, AllByRecursion}
+use Rattle.std.proofs.Common.{arith}
+use Rattle.std.specs.List.{flat_map}
 use Rattle.std.proofs.Math.Seq.{take-append_seam, drop-append_seam}
 use Rattle.std.proofs.lemmas.List.{append-nil, drop-take, length-map}
 use Rattle.definitions.proofs.Lemmas.{drop-drop}
-use Rattle.definitions.proofs.Words.{Item, Range, IsSet, items_in, inner_cuts, cutup, Bounds, bound_at, ranges_between}
-use Rattle.laws.specs.Ranks.{IsCut}
+use Rattle.definitions.proofs.Words.{Item, Range, items_in, inner_cuts, bound_at, ranges_between}
 use Rattle.laws.specs.Cutting.{CutsArePieces, pieces_at}
 use Rattle.laws.proofs.Cuts.{flat_map-ranges, cutup-AreCuts, length-ranges_between}
 

@@ -4,7 +4,6 @@
 -- asked of the digest.
 -- docs/LAWS.md: What the count of profile 2 gains.
 use Rattle.std.proofs.Common.{◌≡◌, ℕ, ◌<◌, ◌^◌, ◌%◌, ap, arith}
-use Rattle.definitions.specs.Fingerprints.{counted_lanes}
 use Rattle.laws.specs.Sizes.{CountsTellSizes}
 
 small : (a b : ℕ) → a < 2 ^ 32 → b < 2 ^ 32 → a % 2 ^ 32 ≡ b % 2 ^ 32 → a ≡ b

@@ -9,7 +9,7 @@
 -- What is heard are messages: the parts that came since the last end have spellings and are no more than a message may
 -- have. A session's text is heard as its messages, since each of its frames is next in turn.
 -- docs/LAWS.md: A stream may come in pieces.
-use Rattle.std.proofs.Common.{rules, ◌≡◌, ℕ, zero, suc, ◌+◌, ◌≤◌, Bool, true, false, take, drop, List, [], ◌∷◌, ◌++◌}
+use Rattle.std.proofs.Common.{rules, ◌≡◌, ℕ, zero, suc, ◌+◌, ◌<◌, ◌≤◌, Bool, true, false, take, drop, List, [], ◌∷◌, ◌++◌}
 use Rattle.std.proofs.Common.{length, Option, Some, None, Ok, refl, sym, ap, subst, ◌∙◌, arith, inl, inr, append_assoc}
 use Rattle.std.proofs.Common.{map}
 use Rattle.std.specs.Prelude.{◌≢◌, nat_lt, bytes_eq, if◌then◌else◌, flat_map}
@@ -22,6 +22,8 @@ use Rattle.definitions.proofs.Lemmas.{common_steps, length-append, ltb-true, ltb
 use Rattle.definitions.proofs.Lemmas.{take-append-drop, append-nil, All-append}
 use Rattle.laws.specs.Codec.{IsFed, FeedIsExact}
 use Rattle.laws.specs.Parts.{FeedsJoin, HeardAreMessages, SessionsAreHeard}
+use Rattle.laws.specs.Meeting.{refusal_text}
+use Rattle.definitions.specs.Engines.{messages_in}
 use Rattle.laws.proofs.Fields.{rest_fits, true_is_false, IsBytes-both}
 use Rattle.laws.proofs.Messages.{event_at_told}
 
@@ -319,3 +321,35 @@ sessions_heard P real Ms right =
     let fed = feed_only P real Before_hello (session_events Ms) (session_text P Ms) (In_message 0) []
     (inr (flat_map (message_text P) Ms, refl, session_means P Ms right)) in
     ap (λ events. messages_of [] events) fed.0 ∙ messages-session Ms
+
+-- a fault frame after them ends no message
+told-none : {F : Type 0} (ps : Message F) (events : List (Event F)) (code : ℕ) →
+    messages_of ps (events ++ Failed code ∷ []) ≡ messages_of ps events
+told-none ps [] code = refl
+told-none ps (Came p ∷ events) code = told-none (ps ++ p ∷ []) events code
+told-none ps (Ended ∷ events) code = ap (λ Ms. ps ∷ Ms) (told-none [] events code)
+told-none ps (Failed other ∷ events) code = refl
+
+fault_fits : (code : ℕ) → IsBytes (fault_text code) → code < 256
+fault_fits code fits = fits.1.1.1.1.1.0
+
+pub refused_heard : {F : Type 0} (P : Profile F) → IsProfile P → (Ms : List (Message F)) (o : Option ℕ) →
+    AllByRecursion (IsMessage P) Ms → IsBytes (session_text P Ms ++ refusal_text o) →
+    messages_in P (session_text P Ms ++ refusal_text o) ≡ Ms
+refused_heard P real Ms None right fits =
+    ap (messages_in P) (append-nil (session_text P Ms)) ∙ sessions_heard P real Ms right
+refused_heard {F} P real Ms (Some code) right fits =
+    let texts : List ℕ = flat_map (message_text P) Ms in
+    let small : code < 256 = fault_fits code
+    (rest_fits (session_text P Ms ++ fault_text code) (session_text P Ms) (fault_text code) refl fits) in
+    let told : Means P (In_message 0) (Failed code ∷ []) ([] ++ fault_text code) Meaning_over [] =
+    (small, [], sym (append-nil (fault_text code)), refl, refl, refl) in
+    let events : List (Event F) = session_events Ms ++ Failed code ∷ [] in
+    let fed = feed_only P real Before_hello events (session_text P Ms ++ fault_text code) Meaning_over []
+    (inr (
+      texts ++ fault_text code,
+      append_assoc P.hello texts (fault_text code),
+      join_frames P 0 (session_events Ms) texts (In_message 0) [] (session_means P Ms right)
+          (Failed code ∷ []) (fault_text code) Meaning_over [] told,
+    )) in
+    ap (messages_of []) fed.0 ∙ told-none [] (session_events Ms) code ∙ messages-session Ms

@@ -163,14 +163,14 @@ turn_more {F} S e d M Ms more k hears own later =
 -- ---- honest ends
 
 -- e of P spoke M, which is to be heard by d of Q; each message from M on may be sent
-record Meets {F : Type 0} (S : Summary F) (f g : List ℕ) (e d : End F) (M : Message F) : Type 0 where
-  speaker : Ready e.peer f
-  hearer : Ready d.peer g
-  spoken : e.stage ≡ stage_after_reply M
-  live : is_live d.stage ≡ true
-  taken : stage_fault d.stage M ≡ None
-  apart : Apart (open_ranges M)
-  fits : (k : ℕ) → AllByRecursion (λ N. length N ≤ max_parts) (talk_from S e.peer d.peer M k)
+pub record Meets {F : Type 0} (S : Summary F) (f g : List ℕ) (e d : End F) (M : Message F) : Type 0 where
+  pub speaker : Ready e.peer f
+  pub hearer : Ready d.peer g
+  pub spoken : e.stage ≡ stage_after_reply M
+  pub live : is_live d.stage ≡ true
+  pub taken : stage_fault d.stage M ≡ None
+  pub apart : Apart (open_ranges M)
+  pub fits : (k : ℕ) → AllByRecursion (λ N. length N ≤ max_parts) (talk_from S e.peer d.peer M k)
 
 -- what e waits for, where M has an open part
 waits : {F : Type 0} {S : Summary F} {f g : List ℕ} {e d : End F} {M : Message F} → Meets S f g e d M →
@@ -186,7 +186,7 @@ fits_on {S = S} {e = e} {d = d} {M = M} m o k =
     (if b then talk_from S d.peer e.peer (reply S d.peer M) k else [])) o (m.fits (suc k)).1
 
 -- the message is not refused
-not_refused : {F : Type 0} {S : Summary F} {f g : List ℕ} {e d : End F} {M : Message F} → Meets S f g e d M →
+pub not_refused : {F : Type 0} {S : Summary F} {f g : List ℕ} {e d : End F} {M : Message F} → Meets S f g e d M →
     answer S d M ≡ (if has_open M then Replies (reply S d.peer M) else Ends)
 not_refused {S = S} {d = d} {M = M} m = ap (answer_unless S d.peer M) m.taken ∙ by (has_open M) refl where
   by : (b : Bool) → has_open M ≡ b →
@@ -195,7 +195,7 @@ not_refused {S = S} {d = d} {M = M} m = ap (answer_unless S d.peer M) m.taken �
       (le-leb (length (reply S d.peer M)) max_parts (fits_on m o 1).0)
   by false o = refl
 
-hears : {F : Type 0} {S : Summary F} {f g : List ℕ} {e d : End F} {M : Message F} → Meets S f g e d M → (b : Bool) →
+pub hears : {F : Type 0} {S : Summary F} {f g : List ℕ} {e d : End F} {M : Message F} → Meets S f g e d M → (b : Bool) →
     has_open M ≡ b →
     after S d M ≡ after_answer d M (if b then Replies (reply S d.peer M) else Ends)
 hears {S = S} {d = d} {M = M} m b o =
@@ -203,7 +203,7 @@ hears {S = S} {d = d} {M = M} m b o =
     ∙ ap (after_answer d M) (not_refused m ∙ ap (λ b. if b then Replies (reply S d.peer M) else Ends) o)
 
 -- and the reply is met in turn
-meets_on : {F : Type 0} {S : Summary F} {f g : List ℕ} {e d : End F} {M : Message F} → Meets S f g e d M →
+pub meets_on : {F : Type 0} {S : Summary F} {f g : List ℕ} {e d : End F} {M : Message F} → Meets S f g e d M →
     has_open M ≡ true →
     Meets S g f (after_answer d M (Replies (reply S d.peer M))) e (reply S d.peer M)
 meets_on {F} {S} {f} {g} {e} {d} {M} m o = record {
@@ -237,7 +237,7 @@ turns {F} S f g (suc k) e d M m = by (λ o. turns S g f k (after_answer d M (Rep
 
 -- ---- two peers
 
-two_meet : {F : Type 0} (S : Summary F) (I R : Peer) (f g : List ℕ) → IsExact S → Ready I f → Ready R g →
+pub two_meet : {F : Type 0} (S : Summary F) (I R : Peer) (f g : List ℕ) → IsExact S → Ready I f → Ready R g →
     length I.items ≤ 65536 → length R.items ≤ 65536 →
     Meets S f g (initiator S I) (responder R) (opening S I.items)
 two_meet S I R f g exact i r few few' = record {

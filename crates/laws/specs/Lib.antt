@@ -10,3 +10,4 @@ pub mod Weaker
 pub mod Ranks
 pub mod Codec
 pub mod Parts
+pub mod Meeting

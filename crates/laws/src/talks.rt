@@ -22,6 +22,7 @@ ghost use Rattle.laws.specs.Taking.{PartsAreTaken};
 ghost use Rattle.laws.specs.Hearing.{FramesAgree, BytesAgree, FramesSay, HearingsGoOn, OwnBegins};
 ghost use Rattle.laws.specs.Hearing.{OwnIsFew, OwnIsShort};
 ghost use Rattle.laws.specs.Sessions.{SessionsOpen, SessionsGoOn, SessionsStay, SessionsKeepNodes, SessionsTell};
+ghost use Rattle.laws.specs.Meeting.{TwoSessionsMeet, EndedCallsWriteAll};
 ghost use Rattle.laws.specs.Sizes.{CountsTellSizes};
 ghost use Rattle.laws.specs.Weaker.{InitiatorStopsAnyhow, ResponderStopsAnyhow, ListsAreShortAnyhow};
 ghost use Rattle.laws.specs.Weaker.{KnowledgeIsExactAnyhow, PartsAreFewAnyhow, count_summary, blind, wary};
@@ -345,6 +346,20 @@ pub fn knowledge_is_exact<F>()
 #[tactic(auto, using(crate::proofs::Knowledge::sound_knowledge))]
 pub fn knowledge_is_sound<F>()
     ensures { (S : Summary F) → KnowledgeIsSound S }
+{}
+
+// ---- two sides over bytes
+
+/// Two sides, each of which gets all that the other writes and nothing else, end their sessions, and have said the talk.
+/// docs/LAWS.md: *Two sessions meet*.
+pub fn two_sessions_meet<F>()
+    ensures { (S : Summary F) (W : Profile F) → TwoSessionsMeet S W }
+{}
+
+/// A call whose session has ended wrote all that its side says.
+/// docs/LAWS.md: *Two sessions meet*.
+pub fn ended_calls_write_all<F>()
+    ensures { (S : Summary F) (W : Profile F) → EndedCallsWriteAll S W }
 {}
 
 // ---- runs

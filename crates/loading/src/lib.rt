@@ -13,7 +13,7 @@ mod showing;
 mod strategy;
 mod target;
 
-pub use clock::{millis_of, millis_since};
+pub use clock::{millis_of, millis_since, now};
 pub use disk::{Disk, ItemFile, Kept, Opened, open_lines, unopened};
 pub use loading::{Loaded, Sources, items_of, load};
 pub use metering::Metered;

@@ -1,6 +1,6 @@
 //! What a side of sessions begins with.
 
-ghost use Rattle.std.specs.Prelude.{◌≡◌, ◌≤◌, ◌^◌, length, IfOk, OnOk};
+ghost use Rattle.std.specs.Prelude.{◌≡◌, ◌≤◌, ◌^◌, Some, None, length, IfOk, OnOk};
 ghost use Rattle.definitions.specs.Sets.{IsSet};
 ghost use Rattle.shard_core.specs.Shards.{max_bits};
 ghost use Rattle.shard_core.specs.Splits.{held};
@@ -59,7 +59,11 @@ pub struct Sources<'a> {
 impl<'a> Sources<'a> {
     /// Where a server begins from that is asked for in these words; whether standard error is told more, and whether it
     /// is shown how far all is.
-    pub fn of_server(words: ServeWords<'a>, explains: bool, shows: bool) -> Sources<'a> {
+    pub fn of_server(words: ServeWords<'a>, explains: bool, shows: bool) -> Sources<'a>
+        ensures files { (result.table.path ≡ words.entry.table) × (result.items ≡ words.entry.items)
+            × (result.keep ≡ words.entry.keep) × (result.form ≡ words.entry.form) }
+        ensures told { (result.table.explains ≡ explains) × (result.shows ≡ shows) }
+    {
         Sources {
             table: TableSource {
                 path: words.table,
@@ -76,7 +80,11 @@ impl<'a> Sources<'a> {
 
     /// Where a `sync` begins from that is asked for in these words; whether standard error is told more, and whether it
     /// is shown how far all is.
-    pub fn of_asker(words: SyncWords<'a>, explains: bool, shows: bool) -> Sources<'a> {
+    pub fn of_asker(words: SyncWords<'a>, explains: bool, shows: bool) -> Sources<'a>
+        ensures files { (result.table.path ≡ words.entry.table) × (result.items ≡ Some words.entry.items)
+            × (result.keep ≡ None) × (result.form ≡ words.entry.form) }
+        ensures told { (result.table.explains ≡ explains) × (result.shows ≡ shows) }
+    {
         Sources {
             table: TableSource {
                 path: words.table,

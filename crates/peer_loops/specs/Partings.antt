@@ -1,7 +1,7 @@
 -- What comes of a peer that is let go.
 --     broken_by parting owes sent        the outcome of a session that did not come to its end
---     TellsOf state parting stage v o    the outcome of a session that stands so
---     Tells parting stage version o      a session that refused, or whose peer did, says so, whatever came after it;
+--     TellsOf state parting phase v o    the outcome of a session that stands so
+--     Tells parting phase version o      a session that refused, or whose peer did, says so, whatever came after it;
 --                                        one that ended and was said whole says what it has learned, and of which
 --                                        version; any other is broken, and says as sent what was written whole
 --     PutsInOf id lets_in own o v w      what was learned is put into the log, where the session is in the table
@@ -21,7 +21,7 @@ use Rattle.session_core.specs.declared.state.State.{State}
 use Rattle.session_core.specs.declared.state.State.TheVariants as states
 use Rattle.session_core.specs.declared.fault.LinkFault.TheVariants as faults
 use Rattle.hub_core.specs.Peers.{Learns, owes, sent_in, state_in}
-use Rattle.hub_core.specs.declared.stage.Stage.{Stage}
+use Rattle.hub_core.specs.declared.phase.Phase.{Phase}
 use Rattle.peer_loops.specs.declared.ending.Parting.{Parting}
 use Rattle.peer_loops.specs.declared.ending.Parting.TheVariants as partings
 
@@ -35,28 +35,28 @@ broken_by partings.Over b sent = outcomes.Io (if b then directions.Write else di
 broken_by partings.TimeIsOver b sent = outcomes.Io (if b then directions.Write else directions.Read) sent
 
 -- one message at most is said and not written whole
-abbrev pub whole_in : Stage → ℕ
-whole_in stage = sent_in stage - (if owes stage then 1 else 0)
+abbrev pub whole_in : Phase → ℕ
+whole_in phase = sent_in phase - (if owes phase then 1 else 0)
 
-abbrev pub broken_at : Parting → Stage → Outcome
-broken_at parting stage = broken_by parting (owes stage) (whole_in stage)
+abbrev pub broken_at : Parting → Phase → Outcome
+broken_at parting phase = broken_by parting (owes phase) (whole_in phase)
 
-abbrev pub TellsEnded : Parting → Stage → ℕ → Outcome → Type 0
-TellsEnded partings.Over stage version o =
-    (k : Knowledge) × Learns stage k × (o ≡ outcomes.Ended k (sent_in stage) version)
-TellsEnded (partings.Failed f) stage version o = o ≡ broken_at (partings.Failed f) stage
-TellsEnded partings.TimeIsOver stage version o = o ≡ broken_at partings.TimeIsOver stage
-TellsEnded (partings.Refuses code) stage version o = o ≡ broken_at (partings.Refuses code) stage
+abbrev pub TellsEnded : Parting → Phase → ℕ → Outcome → Type 0
+TellsEnded partings.Over phase version o =
+    (k : Knowledge) × Learns phase k × (o ≡ outcomes.Ended k (sent_in phase) version)
+TellsEnded (partings.Failed f) phase version o = o ≡ broken_at (partings.Failed f) phase
+TellsEnded partings.TimeIsOver phase version o = o ≡ broken_at partings.TimeIsOver phase
+TellsEnded (partings.Refuses code) phase version o = o ≡ broken_at (partings.Refuses code) phase
 
-abbrev pub TellsOf : Option State → Parting → Stage → ℕ → Outcome → Type 0
-TellsOf (Some (states.Refused code)) parting stage version o = o ≡ outcomes.Refused code (sent_in stage)
-TellsOf (Some (states.PeerRefused code)) parting stage version o = o ≡ outcomes.PeerRefused code (sent_in stage)
-TellsOf (Some states.Ended) parting stage version o = TellsEnded parting stage version o
-TellsOf (Some states.Open) parting stage version o = o ≡ broken_at parting stage
-TellsOf None parting stage version o = o ≡ broken_at parting stage
+abbrev pub TellsOf : Option State → Parting → Phase → ℕ → Outcome → Type 0
+TellsOf (Some (states.Refused code)) parting phase version o = o ≡ outcomes.Refused code (sent_in phase)
+TellsOf (Some (states.PeerRefused code)) parting phase version o = o ≡ outcomes.PeerRefused code (sent_in phase)
+TellsOf (Some states.Ended) parting phase version o = TellsEnded parting phase version o
+TellsOf (Some states.Open) parting phase version o = o ≡ broken_at parting phase
+TellsOf None parting phase version o = o ≡ broken_at parting phase
 
-abbrev pub Tells : Parting → Stage → ℕ → Outcome → Type 0
-Tells parting stage version o = TellsOf (state_in stage) parting stage version o
+abbrev pub Tells : Parting → Phase → ℕ → Outcome → Type 0
+Tells parting phase version o = TellsOf (state_in phase) parting phase version o
 
 abbrev pub PutsInOf : Option SessionId → (ℕ → ℕ → ℕ → Type 0) → Option OneShard → Outcome → View → View → Type 0
 PutsInOf None lets_in own o v w = w ≡ v

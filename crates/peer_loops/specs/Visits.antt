@@ -1,5 +1,5 @@
 -- What those who watch are told of a peer that is gone.
---     profile_in stage       the wire profile of its session, if that was opened
+--     profile_in phase       the wire profile of its session, if that was opened
 --     ours_in o, theirs_in o how many own items its peer lacked, and of the peer's were lacked here, if it came to its
 --                            end
 --     IsTold l o v           what is told of a peer of which this is known, and whose session ended so
@@ -7,16 +7,16 @@ use Rattle.std.specs.Prelude.{◌≡◌, ℕ, ◌-◌, length, Option, Some, Non
 use Rattle.session_table.specs.Sent.{sent_in}
 use Rattle.session_table.specs.declared.outcome.Outcome.{Outcome}
 use Rattle.session_table.specs.declared.outcome.Outcome.TheVariants as outcomes
-use Rattle.hub_core.specs.declared.stage.Stage.{Stage}
-use Rattle.hub_core.specs.declared.stage.Stage.TheVariants as stages
+use Rattle.hub_core.specs.declared.phase.Phase.{Phase}
+use Rattle.hub_core.specs.declared.phase.Phase.TheVariants as phases
 use Rattle.watch_core.specs.Counting.{ending_of}
 use Rattle.watch_core.specs.declared.visit.Visit.{Visit}
 use Rattle.peer_loops.specs.declared.visiting.Leaver.{Leaver}
 
-abbrev pub profile_in : Stage → Option ℕ
-profile_in (stages.Greeting g) = None
-profile_in (stages.Plain c) = Some 1
-profile_in (stages.Counted c) = Some 2
+abbrev pub profile_in : Phase → Option ℕ
+profile_in (phases.Greeting g) = None
+profile_in (phases.Plain c) = Some 1
+profile_in (phases.Counted c) = Some 2
 
 abbrev pub ours_in : Outcome → ℕ
 ours_in (outcomes.Ended learned sent version) = length learned.ours

@@ -19,7 +19,8 @@ use tcp_front::{Arrival, Half};
 /// How often in a row it is tried again while there is no descriptor for one more: for ten minutes.
 const MOST_MISSES: u32 = 60_000;
 
-/// For how many milliseconds a peer has to be silent that goes because there is no descriptor for another.
+/// For how many milliseconds a peer has to be silent that goes because there is no descriptor for another: the system
+/// may say so though nobody waits.
 const SILENT: u64 = 100;
 
 /// How the accepting left off.
@@ -149,7 +150,7 @@ impl Loop {
             return Accepting::Done;
         }
         if self.leavers.is_empty() {
-            self.let_a_silent_one_go(site, desks);
+            self.make_room(site, desks, SILENT);
         }
         self.leavers.close_all();
         Accepting::NoRoom {
@@ -172,25 +173,18 @@ impl Loop {
         self.hub.most_silent_of(origin?)
     }
 
-    /// Lets a peer go that makes room, if it has been silent for a while: the system may say that there is no
-    /// descriptor though nobody waits.
-    fn let_a_silent_one_go<R: Wait, G: PartGate>(
+    /// Lets a peer go that makes room, if it has been silent for so many milliseconds.
+    fn make_room<R: Wait, G: PartGate>(
         &mut self,
         site: &Site<'_, R, G>,
         desks: &mut Desks<'_>,
+        silent: u64,
     ) {
         let Some(key) = self.next_to_go(site) else {
             return;
         };
         let heard = self.hub.get(key).map_or(self.now, |peer| peer.heard());
-        if self.now.saturating_sub(heard) >= SILENT {
-            self.let_go(site, desks, key, Parting::TimeIsOver);
-        }
-    }
-
-    /// Lets a peer go that makes room.
-    fn make_room<R: Wait, G: PartGate>(&mut self, site: &Site<'_, R, G>, desks: &mut Desks<'_>) {
-        if let Some(key) = self.next_to_go(site) {
+        if self.now.saturating_sub(heard) >= silent {
             self.let_go(site, desks, key, Parting::TimeIsOver);
         }
     }
@@ -228,7 +222,7 @@ impl Loop {
             return;
         }
         if site.crowd.is_crowded() {
-            self.make_room(site, desks);
+            self.make_room(site, desks, 0);
         }
         let most_bytes = u64::from(site.crowd.limits.most_bytes);
         let serial = self.serial;

@@ -6,7 +6,7 @@ ghost use Rattle.peer_loops.specs.ShardSpans.{part_in};
 
 use crate::desks::Desks;
 use digest_core::{Fingerprint, Summary};
-use hub_core::{Greeting, HELLO, Peer, Stage};
+use hub_core::{Greeting, HELLO, Peer, Phase};
 use shard_core::{AfterSelector, Selecting, SetName, Which};
 use std::io::Write;
 use tcp_front::Half;
@@ -16,10 +16,10 @@ use wire_core::encode_fault;
 pub(crate) type Reader = AfterSelector<Half>;
 
 /// The number of the refusal of a peer that speaks of a set that is not here.
-const WRONG_SET: u8 = 55;
+pub(crate) const WRONG_SET: u8 = 55;
 
 /// The number of the refusal of a peer whose input ended too early.
-const TRUNCATED: u8 = 3;
+pub(crate) const TRUNCATED: u8 = 3;
 
 /// What peers have to say before their hello.
 #[derive(Clone, Copy)]
@@ -100,8 +100,8 @@ pub(crate) fn refusal_of(
     peer: &Peer<Reader, Half>,
 ) -> Option<u8> {
     let set = front.set()?;
-    match peer.stage() {
-        Stage::Greeting(greeting) if is_known(greeting) => {}
+    match peer.phase() {
+        Phase::Greeting(greeting) if is_known(greeting) => {}
         _ => return None,
     }
     let reader = peer.reader();
@@ -113,9 +113,9 @@ pub(crate) fn refusal_of(
 }
 
 /// Writes what can be written at once of a fault frame, after our hello.
-pub(crate) fn tell_refusal(stage: &Stage, writer: &mut Half, code: u8) {
-    match stage {
-        Stage::Greeting(greeting) if greeting.said() == 0 => {
+pub(crate) fn tell_refusal(phase: &Phase, writer: &mut Half, code: u8) {
+    match phase {
+        Phase::Greeting(greeting) if greeting.said() == 0 => {
             let _told = writer.write(&Fingerprint::hello());
         }
         _ => {}

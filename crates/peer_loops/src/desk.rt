@@ -73,9 +73,9 @@ impl<'a> Desk<'a> {
         ensures part { self.new.part ≡ self.old.part }
         ensures view { LookedOrNot self.old.seat.view self.new.seat.view }
         ensures opens { OnOk result ((p q : _) → get hub.old.peers key ≡ Some p → get hub.new.peers key ≡ Some q →
-            Opens (peer_at (arc_value self.old.part.now.accepted) self.new.seat.view) p.stage q.stage) }
+            Opens (peer_at (arc_value self.old.part.now.accepted) self.new.seat.view) p.phase q.phase) }
         ensures version { OnOk result ((p q : _) → get hub.old.peers key ≡ Some p → get hub.new.peers key ≡ Some q →
-            q.version ≡ version_after p.stage p.version (length self.new.seat.view.base)) }
+            q.version ≡ version_after p.phase p.version (length self.new.seat.view.base)) }
         ensures others { OthersStay hub.old.peers hub.new.peers key }
     {
         let pin = self.part.lock.pin(rt, alloc, &mut self.seat)?;

@@ -5,9 +5,10 @@ ghost use Rattle.peer_loops.specs.Changes.{ChangesAt};
 ghost use Rattle.peer_loops.specs.Partings.{PutsInOf};
 ghost use Rattle.peer_loops.specs.ShardSpans.{keeps, place_for};
 
-use crate::chosen::Reader;
+use crate::chosen::{Reader, WRONG_SET};
 use crate::common::Common;
 use crate::desk::Desk;
+use crate::ending::Parting;
 use crate::part::Parts;
 use hub_core::Hub;
 use peer_threads::{Gate, Outcome};
@@ -19,11 +20,13 @@ use std::sync::Wait;
 use store_core::RangeStore;
 use tcp_front::Half;
 
-/// A session: its place in the table, if it is there, and the part that it was over, if that was said.
+/// A session: its place in the table, if it is there, the part that it was over, if that was said, and how many
+/// messages were said in it.
 #[derive(Clone, Copy)]
 pub(crate) struct Over {
     pub(crate) id: Option<SessionId>,
     pub(crate) part: Option<Which>,
+    pub(crate) said: u32,
 }
 
 /// The seats of a loop, one for each part, in the order of the parts.
@@ -97,7 +100,8 @@ impl<'a> Desks<'a> {
         }
     }
 
-    /// Pins the newest version of this part, which is kept, and opens the session of this peer over it.
+    /// Pins the newest version of this part, and opens the session of this peer over it. One that is not kept is
+    /// refused.
     pub(crate) fn open<T: Wait>(
         &mut self,
         rt: &T,
@@ -105,14 +109,14 @@ impl<'a> Desks<'a> {
         hub: &mut Hub<Reader, Half>,
         which: Which,
         key: usize,
-    ) -> Result<(), AllocError> {
+    ) -> Result<(), Parting> {
         let Some(place) = self.place_of(Some(which)) else {
-            return Err(AllocError);
+            return Err(Parting::Refuses(WRONG_SET));
         };
-        match self.list.get_mut(place) {
-            Some(desk) => desk.open(rt, alloc, hub, key),
-            None => Err(AllocError),
-        }
+        let Some(desk) = self.list.get_mut(place) else {
+            return Err(Parting::Refuses(WRONG_SET));
+        };
+        Ok(desk.open(rt, alloc, hub, key)?)
     }
 
     /// Puts what a session learned that ended so into the log of its part, as far as the gate admits it and it is of

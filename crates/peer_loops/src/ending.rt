@@ -4,12 +4,14 @@ ghost use Rattle.std.specs.Prelude.{◌≡◌, Some, if◌then◌else◌};
 ghost use Rattle.hub_core.specs.Peers.{sent_in, state_in};
 ghost use Rattle.session_table.specs.declared.outcome.Direction.TheVariants as directions;
 ghost use Rattle.session_core.specs.declared.state.State.TheVariants as states;
+ghost use Rattle.session_core.specs.declared.fault.LinkFault.TheVariants as faults;
 ghost use Rattle.peer_loops.specs.Partings.{Tells, TellsEnded, broken_by, whole_in};
 ghost use Rattle.peer_loops.specs.declared.ending.Parting.TheVariants as partings;
 
-use hub_core::Stage;
+use hub_core::Phase;
 use peer_threads::{Direction, Outcome};
 use session_core::{LinkFault, State};
+use std::alloc::AllocError;
 
 /// Why a peer is let go.
 #[derive(Clone, Copy, Debug, PartialEq, Eq)]
@@ -22,6 +24,14 @@ pub(crate) enum Parting {
     TimeIsOver,
     /// It speaks of no set that is here: the number of the refusal.
     Refuses(u8),
+}
+
+impl From<AllocError> for Parting {
+    ghost from_gives = { λ _ e. e ≡ partings.Failed faults.Memory };
+
+    fn from(_refused: AllocError) -> Parting {
+        Parting::Failed(LinkFault::Memory)
+    }
 }
 
 /// What failed of a session that was cut off: the writing, where it waited for that.
@@ -57,12 +67,12 @@ fn broken(parting: Parting, owes: bool, sent: u32) -> Outcome
 }
 
 /// The outcome of a session that came to its end, and was said whole.
-fn ended(stage: Stage, version: usize) -> Outcome
-    requires { state_in stage ≡ Some states.Ended }
-    ensures { TellsEnded partings.Over stage version result }
+fn ended(phase: Phase, version: usize) -> Outcome
+    requires { state_in phase ≡ Some states.Ended }
+    ensures { TellsEnded partings.Over phase version result }
 {
-    let sent = stage.sent();
-    match stage.into_learned() {
+    let sent = phase.sent();
+    match phase.into_learned() {
         Some(learned) => Outcome::Ended {
             learned,
             sent,
@@ -73,21 +83,21 @@ fn ended(stage: Stage, version: usize) -> Outcome
 }
 
 /// How many messages were written whole: one at most is said and not written.
-fn whole(stage: &Stage) -> u32
-    ensures { result ≡ whole_in stage.now }
+fn whole(phase: &Phase) -> u32
+    ensures { result ≡ whole_in phase.now }
 {
-    stage.sent().saturating_sub(u32::from(stage.owes()))
+    phase.sent().saturating_sub(u32::from(phase.owes()))
 }
 
 /// How the session ended of a peer that is let go.
-pub(crate) fn outcome_of(stage: Stage, version: usize, parting: Parting) -> Outcome
-    ensures { Tells parting stage version result }
+pub(crate) fn outcome_of(phase: Phase, version: usize, parting: Parting) -> Outcome
+    ensures { Tells parting phase version result }
 {
-    let sent = stage.sent();
-    match stage.state() {
+    let sent = phase.sent();
+    match phase.state() {
         Some(State::Refused(code)) => Outcome::Refused { code, sent },
         Some(State::PeerRefused(code)) => Outcome::PeerRefused { code, sent },
-        Some(State::Ended) if parting == Parting::Over => ended(stage, version),
-        _ => broken(parting, stage.owes(), whole(&stage)),
+        Some(State::Ended) if parting == Parting::Over => ended(phase, version),
+        _ => broken(parting, phase.owes(), whole(&phase)),
     }
 }

@@ -42,11 +42,10 @@ struct Leaving {
 }
 
 impl Leaving {
-    /// Reads what is there, and drops it.
-    fn read_on(&mut self) -> Reading {
-        let mut piece = [0u8; 16_384];
+    /// Reads what is there into this room, and drops it.
+    fn read_on(&mut self, room: &mut [u8]) -> Reading {
         for _turn in 0..TURNS {
-            match self.reader.read(&mut piece) {
+            match self.reader.read(room) {
                 Ok(0) => return Reading::Done,
                 Ok(count) => self.left = self.left.saturating_sub(count as u64),
                 Err(error) if error.kind() == ErrorKind::WouldBlock => return Reading::Waits,
@@ -112,14 +111,14 @@ impl Leavers {
     }
 
     /// Reads on of the one with this token, if it is one's. Whether it is.
-    pub(crate) fn read_on(&mut self, registry: &Registry, token: Token) -> bool {
+    pub(crate) fn read_on(&mut self, registry: &Registry, token: Token, room: &mut [u8]) -> bool {
         let Some(key) = token.0.checked_sub(FIRST) else {
             return false;
         };
         let Some(leaving) = self.all.get_mut(key) else {
             return false;
         };
-        let goes_on = match leaving.read_on() {
+        let goes_on = match leaving.read_on(room) {
             Reading::Waits => true,
             Reading::More => leaving.register_again(registry, token),
             Reading::Done => false,

@@ -12,7 +12,6 @@ use hub_core::{Hub, HubLimits};
 use mio::unix::SourceFd;
 use mio::{Events, Interest, Poll, Token, Waker};
 use std::io;
-use std::io::ErrorKind;
 use std::os::fd::AsRawFd;
 use std::sync::Wait;
 use std::time::{Clock, Duration};
@@ -30,6 +29,9 @@ const EVENTS: usize = 1_024;
 const TICK: u64 = 250;
 
 pub(crate) const PAUSE: u64 = 10;
+
+/// How many bytes are read at a time.
+const ROOM: usize = 16_384;
 
 /// How many peers are let go in a row whose time is over.
 const IN_A_ROW: usize = 256;
@@ -64,6 +66,8 @@ pub(crate) struct Loop {
     pub(crate) serial: u64,
     /// The time, in milliseconds from some fixed moment.
     pub(crate) now: u64,
+    /// What is read goes here first.
+    pub(crate) room: [u8; ROOM],
     /// When it last looked for those whose time is over.
     swept: u64,
 }
@@ -79,26 +83,26 @@ fn limits_of<R, G>(site: &Site<'_, R, G>) -> HubLimits {
     let loops = (site.crowd.loops as u64).saturating_mul(2).max(1);
     HubLimits {
         memory: limits.memory / loops,
-        idle: milliseconds(limits.patience),
-        whole: milliseconds(limits.session_seconds),
+        patience: milliseconds(limits.patience),
+        session: milliseconds(limits.session_seconds),
     }
 }
 
 impl Loop {
-    /// The loop of this number, without peers. The others can wake it, and hand peers to it.
-    pub(crate) fn new<R: Wait, G>(site: &Site<'_, R, G>, index: usize) -> io::Result<Loop> {
+    /// The loop of this number, without peers. The others can wake it, and hand peers to it. None where the system does
+    /// not give what it waits with.
+    pub(crate) fn new<R: Wait, G>(site: &Site<'_, R, G>, index: usize) -> Option<Loop> {
         let kind = site.crowd.kind_of(index);
-        let Some(poll) = site.crowd.take_poll(site.rt) else {
-            return Err(io::Error::from(ErrorKind::OutOfMemory));
-        };
-        let waker = Waker::new(poll.registry(), WAKER)?;
+        let poll = site.crowd.take_poll(site.rt)?;
+        let waker = Waker::new(poll.registry(), WAKER).ok()?;
         if kind == Kind::Accepts {
             let fd = site.listener.as_raw_fd();
             poll.registry()
-                .register(&mut SourceFd(&fd), LISTENER, Interest::READABLE)?;
+                .register(&mut SourceFd(&fd), LISTENER, Interest::READABLE)
+                .ok()?;
         }
         site.crowd.open_inlet(site.rt, index, waker);
-        Ok(Loop {
+        Some(Loop {
             poll,
             kind,
             index,
@@ -111,6 +115,7 @@ impl Loop {
             misses: 0,
             serial: 1,
             now: 0,
+            room: [0u8; ROOM],
             swept: 0,
         })
     }
@@ -138,21 +143,14 @@ impl Loop {
         !may_come && self.hub.len() == 0 && self.leavers.is_empty()
     }
 
-    /// Goes on with those that were left off.
-    fn go_on_soon<R: Wait, G: PartGate>(&mut self, site: &Site<'_, R, G>, desks: &mut Desks<'_>) {
-        let mut soon = Vec::new(site.alloc);
-        std::mem::swap(&mut soon, &mut self.soon);
-        for key in soon {
-            self.notes.set_listed(key, false);
-            self.go_on(site, desks, key);
-        }
-    }
-
-    /// Tries again to open the sessions for which there was no place.
-    fn open_waiting<R: Wait, G: PartGate>(&mut self, site: &Site<'_, R, G>, desks: &mut Desks<'_>) {
-        let mut waiting = Vec::new(site.alloc);
-        std::mem::swap(&mut waiting, &mut self.waiting);
-        for key in waiting {
+    /// Goes on with those who were listed.
+    fn go_on_with<R: Wait, G: PartGate>(
+        &mut self,
+        site: &Site<'_, R, G>,
+        desks: &mut Desks<'_>,
+        listed: Vec<usize>,
+    ) {
+        for key in listed {
             self.notes.set_listed(key, false);
             self.go_on(site, desks, key);
         }
@@ -182,7 +180,10 @@ impl Loop {
     ) {
         if token == LISTENER || token == WAKER {
             self.accepting = self.accepting.again();
-        } else if !self.leavers.read_on(self.poll.registry(), token) {
+        } else if !self
+            .leavers
+            .read_on(self.poll.registry(), token, &mut self.room)
+        {
             self.go_on(site, desks, token.0);
         }
     }
@@ -194,11 +195,13 @@ impl Loop {
         desks: &mut Desks<'_>,
         events: &Events,
     ) {
-        self.go_on_soon(site, desks);
+        let soon = std::mem::replace(&mut self.soon, Vec::new(site.alloc));
+        self.go_on_with(site, desks, soon);
         for event in events {
             self.meet(site, desks, event.token());
         }
-        self.open_waiting(site, desks);
+        let waiting = std::mem::replace(&mut self.waiting, Vec::new(site.alloc));
+        self.go_on_with(site, desks, waiting);
         self.take_in(site, desks);
         self.sweep(site, desks);
     }

@@ -8,8 +8,9 @@ ghost use Rattle.range_tree.specs.Trees.{tree_items};
 ghost use Rattle.hub_core.specs.Hubs.{OthersStay};
 ghost use Rattle.hub_core.specs.Peers.{Opens, version_after};
 
-use crate::chosen::{Reader, part_of};
+use crate::chosen::{Reader, TRUNCATED, WRONG_SET, part_of};
 use crate::desks::Desks;
+use crate::ending::Parting;
 use crate::looping::Loop;
 use crate::site::Site;
 use hub_core::Hub;
@@ -29,17 +30,17 @@ fn open_over(
     key: usize,
     accepted: &Arc<Accepted>,
     store: Tree,
-) -> Result<(), AllocError>
+) -> Result<(), Parting>
     ensures opens { OnOk result ((p q : _) → get hub.old.peers key ≡ Some p → get hub.new.peers key ≡ Some q →
-        Opens (peer_of (arc_value accepted.now) (tree_items store)) p.stage q.stage) }
+        Opens (peer_of (arc_value accepted.now) (tree_items store)) p.phase q.phase) }
     ensures version { OnOk result ((p q : _) → get hub.old.peers key ≡ Some p → get hub.new.peers key ≡ Some q →
-        q.version ≡ version_after p.stage p.version 0) }
+        q.version ≡ version_after p.phase p.version 0) }
     ensures others { OthersStay hub.old.peers hub.new.peers key }
 {
     if store.len() > accepted.cap() as usize {
-        return Err(AllocError);
+        return Err(Parting::Refuses(WRONG_SET));
     }
-    hub.open(alloc, key, accepted, store, 0).unwrap_or(Ok(()))
+    Ok(hub.open(alloc, key, accepted, store, 0).unwrap_or(Ok(()))?)
 }
 
 /// The directory that is kept; it is made first where there is none.
@@ -50,13 +51,12 @@ fn directory_in<R: Wait, G>(
 ) -> Result<Tree, AllocError>
     ensures { IfOk result (λ tree. IfSome kept.new (λ own. tree_items tree ≡ tree_items own)) }
 {
-    if kept.is_none() {
-        *kept = Some(desks.directory_now(site.rt, site.alloc)?);
+    if let Some(tree) = kept {
+        return tree.copy(site.alloc);
     }
-    match kept {
-        Some(tree) => tree.copy(site.alloc),
-        None => Err(AllocError),
-    }
+    let tree = desks.directory_now(site.rt, site.alloc)?;
+    *kept = Some(tree.copy(site.alloc)?);
+    Ok(tree)
 }
 
 impl Loop {
@@ -71,23 +71,22 @@ impl Loop {
         site: &Site<'_, R, G>,
         desks: &mut Desks<'_>,
         key: usize,
-    ) -> Result<(), AllocError> {
+    ) -> Result<(), Parting> {
         let store = directory_in(site, desks, &mut site.crowd.directory.lock(site.rt))?;
         open_over(site.alloc, &mut self.hub, key, site.common.accepted, store)
     }
 
-    /// Opens the session of this peer over the newest version of the part of which it speaks. A part that is not kept
-    /// has none: who asks for it was refused before.
+    /// Opens the session of this peer over the newest version of the part of which it speaks. Else it is to be let go.
     pub(crate) fn open_session<R: Wait, G>(
         &mut self,
         site: &Site<'_, R, G>,
         desks: &mut Desks<'_>,
         key: usize,
-    ) -> Result<(), AllocError> {
+    ) -> Result<(), Parting> {
         match self.meant(site, key) {
             Some(Which::Directory) => self.open_directory(site, desks, key),
             Some(which) => desks.open(site.rt, site.alloc, &mut self.hub, which, key),
-            None => Err(AllocError),
+            None => Err(Parting::Refuses(TRUNCATED)),
         }
     }
 }

@@ -15,7 +15,7 @@ use crate::part_gate::PartGate;
 use crate::site::Site;
 use crate::visiting::{Leaver, profile_of, visit_of};
 use ends_core::Learned;
-use hub_core::{Peer, Stage};
+use hub_core::{Peer, Phase};
 use peer_threads::{Outcome, kind_of};
 use session_core::LinkFault;
 use session_table::SessionId;
@@ -27,13 +27,19 @@ use tcp_front::Half;
 /// The number of the refusal where memory runs out.
 const NO_MEMORY: u8 = 90;
 
-/// Ends the session in the table, and gives its place back.
-fn close_session<R: Wait, G: PartGate>(site: &Site<'_, R, G>, id: SessionId, outcome: &Outcome) {
-    let _closed = site
-        .common
-        .sessions
-        .lock(site.rt)
-        .close(id, kind_of(outcome));
+/// Counts in the table what was said in the session, ends it there, and gives its place back.
+fn close_session<R: Wait, G: PartGate>(
+    site: &Site<'_, R, G>,
+    id: SessionId,
+    said: u32,
+    outcome: &Outcome,
+) {
+    let mut sessions = site.common.sessions.lock(site.rt);
+    for _message in 0..said {
+        let _counted = sessions.note_sent(id);
+    }
+    let _closed = sessions.close(id, kind_of(outcome));
+    drop(sessions);
     site.crowd.give_place_back();
 }
 
@@ -43,7 +49,7 @@ fn tell_end<R: Wait, G: PartGate>(site: &Site<'_, R, G>, over: &Over, outcome: &
     let Some(id) = over.id else {
         return;
     };
-    close_session(site, id, outcome);
+    close_session(site, id, over.said, outcome);
     if let Some(which) = over.part {
         let part = site.crowd.front.told(which);
         site.common.gate.ended_in(id.serial(), part, outcome);
@@ -87,9 +93,9 @@ fn shown(alloc: Global, which: Option<Which>, outcome: Outcome) -> Outcome
 
 /// The number of which the peer is told: where memory ran out, if its session is opened, goes on, and has no text that
 /// is begun; and where it speaks of no set that is here.
-fn told_number(stage: &Stage, parting: Parting) -> Option<u8> {
+fn told_number(phase: &Phase, parting: Parting) -> Option<u8> {
     match parting {
-        Parting::Failed(LinkFault::Memory) if stage.is_open() && !stage.owes() => Some(NO_MEMORY),
+        Parting::Failed(LinkFault::Memory) if phase.is_open() && !phase.owes() => Some(NO_MEMORY),
         Parting::Refuses(code) => Some(code),
         _ => None,
     }
@@ -108,24 +114,24 @@ struct Gone {
 
 /// Takes a peer apart that is let go now, and tells it why, if it is to be told.
 fn parted(peer: Peer<Reader, Half>, serial: Option<u64>, parting: Parting, now: u64) -> Gone
-    ensures { Tells parting peer.stage peer.version result.outcome }
+    ensures { Tells parting peer.phase peer.version result.outcome }
 {
     let left = peer.left();
     let version = peer.version();
     let arrived = peer.arrived();
-    let (stage, reader, mut writer) = peer.into_parts();
+    let (phase, reader, mut writer) = peer.into_parts();
     let reader = reader.into_inner();
-    if let Some(code) = told_number(&stage, parting) {
-        tell_refusal(&stage, &mut writer, code);
+    if let Some(code) = told_number(&phase, parting) {
+        tell_refusal(&phase, &mut writer, code);
     }
     let leaver = Leaver {
         address: reader.address(),
-        profile: profile_of(&stage),
+        profile: profile_of(&phase),
         serial,
         arrived,
         now,
     };
-    let outcome = outcome_of(stage, version, parting);
+    let outcome = outcome_of(phase, version, parting);
     Gone {
         outcome,
         leaver,
@@ -160,7 +166,8 @@ impl Loop {
     ) {
         let Guest { peer, id } = guest;
         let part = part_of(site.crowd.front, peer.reader());
-        self.part(site, desks, peer, Over { id, part }, parting);
+        let said = peer.sent();
+        self.part(site, desks, peer, Over { id, part, said }, parting);
     }
 
     /// Lets a peer go that is not in the hub, and whose session was this. Its connection is read on for a while.
@@ -172,7 +179,7 @@ impl Loop {
         over: Over,
         parting: Parting,
     )
-        ensures put { (o : outcomes.Outcome) × Tells parting peer.stage peer.version o
+        ensures put { (o : outcomes.Outcome) × Tells parting peer.phase peer.version o
             × ChangesAt (place_for desks.old.first over.part) desks.old.list.items desks.new.list.items
             (λ d e. (e.part ≡ d.part) × PutsInOf over.id (G.lets_in site.now.common.now.gate.now) d.part.now.own o
             d.seat.view e.seat.view) }

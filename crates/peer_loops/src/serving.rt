@@ -37,7 +37,7 @@ fn work<R: Clock + Wait, G: PartGate>(
     let Some(mut desks) = pool.lock(site.rt).pop() else {
         return false;
     };
-    let Ok(mut own) = Loop::new(site, index) else {
+    let Some(mut own) = Loop::new(site, index) else {
         return false;
     };
     own.run(site, &mut desks).is_ok()

@@ -7,14 +7,20 @@ use crate::looping::{Kind, Loop};
 use crate::note::Guest;
 use crate::part_gate::PartGate;
 use crate::site::Site;
-use hub_core::StepPause;
 use mio::unix::SourceFd;
-use session_core::LinkFault;
+use session_core::{LinkFault, Pause};
+use session_table::SessionId;
 use std::os::fd::AsRawFd;
 use std::sync::Wait;
 
-/// How many bytes are read at a time.
-const ROOM: usize = 16_384;
+/// What a peer waits for that is listed.
+#[derive(Clone, Copy, Debug, PartialEq, Eq)]
+pub(crate) enum Until {
+    /// Nothing: it is its turn again soon.
+    Soon,
+    /// A place for its session.
+    Place,
+}
 
 impl Loop {
     /// Goes on with this peer, as far as its stream goes without waiting; then lets those go that keep more than all
@@ -25,10 +31,7 @@ impl Loop {
         desks: &mut Desks<'_>,
         key: usize,
     ) {
-        let mut room = [0u8; ROOM];
-        let before = self.sent(key);
-        let did = self.hub.pump(site.alloc, key, &mut room, self.now);
-        self.count(site, key, before);
+        let did = self.hub.pump(site.alloc, key, &mut self.room, self.now);
         if let Some(code) = self.refusal(site, desks, key) {
             self.let_go(site, desks, key, Parting::Refuses(code));
             return;
@@ -41,41 +44,21 @@ impl Loop {
         self.keep_within(site, desks);
     }
 
-    /// How many messages were said to this peer.
-    fn sent(&self, key: usize) -> u32 {
-        self.hub.get(key).map_or(0, |peer| peer.sent())
-    }
-
-    /// Counts in the table what was said to this peer since so many messages.
-    fn count<R: Wait, G>(&mut self, site: &Site<'_, R, G>, key: usize, before: u32) {
-        let Some(id) = self.notes.id(key) else {
-            return;
-        };
-        let sent = self.sent(key);
-        if sent == before {
-            return;
-        }
-        let mut sessions = site.common.sessions.lock(site.rt);
-        for _message in before..sent {
-            let _counted = sessions.note_sent(id);
-        }
-    }
-
     /// Does what a step of this peer asks for.
     fn follow<R: Wait, G: PartGate>(
         &mut self,
         site: &Site<'_, R, G>,
         desks: &mut Desks<'_>,
         key: usize,
-        pause: StepPause,
+        pause: Pause,
     ) {
         match pause {
-            StepPause::Opens => self.open(site, desks, key),
-            StepPause::Over => self.let_go(site, desks, key, Parting::Over),
-            StepPause::More if self.is_long(site, key) => self.hand_over(site, desks, key),
-            StepPause::More => self.soon(site, desks, key),
-            StepPause::Waits if self.is_long(site, key) => self.hand_over(site, desks, key),
-            StepPause::Waits => {}
+            Pause::Opens => self.open(site, desks, key),
+            Pause::Over => self.let_go(site, desks, key, Parting::Over),
+            Pause::More if self.is_long(site, key) => self.hand_over(site, desks, key),
+            Pause::More => self.list(site, desks, key, Until::Soon),
+            Pause::Waits if self.is_long(site, key) => self.hand_over(site, desks, key),
+            Pause::Waits => {}
         }
     }
 
@@ -86,26 +69,22 @@ impl Loop {
             && site.crowd.has_inlet(site.crowd.taker_of(key))
     }
 
-    /// Notes that it goes on with this peer without waiting. Where memory runs out, the peer is let go.
-    pub(crate) fn soon<R: Wait, G: PartGate>(
+    /// Lists this peer, with whom it goes on then. Where memory runs out, the peer is let go.
+    fn list<R: Wait, G: PartGate>(
         &mut self,
         site: &Site<'_, R, G>,
         desks: &mut Desks<'_>,
         key: usize,
+        until: Until,
     ) {
-        if !self.notes.set_listed(key, true) && self.soon.push(key).is_err() {
-            self.let_go(site, desks, key, Parting::Failed(LinkFault::Memory));
+        if self.notes.set_listed(key, true) {
+            return;
         }
-    }
-
-    /// The same once there may be a place for its session.
-    fn wait_for_place<R: Wait, G: PartGate>(
-        &mut self,
-        site: &Site<'_, R, G>,
-        desks: &mut Desks<'_>,
-        key: usize,
-    ) {
-        if !self.notes.set_listed(key, true) && self.waiting.push(key).is_err() {
+        let listed = match until {
+            Until::Soon => self.soon.push(key),
+            Until::Place => self.waiting.push(key),
+        };
+        if listed.is_err() {
             self.let_go(site, desks, key, Parting::Failed(LinkFault::Memory));
         }
     }
@@ -123,44 +102,33 @@ impl Loop {
         key: usize,
     ) {
         if !site.crowd.take_place() {
-            self.wait_for_place(site, desks, key);
+            self.list(site, desks, key, Until::Place);
             return;
         }
         let opened = self.open_session(site, desks, key);
-        self.book(site, key);
-        if opened.is_err() {
-            self.let_go(site, desks, key, Parting::Failed(LinkFault::Memory));
-            return;
+        self.enter(site, key);
+        match opened {
+            Ok(()) => self.list(site, desks, key, Until::Soon),
+            Err(parting) => self.let_go(site, desks, key, parting),
         }
-        self.soon(site, desks, key);
     }
 
     /// Enters the session of this peer into the table, if its first message was answered; else its place is given back.
-    fn book<R: Wait, G>(&mut self, site: &Site<'_, R, G>, key: usize) {
-        if !self.enter(site, key) {
-            site.crowd.give_place_back();
+    fn enter<R: Wait, G>(&mut self, site: &Site<'_, R, G>, key: usize) {
+        match self.entered(site, key) {
+            Some(id) => self.notes.book(key, id),
+            None => site.crowd.give_place_back(),
         }
     }
 
-    /// Enters the session of this peer into the table, if its first message was answered. Whether it did.
-    fn enter<R: Wait, G>(&mut self, site: &Site<'_, R, G>, key: usize) -> bool {
-        let Some(peer) = self.hub.get(key) else {
-            return false;
-        };
+    /// The session of this peer in the table, where it is now, if its first message was answered.
+    fn entered<R: Wait, G>(&self, site: &Site<'_, R, G>, key: usize) -> Option<SessionId> {
+        let peer = self.hub.get(key)?;
         if peer.sent() == 0 {
-            return false;
+            return None;
         }
-        let opened = site
-            .common
-            .sessions
-            .lock(site.rt)
-            .open(peer.stage().bound());
-        let Ok(id) = opened else {
-            return false;
-        };
-        self.notes.book(key, id);
-        self.count(site, key, 0);
-        true
+        let bound = peer.phase().bound();
+        site.common.sessions.lock(site.rt).open(bound).ok()
     }
 
     /// Hands this peer to the loop for those whose messages are long.

@@ -4,7 +4,7 @@ ghost use Rattle.std.specs.Prelude.{◌≡◌, length};
 ghost use Rattle.peer_loops.specs.Visits.{IsTold, ours_in, profile_in, theirs_in};
 
 use ends_core::Learned;
-use hub_core::Stage;
+use hub_core::Phase;
 use peer_threads::Outcome;
 use std::net::SocketAddr;
 use tcp_front::Half;
@@ -25,13 +25,13 @@ pub(crate) struct Leaver {
 }
 
 /// The wire profile of a session that was opened.
-pub(crate) fn profile_of(stage: &Stage) -> Option<u64>
-    ensures { result ≡ profile_in stage.now }
+pub(crate) fn profile_of(phase: &Phase) -> Option<u64>
+    ensures { result ≡ profile_in phase.now }
 {
-    match stage {
-        Stage::Greeting(_) => None,
-        Stage::Plain(_) => Some(1),
-        Stage::Counted(_) => Some(2),
+    match phase {
+        Phase::Greeting(_) => None,
+        Phase::Plain(_) => Some(1),
+        Phase::Counted(_) => Some(2),
     }
 }
 

@@ -2,8 +2,8 @@
 --     cause_of kind     the cause, by what the system said
 use Rattle.std.specs.declared.io.ErrorKind.{ErrorKind}
 use Rattle.std.specs.declared.io.ErrorKind.TheVariants as kinds
-use Rattle.printing_core.specs.declared.told.Cause.{Cause}
-use Rattle.printing_core.specs.declared.told.Cause.TheVariants as causes
+use Rattle.printing_core.specs.declared.serve.Cause.{Cause}
+use Rattle.printing_core.specs.declared.serve.Cause.TheVariants as causes
 
 abbrev pub cause_of : ErrorKind → Cause
 cause_of kinds.StorageFull = causes.NoRoom

@@ -1,9 +1,7 @@
 -- Why a run is refused, by what refused, and its status.
---     of_answer, of_input, of_decoding, of_listing, of_settings, of_load, of_scenario, of_log, of_listen, of_connect,
---     of_source
---                                                   the fault of what a lower call answers
---     IsWordsStatus f status                        the status of a call whose words ask for nothing that is done
---     status_of f                                   the status of a run that ends so
+--     of_answer, of_input, of_decoding, of_listing, of_log, of_source     the fault of what a lower call answers
+--     IsWordsStatus f status     the status of a call whose words ask for nothing that is done
+--     status_of f                the status of a run that ends so
 use Rattle.std.specs.Prelude.{ℕ, ◌≡◌, ◌⊎◌}
 use Rattle.wire_core.specs.declared.fault.DecodeError.{DecodeError}
 use Rattle.wire_core.specs.declared.fault.DecodeError.TheVariants as errors
@@ -13,30 +11,16 @@ use Rattle.ends_core.specs.declared.listing.ListReplyFault.{ListReplyFault}
 use Rattle.ends_core.specs.declared.listing.ListReplyFault.TheVariants as lists
 use Rattle.ends_core.specs.declared.answering.AnswerFault.{AnswerFault}
 use Rattle.ends_core.specs.declared.answering.AnswerFault.TheVariants as answers
-use Rattle.item_files.specs.declared.fault.SettingsFault.{SettingsFault}
-use Rattle.item_files.specs.declared.fault.SettingsFault.TheVariants as settings
-use Rattle.item_files.specs.declared.load_fault.LoadFault.{LoadFault}
-use Rattle.item_files.specs.declared.load_fault.LoadFault.TheVariants as loads
-use Rattle.sim_core.specs.declared.scenario_fault.ScenarioFault.TheVariants as scenarios
-use Rattle.sim_core.specs.declared.scenario_fault.ScenarioError.{ScenarioError}
-use Rattle.sim_core.specs.declared.scenario_fault.ScenarioError.TheVariants as scenario_errors
 use Rattle.settings_core.specs.declared.words.WordsFault.{WordsFault}
 use Rattle.settings_core.specs.declared.words.WordsFault.TheVariants as words
-use Rattle.strategy_core.specs.declared.fault.StrategyFault.TheVariants as strategies
 use Rattle.version_log.specs.declared.answer.LogFault.{LogFault}
 use Rattle.version_log.specs.declared.answer.LogFault.TheVariants as logs
-use Rattle.tcp_front.specs.declared.fault.ListenFault.{ListenFault}
-use Rattle.tcp_front.specs.declared.fault.ListenFault.TheVariants as listens
-use Rattle.tcp_front.specs.declared.fault.ConnectFault.{ConnectFault}
-use Rattle.tcp_front.specs.declared.fault.ConnectFault.TheVariants as connects
 use Rattle.session_table.specs.declared.source.SourceFault.{SourceFault}
 use Rattle.session_table.specs.declared.source.SourceFault.TheVariants as sources
 use Rattle.printing_core.specs.declared.fault.Fault.{Fault}
-use Rattle.printing_core.specs.declared.fault.Fault.TheVariants.{CannotRead, BadItemLine, NotHex, TooManyItems}
-use Rattle.printing_core.specs.declared.fault.Fault.TheVariants.{BadScenario, BadStep, Strategy, Check, Wire, Misplaced}
-use Rattle.printing_core.specs.declared.fault.Fault.TheVariants.{Bind}
-use Rattle.printing_core.specs.declared.fault.Fault.TheVariants.{Connect, Accept, Session, PeerRefused, ReaderFailed}
-use Rattle.printing_core.specs.declared.fault.Fault.TheVariants.{WriterFailed, LinesLost, Incomplete, Memory}
+use Rattle.printing_core.specs.declared.fault.Fault.TheVariants.{CannotRead, TooManyItems, Wire, Misplaced, Bind, Connect}
+use Rattle.printing_core.specs.declared.fault.Fault.TheVariants.{Accept, ReaderFailed, WriterFailed, LinesLost}
+use Rattle.printing_core.specs.declared.fault.Fault.TheVariants.{Incomplete, Memory}
 
 abbrev pub of_answer : AnswerFault → Fault
 of_answer answers.CannotRead = CannotRead
@@ -57,41 +41,9 @@ abbrev pub of_listing : ListReplyFault → Fault
 of_listing lists.Misplaced = Misplaced
 of_listing lists.Memory = Memory
 
-abbrev pub of_settings : SettingsFault → Fault
-of_settings (settings.CannotRead f) = CannotRead
-of_settings (settings.BadItemLine bad) = BadItemLine bad.number
-of_settings (settings.TooManyItems cap count) = TooManyItems
-of_settings (settings.Strategy flaw) = Strategy flaw.fault
-of_settings (settings.Check f) = Check f
-of_settings settings.Memory = Memory
-
-abbrev pub of_load : LoadFault → Fault
-of_load (loads.CannotRead f) = CannotRead
-of_load loads.TooLong = CannotRead
-of_load (loads.BadItemLine bad) = BadItemLine bad.number
-of_load (loads.TooManyItems shard) = TooManyItems
-of_load loads.Memory = Memory
-
-abbrev pub of_scenario : ScenarioError → Fault
-of_scenario scenario_errors.Memory = Memory
-of_scenario (scenario_errors.Fault scenarios.NotToml) = Strategy strategies.NotToml
-of_scenario (scenario_errors.Fault (scenarios.Strategy node flaw)) = Strategy flaw.fault
-of_scenario (scenario_errors.Fault (scenarios.Check node f)) = Check f
-of_scenario (scenario_errors.Fault (scenarios.TooManyItems node cap)) = TooManyItems
-of_scenario (scenario_errors.Fault scenarios.BadScenario) = BadScenario
-of_scenario (scenario_errors.Fault (scenarios.BadStep step)) = BadStep step
-
 abbrev pub of_log : LogFault → Fault
 of_log logs.Full = TooManyItems
 of_log logs.Memory = Memory
-
-abbrev pub of_listen : ListenFault → Fault
-of_listen (listens.Unreached cause) = Bind
-of_listen listens.Memory = Memory
-
-abbrev pub of_connect : ConnectFault → Fault
-of_connect (connects.Unreached cause) = Connect
-of_connect connects.Memory = Memory
 
 abbrev pub of_source : SourceFault → Fault
 of_source sources.Accept = Accept

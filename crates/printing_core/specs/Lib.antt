@@ -1,13 +1,11 @@
-pub mod Blanks
 pub mod Causes
 pub mod CostLines
-pub mod Endings
 pub mod FaultsOf
 pub mod HexLines
 pub mod ItemTexts
 pub mod Lines
+pub mod Refusals
 pub mod ReportTexts
-pub mod SecondLines
 pub mod SessionTexts
 pub mod ShardTexts
 pub mod ShownLines

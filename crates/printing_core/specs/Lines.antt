@@ -1,6 +1,6 @@
 -- The line that a fault prints.
 --     accepted_text steps     the lines of a strategy that is accepted
---     strategy_line f  the line of a text or a table that is no strategy
+--     strategy_line f  the line of a table that is no strategy
 --     check_line f     the line of a strategy that is not accepted
 --     fault_line f     the line, without its newline: `refused`, the number, the name and the values
 use Rattle.std.specs.Prelude.{ℕ, List, [], ◌∷◌, ◌++◌, codes, flat_map}
@@ -9,21 +9,20 @@ use Rattle.wire_core.specs.Refused.{fault_number}
 use Rattle.session_table.specs.Names.{session_refusal_name}
 use Rattle.strategy_core.specs.Texts.{key_of}
 use Rattle.strategy_core.specs.declared.fault.StrategyFault.{StrategyFault}
-use Rattle.strategy_core.specs.declared.fault.StrategyFault.TheVariants.{NotToml, Missing, BadNumber, RowOrder}
+use Rattle.strategy_core.specs.declared.fault.StrategyFault.TheVariants.{Missing, BadNumber, RowOrder}
 use Rattle.strategy_core.specs.declared.fault.StrategyFault.TheVariants.{RowAction, CapMismatch, BadBounds}
 use Rattle.strategy_check.specs.declared.fault.CheckFault.{CheckFault}
 use Rattle.strategy_check.specs.declared.fault.CheckFault.TheVariants.{NoDescent, ListTooLong, TooDeep, BadCertificate}
 use Rattle.printing_core.specs.declared.fault.Fault.{Fault}
 use Rattle.printing_core.specs.declared.fault.Fault.TheVariants.{CannotRead, BadItemLine, NotHex, TooManyItems}
-use Rattle.printing_core.specs.declared.fault.Fault.TheVariants.{BadScenario, BadStep, Strategy, Check, Wire, Misplaced}
-use Rattle.printing_core.specs.declared.fault.Fault.TheVariants.{Bind}
-use Rattle.printing_core.specs.declared.fault.Fault.TheVariants.{Connect, Accept, Session, PeerRefused, ReaderFailed}
+use Rattle.printing_core.specs.declared.fault.Fault.TheVariants.{BadScenario, BadStep, NotToml, Strategy, Check, Wire}
+use Rattle.printing_core.specs.declared.fault.Fault.TheVariants.{Misplaced, Bind, Connect, Accept, Session, PeerRefused}
+use Rattle.printing_core.specs.declared.fault.Fault.TheVariants.{ReaderFailed}
 use Rattle.printing_core.specs.declared.fault.Fault.TheVariants.{WriterFailed, LinesLost, Incomplete, Memory}
 
 abbrev pub strategy_line : StrategyFault → List ℕ
-strategy_line NotToml = codes "refused 30 NotToml"
 strategy_line (Missing field) = codes "refused 31 Missing " ++ key_of field
-strategy_line BadNumber = codes "refused 32 BadNumber"
+strategy_line (BadNumber field least greatest) = codes "refused 32 BadNumber"
 strategy_line RowOrder = codes "refused 33 RowOrder"
 strategy_line RowAction = codes "refused 34 RowAction"
 strategy_line CapMismatch = codes "refused 35 CapMismatch"
@@ -43,6 +42,7 @@ fault_line NotHex = codes "refused 81 BadItemLine 1"
 fault_line TooManyItems = codes "refused 82 TooManyItems"
 fault_line BadScenario = codes "refused 83 BadScenario"
 fault_line (BadStep step) = codes "refused 84 BadStep " ++ decimal step
+fault_line NotToml = codes "refused 30 NotToml"
 fault_line (Strategy f) = strategy_line f
 fault_line (Check f) = check_line f
 fault_line (Wire f) =

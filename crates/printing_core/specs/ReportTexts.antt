@@ -17,7 +17,7 @@ use Rattle.shard_core.specs.declared.selector.Which.TheVariants.{Shard, Director
 use Rattle.item_files.specs.declared.form.ItemForm.{ItemForm}
 use Rattle.printing_core.specs.SessionTexts.{named_line, learned_text, of_direction}
 use Rattle.printing_core.specs.Lines.{fault_line}
-use Rattle.printing_core.specs.declared.session_texts.Listing.TheVariants.{Items}
+use Rattle.printing_core.specs.declared.sessions.Listing.TheVariants.{Items}
 use Rattle.printing_core.specs.declared.fault.Fault.{Fault}
 use Rattle.printing_core.specs.declared.fault.Fault.TheVariants as faults
 

@@ -7,26 +7,37 @@
 --     session_fault o, session_learned o     why a session did not end, or what it learned
 --     IsSyncOf l o result        what `sync` prints of a session, or the fault that it ends with
 --     finds_any o                whether a session came to its end and found an item that one side lacks
-use Rattle.std.specs.Prelude.{ℕ, ◌≡◌, List, ◌∷◌, ◌++◌, length, nat_lt, Bool, false, ◌||◌, String, codes, flat_map}
+--     report_fault r             the fault that `serve` refuses with, if the report has one
+--     fault_in result            the fault of a call, if it has one
+--     difference_status checks differ    the status of a session that came to its end
+--     may_pass f                 whether a session with this fault may come to its end if it is tried again
+use Rattle.std.specs.Prelude.{ℕ, ◌≡◌, List, ◌∷◌, ◌++◌, length, nat_lt, Bool, true, false, ◌||◌, ◌&&◌, String, codes, flat_map}
+use Rattle.std.specs.Prelude.{◌==◌, if◌then◌else◌}
 use Rattle.std.specs.Prelude.{Option, Some, None, Result, Ok, Err, string_bytes}
 use Rattle.std.specs.declared.alloc.Global.{Global}
 use Rattle.std.specs.Fmt.{decimal}
 use Rattle.definitions.specs.Items.{Item}
 use Rattle.definitions.specs.Sets.{set_of}
 use Rattle.definitions.specs.Talks.{Knowledge}
+use Rattle.session_table.specs.declared.source.SourceFault.{SourceFault}
+use Rattle.session_table.specs.declared.report.WorkersReport.{WorkersReport}
 use Rattle.session_table.specs.declared.totals.Totals.{Totals}
 use Rattle.session_table.specs.declared.outcome.Direction.{Direction}
 use Rattle.session_table.specs.declared.outcome.Direction.TheVariants as directions
 use Rattle.session_table.specs.declared.outcome.Outcome.{Outcome}
 use Rattle.session_table.specs.declared.outcome.Outcome.TheVariants as outcomes
 use Rattle.item_files.specs.declared.form.ItemForm.{ItemForm}
-use Rattle.printing_core.specs.Endings.{fault_in}
+use Rattle.printing_core.specs.FaultsOf.{of_source}
 use Rattle.printing_core.specs.ItemTexts.{item_line}
-use Rattle.printing_core.specs.declared.session_texts.Listing.{Listing}
-use Rattle.printing_core.specs.declared.session_texts.Listing.TheVariants as listings
+use Rattle.printing_core.specs.declared.sessions.Listing.{Listing}
+use Rattle.printing_core.specs.declared.sessions.Listing.TheVariants as listings
 use Rattle.printing_core.specs.declared.fault.Fault.{Fault}
-use Rattle.printing_core.specs.declared.fault.Fault.TheVariants.{Session, PeerRefused, ReaderFailed, WriterFailed}
+use Rattle.printing_core.specs.declared.fault.Fault.TheVariants.{Session, PeerRefused, Connect, ReaderFailed, WriterFailed}
 use Rattle.printing_core.specs.declared.fault.Fault.TheVariants.{Memory}
+
+abbrev pub fault_in : {X : Type 0} → Result X Fault → Option Fault
+fault_in (Ok x) = None
+fault_in (Err f) = Some f
 
 abbrev pub listening_line : List ℕ → List ℕ
 listening_line address = codes "listening " ++ (address ++ codes "\n")
@@ -82,3 +93,26 @@ IsSyncOf listing outcome result = fault_in result ≡ session_fault outcome
 abbrev pub finds_any : Outcome → Bool
 finds_any (outcomes.Ended learned sent version) = nat_lt 0 (length learned.ours) || nat_lt 0 (length learned.theirs)
 finds_any outcome = false
+
+-- ---- how workers and sessions end
+
+abbrev pub started_fault : ℕ → Option Fault
+started_fault started = if started == 0 then Some Memory else None
+
+abbrev pub source_fault : ℕ → Option SourceFault → Option Fault
+source_fault started (Some f) = Some (of_source f)
+source_fault started None = started_fault started
+
+abbrev pub report_fault : WorkersReport → Option Fault
+report_fault r = source_fault r.started r.fault
+
+abbrev pub difference_status : Bool → Bool → ℕ
+difference_status checks differ = if checks && differ then 4 else 0
+
+-- 3 is Truncated: the connection ended in the middle of a message
+abbrev pub may_pass : Fault → Bool
+may_pass Connect = true
+may_pass ReaderFailed = true
+may_pass WriterFailed = true
+may_pass (Session code) = code == 3
+may_pass fault = false

@@ -7,8 +7,8 @@ use Rattle.definitions.specs.Items.{Item}
 use Rattle.printing_core.specs.Lines.{fault_line, spaced}
 use Rattle.printing_core.specs.SessionTexts.{listed_text}
 use Rattle.printing_core.specs.declared.fault.Fault.{Fault}
-use Rattle.printing_core.specs.declared.session_texts.Listing.{Listing}
-use Rattle.printing_core.specs.declared.shard_texts.MergedCounts.{MergedCounts}
+use Rattle.printing_core.specs.declared.sessions.Listing.{Listing}
+use Rattle.printing_core.specs.declared.sync_shards.MergedCounts.{MergedCounts}
 
 abbrev pub merged_head : MergedCounts → List ℕ
 merged_head c = codes "shards " ++ (decimal c.shards ++ (codes " differ " ++ (decimal c.differ

@@ -2,7 +2,7 @@
 --     stats_text s      messages, parts and bytes both ways, and seconds: a line each
 use Rattle.std.specs.Prelude.{ℕ, ◌/◌, ◌%◌, List, ◌++◌, codes, Option, Some, None}
 use Rattle.std.specs.Fmt.{decimal}
-use Rattle.printing_core.specs.declared.stats.Stats.{Stats}
+use Rattle.printing_core.specs.declared.sync_stats.Stats.{Stats}
 
 -- thousandths of a second, as seconds to three places
 abbrev pub seconds_text : Option ℕ → List ℕ

@@ -1,20 +1,18 @@
 //! Why a run is refused.
 
-ghost use Rattle.std.specs.Prelude.{◌≡◌};
-ghost use Rattle.printing_core.specs.FaultsOf.{of_answer, of_input, of_decoding, of_listing, of_settings, of_scenario};
-ghost use Rattle.printing_core.specs.FaultsOf.{of_log, of_listen, of_connect, of_source, of_load};
+ghost use Rattle.std.specs.Prelude.{◌≡◌, Some};
+ghost use Rattle.printing_core.specs.FaultsOf.{of_answer, of_input, of_decoding, of_listing, of_log, of_source, status_of};
+ghost use Rattle.printing_core.specs.Lines.{strategy_line, check_line, fault_line};
 ghost use Rattle.printing_core.specs.declared.fault.Fault.TheVariants as faults;
 
 use ends_core::{AnswerFault, ListReplyFault};
 use io_core::{InputFault, WriterFailed};
-use item_files::SettingsFault;
-use session_table::SourceFault;
-use item_files::LoadFault;
-use sim_core::{ScenarioError, ScenarioFault};
+use session_table::{SourceFault, session_refusal_name};
 use std::alloc::{AllocError, AllocFailed};
+use std::fmt;
+use std::io::Write;
 use strategy_check::CheckFault;
 use strategy_core::StrategyFault;
-use tcp_front::{ConnectFault, ListenFault};
 use version_log::LogFault;
 use wire_core::{DecodeError, WireFault};
 
@@ -36,7 +34,9 @@ pub enum Fault {
     BadScenario,
     /// A text of a scenario, from 0, spells no step.
     BadStep { step: usize },
-    /// A strategy file holds no strategy.
+    /// A strategy file, or a scenario, is no TOML text.
+    NotToml,
+    /// A table is no strategy.
     Strategy(StrategyFault),
     /// A strategy is not accepted.
     Check(CheckFault),
@@ -64,6 +64,105 @@ pub enum Fault {
     Incomplete,
     /// Memory ran out.
     Memory,
+}
+
+impl Fault {
+    /// The status of a run that ends so.
+    pub fn status(self) -> u8
+        ensures { result ≡ status_of self }
+    {
+        match self {
+            Fault::CannotRead
+            | Fault::Bind
+            | Fault::Connect
+            | Fault::Accept
+            | Fault::ReaderFailed
+            | Fault::WriterFailed
+            | Fault::LinesLost
+            | Fault::Incomplete
+            | Fault::Memory => 3,
+            _ => 1,
+        }
+    }
+}
+
+/// The line of a table that is no strategy.
+#[derive(Clone, Copy)]
+struct StrategyLine(StrategyFault);
+
+impl fmt::Display for StrategyLine {
+    ghost output = { λ line. Some (strategy_line line.0) };
+
+    fn fmt<W: fmt::Write>(&self, f: &mut fmt::Formatter<W>) -> fmt::Result {
+        match self.0 {
+            StrategyFault::Missing(field) => write!(f, "refused 31 Missing {}", field.key()),
+            StrategyFault::BadNumber { .. } => write!(f, "refused 32 BadNumber"),
+            StrategyFault::RowOrder => write!(f, "refused 33 RowOrder"),
+            StrategyFault::RowAction => write!(f, "refused 34 RowAction"),
+            StrategyFault::CapMismatch => write!(f, "refused 35 CapMismatch"),
+            StrategyFault::BadBounds => write!(f, "refused 29 BadBounds"),
+        }
+    }
+}
+
+/// The line of a strategy that is not accepted.
+#[derive(Clone, Copy)]
+struct CheckLine(CheckFault);
+
+impl fmt::Display for CheckLine {
+    ghost output = { λ line. Some (check_line line.0) };
+
+    fn fmt<W: fmt::Write>(&self, f: &mut fmt::Formatter<W>) -> fmt::Result {
+        match self.0 {
+            CheckFault::NoDescent { count } => write!(f, "refused 36 NoDescent {count}"),
+            CheckFault::ListTooLong { upto } => write!(f, "refused 37 ListTooLong {upto}"),
+            CheckFault::TooDeep { count, rank } => write!(f, "refused 38 TooDeep {count} {rank}"),
+            CheckFault::BadCertificate { count } => write!(f, "refused 39 BadCertificate {count}"),
+        }
+    }
+}
+
+impl fmt::Display for Fault {
+    ghost output = { λ f. Some (fault_line f) };
+
+    fn fmt<W: fmt::Write>(&self, f: &mut fmt::Formatter<W>) -> fmt::Result {
+        match self {
+            Fault::CannotRead => write!(f, "refused 80 CannotRead"),
+            Fault::BadItemLine { line } => write!(f, "refused 81 BadItemLine {line}"),
+            Fault::NotHex => write!(f, "refused 81 BadItemLine 1"),
+            Fault::TooManyItems => write!(f, "refused 82 TooManyItems"),
+            Fault::BadScenario => write!(f, "refused 83 BadScenario"),
+            Fault::BadStep { step } => write!(f, "refused 84 BadStep {step}"),
+            Fault::NotToml => write!(f, "refused 30 NotToml"),
+            Fault::Strategy(fault) => write!(f, "{}", StrategyLine(*fault)),
+            Fault::Check(fault) => write!(f, "{}", CheckLine(*fault)),
+            Fault::Wire(fault) => {
+                let code = fault.number();
+                write!(f, "refused {code} {}", session_refusal_name(code))
+            }
+            Fault::Misplaced => write!(f, "refused 20 Misplaced"),
+            Fault::Bind => write!(f, "refused 60 Bind"),
+            Fault::Connect => write!(f, "refused 61 Connect"),
+            Fault::Accept => write!(f, "refused 62 Accept"),
+            Fault::Session { code } => {
+                write!(f, "refused {code} {}", session_refusal_name(*code))
+            },
+            Fault::PeerRefused { code } => write!(f, "peer refused {code}"),
+            Fault::ReaderFailed => write!(f, "io read"),
+            Fault::WriterFailed | Fault::LinesLost => write!(f, "io write"),
+            Fault::Incomplete => write!(f, "incomplete"),
+            Fault::Memory => write!(f, "refused 90 Memory"),
+        }
+    }
+}
+
+/// Prints the fault's line, and gives the status. A line that is not taken changes nothing.
+pub fn tell<E: Write + Drop>(err: E, fault: Fault) -> u8
+    ensures { result ≡ status_of fault }
+{
+    let mut err = err;
+    let _told = writeln!(err, "{fault}");
+    fault.status()
 }
 
 impl From<AnswerFault> for Fault {
@@ -113,54 +212,6 @@ impl From<ListReplyFault> for Fault {
     }
 }
 
-impl From<SettingsFault> for Fault {
-    ghost from_gives = { λ f e. e ≡ of_settings f };
-
-    fn from(fault: SettingsFault) -> Fault {
-        match fault {
-            SettingsFault::CannotRead(_) => Fault::CannotRead,
-            SettingsFault::BadItemLine(bad) => Fault::BadItemLine { line: bad.number },
-            SettingsFault::TooManyItems { cap: _, count: _ } => Fault::TooManyItems,
-            SettingsFault::Strategy(flaw) => Fault::Strategy(flaw.fault),
-            SettingsFault::Check(fault) => Fault::Check(fault),
-            SettingsFault::Memory => Fault::Memory,
-        }
-    }
-}
-
-impl From<LoadFault> for Fault {
-    ghost from_gives = { λ f e. e ≡ of_load f };
-
-    fn from(fault: LoadFault) -> Fault {
-        match fault {
-            LoadFault::CannotRead(_) | LoadFault::TooLong => Fault::CannotRead,
-            LoadFault::BadItemLine(bad) => Fault::BadItemLine { line: bad.number },
-            LoadFault::TooManyItems { shard: _ } => Fault::TooManyItems,
-            LoadFault::Memory => Fault::Memory,
-        }
-    }
-}
-
-impl From<ScenarioError> for Fault {
-    ghost from_gives = { λ f e. e ≡ of_scenario f };
-
-    fn from(error: ScenarioError) -> Fault {
-        match error {
-            ScenarioError::Memory => Fault::Memory,
-            ScenarioError::Fault(ScenarioFault::NotToml) => Fault::Strategy(StrategyFault::NotToml),
-            ScenarioError::Fault(ScenarioFault::Strategy { node: _, flaw }) => {
-                Fault::Strategy(flaw.fault)
-            }
-            ScenarioError::Fault(ScenarioFault::Check { node: _, fault }) => Fault::Check(fault),
-            ScenarioError::Fault(ScenarioFault::TooManyItems { node: _, cap: _ }) => {
-                Fault::TooManyItems
-            }
-            ScenarioError::Fault(ScenarioFault::BadScenario) => Fault::BadScenario,
-            ScenarioError::Fault(ScenarioFault::BadStep { step }) => Fault::BadStep { step },
-        }
-    }
-}
-
 impl From<LogFault> for Fault {
     ghost from_gives = { λ f e. e ≡ of_log f };
 
@@ -168,28 +219,6 @@ impl From<LogFault> for Fault {
         match fault {
             LogFault::Full => Fault::TooManyItems,
             LogFault::Memory => Fault::Memory,
-        }
-    }
-}
-
-impl From<ListenFault> for Fault {
-    ghost from_gives = { λ f e. e ≡ of_listen f };
-
-    fn from(fault: ListenFault) -> Fault {
-        match fault {
-            ListenFault::Unreached(_) => Fault::Bind,
-            ListenFault::Memory => Fault::Memory,
-        }
-    }
-}
-
-impl From<ConnectFault> for Fault {
-    ghost from_gives = { λ f e. e ≡ of_connect f };
-
-    fn from(fault: ConnectFault) -> Fault {
-        match fault {
-            ConnectFault::Unreached(_) => Fault::Connect,
-            ConnectFault::Memory => Fault::Memory,
         }
     }
 }

@@ -1,10 +1,10 @@
 //! What second lines say of lines, strategies and addresses.
 
 use crate::why::Origin;
-use item_files::{Key, LineFlaw, NumberSpan, StrategyFlaw};
+use item_files::LineFlaw;
 use std::fmt;
 use strategy_check::CheckFault;
-use strategy_core::StrategyFault;
+use strategy_core::{Field, StrategyFault, StrategyFlaw};
 use tcp_front::Unreached;
 
 /// What is wrong with a line, after its number, and the line as it is shown.
@@ -44,55 +44,41 @@ impl fmt::Display for RowOrigin<'_> {
     }
 }
 
-/// The name of a number of a strategy.
-fn key_name(key: Key) -> &'static str {
-    match key {
-        Key::Cap => "cap",
-        Key::Limit => "limit",
-        Key::Rounds => "rounds",
-        Key::Upto => "upto",
-        Key::Weight => "a weight of split",
-        Key::Peel => "peel",
+/// The name of a number that stands under this key.
+fn number_name(field: Field) -> &'static str {
+    match field {
+        Field::Split => "a weight of split",
+        field => field.key(),
     }
 }
 
-/// What a strategy wants.
+/// What a strategy wants that is refused.
 #[derive(Clone, Copy)]
-struct StrategyWant(StrategyFault);
+pub(crate) struct FlawWant(pub StrategyFlaw);
 
-impl fmt::Display for StrategyWant {
+impl fmt::Display for FlawWant {
     fn fmt<W: fmt::Write>(&self, f: &mut fmt::Formatter<W>) -> fmt::Result {
-        match self.0 {
-            StrategyFault::NotToml => write!(f, "it is no TOML text"),
+        match self.0.fault {
             StrategyFault::Missing(field) => write!(f, "a strategy needs {}", field.key()),
-            StrategyFault::BadNumber => write!(f, "a number is not a whole number in its range"),
+            StrategyFault::BadNumber {
+                field,
+                least,
+                greatest,
+            } => {
+                let name = number_name(field);
+                write!(f, "{name} is a whole number from {least} to {greatest}")
+            }
             StrategyFault::RowOrder => write!(f, "upto is not above that of the row before"),
             StrategyFault::RowAction => write!(
                 f,
                 "a row has one of list = true, split = [2 to 64 weights] and peel"
             ),
             StrategyFault::CapMismatch => write!(f, "the upto of the last row is not the cap"),
+            StrategyFault::BadBounds if self.0.row.is_some() => {
+                write!(f, "bounds stands above the rows, and in none")
+            }
             StrategyFault::BadBounds => write!(f, "bounds is not the word items or short"),
         }
-    }
-}
-
-/// What a strategy wants that is refused: of a number, what it may be.
-#[derive(Clone, Copy)]
-pub(crate) struct FlawWant(pub StrategyFlaw);
-
-impl fmt::Display for FlawWant {
-    fn fmt<W: fmt::Write>(&self, f: &mut fmt::Formatter<W>) -> fmt::Result {
-        let Some(span) = self.0.number else {
-            return write!(f, "{}", StrategyWant(self.0.fault));
-        };
-        let NumberSpan {
-            key,
-            least,
-            greatest,
-        } = span;
-        let name = key_name(key);
-        write!(f, "{name} is a whole number from {least} to {greatest}")
     }
 }
 

@@ -3,17 +3,9 @@
 use crate::shown::shown_line;
 use crate::wants::RowOrigin;
 use crate::why::Origin;
-use item_files::{KeyPlace, StrayKey, meant_key};
+use item_files::{StrayKey, meant_key};
 use std::alloc::{AllocError, Global};
 use std::io::Write;
-
-/// The number of the row that a key stands in, if it stands in one.
-fn row_of(place: KeyPlace) -> Option<usize> {
-    match place {
-        KeyPlace::Head => None,
-        KeyPlace::Row(number) => Some(number),
-    }
-}
 
 /// A key as it is shown, and the key that was meant, if one is near.
 fn told_of(
@@ -30,7 +22,7 @@ pub fn tell_stray_key<E: Write>(alloc: Global, err: &mut E, file: &str, stray: S
     let Ok((shown, meant)) = told_of(alloc, stray) else {
         return;
     };
-    let origin = RowOrigin(Origin { file, node: None }, row_of(stray.place));
+    let origin = RowOrigin(Origin { file, node: None }, stray.row);
     let _told = match meant {
         Some(meant) => writeln!(err, "{origin}: {shown} is no key: did you mean {meant}?"),
         None => writeln!(err, "{origin}: {shown} is no key, and is ignored"),

@@ -2,11 +2,12 @@
 
 use crate::wants::{AddressWant, CheckWant, FlawWant, LineWant, RowOrigin};
 use io_core::ReadFault;
-use item_files::{LineFlaw, StrategyFlaw};
+use item_files::LineFlaw;
 use session_table::session_refusal_name;
 use std::fmt;
 use std::io::Write;
 use strategy_check::CheckFault;
+use strategy_core::StrategyFlaw;
 use tcp_front::Unreached;
 use thiserror::Error;
 
@@ -100,6 +101,11 @@ pub enum Why<'a> {
     FewPlaces {
         file: &'a str,
         shards: u32,
+    },
+    /// A text is no TOML.
+    #[error("{origin}: it is no TOML text")]
+    NotToml {
+        origin: Origin<'a>,
     },
     /// There is no strategy.
     #[error("{}: {}", RowOrigin(*.origin, .flaw.row), FlawWant(*.flaw))]

@@ -1,6 +1,7 @@
 //! Addresses as the words give them, with a port.
 
 ghost use Rattle.settings_core.specs.Spans.{AreInSpan};
+ghost use Rattle.rangesync.specs.Done.{IsChecking};
 
 use settings_core::{
     Address, Command, DEFAULT_PORT, METRICS_PORT, ServeWords, SyncWords, address_of, whole_address,
@@ -76,7 +77,8 @@ pub fn addresses_of(alloc: Global, command: Command<'_>) -> Result<Addresses, Al
 /// The same command at these addresses.
 pub fn at_addresses<'a>(command: Command<'a>, addresses: &'a Addresses) -> Command<'a>
     requires { AreInSpan command }
-    ensures { AreInSpan result }
+    ensures span { AreInSpan result }
+    ensures checks { IsChecking result → IsChecking command.entry }
 {
     match command {
         Command::Serve(words) => Command::Serve(ServeWords {

@@ -1,7 +1,11 @@
 //! The program over any runtime, reader and writers.
 
-ghost use Rattle.std.specs.Prelude.{◌≤◌, IfOk};
+ghost use Rattle.std.specs.Prelude.{◌≡◌, ◌≤◌, IfOk, IfErr, map};
+ghost use Rattle.settings_core.specs.Calls.{WordsAskFor};
 ghost use Rattle.settings_core.specs.Spans.{AreInSpan};
+ghost use Rattle.settings_core.specs.declared.commands.Call.{Call as Asked};
+ghost use Rattle.printing_core.specs.FaultsOf.{status_of};
+ghost use Rattle.rangesync.specs.Done.{IsChecking, IsDone};
 
 use crate::addresses::{addresses_of, at_addresses};
 use crate::answering::answer_for;
@@ -35,7 +39,7 @@ fn obey<'a, R, I: Read + Drop, O: Write + Drop, E: Write + Drop + Send>(
 where
     R: Files<File = File> + Loops,
     requires { AreInSpan command }
-    ensures { IfOk result (λ status. status ≤ 4) }
+    ensures { IfOk result (IsDone command.entry) }
 {
     let (reader, outputs) = ends;
     match command {
@@ -81,8 +85,8 @@ fn tell_second<E: Write>(err: &mut E, why: Option<Why<'_>>) {
 
 /// The status of what was done: that of a refusal after its line, and after a second one, if that is asked for.
 fn tell_done<E: Write>(err: &mut E, done: Result<u8, Refusal<'_>>, explains: bool) -> u8
-    requires { IfOk done (λ status. status ≤ 4) }
-    ensures { result ≤ 4 }
+    ensures done { IfOk done.entry (λ status. result ≡ status) }
+    ensures refused { IfErr done.entry (λ refusal. result ≡ status_of refusal.fault) }
 {
     match done {
         Ok(status) => status,
@@ -112,6 +116,7 @@ pub fn run<R, W: AsStr, I: Read + Drop, O: Write + Drop, E: Write + Drop + Send>
 where
     R: Files<File = File> + Loops,
     ensures known { result ≤ 4 }
+    ensures differ { result ≡ 4 → (call : Asked) × (WordsAskFor (map W.text words.now) call × IsChecking call.command) }
 {
     let StandardError {
         writer: mut err,

@@ -15,11 +15,33 @@ const MOST_WAITING: usize = 16_777_216;
 /// After so many failures in a row a new text only waits, until `write` is called.
 const MOST_FAILURES: u8 = 2;
 
+/// What is written to a file of lines.
+#[derive(Clone, Copy, Debug, PartialEq, Eq)]
+pub enum Kind {
+    /// What each session found.
+    Report,
+    /// What the log took from peers.
+    Learned,
+    /// The same, after all that the set had.
+    Keep,
+}
+
+impl Kind {
+    /// The option that the file is given by, without its dashes.
+    fn option(self) -> &'static str {
+        match self {
+            Kind::Report => "report",
+            Kind::Learned => "learned",
+            Kind::Keep => "keep",
+        }
+    }
+}
+
 /// What a file of lines is called on standard error.
 #[derive(Clone, Copy, Debug, PartialEq, Eq)]
 pub struct Name<'a> {
-    /// The option that it is given by, without its dashes.
-    pub option: &'a str,
+    /// What is written to it.
+    pub kind: Kind,
     /// Its path.
     pub path: &'a str,
 }
@@ -60,6 +82,11 @@ impl<'a, D: Device> Book<'a, D> {
         }
     }
 
+    /// Whether it is a report: else it holds items.
+    pub fn is_report(&self) -> bool {
+        self.name.kind == Kind::Report
+    }
+
     /// How many lines wait to be written.
     pub fn waiting_lines(&self) -> usize {
         self.lines.waiting_lines()
@@ -76,8 +103,10 @@ impl<'a, D: Device> Book<'a, D> {
     }
 
     /// Puts a text of whole lines after those that wait; it is left out if too many wait, or where memory runs out.
-    pub(crate) fn tell(&mut self, text: Result<String, AllocError>) -> Result<(), AllocError> {
-        let text = text?;
+    pub(crate) fn tell(&mut self, text: &Result<String, AllocError>) -> Result<(), AllocError> {
+        let Ok(text) = text else {
+            return Err(AllocError);
+        };
         let bytes = text.as_bytes();
         let room = MOST_WAITING.saturating_sub(self.lines.waiting().len());
         if bytes.len() > room || torn_length(bytes) > 0 {
@@ -103,7 +132,7 @@ impl<'a, D: Device> Book<'a, D> {
 
     /// Puts a text of whole lines after those that wait, and writes them all. Where that failed before, it is tried
     /// once more, and after that only by `write`.
-    pub fn put<E: Write>(&mut self, err: &mut E, text: Result<String, AllocError>) {
+    pub fn put<E: Write>(&mut self, err: &mut E, text: &Result<String, AllocError>) {
         if self.tell(text).is_err() {
             self.left_out = self.left_out.saturating_add(1);
         }
@@ -118,7 +147,7 @@ impl<'a, D: Device> Book<'a, D> {
         match self.lines.write() {
             Ok(()) if self.failures > 0 => {
                 self.failures = 0;
-                tell_written_again(err, self.name.option, waiting);
+                tell_written_again(err, self.name.kind.option(), waiting);
             }
             Ok(()) => {}
             Err(unwritten) => {
@@ -133,7 +162,7 @@ impl<'a, D: Device> Book<'a, D> {
     fn fail<E: Write>(&mut self, err: &mut E, cause: Cause) {
         if self.failures == 0 {
             let lines = self.lines.waiting_lines();
-            tell_unwritten(err, self.name.option);
+            tell_unwritten(err, self.name.kind.option());
             tell_unwritten_cause(err, self.name.path, cause, lines);
         }
         self.failures = self.failures.saturating_add(1);
@@ -154,8 +183,8 @@ impl<'a, D: Device> Book<'a, D> {
     {
         self.write(err);
         let waiting = self.lines.waiting_lines();
-        tell_left_waiting(err, self.name.option, waiting);
-        tell_left_out(err, self.name.option, self.left_out);
+        tell_left_waiting(err, self.name.kind.option(), waiting);
+        tell_left_out(err, self.name.kind.option(), self.left_out);
         waiting == 0 && self.left_out == 0
     }
 }

@@ -1,10 +1,10 @@
 //! The files that a server writes to: the report, what was learned, and the set itself.
 
-use crate::book::{Book, Name};
+use crate::book::{Book, Kind, Name};
 use io_core::Device;
 use loading::{Disk, ItemFile, Kept, Opened, open_lines};
 use printing_core::Refusal;
-use std::alloc::Global;
+use std::alloc::{AllocError, Global};
 use std::fs::File;
 use std::io::Write;
 use std::rt::Files;
@@ -20,44 +20,47 @@ pub struct Paths<'a> {
     pub keep: Option<&'a str>,
 }
 
-/// These files, open to be written at their ends.
+/// These files, open to be written at their ends: at most one of each kind.
 #[derive(Drop)]
 pub struct Books<'a, D> {
-    pub(crate) report: Option<Book<'a, D>>,
-    pub(crate) learned: Option<Book<'a, D>>,
-    pub(crate) keep: Option<Book<'a, D>>,
+    pub(crate) all: Vec<Book<'a, D>>,
 }
 
 /// The books of a disk.
 pub type DiskBooks<'a> = Books<'a, Disk<File>>;
 
-/// The file of an option, open to be written at its end.
-fn book<'a>(
-    alloc: Global,
-    name: Name<'a>,
-    opened: Opened,
-    items: Option<ItemFile>,
-) -> Book<'a, Disk<File>> {
-    let begins_blank = opened.is_empty() && items.is_some_and(|items| items.is_open_ended);
-    let mut book = Book::new(alloc, name, opened.into_lines(alloc));
-    if begins_blank {
-        book.begin_blank();
+impl<'a> DiskBooks<'a> {
+    /// Adds a file that is open.
+    fn add(
+        &mut self,
+        alloc: Global,
+        name: Name<'a>,
+        opened: Opened,
+        items: Option<ItemFile>,
+    ) -> Result<(), AllocError> {
+        let begins_blank = opened.is_empty() && items.is_some_and(|items| items.is_open_ended);
+        let mut book = Book::new(alloc, name, opened.into_lines(alloc));
+        if begins_blank {
+            book.begin_blank();
+        }
+        self.all.push(book)?;
+        Ok(())
     }
-    book
-}
 
-/// Opens the file of an option, if it is asked for. Else 80 or 90.
-fn open_book<'a, R: Files<File = File> + AllocGlobal, E: Write>(
-    rt: &R,
-    (option, path): (&'a str, Option<&'a str>),
-    items: Option<ItemFile>,
-    err: &mut E,
-) -> Result<Option<Book<'a, Disk<File>>>, Refusal<'a>> {
-    let Some(path) = path else {
-        return Ok(None);
-    };
-    let opened = open_lines(rt, path, items, err)?;
-    Ok(Some(book(rt.alloc(), Name { option, path }, opened, items)))
+    /// Opens the file at a path, if there is one, and adds it. Else 80 or 90.
+    fn open<R: Files<File = File> + AllocGlobal, E: Write>(
+        &mut self,
+        rt: &R,
+        (kind, path): (Kind, Option<&'a str>),
+        items: Option<ItemFile>,
+        err: &mut E,
+    ) -> Result<(), Refusal<'a>> {
+        if let Some(path) = path {
+            let opened = open_lines(rt, path, items, err)?;
+            self.add(rt.alloc(), Name { kind, path }, opened, items)?;
+        }
+        Ok(())
+    }
 }
 
 /// Opens the files that are asked for, but for the one that is open already. Else 80 where one cannot be opened, or is
@@ -69,71 +72,47 @@ pub fn open_books<'a, R: Files<File = File> + AllocGlobal, E: Write>(
     err: &mut E,
 ) -> Result<DiskBooks<'a>, Refusal<'a>> {
     let Kept { opened, items } = kept;
-    let report = open_book(rt, ("report", paths.report), None, err)?;
-    let learned = open_book(rt, ("learned", paths.learned), items, err)?;
-    let keep = match (paths.keep, opened) {
-        (Some(path), Some(opened)) => {
-            let name = Name {
-                option: "keep",
-                path,
-            };
-            Some(book(rt.alloc(), name, opened, items))
-        }
-        _ => None,
+    let mut books = Books {
+        all: Vec::new(rt.alloc()),
     };
-    Ok(Books {
-        report,
-        learned,
-        keep,
-    })
-}
-
-/// How many lines wait for a file, if there is one.
-fn waiting_in<D: Device>(book: &Option<Book<'_, D>>) -> u64 {
-    match book {
-        Some(book) => book.waiting_lines() as u64,
-        None => 0,
+    books.open(rt, (Kind::Report, paths.report), None, err)?;
+    books.open(rt, (Kind::Learned, paths.learned), items, err)?;
+    if let (Some(path), Some(opened)) = (paths.keep, opened) {
+        let name = Name {
+            kind: Kind::Keep,
+            path,
+        };
+        books.add(rt.alloc(), name, opened, items)?;
     }
-}
-
-/// How many writes to a file failed, if there is one.
-fn failed_in<D: Device>(book: &Option<Book<'_, D>>) -> u64 {
-    match book {
-        Some(book) => book.failed(),
-        None => 0,
-    }
+    Ok(books)
 }
 
 impl<D: Device> Books<'_, D> {
     /// How many lines wait to be written, over all files.
     pub fn waiting_lines(&self) -> u64 {
-        let lines = [
-            waiting_in(&self.report),
-            waiting_in(&self.learned),
-            waiting_in(&self.keep),
-        ];
-        lines[0].saturating_add(lines[1]).saturating_add(lines[2])
+        let mut lines: u64 = 0;
+        for book in &self.all {
+            lines = lines.saturating_add(book.waiting_lines() as u64);
+        }
+        lines
     }
 
     /// How many writes failed, over all files.
     pub fn failed(&self) -> u64 {
-        let failed = [
-            failed_in(&self.report),
-            failed_in(&self.learned),
-            failed_in(&self.keep),
-        ];
-        failed[0]
-            .saturating_add(failed[1])
-            .saturating_add(failed[2])
+        let mut failed: u64 = 0;
+        for book in &self.all {
+            failed = failed.saturating_add(book.failed());
+        }
+        failed
     }
 
     /// Whether there is a file at all.
     pub fn is_any(&self) -> bool {
-        self.report.is_some() || self.learned.is_some() || self.keep.is_some()
+        !self.all.is_empty()
     }
-}
 
-/// Closes a file, if there is one. Whether all that was to be written is written.
-pub fn close_book<D: Device + Drop, E: Write>(book: Option<Book<'_, D>>, err: &mut E) -> bool {
-    book.is_none_or(|book| book.close(err))
+    /// Whether there is a report.
+    pub fn has_report(&self) -> bool {
+        self.all.iter().any(|book| book.is_report())
+    }
 }

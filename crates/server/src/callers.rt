@@ -2,6 +2,7 @@
 //! closes.
 
 use std::alloc::{AllocError, Global};
+use std::io;
 use std::io::{ErrorKind, Read, Write};
 use std::os::fd::{AsRawFd, RawFd};
 use tcp_front::Half;
@@ -21,7 +22,7 @@ const TURNS: usize = 32;
 
 /// How far a caller is.
 #[derive(Clone, Copy, Debug, PartialEq, Eq)]
-enum Stage {
+enum CallerStage {
     /// Its request has not come whole.
     Asks,
     /// The answer is being written.
@@ -32,8 +33,8 @@ enum Stage {
 
 /// How a call left off.
 #[derive(Clone, Copy, Debug, PartialEq, Eq)]
-pub enum Step {
-    /// There is nothing to do until the connection is ready, or a while is over.
+pub enum CallerStep {
+    /// There is nothing to do now; until its connection is ready, if that is not.
     Waits,
     /// This is asked for.
     Asks(Asked),
@@ -46,7 +47,7 @@ pub enum Step {
 pub struct Caller {
     reader: Half,
     writer: Half,
-    stage: Stage,
+    stage: CallerStage,
     /// What came so far, while it asks.
     came: Vec<u8>,
     /// The answer, and how many bytes of it are written.
@@ -54,6 +55,8 @@ pub struct Caller {
     said: usize,
     /// How many bytes more are read.
     left: usize,
+    /// Whether the connection may go on without waiting.
+    is_ready: bool,
     /// When the connection is closed.
     until: u64,
     /// When a byte of it was last read or written.
@@ -67,11 +70,12 @@ impl Caller {
         Caller {
             reader,
             writer,
-            stage: Stage::Asks,
+            stage: CallerStage::Asks,
             came: Vec::new(alloc),
             answer: Vec::new(alloc),
             said: 0,
             left: MOST_BYTES,
+            is_ready: true,
             until: now.saturating_add(MOST_MILLISECONDS),
             heard: now,
         }
@@ -85,6 +89,25 @@ impl Caller {
     /// When a byte of it was last read or written.
     pub fn heard(&self) -> u64 {
         self.heard
+    }
+
+    /// Whether its connection may go on without waiting.
+    pub fn is_ready(&self) -> bool {
+        self.is_ready
+    }
+
+    /// From now on its connection may go on.
+    pub fn wake(&mut self) {
+        self.is_ready = true;
+    }
+
+    /// Its connection is to be waited for, if it failed for that; else it is to be closed.
+    fn after(&mut self, error: &io::Error) -> CallerStep {
+        if error.kind() != ErrorKind::WouldBlock {
+            return CallerStep::Gone;
+        }
+        self.is_ready = false;
+        CallerStep::Waits
     }
 
     /// How many bytes were read of it and written to it.
@@ -104,96 +127,84 @@ impl Caller {
     }
 
     /// Reads until its request has come.
-    fn hear(&mut self) -> Step {
+    fn hear(&mut self) -> CallerStep {
         let mut room = [0u8; ROOM];
         for _ in 0..TURNS {
             let count = match self.reader.read(&mut room) {
-                Ok(0) => return Step::Gone,
+                Ok(0) => return CallerStep::Gone,
                 Ok(count) => count,
-                Err(error) if error.kind() == ErrorKind::WouldBlock => return Step::Waits,
-                Err(_) => return Step::Gone,
+                Err(error) => return self.after(&error),
             };
             match self.keep(&room[..count]) {
-                Ok(Some(asked)) => return Step::Asks(asked),
+                Ok(Some(asked)) => return CallerStep::Asks(asked),
                 Ok(None) => {}
-                Err(AllocError) => return Step::Gone,
+                Err(AllocError) => return CallerStep::Gone,
             }
         }
-        Step::Waits
+        CallerStep::Waits
     }
 
     /// From now on it hears this answer.
     pub fn answer(&mut self, answer: Vec<u8>) {
         self.answer = answer;
-        self.stage = Stage::Hears;
-    }
-
-    /// Writes what is left of the answer. Whether that is all of it; none where the connection failed.
-    fn write_rest(&mut self) -> Option<bool> {
-        for _ in 0..TURNS {
-            let Some(rest) = self.answer.get(self.said..) else {
-                return None;
-            };
-            if rest.is_empty() {
-                return Some(true);
-            }
-            match self.writer.write(rest) {
-                Ok(0) => return None,
-                Ok(count) => self.said = self.said.saturating_add(count),
-                Err(error) if error.kind() == ErrorKind::WouldBlock => return Some(false),
-                Err(_) => return None,
-            }
-        }
-        Some(false)
+        self.stage = CallerStage::Hears;
     }
 
     /// Writes what is left of the answer, and then says that no more comes.
-    fn say(&mut self) -> Step {
-        match self.write_rest() {
-            None => Step::Gone,
-            Some(false) => Step::Waits,
-            Some(true) => self.leave(),
+    fn say(&mut self) -> CallerStep {
+        for _ in 0..TURNS {
+            let Some(rest) = self.answer.get(self.said..) else {
+                return CallerStep::Gone;
+            };
+            if rest.is_empty() {
+                return self.leave();
+            }
+            match self.writer.write(rest) {
+                Ok(0) => return CallerStep::Gone,
+                Ok(count) => self.said = self.said.saturating_add(count),
+                Err(error) => return self.after(&error),
+            }
         }
+        CallerStep::Waits
     }
 
     /// Says that no more comes, and reads on.
-    fn leave(&mut self) -> Step {
-        self.stage = Stage::Leaves;
+    fn leave(&mut self) -> CallerStep {
+        self.stage = CallerStage::Leaves;
         if self.writer.end_output().is_err() {
-            return Step::Gone;
+            return CallerStep::Gone;
         }
         self.read_on()
     }
 
     /// Reads what still comes, and drops it: a system that closes a connection with input unread throws away what the
     /// caller has not got so far.
-    fn read_on(&mut self) -> Step {
+    fn read_on(&mut self) -> CallerStep {
         let mut room = [0u8; ROOM];
         for _ in 0..TURNS {
             match self.reader.read(&mut room) {
-                Ok(0) => return Step::Gone,
+                Ok(0) => return CallerStep::Gone,
                 Ok(count) => self.left = self.left.saturating_sub(count),
-                Err(error) if error.kind() == ErrorKind::WouldBlock => return Step::Waits,
-                Err(_) => return Step::Gone,
+                Err(error) => return self.after(&error),
             }
             if self.left == 0 {
-                return Step::Gone;
+                return CallerStep::Gone;
             }
         }
-        Step::Waits
+        CallerStep::Waits
     }
 
     /// Does what is next of it.
-    fn go_on_once(&mut self) -> Step {
+    fn go_on_once(&mut self) -> CallerStep {
         match self.stage {
-            Stage::Asks => self.hear(),
-            Stage::Hears => self.say(),
-            Stage::Leaves => self.read_on(),
+            CallerStage::Asks => self.hear(),
+            CallerStage::Hears => self.say(),
+            CallerStage::Leaves => self.read_on(),
         }
     }
 
     /// Goes on as far as the connection goes without waiting.
-    pub fn go_on(&mut self, now: u64) -> Step {
+    pub fn go_on(&mut self, now: u64) -> CallerStep {
         let before = self.bytes();
         let step = self.go_on_once();
         if self.bytes() != before {

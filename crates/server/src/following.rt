@@ -1,6 +1,6 @@
 //! Files that others put in the place of those that a server writes to: `mv`, `sed -i`, an editor or a rotation.
 
-use crate::book::Book;
+use crate::book::{Book, Kind};
 use item_core::Item;
 use item_files::{ItemForm, item_set};
 use loading::{Disk, open_lines};
@@ -115,7 +115,7 @@ impl Book<'_, Disk<File>> {
 
     /// Goes on in the file that stands at the path, if that is another one. If nothing stands there a file is made, but
     /// not before a second is over: it may be between two steps of an editor.
-    pub fn follow<R: Files<File = File> + AllocGlobal, E: Write>(
+    fn follow<R: Files<File = File> + AllocGlobal, E: Write>(
         &mut self,
         rt: &R,
         when: When,
@@ -165,14 +165,26 @@ impl Book<'_, Disk<File>> {
         tell_replaced(err, self.name.path);
     }
 
-    /// Forgets the files that stood there before.
-    pub fn leave_behind(&mut self) {
-        self.followed.before.clear();
+    /// Goes on in the file that stands at the path. Of those that stood there before the file in which the set is kept
+    /// gets what it lacks; else they are forgotten.
+    pub fn go_on<R: Files<File = File> + AllocGlobal, E: Write>(
+        &mut self,
+        rt: &R,
+        form: ItemForm,
+        when: When,
+        err: &mut E,
+    ) {
+        self.follow(rt, when, err);
+        if self.name.kind == Kind::Keep {
+            self.carry_over(rt.alloc(), form, err);
+        } else {
+            self.followed.before.clear();
+        }
     }
 
     /// Adds the items that the files that stood there before have, and the one that is there has not. What is not
     /// written now is tried again at the next call.
-    pub fn carry_over<E: Write>(&mut self, alloc: Global, form: ItemForm, err: &mut E) {
+    fn carry_over<E: Write>(&mut self, alloc: Global, form: ItemForm, err: &mut E) {
         if self.followed.before.is_empty() {
             return;
         }
@@ -215,7 +227,7 @@ impl Book<'_, Disk<File>> {
         item: &Item,
         err: &mut E,
     ) -> bool {
-        if self.tell(learned_line(alloc, form, item)).is_err() {
+        if self.tell(&learned_line(alloc, form, item)).is_err() {
             return false;
         }
         if self.lines.waiting().len() < BATCH {

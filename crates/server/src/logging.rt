@@ -1,6 +1,6 @@
 //! The log: a line on standard error for each visit of a peer.
 
-use loading::millis_of;
+use loading::{millis_of, now};
 use peer_loops::{Board, Recent};
 use peer_threads::Outcome;
 use printing_core::Stats;
@@ -32,7 +32,7 @@ impl Clocks {
     fn read<R: Clock>(rt: &R) -> Clocks {
         Clocks {
             time: rt.since_1970().map_or(0, |time| millis_of(time)),
-            steady: rt.monotonic().map_or(0, |steady| millis_of(steady)),
+            steady: now(rt),
         }
     }
 

@@ -1,20 +1,22 @@
 //! A gate that writes to files what each session found and each item that the log took, and that bounds what one
 //! session may put into the log.
 
-use crate::books::{Books, close_book};
+ghost use Rattle.server.specs.Admitting.{LetsIn};
+
+use crate::books::Books;
 use crate::following::When;
 use crate::looking::Looking;
 use io_core::Device;
 use item_core::Item;
 use item_files::ItemForm;
-use loading::{Disk, millis_of};
+use loading::{Disk, now};
 use peer_loops::PartGate;
 use peer_threads::{Gate, Outcome};
 use printing_core::{
     Fault, Reporting, SessionName, learned_line, left_out_line, report_text, tell_full,
 };
 use shard_core::Which;
-use std::alloc::Global;
+use std::alloc::{AllocError, Global};
 use std::fs::File;
 use std::io::Write;
 use std::rt::Files;
@@ -39,7 +41,7 @@ pub struct Rules {
 
 /// What one thread at a time writes.
 #[derive(Drop)]
-struct Desk<'a, D, E> {
+struct Ledger<'a, D, E> {
     books: Books<'a, D>,
     err: E,
     /// How many items were dropped. It stops at the greatest number.
@@ -48,30 +50,23 @@ struct Desk<'a, D, E> {
     is_full_told: bool,
 }
 
-impl<D: Device + Drop, E: Write + Drop> Desk<'_, D, E> {
-    /// Reports a session that is over.
-    fn report(
-        &mut self,
-        alloc: Global,
-        reporting: Reporting,
-        session: SessionName,
-        outcome: &Outcome,
-    ) {
-        if let Some(book) = &mut self.books.report {
-            book.put(
-                &mut self.err,
-                report_text(alloc, reporting, session, outcome),
-            );
+impl<D: Device + Drop, E: Write + Drop> Ledger<'_, D, E> {
+    /// Puts this text into the report.
+    fn report(&mut self, text: Result<String, AllocError>) {
+        for book in self.books.all.iter_mut() {
+            if book.is_report() {
+                book.put(&mut self.err, &text);
+            }
         }
     }
 
     /// Writes an item that the log took.
     fn learn(&mut self, alloc: Global, form: ItemForm, item: &Item) {
-        if let Some(book) = &mut self.books.learned {
-            book.put(&mut self.err, learned_line(alloc, form, item));
-        }
-        if let Some(book) = &mut self.books.keep {
-            book.put(&mut self.err, learned_line(alloc, form, item));
+        let line = learned_line(alloc, form, item);
+        for book in self.books.all.iter_mut() {
+            if !book.is_report() {
+                book.put(&mut self.err, &line);
+            }
         }
     }
 
@@ -84,72 +79,46 @@ impl<D: Device + Drop, E: Write + Drop> Desk<'_, D, E> {
         }
     }
 
-    /// Reports that so many items of a session were not put in.
-    fn leave_out(&mut self, alloc: Global, serial: u64, count: usize) {
-        if count == 0 {
-            return;
-        }
-        if let Some(book) = &mut self.books.report {
-            book.put(&mut self.err, left_out_line(alloc, serial, count));
-        }
-    }
-
     /// Sees that what was learned outlives a loss of power.
     fn sync(&mut self) {
-        if let Some(book) = &mut self.books.learned {
-            book.sync(&mut self.err);
-        }
-        if let Some(book) = &mut self.books.keep {
-            book.sync(&mut self.err);
+        for book in self.books.all.iter_mut() {
+            if !book.is_report() {
+                book.sync(&mut self.err);
+            }
         }
     }
 
     /// Tries again to write what waits.
     fn try_again(&mut self) {
-        if let Some(book) = &mut self.books.report {
-            book.write(&mut self.err);
-        }
-        if let Some(book) = &mut self.books.learned {
-            book.write(&mut self.err);
-        }
-        if let Some(book) = &mut self.books.keep {
+        for book in self.books.all.iter_mut() {
             book.write(&mut self.err);
         }
     }
 
     /// Writes what waits for the last time, and closes the files.
     fn close(self) -> Closed {
-        let Desk {
+        let Ledger {
             books,
             mut err,
             dropped,
-            is_full_told: _,
+            ..
         } = self;
-        let report = close_book(books.report, &mut err);
-        let learned = close_book(books.learned, &mut err);
-        let keep = close_book(books.keep, &mut err);
+        let mut is_written = true;
+        for book in books.all {
+            is_written &= book.close(&mut err);
+        }
         Closed {
             dropped,
-            is_written: report && learned && keep,
+            is_written,
         }
     }
 }
 
-impl<E: Write + Drop> Desk<'_, Disk<File>, E> {
-    /// Goes on in files that others put in the place of those that are open. What the file had in which the set is
-    /// kept, and the one in its place has not, is added to it.
+impl<E: Write + Drop> Ledger<'_, Disk<File>, E> {
+    /// Goes on in files that others put in the place of those that are open.
     fn follow<R: Files<File = File> + AllocGlobal>(&mut self, rt: &R, form: ItemForm, when: When) {
-        if let Some(book) = &mut self.books.report {
-            book.follow(rt, when, &mut self.err);
-            book.leave_behind();
-        }
-        if let Some(book) = &mut self.books.learned {
-            book.follow(rt, when, &mut self.err);
-            book.leave_behind();
-        }
-        if let Some(book) = &mut self.books.keep {
-            book.follow(rt, when, &mut self.err);
-            book.carry_over(rt.alloc(), form, &mut self.err);
+        for book in self.books.all.iter_mut() {
+            book.go_on(rt, form, when, &mut self.err);
         }
     }
 }
@@ -174,15 +143,19 @@ impl Closed {
     }
 }
 
+/// The gate of a server: it writes to the files of a disk.
+pub type DiskReporter<'r, 'a, R, E> = Reporter<'r, 'a, R, Disk<File>, E>;
+
 /// A gate that lets every session go on, and writes what is asked for of each.
 #[derive(Drop)]
 pub struct Reporter<'r, 'a, R: Wait, D, E> {
     rt: &'r R,
     alloc: Global,
-    rules: Rules,
+    /// What is written, and how much is put into the log.
+    pub rules: Rules,
     /// The greatest number of items of the log.
     cap: usize,
-    desk: Mutex<Desk<'a, D, E>>,
+    ledger: Mutex<Ledger<'a, D, E>>,
     /// Whether each session is reported.
     reports: bool,
     looking: Looking,
@@ -201,8 +174,8 @@ impl<'r, 'a, R: Wait, D: Device + Drop, E: Write + Drop> Reporter<'r, 'a, R, D, 
         books: Books<'a, D>,
         err: E,
     ) -> Reporter<'r, 'a, R, D, E> {
-        let reports = books.report.is_some();
-        let desk = Desk {
+        let reports = books.has_report();
+        let ledger = Ledger {
             books,
             err,
             dropped: 0,
@@ -213,7 +186,7 @@ impl<'r, 'a, R: Wait, D: Device + Drop, E: Write + Drop> Reporter<'r, 'a, R, D, 
             alloc,
             rules,
             cap,
-            desk: Mutex::new(desk),
+            ledger: Mutex::new(ledger),
             reports,
             looking: Looking::new(),
             inserted: AtomicU64::new(0),
@@ -233,17 +206,17 @@ impl<'r, 'a, R: Wait, D: Device + Drop, E: Write + Drop> Reporter<'r, 'a, R, D, 
 
     /// How many lines wait to be written, over all files.
     pub fn waiting_lines(&self) -> u64 {
-        self.desk.lock(self.rt).books.waiting_lines()
+        self.ledger.lock(self.rt).books.waiting_lines()
     }
 
     /// How many writes failed, over all files.
     pub fn failed(&self) -> u64 {
-        self.desk.lock(self.rt).books.failed()
+        self.ledger.lock(self.rt).books.failed()
     }
 
     /// Whether something is written that may have to be tried again.
     pub fn may_wait(&self) -> bool {
-        self.desk.lock(self.rt).books.is_any()
+        self.ledger.lock(self.rt).books.is_any()
     }
 
     /// Those who write begin now.
@@ -258,35 +231,20 @@ impl<'r, 'a, R: Wait, D: Device + Drop, E: Write + Drop> Reporter<'r, 'a, R, D, 
 
     /// Closes the files.
     pub fn close(self) -> Closed {
-        let Reporter {
-            rt: _,
-            alloc: _,
-            rules: _,
-            cap: _,
-            desk,
-            reports: _,
-            looking: _,
-            inserted: _,
-            dropped: _,
-        } = self;
-        desk.into_inner().close()
+        let Reporter { ledger, .. } = self;
+        ledger.into_inner().close()
     }
 }
 
 impl<R: Wait + Clock, D: Device + Drop, E: Write + Drop> Reporter<'_, '_, R, D, E> {
-    /// Sees that it is looked what stands at the paths before a session is reported, if it is.
-    fn ask_anew(&self) {
+    /// Reports a session that is over, if there is a report. Before it is written it is looked what stands at the path.
+    fn report(&self, session: SessionName, outcome: &Outcome) {
         if self.reports {
             self.looking.forget(self.rt);
             self.looking.ask(self.rt);
+            let text = report_text(self.alloc, self.rules.reporting, session, outcome);
+            self.ledger.lock(self.rt).report(text);
         }
-    }
-
-    /// Reports a session that is over.
-    fn report(&self, session: SessionName, outcome: &Outcome) {
-        self.ask_anew();
-        let mut desk = self.desk.lock(self.rt);
-        desk.report(self.alloc, self.rules.reporting, session, outcome);
     }
 }
 
@@ -297,7 +255,7 @@ where
     /// Goes on in files that others put in the place of those that are open.
     pub fn follow(&self, when: When) {
         let form = self.rules.reporting.form;
-        self.desk.lock(self.rt).follow(self.rt, form, when);
+        self.ledger.lock(self.rt).follow(self.rt, form, when);
     }
 
     /// Looks what stands at the paths, each second and before something is written, and tries again each second to
@@ -306,14 +264,14 @@ where
         if !self.looking.attend(self.rt) {
             return;
         }
-        let mut last = self.now();
+        let mut last = now(self.rt);
         for _ in self.rt.forever() {
             let turn = self.looking.wait(self.rt);
             if turn.is_over {
                 self.looking.leave(self.rt);
                 return;
             }
-            let now = self.now();
+            let now = now(self.rt);
             let is_due = !turn.is_asked || now.saturating_sub(last) >= DUE;
             if is_due {
                 last = now;
@@ -323,17 +281,12 @@ where
         }
     }
 
-    /// The time in milliseconds of the steady clock; 0 if it fails.
-    fn now(&self) -> u64 {
-        self.rt.monotonic().map_or(0, |moment| millis_of(moment))
-    }
-
     /// Goes on in files that others put in the place of those that are open; if a second is over, what waits is tried
     /// again.
     fn look(&self, is_due: bool) {
         if is_due {
             self.follow(When::Due);
-            self.desk.lock(self.rt).try_again();
+            self.ledger.lock(self.rt).try_again();
         } else {
             self.follow(When::Asked);
         }
@@ -341,6 +294,8 @@ where
 }
 
 impl<R: Wait + Clock, D: Device + Drop, E: Write + Drop> Gate for Reporter<'_, '_, R, D, E> {
+    ghost lets_in = { λ reporter _. LetsIn reporter.rules.most_learned };
+
     fn pass(&self, _serial: u64, _sent: u32) -> bool {
         true
     }
@@ -364,19 +319,21 @@ impl<R: Wait + Clock, D: Device + Drop, E: Write + Drop> Gate for Reporter<'_, '
         let form = self.rules.reporting.form;
         self.inserted.fetch_add(1, Ordering::SeqCst);
         self.looking.ask(self.rt);
-        self.desk.lock(self.rt).learn(self.alloc, form, item);
+        self.ledger.lock(self.rt).learn(self.alloc, form, item);
     }
 
     fn dropped(&self, fault: LogFault, count: usize) {
         self.dropped.fetch_add(count as u64, Ordering::SeqCst);
-        self.desk.lock(self.rt).drop_more(fault, count, self.cap);
+        self.ledger.lock(self.rt).drop_more(fault, count, self.cap);
     }
 
     fn settled(&self, serial: u64, left_out: usize) {
-        let mut desk = self.desk.lock(self.rt);
-        desk.leave_out(self.alloc, serial, left_out);
+        let mut ledger = self.ledger.lock(self.rt);
+        if left_out > 0 && self.reports {
+            ledger.report(left_out_line(self.alloc, serial, left_out));
+        }
         if self.rules.is_durable {
-            desk.sync();
+            ledger.sync();
         }
         self.looking.forget(self.rt);
     }

@@ -12,10 +12,10 @@ use crate::following::When;
 use crate::limits::places;
 use crate::logging::log_all;
 use crate::loops::Loops;
-use crate::reporting::{Closed, Reporter};
+use crate::reporting::{Closed, DiskReporter, Reporter};
 use crate::watching::{Beginning, Window, watch};
 use io_core::{Watched, write_output};
-use loading::{Disk, Loaded};
+use loading::Loaded;
 use peer_loops::{Board, Common, Front, Parts, Served, Service, serve_peers};
 use peer_threads::WorkersReport;
 use printing_core::{Fault, Refusal, refusal_of, served_text, tell_dropped, tell_in_memory};
@@ -47,13 +47,10 @@ fn forgets(serving: Serving<'_>) -> bool {
     !is_written && serving.rules.most_learned != Some(0)
 }
 
-/// The gate of a server: it writes to the files of a disk.
-type Desk<'r, 'a, R, E> = Reporter<'r, 'a, R, Disk<File>, E>;
-
 /// Serves by loops until the source has no more.
 fn work<R: Loops, E: Write + Drop + Send>(
     rt: &R,
-    common: &Common<'_, Desk<'_, '_, R, E>>,
+    common: &Common<'_, DiskReporter<'_, '_, R, E>>,
     parts: Parts,
     listener: &Listener<'_, R>,
     service: Service<'_>,
@@ -70,7 +67,7 @@ fn work<R: Loops, E: Write + Drop + Send>(
 /// until the server is done.
 fn log_and_show<R: Loops, E: Write + Drop + Send, L: Write + Drop + Send>(
     rt: &R,
-    common: &Common<'_, Desk<'_, '_, R, E>>,
+    common: &Common<'_, DiskReporter<'_, '_, R, E>>,
     window: Option<&Window<'_, R>>,
     board: &Board,
     log: Option<L>,
@@ -94,7 +91,7 @@ fn log_and_show<R: Loops, E: Write + Drop + Send, L: Write + Drop + Send>(
 /// each session, if that is asked for. If no thread can be made, that is done after them, and ends at once.
 fn work_shown<R: Loops, E: Write + Drop + Send, L: Write + Drop + Send>(
     rt: &R,
-    common: &Common<'_, Desk<'_, '_, R, E>>,
+    common: &Common<'_, DiskReporter<'_, '_, R, E>>,
     parts: Parts,
     doors: (&Listener<'_, R>, Option<&Window<'_, R>>),
     service: Service<'_>,
@@ -121,7 +118,7 @@ fn work_shown<R: Loops, E: Write + Drop + Send, L: Write + Drop + Send>(
 /// any. If no thread can be made, that ends after two seconds, and then this one serves.
 fn work_tended<R: Loops, E: Write + Drop + Send, L: Write + Drop + Send, T: FnOnce() + Drop>(
     rt: &R,
-    common: &Common<'_, Desk<'_, '_, R, E>>,
+    common: &Common<'_, DiskReporter<'_, '_, R, E>>,
     parts: Parts,
     doors: (&Listener<'_, R>, Option<&Window<'_, R>>),
     service: Service<'_>,
@@ -211,8 +208,7 @@ pub fn serve<'a, R: Files<File = File> + Loops, O: Write + Drop, E: Write + Drop
         kept,
     } = loaded;
     let cap = accepted.cap() as usize;
-    let beginning = Beginning::now(rt, serving.address, &set);
-    let beginning = beginning.named(serving.watching.set, serving.paths.keep);
+    let beginning = Beginning::now(rt, &serving, &set);
     let accepted = Arc::new(alloc, accepted)?;
     let first = set.first();
     let parts = parts_of(alloc, &accepted, serving.front, first, set.into_logs())?;

@@ -32,9 +32,6 @@ use tcp_front::limited;
 use version_lock::{Seat, VersionLock};
 use wire_core::encode_fault;
 
-/// The length of a hello.
-const HELLO: u64 = 4;
-
 /// The serial of the only session.
 const SERIAL: u64 = 1;
 
@@ -104,7 +101,8 @@ struct Answered {
 /// Reads the hello of a peer, or as much of it as comes.
 fn hello_of<I: Read>(alloc: Global, reader: &mut I) -> Vec<u8> {
     let mut hello = Vec::new(alloc);
-    let _read = reader.take(HELLO).read_to_end(&mut hello);
+    let length = Fingerprint::hello().len() as u64;
+    let _read = reader.take(length).read_to_end(&mut hello);
     hello
 }
 

@@ -1,10 +1,11 @@
 //! The window through which a server is watched: a thread that answers HTTP with its metrics and a page.
 
-use crate::callers::{Caller, Step};
+use crate::asked::Serving;
+use crate::callers::{Caller, CallerStep};
 use crate::doors::listen_at;
-use crate::reporting::Reporter;
+use crate::reporting::DiskReporter;
 use io_core::{Watched, WriterFailed, write_output};
-use loading::{Disk, ShardedSet, millis_of};
+use loading::{ShardedSet, millis_of, now};
 use mio::unix::SourceFd;
 use mio::{Events, Interest, Poll, Token};
 use peer_loops::{Board, Common, Origins};
@@ -12,7 +13,6 @@ use printing_core::Refusal;
 use settings_core::VERSION;
 use slab::Slab;
 use std::alloc::{AllocError, Global};
-use std::fs::File;
 use std::io;
 use std::io::Write;
 use std::net::{Net, TcpListener, TcpStream};
@@ -47,41 +47,27 @@ const NO_LIMITS: Limits = Limits {
 #[derive(Clone, Copy)]
 pub struct Beginning<'a> {
     /// The address at which sessions are served.
-    pub address: &'a str,
+    address: &'a str,
     /// What the set is called, and the file in which it is kept; empty where there is none.
     set: &'a str,
     file: &'a str,
     /// How many items the set has, and how many it may have.
     items: u64,
     cap: u64,
-    /// The number of the newest version.
-    version: u64,
     /// When the server began.
     moment: u64,
 }
 
 impl<'a> Beginning<'a> {
-    /// That of a server of this set, at this address, which begins now. The set is at the version that has as many
-    /// items.
-    pub fn now<R: Clock>(rt: &R, address: &'a str, set: &ShardedSet) -> Beginning<'a> {
-        let items = set.count();
+    /// That of a server of this set, which begins now.
+    pub fn now<R: Clock>(rt: &R, serving: &Serving<'a>, set: &ShardedSet) -> Beginning<'a> {
         Beginning {
-            address,
-            set: "",
-            file: "",
-            items,
+            address: serving.address,
+            set: serving.watching.set.unwrap_or(""),
+            file: serving.paths.keep.unwrap_or(""),
+            items: set.count(),
             cap: u64::from(set.cap()).saturating_mul(set.shards() as u64),
-            version: items,
-            moment: rt.monotonic().map_or(0, |moment| millis_of(moment)),
-        }
-    }
-
-    /// The same of a server whose set is called so, and kept in this file.
-    pub fn named(self, set: Option<&'a str>, file: Option<&'a str>) -> Beginning<'a> {
-        Beginning {
-            set: set.unwrap_or(""),
-            file: file.unwrap_or(""),
-            ..self
+            moment: now(rt),
         }
     }
 }
@@ -143,26 +129,24 @@ impl<R> Window<'_, R> {
     }
 }
 
-/// The gate of a server: it writes to the files of a disk.
-type Desk<'r, 'a, R, E> = Reporter<'r, 'a, R, Disk<File>, E>;
-
-/// How the server stands now.
+/// How the server stands now. It is at the version that has as many items.
 fn standing<'a, R: Wait, E: Write + Drop>(
     rt: &R,
-    common: &Common<'_, Desk<'_, '_, R, E>>,
+    common: &Common<'_, DiskReporter<'_, '_, R, E>>,
     board: &Board,
     beginning: Beginning<'a>,
     now: u64,
 ) -> Standing<'a> {
     let inserted = common.gate.inserted();
+    let items = beginning.items.saturating_add(inserted);
     Standing {
         program: VERSION,
         address: beginning.address,
         set: beginning.set,
         file: beginning.file,
-        items: beginning.items.saturating_add(inserted),
+        items,
         cap: beginning.cap,
-        version: beginning.version.saturating_add(inserted),
+        version: items,
         inserted,
         dropped: common.gate.dropped_so_far(),
         waiting: common.gate.waiting_lines(),
@@ -228,14 +212,25 @@ impl Callers {
         })
     }
 
-    /// Waits until something is ready, and reads the clock.
-    fn wait<R: Clock>(&mut self, rt: &R, events: &mut Events, millis: u64) {
-        let wait = Duration::from_millis(millis);
+    /// Waits until something is ready, unless something is, and reads the clock.
+    fn wait<R: Clock>(&mut self, rt: &R, events: &mut Events, is_more: bool) {
+        let is_ready = is_more || self.all.iter().any(|(_key, caller)| caller.is_ready());
+        let wait = Duration::from_millis(if is_ready { 0 } else { TICK });
         if self.poll.poll(events, Some(wait)).is_err() {
             rt.sleep(Duration::from_millis(PAUSE));
         }
         if let Ok(moment) = rt.monotonic() {
             self.now = millis_of(moment);
+        }
+    }
+
+    /// Those of these events may go on.
+    fn wake(&mut self, events: &Events) {
+        for event in events {
+            let Token(key) = event.token();
+            if let Some(caller) = self.all.get_mut(key) {
+                caller.wake();
+            }
         }
     }
 
@@ -301,15 +296,16 @@ impl Callers {
         true
     }
 
-    /// Goes on with the caller of this key, if it is there. What it asks for, if that has come just now.
+    /// Goes on with the caller of this key, if it is there and may go on. What it asks for, if that has come just now.
     fn go_on(&mut self, key: usize) -> Option<Asked> {
-        let Some(caller) = self.all.get_mut(key) else {
+        let caller = self.all.get_mut(key)?;
+        if !caller.is_ready() {
             return None;
-        };
+        }
         match caller.go_on(self.now) {
-            Step::Waits => None,
-            Step::Asks(asked) => Some(asked),
-            Step::Gone => {
+            CallerStep::Waits => None,
+            CallerStep::Asks(asked) => Some(asked),
+            CallerStep::Gone => {
                 let _closed = self.all.try_remove(key);
                 None
             }
@@ -339,7 +335,7 @@ impl Callers {
 fn answer_all<R: Wait + AllocGlobal, E: Write + Drop>(
     rt: &R,
     callers: &mut Callers,
-    common: &Common<'_, Desk<'_, '_, R, E>>,
+    common: &Common<'_, DiskReporter<'_, '_, R, E>>,
     board: &Board,
     beginning: Beginning<'_>,
 ) {
@@ -355,7 +351,7 @@ fn answer_all<R: Wait + AllocGlobal, E: Write + Drop>(
 pub fn watch<R, E: Write + Drop>(
     rt: &R,
     window: &Window<'_, R>,
-    common: &Common<'_, Desk<'_, '_, R, E>>,
+    common: &Common<'_, DiskReporter<'_, '_, R, E>>,
     board: &Board,
 )
 where
@@ -364,8 +360,8 @@ where
     let alloc = rt.alloc();
     let Window {
         listener,
-        address: _,
         beginning,
+        ..
     } = window;
     let Ok(mut callers) = Callers::new(rt, alloc, listener) else {
         return;
@@ -378,7 +374,8 @@ where
         if board.is_over(rt) {
             return;
         }
-        callers.wait(rt, &mut events, if is_more { 0 } else { TICK });
+        callers.wait(rt, &mut events, is_more);
+        callers.wake(&events);
         is_more = callers.accept_all(alloc, listener);
         answer_all(rt, &mut callers, common, board, *beginning);
         callers.close_late();

@@ -3,3 +3,4 @@ pub mod Steps
 pub mod Calls
 pub mod Waiting
 pub mod Moving
+pub mod Joined

@@ -239,5 +239,6 @@ module _ {F : Type 0} (S : Summary F) (W : Profile F) where
         StandsAt W x d r w (both_of p q).read (both_of p q).written
     by pauses.Waits s = s
     by pauses.Over s = s
+    by pauses.Opens s = s
     by pauses.More (inl some) = inl (omega (arith, some))
     by pauses.More (inr other) = inr other

@@ -15,6 +15,7 @@ pub use Rattle.ends_core.specs.Turns
 pub use Rattle.ends_core.specs.Roles
 pub use Rattle.ends_core.specs.Sides
 pub use Rattle.laws.specs.Hearing as HearingLaws
+pub use Rattle.laws.specs.Meeting
 pub mod Sizes
 pub mod Outboxes
 pub mod Sessions
@@ -22,3 +23,4 @@ pub mod Kept
 pub mod Laws
 pub mod Polls
 pub mod Links
+pub mod Pairs

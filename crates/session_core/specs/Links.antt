@@ -80,6 +80,7 @@ module _ {F : Type 0} (W : Profile F) where
   StandsAt pauses.Waits d r w read written = IsWaiting d r w
   StandsAt pauses.Over d r w read written = IsOver d
   StandsAt pauses.More d r w read written = IsMore d r w read written
+  StandsAt pauses.Opens d r w read written = ⊥
 
   abbrev pub Stands : Result Pumped LinkFault → SessionState F → Last → Last → Type 0
   Stands (Ok p) d r w = StandsAt p.pause d r w p.read p.written

@@ -2,6 +2,7 @@
 #![tactic(auto)]
 
 mod fault;
+mod meeting;
 mod outbox;
 mod polled;
 mod pumped;
@@ -12,8 +13,9 @@ mod state;
 mod talk;
 
 pub use fault::LinkFault;
+pub use meeting::two_sessions_meet;
 pub use polled::{Last, Polled};
-pub use pumped::{Pause, Pumped};
+pub use pumped::{Pause, Pumped, both, pause_of};
 pub use pumping::pump;
 pub use session::Session;
 pub use state::State;

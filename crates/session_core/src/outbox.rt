@@ -14,7 +14,7 @@ use ends_core::{EndFault, Role, SessionEnd, Turn};
 use std::alloc::{AllocError, Global};
 use std::marker::Model;
 use store_core::RangeStore;
-use wire_core::{Message, encode_hello, encode_message};
+use wire_core::{Message, encode_hello, push_message};
 
 /// What a side has to say and nobody has taken.
 #[derive(Drop)]
@@ -36,16 +36,20 @@ impl<F: Summary> Model for Outbox<F> {
     ghost invariant = { λ o. o.from ≤ vec_len o.made };
 }
 
-/// Makes the texts of messages.
-fn texts_of<F: Summary>(alloc: Global, messages: &[Message<F>]) -> Result<Vec<u8>, AllocError>
-    ensures { IfOk result (λ texts. texts.items ≡ flat_map (message_text F.profile) messages.now) }
+/// The texts of messages, and these bytes after them.
+fn texts_of<F: Summary>(
+    alloc: Global,
+    messages: &[Message<F>],
+    last: &[u8],
+) -> Result<Vec<u8>, AllocError>
+    ensures { IfOk result (λ texts. texts.items ≡ flat_map (message_text F.profile) messages.now ++ last.now) }
 {
-    let mut out = Vec::new(alloc);
+    let mut texts = Vec::new(alloc);
     for message in messages {
-        let text = encode_message(alloc, message)?;
-        out.extend_from_slice(&text)?;
+        push_message(&mut texts, message)?;
     }
-    Ok(out)
+    texts.extend_from_slice(last)?;
+    Ok(texts)
 }
 
 /// The hello.
@@ -97,10 +101,23 @@ impl<F: Summary> Outbox<F> {
             ++ (flat_map (message_text F.profile) self.old.later ++ last.now)) []) }
         ensures memory { OnErr result (self.new ≡ self.old) }
     {
-        let mut texts = texts_of(alloc, &self.unsaid)?;
-        texts.extend_from_slice(last)?;
-        self.made.extend_from_slice(&texts)?;
+        let texts = texts_of(alloc, &self.unsaid, last)?;
+        self.append(texts)?;
         self.unsaid.clear();
+        Ok(())
+    }
+
+    /// Appends text. It is not copied where all before it was taken.
+    fn append(&mut self, texts: Vec<u8>) -> Result<(), AllocError>
+        ensures added { OnOk result (self.new ≡ outbox_state (self.old.ready ++ texts.items) self.old.later) }
+        ensures memory { OnErr result (self.new ≡ self.old) }
+    {
+        if self.from < self.made.len() {
+            self.made.extend_from_slice(&texts)?;
+            return Ok(());
+        }
+        self.made = texts;
+        self.from = 0;
         Ok(())
     }
 

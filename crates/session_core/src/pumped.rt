@@ -1,7 +1,7 @@
 //! What one call did, and how it left off.
 
 ghost use Rattle.std.specs.Prelude.{◌≡◌};
-ghost use Rattle.session_core.specs.Links.{pause_at};
+ghost use Rattle.session_core.specs.Links.{both_of, pause_at};
 
 use crate::fault::LinkFault;
 use crate::polled::Last;
@@ -13,6 +13,9 @@ pub enum Pause {
     Waits,
     /// The call did as much as one call may: go on soon.
     More,
+    /// The first message is whole, or no byte comes after what has come: open the session. None that is open leaves off
+    /// so.
+    Opens,
     /// The session is over, and all of its text is written.
     Over,
 }
@@ -29,12 +32,23 @@ pub struct Pumped {
 }
 
 /// How a read or a write leaves off; or the fault, where it failed.
-pub(crate) fn pause_of(last: Last, fault: LinkFault) -> Result<Pause, LinkFault>
+pub fn pause_of(last: Last, fault: LinkFault) -> Result<Pause, LinkFault>
     ensures { result ≡ pause_at last fault }
 {
     match last {
         Last::Waits => Ok(Pause::Waits),
         Last::Failed => Err(fault),
         _ => Ok(Pause::More),
+    }
+}
+
+/// What two calls did, one after the other.
+pub fn both(first: Pumped, second: Pumped) -> Pumped
+    ensures { result ≡ both_of first second }
+{
+    Pumped {
+        pause: second.pause,
+        read: first.read.saturating_add(second.read),
+        written: first.written.saturating_add(second.written),
     }
 }

@@ -1,7 +1,7 @@
 //! Reading, pushing, making due and writing, as far as a stream goes that never waits.
 
 ghost use Rattle.std.specs.Prelude.{◌≡◌, ◌≢◌, ◌<◌, ◌≤◌, ℕ, true, false, [], List, length, take, OnOk, OnErr};
-ghost use Rattle.session_core.specs.Links.{Fails, MovesSo, Stands, both_of};
+ghost use Rattle.session_core.specs.Links.{Fails, MovesSo, Stands};
 ghost use Rattle.session_core.specs.declared.fault.LinkFault.TheVariants as faults;
 ghost use Rattle.session_core.specs.declared.polled.Last.TheVariants as lasts;
 ghost use Rattle.session_core.specs.Sessions as sessions;
@@ -9,7 +9,7 @@ ghost use Rattle.session_core.specs.Sessions.{Pushes, due};
 
 use crate::fault::LinkFault;
 use crate::polled::{Last, Polled};
-use crate::pumped::{Pause, Pumped, pause_of};
+use crate::pumped::{Pause, Pumped, both, pause_of};
 use crate::session::Session;
 use crate::state::State;
 use digest_core::Summary;
@@ -42,25 +42,8 @@ fn say_once<O: Write, R: Role, S: RangeStore, F: Summary>(
     })
 }
 
-/// Pushes all of a piece. Where memory runs out, some of it may have been pushed.
-fn push_all<R: Role, S: RangeStore, F: Summary>(
-    alloc: Global,
-    session: &mut Session<R, S, F>,
-    piece: &[u8],
-) -> Result<(), LinkFault>
-    requires { sessions.is_open session.old.talk.state ≡ true }
-    ensures pushes { OnOk result (Pushes F.summary F.profile session.old piece.now session.new) }
-    ensures some { OnErr result ((n : ℕ) × Pushes F.summary F.profile session.old (take n piece.now) session.new) }
-    ensures fault { OnErr result (result ≡ Err faults.Memory) }
-{
-    let taken = session.push(alloc, piece)?;
-    if taken < piece.len() {
-        return Err(LinkFault::Memory);
-    }
-    Ok(())
-}
-
-/// Pushes what a read gave. At the end of the input the session is told so.
+/// Pushes what a read gave. At the end of the input the session is told so. Where memory runs out, some of the piece
+/// may have been pushed.
 fn hear<R: Role, S: RangeStore, F: Summary>(
     alloc: Global,
     session: &mut Session<R, S, F>,
@@ -76,7 +59,13 @@ fn hear<R: Role, S: RangeStore, F: Summary>(
     ensures waits { last ≡ lasts.Waits → session.new ≡ session.old }
 {
     match last {
-        Last::Moved => push_all(alloc, session, piece),
+        Last::Moved => {
+            let taken = session.push(alloc, piece)?;
+            if taken < piece.len() {
+                return Err(LinkFault::Memory);
+            }
+            Ok(())
+        }
         Last::Ended => {
             session.finish();
             Ok(())
@@ -146,17 +135,6 @@ fn move_once<I: Read, O: Write, R: Role, S: RangeStore, F: Summary>(
         });
     }
     hear_once(alloc, reader, session, room)
-}
-
-/// What two calls did, one after the other.
-fn both(first: Pumped, second: Pumped) -> Pumped
-    ensures { result ≡ both_of first second }
-{
-    Pumped {
-        pause: second.pause,
-        read: first.read.saturating_add(second.read),
-        written: first.written.saturating_add(second.written),
-    }
 }
 
 /// Makes due what the session has to say and writes it, and reads what is there and pushes it, as far as both go: at

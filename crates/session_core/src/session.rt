@@ -32,7 +32,7 @@ use std::marker::Model;
 use std::sync::Arc;
 use store_core::RangeStore;
 use strategy_check::Accepted;
-use wire_core::{DecodeError, Event, Feed, WireFault};
+use wire_core::{DecodeError, Event, Feed, NextEvent, WireFault};
 
 /// A session of this side, over a store and an accepted strategy. The profile is that of the summary.
 #[derive(Drop)]
@@ -210,17 +210,13 @@ impl<R: Role, S: RangeStore, F: Summary> Session<R, S, F> {
         if self.keep(piece)? {
             return Ok(piece.len());
         }
-        // where memory runs out below, the feed is as before
-        let mut feed = self.feed.copy(alloc)?;
-        match feed.next(alloc, piece) {
-            Ok((taken, event)) => {
-                // the copy has no room left over from the frame
-                let feed = feed.copy(alloc)?;
+        match self.feed.after(alloc, piece) {
+            Ok(NextEvent { taken, event, feed }) => {
                 self.go_on(alloc, feed, &piece[..taken], event)?;
                 Ok(taken)
             }
             Err(DecodeError::Fault(fault)) => {
-                self.refuse_for(feed, piece, fault);
+                self.refuse_for(Feed::stopped(alloc, fault), piece, fault);
                 Ok(piece.len())
             }
             Err(DecodeError::Memory) => Err(AllocError),
@@ -262,7 +258,7 @@ impl<R: Role, S: RangeStore, F: Summary> Session<R, S, F> {
     {
         stream_laws::<F>();
         let begun = bytes_begun(self.begun, piece.len(), &event);
-        self.talk.hear_if(alloc, event)?;
+        self.talk.hear(alloc, event)?;
         self.feed = feed;
         self.begun = begun;
         Ok(())

@@ -3,7 +3,6 @@
 ghost use Rattle.std.specs.Prelude.{◌≡◌, ◌≢◌, [], true, length, drop, min, OnOk, OnErr};
 ghost use Rattle.definitions.specs.Ends.{own_of};
 ghost use Rattle.definitions.specs.Wire as wire;
-ghost use Rattle.wire_core.specs.Events.{event_value};
 ghost use Rattle.ends_core.specs.Turns.{end_fault_number};
 ghost use Rattle.session_core.specs.Kept.{kept_of};
 ghost use Rattle.session_core.specs.Outboxes.{outbox_state};
@@ -111,34 +110,20 @@ impl<R: Role, S: RangeStore, F: Summary> Talk<R, S, F> {
         self.told = false;
     }
 
-    /// Hears one event: a part, the end of a message, or a fault frame. Where memory runs out nothing has changed.
-    pub(crate) fn hear(&mut self, alloc: Global, event: &Event<F>) -> Result<(), AllocError>
-        requires { self.old.state ≡ states.Open }
-        ensures heard { OnOk result (Hears F.summary F.profile self.old (event_value event.now) self.new) }
-        ensures memory { OnErr result (self.new ≡ self.old) }
-    {
-        match event {
-            Event::Part(part) => self.take_part(alloc, part),
-            Event::End => self.take_end(alloc),
-            Event::Fault(code) => {
-                self.state = State::PeerRefused(*code);
-                Ok(())
-            }
-        }
-    }
-
-    /// Hears an event, if there is one.
-    pub(crate) fn hear_if(
-        &mut self,
-        alloc: Global,
-        event: Option<Event<F>>,
-    ) -> Result<(), AllocError>
+    /// Hears an event, if there is one: a part, the end of a message, or a fault frame. Where memory runs out nothing
+    /// has changed.
+    pub(crate) fn hear(&mut self, alloc: Global, event: Option<Event<F>>) -> Result<(), AllocError>
         requires { self.old.state ≡ states.Open }
         ensures heard { OnOk result (HearsIf F.summary F.profile self.old event self.new) }
         ensures memory { OnErr result (self.new ≡ self.old) }
     {
         match event {
-            Some(event) => self.hear(alloc, &event),
+            Some(Event::Part(part)) => self.take_part(alloc, &part),
+            Some(Event::End) => self.take_end(alloc),
+            Some(Event::Fault(code)) => {
+                self.state = State::PeerRefused(code);
+                Ok(())
+            }
             None => Ok(()),
         }
     }

@@ -54,33 +54,9 @@ table = defaulting (valued (codes "table")) (codes "all-round")
 abbrev pub address : Rule
 address = defaulting (valued (codes "addr")) default_address
 
--- `--stdio`
-abbrev pub stdio : Rule
-stdio = flag (codes "stdio")
-
--- `--text`
-abbrev pub text : Rule
-text = flag (codes "text")
-
--- `--hash`
-abbrev pub hash : Rule
-hash = flag (codes "hash")
-
--- `--why`
-abbrev pub why : Rule
-why = flag (codes "why")
-
--- `--set NAME`
-abbrev pub set_name : Rule
-set_name = valued (codes "set")
-
 -- `--shards B`, of 0 to 12
 abbrev pub shard_bits : Rule
 shard_bits = number (codes "shards") 0 12
-
--- `--only A-B`
-abbrev pub only : Rule
-only = valued (codes "only")
 
 -- `--patience SECONDS`, of 1 to 86,400
 abbrev pub patience : Rule
@@ -105,41 +81,43 @@ abbrev pub with_rules : App → List Rule → App
 with_rules a rules = on_top (λ s. record s { rules = s.rules ++ rules }) a
 
 abbrev pub answer : App
-answer = with_rules (new_app (codes "answer")) (flag (codes "hex") ∷ text ∷ why ∷ items true ∷ [])
+answer = with_rules (new_app (codes "answer"))
+    (flag (codes "hex") ∷ flag (codes "text") ∷ flag (codes "why") ∷ items true ∷ [])
 
 abbrev pub check : App
 check = with_rules (new_app (codes "check"))
-    (flag (codes "cost") ∷ item_count ∷ item_length ∷ why ∷ placed (codes "FILE") true ∷ [])
+    (flag (codes "cost") ∷ item_count ∷ item_length ∷ flag (codes "why") ∷ placed (codes "FILE") true ∷ [])
 
 abbrev pub plan : App
 plan = with_rules (new_app (codes "plan"))
     (valued (codes "table") ∷ number (codes "items") 1 262144000 ∷ number (codes "differences") 0 262144000
     ∷ item_length ∷ number (codes "round-trip") 0 60000 ∷ number (codes "rate") 1 100000
-    ∷ number (codes "search") 1 3600 ∷ why ∷ [])
+    ∷ number (codes "search") 1 3600 ∷ flag (codes "why") ∷ [])
 
 abbrev pub sim : App
-sim = with_rules (new_app (codes "sim")) (why ∷ [])
+sim = with_rules (new_app (codes "sim")) (flag (codes "why") ∷ [])
 
 -- `serve` without its ITEMS, which may be left out where a file keeps the set
 abbrev pub served : App
 served = with_rules (new_app (codes "serve"))
-    (table ∷ address ∷ stdio ∷ set_name ∷ shard_bits ∷ only ∷ defaulting (number (codes "workers") 1 16) (codes "4")
-    ∷ number (codes "sessions") 1 1000000 ∷ patience ∷ most_bytes ∷ number (codes "peers") 1 65535
-    ∷ number (codes "peers-of-one") 1 65535 ∷ number (codes "session-seconds") 1 604800
-    ∷ number (codes "memory") 1 1048576 ∷ valued (codes "report") ∷ valued (codes "learned")
-    ∷ valued (codes "keep") ∷ flag (codes "durable") ∷ number (codes "most-learned") 1 4294967295
-    ∷ flag (codes "read-only") ∷ number (codes "report-items") 0 4294967295 ∷ valued (codes "metrics") ∷ flag (codes "log")
-    ∷ text ∷ hash ∷ why ∷ [])
+    (table ∷ address ∷ flag (codes "stdio") ∷ valued (codes "set") ∷ shard_bits ∷ valued (codes "only")
+    ∷ defaulting (number (codes "workers") 1 16) (codes "4") ∷ number (codes "sessions") 1 1000000 ∷ patience
+    ∷ most_bytes ∷ number (codes "peers") 1 65535 ∷ number (codes "peers-of-one") 1 65535
+    ∷ number (codes "session-seconds") 1 604800 ∷ number (codes "memory") 1 1048576 ∷ valued (codes "report")
+    ∷ valued (codes "learned") ∷ valued (codes "keep") ∷ flag (codes "durable")
+    ∷ number (codes "most-learned") 1 4294967295 ∷ flag (codes "read-only")
+    ∷ number (codes "report-items") 0 4294967295 ∷ valued (codes "metrics") ∷ flag (codes "log")
+    ∷ flag (codes "text") ∷ flag (codes "hash") ∷ flag (codes "why") ∷ [])
 
 abbrev pub serve : App
 serve = with_rules served (items false ∷ [])
 
 abbrev pub sync : App
 sync = with_rules (new_app (codes "sync"))
-    (table ∷ address ∷ stdio ∷ set_name ∷ shard_bits ∷ only ∷ number (codes "at-once") 1 64 ∷ valued (codes "out")
-    ∷ defaulting (number (codes "profile") 1 2) (codes "1") ∷ patience ∷ most_bytes
-    ∷ number (codes "retry") 0 1000 ∷ flag (codes "check") ∷ flag (codes "count") ∷ flag (codes "stats")
-    ∷ text ∷ hash ∷ why ∷ items true ∷ [])
+    (table ∷ address ∷ flag (codes "stdio") ∷ valued (codes "set") ∷ shard_bits ∷ valued (codes "only")
+    ∷ number (codes "at-once") 1 64 ∷ valued (codes "out") ∷ defaulting (number (codes "profile") 1 2) (codes "1")
+    ∷ patience ∷ most_bytes ∷ number (codes "retry") 0 1000 ∷ flag (codes "check") ∷ flag (codes "count")
+    ∷ flag (codes "stats") ∷ flag (codes "text") ∷ flag (codes "hash") ∷ flag (codes "why") ∷ items true ∷ [])
 
 -- the program itself, which has a version and asks for a command
 abbrev pub top : App

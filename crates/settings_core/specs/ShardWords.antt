@@ -1,10 +1,9 @@
 -- Which shards a call speaks of, by its words.
---     shard_flaw_text f                   the text of the reason why it speaks of none
 --     Shards, shards_told s, told_of r    shards as plain numbers, and those of a value and of a result
 --     shard_in bits text                  the number of a shard, if the text is decimal digits that write one
 --     shards_in bits text                 the shards that `N` or `N-M` names, if it names some
 --     asked bits only at_once stdio       what the words ask for: shards, one set, or why neither
-use Rattle.std.specs.Prelude.{ℕ, ◌^◌, ◌-◌, ◌==◌, nat_le, nat_lt, List, codes, length, Bool, ◌&&◌, ◌||◌}
+use Rattle.std.specs.Prelude.{ℕ, ◌^◌, ◌-◌, ◌==◌, nat_le, nat_lt, List, length, Bool, ◌&&◌, ◌||◌}
 use Rattle.std.specs.Prelude.{if◌then◌else◌, Option, Some, None, is_some, Result, Ok, Err}
 use Rattle.std.specs.Char.{is_ascii_digit}
 use Rattle.std.specs.List.{list_all, position_or_len, before_first, after_first}
@@ -12,11 +11,6 @@ use Rattle.std.specs.Str.Parse.{digits_value}
 use Rattle.settings_core.specs.declared.sharding.Sharding.{Sharding}
 use Rattle.settings_core.specs.declared.shard_words.ShardFlaw.{ShardFlaw}
 use Rattle.settings_core.specs.declared.shard_words.ShardFlaw.TheVariants.{NoShards, Stdio, Only}
-
-abbrev pub shard_flaw_text : ShardFlaw → List ℕ
-shard_flaw_text NoShards = codes "error: --only and --at-once need --shards"
-shard_flaw_text Stdio = codes "error: --shards cannot be used with --stdio"
-shard_flaw_text Only = codes "error: --only takes shards that there are, as 3 or 0-7"
 
 -- the shards from first to last, of 2 to the power of bits
 pub record Shards : Type 0 where

@@ -1,17 +1,10 @@
 -- Why a call does not speak over standard input and output.
---     flaw_text f                           the text of the reason
 --     stdio_flaw address retries items is_terminal  the reason, if there is one, by the words of the call, and whether
 --                                                   standard input is a terminal
 use Rattle.std.specs.Prelude.{ℕ, List, codes, Bool, false, bytes_eq, if◌then◌else◌, Option, Some, None}
 use Rattle.settings_core.specs.Addresses.{default_address}
 use Rattle.settings_core.specs.declared.stdio_words.StdioFlaw.{StdioFlaw}
 use Rattle.settings_core.specs.declared.stdio_words.StdioFlaw.TheVariants.{Address, Retry, Items, Terminal}
-
-abbrev pub flaw_text : StdioFlaw → List ℕ
-flaw_text Address = codes "error: --stdio cannot be used with --addr"
-flaw_text Retry = codes "error: --stdio cannot be used with --retry"
-flaw_text Items = codes "error: with --stdio the items cannot be read from standard input"
-flaw_text Terminal = codes "error: --stdio speaks with a program, and standard input is a terminal"
 
 -- `-` is standard input
 abbrev pub are_piped : Option (List ℕ) → Bool

@@ -4,7 +4,7 @@ ghost use Rattle.std.specs.Prelude.{◌≡◌, ◌≤◌, codes, false, option_m
 ghost use Rattle.clap.specs.Words.{first_of, found_of, rows_of, subcommand_rows_of};
 ghost use Rattle.settings_core.specs.Calls.{AsksFor, CallsFor, Finds, HasForm, IsFlag, IsNumber, is_text};
 ghost use Rattle.settings_core.specs.Calls.{is_hash, profile_number};
-ghost use Rattle.settings_core.specs.Spans.{IsLearnedCount, IsReportedCount, IsWithin, IsWorkerCount};
+ghost use Rattle.settings_core.specs.Spans.{IsWithin, IsWorkerCount};
 
 use crate::commands::{AnswerWords, Call, CheckWords, Command, PlanWords, ServeWords, SyncWords};
 use crate::spans::{
@@ -38,7 +38,7 @@ fn number_in(matches: &ArgMatches<'_>, id: &str, least: u32, most: u32) -> Optio
 /// How many items of one session are put into the set, if it is given.
 fn most_learned_in(matches: &ArgMatches<'_>) -> Option<Option<u32>>
     ensures { Finds (λ n. IsNumber (codes "most-learned") (rows_of (found_of matches.now)) n
-        × IfSome n IsLearnedCount) result }
+        × IfSome n (IsWithin 1 4294967295)) result }
 {
     number_in(matches, "most-learned", 1, u32::MAX)
 }
@@ -46,7 +46,7 @@ fn most_learned_in(matches: &ArgMatches<'_>) -> Option<Option<u32>>
 /// How many items of one session are reported, if it is given.
 fn report_items_in(matches: &ArgMatches<'_>) -> Option<Option<u32>>
     ensures { Finds (λ n. IsNumber (codes "report-items") (rows_of (found_of matches.now)) n
-        × IfSome n IsReportedCount) result }
+        × IfSome n (IsWithin 0 4294967295)) result }
 {
     number_in(matches, "report-items", 0, u32::MAX)
 }

@@ -1,38 +1,27 @@
 //! Words that ask for a set of shards.
 
-ghost use Rattle.std.specs.Prelude.{◌≡◌, ◌≤◌, Some, option_map, is_some, IfSome};
-ghost use Rattle.std.specs.Char.{is_ascii_digit};
-ghost use Rattle.std.specs.List.{list_all};
+ghost use Rattle.std.specs.Prelude.{◌≡◌, ◌≤◌, option_map, is_some, IfSome};
 ghost use Rattle.settings_core.specs.Spans.{IsShardBits};
-ghost use Rattle.settings_core.specs.ShardWords.{shard_flaw_text, shard_in, ends_of, span_of, shards_in, asked};
+ghost use Rattle.settings_core.specs.ShardWords.{shard_in, ends_of, span_of, shards_in, asked};
 ghost use Rattle.settings_core.specs.ShardWords.{shards_told, told_of};
 
 use crate::sharding::Sharding;
-use std::fmt;
+use thiserror::Error;
 
 /// Why a command does not speak of shards, or of one set, as its words ask for it.
 ///
 /// It prints as the text for standard error.
-#[derive(Clone, Copy, Debug, PartialEq, Eq)]
+#[derive(Clone, Copy, Debug, PartialEq, Eq, Error)]
 pub enum ShardFlaw {
     /// There are no shards, and more is said of them.
+    #[error("error: --only and --at-once need --shards")]
     NoShards,
     /// The session is to be spoken over standard input and output.
+    #[error("error: --shards cannot be used with --stdio")]
     Stdio,
     /// The shards that are named are none.
+    #[error("error: --only takes shards that there are, as 3 or 0-7")]
     Only,
-}
-
-impl fmt::Display for ShardFlaw {
-    ghost output = { λ flaw. Some (shard_flaw_text flaw) };
-
-    fn fmt<W: fmt::Write>(&self, f: &mut fmt::Formatter<W>) -> fmt::Result {
-        match self {
-            ShardFlaw::NoShards => write!(f, "error: --only and --at-once need --shards"),
-            ShardFlaw::Stdio => write!(f, "error: --shards cannot be used with --stdio"),
-            ShardFlaw::Only => write!(f, "error: --only takes shards that there are, as 3 or 0-7"),
-        }
-    }
 }
 
 /// The words of a call that may be about shards.
@@ -48,19 +37,13 @@ pub struct ShardWords<'a> {
     pub is_stdio: bool,
 }
 
-/// Whether all bytes are decimal digits.
-fn are_digits(bytes: &[u8]) -> bool
-    ensures { result ≡ list_all is_ascii_digit bytes.now }
-{
-    bytes.iter().all(|byte| byte.is_ascii_digit())
-}
-
 /// The number of a shard of so many bits, which decimal digits write.
 fn shard_in(bits: u8, text: &str) -> Option<u16>
     requires { bits ≤ 12 }
     ensures { result ≡ shard_in bits text.now }
 {
-    if text.is_empty() || !are_digits(text.as_bytes()) {
+    let digits = text.as_bytes();
+    if digits.is_empty() || !digits.iter().all(|byte| byte.is_ascii_digit()) {
         return None;
     }
     let number = text.parse::<u16>().ok()?;

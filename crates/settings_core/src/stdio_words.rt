@@ -1,43 +1,28 @@
 //! Words that ask for a session over standard input and output.
 
-ghost use Rattle.std.specs.Prelude.{◌≡◌, Some, option_map};
-ghost use Rattle.settings_core.specs.StdioWords.{flaw_text, are_piped, stdio_flaw};
+ghost use Rattle.std.specs.Prelude.{◌≡◌, option_map};
+ghost use Rattle.settings_core.specs.StdioWords.{are_piped, stdio_flaw};
 
 use crate::addresses::DEFAULT_ADDRESS;
-use std::fmt;
+use thiserror::Error;
 
 /// Why a command does not speak over standard input and output, though its words ask for it.
 ///
 /// It prints as the text for standard error.
-#[derive(Clone, Copy, Debug, PartialEq, Eq)]
+#[derive(Clone, Copy, Debug, PartialEq, Eq, Error)]
 pub enum StdioFlaw {
     /// There is an address too.
+    #[error("error: --stdio cannot be used with --addr")]
     Address,
     /// It is to be tried again: what was heard cannot be heard anew.
+    #[error("error: --stdio cannot be used with --retry")]
     Retry,
     /// The items are to be read from standard input.
+    #[error("error: with --stdio the items cannot be read from standard input")]
     Items,
     /// Standard input is a terminal.
+    #[error("error: --stdio speaks with a program, and standard input is a terminal")]
     Terminal,
-}
-
-impl fmt::Display for StdioFlaw {
-    ghost output = { λ flaw. Some (flaw_text flaw) };
-
-    fn fmt<W: fmt::Write>(&self, f: &mut fmt::Formatter<W>) -> fmt::Result {
-        match self {
-            StdioFlaw::Address => write!(f, "error: --stdio cannot be used with --addr"),
-            StdioFlaw::Retry => write!(f, "error: --stdio cannot be used with --retry"),
-            StdioFlaw::Items => write!(
-                f,
-                "error: with --stdio the items cannot be read from standard input"
-            ),
-            StdioFlaw::Terminal => write!(
-                f,
-                "error: --stdio speaks with a program, and standard input is a terminal"
-            ),
-        }
-    }
 }
 
 /// The words of a call that is to speak over standard input and output.

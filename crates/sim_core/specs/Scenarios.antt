@@ -12,13 +12,12 @@ use Rattle.definitions.specs.Ranks as ranks
 use Rattle.definitions.specs.Ranks.{check_fault, found}
 use Rattle.hex.specs.Hex.{decode_of}
 use Rattle.strategy_core.specs.Texts.{table_in, items_count, IsDocument, IsText}
-use Rattle.strategy_core.specs.declared.fault.StrategyFault.{StrategyFault}
+use Rattle.strategy_core.specs.declared.fault.StrategyFlaw.{StrategyFlaw}
 use Rattle.strategy_check.specs.Checked.{Checked}
 use Rattle.strategy_check.specs.declared.fault.CheckFault.{CheckFault}
 use Rattle.strategy_check.specs.declared.fault.CheckFault.TheVariants as checks
 use Rattle.sim_core.specs.NodeTexts.{NodeText, ScenarioText}
 use Rattle.item_files.specs.ItemFiles.{decoded}
-use Rattle.item_files.specs.StrategyFlaws.{flaw_in}
 use Rattle.sim_core.specs.StepTexts.{step_of}
 use Rattle.sim_core.specs.declared.scenario.ScenarioStep.{ScenarioStep}
 use Rattle.sim_core.specs.declared.scenario_fault.ScenarioFault.{ScenarioFault}
@@ -75,9 +74,9 @@ steps_at ms = array_at (codes "steps") ms >>= λ ds. provided (are_steps ds) Bad
 -- ---- a node
 
 -- the fault of the node n, and where it is in its table
-abbrev pub of_strategy : {A : Type 0} → ℕ → Members → Result A StrategyFault → Result A ScenarioFault
-of_strategy n ms (Ok x) = Ok x
-of_strategy n ms (Err f) = Err (Strategy n (flaw_in ms f))
+abbrev pub of_strategy : {A : Type 0} → ℕ → Result A StrategyFlaw → Result A ScenarioFault
+of_strategy n (Ok x) = Ok x
+of_strategy n (Err flaw) = Err (Strategy n flaw)
 
 abbrev pub reason_of : ranks.CheckFault → CheckFault
 reason_of (ranks.List_too_long upto) = checks.ListTooLong upto
@@ -99,7 +98,7 @@ checked n T = unless n (check_fault T) (with_steps n T (found T))
 
 -- the strategy of the node n, accepted
 abbrev pub accepted_in : ℕ → Members → Result Checked ScenarioFault
-accepted_in n ms = of_strategy n ms (table_in ms) >>= checked n
+accepted_in n ms = of_strategy n (table_in ms) >>= checked n
 
 abbrev pub item_in : Data → Result Item ScenarioFault
 item_in d = ok_or (as_str d) BadScenario >>= λ digits. ok_or (decoded (decode_of digits)) BadScenario

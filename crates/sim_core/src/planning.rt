@@ -48,7 +48,7 @@ pub(crate) fn accepted_of(alloc: Global, text: &str) -> Result<Option<Arc<Accept
     let strategy = match Strategy::read(alloc, text.as_bytes()) {
         Ok(strategy) => strategy,
         Err(StrategyError::Memory) => return Err(AllocError),
-        Err(StrategyError::Fault(_)) => return Ok(None),
+        Err(_) => return Ok(None),
     };
     match check(alloc, strategy) {
         Ok(accepted) => Ok(Some(Arc::new(alloc, accepted)?)),

@@ -3,9 +3,9 @@
 ghost use Rattle.std.specs.Prelude.{◌≡◌};
 ghost use Rattle.sim_core.specs.declared.scenario_fault.ScenarioError.TheVariants as errors;
 
-use item_files::StrategyFlaw;
 use std::alloc::{AllocError, AllocFailed};
 use strategy_check::CheckFault;
+use strategy_core::StrategyFlaw;
 
 /// Why a text is no scenario: the first test that fails. Nodes and steps are counted from 0, as steps name nodes.
 #[derive(Clone, Copy, Debug, PartialEq, Eq)]

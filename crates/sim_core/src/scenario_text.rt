@@ -31,7 +31,7 @@ fn document(alloc: Global, text: &[u8]) -> Result<Table, ScenarioError>
 {
     match item_files::document(alloc, text) {
         Ok(table) => Ok(table),
-        Err(SettingsFault::Strategy(_)) => Err(ScenarioError::Fault(ScenarioFault::NotToml)),
+        Err(SettingsFault::NotToml) => Err(ScenarioError::Fault(ScenarioFault::NotToml)),
         Err(_) => Err(ScenarioError::Memory),
     }
 }

@@ -3,4 +3,3 @@ pub mod Peels
 pub mod Rows
 pub mod Readings
 pub mod Tables
-pub mod Spares

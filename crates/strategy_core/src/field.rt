@@ -1,7 +1,7 @@
 ghost use Rattle.std.specs.Prelude.{◌≡◌};
 ghost use Rattle.strategy_core.specs.Texts.{key_of};
 
-/// A key that a strategy text must have.
+/// A key of a strategy text.
 #[derive(Clone, Copy, Debug, PartialEq, Eq)]
 pub enum Field {
     /// The greatest number of items.
@@ -14,6 +14,10 @@ pub enum Field {
     Row,
     /// The greatest number of items that a row serves.
     Upto,
+    /// The weights by which a row cuts.
+    Split,
+    /// How many items a row cuts off the front.
+    Peel,
 }
 
 impl Field {
@@ -27,6 +31,8 @@ impl Field {
             Field::Rounds => "rounds",
             Field::Row => "row",
             Field::Upto => "upto",
+            Field::Split => "split",
+            Field::Peel => "peel",
         }
     }
 }

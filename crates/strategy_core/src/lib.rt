@@ -13,7 +13,7 @@ mod weights;
 
 pub use act::{Act, Cutting};
 pub use bounds::Bounds;
-pub use fault::{StrategyError, StrategyFault};
+pub use fault::{StrategyError, StrategyFault, StrategyFlaw};
 pub use field::Field;
-pub use reading::{few_of, member, number, number_of, upto_of};
+pub use reading::{document, member};
 pub use strategy::Strategy;

@@ -6,7 +6,7 @@ ghost use Rattle.toml.specs.Data.{get_member, as_table};
 ghost use Rattle.strategy_core.specs.Texts.{IsDocument, IsText, key_of, member_at, number_in, number_at, weights_in};
 ghost use Rattle.strategy_core.specs.Texts.{array_in, few_in, split_in, list_in, peel_in, act_at, row_in, upto_in};
 ghost use Rattle.strategy_core.specs.Texts.{rows_in, entries_at, last_upto, bounds_in, bounds_at, table_in};
-ghost use Rattle.strategy_core.specs.Texts.{row_says_bounds, rows_say_bounds};
+ghost use Rattle.strategy_core.specs.Texts.{row_says_bounds, bounds_row};
 ghost use Rattle.strategy_core.specs.Refused.{Gives, GivesField, Opens};
 ghost use Rattle.strategy_core.specs.Rules.{act_of, bounds_of};
 
@@ -34,14 +34,14 @@ const MAX_WEIGHT: u32 = 1_024;
 /// The most items that a row cuts off the front.
 const MAX_FRONT: u32 = 65_536;
 
-/// The table that a text is.
+/// The table that a TOML text is. Else 30.
 pub fn document(alloc: Global, text: &[u8]) -> Result<Table, StrategyError>
     ensures { Opens result text.now }
 {
     match toml::table_from_slice(alloc, text) {
         Ok(table) => Ok(table),
         Err(error) if error.is_memory() => Err(StrategyError::Memory),
-        Err(_) => Err(StrategyError::Fault(StrategyFault::NotToml)),
+        Err(_) => Err(StrategyError::NotToml),
     }
 }
 
@@ -62,26 +62,29 @@ fn field(table: &Table, field: Field) -> Result<&Value, StrategyFault>
     }
 }
 
-/// A whole number of `low` to `high`.
-pub fn number_of(value: &Value, low: u32, high: u32) -> Result<u32, StrategyFault>
-    ensures number { result ≡ number_in low high (view value.now) }
-    ensures span { IfOk result (λ n. (low ≤ n) × (n ≤ high)) }
+/// A whole number of `least` to `greatest`, which stands under this key.
+fn number_of(value: &Value, field: Field, least: u32, greatest: u32) -> Result<u32, StrategyFault>
+    ensures number { GivesField (λ n. n) result (number_in field least greatest (view value.now)) }
+    ensures span { IfOk result (λ n. (least ≤ n) × (n ≤ greatest)) }
 {
-    let Some(whole) = value.as_integer() else {
-        return Err(StrategyFault::BadNumber);
-    };
-    if i64::from(low) <= whole && whole <= i64::from(high) {
-        return Ok(whole as u32);
+    match value.as_integer() {
+        Some(whole) if i64::from(least) <= whole && whole <= i64::from(greatest) => Ok(
+            whole as u32,
+        ),
+        _ => Err(StrategyFault::BadNumber {
+            field,
+            least,
+            greatest,
+        }),
     }
-    Err(StrategyFault::BadNumber)
 }
 
-/// A whole number of `low` to `high` under a key.
-pub fn number(table: &Table, key: Field, low: u32, high: u32) -> Result<u32, StrategyFault>
-    ensures number { result ≡ number_at (table_view table.now) key low high }
-    ensures span { IfOk result (λ n. (low ≤ n) × (n ≤ high)) }
+/// A whole number of `least` to `greatest` under a key.
+fn number(table: &Table, key: Field, least: u32, greatest: u32) -> Result<u32, StrategyFault>
+    ensures number { GivesField (λ n. n) result (number_at (table_view table.now) key least greatest) }
+    ensures span { IfOk result (λ n. (least ≤ n) × (n ≤ greatest)) }
 {
-    number_of(field(table, key)?, low, high)
+    number_of(field(table, key)?, key, least, greatest)
 }
 
 /// The array that a value is.
@@ -92,7 +95,7 @@ fn array_of(value: &Value) -> Result<&Array, StrategyFault>
 }
 
 /// The array of 2 to 64 values that a value is.
-pub fn few_of(value: &Value) -> Result<&Array, StrategyFault>
+fn few_of(value: &Value) -> Result<&Array, StrategyFault>
     ensures array { GivesField (λ array. array_view array.now) result (few_in (view value.now)) }
     ensures few { IfOk result (λ array. (2 ≤ length array.now.items) × (length array.now.items ≤ 64)) }
 {
@@ -111,7 +114,7 @@ fn weights_of(alloc: Global, array: &Array) -> Result<Weights, StrategyError>
     let mut weights = Vec::new(alloc);
     let mut total = 0;
     for value in array {
-        let weight = number_of(value, 1, MAX_WEIGHT)?;
+        let weight = number_of(value, Field::Split, 1, MAX_WEIGHT)?;
         total += weight;
         weights.push(weight)?;
     }
@@ -131,7 +134,7 @@ fn list_of(value: &Value) -> Result<Rule, StrategyError>
 {
     match value.as_bool() {
         Some(true) => Ok(Rule::List),
-        _ => Err(StrategyError::Fault(StrategyFault::RowAction)),
+        _ => Err(StrategyFault::RowAction.into()),
     }
 }
 
@@ -139,7 +142,7 @@ fn list_of(value: &Value) -> Result<Rule, StrategyError>
 fn peel_of(value: &Value) -> Result<Rule, StrategyError>
     ensures { Gives act_of result (peel_in (view value.now)) }
 {
-    Ok(Rule::Peel(number_of(value, 1, MAX_FRONT)?))
+    Ok(Rule::Peel(number_of(value, Field::Peel, 1, MAX_FRONT)?))
 }
 
 /// What a row does: exactly one of `list`, `split` and `peel` is there.
@@ -154,13 +157,13 @@ fn rule_of(alloc: Global, entry: &Table) -> Result<Rule, StrategyError>
         (Some(list), None, None) => list_of(list),
         (None, Some(split), None) => split_of(alloc, split),
         (None, None, Some(front)) => peel_of(front),
-        _ => Err(StrategyError::Fault(StrategyFault::RowAction)),
+        _ => Err(StrategyFault::RowAction.into()),
     }
 }
 
 /// The `upto` of a row after one of this `upto`.
-pub fn upto_of(entry: &Table, cap: u32, before: Option<u32>) -> Result<u32, StrategyFault>
-    ensures { result ≡ upto_in cap before (table_view entry.now) }
+fn upto_of(entry: &Table, cap: u32, before: Option<u32>) -> Result<u32, StrategyFault>
+    ensures { GivesField (λ upto. upto) result (upto_in cap before (table_view entry.now)) }
 {
     let upto = number(entry, Field::Upto, 0, cap)?;
     if before.is_some_and(|before| upto <= before) {
@@ -174,7 +177,7 @@ fn row_of(alloc: Global, entry: &Value, cap: u32, before: Option<u32>) -> Result
     ensures { Gives (λ row. row) result (row_in cap before (view entry.now)) }
 {
     let Some(entry) = entry.as_table() else {
-        return Err(StrategyError::Fault(StrategyFault::RowAction));
+        return Err(StrategyFault::RowAction.into());
     };
     let upto = upto_of(entry, cap, before)?;
     Ok(Row::new(upto, rule_of(alloc, entry)?))
@@ -182,12 +185,15 @@ fn row_of(alloc: Global, entry: &Value, cap: u32, before: Option<u32>) -> Result
 
 /// The rows of an array.
 fn rows_of(alloc: Global, entries: &Array, cap: u32) -> Result<Vec<Row>, StrategyError>
-    ensures { Gives (λ rows. rows.items) result (rows_in cap None (array_view entries.now)) }
+    ensures { Gives (λ rows. rows.items) result (rows_in cap None 1 (array_view entries.now)) }
 {
     let mut rows = Vec::new(alloc);
     let mut before = None;
     for entry in entries {
-        let row = row_of(alloc, entry, cap, before)?;
+        let row = match row_of(alloc, entry, cap, before) {
+            Ok(row) => row,
+            Err(error) => return Err(error.in_row(rows.len() + 1)),
+        };
         before = Some(row.upto());
         rows.push(row)?;
     }
@@ -243,16 +249,18 @@ fn says_bounds(entry: &Value) -> bool
     }
 }
 
-/// Whether a row has a key `bounds`.
-fn rows_say_bounds(entries: &Array) -> bool
-    ensures { result ≡ rows_say_bounds (array_view entries.now) }
+/// The number of the first row, from 1, that has a key `bounds`.
+fn bounds_row(entries: &Array) -> Option<usize>
+    ensures { result ≡ bounds_row 1 (array_view entries.now) }
 {
+    let mut number = 0;
     for entry in entries {
+        number += 1;
         if says_bounds(entry) {
-            return true;
+            return Some(number);
         }
     }
-    false
+    None
 }
 
 /// The strategy of a table, or the first fault.
@@ -265,11 +273,11 @@ pub fn strategy_of(alloc: Global, table: &Table) -> Result<Strategy, StrategyErr
     let array = entries(table)?;
     let rows = rows_of(alloc, array, cap)?;
     if last_upto(&rows) != cap {
-        return Err(StrategyError::Fault(StrategyFault::CapMismatch));
+        return Err(StrategyFault::CapMismatch.into());
     }
     let bounds = bounds(table)?;
-    if rows_say_bounds(array) {
-        return Err(StrategyError::Fault(StrategyFault::BadBounds));
+    if let Some(row) = bounds_row(array) {
+        return Err(StrategyError::from(StrategyFault::BadBounds).in_row(row));
     }
     Ok(Strategy {
         cap,

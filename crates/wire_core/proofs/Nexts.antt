@@ -18,16 +18,18 @@ use Rattle.definitions.specs.Faults.{IsPartial}
 use Rattle.definitions.specs.Reading.{event_at}
 use Rattle.definitions.specs.Streams.{Standing, Before_hello, In_message, Meaning_over, Faulted}
 use Rattle.definitions.specs.Streams.{Fed, with_event, go_on, fed_by, feed_frames, feed, stays}
-use Rattle.definitions.proofs.Lemmas.{bytes_eq-Decides}
+use Rattle.definitions.proofs.Lemmas.{bytes_eq-Decides, map-append}
 use Rattle.laws.proofs.Fields.{IsBytes-both, rest_fits, front_fits}
 use Rattle.laws.specs.Codec.{NextIsExact}
 use Rattle.laws.specs.Parts.{FeedsJoin, joined}
-use Rattle.wire_core.specs.Standings.{is_over, put_after}
+use Rattle.wire_core.specs.Standings.{is_over, put_after, stands_after, standing_of, IsRead}
 use Rattle.wire_core.specs.Events.{event_value, event_values}
-use Rattle.wire_core.specs.Feeds.{StreamState, fed_into, Continues, fault_at, refusal_in, UnlessMemory, IfMemory}
-use Rattle.wire_core.specs.Nexts.{hello_due, hello_length, frame_end, IsReach, TakesNext, taken_by}
-use Rattle.wire_core.specs.Refused.{fault_number}
+use Rattle.wire_core.specs.Feeds.{StreamState, fed_into, Continues, fault_at, UnlessMemory}
+use Rattle.wire_core.specs.Nexts.{hello_due, hello_length, frame_end, IsReach, TakesNext, IsFedAlone, Refuses, taken_by}
+use Rattle.wire_core.specs.Refused.{fault_number, Fails}
 use Rattle.wire_core.specs.declared.event.Event as declared
+use Rattle.wire_core.specs.declared.standing.Standing as declared_standing
+use Rattle.wire_core.specs.declared.standing.Standing.TheVariants as standings
 use Rattle.wire_core.specs.declared.fault.DecodeError.{DecodeError}
 use Rattle.wire_core.specs.declared.fault.DecodeError.TheVariants as errors
 use Rattle.wire_core.proofs.Held.{held_joined}
@@ -65,6 +67,11 @@ partial_ends bytes (inr (n, rest, right, is, less)) =
     let a = length-append (count_text n) rest in
     omega arith
 
+-- after the hello the bytes reach no further either
+pub after_cut : (bytes : List ℕ) → length bytes ≤ frame_end Before_hello bytes →
+    length (drop 4 bytes) ≤ 4 + number (drop 4 bytes)
+after_cut bytes most = let l = length-drop 4 bytes in omega arith
+
 -- ---- what stands next, in bytes that are one frame at most
 
 abbrev pub Outcome : {F : Type 0} (P : Profile F) → Standing → List ℕ → Fed F → Type 0
@@ -78,20 +85,18 @@ nothing_waits : {F : Type 0} (P : Profile F) (fuel parts : ℕ) →
 nothing_waits P zero parts = refl
 nothing_waits P (suc fuel) parts = refl
 
-abbrev IsAlone : {F : Type 0} → Event F → Fed F → Type 0
-IsAlone e fed = (to : Standing) × (fed ≡ record { events = e ∷ []; to = to; kept = [] }) × (fault_at to ≡ None)
+no_fault_after : {F : Type 0} (parts : ℕ) (e : Event F) → fault_at (stands_after parts e) ≡ None
+no_fault_after parts (Came p) = refl
+no_fault_after parts Ended = refl
+no_fault_after parts (Failed code) = refl
 
 alone : {F : Type 0} (P : Profile F) (e : Event F) (fuel parts : ℕ) (rest : List ℕ) → rest ≡ [] →
-    IsAlone e (go_on e parts (λ n. feed_frames P fuel n rest))
-alone P (Came p) fuel parts rest none = (
-  In_message (parts + 1),
-  ap (with_event (Came p)) (ap (feed_frames P fuel (parts + 1)) none
-      ∙ nothing_waits P fuel (parts + 1)),
-  refl,
-)
+    go_on e parts (λ n. feed_frames P fuel n rest) ≡ record { events = e ∷ []; to = stands_after parts e; kept = [] }
+alone P (Came p) fuel parts rest none =
+    ap (with_event (Came p)) (ap (feed_frames P fuel (parts + 1)) none ∙ nothing_waits P fuel (parts + 1))
 alone P Ended fuel parts rest none =
-    (In_message 0, ap (with_event Ended) (ap (feed_frames P fuel 0) none ∙ nothing_waits P fuel 0), refl)
-alone P (Failed code) fuel parts rest none = (Meaning_over, refl, refl)
+    ap (with_event Ended) (ap (feed_frames P fuel 0) none ∙ nothing_waits P fuel 0)
+alone P (Failed code) fuel parts rest none = refl
 
 by_event : {F : Type 0} (P : Profile F) → NextIsExact P → (fuel parts : ℕ) (bytes : List ℕ) → IsBytes bytes →
     length bytes ≤ 4 + number bytes → (r : Result (Option (Event F × List ℕ)) ℕ) →
@@ -104,8 +109,13 @@ by_event P exact fuel parts bytes fits most (Ok (Some (e, rest))) is =
     let stands = ((exact Stream parts bytes).2 fits).0 (Some (e, rest)) is in
     let text = event_text P e in
     let none = none_after bytes text rest stands.3 stands.1 most in
-    let one = alone P e fuel parts rest none in
-    inr (inr (e, one.0, one.1, one.2, stands.3 ∙ ap (λ (t : List ℕ). frame text ++ t) none ∙ append-nil (frame text)))
+    inr (inr (
+      e,
+      stands_after parts e,
+      alone P e fuel parts rest none,
+      no_fault_after parts e,
+      stands.3 ∙ ap (λ (t : List ℕ). frame text ++ t) none ∙ append-nil (frame text),
+    ))
 
 frames_outcome : {F : Type 0} (P : Profile F) → NextIsExact P → (fuel parts : ℕ) (bytes : List ℕ) → IsBytes bytes →
     length bytes ≤ fuel → length bytes ≤ 4 + number bytes →
@@ -114,6 +124,56 @@ frames_outcome P exact zero parts [] fits enough most = inr (inl (refl, omega ar
 frames_outcome P exact zero parts (b ∷ bytes) fits enough most = absurd (omega arith)
 frames_outcome P exact (suc fuel) parts bytes fits enough most =
     by_event P exact fuel parts bytes fits most (event_at P Stream parts bytes) refl
+
+-- what is fed of one frame, by what stands there
+abbrev OneFed : {F : Type 0} → ℕ → List ℕ → Result (Option (Event F × List ℕ)) ℕ → Fed F → Type 0
+OneFed parts bytes (Err code) fed = fed ≡ stays (Faulted code) []
+OneFed parts bytes (Ok None) fed = fed ≡ stays (In_message parts) bytes
+OneFed parts bytes (Ok (Some (e, rest))) fed = fed ≡ record { events = e ∷ []; to = stands_after parts e; kept = rest }
+
+one_by : {F : Type 0} (P : Profile F) → NextIsExact P → (fuel parts : ℕ) (bytes : List ℕ) → IsBytes bytes →
+    length bytes ≤ 4 + number bytes → (r : Result (Option (Event F × List ℕ)) ℕ) →
+    event_at P Stream parts bytes ≡ r → OneFed parts bytes r (fed_by r parts bytes (feed_frames P fuel))
+one_by P exact fuel parts bytes fits most (Err code) is = refl
+one_by P exact fuel parts bytes fits most (Ok None) is = refl
+one_by P exact fuel parts bytes fits most (Ok (Some (e, rest))) is =
+    let stands = ((exact Stream parts bytes).2 fits).0 (Some (e, rest)) is in
+    let none = none_after bytes (event_text P e) rest stands.3 stands.1 most in
+    alone P e fuel parts rest none ∙ (λ i. record { events = e ∷ []; to = stands_after parts e; kept = sym none i })
+
+one_read : {F : Type 0} (P : Profile F) → NextIsExact P → (parts : ℕ) (bytes : List ℕ) → IsBytes bytes →
+    length bytes ≤ 4 + number bytes → (r : Result (Option (Event F × List ℕ)) ℕ) →
+    event_at P Stream parts bytes ≡ r → (fuel : ℕ) → length bytes ≤ fuel →
+    OneFed parts bytes r (feed_frames P fuel parts bytes)
+one_read P exact parts [] fits most r is zero le =
+    subst (λ (q : Result _ ℕ). OneFed parts [] q (stays (In_message parts) [])) is refl
+one_read P exact parts (b ∷ bytes) fits most r is zero le = absurd (omega arith)
+one_read P exact parts bytes fits most r is (suc fuel) le =
+    subst (λ (q : Result _ ℕ). OneFed parts bytes r (fed_by q parts bytes (feed_frames P fuel))) (sym is)
+    (one_by P exact fuel parts bytes fits most r is)
+
+pub refused_one : {F : Type 0} (P : Profile F) → NextIsExact P → (parts : ℕ) (bytes left : List ℕ) → IsBytes bytes →
+    length bytes ≤ 4 + number bytes → (e : DecodeError) → Fails e (event_at P Stream parts bytes) →
+    (fuel : ℕ) → length bytes ≤ fuel → IsRead (feed_frames P fuel parts bytes) (Err e) left
+refused_one P exact parts bytes left fits most (errors.Fault f) is fuel le =
+    one_read P exact parts bytes fits most (Err (fault_number f)) is fuel le
+refused_one P exact parts bytes left fits most errors.Memory is fuel le = tt
+
+pub some_one : {F : Type 0} (P : Profile F) → NextIsExact P → (parts : ℕ) (bytes left : List ℕ) → IsBytes bytes →
+    length bytes ≤ 4 + number bytes → (x : declared.Event F) (to : declared_standing.Standing) →
+    event_at P Stream parts bytes ≡ Ok (Some (event_value x, left)) →
+    standing_of to ≡ stands_after parts (event_value x) →
+    (fuel : ℕ) → length bytes ≤ fuel → IsRead (feed_frames P fuel parts bytes) (Ok (to, Some x)) left
+some_one P exact parts bytes left fits most x to is stands fuel le =
+    one_read P exact parts bytes fits most (Ok (Some (event_value x, left))) is fuel le
+    ∙ (λ i. record { events = event_value x ∷ []; to = sym stands i; kept = left })
+
+pub none_one : {F : Type 0} (P : Profile F) → NextIsExact P → (parts : ℕ) (bytes left : List ℕ) → IsBytes bytes →
+    length bytes ≤ 4 + number bytes → event_at P Stream parts bytes ≡ Ok None → left ≡ bytes →
+    (fuel : ℕ) → length bytes ≤ fuel →
+    IsRead (feed_frames P fuel parts bytes) (Ok (standings.InMessage parts, None)) left
+none_one P exact parts bytes left fits most is same fuel le =
+    one_read P exact parts bytes fits most (Ok None) is fuel le ∙ ap (stays (In_message parts)) (sym same)
 
 -- ---- after the hello, where it is due
 
@@ -307,7 +367,7 @@ abbrev pub IsShare : Standing → List ℕ → List ℕ → ℕ → Type 0
 IsShare s kept piece count = (count ≤ length piece) × (is_over s ≡ true → count ≡ length piece)
     × (is_over s ≡ false → IsReach s kept piece count)
 
-shared : (old inside : StreamState) (kept piece : List ℕ) (count : ℕ) → inside ≡ old → kept ≡ inside.kept →
+pub shared : (old inside : StreamState) (kept piece : List ℕ) (count : ℕ) → inside ≡ old → kept ≡ inside.kept →
     count ≤ length piece → (is_over inside.standing ≡ true → count ≡ length piece) →
     (is_over inside.standing ≡ false → IsReach inside.standing kept piece count) →
     IsShare old.standing old.kept piece count
@@ -329,6 +389,15 @@ next_is P exact s kept piece count fits more read share false over =
     as_next P s kept piece count (feed P s bytes) cut
     (outcome P exact s bytes over (IsBytes-both kept (take count piece) fits front) cut.0)
 
+-- so many bytes of the piece, after those that are kept, reach no further than a frame
+pub cut_one : {F : Type 0} (P : Profile F) → NextIsExact P → (s : Standing) (kept piece : List ℕ) (count : ℕ) →
+    IsBytes kept → feed P s kept ≡ stays s kept → is_over s ≡ false → count ≤ length piece →
+    IsReach s kept piece count → length (kept ++ take count piece) ≤ frame_end s (kept ++ take count piece)
+cut_one P exact s kept piece count fits read goes_on within reach =
+    let cut = is_cut s kept piece count (kept_ends P exact s kept goes_on fits read) within reach
+    (nat_lt (length (kept ++ piece)) (hello_length s + 4)) refl in
+    cut.0
+
 -- the same of a feed that is seen from inside a call
 pub next_of : {F : Type 0} (P : Profile F) → NextIsExact P → (old inside : StreamState) (kept piece : List ℕ)
     (count : ℕ) → inside ≡ old → kept ≡ inside.kept →
@@ -342,32 +411,6 @@ next_of P exact old inside kept piece count same is within over reach fits more 
 
 -- ---- what is told of it
 
-events_none : {F : Type 0} (events : List (declared.Event F)) → event_values events ≡ [] → events ≡ []
-events_none [] none = refl
-events_none (x ∷ events) none = absurd cc
-
-popped_none : {F : Type 0} (events left : List (declared.Event F)) (popped : Option (declared.Event F)) →
-    events ≡ left ++ option_to_list popped → events ≡ [] → popped ≡ None
-popped_none events left None is none = refl
-popped_none events left (Some x) is none =
-    absurd (let l = ap length (sym is ∙ none) in let a = length-append left (x ∷ []) in omega arith)
-
-abbrev IsPopped : {F : Type 0} → Event F → Option (declared.Event F) → Type 0
-IsPopped {F} e popped = (x : declared.Event F) × (popped ≡ Some x) × (event_value x ≡ e)
-
-popped_one : {F : Type 0} (events left : List (declared.Event F)) (popped : Option (declared.Event F)) (e : Event F) →
-    events ≡ left ++ option_to_list popped → left ≡ take (length events - 1) events → event_values events ≡ e ∷ [] →
-    IsPopped e popped
-popped_one {F} [] left popped e is rest one = absurd cc
-popped_one {F} (x ∷ y ∷ events) left popped e is rest one = absurd (let l = ap length one in omega arith)
-popped_one {F} (x ∷ []) left None e is rest one =
-    absurd (let l = ap length (is ∙ ap (λ (t : List (declared.Event F)). t ++ []) rest) in omega arith)
-popped_one {F} (x ∷ []) left (Some y) e is rest one =
-    let same : x ∷ [] ≡ y ∷ [] = is ∙ ap (λ (t : List (declared.Event F)). t ++ y ∷ []) rest in
-    let x_is : x ≡ y = cc in
-    let value : event_value x ≡ e = cc in
-    (y, refl, ap event_value (sym x_is) ∙ value)
-
 some_taken : {F : Type 0} (P : Profile F) (s : Standing) (kept piece : List ℕ) (count : ℕ) (e : Event F) →
     feed P s kept ≡ stays s kept →
     (let fed : Fed F = feed P s (kept ++ take count piece) in fed.events ≡ e ∷ []) → 0 < count
@@ -376,87 +419,115 @@ some_taken {F} P s kept piece zero e read one = absurd (let none : [] ≡ e ∷ 
 some_taken {F} P s kept piece (suc count) e read one = omega arith
 
 pub next_taken : {F : Type 0} (P : Profile F) (old new : StreamState) (piece : List ℕ) (count : ℕ)
-    (events left : List (declared.Event F))
-    (popped : Option (declared.Event F)) → feed P old.standing old.kept ≡ stays old.standing old.kept →
+    (made : Option (declared.Event F)) → feed P old.standing old.kept ≡ stays old.standing old.kept →
     count ≤ length piece →
     Next P old.standing old.kept piece count (feed P old.standing (old.kept ++ take count piece)) →
-    put_after [] (feed P old.standing (old.kept ++ take count piece)) ≡ fed_into (event_values events) new →
-    None ≡ fault_at new.standing →
-    events ≡ left ++ option_to_list popped → left ≡ take (length events - 1) events →
-    TakesNext P old piece (Ok (count, popped)) new
-next_taken {F} P old new piece count events left popped held within (inl (code, is)) fed faultless pop rest =
+    IsFedAlone (feed P old.standing (old.kept ++ take count piece)) (Ok (made, new)) →
+    TakesNext P old piece (Ok (count, made)) new
+next_taken {F} P old new piece count made held within (inl (code, is)) (fed, faultless) =
     absurd (let to : Faulted code ≡ new.standing =
     sym (ap (λ (f : Fed F). f.to) is) ∙ ap (λ (f : Fed F). f.to) fed in
-    let at : Some code ≡ None = ap fault_at to ∙ sym faultless in cc)
-next_taken {F} P old new piece count events left popped held within (inr (inl (none, all))) fed faultless pop rest =
-    let no_events : event_values events ≡ [] = sym (ap (λ (f : Fed F). f.events) fed) ∙ none in
-    let nothing = popped_none events left popped pop (events_none events no_events) in
+    let at : Some code ≡ None = ap fault_at to ∙ faultless in cc)
+next_taken {F} P old new piece count None held within (inr (inl (none, all))) (fed, faultless) =
     let same : take count piece ≡ piece = ap (λ (n : ℕ). take n piece) all ∙ take-length piece in
-    let read : feed P old.standing (old.kept ++ piece) ≡ fed_into [] new =
-    ap (λ (t : List ℕ). feed P old.standing (old.kept ++ t)) (sym same) ∙ fed
-    ∙ ap (λ (es : List (Event F)). fed_into es new) no_events in
-    subst (λ (o : Option (declared.Event F)). TakesNext P old piece (Ok (count, o)) new) (sym nothing) (all, read)
-next_taken {F} P old new piece count events left popped held within (inr (inr (e, to, is, at, text))) fed faultless
-    pop rest =
-    let one : event_values events ≡ e ∷ [] =
+    (all, ap (λ (t : List ℕ). feed P old.standing (old.kept ++ t)) (sym same) ∙ fed)
+next_taken {F} P old new piece count (Some x) held within (inr (inl (none, all))) (fed, faultless) =
+    absurd (let wrong : event_value x ∷ [] ≡ [] = sym (ap (λ (f : Fed F). f.events) fed) ∙ none in cc)
+next_taken {F} P old new piece count None held within (inr (inr (e, to, is, at, text))) (fed, faultless) =
+    absurd (let wrong : [] ≡ e ∷ [] = sym (ap (λ (f : Fed F). f.events) fed) ∙ ap (λ (f : Fed F). f.events) is in cc)
+next_taken {F} P old new piece count (Some x) held within (inr (inr (e, to, is, at, text))) (fed, faultless) =
+    let one : event_value x ∷ [] ≡ e ∷ [] =
     sym (ap (λ (f : Fed F). f.events) fed) ∙ ap (λ (f : Fed F). f.events) is in
-    let kept : new.kept ≡ [] = sym (ap (λ (f : Fed F). f.kept) fed) ∙ ap (λ (f : Fed F). f.kept) is in
-    let x = popped_one events left popped e pop rest one in
-    let value = sym x.2 in
-    let some = some_taken P old.standing old.kept piece count e held (ap (λ (f : Fed F). f.events) is) in
-    let spelled = text
-    ∙ ap (λ (y : Event F). hello_due P old.standing ++ frame (event_text P y)) value in
-    let events_are = one ∙ ap (λ (y : Event F). y ∷ []) value in
-    let read = fed ∙ ap (λ (es : List (Event F)). fed_into es new) events_are in
-    subst (λ (o : Option (declared.Event F)). TakesNext P old piece (Ok (count, o)) new) (sym x.1)
-    (some, within, spelled, read, kept)
+    let value : e ≡ event_value x = cc in (
+      some_taken P old.standing old.kept piece count e held (ap (λ (f : Fed F). f.events) is),
+      within,
+      text ∙ ap (λ (y : Event F). hello_due P old.standing ++ frame (event_text P y)) value,
+      fed,
+      sym (ap (λ (f : Fed F). f.kept) fed) ∙ ap (λ (f : Fed F). f.kept) is,
+    )
 
-next_fault : {F : Type 0} (P : Profile F) → FeedsJoin P → (old new : StreamState) (piece : List ℕ) (count : ℕ)
-    (events : List (declared.Event F)) (code : ℕ) → IsBytes old.kept → IsBytes piece →
-    Next P old.standing old.kept piece count (feed P old.standing (old.kept ++ take count piece)) →
-    put_after [] (feed P old.standing (old.kept ++ take count piece)) ≡ fed_into (event_values events) new →
-    Some code ≡ fault_at new.standing → feed P old.standing (old.kept ++ piece) ≡ fed_into [] new
-next_fault {F} P join old new piece count events code fits more (inl (other, is)) fed at =
+pub next_refused : {F : Type 0} (P : Profile F) → FeedsJoin P → (old : StreamState) (piece : List ℕ) (count : ℕ)
+    (e : DecodeError) → IsBytes old.kept → IsBytes piece → is_over old.standing ≡ false →
+    IsFedAlone (feed P old.standing (old.kept ++ take count piece)) (Err e) → Refuses P old piece e
+next_refused {F} P join old piece count errors.Memory fits more goes_on fed = goes_on
+next_refused {F} P join old piece count (errors.Fault f) fits more goes_on fed =
     let back = drop count piece in
     let parts = sym (take-append-drop count piece) in
     let bytes : List ℕ = old.kept ++ take count piece in
     let all : old.kept ++ piece ≡ bytes ++ back =
     ap (λ (t : List ℕ). old.kept ++ t) parts ∙ sym (append_assoc old.kept (take count piece) back) in
     let front = IsBytes-both old.kept (take count piece) fits (front_fits piece (take count piece) back parts more) in
-    let none : event_values events ≡ [] =
-    sym (ap (λ (f : Fed F). f.events) fed) ∙ ap (λ (f : Fed F). f.events) is in
     ap (feed P old.standing) all
     ∙ join old.standing bytes back front (rest_fits piece (take count piece) back parts more)
-    ∙ ap (λ (a : Fed F). joined a (feed P a.to (a.kept ++ back))) is
-    ∙ sym is ∙ fed ∙ ap (λ (es : List (Event F)). fed_into es new) none
-next_fault {F} P join old new piece count events code fits more (inr (inl (none, all))) fed at =
-    let no_events : event_values events ≡ [] = sym (ap (λ (f : Fed F). f.events) fed) ∙ none in
-    let same : take count piece ≡ piece = ap (λ (n : ℕ). take n piece) all ∙ take-length piece in
-    ap (λ (t : List ℕ). feed P old.standing (old.kept ++ t)) (sym same) ∙ fed
-    ∙ ap (λ (es : List (Event F)). fed_into es new) no_events
-next_fault {F} P join old new piece count events code fits more (inr (inr (e, to, is, faultless, text))) fed at =
-    absurd (let there : to ≡ new.standing = sym (ap (λ (f : Fed F). f.to) is) ∙ ap (λ (f : Fed F). f.to) fed in
-    let wrong : Some code ≡ None = at ∙ ap fault_at (sym there) ∙ faultless in cc)
+    ∙ ap (λ (a : Fed F). joined a (feed P a.to (a.kept ++ back))) fed
 
-not_over : (s : Standing) → (is_over s ≡ true → ⊥) → is_over s ≡ false
-not_over Before_hello no_way = refl
-not_over (In_message parts) no_way = refl
-not_over Meaning_over no_way = absurd (no_way refl)
-not_over (Faulted code) no_way = absurd (no_way refl)
+-- ---- where what follows counts no more
 
-pub next_refused : {F : Type 0} (P : Profile F) (X : Type 0) → FeedsJoin P →
-    (old new : StreamState) (piece : List ℕ) (count : ℕ)
-    (events : List (declared.Event F)) (e : DecodeError) → IsBytes old.kept → IsBytes piece →
-    Next P old.standing old.kept piece count (feed P old.standing (old.kept ++ take count piece)) →
-    (let r : Result X DecodeError = Err e in
-    UnlessMemory r (put_after [] (feed P old.standing (old.kept ++ take count piece))
-    ≡ fed_into (event_values events) new) →
-    UnlessMemory r (refusal_in r ≡ fault_at new.standing) → IfMemory r (new ≡ old) →
-    (is_over old.standing ≡ true → IfMemory r ⊥) → TakesNext P old piece (Err e) new)
-next_refused P X join old new piece count events (errors.Fault f) fits more next fed fault memory over =
-    next_fault P join old new piece count events (fault_number f) fits more next fed fault
-next_refused P X join old new piece count events errors.Memory fits more next fed fault memory over =
-    (memory, not_over old.standing over)
+pub over_refused : {F : Type 0} (P : Profile F) (s : Standing) (bytes : List ℕ) (code : ℕ) → Some code ≡ fault_at s →
+    feed P s bytes ≡ stays (Faulted code) []
+over_refused P Before_hello bytes code is = absurd cc
+over_refused P (In_message parts) bytes code is = absurd cc
+over_refused P Meaning_over bytes code is = absurd cc
+over_refused P (Faulted other) bytes code is =
+    let same : other ≡ code = cc in ap (λ (n : ℕ). stays (Faulted n) []) same
+
+pub over_taken : {F : Type 0} (P : Profile F) (old new : StreamState) (piece : List ℕ) →
+    is_over old.standing ≡ true → None ≡ fault_at old.standing → new ≡ record { standing = Meaning_over; kept = [] } →
+    TakesNext P old piece (Ok (length piece, None)) new
+over_taken {F} P old new piece over faultless is = (refl, by old.standing over faultless) where
+  by : (s : Standing) → is_over s ≡ true → None ≡ fault_at s → feed P s (old.kept ++ piece) ≡ fed_into [] new
+  by Before_hello over faultless = absurd cc
+  by (In_message parts) over faultless = absurd cc
+  by Meaning_over over faultless = ap (λ (n : StreamState). fed_into [] n) (sym is)
+  by (Faulted code) over faultless = absurd cc
+
+-- ---- one event after another
+
+pub step_joined : {F : Type 0} (P : Profile F) → FeedsJoin P → (old new : StreamState) (piece left : List ℕ)
+    (count : ℕ) (before after : List (declared.Event F)) (made : Option (declared.Event F)) →
+    IsBytes old.kept → IsBytes piece → feed P new.standing new.kept ≡ stays new.standing new.kept →
+    TakesNext P old piece (Ok (count, made)) new → left ≡ drop count piece →
+    after ≡ before ++ option_to_list made →
+    put_after (event_values before) (feed P old.standing (old.kept ++ piece))
+    ≡ put_after (event_values after) (feed P new.standing (new.kept ++ left))
+step_joined {F} P join old new piece left count before after None fits more held (all, read) is grown =
+    let none : left ≡ [] = is ∙ no_bytes (drop count piece) (let l = length-drop count piece in omega arith) in
+    let same : before ≡ after = sym (grown ∙ append-nil before) in
+    let rest : feed P new.standing (new.kept ++ left) ≡ fed_into [] new =
+    ap (λ (t : List ℕ). feed P new.standing (new.kept ++ t)) none
+    ∙ ap (feed P new.standing) (append-nil new.kept) ∙ held in
+    ap (put_after (event_values before)) (read ∙ sym rest)
+    ∙ ap (λ (es : List (declared.Event F)). put_after (event_values es) (feed P new.standing (new.kept ++ left))) same
+step_joined {F} P join old new piece left count before after (Some x) fits more held (some, within, text, read, kept)
+    is grown =
+    let back = drop count piece in
+    let parts = sym (take-append-drop count piece) in
+    let bytes : List ℕ = old.kept ++ take count piece in
+    let all : old.kept ++ piece ≡ bytes ++ back =
+    ap (λ (t : List ℕ). old.kept ++ t) parts ∙ sym (append_assoc old.kept (take count piece) back) in
+    let front = IsBytes-both old.kept (take count piece) fits (front_fits piece (take count piece) back parts more) in
+    let b : Fed F = feed P new.standing (new.kept ++ back) in
+    let events : event_values before ++ event_value x ∷ [] ≡ event_values after =
+    sym (map-append event_value before (x ∷ [])) ∙ ap event_values (sym grown) in
+    ap (λ (t : List ℕ). put_after (event_values before) (feed P old.standing t)) all
+    ∙ ap (put_after (event_values before))
+    (join old.standing bytes back front (rest_fits piece (take count piece) back parts more)
+    ∙ ap (λ (a : Fed F). joined a (feed P a.to (a.kept ++ back))) read)
+    ∙ (λ i. record {
+      events = (sym (append_assoc (event_values before) (event_value x ∷ []) b.events)
+          ∙ ap (λ (es : List (Event F)). es ++ b.events) events) i;
+      to = b.to;
+      kept = b.kept;
+    })
+    ∙ ap (λ (t : List ℕ). put_after (event_values after) (feed P new.standing (new.kept ++ t))) (sym is)
+
+pub ends_joined : {F : Type 0} (P : Profile F) (new : StreamState) (rest : List ℕ) (events : List (Event F)) →
+    rest ≡ [] → feed P new.standing new.kept ≡ stays new.standing new.kept →
+    put_after events (feed P new.standing (new.kept ++ rest)) ≡ fed_into events new
+ends_joined {F} P new rest events none held =
+    ap (put_after events) (ap (λ (t : List ℕ). feed P new.standing (new.kept ++ t)) none
+    ∙ ap (feed P new.standing) (append-nil new.kept) ∙ held)
+    ∙ (λ i. record { events = append-nil events i; to = new.standing; kept = new.kept })
 
 -- what was held goes on by what was taken
 pub joined_next : {F : Type 0} (P : Profile F) → FeedsJoin P → (old new : StreamState) (piece : List ℕ) →

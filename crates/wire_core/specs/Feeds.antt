@@ -7,7 +7,7 @@
 --     fault_at standing              the fault that a stream has, if any
 --     refusal_in, fault_in           the number of a refusal
 --     UnlessMemory, IfMemory         what holds unless memory ran out, and where it did
-use Rattle.std.specs.Prelude.{◌≡◌, ℕ, Bool, true, false, List, ◌++◌, length, drop, ⊤}
+use Rattle.std.specs.Prelude.{◌≡◌, ℕ, List, ◌++◌, length, drop, ⊤}
 use Rattle.std.specs.Prelude.{Option, Some, None, Result, Ok, Err}
 use Rattle.definitions.specs.Items.{IsBytes}
 use Rattle.definitions.specs.Wire.{Profile, Event}

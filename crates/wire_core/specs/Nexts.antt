@@ -4,15 +4,19 @@
 --     frame_end standing bytes           where the first frame ends, by its length, after the hello where it is due
 --     taken_by result piece              what was taken of the piece
 --     IsReach standing kept piece count  so many bytes of the piece are all, or reach to that end
+--     IsFedAlone fed result             what was fed is the event, if there is one, and the feed then; or the fault
+--     Refuses P old piece e             the fault of the kept bytes and the piece; or memory ran out where it was wanted
 --     TakesNext P old piece result new   so many bytes of the piece are taken, and the event that they end, if they do
 use Rattle.std.specs.Prelude.{◌≡◌, ℕ, ◌+◌, ◌-◌, ◌<◌, ◌≤◌, min, false, List, [], ◌∷◌, ◌++◌, length, take, drop}
-use Rattle.std.specs.Prelude.{Option, Some, None, Result, Ok, Err}
+use Rattle.std.specs.Prelude.{Option, Some, None, Result, Ok, Err, ⊤}
+use Rattle.std.specs.Option.{option_to_list}
 use Rattle.std.specs.Int.{w32, from_be_bytes}
 use Rattle.definitions.specs.Wire.{Profile, frame, event_text}
-use Rattle.definitions.specs.Streams.{Standing, Before_hello, In_message, Meaning_over, Faulted, feed}
-use Rattle.wire_core.specs.Events.{event_value}
+use Rattle.definitions.specs.Streams.{Standing, Before_hello, In_message, Meaning_over, Faulted, Fed, feed, stays}
+use Rattle.wire_core.specs.Events.{event_value, event_values}
 use Rattle.wire_core.specs.Standings.{is_over}
-use Rattle.wire_core.specs.Feeds.{StreamState, fed_into}
+use Rattle.wire_core.specs.Feeds.{StreamState, fed_into, fault_at}
+use Rattle.wire_core.specs.Refused.{fault_number}
 use Rattle.wire_core.specs.declared.event.Event as declared
 use Rattle.wire_core.specs.declared.fault.DecodeError.{DecodeError}
 use Rattle.wire_core.specs.declared.fault.DecodeError.TheVariants as errors
@@ -31,6 +35,16 @@ hello_length (Faulted code) = 0
 
 abbrev pub frame_end : Standing → List ℕ → ℕ
 frame_end standing bytes = hello_length standing + 4 + from_be_bytes w32 (take 4 (drop (hello_length standing) bytes))
+
+abbrev pub IsFedAlone : {F : Type 0} → Fed F → Result (Option (declared.Event F) × StreamState) DecodeError → Type 0
+IsFedAlone fed (Ok (made, new)) = (fed ≡ fed_into (event_values (option_to_list made)) new)
+    × (fault_at new.standing ≡ None)
+IsFedAlone fed (Err (errors.Fault f)) = fed ≡ stays (Faulted (fault_number f)) []
+IsFedAlone fed (Err errors.Memory) = ⊤
+
+abbrev pub Refuses : {F : Type 0} → Profile F → StreamState → List ℕ → DecodeError → Type 0
+Refuses P old piece (errors.Fault f) = feed P old.standing (old.kept ++ piece) ≡ stays (Faulted (fault_number f)) []
+Refuses P old piece errors.Memory = is_over old.standing ≡ false
 
 -- no event is whole yet, and all of the piece is read; or an event, whose frame the bytes spell up to the last that is
 -- taken; or a fault; or memory ran out, where it was wanted, and nothing has changed

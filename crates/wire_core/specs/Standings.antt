@@ -1,13 +1,14 @@
 -- Where a stream stands, as the definitions have it, and reading on from there.
 --     standing_of standing           as the definitions have it
 --     is_over standing               whether what follows counts no more
---     left_at standing bytes         what is kept there of bytes that are not read yet
---     after before fed              events that came before, and what is fed then
---     goes_on step bytes more        what is fed after a step: more frames, or nothing
---     IfMore step Q                  something of the number of parts, where more frames come
---     fed_as events standing bytes   events that were given, where the stream stands then, and what is kept
-use Rattle.std.specs.Prelude.{ℕ, Bool, true, false, List, [], ◌++◌, ⊤}
-use Rattle.definitions.specs.Wire.{Event}
+--     stands_after parts e          after an event that came after so many parts of its message
+--     put_after before fed          events that came before, and what is fed then
+--     starts_at result bytes more   what is fed after the hello: frames, or nothing
+--     fed_as events standing bytes  events that were given, where the stream stands then, and what is kept
+--     IsRead fed result left        the event that was read, if there is one, or the fault; and what is left
+use Rattle.std.specs.Prelude.{◌≡◌, ℕ, ◌+◌, Bool, true, false, List, [], ◌++◌, ⊤, Option, Some, None, Result, Ok, Err}
+use Rattle.std.specs.Option.{option_to_list}
+use Rattle.definitions.specs.Wire.{Event, Came, Ended, Failed}
 use Rattle.definitions.specs.Streams as streams
 use Rattle.definitions.specs.Streams.{Fed, stays}
 use Rattle.wire_core.specs.Refused.{fault_number}
@@ -15,8 +16,9 @@ use Rattle.wire_core.specs.Events.{event_values}
 use Rattle.wire_core.specs.declared.event.Event as declared
 use Rattle.wire_core.specs.declared.standing.Standing.{Standing}
 use Rattle.wire_core.specs.declared.standing.Standing.TheVariants as standings
-use Rattle.wire_core.specs.declared.standing.Progress.{Progress}
-use Rattle.wire_core.specs.declared.standing.Progress.TheVariants as steps
+use Rattle.wire_core.specs.declared.fault.WireFault.{WireFault}
+use Rattle.wire_core.specs.declared.fault.DecodeError.{DecodeError}
+use Rattle.wire_core.specs.declared.fault.DecodeError.TheVariants as errors
 
 abbrev pub standing_of : Standing → streams.Standing
 standing_of standings.BeforeHello = streams.Before_hello
@@ -30,22 +32,23 @@ is_over (streams.In_message parts) = false
 is_over streams.Meaning_over = true
 is_over (streams.Faulted code) = true
 
-abbrev pub left_at : Standing → List ℕ → List ℕ
-left_at standings.BeforeHello bytes = bytes
-left_at (standings.InMessage parts) bytes = bytes
-left_at standings.MeaningOver bytes = []
-left_at (standings.Faulted f) bytes = []
+abbrev pub stands_after : {F : Type 0} → ℕ → Event F → streams.Standing
+stands_after parts (Came p) = streams.In_message (parts + 1)
+stands_after parts Ended = streams.In_message 0
+stands_after parts (Failed code) = streams.Meaning_over
 
 abbrev pub put_after : {F : Type 0} → List (Event F) → Fed F → Fed F
 put_after before fed = record { events = before ++ fed.events; to = fed.to; kept = fed.kept }
 
-abbrev pub goes_on : {F : Type 0} → Progress → List ℕ → (ℕ → List ℕ → Fed F) → Fed F
-goes_on (steps.More parts) bytes more = more parts bytes
-goes_on (steps.Rest standing) bytes more = stays (standing_of standing) (left_at standing bytes)
-
-abbrev pub IfMore : Progress → (ℕ → Type 0) → Type 0
-IfMore (steps.More parts) Q = Q parts
-IfMore (steps.Rest standing) Q = ⊤
+abbrev pub starts_at : {F : Type 0} → Result (Option ℕ) WireFault → List ℕ → (ℕ → List ℕ → Fed F) → Fed F
+starts_at (Ok (Some parts)) bytes more = more parts bytes
+starts_at (Ok None) bytes more = stays streams.Before_hello bytes
+starts_at (Err f) bytes more = stays (streams.Faulted (fault_number f)) []
 
 abbrev pub fed_as : {F : Type 0} → List (declared.Event F) → Standing → List ℕ → Fed F
 fed_as events standing bytes = record { events = event_values events; to = standing_of standing; kept = bytes }
+
+abbrev pub IsRead : {F : Type 0} → Fed F → Result (Standing × Option (declared.Event F)) DecodeError → List ℕ → Type 0
+IsRead fed (Ok (to, made)) left = fed ≡ fed_as (option_to_list made) to left
+IsRead fed (Err (errors.Fault f)) left = fed ≡ stays (streams.Faulted (fault_number f)) []
+IsRead fed (Err errors.Memory) left = ⊤

@@ -1,17 +1,21 @@
-ghost use Rattle.std.specs.Prelude.{◌≡◌, true, false, None, [], ◌++◌, ◌+◌, ◌<◌, ◌≤◌, length, take, IfOk, OnErr};
+ghost use Rattle.std.specs.Prelude.{◌≡◌, true, false, None, [], ◌++◌, ◌+◌, ◌<◌, ◌≤◌, length, take};
+ghost use Rattle.std.specs.Prelude.{IfOk, IfErr, OnOk, OnErr, Ok};
 ghost use Rattle.std.specs.Int.{w32, from_be_bytes};
+ghost use Rattle.std.specs.Option.{option_to_list};
 ghost use Rattle.definitions.specs.Wire.{max_body};
-ghost use Rattle.definitions.specs.Streams.{Before_hello, In_message, feed, Means, finish_fault};
+ghost use Rattle.definitions.specs.Streams.{Before_hello, In_message, Faulted, feed, Means, finish_fault, stays};
 ghost use Rattle.wire_core.specs.Events.{event_values};
-ghost use Rattle.wire_core.specs.Standings.{is_over, put_after};
+ghost use Rattle.wire_core.specs.Refused.{fault_number};
+ghost use Rattle.wire_core.specs.Standings.{is_over, put_after, standing_of};
 ghost use Rattle.wire_core.specs.Feeds.{fed_into, Holds, events_since, Continues, fault_at, fault_in, refusal_in};
 ghost use Rattle.wire_core.specs.Feeds.{UnlessMemory, IfMemory};
-ghost use Rattle.wire_core.specs.Nexts.{TakesNext, taken_by};
+ghost use Rattle.wire_core.specs.Nexts.{TakesNext, IsFedAlone, Refuses, frame_end, taken_by};
 
 use crate::event::Event;
 use crate::fault::{DecodeError, WireFault};
-use crate::pieces::{are_few, keep, next_length, read_after};
+use crate::pieces::{are_few, keep, next_length};
 use crate::standing::Standing;
+use crate::stream::take_next;
 use digest_core::{Fingerprint, Summary};
 use std::alloc::{AllocError, Global};
 use std::marker::{Model, PhantomData};
@@ -40,16 +44,69 @@ impl<F: Summary> Model for Feed<F> {
         ≡ stays (standing_of a.standing) a.kept.items };
 }
 
+/// What stands next in a stream.
+#[derive(Debug, Drop)]
+pub struct NextEvent<F: Summary = Fingerprint> {
+    /// How many bytes of the piece it takes.
+    pub taken: usize,
+    /// The event that these end, if they do.
+    pub event: Option<Event<F>>,
+    /// The feed after them.
+    pub feed: Feed<F>,
+}
+
+/// Reads the hello, where it is due, and a frame, in bytes that reach no further: the event, if the frame is whole, and
+/// the feed then.
+fn read_alone<F: Summary>(
+    alloc: Global,
+    bytes: &[u8],
+    standing: Standing,
+) -> Result<(Option<Event<F>>, Feed<F>), DecodeError>
+    requires counts { is_over (standing_of standing) ≡ false }
+    requires one { length bytes.now ≤ frame_end (standing_of standing) bytes.now }
+    ensures { IsFedAlone (feed F.profile (standing_of standing) bytes.now) result }
+{
+    laws::codec::feeds_rest::<F>();
+    laws::codec::are_bytes(bytes);
+    let mut left = bytes;
+    let (standing, event) = take_next(alloc, &mut left, standing)?;
+    let kept = Vec::from_slice(alloc, left)?;
+    let feed = Feed {
+        standing,
+        kept,
+        of: PhantomData,
+    };
+    Ok((event, feed))
+}
+
+/// Appends an event, if there is one.
+fn push_if<F: Summary>(out: &mut Vec<Event<F>>, event: Option<Event<F>>) -> Result<(), AllocError>
+    ensures ok { OnOk result (out.new.items ≡ out.old.items ++ option_to_list event) }
+    ensures before { take (length out.old.items) out.new.items ≡ out.old.items }
+{
+    if let Some(event) = event {
+        out.push(event)?;
+    }
+    Ok(())
+}
+
 impl<F: Summary> Feed<F> {
+    /// Where it stands so, and no bytes are kept.
+    fn at(alloc: Global, standing: Standing) -> Feed<F>
+        ensures { result ≡ record { standing = standing_of standing; kept = [] } }
+    {
+        Feed {
+            standing,
+            kept: Vec::new(alloc),
+            of: PhantomData,
+        }
+    }
+
     /// Before the hello.
     pub fn new(alloc: Global) -> Feed<F>
         ensures { result ≡ record { standing = Before_hello; kept = [] } }
     {
-        Feed {
-            standing: Standing::BeforeHello,
-            kept: Vec::new(alloc),
-            of: PhantomData,
-        }
+        Feed::at(alloc, Standing::BeforeHello)
     }
 
     /// After the hello: as the new feed is once the hello was fed to it, and nothing else.
@@ -57,11 +114,14 @@ impl<F: Summary> Feed<F> {
         ensures state { result ≡ record { standing = In_message 0; kept = [] } }
         ensures hello { Holds F.profile result F.profile.hello [] }
     {
-        Feed {
-            standing: Standing::InMessage(0),
-            kept: Vec::new(alloc),
-            of: PhantomData,
-        }
+        Feed::at(alloc, Standing::InMessage(0))
+    }
+
+    /// After a fault.
+    pub fn stopped(alloc: Global, fault: WireFault) -> Feed<F>
+        ensures { result ≡ record { standing = Faulted (fault_number fault); kept = [] } }
+    {
+        Feed::at(alloc, Standing::Faulted(fault))
     }
 
     /// Reads on in the stream, and appends the events that the piece completes.
@@ -118,21 +178,69 @@ impl<F: Summary> Feed<F> {
         if self.standing.is_over() {
             return Ok(self.standing.fault()?);
         }
-        if keep::<F>(&mut self.kept, piece, self.standing)? {
+        if self.keep(piece)? {
             return Ok(());
         }
-        let kept = self.kept.len();
         let events = out.len();
-        match read_after(alloc, &mut self.kept, piece, self.standing, out) {
-            Ok(standing) => {
-                self.standing = standing;
-                Ok(standing.fault()?)
+        match self.read_all(alloc, piece, out) {
+            Ok(feed) => {
+                *self = feed;
+                Ok(self.standing.fault()?)
             }
             Err(refused) => {
-                self.kept.truncate(kept);
                 out.truncate(events);
                 Err(DecodeError::from(refused))
             }
+        }
+    }
+
+    /// Appends all events that the piece completes, and gives the feed after it.
+    fn read_all(
+        &self,
+        alloc: Global,
+        piece: &[u8],
+        out: &mut Vec<Event<F>>,
+    ) -> Result<Feed<F>, AllocError>
+        ensures fed { IfOk result (λ f. put_after (event_values out.old.items)
+            (feed F.profile self.now.standing (self.now.kept ++ piece.now)) ≡ fed_into (event_values out.new.items) f) }
+        ensures before { take (length out.old.items) out.new.items ≡ out.old.items }
+    {
+        let mut rest = piece;
+        let mut there = self.read_one(alloc, &mut rest, out)?;
+        'events: while !rest.is_empty() {
+            there = there.read_one(alloc, &mut rest, out)?;
+        }
+        Ok(there)
+    }
+
+    /// Takes the next event off the front of a piece and appends it, and gives the feed after it.
+    fn read_one(
+        &self,
+        alloc: Global,
+        piece: &mut &[u8],
+        out: &mut Vec<Event<F>>,
+    ) -> Result<Feed<F>, AllocError>
+        ensures step { IfOk result (λ f. put_after (event_values out.old.items)
+            (feed F.profile self.now.standing (self.now.kept ++ piece.old.now))
+            ≡ put_after (event_values out.new.items) (feed F.profile f.standing (f.kept ++ piece.new.now))) }
+        ensures rest { IfOk result (λ f. feed F.profile f.standing f.kept ≡ stays f.standing f.kept) }
+        ensures shorter { IfOk result (λ _. 0 < length piece.old.now → length piece.new.now < length piece.old.now) }
+        ensures before { take (length out.old.items) out.new.items ≡ out.old.items }
+    {
+        laws::codec::feeds_join::<F>();
+        laws::codec::are_bytes(&self.kept);
+        laws::codec::are_bytes(piece);
+        match self.after(alloc, piece) {
+            Ok(NextEvent { taken, event, feed }) => {
+                *piece = &piece[taken..];
+                push_if(out, event)?;
+                Ok(feed)
+            }
+            Err(DecodeError::Fault(fault)) => {
+                *piece = &[];
+                Ok(Feed::stopped(alloc, fault))
+            }
+            Err(DecodeError::Memory) => Err(AllocError),
         }
     }
 
@@ -151,14 +259,64 @@ impl<F: Summary> Feed<F> {
         // The events of all calls are those of the stream.
         ensures joined { UnlessMemory result (Continues F.profile self.old (taken_by result piece.now) self.new) }
     {
+        laws::codec::feeds_join::<F>();
+        laws::codec::are_bytes(piece);
+        if self.keep(piece)? {
+            return Ok((piece.len(), None));
+        }
+        match self.after(alloc, piece) {
+            Ok(NextEvent { taken, event, feed }) => {
+                *self = feed;
+                Ok((taken, event))
+            }
+            Err(DecodeError::Fault(fault)) => {
+                *self = Feed::stopped(alloc, fault);
+                Err(DecodeError::Fault(fault))
+            }
+            Err(DecodeError::Memory) => Err(DecodeError::Memory),
+        }
+    }
+
+    /// The same, and the feed stays as it is: what stands next tells the feed after it. A fault leaves it `stopped`.
+    pub fn after(&self, alloc: Global, piece: &[u8]) -> Result<NextEvent<F>, DecodeError>
+        ensures next { IfOk result (λ n. TakesNext F.profile self.now piece.now (Ok (n.taken, n.event)) n.feed) }
+        ensures faultless { IfOk result (λ n. fault_at n.feed.standing ≡ None) }
+        ensures refused { IfErr result (Refuses F.profile self.now piece.now) }
+    {
         laws::codec::next_is_exact::<F>();
         laws::codec::feeds_join::<F>();
         laws::codec::are_bytes(&self.kept);
         laws::codec::are_bytes(piece);
+        if self.standing.is_over() {
+            self.standing.fault()?;
+            return Ok(NextEvent {
+                taken: piece.len(),
+                event: None,
+                feed: Feed::at(alloc, Standing::MeaningOver),
+            });
+        }
         let taken = next_length(&self.kept, piece, self.standing);
-        let mut events = Vec::new(alloc);
-        self.read(alloc, &piece[..taken], &mut events)?;
-        Ok((taken, events.pop()))
+        let (event, feed) = self.read_after(alloc, &piece[..taken])?;
+        Ok(NextEvent { taken, event, feed })
+    }
+
+    /// Reads what stands next after the kept bytes, of which a piece has no byte more.
+    fn read_after(
+        &self,
+        alloc: Global,
+        piece: &[u8],
+    ) -> Result<(Option<Event<F>>, Feed<F>), DecodeError>
+        requires counts { is_over self.now.standing ≡ false }
+        requires one { length (self.now.kept ++ piece.now) ≤ frame_end self.now.standing (self.now.kept ++ piece.now) }
+        ensures { IsFedAlone (feed F.profile self.now.standing (self.now.kept ++ piece.now)) result }
+    {
+        if self.kept.is_empty() {
+            return read_alone(alloc, piece, self.standing);
+        }
+        let mut bytes = Vec::with_capacity(alloc, self.kept.len() + piece.len())?;
+        bytes.extend_from_slice(&self.kept)?;
+        bytes.extend_from_slice(piece)?;
+        read_alone(alloc, &bytes, self.standing)
     }
 
     /// Keeps a piece that ends neither the hello nor a frame, and returns whether it did.
@@ -175,26 +333,13 @@ impl<F: Summary> Feed<F> {
         ensures frame { IfOk result (λ is_kept. is_kept ≡ false → is_over self.old.standing ≡ false →
             4 ≤ length self.old.kept →
             4 + from_be_bytes w32 (take 4 self.old.kept) ≤ length self.old.kept + length piece.now) }
-        ensures memory { OnErr result (self.new ≡ self.old) }
+        ensures memory { OnErr result ((self.new ≡ self.old) × (is_over self.old.standing ≡ false)) }
     {
         if self.standing.is_over() {
             return Ok(false);
         }
         let kept = &mut self.kept;
         keep::<F>(kept, piece, self.standing)
-    }
-
-    /// The same feed again.
-    pub fn copy(&self, alloc: Global) -> Result<Feed<F>, AllocError>
-        ensures { IfOk result (λ f. f ≡ self.now) }
-    {
-        let mut kept = Vec::with_capacity(alloc, self.kept.len())?;
-        kept.extend_from_slice(&self.kept)?;
-        Ok(Feed {
-            standing: self.standing,
-            kept,
-            of: PhantomData,
-        })
     }
 
     /// Whether the stream may end here.

@@ -1,21 +1,17 @@
 //! A stream that comes in pieces: the bytes that are kept of an unfinished hello or frame, and a piece after them.
 
-ghost use Rattle.std.specs.Prelude.{◌≡◌, ℕ, ◌+◌, ◌-◌, ◌^◌, ◌<◌, ◌≤◌, true, false, None, List, ◌++◌, length, take, drop};
+ghost use Rattle.std.specs.Prelude.{◌≡◌, ◌+◌, ◌-◌, ◌^◌, ◌<◌, ◌≤◌, true, false, None, ◌++◌, length, take, drop};
 ghost use Rattle.std.specs.Prelude.{IfOk, OnOk, OnErr, slice_index};
 ghost use Rattle.std.specs.Int.{w32, from_be_bytes};
-ghost use Rattle.definitions.specs.Items.{IsBytes};
 ghost use Rattle.definitions.specs.Wire.{max_body};
 ghost use Rattle.definitions.specs.Streams.{feed, stays};
-ghost use Rattle.wire_core.specs.Events.{event_values};
-ghost use Rattle.wire_core.specs.Standings.{standing_of, is_over, put_after, fed_as};
+ghost use Rattle.wire_core.specs.Standings.{standing_of, is_over};
 ghost use Rattle.wire_core.specs.Feeds.{fault_at};
 ghost use Rattle.wire_core.specs.Nexts.{IsReach};
 
-use crate::event::Event;
 use crate::standing::Standing;
-use crate::stream::read_piece;
 use digest_core::Summary;
-use std::alloc::{AllocError, Global};
+use std::alloc::AllocError;
 
 /// How many bytes an unfinished hello or frame wants beside those that have come, as far as these tell.
 fn wanted(kept: &[u8]) -> usize
@@ -37,16 +33,6 @@ pub fn are_few<F: Summary>(kept: &[u8], standing: Standing)
     laws::codec::feeds_rest::<F>();
     laws::codec::are_bytes(kept);
     let _ = standing;
-}
-
-/// Gives up so many bytes at the front.
-fn give_up(kept: &mut Vec<u8>, taken: usize)
-    requires { taken ≤ length kept.old.items }
-    ensures { kept.new.items ≡ drop taken kept.old.items }
-{
-    let left = kept.len() - taken;
-    kept.copy_within(taken.., 0);
-    kept.truncate(left);
 }
 
 /// Appends a piece. A byte alone is pushed, as a copy costs more than the byte.
@@ -87,99 +73,6 @@ pub fn keep<F: Summary>(
     }
     append(kept, piece)?;
     Ok(true)
-}
-
-/// Reads the kept bytes after those that are taken, and the front of a piece, and tells which are taken then.
-fn read_kept<F: Summary>(
-    alloc: Global,
-    kept: &mut Vec<u8>,
-    taken: &mut usize,
-    front: &[u8],
-    standing: Standing,
-    out: &mut Vec<Event<F>>,
-) -> Result<Standing, AllocError>
-    requires { taken.old ≤ length kept.old.items }
-    ensures joined { IfOk result (λ s. (back : List ℕ) → IsBytes back →
-        put_after (event_values out.old.items) (feed F.profile (standing_of standing)
-        ((drop taken.old kept.old.items ++ front.now) ++ back))
-        ≡ put_after (event_values out.new.items) (feed F.profile (standing_of s)
-        (drop taken.new kept.new.items ++ back))) }
-    ensures rest { IfOk result (λ s. feed F.profile (standing_of s) (drop taken.new kept.new.items)
-        ≡ stays (standing_of s) (drop taken.new kept.new.items)) }
-    ensures within { OnOk result (taken.new ≤ length kept.new.items) }
-    ensures kept { take (length kept.old.items) kept.new.items ≡ kept.old.items }
-    ensures before { take (length out.old.items) out.new.items ≡ out.old.items }
-{
-    kept.extend_from_slice(front)?;
-    let mut left = &kept[*taken..];
-    let there = read_piece(alloc, &mut left, standing, out)?;
-    *taken = kept.len() - left.len();
-    Ok(there)
-}
-
-/// Reads the rest of a piece where it lies, once all kept bytes are taken, and keeps what is left of it.
-fn read_rest<F: Summary>(
-    alloc: Global,
-    kept: &mut Vec<u8>,
-    taken: usize,
-    rest: &[u8],
-    standing: Standing,
-    out: &mut Vec<Event<F>>,
-) -> Result<Standing, AllocError>
-    requires within { taken ≤ length kept.old.items }
-    requires done { taken < length kept.old.items → length rest.now ≡ 0 }
-    requires read { feed F.profile (standing_of standing) (drop taken kept.old.items)
-        ≡ stays (standing_of standing) (drop taken kept.old.items) }
-    ensures fed { IfOk result (λ s. put_after (event_values out.old.items)
-        (feed F.profile (standing_of standing) (drop taken kept.old.items ++ rest.now))
-        ≡ fed_as out.new.items s kept.new.items) }
-    ensures rest { IfOk result (λ s. feed F.profile (standing_of s) kept.new.items
-        ≡ stays (standing_of s) kept.new.items) }
-    ensures kept { OnErr result (take (length kept.old.items) kept.new.items ≡ kept.old.items) }
-    ensures before { take (length out.old.items) out.new.items ≡ out.old.items }
-{
-    if taken < kept.len() {
-        give_up(kept, taken);
-        return Ok(standing);
-    }
-    let mut left = rest;
-    let there = read_piece(alloc, &mut left, standing, out)?;
-    kept.extend_from_slice(left)?;
-    give_up(kept, taken);
-    Ok(there)
-}
-
-/// Reads a piece after the bytes that are kept of the stream, and keeps what is left.
-///
-/// Where memory runs out the kept bytes and the events begin as before.
-pub fn read_after<F: Summary>(
-    alloc: Global,
-    kept: &mut Vec<u8>,
-    piece: &[u8],
-    standing: Standing,
-    out: &mut Vec<Event<F>>,
-) -> Result<Standing, AllocError>
-    requires { feed F.profile (standing_of standing) kept.old.items
-        ≡ stays (standing_of standing) kept.old.items }
-    ensures fed { IfOk result (λ s. put_after (event_values out.old.items)
-        (feed F.profile (standing_of standing) (kept.old.items ++ piece.now))
-        ≡ fed_as out.new.items s kept.new.items) }
-    ensures rest { IfOk result (λ s. feed F.profile (standing_of s) kept.new.items
-        ≡ stays (standing_of s) kept.new.items) }
-    ensures kept { OnErr result (take (length kept.old.items) kept.new.items ≡ kept.old.items) }
-    ensures before { take (length out.old.items) out.new.items ≡ out.old.items }
-{
-    let mut there = standing;
-    let mut taken = 0;
-    let mut rest = piece;
-    'pieces: while taken < kept.len() && !rest.is_empty() {
-        let count = wanted(&kept[taken..]).max(1).min(rest.len());
-        let (front, back) = rest.split_at(count);
-        laws::codec::are_bytes(back);
-        there = read_kept(alloc, kept, &mut taken, front, there, out)?;
-        rest = back;
-    }
-    read_rest(alloc, kept, taken, rest, there, out)
 }
 
 /// The byte at a place of the kept bytes and the piece after them.

@@ -147,17 +147,6 @@ fn code_in(rest: &[u8]) -> Result<u8, WireFault>
     Ok(code)
 }
 
-/// What the body of a part's frame says, or that of a message's end.
-fn part_event_in<F: Summary>(alloc: Global, body: &[u8]) -> Result<Event<F>, DecodeError>
-    requires { length body.now ≤ max_body }
-    ensures { Gives event_value result (reading.event_in F.profile One_message body.now) }
-{
-    let Some(part) = part_in(alloc, body)? else {
-        return Ok(Event::End);
-    };
-    Ok(Event::Part(part))
-}
-
 /// What a frame's body says in a stream.
 pub fn event_in<F: Summary>(alloc: Global, body: &[u8]) -> Result<Event<F>, DecodeError>
     requires { length body.now ≤ max_body }
@@ -169,5 +158,8 @@ pub fn event_in<F: Summary>(alloc: Global, body: &[u8]) -> Result<Event<F>, Deco
     if kind == 5 {
         return Ok(Event::Fault(code_in(rest)?));
     }
-    part_event_in(alloc, body)
+    let Some(part) = part_in(alloc, body)? else {
+        return Ok(Event::End);
+    };
+    Ok(Event::Part(part))
 }

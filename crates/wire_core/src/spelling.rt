@@ -2,7 +2,7 @@
 
 ghost use Rattle.std.specs.Prelude.{◌≡◌, ◌++◌, ◌≤◌, ◌<◌, ◌^◌, length, IfOk, OnOk};
 ghost use Rattle.definitions.specs.Wire as wire;
-ghost use Rattle.definitions.specs.Wire.{part_text, fault_text, IsPart, Spells};
+ghost use Rattle.definitions.specs.Wire.{part_text, message_text, fault_text, IsPart, IsMessage, Spells};
 ghost use Rattle.item_core.specs.Bounds.{upper_value};
 ghost use Rattle.wire_core.specs.Bodies.{part_of, items_in, fields_text};
 
@@ -127,7 +127,19 @@ pub fn encode_part<F: Summary>(alloc: Global, part: &Part<F>) -> Result<Vec<u8>,
     Ok(frame)
 }
 
-/// The one spelling of a message: its parts' frames in order, and the frame of its end.
+/// Appends the one spelling of a message: its parts' frames in order, and the frame of its end.
+pub fn push_message<F: Summary>(out: &mut Vec<u8>, message: &Message<F>) -> Result<(), AllocError>
+    ensures text { OnOk result (out.new.items ≡ out.old.items ++ message_text F.profile message.now) }
+    ensures message { IsMessage F.profile message.now }
+{
+    for part in message.parts() {
+        part.push(out)?;
+    }
+    out.extend_from_slice(&END)?;
+    Ok(())
+}
+
+/// The one spelling of a message.
 pub fn encode_message<F: Summary>(
     alloc: Global,
     message: &Message<F>,
@@ -135,10 +147,7 @@ pub fn encode_message<F: Summary>(
     ensures { IfOk result (λ text. Spells F.profile message.now text.items) }
 {
     let mut out = Vec::new(alloc);
-    for part in message.parts() {
-        part.push(&mut out)?;
-    }
-    out.extend_from_slice(&END)?;
+    push_message(&mut out, message)?;
     Ok(out)
 }
 

@@ -1,5 +1,5 @@
 ghost use Rattle.std.specs.Prelude.{◌≡◌, ◌≤◌};
-ghost use Rattle.wire_core.specs.Standings.{standing_of, is_over, left_at};
+ghost use Rattle.wire_core.specs.Standings.{standing_of, is_over};
 ghost use Rattle.wire_core.specs.Feeds.{fault_at, fault_in};
 ghost use Rattle.wire_core.specs.Nexts.{hello_length};
 
@@ -18,26 +18,7 @@ pub enum Standing {
     Faulted(WireFault),
 }
 
-/// Where reading goes on.
-#[derive(Clone, Copy, Debug, PartialEq, Eq)]
-pub enum Progress {
-    /// At the next frame, after so many parts of the message.
-    More(usize),
-    /// Nowhere, until more bytes come.
-    Rest(Standing),
-}
-
 impl Standing {
-    /// What is kept of bytes that are not read yet.
-    pub fn left(self, bytes: &[u8]) -> &[u8]
-        ensures { result.now ≡ left_at self bytes.now }
-    {
-        match self {
-            Standing::BeforeHello | Standing::InMessage(_) => bytes,
-            Standing::MeaningOver | Standing::Faulted(_) => &[],
-        }
-    }
-
     /// The length of the hello, where it is due, and else 0.
     pub fn hello_length(self) -> usize
         ensures length { result ≡ hello_length (standing_of self) }

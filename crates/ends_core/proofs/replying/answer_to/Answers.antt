@@ -8,6 +8,6 @@ unreachable-requires g c =
     let fits = c.answers_fit.ensures g.F.Summary.profile A c.args.range.now c.args.listed.now
     (g.met.S.RangeStore.rises c.args.store.now) (g.met.S.RangeStore.are_items c.args.store.now) c.requires.few
     c.requires.part in
-    let unlisted : c.push_unlisted.new.ours.items
+    let unlisted : c.push_unlisted.new.unlisted.items
     ≡ difference (items_in A c.args.range.now) c.args.listed.now = search rules in
     search (rules, fits, unlisted)

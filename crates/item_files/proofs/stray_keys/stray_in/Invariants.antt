@@ -4,4 +4,4 @@ use Rattle.item_files.specs.StrayKeys.{stray_in}
 use Rattle.item_files.proofs.stray_keys.stray_in.Given as goal
 
 abbrev pub invariant-loop-key : goal.invariant-loop-key
-invariant-loop-key l = stray_in l.place (members_view l.key-iterator) ≡ stray_in l.place (table_view l.table)
+invariant-loop-key l = stray_in l.row (members_view l.key-iterator) ≡ stray_in l.row (table_view l.table)

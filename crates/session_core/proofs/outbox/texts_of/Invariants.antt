@@ -5,5 +5,5 @@ use Rattle.session_core.proofs.outbox.texts_of.Given as goal
 
 abbrev pub invariant-loop-message : goal.invariant-loop-message
 invariant-loop-message g l = record {
-  written : l.out.items ≡ flat_map (message_text g.F.Summary.profile) (take l.message-index l.messages);
+  written : l.texts.items ≡ flat_map (message_text g.F.Summary.profile) (take l.message-index l.messages);
 }

@@ -3,7 +3,8 @@ use Rattle.session_core.specs.Polls.{ReadsSo}
 use Rattle.session_core.specs.declared.fault.LinkFault.TheVariants as faults
 use Rattle.session_core.specs.declared.polled.Last.{Last}
 use Rattle.session_core.specs.declared.polled.Last.TheVariants as lasts
-use Rattle.hub_core.specs.Steps.{is_ready, pause_at}
+use Rattle.session_core.specs.Links.{pause_at}
+use Rattle.hub_core.specs.Steps.{is_ready}
 use Rattle.hub_core.proofs.Greeted.{greets-lost, counted-take, came-long}
 use Rattle.hub_core.proofs.Leaving.{heard-leaves, heard-fails, still-waits}
 use Rattle.hub_core.proofs.greeting.Greeting.hear_once.Goals as goal

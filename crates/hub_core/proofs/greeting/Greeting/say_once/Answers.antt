@@ -1,6 +1,6 @@
 use Rattle.std.proofs.Common.{rules, ◌≡◌, [], Ok, Err, take, drop, refl}
 use Rattle.session_core.specs.declared.fault.LinkFault.TheVariants as faults
-use Rattle.hub_core.specs.Steps.{pause_at}
+use Rattle.session_core.specs.Links.{pause_at}
 use Rattle.hub_core.specs.Greetings.{own_hello}
 use Rattle.hub_core.proofs.Greeted.{greets-said, counted-take}
 use Rattle.hub_core.proofs.Leaving.{said-leaves, said-fails}

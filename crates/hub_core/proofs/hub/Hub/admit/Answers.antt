@@ -11,6 +11,6 @@ overflow_add-self g c =
 
 pub invariant_of-self : goal.invariant_of-self
 invariant_of-self g c =
-    let own : c.from.result ≡ kept_in c.args.peer.stage = search rules in
+    let own : c.from.result ≡ kept_in c.args.peer.phase = search rules in
     held-added c.self.inside.held c.from.result c.self.inside.peers c.insert.new.self c.in-Ok.key c.args.peer
     c.self.invariant own c.in-Ok.ensures.was_vacant c.in-Ok.ensures.updates

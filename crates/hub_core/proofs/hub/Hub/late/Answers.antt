@@ -23,8 +23,8 @@ returns-then-is_late-clause-late g c =
     c.in-Some.ensures.steps in
     let there = first-listed c.args.self.now.peers c.loop-key.key-iterator c.next.new.self c.in-Some.key
     c.in-Some.peer.now at c.loop-key.invariant.2 in
-    let late : true ≡ (nat_lt c.args.self.now.limits.idle (c.args.now - c.heard.result)
-    || nat_lt c.args.self.now.limits.whole (c.args.now - c.arrived.result)) = search rules in (
+    let late : true ≡ (nat_lt c.args.self.now.limits.patience (c.args.now - c.heard.result)
+    || nat_lt c.args.self.now.limits.session (c.args.now - c.arrived.result)) = search rules in (
       c.in-Some.peer.now,
       there,
       late-is c.args.self.now.limits c.args.now c.in-Some.peer.now c.heard.result c.arrived.result true c.heard.ensures
@@ -35,8 +35,8 @@ pub loop-key-preserved : goal.loop-key-preserved
 loop-key-preserved g c =
     let at : c.loop-key.key-iterator ≡ (c.in-Some.key, c.in-Some.peer.now) ∷ c.next.new.self =
     c.in-Some.ensures.steps in
-    let early : false ≡ (nat_lt c.args.self.now.limits.idle (c.args.now - c.heard.result)
-    || nat_lt c.args.self.now.limits.whole (c.args.now - c.arrived.result)) = search rules in
+    let early : false ≡ (nat_lt c.args.self.now.limits.patience (c.args.now - c.heard.result)
+    || nat_lt c.args.self.now.limits.session (c.args.now - c.arrived.result)) = search rules in
     let not_so = late-is c.args.self.now.limits c.args.now c.in-Some.peer.now c.heard.result c.arrived.result false
     c.heard.ensures c.arrived.ensures early in (
       tt,

@@ -26,13 +26,13 @@ invariant_of-self-2 g c =
 
 pub returns-clause-opens : goal.returns-clause-opens
 returns-clause-opens g c =
-    of-both-ok (λ p q. Opens (peer_of (arc_value c.args.accepted.now) (tree_items c.args.store)) p.stage q.stage)
+    of-both-ok (λ p q. Opens (peer_of (arc_value c.args.accepted.now) (tree_items c.args.store)) p.phase q.phase)
     c.open-did.result c.args.self.now.peers c.self.inside.peers c.args.key c.in_ok-peer.peer.now c.open-did.new.self
     (ap (λ (h : HubState g.row.I.Denot g.row.O.Denot). h.peers) c.self.view_is) (search rules) c.open-did.ensures.opens
 
 pub returns-clause-version : goal.returns-clause-version
 returns-clause-version g c =
-    of-both-ok (λ p q. q.version ≡ version_after p.stage p.version c.args.version)
+    of-both-ok (λ p q. q.version ≡ version_after p.phase p.version c.args.version)
     c.open-did.result c.args.self.now.peers c.self.inside.peers c.args.key c.in_ok-peer.peer.now c.open-did.new.self
     (ap (λ (h : HubState g.row.I.Denot g.row.O.Denot). h.peers) c.self.view_is) (search rules)
     c.open-did.ensures.version

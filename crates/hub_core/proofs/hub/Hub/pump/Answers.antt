@@ -26,12 +26,12 @@ pub returns-clause-stays : goal.returns-clause-stays
 returns-clause-stays g c =
     let R = g.I.Read.remaining in
     let W = g.O.Write.contents in
-    of-both (λ p q. GoesSo p.stage q.stage (take_remaining R p.reader.way) (take_remaining R q.reader.way)
+    of-both (λ p q. GoesSo p.phase q.phase (take_remaining R p.reader.way) (take_remaining R q.reader.way)
     (W p.writer.way) (W q.writer.way) c.pump-did.result) c.args.self.now.peers c.self.inside.peers c.args.key
     c.in_ok-peer.peer.now c.pump-did.new.self
     (ap (λ (h : HubState g.row.I.Denot g.row.O.Denot). h.peers) c.self.view_is) (search rules) c.pump-did.ensures.moved
 
 pub returns-clause-leaves : goal.returns-clause-leaves
 returns-clause-leaves g c =
-    of-one (λ q. LeavesOff q.stage q.reader.last q.writer.last c.pump-did.result) c.self.inside.peers c.args.key
+    of-one (λ q. LeavesOff q.phase q.reader.last q.writer.last c.pump-did.result) c.self.inside.peers c.args.key
     c.in_ok-peer.peer.now c.pump-did.new.self (search rules) c.pump-did.ensures.leaves

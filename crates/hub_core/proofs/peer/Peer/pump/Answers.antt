@@ -8,7 +8,7 @@ returns-in_err-step-clause-moved g c =
     let is : c.from_residual.result ≡ Err c.in_err-step.field-0.0 = search rules in
     let R = g.I.Read.remaining in
     let W = g.O.Write.contents in
-    rw is (subst (λ (p : PeerState g.row.I.Denot g.row.O.Denot). GoesSo p.stage c.pump.new.self
+    rw is (subst (λ (p : PeerState g.row.I.Denot g.row.O.Denot). GoesSo p.phase c.pump.new.self
     (take_remaining R p.reader.way) (take_remaining R c.pump.new.reader.way) (W p.writer.way) (W c.pump.new.writer.way)
     (Err c.in_err-step.field-0.0)) (c.self.view_is ∙ c.wake.ensures)
     c.in_err-step.ensures.moved)

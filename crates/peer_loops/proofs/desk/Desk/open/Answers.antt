@@ -10,6 +10,6 @@ returns-clause-version g c =
     c.version-version.ensures ∙ c.in_ok-pin.ensures.pin.version_is in
     let noted : OnOk c.unwrap_or.result ((p q : _) → get c.args.hub.now.peers c.args.key ≡ Some p →
     get c.open.new.self.peers c.args.key ≡ Some q →
-    q.version ≡ version_after p.stage p.version c.version-version.result) = search rules in
+    q.version ≡ version_after p.phase p.version c.version-version.result) = search rules in
     subst (λ (n : ℕ). OnOk c.unwrap_or.result ((p q : _) → get c.args.hub.now.peers c.args.key ≡ Some p →
-    get c.open.new.self.peers c.args.key ≡ Some q → q.version ≡ version_after p.stage p.version n)) seen noted
+    get c.open.new.self.peers c.args.key ≡ Some q → q.version ≡ version_after p.phase p.version n)) seen noted

@@ -7,12 +7,12 @@ pub returns-clause-pushes : goal.returns-clause-pushes
 returns-clause-pushes g c = λ s pushed taken live k.
     let d : SessionState g.row.F.Denot =
     record {
-      talk = c.hear_if.new.self;
+      talk = c.hear.new.self;
       feed = c.args.feed;
       over = c.args.self.now.over;
       begun = c.bytes_begun-begun.result;
     } in
-    let heard : HearsIf g.F.Summary.summary g.F.Summary.profile c.args.self.now.talk c.args.event c.hear_if.new.self =
+    let heard : HearsIf g.F.Summary.summary g.F.Summary.profile c.args.self.now.talk c.args.event c.hear.new.self =
     search rules in
     let begun : c.bytes_begun-begun.result ≡ begun_after c.args.event c.args.self.now.begun (length c.args.piece.now) =
     search rules in

@@ -1,6 +1,0 @@
-use Rattle.std.proofs.Common.{◌≡◌, ◌++◌, take}
-use Rattle.std.specs.List.{items_where_true}
-use Rattle.ends_core.proofs.learning.push_marked.Given as goal
-
-abbrev pub invariant-loop-index : goal.invariant-loop-index
-invariant-loop-index l = l.ours.items ≡ l.fn.ours.items ++ items_where_true l.marks (take l.index l.listed)

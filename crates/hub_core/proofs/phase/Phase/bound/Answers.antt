@@ -1,0 +1,17 @@
+use Rattle.std.proofs.Common.{rules, ◌≡◌}
+use Rattle.hub_core.specs.declared.phase.Phase.TheVariants as phases
+use Rattle.hub_core.proofs.Peering.{plain-bound, counted-bound}
+use Rattle.hub_core.proofs.phase.Phase.bound.Goals as goal
+
+pub returns-in-Plain : goal.returns-in-Plain
+returns-in-Plain c =
+    let is : c.args.self.now ≡ phases.Plain c.in-Plain.session = search rules in
+    let same : c.deref.result.now ≡ c.in-Plain.session.value = search rules in
+    plain-bound c.bound.result c.args.self.now c.in-Plain.session c.deref.result.now is same c.bound.ensures
+
+pub returns-in-Counted : goal.returns-in-Counted
+returns-in-Counted c =
+    let is : c.args.self.now ≡ phases.Counted c.in-Counted.session = search rules in
+    let same : c.deref-in-Counted.result.now ≡ c.in-Counted.session.value = search rules in
+    counted-bound c.bound-in-Counted.result c.args.self.now c.in-Counted.session c.deref-in-Counted.result.now is same
+    c.bound-in-Counted.ensures

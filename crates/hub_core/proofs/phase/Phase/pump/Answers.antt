@@ -1,0 +1,34 @@
+use Rattle.std.proofs.Common.{rules, ◌≡◌}
+use Rattle.definitions.specs.Fingerprints.{two_lanes, counted_lanes}
+use Rattle.definitions.specs.Wire.{two_lane_profile, counted_profile}
+use Rattle.hub_core.specs.declared.phase.Phase.TheVariants as phases
+use Rattle.hub_core.proofs.Peering.{session-goes}
+use Rattle.hub_core.proofs.Leaving.{plain-leaves, counted-leaves}
+use Rattle.hub_core.proofs.phase.Phase.pump.Goals as goal
+
+pub returns-in-Plain-clause-moved : goal.returns-in-Plain-clause-moved
+returns-in-Plain-clause-moved g c =
+    let is : c.args.self.now ≡ phases.Plain c.in-Plain.session = search rules in
+    let same : c.deref_mut.result.now ≡ c.in-Plain.session.value = search rules in
+    session-goes two_lanes two_lane_profile phases.Plain (λ c d read said on. on)
+    c.pump-in-Plain.result c.args.self.now c.in-Plain.session c.deref_mut.result.now
+    c.pump-in-Plain.new.session _ _ _ _ is same c.pump-in-Plain.ensures.moved
+
+pub returns-in-Counted-clause-moved : goal.returns-in-Counted-clause-moved
+returns-in-Counted-clause-moved g c =
+    let is : c.args.self.now ≡ phases.Counted c.in-Counted.session = search rules in
+    let same : c.deref_mut-in-Counted.result.now ≡ c.in-Counted.session.value = search rules in
+    session-goes counted_lanes counted_profile phases.Counted (λ c d read said on. on)
+    c.pump-in-Counted.result c.args.self.now c.in-Counted.session
+    c.deref_mut-in-Counted.result.now c.pump-in-Counted.new.session _ _ _ _ is same
+    c.pump-in-Counted.ensures.moved
+
+pub returns-in-Plain-clause-leaves : goal.returns-in-Plain-clause-leaves
+returns-in-Plain-clause-leaves g c =
+    plain-leaves c.pump-in-Plain.result c.in-Plain.session c.pump-in-Plain.new.session _ _
+    c.pump-in-Plain.ensures.stands c.pump-in-Plain.ensures.fails
+
+pub returns-in-Counted-clause-leaves : goal.returns-in-Counted-clause-leaves
+returns-in-Counted-clause-leaves g c =
+    counted-leaves c.pump-in-Counted.result c.in-Counted.session c.pump-in-Counted.new.session _ _
+    c.pump-in-Counted.ensures.stands c.pump-in-Counted.ensures.fails

@@ -1,0 +1,180 @@
+//! What `serve` writes of its sessions to its files.
+
+ghost use Rattle.std.specs.Prelude.{◌≡◌, ◌++◌, IfOk, OnOk, Some, string_bytes, take};
+ghost use Rattle.printing_core.specs.ItemTexts.{item_line};
+ghost use Rattle.printing_core.specs.ReportTexts.{session_name, head_line, stopped_line, learned_lines, more_line};
+ghost use Rattle.printing_core.specs.ReportTexts.{first_lines, reported_text, report_text, left_out_line};
+
+use crate::fault::Fault;
+use crate::item_text::push_item;
+use crate::sessions::{Listing, Naming, of_direction, push_learned, push_lines, rising};
+use ends_core::Learned;
+use item_core::Item;
+use item_files::ItemForm;
+use session_table::Outcome;
+use shard_core::Which;
+use std::alloc::{AllocError, Global};
+use std::fmt;
+
+/// How sessions are reported.
+#[derive(Clone, Copy, Debug, PartialEq, Eq)]
+pub struct Reporting {
+    /// The form of the items.
+    pub form: ItemForm,
+    /// How many lines of items a session may have; `None`: as many as it has items.
+    pub most: Option<u32>,
+}
+
+/// Which session is reported. It prints as its name.
+#[derive(Clone, Copy, Debug, PartialEq, Eq)]
+pub struct SessionName {
+    /// Its serial.
+    pub serial: u64,
+    /// The shard, or the directory, that it spoke of; `None`: it spoke of a whole set.
+    pub which: Option<Which>,
+}
+
+impl fmt::Display for SessionName {
+    ghost output = { λ s. Some (session_name s.serial s.which) };
+
+    fn fmt<W: fmt::Write>(&self, f: &mut fmt::Formatter<W>) -> fmt::Result {
+        let serial = self.serial;
+        match self.which {
+            None => write!(f, "session {serial}"),
+            Some(Which::Shard(shard)) => write!(f, "session {serial} shard {shard}"),
+            Some(Which::Directory) => write!(f, "session {serial} directory"),
+        }
+    }
+}
+
+/// The first line of a session that ended: that of a directory has no version.
+fn head_line(
+    alloc: Global,
+    session: SessionName,
+    version: usize,
+    sent: u32,
+) -> Result<String, AllocError>
+    ensures { IfOk result (λ text. string_bytes text ≡ head_line session.serial session.which version sent) }
+{
+    match session.which {
+        Some(Which::Directory) => format!(in alloc; "{session} sent {sent}\n"),
+        _ => format!(in alloc; "{session} version {version} sent {sent}\n"),
+    }
+}
+
+/// The line of a session that did not end.
+fn stopped_line(alloc: Global, session: SessionName, fault: Fault) -> Result<String, AllocError>
+    ensures { IfOk result (λ text. string_bytes text ≡ stopped_line session.serial session.which fault) }
+{
+    format!(in alloc; "{session} {fault}\n")
+}
+
+/// Appends how many lines were left out, if any were.
+fn push_more(text: &mut String, count: usize) -> Result<(), AllocError>
+    ensures { OnOk result (string_bytes text.new ≡ string_bytes text.old ++ more_line count) }
+{
+    if count == 0 {
+        return Ok(());
+    }
+    write!(text, "more {count}\n")
+}
+
+/// The first so many of these items; all, where there are no more.
+fn first_of(items: &[Item], most: usize) -> &[Item]
+    ensures { result.now ≡ take most items.now }
+{
+    &items[..most.min(items.len())]
+}
+
+/// Appends the first so many lines of both differences, and how many were left out, if any were.
+fn push_first(
+    alloc: Global,
+    text: &mut String,
+    form: ItemForm,
+    learned: &Learned,
+    most: usize,
+) -> Result<(), AllocError>
+    ensures { OnOk result (string_bytes text.new ≡ string_bytes text.old
+        ++ first_lines most (learned_lines form learned.now)) }
+{
+    let ours = rising(alloc, learned.ours())?;
+    let theirs = rising(alloc, learned.theirs())?;
+    let room = most.saturating_sub(ours.len());
+    let name = Naming { name: "ours", form };
+    push_lines(alloc, text, name, first_of(&ours, most))?;
+    let name = Naming {
+        name: "theirs",
+        form,
+    };
+    push_lines(alloc, text, name, first_of(&theirs, room))?;
+    push_more(text, (ours.len() + theirs.len()).saturating_sub(most))
+}
+
+/// Appends both differences as they are reported; nothing for the directory, whose items are none of the set.
+fn push_reported(
+    alloc: Global,
+    text: &mut String,
+    reporting: Reporting,
+    which: Option<Which>,
+    learned: &Learned,
+) -> Result<(), AllocError>
+    ensures { OnOk result (string_bytes text.new ≡ string_bytes text.old
+        ++ reported_text reporting.form reporting.most which learned.now) }
+{
+    if let Some(Which::Directory) = which {
+        return Ok(());
+    }
+    match reporting.most {
+        Some(most) => push_first(alloc, text, reporting.form, learned, most as usize),
+        None => push_learned(alloc, text, Listing::Items(reporting.form), learned),
+    }
+}
+
+/// The lines of a session that is over: its version, the messages sent and both differences, each rising, as it is
+/// reported; of the directory the messages sent alone; or, in one line, why it did not end.
+pub fn report_text(
+    alloc: Global,
+    reporting: Reporting,
+    session: SessionName,
+    outcome: &Outcome,
+) -> Result<String, AllocError>
+    ensures { IfOk result (λ text. string_bytes text
+        ≡ report_text reporting.form reporting.most session.serial session.which outcome.now) }
+{
+    match outcome {
+        Outcome::Ended {
+            learned,
+            sent,
+            version,
+        } => {
+            let mut text = head_line(alloc, session, *version, *sent)?;
+            push_reported(alloc, &mut text, reporting, session.which, learned)?;
+            Ok(text)
+        }
+        Outcome::Refused { code, .. } => {
+            stopped_line(alloc, session, Fault::Session { code: *code })
+        }
+        Outcome::PeerRefused { code, .. } => {
+            stopped_line(alloc, session, Fault::PeerRefused { code: *code })
+        }
+        Outcome::Io { side, .. } => stopped_line(alloc, session, of_direction(*side)),
+        Outcome::Memory { .. } => stopped_line(alloc, session, Fault::Memory),
+    }
+}
+
+/// The line that says that so many items which the session with this serial learned were not put in.
+pub fn left_out_line(alloc: Global, serial: u64, count: usize) -> Result<String, AllocError>
+    ensures { IfOk result (λ text. string_bytes text ≡ left_out_line serial count) }
+{
+    format!(in alloc; "session {serial} not put in {count}\n")
+}
+
+/// The line of an item file for an item, in this form.
+pub fn learned_line(alloc: Global, form: ItemForm, item: &Item) -> Result<String, AllocError>
+    ensures { IfOk result (λ text. string_bytes text ≡ item_line form item.now) }
+{
+    let mut text = String::new(alloc);
+    push_item(alloc, &mut text, form, item)?;
+    text.push_str("\n")?;
+    Ok(text)
+}
