@@ -103,6 +103,7 @@ impl Cut {
     /// How a text is read. A whole set is the one shard of a set that is cut by no bits.
     pub fn options(self) -> LoadOptions
         ensures options { result ≡ options_of self }
+        ensures same { (result.form ≡ self.form) × (result.cap ≡ self.cap) }
         ensures low { result.bits ≤ max_bits }
         ensures span { (result.first ≤ result.last) × (result.last < 2 ^ result.bits) }
     {
@@ -139,12 +140,12 @@ impl Cut {
         ensures parts { IfOk result (λ v. AreParts self (held v.items)) }
     {
         shard_core::shard_laws::shards_make_the_set();
-        if self.sharding.is_some() {
-            let options = self.options();
-            return Ok(read_shards(alloc, &mut Watched::new(reader), options)?);
-        }
-        let items = read_input_items(alloc, self.form, reader, self.cap)?;
-        Ok(one_part(alloc, items)?)
+        let Some(_) = self.sharding else {
+            let items = read_input_items(alloc, self.form, reader, self.cap)?;
+            return Ok(one_part(alloc, items)?);
+        };
+        let options = self.options();
+        Ok(read_shards(alloc, &mut Watched::new(reader), options)?)
     }
 
     /// The parts of the set of the items of both. Else 82 or 90.
