@@ -160,8 +160,14 @@ impl<'a> Caller<'a, '_> {
         requires cap { log.cap ≤ (arc_value self.now.accepted.now).table.cap }
     {
         let stream = connect_to(rt, self.address, self.patience)?;
-        let (outcome, stats) =
-            converse_over(rt, rt.alloc(), self.accepted, log, self.talk, &stream)?;
+        let (outcome, stats) = converse_over(
+            rt,
+            rt.alloc(),
+            self.accepted,
+            log,
+            self.talk,
+            &stream,
+        )?;
         costs.add(stats, outcome.sent());
         Ok((outcome, stats))
     }

@@ -18,7 +18,7 @@ use Rattle.item_files.specs.declared.form.ItemForm.{ItemForm}
 use Rattle.loading.specs.declared.parts.Cut.{Cut}
 use Rattle.item_files.specs.declared.options.LoadOptions.{LoadOptions}
 
-abbrev options_by : ItemForm → ℕ → Option Sharding → LoadOptions
+abbrev pub options_by : ItemForm → ℕ → Option Sharding → LoadOptions
 options_by form cap None = record { form = form; bits = 0; first = 0; last = 0; cap = cap }
 options_by form cap (Some s) = record { form = form; bits = s.bits; first = s.first; last = s.last; cap = cap }
 

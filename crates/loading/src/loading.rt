@@ -1,6 +1,6 @@
 //! What a side of sessions begins with.
 
-ghost use Rattle.std.specs.Prelude.{◌≡◌, ◌≤◌, ◌^◌, length, IfOk, OnOk};
+ghost use Rattle.std.specs.Prelude.{◌≡◌, ◌≤◌, ◌^◌, Some, None, length, IfOk, OnOk};
 ghost use Rattle.definitions.specs.Sets.{IsSet};
 ghost use Rattle.shard_core.specs.Shards.{max_bits};
 ghost use Rattle.shard_core.specs.Splits.{held};

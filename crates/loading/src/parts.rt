@@ -13,10 +13,7 @@ ghost use Rattle.loading.specs.declared.parts.PartsFault.TheVariants as faults;
 
 use io_core::Watched;
 use item_core::Item;
-use item_files::{
-    ItemForm, LoadFault, LoadOptions, SettingsFault, read_input_items, read_shards,
-};
-use printing_core::Refusal;
+use item_files::{ItemForm, LoadFault, LoadOptions, SettingsFault, read_input_items, read_shards};
 use settings_core::Sharding;
 use shard_core::join_shards;
 use std::alloc::{AllocError, Global};
@@ -106,6 +103,7 @@ impl Cut {
     /// How a text is read. A whole set is the one shard of a set that is cut by no bits.
     pub fn options(self) -> LoadOptions
         ensures options { result ≡ options_of self }
+        ensures same { (result.form ≡ self.form) × (result.cap ≡ self.cap) }
         ensures low { result.bits ≤ max_bits }
         ensures span { (result.first ≤ result.last) × (result.last < 2 ^ result.bits) }
     {
@@ -142,12 +140,12 @@ impl Cut {
         ensures parts { IfOk result (λ v. AreParts self (held v.items)) }
     {
         shard_core::shard_laws::shards_make_the_set();
-        if self.sharding.is_some() {
-            let options = self.options();
-            return Ok(read_shards(alloc, &mut Watched::new(reader), options)?);
-        }
-        let items = read_input_items(alloc, self.form, reader, self.cap)?;
-        Ok(one_part(alloc, items)?)
+        let Some(_) = self.sharding else {
+            let items = read_input_items(alloc, self.form, reader, self.cap)?;
+            return Ok(one_part(alloc, items)?);
+        };
+        let options = self.options();
+        Ok(read_shards(alloc, &mut Watched::new(reader), options)?)
     }
 
     /// The parts of the set of the items of both. Else 82 or 90.

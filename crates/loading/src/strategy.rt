@@ -1,8 +1,6 @@
 //! The strategy that a command names.
 
-use item_files::{
-    ReadFault, SettingsFault, accepted_in, document, read_document, stray_key,
-};
+use item_files::{ReadFault, SettingsFault, accepted_in, document, read_document, stray_key};
 use printing_core::{Refusal, tell_stray_key};
 use sim_core::{SHIPPED_NAMES, shipped_text};
 use std::alloc::Global;
