@@ -144,7 +144,7 @@ set_of_sets xs ys =
 
 pub with_both : (c : Cut) (Xs Ys Zs : List (List Item)) → IsReadFrom c Xs → IsReadFrom c Ys →
     ((A B : List Item) → Xs ≡ loaded_of (options_of c) A → Ys ≡ loaded_of (options_of c) B →
-        Zs ≡ loaded_of (options_of c) (set_of (A ++ B))) → IsLoadedFrom c Zs
+    Zs ≡ loaded_of (options_of c) (set_of (A ++ B))) → IsLoadedFrom c Zs
 with_both c Xs Ys Zs own kept joined = record {
   own = own.items;
   kept = kept.items;
