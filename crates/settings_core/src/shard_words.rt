@@ -1,6 +1,8 @@
 //! Words that ask for a set of shards.
 
 ghost use Rattle.std.specs.Prelude.{◌≡◌, ◌≤◌, option_map, is_some, IfSome};
+ghost use Rattle.std.specs.Char.{is_ascii_digit};
+ghost use Rattle.std.specs.List.{list_all};
 ghost use Rattle.settings_core.specs.Spans.{IsShardBits};
 ghost use Rattle.settings_core.specs.ShardWords.{shard_in, ends_of, span_of, shards_in, asked};
 ghost use Rattle.settings_core.specs.ShardWords.{shards_told, told_of};
@@ -37,13 +39,19 @@ pub struct ShardWords<'a> {
     pub is_stdio: bool,
 }
 
+/// Whether all bytes are decimal digits.
+fn are_digits(bytes: &[u8]) -> bool
+    ensures { result ≡ list_all is_ascii_digit bytes.now }
+{
+    bytes.iter().all(|byte| byte.is_ascii_digit())
+}
+
 /// The number of a shard of so many bits, which decimal digits write.
 fn shard_in(bits: u8, text: &str) -> Option<u16>
     requires { bits ≤ 12 }
     ensures { result ≡ shard_in bits text.now }
 {
-    let digits = text.as_bytes();
-    if digits.is_empty() || !digits.iter().all(|byte| byte.is_ascii_digit()) {
+    if text.is_empty() || !are_digits(text.as_bytes()) {
         return None;
     }
     let number = text.parse::<u16>().ok()?;

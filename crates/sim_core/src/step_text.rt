@@ -18,6 +18,13 @@ fn is_digit(byte: u8) -> bool
     byte.is_ascii_digit()
 }
 
+/// Whether all bytes are decimal digits.
+fn are_digits(bytes: &[u8]) -> bool
+    ensures { result ≡ list_all is_ascii_digit bytes.now }
+{
+    bytes.iter().all(|byte| is_digit(*byte))
+}
+
 /// Whether these are digits without a sign and without a leading zero.
 fn is_plain(digits: &[u8]) -> bool
     ensures { result ≡ is_plain digits.now }
@@ -28,7 +35,7 @@ fn is_plain(digits: &[u8]) -> bool
     if *first == b'0' {
         return rest.is_empty();
     }
-    is_digit(*first) && rest.iter().all(|byte| is_digit(*byte))
+    is_digit(*first) && are_digits(rest)
 }
 
 /// A decimal number below 2^32, without a sign and without a leading zero.
