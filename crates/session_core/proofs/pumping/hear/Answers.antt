@@ -2,8 +2,8 @@ use Rattle.std.proofs.Common.{◌≡◌, length, take, arith, refl}
 use Rattle.session_core.proofs.Moving.{pushes-none, pushes-open, pushes-whole}
 use Rattle.session_core.proofs.pumping.hear.Goals as goal
 
-pub returns-in-Moved-clause-pushes : goal.returns-in-Moved-clause-pushes
-returns-in-Moved-clause-pushes g c =
+pub returns-else-taken-piece-clause-pushes : goal.returns-else-taken-piece-clause-pushes
+returns-else-taken-piece-clause-pushes g c =
     let piece = c.args.piece.now in
     let all : c.in_ok-taken.taken ≡ length piece = omega (arith, c.in_ok-taken.ensures.took, c.if-taken-piece.false) in
     pushes-whole g.F.Summary.summary g.F.Summary.profile c.args.session.now c.push.new.self piece c.in_ok-taken.taken
