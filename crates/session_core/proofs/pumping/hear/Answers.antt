@@ -2,14 +2,14 @@ use Rattle.std.proofs.Common.{◌≡◌, length, take, arith, refl}
 use Rattle.session_core.proofs.Moving.{pushes-none, pushes-open, pushes-whole}
 use Rattle.session_core.proofs.pumping.hear.Goals as goal
 
-pub returns-in-Moved-clause-pushes : goal.returns-in-Moved-clause-pushes
-returns-in-Moved-clause-pushes g c =
+pub returns-else-taken-piece-clause-pushes : goal.returns-else-taken-piece-clause-pushes
+returns-else-taken-piece-clause-pushes g c =
     let piece = c.args.piece.now in
-    let all : c.in_ok-taken.taken ≡ length piece = omega (arith, c.in_ok-taken.ensures.took, c.if-taken-piece.false) in
-    pushes-whole g.F.Summary.summary g.F.Summary.profile c.args.session.now c.push.new.self piece c.in_ok-taken.taken
-    all
-    (pushes-open g.F.Summary.summary g.F.Summary.profile c.args.session.now c.push.new.self
-    (take c.in_ok-taken.taken piece) c.requires.goes c.in_ok-taken.ensures.pushes)
+    let took = c.in_ok-taken-in-Moved in
+    let all : took.taken ≡ length piece = omega (arith, took.ensures.took, c.if-taken-piece.false) in
+    pushes-whole g.F.Summary.summary g.F.Summary.profile c.args.session.now c.push.new.self piece took.taken all
+    (pushes-open g.F.Summary.summary g.F.Summary.profile c.args.session.now c.push.new.self (take took.taken piece)
+    c.requires.goes took.ensures.pushes)
 
 pub returns-in_default : goal.returns-in_default
 returns-in_default g c = record {
