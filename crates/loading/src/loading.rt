@@ -370,7 +370,7 @@ where
     ensures cap { IfOk result (λ o. o.set.cap ≡ o.accepted.table.cap) }
     // What was loaded is what the texts say.
     ensures loaded { IfOk result (λ o. IsLoadedFrom
-        (record { form = sources.form; cap = o.accepted.table.cap; sharding = sharding }) (contents o.set.logs)) }
+        (record { form = sources.entry.form; cap = o.accepted.table.cap; sharding = sharding }) (contents o.set.logs)) }
 {
     let accepted = strategy_of(rt, sources.table, err)?;
     let cut = Cut {

@@ -66,8 +66,8 @@ fn sums_of(alloc: Global, logs: &[Log<Tree>]) -> Result<Vec<ShardSum>, AllocErro
 }
 
 impl ShardedSet {
-    /// The shards from `first` on of a set that is cut into 2 to the power of `bits`, of at most `cap` items each. Up to
-    /// four threads hash the items, and each list is let go as soon as its log is there.
+    /// The shards from `first` on of a set that is cut into 2 to the power of `bits`, of at most `cap` items each. Up
+    /// to four threads hash the items, and each list is let go as soon as its log is there.
     pub fn of<R: Threads + Sync>(
         rt: &R,
         alloc: Global,

@@ -44,7 +44,8 @@ fn accepted<'a>(alloc: Global, path: &'a str, table: &Table) -> Result<Accepted,
 }
 
 /// The strategy in the file, accepted, or the one that is shipped under the name, where no file is there. Standard
-/// error is told of a key of it that says nothing, if it is told more. Else 80, 30 to 35 or 29, then 37, 36 or 38, and 90.
+/// error is told of a key of it that says nothing, if it is told more. Else 80, 30 to 35 or 29, then 37, 36 or 38, and
+/// 90.
 pub fn strategy_of<'a, R: Files + AllocGlobal, E: Write>(
     rt: &R,
     source: TableSource<'a>,

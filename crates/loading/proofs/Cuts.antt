@@ -75,7 +75,8 @@ module _ (within : (b : ℕ) (x : Item) → b ≤ max_bits → shard_number b x 
 
   pub from_whole : (c : Cut) (unread : Option (List ℕ)) (v : Vec Item Global) (Xs : List (List Item)) →
       c.sharding ≡ None → Xs ≡ v.items ∷ [] →
-      IsFromFile (λ text r. IsAllOf unread text × IsSetOf (λ (w : Vec Item Global). w.items) c.form text c.cap r) (Ok v) →
+      IsFromFile (λ text r. IsAllOf unread text
+          × IsSetOf (λ (w : Vec Item Global). w.items) c.form text c.cap r) (Ok v) →
       IsRead c (IsAllOf unread) Xs
   from_whole c unread v Xs none one (inl never) = absurd never
   from_whole c unread v Xs none one (inr (text, good, all, items, lines, is, few)) = record {
