@@ -8,7 +8,7 @@ use crate::sync::sync;
 use crate::sync_shards::{AskingShards, sync_shards};
 use crate::talking::Talk;
 use item_files::WireProfile;
-use loading::{Sources, Target, load};
+use loading::{Sources, Target, load, load_shards};
 use printing_core::{Listing, Refusal, difference_status};
 use settings_core::SyncWords;
 use shard_core::{SetName, Which};
@@ -122,10 +122,10 @@ where
     let asking = Asking::asked(words, target.set, target.explains);
     let sources = Sources::of_asker(words, target.explains, target.shows);
     let differ = if words.stdio {
-        let loaded = load(rt, sources, None, io::empty(), err)?;
+        let loaded = load(rt, sources, io::empty(), err)?;
         sync_stdio(rt, loaded, asking, (reader, out), err)?
     } else if let (Some(sharding), Some(set)) = (target.sharding, target.set) {
-        let loaded = load(rt, sources, Some(sharding), reader, err)?;
+        let loaded = load_shards(rt, sources, sharding, reader, err)?;
         let at_once = at_once_in(words);
         let shows = target.shows;
         let asking = AskingShards {
@@ -136,7 +136,7 @@ where
         };
         sync_shards(rt, loaded, asking, out, err)?
     } else {
-        let loaded = load(rt, sources, None, reader, err)?;
+        let loaded = load(rt, sources, reader, err)?;
         sync(rt, loaded, asking, out, err)?
     };
     Ok(difference_status(words.checks, differ))

@@ -11,13 +11,14 @@ ghost use Rattle.shard_core.specs.Choices.{AreBelow};
 ghost use Rattle.version_log.specs.Logs.{IsCap};
 
 use crate::costs::Costs;
-use crate::talking::{Caller, Talk};
+use crate::reaching::connect_to;
+use crate::talking::{Talk, converse};
 use crate::trying::Tries;
 use ends_core::Learned;
 use item_core::Item;
 use item_files::WireProfile;
 use peer_threads::Outcome;
-use printing_core::{Fault, Refusal, learned_in};
+use printing_core::{Fault, Refusal, Stats, learned_in};
 use shard_core::{
     Asked, ChoiceFault, DirectoryFault, SetName, Unequal, Which, asked_of, differing,
 };
@@ -28,7 +29,7 @@ use std::rt::Files;
 use std::sync::{Arc, Wait};
 use std::time::Clock;
 use strategy_check::Accepted;
-use tcp_front::Limits;
+use tcp_front::{Limits, finish};
 use version_log::Log;
 
 /// How servers are asked for parts of a set.
@@ -50,6 +51,11 @@ impl<'a> Asker<'a> {
             most_bytes: self.limits.most_bytes,
             set: Some((self.set, which)),
         }
+    }
+
+    /// How many bytes may still be read of a connection after its session.
+    pub fn left(&self, stats: Stats) -> u64 {
+        u64::from(self.limits.most_bytes).saturating_sub(stats.received.bytes)
     }
 }
 
@@ -118,29 +124,50 @@ fn told_of<'a>(
     }
 }
 
-/// Asks a server for its directory, and again as often as is still asked for, so long as the session does not come to
-/// its end and may do so. Which of its shards are not equal to ours; else 61, and as `told_of`.
-fn ask_directory<'a, R, E: Write>(
+/// Asks a server for its directory. Which of its shards are not equal to ours; else 61, and as `told_of`.
+fn ask_directory<'a, R>(
     rt: &R,
     own: Own<'_>,
     asker: Asker<'a>,
     address: &'a str,
     costs: &mut Costs,
-    again: (&mut Tries, &mut E),
 ) -> Result<Vec<Unequal>, Refusal<'a>>
 where
     R: Files + Net<Stream = TcpStream> + Wait + Clock + AllocGlobal,
 {
     let alloc = rt.alloc();
-    let caller = Caller {
-        accepted: own.accepted,
-        address,
-        patience: asker.limits.patience,
-        talk: asker.talk(Which::Directory),
-    };
+    let stream = connect_to(rt, address, asker.limits.patience)?;
     let log = Log::of_set(alloc, own.cap, own.entries)?;
-    let (outcome, stats) = caller.call_again(rt, log, costs, again)?;
+    let talk = asker.talk(Which::Directory);
+    let (outcome, stats) = converse(rt, alloc, own.accepted, log, talk, (&stream, &stream))?;
+    finish(rt, &stream, asker.left(stats));
+    costs.add(stats, outcome.sent());
     told_of(alloc, asker, stats.received.bytes, &outcome)
+}
+
+/// The same, and again as often as is still asked for, so long as the session does not come to its end and may do so.
+fn ask_directory_again<'a, R, E: Write>(
+    rt: &R,
+    own: Own<'_>,
+    asker: Asker<'a>,
+    address: &'a str,
+    costs: &mut Costs,
+    (tries, err): (&mut Tries, &mut E),
+) -> Result<Vec<Unequal>, Refusal<'a>>
+where
+    R: Files + Net<Stream = TcpStream> + Wait + Clock + AllocGlobal,
+{
+    for _try in 0..tries.left() {
+        let told = ask_directory(rt, own, asker, address, costs);
+        let fault = match &told {
+            Ok(_) => None,
+            Err(refusal) => Some(refusal.fault),
+        };
+        if !tries.wait(rt, fault, err) {
+            return told;
+        }
+    }
+    ask_directory(rt, own, asker, address, costs)
 }
 
 /// The refusal of servers among which no shard is asked for.
@@ -176,7 +203,7 @@ where
     let mut directories = Vec::new(alloc);
     for address in addresses {
         let again = (&mut *tries, &mut *err);
-        directories.push(ask_directory(rt, own, asker, address, costs, again)?)?;
+        directories.push(ask_directory_again(rt, own, asker, address, costs, again)?)?;
     }
     match asked_of(alloc, &directories, own.first, own.last) {
         Ok(asked) => Ok(asked),

@@ -6,7 +6,7 @@ ghost use Rattle.std.specs.Arc.{arc_value};
 use crate::costs::Costs;
 use crate::directories::Asker;
 use crate::reaching::connect_to;
-use crate::talking::converse_over;
+use crate::talking::converse;
 use crate::trying::Tries;
 use ends_core::Learned;
 use peer_threads::Outcome;
@@ -22,7 +22,7 @@ use std::thread::Threads;
 use std::time::Clock;
 use std::{mem, thread};
 use strategy_check::Accepted;
-use tcp_front::Stream;
+use tcp_front::{Stream, finish};
 use version_log::Log;
 
 /// A shard that is asked for, and our log of it.
@@ -103,12 +103,15 @@ fn run_one<R: Wait + Clock>(rt: &R, alloc: Global, asker: Asker<'_>, ready: Read
         ..
     } = work;
     let talk = asker.talk(Which::Shard(number));
-    match converse_over(rt, alloc, &accepted, log, talk, &stream) {
-        Ok((outcome, stats)) => Heard {
-            number,
-            found: part_of(alloc, number, &outcome),
-            cost: Some((stats, outcome.sent())),
-        },
+    match converse(rt, alloc, &accepted, log, talk, (&stream, &stream)) {
+        Ok((outcome, stats)) => {
+            finish(rt, &stream, asker.left(stats));
+            Heard {
+                number,
+                found: part_of(alloc, number, &outcome),
+                cost: Some((stats, outcome.sent())),
+            }
+        }
         Err(fault) => Heard {
             number,
             found: Err(fault),

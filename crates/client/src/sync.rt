@@ -1,21 +1,28 @@
 //! One session with who listens.
 
-ghost use Rattle.std.specs.Prelude.{◌≡◌};
+ghost use Rattle.std.specs.Prelude.{◌≡◌, ◌≤◌};
+ghost use Rattle.std.specs.Arc.{arc_value};
 
 use crate::asked::Asking;
-use crate::costs::Costs;
 use crate::printing::{create_file, print_to};
-use crate::talking::{Caller, converse};
+use crate::reaching::connect_to;
+use crate::talking::converse;
 use crate::trying::Tries;
 use loading::Loaded;
 use peer_threads::Outcome;
-use printing_core::{Fault, Refusal, Stats, finds_any, outcome_text, tell_stats};
+use printing_core::{
+    Fault, Refusal, Stats, finds_any, outcome_text, refusal_of_session, tell_stats,
+};
+use range_tree::Tree;
 use std::fs::File;
 use std::io::{Read, Write};
 use std::net::{Net, TcpStream};
 use std::rt::Files;
 use std::sync::{Arc, Wait};
 use std::time::Clock;
+use strategy_check::Accepted;
+use tcp_front::{Limits, finish};
+use version_log::Log;
 
 /// Runs one session as the initiator, over this reader and this writer. What comes of it, and what it cost. Else 90, or
 /// `io write` before it has begun.
@@ -31,6 +38,64 @@ pub fn ask<R: Wait + Clock + AllocGlobal, I: Read + Drop, O: Write + Drop>(
     let Loaded { accepted, set, .. } = loaded;
     let accepted = Arc::new(alloc, accepted)?;
     converse(rt, alloc, &accepted, set.into_first(), asking.talk(), ends)
+}
+
+/// Connects, and runs one session as the initiator over this log, which is let go. What comes of it, and what it cost.
+/// Else 61, 90, or `io write` before it has begun.
+fn ask_at<'a, R>(
+    rt: &R,
+    accepted: &Arc<Accepted>,
+    log: Log<Tree>,
+    asking: Asking<'a>,
+) -> Result<(Outcome, Stats), Refusal<'a>>
+where
+    R: Files + Net<Stream = TcpStream> + Wait + Clock + AllocGlobal,
+    requires cap { log.cap ≤ (arc_value accepted.now).table.cap }
+{
+    let Limits {
+        patience,
+        most_bytes,
+    } = asking.limits;
+    let stream = connect_to(rt, asking.address, patience)?;
+    let ends = (&stream, &stream);
+    let (outcome, stats) = converse(rt, rt.alloc(), accepted, log, asking.talk(), ends)?;
+    let left = u64::from(most_bytes).saturating_sub(stats.received.bytes);
+    finish(rt, &stream, left);
+    Ok((outcome, stats))
+}
+
+/// Why a session did not come to its end, or was not begun.
+fn fault_of(asked: &Result<(Outcome, Stats), Refusal<'_>>) -> Option<Fault> {
+    match asked {
+        Ok((outcome, _)) => refusal_of_session(outcome).err(),
+        Err(refusal) => Some(refusal.fault),
+    }
+}
+
+/// The same over what was loaded, and again as often as is asked for, so long as it does not come to its end and may do
+/// so. What comes of the last.
+fn ask_again<'a, R, E: Write>(
+    rt: &R,
+    loaded: Loaded,
+    asking: Asking<'a>,
+    err: &mut E,
+) -> Result<(Outcome, Stats), Refusal<'a>>
+where
+    R: Files + Net<Stream = TcpStream> + Wait + Clock + AllocGlobal,
+    requires cap { loaded.set.cap ≡ loaded.accepted.table.cap }
+{
+    let alloc = rt.alloc();
+    let Loaded { accepted, set, .. } = loaded;
+    let accepted = Arc::new(alloc, accepted)?;
+    let log = set.into_first();
+    let mut tries = Tries::new(asking.retry, asking.explains);
+    for _try in 0..tries.left() {
+        let asked = ask_at(rt, &accepted, log.copy(alloc)?, asking);
+        if !tries.wait(rt, fault_of(&asked), err) {
+            return asked;
+        }
+    }
+    ask_at(rt, &accepted, log, asking)
 }
 
 /// Runs one session as the initiator, and prints what was learned, to the file if one is asked for. If it is asked for,
@@ -50,22 +115,7 @@ where
     requires cap { loaded.set.cap ≡ loaded.accepted.table.cap }
 {
     let file = create_file(rt, asking.out)?;
-    let Loaded {
-        accepted,
-        set,
-        kept: _,
-    } = loaded;
-    let accepted = Arc::new(rt.alloc(), accepted)?;
-    let caller = Caller {
-        accepted: &accepted,
-        address: asking.address,
-        patience: asking.limits.patience,
-        talk: asking.talk(),
-    };
-    let mut tries = Tries::new(asking.retry, asking.explains);
-    let mut costs = Costs::begin(rt);
-    let again = (&mut tries, &mut *err);
-    let (outcome, stats) = caller.call_again(rt, set.into_first(), &mut costs, again)?;
+    let (outcome, stats) = ask_again(rt, loaded, asking, err)?;
     if asking.stats {
         tell_stats(err, stats);
     }

@@ -1,28 +1,23 @@
-//! One session as the initiator: over a reader and a writer, or with who listens.
+//! One session as the initiator, over a reader and a writer.
 
 ghost use Rattle.std.specs.Prelude.{◌≡◌, ◌≤◌};
 ghost use Rattle.std.specs.Arc.{arc_value};
 
-use crate::costs::Costs;
-use crate::reaching::connect_to;
-use crate::trying::Tries;
 use digest_core::{Counted, Fingerprint, Summary};
 use io_core::{Watched, write_output};
 use item_files::WireProfile;
 use loading::{Metered, millis_since};
 use peer_threads::{Connection, OpenGate, Outcome, Shared, dial_one};
-use printing_core::{Fault, Refusal, Stats, refusal_of_session};
+use printing_core::{Fault, Stats};
 use range_tree::Tree;
 use session_table::SessionTable;
 use shard_core::{SetName, Which};
 use std::alloc::Global;
 use std::io::{Read, Write};
-use std::net::{Net, TcpStream};
-use std::rt::Files;
 use std::sync::{Arc, Mutex, Wait};
 use std::time::{Clock, Instant};
 use strategy_check::Accepted;
-use tcp_front::{Stream, finish, limited};
+use tcp_front::limited;
 use version_lock::{Seat, VersionLock};
 use version_log::Log;
 
@@ -106,92 +101,4 @@ pub fn converse<R: Wait + Clock, I: Read + Drop, O: Write + Drop>(
     };
     stats.sent.bytes = stats.sent.bytes.saturating_add(named);
     Ok((outcome, stats))
-}
-
-/// The same over this connection, of which what the peer still says is read then, as far as it may be.
-pub fn converse_over<R: Wait + Clock>(
-    rt: &R,
-    alloc: Global,
-    accepted: &Arc<Accepted>,
-    log: Log<Tree>,
-    talk: Talk<'_>,
-    stream: &Stream,
-) -> Result<(Outcome, Stats), Fault>
-    requires cap { log.cap ≤ (arc_value accepted.now).table.cap }
-{
-    let (outcome, stats) = converse(rt, alloc, accepted, log, talk, (stream, stream))?;
-    let left = u64::from(talk.most_bytes).saturating_sub(stats.received.bytes);
-    finish(rt, stream, left);
-    Ok((outcome, stats))
-}
-
-/// Why a session did not come to its end, or was not begun.
-fn fault_of(called: &Result<(Outcome, Stats), Refusal<'_>>) -> Option<Fault> {
-    match called {
-        Ok((outcome, _)) => refusal_of_session(outcome).err(),
-        Err(refusal) => Some(refusal.fault),
-    }
-}
-
-/// With whom sessions are run, and how.
-#[derive(Clone, Copy)]
-pub struct Caller<'a, 's> {
-    /// The strategy.
-    pub accepted: &'s Arc<Accepted>,
-    /// The address to connect to.
-    pub address: &'a str,
-    /// After how many seconds a connect, a read or a write fails.
-    pub patience: u32,
-    /// How a session is run.
-    pub talk: Talk<'a>,
-}
-
-impl<'a> Caller<'a, '_> {
-    /// Connects, and runs one session as the initiator over this log, which is let go. What comes of it, and what it
-    /// cost. Else 61, 90, or `io write` before it has begun.
-    fn call<R>(
-        &self,
-        rt: &R,
-        log: Log<Tree>,
-        costs: &mut Costs,
-    ) -> Result<(Outcome, Stats), Refusal<'a>>
-    where
-        R: Files + Net<Stream = TcpStream> + Wait + Clock + AllocGlobal,
-        requires cap { log.cap ≤ (arc_value self.now.accepted.now).table.cap }
-    {
-        let stream = connect_to(rt, self.address, self.patience)?;
-        let (outcome, stats) = converse_over(
-            rt,
-            rt.alloc(),
-            self.accepted,
-            log,
-            self.talk,
-            &stream,
-        )?;
-        costs.add(stats, outcome.sent());
-        Ok((outcome, stats))
-    }
-
-    /// The same, and again as often as is still asked for, so long as the session does not come to its end and may do
-    /// so. What comes of the last.
-    pub fn call_again<R, E: Write>(
-        &self,
-        rt: &R,
-        log: Log<Tree>,
-        costs: &mut Costs,
-        again: (&mut Tries, &mut E),
-    ) -> Result<(Outcome, Stats), Refusal<'a>>
-    where
-        R: Files + Net<Stream = TcpStream> + Wait + Clock + AllocGlobal,
-        requires cap { log.cap ≤ (arc_value self.now.accepted.now).table.cap }
-    {
-        let (tries, err) = again;
-        for _try in 0..tries.left() {
-            let called = self.call(rt, log.copy(rt.alloc())?, costs);
-            if !tries.wait(rt, fault_of(&called), err) {
-                return called;
-            }
-        }
-        self.call(rt, log, costs)
-    }
 }

@@ -1,20 +1,22 @@
 -- The logs of shards that follow one another.
 use Rattle.std.proofs.Common.{◌≡◌, ℕ, zero, suc, ◌+◌, ◌-◌, ◌≤◌, Bool, true, false, List, [], ◌∷◌, ◌++◌, length, map}
 use Rattle.std.proofs.Common.{take, drop, fold, refl, sym, ap, subst, ◌∙◌}
-use Rattle.std.specs.Prelude.{Vec}
+use Rattle.std.specs.Prelude.{if◌then◌else◌, Vec}
 use Rattle.std.specs.List.{range_with_len}
 use Rattle.std.specs.declared.alloc.Global.{Global}
 use Rattle.std.proofs.lemmas.List.{length-map, take-map}
 use Rattle.std.proofs.lemmas.List.FromFn.{length-map-range_with_len}
 use Rattle.definitions.specs.Items.{Item}
-use Rattle.definitions.specs.Sets.{IsSet}
+use Rattle.definitions.specs.Sets.{IsSet, has, add_item, union, set_of}
+use Rattle.definitions.specs.Histories.{History, content, items_of, opening_history, with_item}
+use Rattle.definitions.proofs.Lemmas.{fold-append, map-append}
+use Rattle.store_core.proofs.Made.{add_again, has_set_of, same_set, set_of_is_set}
 use Rattle.shard_core.specs.Shards.{shard}
 use Rattle.shard_core.specs.declared.shard_sum.ShardSum.{ShardSum}
 use Rattle.shard_core.specs.Directories.{sum_of, entries_from}
 use Rattle.shard_core.specs.Splits.{held, HasRoom}
 use Rattle.shard_core.specs.Spans.{span_shards, AreKept}
 use Rattle.version_log.specs.Logs.{opened}
-use Rattle.version_log.proofs.Rising.{content_opened}
 use Rattle.loading.specs.Sharded.{AreSets, opened_all, HaveCap, contents}
 
 abbrev Sets : Type 0
@@ -88,6 +90,23 @@ pub opened_many : (cap : ℕ) (Xs : Sets) → length (opened_all cap Xs) ≡ len
 opened_many cap Xs = length-map Xs (λ X. opened cap X 1)
 
 -- ---- what a log of a set opens with
+
+content_push : (h : History) (x : Item) → content (h ++ (0, x) ∷ []) ≡ add_item (content h) x
+content_push h x =
+    ap set_of (map-append (λ (e : ℕ × Item). e.1) h ((0, x) ∷ [])) ∙ fold-append add_item [] (items_of h) (x ∷ [])
+
+content_by : (h : History) (x : Item) (b : Bool) → has (items_of h) x ≡ b →
+    content (if b then h else h ++ (0, x) ∷ []) ≡ add_item (content h) x
+content_by h x true e = sym (add_again (content h) x (set_of_is_set (items_of h)) (has_set_of (items_of h) x ∙ e))
+content_by h x false e = content_push h x
+
+content_after : (h : History) (xs : List Item) → content (fold with_item h xs) ≡ union (content h) xs
+content_after h [] = refl
+content_after h (x ∷ xs) =
+    content_after (with_item h x) xs ∙ ap (λ A. union A xs) (content_by h x (has (items_of h) x) refl)
+
+content_opened : (A : List Item) → IsSet A → content (opening_history A) ≡ A
+content_opened A set = content_after [] A ∙ same_set (set_of A) A (set_of_is_set A) set (has_set_of A)
 
 pub contents_opened : (cap : ℕ) (Xs : Sets) → AreSets cap Xs → contents (opened_all cap Xs) ≡ Xs
 contents_opened cap [] all = refl

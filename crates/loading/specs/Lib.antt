@@ -1,3 +1,2 @@
 pub use Rattle.version_log.specs.Logs
-pub mod Loads
 pub mod Sharded

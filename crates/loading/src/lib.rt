@@ -5,18 +5,17 @@
 mod clock;
 mod disk;
 mod loading;
+mod loading_shards;
 mod logs;
 mod metering;
-mod parts;
 mod sharded_set;
 mod showing;
-mod strategy;
 mod target;
 
 pub use clock::{millis_of, millis_since, now};
 pub use disk::{Disk, ItemFile, Kept, Opened, open_lines, unopened};
-pub use loading::{Loaded, Sources, items_of, load};
+pub use loading::{Loaded, Sources, TableSource, items_of, load, strategy_of};
+pub use loading_shards::load_shards;
 pub use metering::Metered;
 pub use sharded_set::ShardedSet;
-pub use strategy::{TableSource, strategy_of};
 pub use target::Target;

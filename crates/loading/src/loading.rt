@@ -1,30 +1,29 @@
 //! What a side of sessions begins with.
 
-ghost use Rattle.std.specs.Prelude.{◌≡◌, ◌≤◌, ◌^◌, Some, None, length, IfOk, OnOk};
+ghost use Rattle.std.specs.Prelude.{◌≡◌, ◌≤◌, Some, None, length, IfOk};
 ghost use Rattle.definitions.specs.Sets.{IsSet};
-ghost use Rattle.shard_core.specs.Shards.{max_bits};
-ghost use Rattle.shard_core.specs.Splits.{held};
-ghost use Rattle.loading.specs.Loads.{options_of, AreParts, IsReadFrom, IsLoadedFrom};
-ghost use Rattle.loading.specs.Sharded.{contents};
+ghost use Rattle.range_tree.specs.Trees.{tree_items};
 
 use crate::disk::{Kept, Opened, item_file, open_lines};
-use crate::parts::{Cut, PartsFault};
 use crate::sharded_set::ShardedSet;
-use crate::showing::{Screen, Shown};
-use crate::strategy::{TableSource, strategy_of};
 use item_core::Item;
-use item_files::{ItemForm, LoadOptions, ReadFault, read_items};
-use printing_core::{Fault, Refusal, STANDARD_INPUT};
-use settings_core::{ServeWords, Sharding, SyncWords};
-use shard_core::shard_count;
-use std::alloc::Global;
-use std::fs::{File, OpenFile};
-use std::io::{ErrorKind, Read, Write};
+use item_files::{
+    ItemForm, ReadFault, SettingsFault, accepted_in, document, read_document, read_input_items,
+    read_items, stray_key,
+};
+use printing_core::{Refusal, STANDARD_INPUT, tell_stray_key};
+use range_tree::Tree;
+use settings_core::{ServeWords, SyncWords};
+use sim_core::{SHIPPED_NAMES, shipped_text};
+use std::alloc::{AllocError, Global};
+use std::fs::File;
+use std::io::{Read, Write};
 use std::rt::Files;
 use std::thread::Threads;
-use std::time::Clock;
-use std::{fs, io};
+use store_core::{set_laws, spans};
 use strategy_check::Accepted;
+use toml::value::Table;
+use version_log::Log;
 
 /// A strategy that was accepted, and a set or some of its shards, each of at most as many items as its cap.
 #[derive(Drop)]
@@ -35,6 +34,73 @@ pub struct Loaded {
     pub set: ShardedSet,
     /// What else was opened.
     pub kept: Kept,
+}
+
+/// A strategy that is named, and whether standard error is told of keys that say nothing.
+#[derive(Clone, Copy)]
+pub struct TableSource<'a> {
+    /// The path of its file; or the name of one that is shipped, where no file is there.
+    pub path: &'a str,
+    /// Whether standard error is told.
+    pub explains: bool,
+}
+
+/// The table of the strategy in the file; or of the one that is shipped under the name, where no file is there. Else
+/// 80, 30 or 90.
+fn table_of<'a, R: Files + AllocGlobal>(rt: &R, path: &'a str) -> Result<Table, Refusal<'a>> {
+    let alloc = rt.alloc();
+    let read = match read_document(rt, path) {
+        Err(SettingsFault::CannotRead(ReadFault::Absent)) => match shipped_text(path) {
+            Some(text) => document(alloc, text.as_bytes()),
+            None => return Err(Refusal::of_no_table(path, SHIPPED_NAMES)),
+        },
+        read => read,
+    };
+    match read {
+        Ok(table) => Ok(table),
+        Err(fault) => Err(Refusal::of_file(alloc, path, fault)),
+    }
+}
+
+/// The strategy of this table, accepted. Else 31 to 35 or 29, then 37, 36 or 38, and 90.
+fn accepted<'a>(alloc: Global, path: &'a str, table: &Table) -> Result<Accepted, Refusal<'a>> {
+    match accepted_in(alloc, table) {
+        Ok(accepted) => Ok(accepted),
+        Err(fault) => Err(Refusal::of_file(alloc, path, fault)),
+    }
+}
+
+/// The strategy in the file, accepted, or the one that is shipped under the name, where no file is there. Standard
+/// error is told of a key of it that says nothing, if it is told more. Else 80, 30 to 35 or 29, then 37, 36 or 38, and 90.
+pub fn strategy_of<'a, R: Files + AllocGlobal, E: Write>(
+    rt: &R,
+    source: TableSource<'a>,
+    err: &mut E,
+) -> Result<Accepted, Refusal<'a>> {
+    let alloc = rt.alloc();
+    let TableSource { path, explains } = source;
+    let table = table_of(rt, path)?;
+    let accepted = accepted(alloc, path, &table)?;
+    if explains && let Some(stray) = stray_key(&table) {
+        tell_stray_key(alloc, err, path, stray);
+    }
+    Ok(accepted)
+}
+
+/// The set of the items of the file: at most `cap`. Else 80, 81, then 82, and 90.
+pub fn items_of<'a, R: Files + AllocGlobal>(
+    rt: &R,
+    form: ItemForm,
+    path: &'a str,
+    cap: usize,
+) -> Result<Vec<Item>, Refusal<'a>>
+    ensures rises { IfOk result (λ v. IsSet v.items) }
+    ensures few { IfOk result (λ v. length v.items ≤ cap) }
+{
+    match read_items(rt, form, path, cap) {
+        Ok(items) => Ok(items),
+        Err(fault) => Err(Refusal::of_file(rt.alloc(), path, fault)),
+    }
 }
 
 /// Where a side of sessions begins from.
@@ -99,38 +165,52 @@ impl<'a> Sources<'a> {
         }
     }
 
-    /// A file of the set.
-    fn origin(&self, name: &'a str) -> Origin<'a> {
-        Origin {
-            name,
-            may_cut: self.may_cut,
-        }
-    }
-
     /// The path of the item file, if the items are in a file.
     fn item_path(&self) -> Option<&'a str> {
         self.items.filter(|path| *path != "-")
     }
+
+    /// The refusal of the set in this file.
+    fn refusal(&self, alloc: Global, file: &'a str, fault: SettingsFault) -> Refusal<'a> {
+        if self.may_cut {
+            Refusal::of_set_file(alloc, file, fault)
+        } else {
+            Refusal::of_file(alloc, file, fault)
+        }
+    }
+
+    /// The refusal of the file in which the set is kept.
+    fn kept_refusal(&self, alloc: Global, fault: SettingsFault) -> Refusal<'a> {
+        self.refusal(alloc, self.keep.unwrap_or(STANDARD_INPUT), fault)
+    }
 }
 
-/// The set of the items of the file: at most `cap`. Else 80, 81, then 82, and 90.
-pub fn items_of<'a, R: Files + AllocGlobal>(
+/// The set of the items of the file, or of the input. Else 80, 81, then 82, and 90.
+fn item_set<'a, R: Files + AllocGlobal, I: Read + Drop>(
     rt: &R,
-    form: ItemForm,
-    path: &'a str,
+    sources: Sources<'a>,
+    items: &'a str,
+    reader: I,
     cap: usize,
 ) -> Result<Vec<Item>, Refusal<'a>>
     ensures rises { IfOk result (λ v. IsSet v.items) }
     ensures few { IfOk result (λ v. length v.items ≤ cap) }
 {
-    match read_items(rt, form, path, cap) {
+    let alloc = rt.alloc();
+    if items == "-" {
+        return match read_input_items(alloc, sources.form, reader, cap) {
+            Ok(items) => Ok(items),
+            Err(fault) => Err(Refusal::of_file(alloc, STANDARD_INPUT, fault)),
+        };
+    }
+    match read_items(rt, sources.form, items, cap) {
         Ok(items) => Ok(items),
-        Err(fault) => Err(Refusal::of_file(rt.alloc(), path, fault)),
+        Err(fault) => Err(sources.refusal(alloc, items, fault)),
     }
 }
 
 /// Opens and heals the file in which the set is kept, if there is one. Else 80 or 90.
-fn open_kept<'a, R: Files<File = File> + AllocGlobal, E: Write>(
+pub(crate) fn open_kept<'a, R: Files<File = File> + AllocGlobal, E: Write>(
     rt: &R,
     sources: Sources<'a>,
     err: &mut E,
@@ -146,241 +226,107 @@ fn open_kept<'a, R: Files<File = File> + AllocGlobal, E: Write>(
     Ok(Kept { opened, items })
 }
 
-/// A file, or an input, that items are read from.
-#[derive(Clone, Copy)]
-struct Origin<'a> {
-    /// What it is called where it is refused.
-    name: &'a str,
-    /// Whether it is of a set that may be cut into shards.
-    may_cut: bool,
-}
-
-impl<'a> Origin<'a> {
-    /// The refusal of its items.
-    fn refusal(self, alloc: Global, cap: usize, fault: PartsFault) -> Refusal<'a> {
-        match fault {
-            PartsFault::Shards(fault) => Refusal::of_shards_file(alloc, self.name, cap, fault),
-            PartsFault::Whole(fault) if self.may_cut => {
-                Refusal::of_set_file(alloc, self.name, fault)
-            }
-            PartsFault::Whole(fault) => Refusal::of_file(alloc, self.name, fault),
-        }
-    }
-
-    /// The refusal of a file that was not opened, or not set to its start.
-    fn unread(self, error: &io::Error) -> Refusal<'a> {
-        match error.kind() {
-            ErrorKind::OutOfMemory => Refusal::from(Fault::Memory),
-            _ => Refusal::of_unread(self.name, ReadFault::of(error)),
-        }
-    }
-}
-
-/// How many bytes a file has that is open, where that is known.
-fn size_of(file: &File) -> Option<u64> {
-    Some(file.metadata().ok()?.len())
-}
-
-/// The parts of the set of the items that are left to read, which are so many bytes, where that is known.
-fn read_parts<'a, R: Clock + AllocGlobal, I: Read + Drop, E: Write>(
-    cut: Cut,
-    origin: Origin<'a>,
-    input: (I, Option<u64>),
-    screen: &mut Screen<'_, R, E>,
-) -> Result<Vec<Vec<Item>>, Refusal<'a>>
-    ensures read { IfOk result (λ v. IsReadFrom cut (held v.items)) }
-    ensures parts { IfOk result (λ v. AreParts cut (held v.items)) }
-{
-    let alloc = screen.rt().alloc();
-    let (reader, size) = input;
-    match cut.read(alloc, Shown::new(screen, reader, size)) {
-        Ok(parts) => Ok(parts),
-        Err(fault) => Err(origin.refusal(alloc, cut.cap, fault)),
-    }
-}
-
-/// The parts of the set of the items of the file.
-fn file_parts<'a, R: Files<File = File> + Clock + AllocGlobal, E: Write>(
-    cut: Cut,
-    origin: Origin<'a>,
-    screen: &mut Screen<'_, R, E>,
-) -> Result<Vec<Vec<Item>>, Refusal<'a>>
-    ensures read { IfOk result (λ v. IsReadFrom cut (held v.items)) }
-    ensures parts { IfOk result (λ v. AreParts cut (held v.items)) }
-{
-    match fs::open(screen.rt(), origin.name) {
-        Ok(file) => {
-            let size = size_of(&file);
-            read_parts(cut, origin, (file, size), screen)
-        }
-        Err(error) => Err(origin.unread(&error)),
-    }
-}
-
-/// The parts of the set of the items of the file, or of the input; of no items, if neither is given. Else 80, 81, then
-/// 82, and 90.
-fn own_parts<'a, R: Files<File = File> + Clock + AllocGlobal, I: Read + Drop, E: Write>(
-    cut: Cut,
-    sources: Sources<'a>,
-    reader: I,
-    screen: &mut Screen<'_, R, E>,
-) -> Result<Vec<Vec<Item>>, Refusal<'a>>
-    ensures read { IfOk result (λ v. IsReadFrom cut (held v.items)) }
-    ensures parts { IfOk result (λ v. AreParts cut (held v.items)) }
-{
-    let input = Origin {
-        name: STANDARD_INPUT,
-        may_cut: false,
-    };
-    match sources.items {
-        Some("-") => read_parts(cut, input, (reader, None), screen),
-        Some(name) => file_parts(cut, sources.origin(name), screen),
-        None => read_parts(cut, input, (io::empty(), None), screen),
-    }
-}
-
-/// The parts of the set of the items of a file that is open.
-fn reread<'a, R: Clock + AllocGlobal, E: Write>(
-    cut: Cut,
-    origin: Origin<'a>,
+/// The items of a file that is open.
+fn reread(
+    alloc: Global,
     opened: &mut Opened,
-    screen: &mut Screen<'_, R, E>,
-) -> Result<Vec<Vec<Item>>, Refusal<'a>>
-    ensures read { IfOk result (λ v. IsReadFrom cut (held v.items)) }
-    ensures parts { IfOk result (λ v. AreParts cut (held v.items)) }
-{
+    form: ItemForm,
+    cap: usize,
+) -> Result<Vec<Item>, SettingsFault> {
     match opened.reader() {
-        Ok(reader) => {
-            let size = size_of(reader);
-            read_parts(cut, origin, (reader, size), screen)
-        }
-        Err(error) => Err(origin.unread(&error)),
+        Ok(reader) => read_input_items(alloc, form, reader, cap),
+        Err(error) => Err(SettingsFault::CannotRead(ReadFault::of(&error))),
     }
 }
 
-/// These parts with the items of a file that is open. Else 80, 81, then 82, and 90.
-fn with_kept<'a, R: Clock + AllocGlobal, E: Write>(
-    cut: Cut,
-    origin: Origin<'a>,
-    opened: &mut Opened,
-    parts: Vec<Vec<Item>>,
-    screen: &mut Screen<'_, R, E>,
-) -> Result<Vec<Vec<Item>>, Refusal<'a>>
-    requires read { IsReadFrom cut (held parts.items) }
-    requires parts { AreParts cut (held parts.items) }
-    ensures loaded { IfOk result (λ v. IsLoadedFrom cut (held v.items)) }
-    ensures parts { IfOk result (λ v. AreParts cut (held v.items)) }
-{
-    let more = reread(cut, origin, opened, screen)?;
-    let alloc = screen.rt().alloc();
-    match cut.join(alloc, parts, more) {
-        Ok(parts) => Ok(parts),
-        Err(fault) => Err(origin.refusal(alloc, cut.cap, fault)),
-    }
-}
-
-/// The same with the items of the file in which the set is kept, if there is one.
-fn all_parts<'a, R: Clock + AllocGlobal, E: Write>(
-    cut: Cut,
+/// The set of the items of the file in which it is kept, if there is one. Else 80, 81, then 82, and 90.
+fn kept_set<'a>(
+    alloc: Global,
     sources: Sources<'a>,
     opened: &mut Option<Opened>,
-    parts: Vec<Vec<Item>>,
-    screen: &mut Screen<'_, R, E>,
-) -> Result<Vec<Vec<Item>>, Refusal<'a>>
-    requires read { IsReadFrom cut (held parts.items) }
-    requires parts { AreParts cut (held parts.items) }
-    ensures loaded { IfOk result (λ v. IsLoadedFrom cut (held v.items)) }
-    ensures parts { IfOk result (λ v. AreParts cut (held v.items)) }
-{
-    let Some(name) = sources.keep else {
-        return Ok(parts);
-    };
+    cap: usize,
+) -> Result<Vec<Item>, Refusal<'a>> {
     let Some(opened) = opened else {
-        return Ok(parts);
+        return Ok(Vec::new(alloc));
     };
-    with_kept(cut, sources.origin(name), opened, parts, screen)
+    match reread(alloc, opened, sources.form, cap) {
+        Ok(items) => Ok(items),
+        Err(fault) => Err(sources.kept_refusal(alloc, fault)),
+    }
 }
 
-/// Refuses a strategy whose cap is below the number of shards: of their entries there would be no directory.
-fn enough_places<'a>(accepted: &Accepted, table: &'a str, bits: u8) -> Result<(), Refusal<'a>>
-    requires { bits ≤ max_bits }
-    ensures { OnOk result (2 ^ bits ≤ accepted.now.table.cap) }
+/// The set of the items of both. Else 82 where there are more different items than `cap`, or 90.
+fn joined(items: Vec<Item>, more: &[Item], cap: usize) -> Result<Vec<Item>, SettingsFault>
+    ensures rises { IfOk result (λ v. IsSet v.items) }
+    ensures few { IfOk result (λ v. length v.items ≤ cap) }
 {
-    if (accepted.cap() as usize) < shard_count(bits) {
-        return Err(Refusal::of_few_places(table, bits));
+    set_laws::set_of_a_list();
+    let mut items = items;
+    items.extend_from_slice(more)?;
+    let items = spans::distinct(items);
+    if items.len() > cap {
+        let count = items.len();
+        return Err(SettingsFault::TooManyItems { cap, count });
     }
-    Ok(())
+    Ok(items)
 }
 
-/// How many items all parts have.
-fn count_of(parts: &[Vec<Item>]) -> usize {
-    let mut count: usize = 0;
-    for part in parts {
-        count = count.saturating_add(part.len());
-    }
-    count
-}
-
-/// The logs of the parts of the items in the files, or in the input. Else 80, 81, then 82, and 90.
-fn load_parts<'a, R, I: Read + Drop, E: Write>(
+/// The set of the items of both, of which the second are those of the file in which the set is kept.
+fn joined_set<'a>(
+    alloc: Global,
+    items: Vec<Item>,
+    more: &[Item],
     sources: Sources<'a>,
-    accepted: Accepted,
-    cut: Cut,
-    reader: I,
-    screen: &mut Screen<'_, R, E>,
-) -> Result<Loaded, Refusal<'a>>
-where
-    R: Files<File = File> + AllocGlobal + Threads + Clock + Sync,
-    requires cap { cut.cap ≡ accepted.table.cap }
-    ensures set { IfOk result (λ o. (o.set.bits ≡ (options_of cut).bits)
-        × (o.set.cap ≡ o.accepted.table.cap)) }
-    ensures same { IfOk result (λ o. o.accepted ≡ accepted) }
-    ensures loaded { IfOk result (λ o. IsLoadedFrom cut (contents o.set.logs)) }
+    cap: usize,
+) -> Result<Vec<Item>, Refusal<'a>>
+    ensures rises { IfOk result (λ v. IsSet v.items) }
+    ensures few { IfOk result (λ v. length v.items ≤ cap) }
 {
-    let rt = screen.rt();
-    let parts = own_parts(cut, sources, reader, screen)?;
-    let mut kept = open_kept(rt, sources, screen.err())?;
-    let parts = all_parts(cut, sources, &mut kept.opened, parts, screen)?;
-    screen.hash(count_of(&parts));
-    let LoadOptions { bits, first, .. } = cut.options();
-    let set = ShardedSet::of(rt, rt.alloc(), bits, first, accepted.cap(), parts)?;
+    match joined(items, more, cap) {
+        Ok(items) => Ok(items),
+        Err(fault) => Err(sources.kept_refusal(alloc, fault)),
+    }
+}
+
+/// The store of the items of a set, which up to four threads hash. The list is given up here.
+fn stored<R: Threads + Sync>(rt: &R, alloc: Global, items: Vec<Item>) -> Result<Tree, AllocError>
+    requires { IsSet items.items }
+    ensures { IfOk result (λ store. tree_items store ≡ items.items) }
+{
+    Tree::from_rising_on(rt, alloc, &items)
+}
+
+/// The strategy in one file and a log of the items in the others, or in the input. Up to four threads hash the items.
+///
+/// The strategy is judged first: 80, 30 to 35 or 29, then 37, 36 or 38. Then the items are: 80, 81, then 82 where there
+/// are more different items than the strategy's cap; and then those of the file in which the set is kept, in the same
+/// way.
+pub fn load<'a, R: Files<File = File> + AllocGlobal + Threads + Sync, I: Read + Drop, E: Write>(
+    rt: &R,
+    sources: Sources<'a>,
+    reader: I,
+    err: &mut E,
+) -> Result<Loaded, Refusal<'a>>
+    ensures { IfOk result (λ o. o.set.cap ≡ o.accepted.table.cap) }
+{
+    let alloc = rt.alloc();
+    let accepted = strategy_of(rt, sources.table, err)?;
+    let cap = accepted.cap() as usize;
+    let items = match sources.items {
+        Some(items) => item_set(rt, sources, items, reader, cap)?,
+        None => Vec::new(alloc),
+    };
+    let mut kept = open_kept(rt, sources, err)?;
+    let items = {
+        let more = kept_set(alloc, sources, &mut kept.opened, cap)?;
+        joined_set(alloc, items, &more, sources, cap)?
+    };
+    let store = stored(rt, alloc, items)?;
+    let log = Log::of_store(alloc, accepted.cap(), store);
+    let set = ShardedSet::whole(alloc, log)?;
     Ok(Loaded {
         accepted,
         set,
         kept,
     })
-}
-
-/// The strategy in one file and the logs of the parts of the items in the others, or in the input: of the shards that
-/// are meant, or of the whole set. Up to four threads hash the items.
-///
-/// The strategy is judged first: 80, 30 to 35 or 29, then 37, 36 or 38, then 82 where its cap is below the number of
-/// shards. Then the items are: 80, 81, then 82 where a part has more different items than the cap; and then those of
-/// the file in which the set is kept, in the same way. Items of other shards are left out.
-pub fn load<'a, R, I: Read + Drop, E: Write>(
-    rt: &R,
-    sources: Sources<'a>,
-    sharding: Option<Sharding>,
-    reader: I,
-    err: &mut E,
-) -> Result<Loaded, Refusal<'a>>
-where
-    R: Files<File = File> + AllocGlobal + Threads + Clock + Sync,
-    ensures places { IfOk result (λ o. 2 ^ o.set.bits ≤ o.accepted.table.cap) }
-    ensures cap { IfOk result (λ o. o.set.cap ≡ o.accepted.table.cap) }
-    // What was loaded is what the texts say.
-    ensures loaded { IfOk result (λ o. IsLoadedFrom
-        (record { form = sources.entry.form; cap = o.accepted.table.cap; sharding = sharding }) (contents o.set.logs)) }
-{
-    let accepted = strategy_of(rt, sources.table, err)?;
-    let cut = Cut {
-        form: sources.form,
-        cap: accepted.cap() as usize,
-        sharding,
-    };
-    enough_places(&accepted, sources.table.path, cut.options().bits)?;
-    let mut screen = Screen::begin(rt, err, sources.shows && sharding.is_some());
-    let loaded = load_parts(sources, accepted, cut, reader, &mut screen);
-    screen.clear();
-    loaded
 }

@@ -18,32 +18,20 @@ use version_log::Log;
 pub struct Opening {
     /// The most items that a shard may have.
     pub cap: u32,
-    /// Whether there is one shard, whose items all threads hash.
-    pub is_one: bool,
     ghost room: { IsCap cap },
 }
 
 /// The log of a shard, whose list is let go.
-fn log_of<R: Threads + Sync>(
-    rt: &R,
-    alloc: Global,
-    opening: Opening,
-    items: Vec<Item>,
-) -> Result<Log<Tree>, AllocError>
+fn log_of(alloc: Global, opening: Opening, items: Vec<Item>) -> Result<Log<Tree>, AllocError>
     requires set { IsSet items.items }
     requires fits { length items.items ≤ opening.cap }
     ensures { IfOk result (λ l. l ≡ opened opening.cap items.items 1) }
 {
-    if opening.is_one {
-        let store = Tree::from_rising_on(rt, alloc, &items)?;
-        return Ok(Log::of_store(alloc, opening.cap, store));
-    }
     Log::of_set(alloc, opening.cap, &items)
 }
 
 /// The logs of these shards. Each list is let go as soon as its log is there.
-fn logs_of<R: Threads + Sync>(
-    rt: &R,
+fn logs_of(
     alloc: Global,
     opening: Opening,
     lists: Vec<Vec<Item>>,
@@ -53,7 +41,7 @@ fn logs_of<R: Threads + Sync>(
 {
     let mut logs = Vec::with_capacity(alloc, lists.len())?;
     for items in lists {
-        logs.push(log_of(rt, alloc, opening, items)?)?;
+        logs.push(log_of(alloc, opening, items)?)?;
     }
     Ok(logs)
 }
@@ -92,7 +80,7 @@ pub fn logs_by<R: Threads + Sync>(
     ensures { IfOk result (λ v. v.items ≡ opened_all opening.cap (held lists.items)) }
 {
     if halvings == 0 || lists.len() < 2 {
-        return logs_of(rt, alloc, opening, lists);
+        return logs_of(alloc, opening, lists);
     }
     let (front, back) = cut_in_two(lists)?;
     let less = halvings - 1;

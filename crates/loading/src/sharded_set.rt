@@ -66,8 +66,8 @@ fn sums_of(alloc: Global, logs: &[Log<Tree>]) -> Result<Vec<ShardSum>, AllocErro
 }
 
 impl ShardedSet {
-    /// The shards from `first` on of a set that is cut into 2 to the power of `bits`, of at most `cap` items each. Up
-    /// to four threads hash the items, and each list is let go as soon as its log is there.
+    /// The shards from `first` on of a set that is cut into 2 to the power of `bits`, of at most `cap` items each. They
+    /// are hashed by up to four threads, and each list is let go as soon as its log is there.
     pub fn of<R: Threads + Sync>(
         rt: &R,
         alloc: Global,
@@ -85,11 +85,25 @@ impl ShardedSet {
         ensures contents { IfOk result (λ s. contents s.logs ≡ held shards.items) }
     {
         shard_core::shard_laws::shards_make_the_set();
-        let is_one = shards.len() == 1;
-        let logs = logs_by(rt, alloc, Opening { cap, is_one }, shards, 2)?;
+        let logs = logs_by(rt, alloc, Opening { cap }, shards, 2)?;
         Ok(ShardedSet {
             bits,
             first,
+            cap,
+            logs,
+        })
+    }
+
+    /// A set that is not cut, with this log.
+    pub fn whole(alloc: Global, log: Log<Tree>) -> Result<ShardedSet, AllocError>
+        ensures { IfOk result (λ s. s ≡ record { bits = 0; first = 0; cap = log.cap; logs = log ∷ [] }) }
+    {
+        let cap = log.cap();
+        let mut logs = Vec::with_capacity(alloc, 1)?;
+        logs.push(log)?;
+        Ok(ShardedSet {
+            bits: 0,
+            first: 0,
             cap,
             logs,
         })

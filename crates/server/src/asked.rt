@@ -128,7 +128,7 @@ where
     let serving = Serving::asked(words, front_of(&target));
     let sources = Sources::of_server(words, target.explains, target.shows);
     if words.stdio {
-        let loaded = load(rt, sources, None, io::empty(), err)?;
+        let loaded = load(rt, sources, io::empty(), err)?;
         serve_stdio(rt, loaded, serving, (reader, outputs.out), err)
     } else {
         let Outputs { out, mut log } = outputs;

@@ -1,0 +1,259 @@
+//! What a side of sessions over shards begins with.
+
+ghost use Rattle.std.specs.Prelude.{◌≡◌, ◌<◌, ◌≤◌, ◌^◌, IfOk, OnOk};
+ghost use Rattle.shard_core.specs.Shards.{max_bits};
+ghost use Rattle.shard_core.specs.Splits.{held};
+ghost use Rattle.shard_core.specs.Spans.{AreKept};
+
+use crate::disk::Opened;
+use crate::loading::{Loaded, Sources, open_kept, strategy_of};
+use crate::sharded_set::ShardedSet;
+use crate::showing::{Screen, Shown};
+use io_core::Watched;
+use item_core::Item;
+use item_files::{LoadFault, LoadOptions, ReadFault, read_shards};
+use printing_core::{Refusal, STANDARD_INPUT};
+use settings_core::Sharding;
+use shard_core::{join_shards, shard_count};
+use std::alloc::Global;
+use std::fs::{File, OpenFile};
+use std::io::{ErrorKind, Read, Write};
+use std::rt::Files;
+use std::thread::Threads;
+use std::time::Clock;
+use std::{fs, io};
+use strategy_check::Accepted;
+
+/// Why a file is not read that was not opened, or not set to its start.
+fn unread(error: &io::Error) -> LoadFault {
+    match error.kind() {
+        ErrorKind::OutOfMemory => LoadFault::Memory,
+        _ => LoadFault::CannotRead(ReadFault::of(error)),
+    }
+}
+
+/// How many bytes a file has that is open, where that is known.
+fn size_of(file: &File) -> Option<u64> {
+    Some(file.metadata().ok()?.len())
+}
+
+/// The shards of the items of the file.
+fn file_shards<R: Files<File = File> + Clock + AllocGlobal, E: Write>(
+    path: &str,
+    options: LoadOptions,
+    screen: &mut Screen<'_, R, E>,
+) -> Result<Vec<Vec<Item>>, LoadFault>
+    requires low { options.bits ≤ max_bits }
+    requires span { (options.first ≤ options.last) × (options.last < 2 ^ options.bits) }
+    ensures { IfOk result (λ v. AreKept options.bits options.first options.last options.cap (held v.items)) }
+{
+    let rt = screen.rt();
+    match fs::open(rt, path) {
+        Ok(file) => {
+            let size = size_of(&file);
+            let reader = Shown::new(screen, file, size);
+            read_shards(rt.alloc(), &mut Watched::new(reader), options)
+        }
+        Err(error) => Err(unread(&error)),
+    }
+}
+
+/// The shards of the items of the input.
+fn input_shards<'a, R: Clock + AllocGlobal, I: Read + Drop, E: Write>(
+    reader: I,
+    options: LoadOptions,
+    screen: &mut Screen<'_, R, E>,
+) -> Result<Vec<Vec<Item>>, Refusal<'a>>
+    requires low { options.bits ≤ max_bits }
+    requires span { (options.first ≤ options.last) × (options.last < 2 ^ options.bits) }
+    ensures { IfOk result (λ v. AreKept options.bits options.first options.last options.cap (held v.items)) }
+{
+    let alloc = screen.rt().alloc();
+    let reader = Shown::new(screen, reader, None);
+    match read_shards(alloc, &mut Watched::new(reader), options) {
+        Ok(shards) => Ok(shards),
+        Err(fault) => Err(Refusal::of_shards_file(alloc, STANDARD_INPUT, options.cap, fault)),
+    }
+}
+
+/// The shards of the items of the file, or of the input; of no items, if neither is given. Else 80, 81, then 82, and
+/// 90.
+fn item_shards<'a, R: Files<File = File> + Clock + AllocGlobal, I: Read + Drop, E: Write>(
+    items: Option<&'a str>,
+    reader: I,
+    options: LoadOptions,
+    screen: &mut Screen<'_, R, E>,
+) -> Result<Vec<Vec<Item>>, Refusal<'a>>
+    requires low { options.bits ≤ max_bits }
+    requires span { (options.first ≤ options.last) × (options.last < 2 ^ options.bits) }
+    ensures { IfOk result (λ v. AreKept options.bits options.first options.last options.cap (held v.items)) }
+{
+    let alloc = screen.rt().alloc();
+    match items {
+        Some("-") => input_shards(reader, options, screen),
+        Some(path) => match file_shards(path, options, screen) {
+            Ok(shards) => Ok(shards),
+            Err(fault) => Err(Refusal::of_shards_file(alloc, path, options.cap, fault)),
+        },
+        None => input_shards(io::empty(), options, screen),
+    }
+}
+
+/// The shards of the items of a file that is open.
+fn reread_shards<R: Clock + AllocGlobal, E: Write>(
+    opened: &mut Opened,
+    options: LoadOptions,
+    screen: &mut Screen<'_, R, E>,
+) -> Result<Vec<Vec<Item>>, LoadFault>
+    requires low { options.bits ≤ max_bits }
+    requires span { (options.first ≤ options.last) × (options.last < 2 ^ options.bits) }
+    ensures { IfOk result (λ v. AreKept options.bits options.first options.last options.cap (held v.items)) }
+{
+    let alloc = screen.rt().alloc();
+    match opened.reader() {
+        Ok(reader) => {
+            let size = size_of(reader);
+            let reader = Shown::new(screen, reader, size);
+            read_shards(alloc, &mut Watched::new(reader), options)
+        }
+        Err(error) => Err(unread(&error)),
+    }
+}
+
+/// The shards of the items of both, of which the second are those of a file.
+fn joined_shards<R: Clock + AllocGlobal, E: Write>(
+    shards: Vec<Vec<Item>>,
+    opened: &mut Opened,
+    options: LoadOptions,
+    screen: &mut Screen<'_, R, E>,
+) -> Result<Vec<Vec<Item>>, LoadFault>
+    requires low { options.bits ≤ max_bits }
+    requires span { (options.first ≤ options.last) × (options.last < 2 ^ options.bits) }
+    requires own { AreKept options.bits options.first options.last options.cap (held shards.items) }
+    ensures { IfOk result (λ v. AreKept options.bits options.first options.last options.cap (held v.items)) }
+{
+    let more = reread_shards(opened, options, screen)?;
+    Ok(join_shards(shards, &more, options.first, options.cap)?)
+}
+
+/// The same with the shards of the file in which the set is kept, if there is one. Else 80, 81, then 82, and 90.
+fn with_kept<'a, R: Clock + AllocGlobal, E: Write>(
+    keep: Option<&'a str>,
+    opened: &mut Option<Opened>,
+    shards: Vec<Vec<Item>>,
+    options: LoadOptions,
+    screen: &mut Screen<'_, R, E>,
+) -> Result<Vec<Vec<Item>>, Refusal<'a>>
+    requires low { options.bits ≤ max_bits }
+    requires span { (options.first ≤ options.last) × (options.last < 2 ^ options.bits) }
+    requires own { AreKept options.bits options.first options.last options.cap (held shards.items) }
+    ensures { IfOk result (λ v. AreKept options.bits options.first options.last options.cap (held v.items)) }
+{
+    let Some(opened) = opened else {
+        return Ok(shards);
+    };
+    let alloc = screen.rt().alloc();
+    match joined_shards(shards, opened, options, screen) {
+        Ok(shards) => Ok(shards),
+        Err(fault) => Err(kept_refusal(alloc, keep, options.cap, fault)),
+    }
+}
+
+/// The refusal of the file in which the set is kept.
+fn kept_refusal<'a>(
+    alloc: Global,
+    keep: Option<&'a str>,
+    cap: usize,
+    fault: LoadFault,
+) -> Refusal<'a> {
+    Refusal::of_shards_file(alloc, keep.unwrap_or(STANDARD_INPUT), cap, fault)
+}
+
+/// Refuses a strategy whose cap is below the number of shards: of their entries there would be no directory.
+fn enough_places<'a>(accepted: &Accepted, table: &'a str, bits: u8) -> Result<(), Refusal<'a>>
+    requires { bits ≤ max_bits }
+    ensures { OnOk result (2 ^ bits ≤ accepted.now.table.cap) }
+{
+    if (accepted.cap() as usize) < shard_count(bits) {
+        return Err(Refusal::of_few_places(table, bits));
+    }
+    Ok(())
+}
+
+/// How many items all shards have.
+fn count_of(shards: &[Vec<Item>]) -> usize {
+    let mut count: usize = 0;
+    for shard in shards {
+        count = count.saturating_add(shard.len());
+    }
+    count
+}
+
+/// The logs of some shards of the items in the files, or in the input. Up to four threads hash the items. Else 80, 81,
+/// then 82, and 90.
+fn load_all<'a, R, I: Read + Drop, E: Write>(
+    sources: Sources<'a>,
+    accepted: Accepted,
+    options: LoadOptions,
+    reader: I,
+    screen: &mut Screen<'_, R, E>,
+) -> Result<Loaded, Refusal<'a>>
+where
+    R: Files<File = File> + AllocGlobal + Threads + Clock + Sync,
+    requires low { options.bits ≤ max_bits }
+    requires span { (options.first ≤ options.last) × (options.last < 2 ^ options.bits) }
+    requires cap { options.cap ≡ accepted.table.cap }
+    requires places { 2 ^ options.bits ≤ accepted.table.cap }
+    ensures places { IfOk result (λ o. 2 ^ o.set.bits ≤ o.accepted.table.cap) }
+    ensures cap { IfOk result (λ o. o.set.cap ≡ o.accepted.table.cap) }
+{
+    let rt = screen.rt();
+    let shards = item_shards(sources.items, reader, options, screen)?;
+    let mut kept = open_kept(rt, sources, screen.err())?;
+    let shards = with_kept(sources.keep, &mut kept.opened, shards, options, screen)?;
+    screen.hash(count_of(&shards));
+    let LoadOptions { bits, first, .. } = options;
+    let set = ShardedSet::of(rt, rt.alloc(), bits, first, accepted.cap(), shards)?;
+    Ok(Loaded {
+        accepted,
+        set,
+        kept,
+    })
+}
+
+/// The strategy in one file and the logs of some shards of the items in the others, or in the input. Up to four threads
+/// hash the items.
+///
+/// The strategy is judged first: 80, 30 to 35 or 29, then 37, 36 or 38, then 82 where its cap is below the number of
+/// shards. Then the items are: 80, 81, then 82 where a shard that is kept has more different items than the cap; and
+/// then those of the file in which the set is kept, in the same way. Items of other shards are left out.
+pub fn load_shards<
+    'a,
+    R: Files<File = File> + AllocGlobal + Threads + Clock + Sync,
+    I: Read + Drop,
+    E: Write,
+>(
+    rt: &R,
+    sources: Sources<'a>,
+    sharding: Sharding,
+    reader: I,
+    err: &mut E,
+) -> Result<Loaded, Refusal<'a>>
+    ensures places { IfOk result (λ o. 2 ^ o.set.bits ≤ o.accepted.table.cap) }
+    ensures cap { IfOk result (λ o. o.set.cap ≡ o.accepted.table.cap) }
+{
+    let accepted = strategy_of(rt, sources.table, err)?;
+    let Sharding { bits, first, last } = sharding;
+    enough_places(&accepted, sources.table.path, bits)?;
+    let options = LoadOptions {
+        form: sources.form,
+        bits,
+        first,
+        last,
+        cap: accepted.cap() as usize,
+    };
+    let mut screen = Screen::begin(rt, err, sources.shows);
+    let loaded = load_all(sources, accepted, options, reader, &mut screen);
+    screen.clear();
+    loaded
+}
