@@ -48,15 +48,9 @@ AreBounds lower upper = (length lower ≤ 64) × (length upper ≤ 64) × IsTrue
 -- 72 where a bound has more than 64 bytes, and else 73 where the lower one is not below the upper one
 abbrev pub IsNoRange : List ℕ → List ℕ → EmbeddedFault → Type 0
 IsNoRange lower upper (faults.Length lengths.TooLong) = (64 < length lower) ⊎ (64 < length upper)
-IsNoRange lower upper (faults.Length lengths.Empty) = ⊥
 IsNoRange lower upper faults.EmptyRange = (length lower ≤ 64) × (length upper ≤ 64)
     × IsFalse (is_below lower (upper_of upper))
-IsNoRange lower upper (faults.Strategy f) = ⊥
-IsNoRange lower upper (faults.Check f) = ⊥
-IsNoRange lower upper faults.Full = ⊥
-IsNoRange lower upper faults.BadItemLine = ⊥
-IsNoRange lower upper faults.TooManyItems = ⊥
-IsNoRange lower upper faults.Memory = ⊥
+IsNoRange lower upper f = ⊥
 
 abbrev pub newest : SetState → VersionState
 newest s = record { accepted = s.accepted; items = content s.history }
@@ -70,12 +64,7 @@ IsAnswer a (Ok true) = (version : ℕ) × (a ≡ New version)
 IsAnswer a (Ok false) = a ≡ Already
 IsAnswer a (Err faults.Full) = a ≡ Full
 IsAnswer a (Err faults.Memory) = (version : ℕ) × (a ≡ New version)
-IsAnswer a (Err (faults.Strategy f)) = ⊥
-IsAnswer a (Err (faults.Check f)) = ⊥
-IsAnswer a (Err (faults.Length f)) = ⊥
-IsAnswer a (Err faults.EmptyRange) = ⊥
-IsAnswer a (Err faults.BadItemLine) = ⊥
-IsAnswer a (Err faults.TooManyItems) = ⊥
+IsAnswer a (Err f) = ⊥
 
 -- a new item is in the set, and else nothing has changed
 abbrev pub Inserts : SetState → Item → SetState → Result Bool EmbeddedFault → Type 0
