@@ -1,5 +1,5 @@
 use Rattle.std.proofs.Common.{◌/◌}
-use Rattle.loading.proofs.Opened.{cut_sets, cut_opened}
+use Rattle.loading.proofs.OpenedLogs.{cut_sets, cut_opened}
 use Rattle.loading.proofs.logs.cut_in_two.Goals as goal
 
 pub returns-clause-sets : goal.returns-clause-sets

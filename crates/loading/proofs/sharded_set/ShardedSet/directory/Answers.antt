@@ -3,7 +3,7 @@ use Rattle.std.proofs.lemmas.Result.{IfOk-weaker}
 use Rattle.shard_core.specs.Directories.{sum_of}
 use Rattle.shard_core.specs.Spans.{span, span_shards, span_directory}
 use Rattle.loading.specs.Sharded.{Sharded, contents}
-use Rattle.loading.proofs.Opened.{sums_are, entries_many}
+use Rattle.loading.proofs.OpenedLogs.{sums_are, entries_many}
 use Rattle.loading.proofs.sharded_set.ShardedSet.directory.Goals as goal
 
 pub returns-clause-span : goal.returns-clause-span

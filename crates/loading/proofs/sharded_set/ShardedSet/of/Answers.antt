@@ -2,7 +2,7 @@ use Rattle.std.proofs.Common.{rules, ◌≡◌, ◌∙◌, ◌≤◌, ◌<◌, �
 use Rattle.std.proofs.lemmas.List.{length-map}
 use Rattle.shard_core.specs.Splits.{held}
 use Rattle.loading.specs.Sharded.{HaveCap, contents}
-use Rattle.loading.proofs.Opened.{listed, how_many, are_sets, have_cap, opened_many, contents_opened}
+use Rattle.loading.proofs.OpenedLogs.{listed, how_many, are_sets, have_cap, opened_many, contents_opened}
 use Rattle.loading.proofs.sharded_set.ShardedSet.of.Goals as goal
 
 pub logs_by-requires-clause-sets : goal.logs_by-requires-clause-sets
