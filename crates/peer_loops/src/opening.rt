@@ -40,7 +40,10 @@ fn open_over(
     if store.len() > accepted.cap() as usize {
         return Err(Parting::Refuses(WRONG_SET));
     }
-    Ok(hub.open(alloc, key, accepted, store, 0).unwrap_or(Ok(()))?)
+    match hub.open(alloc, key, accepted, store, 0) {
+        Some(Err(refused)) => Err(Parting::from(refused)),
+        Some(Ok(())) | None => Ok(()),
+    }
 }
 
 /// The directory that is kept; it is made first where there is none.
