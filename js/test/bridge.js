@@ -57,5 +57,6 @@ export async function bridgeTo(port) {
         browser.on("close", () => peer.end());
     });
     await new Promise((resolve) => server.listen(0, "127.0.0.1", resolve));
+    server.unref();
     return { port: server.address().port, close: () => server.close() };
 }

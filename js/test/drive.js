@@ -6,7 +6,8 @@
  *     {"finish": true}             the peer's bytes end
  *     {"judge": "cap = .."}        reads a strategy: its number, or its steps
  *
- * The answer to the first three is the session: what is due in hex, how it stands, and what was learned if it ended.
+ * The answer to the first three, which may stand in one line, is the session: what is due in hex, how it stands, and
+ * what was learned if it ended.
  */
 
 import { createInterface } from "node:readline";

@@ -24,6 +24,8 @@ async function listening(answers, given = {}) {
     const came = [];
     const server = createServer(given, (socket) => came.push(answers(socket).catch((fault) => fault)));
     await new Promise((resolve) => server.listen(0, "127.0.0.1", resolve));
+    // A test that fails before it closes the server is not to hold the process.
+    server.unref();
     const { port } = server.address();
     return { came, port, connect: () => connect(port, "127.0.0.1"), close: () => server.close() };
 }
