@@ -1,7 +1,8 @@
 -- Where the end of a message leads.
---     IsDue d result          by what was drafted
+--     IsTaking a              it is no refusal
+--     IsDue d result          by what was drafted; memory runs out only where nothing is refused
 --     IsClosed h result       by what was taken
-use Rattle.std.specs.Prelude.{◌≡◌, Result, Ok, Err, IfSome, if◌then◌else◌}
+use Rattle.std.specs.Prelude.{◌≡◌, Result, Ok, Err, IfSome, IfNone, if◌then◌else◌}
 use Rattle.definitions.specs.Ends.{Stage, Over, Spent, Answer, Replies, Ends, Refuses, stage_after_reply}
 use Rattle.definitions.specs.Taking.{ended, replies_or_refuses}
 use Rattle.ends_core.specs.EndStates.{EndState, stage_of, taken_of, none_at}
@@ -33,7 +34,7 @@ pub record IsAfter {F : Type 0} (s : own.Stage F) (a : Answer F) : Type 0 where
 
 abbrev pub IsDue : {F : Type 0} → Answer F → Result (own.Stage F) EndFault → Type 0
 IsDue a (Ok s) = IsAfter s a
-IsDue a (Err f) = IfSome (refusal_of f) (λ r. r ≡ a)
+IsDue {F} a (Err f) = IfSome (refusal_of f) (λ r. r ≡ a) × IfNone (refusal_of {F = F} f) (IsTaking a)
 
 abbrev pub IsClosed : {F : Type 0} → EndState F → Result (own.Stage F) EndFault → Type 0
 IsClosed h r = IsDue (ended h.taken) r

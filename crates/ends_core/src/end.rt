@@ -1,6 +1,6 @@
 //! What the two ends of a session share.
 
-ghost use Rattle.std.specs.Prelude.{◌≡◌, ◌≤◌, ◌<◌, true, false, length, IfSome, IfNone, IfErr, Err, OnOk};
+ghost use Rattle.std.specs.Prelude.{◌≡◌, ◌≤◌, ◌<◌, true, false, length, None, IfSome, IfNone, IfErr, Err, OnOk};
 ghost use Rattle.std.specs.Arc.{arc_value};
 ghost use Rattle.definitions.specs.Messages as messages;
 ghost use Rattle.definitions.specs.Placing as placing;
@@ -11,7 +11,7 @@ ghost use Rattle.ends_core.specs.EndStates.{IsAble, stage_of, taken_of};
 ghost use Rattle.ends_core.specs.Drafts.{nothing_drafted};
 ghost use Rattle.ends_core.specs.Turns.{answer_in, told_in, refusal_of, fresh, after_part, after_parts, after_end};
 ghost use Rattle.ends_core.specs.Turns.{after_message, refused, spend};
-ghost use Rattle.ends_core.specs.Closing.{IsClosed};
+ghost use Rattle.ends_core.specs.Closing.{IsClosed, IsTaking};
 ghost use Rattle.definitions.specs.Refusals.{spent};
 ghost use Rattle.definitions.specs.Talks.{nothing};
 
@@ -155,6 +155,8 @@ impl<S: RangeStore, F: Summary> End<S, F> {
         }) }
         ensures end { (self.new.steps ≡ self.old.steps) × (self.new.end ≡ self.old.end) }
         ensures memory { result ≡ Err EndFault.Memory → self.new ≡ self.old }
+        ensures decided { IfNone (told_in result)
+            (placing.refusal (placing.next self.old.taken.place part.now) ≡ None) }
         ensures dead { is_live self.old.end.stage ≡ false → self.new ≡ self.old }
     {
         match &mut self.stage {
@@ -191,6 +193,8 @@ impl<S: RangeStore, F: Summary> End<S, F> {
             (placing.next self.old.taken.place part.now)) }
         ensures after { IfSome (told_in result) (λ o. self.new ≡ after_part F.summary self.old part.now o) }
         ensures memory { IfNone (told_in result) (self.new ≡ self.old) }
+        ensures decided { IfNone (told_in result)
+            (placing.refusal (placing.next self.old.taken.place part.now) ≡ None) }
     {
         match self.take_on(alloc, part) {
             Ok(()) => Ok(()),
@@ -219,6 +223,7 @@ impl<S: RangeStore, F: Summary> End<S, F> {
         ensures answer { IfSome (answer_in result) (λ a. a ≡ ended self.old.taken) }
         ensures after { IfSome (answer_in result) (λ a. self.new ≡ after_end self.old a) }
         ensures memory { IfNone (answer_in result) (self.new ≡ self.old) }
+        ensures decided { IfNone (answer_in result) (IsTaking (ended self.old.taken)) }
     {
         let stage = match self.close(alloc) {
             Ok(stage) => stage,

@@ -1,6 +1,6 @@
 //! An end of a session.
 
-ghost use Rattle.std.specs.Prelude.{◌≡◌, ◌≤◌, ◌+◌, false, [], ◌∷◌, length, IfOk, IfErr, IfSome, IfNone};
+ghost use Rattle.std.specs.Prelude.{◌≡◌, ◌≤◌, ◌+◌, false, [], ◌∷◌, length, None, IfOk, IfErr, IfSome, IfNone};
 ghost use Rattle.std.specs.List.{IsDistinct};
 ghost use Rattle.std.specs.Arc.{arc_value};
 ghost use Rattle.definitions.specs.Items.{same_item, whole};
@@ -10,6 +10,7 @@ ghost use Rattle.definitions.specs.Ends as ends;
 ghost use Rattle.definitions.specs.Ends.{is_over};
 ghost use Rattle.definitions.specs.Placing as placing;
 ghost use Rattle.definitions.specs.Taking.{ended, by_parts};
+ghost use Rattle.ends_core.specs.Closing.{IsTaking};
 ghost use Rattle.ends_core.specs.EndStates.{HasNone};
 ghost use Rattle.ends_core.specs.Roles.{most_of};
 ghost use Rattle.ends_core.specs.Turns.{IsJudged, KeepsLimit, answer_in, told_in, fresh};
@@ -134,6 +135,9 @@ impl<R: Role, S: RangeStore, F: Summary> SessionEnd<R, S, F> {
             (placing.next self.old.taken.place part.now)) }
         ensures after { IfSome (told_in result) (λ o. self.new ≡ after_part F.summary self.old part.now o) }
         ensures memory { IfNone (told_in result) (self.new ≡ self.old) }
+        // Memory runs out only where the part is not refused.
+        ensures decided { IfNone (told_in result)
+            (placing.refusal (placing.next self.old.taken.place part.now) ≡ None) }
     {
         laws::talks::ends_stand_firm::<F>();
         laws::talks::ends_hear_on::<F>();
@@ -153,6 +157,8 @@ impl<R: Role, S: RangeStore, F: Summary> SessionEnd<R, S, F> {
         ensures answer { IfSome (answer_in result) (λ a. a ≡ ended self.old.taken) }
         ensures after { IfSome (answer_in result) (λ a. self.new ≡ after_end self.old a) }
         ensures memory { IfNone (answer_in result) (self.new ≡ self.old) }
+        // Memory runs out only where the message is not refused.
+        ensures decided { IfNone (answer_in result) (IsTaking (ended self.old.taken)) }
         ensures short { KeepsLimit self.old result }
     {
         laws::talks::ends_stand_firm::<F>();

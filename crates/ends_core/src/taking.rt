@@ -1,6 +1,6 @@
 //! Taking one part of a message.
 
-ghost use Rattle.std.specs.Prelude.{◌≡◌, ◌≤◌, false, length, Err, OnOk, IfSome};
+ghost use Rattle.std.specs.Prelude.{◌≡◌, ◌≤◌, false, length, Err, None, OnOk, IfSome, IfNone};
 ghost use Rattle.definitions.specs.Items.{Apart};
 ghost use Rattle.definitions.specs.Ends.{own_of};
 ghost use Rattle.definitions.specs.Messages as messages;
@@ -55,6 +55,7 @@ pub(crate) fn take_part<S: RangeStore, F: Summary>(
     }) (taken_at place.old draft.old) part.now) }
     ensures own { (place.new.first ≡ place.old.first) × (place.new.own ≡ place.old.own) }
     ensures memory { result ≡ Err EndFault.Memory → (place.new ≡ place.old) × (draft.new ≡ draft.old) }
+    ensures decided { IfNone (told_in result) (placing.refusal (placing.next place.old.now part.now) ≡ None) }
 {
     let before = place.cursor();
     place.next(part)?;

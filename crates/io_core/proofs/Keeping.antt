@@ -1,5 +1,5 @@
 -- What a file of lines keeps through each call, over plain values.
-use Rattle.std.proofs.Common.{◌≡◌, ◌∙◌, ℕ, ◌+◌, ◌-◌, ◌<◌, ◌≤◌, Bool, false, List, [], ◌++◌, length, take, drop, nat_lt}
+use Rattle.std.proofs.Common.{◌≡◌, ◌∙◌, ℕ, ◌+◌, ◌-◌, ◌≤◌, Bool, false, List, [], ◌++◌, length, take, drop, nat_lt}
 use Rattle.std.proofs.Common.{Option, Some, None, refl, sym, ap, subst, arith, rules, append_assoc, append-nil, ⊎_elim}
 use Rattle.std.proofs.Common.{take-append-drop}
 use Rattle.std.specs.Io.KnownBytes.{append_known}

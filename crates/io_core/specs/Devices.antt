@@ -8,7 +8,7 @@
 --     is_short r bytes               `append(bytes)` failed, or took fewer than all
 --     with_refusal count refused     the count after one call more
 --     Rises old new, Stays old new   the count is higher; it is as it was, or higher
-use Rattle.std.specs.Prelude.{◌≡◌, ℕ, ◌+◌, ◌<◌, ◌≤◌, Bool, true, false, nat_lt, List, length, take, Option, Some, None}
+use Rattle.std.specs.Prelude.{◌≡◌, ℕ, ◌+◌, ◌<◌, ◌≤◌, Bool, true, nat_lt, List, length, take, Option, Some, None}
 use Rattle.std.specs.Prelude.{Result, Ok, Err, MatchResult, if◌then◌else◌, ⊤, option_map}
 use Rattle.std.specs.Io.KnownBytes.{append_known}
 

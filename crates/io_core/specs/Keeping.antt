@@ -6,7 +6,7 @@
 --     MovesOn old new            some of what waited, in whole lines, went to the device, and the rest waits
 --     IsTooLong f                the device can't hold what it has and what waits: 2^64 bytes or more
 --     OpensWhole held            of a kept file the next opening sees only whole lines that were told, in order
-use Rattle.std.specs.Prelude.{◌≡◌, ℕ, ◌+◌, ◌<◌, ◌≤◌, ◌^◌, Bool, false, List, [], ◌++◌, length, take, drop, Option}
+use Rattle.std.specs.Prelude.{◌≡◌, ℕ, ◌+◌, ◌≤◌, ◌^◌, Bool, false, List, ◌++◌, length, take, drop, Option}
 use Rattle.std.specs.Prelude.{Some}
 use Rattle.std.specs.List.{AllByRecursion, concat}
 use Rattle.io_core.specs.Lines.{AreLines, IsLine, Splits, AreSomeOf}

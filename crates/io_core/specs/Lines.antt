@@ -8,7 +8,7 @@
 --     AreSomeOf base lines bytes   base, and the first few of the lines
 --     BeginningsAreWhole           a beginning of lines that were added one by one, cut after its last line feed, is
 --                                  the first few of these lines, and no part of one
-use Rattle.std.specs.Prelude.{◌≡◌, ◌≢◌, ℕ, ◌+◌, ◌-◌, ◌<◌, ◌≤◌, ◌==◌, List, [], ◌∷◌, ◌++◌, length, take, All}
+use Rattle.std.specs.Prelude.{◌≡◌, ◌≢◌, ℕ, ◌-◌, ◌<◌, ◌≤◌, ◌==◌, List, [], ◌∷◌, ◌++◌, length, take, All}
 use Rattle.std.specs.Prelude.{slice_index, count_by}
 use Rattle.std.specs.List.{AllByRecursion, concat}
 

@@ -191,6 +191,7 @@ impl<D: Device> LineFile<D> {
         ensures waits { self.new.waiting ≡ self.old.waiting }
         ensures size { self.new.whole_length ≡ self.old.whole_length }
         ensures clean { OnOk result (self.new.is_torn ≡ false) }
+        ensures whole { self.old.is_torn ≡ false → self.new ≡ self.old }
         ensures stays { Stays (D.refusals self.old.device) (D.refusals self.new.device) }
         ensures refused { OnErr result (Rises (D.refusals self.old.device) (D.refusals self.new.device)) }
     {

@@ -1,6 +1,6 @@
 //! Reading an input to its end.
 
-ghost use Rattle.std.specs.Prelude.{vec_len, ◌≡◌, ◌<◌, ◌≤◌, ◌⊎◌, ◌-◌, false, length, Err, IfOk, OnOk, IsTrue};
+ghost use Rattle.std.specs.Prelude.{vec_len, ◌≡◌, ◌<◌, ◌≤◌, ◌⊎◌, ◌-◌, false, length, Err, Some, IfOk, OnOk, IsTrue};
 ghost use Rattle.io_core.specs.Inputs.{WasRead, ReadsMore, IsTooLong};
 ghost use Rattle.io_core.specs.declared.input.InputFault.TheVariants as faults;
 ghost use Rattle.io_core.specs.declared.read_fault.ReadFault.{ReadFault};
@@ -51,7 +51,9 @@ fn read_more<R: Read>(
     ensures more { IfOk result (λ n. ReadsMore (R.remaining reader.old.inner) (R.remaining reader.new.inner)
         input.old.items input.new.items n) }
     ensures fine { OnOk result (reader.new.failed ≡ false) }
-    ensures unread { (f : ReadFault) → result ≡ Err (InputFault.CannotRead f) → IsTrue reader.new.failed }
+    ensures unread { (f : ReadFault) → result ≡ Err (InputFault.CannotRead f) →
+        IsTrue reader.new.failed × (reader.new.fault ≡ Some f) }
+    ensures memory { result ≡ Err InputFault.Memory → reader.new.failed ≡ false }
 {
     let count = match reader.read(chunk) {
         Ok(count) => count,
@@ -67,7 +69,9 @@ pub fn read_input<R: Read>(alloc: Global, reader: &mut Watched<R>) -> Result<Vec
     ensures input { IfOk result (λ v. WasRead (R.remaining reader.old.inner) (R.remaining reader.new.inner)
         reader.new.failed v.items) }
     ensures unread { (f : ReadFault) → result ≡ Err (InputFault.CannotRead f) →
-        IsTrue reader.new.failed ⊎ IsTooLong (R.remaining reader.old.inner) (R.remaining reader.new.inner) }
+        (IsTrue reader.new.failed × (reader.new.fault ≡ Some f))
+        ⊎ ((f ≡ ReadFault.TooLong) × IsTooLong (R.remaining reader.old.inner) (R.remaining reader.new.inner)) }
+    ensures memory { result ≡ Err InputFault.Memory → reader.new.failed ≡ false }
 {
     let mut input = Vec::new(alloc);
     let mut chunk = room_for(alloc, CHUNK)?;

@@ -22,7 +22,7 @@ pub enum ReadFault {
     #[error("this is a folder")]
     Folder,
     /// The process, or the system, may open no more files.
-    #[error("this process may open no more files")]
+    #[error("no more files can be opened")]
     NoMoreFiles,
     /// It is above the limit of an input.
     #[error("it has more than 16,777,216 bytes")]

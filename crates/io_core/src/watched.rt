@@ -1,20 +1,22 @@
-ghost use Rattle.std.specs.Prelude.{◌≡◌, ◌||◌, false, is_err};
+ghost use Rattle.std.specs.Prelude.{◌≡◌, ◌||◌, false, None, is_err};
 ghost use Rattle.std.specs.Io.{ReadsAtMost, WritesAtMost};
 ghost use Rattle.std.specs.Io.KnownBytes.{ReadConsumes, WriteAppends, Keeps};
-ghost use Rattle.io_core.specs.Watch.{failed_read, ended_read, failed_write, one_more};
+ghost use Rattle.io_core.specs.Watch.{failed_read, ended_read, failed_write, fault_read, one_more};
 
+use crate::read_fault::ReadFault;
 use std::io;
 use std::io::{Read, Write};
 use std::marker::Model;
 
-/// A reader or a writer that passes each call on, and tells whether one failed, whether the input ended, and how often
-/// it was read.
+/// A reader or a writer that passes each call on, and tells whether one failed, and why, whether the input ended, and
+/// how often it was read.
 #[derive(Debug, Drop)]
 pub struct Watched<T> {
     inner: T,
     failed: bool,
     ended: bool,
     reads: u64,
+    fault: Option<ReadFault>,
 }
 
 impl<T> Model for Watched<T> {
@@ -22,19 +24,20 @@ impl<T> Model for Watched<T> {
 
     ghost Value = { Watch T };
 
-    ghost view = { λ a. record { inner = a.inner; failed = a.failed; ended = a.ended; reads = a.reads } };
+    ghost view = { λ a. record { inner = a.inner; failed = a.failed; ended = a.ended; reads = a.reads; fault = a.fault } };
 }
 
 impl<T> Watched<T> {
     /// Nothing has failed or ended so far.
     pub fn new(inner: T) -> Watched<T>
-        ensures { result ≡ record { inner = inner; failed = false; ended = false; reads = 0 } }
+        ensures { result ≡ record { inner = inner; failed = false; ended = false; reads = 0; fault = None } }
     {
         Watched {
             inner,
             failed: false,
             ended: false,
             reads: 0,
+            fault: None,
         }
     }
 
@@ -59,6 +62,13 @@ impl<T> Watched<T> {
         self.reads
     }
 
+    /// Why the last read that failed did.
+    pub fn fault(&self) -> Option<ReadFault>
+        ensures { result ≡ self.now.fault }
+    {
+        self.fault
+    }
+
     /// The reader or writer itself.
     pub fn into_inner(self) -> T
         ensures { result ≡ self.inner }
@@ -68,6 +78,7 @@ impl<T> Watched<T> {
             failed: _,
             ended: _,
             reads: _,
+            fault: _,
         } = self;
         inner
     }
@@ -82,12 +93,16 @@ impl<R: Read> Read for Watched<R> {
         ensures failed { self.new.failed ≡ (self.old.failed || failed_read result) }
         ensures ended { self.new.ended ≡ (self.old.ended || ended_read result buf.new) }
         ensures reads { self.new.reads ≡ one_more self.old.reads }
+        ensures fault { self.new.fault ≡ fault_read self.old.fault result }
     {
         self.reads = self.reads.saturating_add(1);
         let result = self.inner.read(buf);
         match &result {
             Ok(count) => self.ended = self.ended || (*count == 0 && !buf.is_empty()),
-            Err(_) => self.failed = true,
+            Err(error) => {
+                self.failed = true;
+                self.fault = Some(ReadFault::of(error));
+            }
         }
         result
     }
@@ -102,6 +117,7 @@ impl<W: Write> Write for Watched<W> {
         ensures failed { self.new.failed ≡ (self.old.failed || failed_write result buf.now) }
         ensures ended { self.new.ended ≡ self.old.ended }
         ensures reads { self.new.reads ≡ self.old.reads }
+        ensures fault { self.new.fault ≡ self.old.fault }
     {
         let result = self.inner.write(buf);
         match &result {
@@ -116,6 +132,7 @@ impl<W: Write> Write for Watched<W> {
         ensures failed { self.new.failed ≡ (self.old.failed || is_err result) }
         ensures ended { self.new.ended ≡ self.old.ended }
         ensures reads { self.new.reads ≡ self.old.reads }
+        ensures fault { self.new.fault ≡ self.old.fault }
     {
         let result = self.inner.flush();
         self.failed = self.failed || result.is_err();

@@ -22,7 +22,7 @@ impl EmptyRange {
 }
 
 /// The items from the lower bound on and before the upper one.
-#[derive(Clone, Copy, Debug, PartialEq, Eq, PartialOrd, Ord, Hash)]
+#[derive(Clone, Copy, Debug, PartialEq, Eq, Hash)]
 pub struct Range {
     lower: Lower,
     upper: Upper,

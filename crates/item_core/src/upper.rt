@@ -8,7 +8,7 @@ ghost use Rattle.item_core.specs.declared.upper.Upper.TheVariants.{Before};
 use crate::item::{Item, LengthFault};
 
 /// The upper bound of a range: an item, which the range does not hold, or the end, after every item.
-#[derive(Clone, Copy, Debug, PartialEq, Eq, PartialOrd, Ord, Hash)]
+#[derive(Clone, Copy, Debug, PartialEq, Eq, Hash)]
 pub enum Upper {
     /// Before this item.
     Before(Item),

@@ -40,3 +40,4 @@ pub mod Kept
 pub mod Paid
 pub mod Spelled
 pub mod Meeting
+pub mod Spreading

@@ -358,11 +358,11 @@ absorb_claim S exact w k s a x found ended clear short either =
 -- ---- one node
 
 -- the history has x
-abbrev HasItem : Item → History → Type 0
+abbrev pub HasItem : Item → History → Type 0
 HasItem x h = has (items_of h) x ≡ true
 
 -- some node's history has x
-abbrev SomeHas : Item → World → Type 0
+abbrev pub SomeHas : Item → World → Type 0
 SomeHas x w = (m : ℕ) × HasItem x (node_at w m).history
 
 or_false : (a : Bool) → (a || false) ≡ true → a ≡ true
@@ -460,7 +460,7 @@ HasItem-step : {F : Type 0} (S : Summary F) (x : Item) (w : World) (e : Step) (m
     HasItem x (node_at (step S w e).0 m).history → SomeHas x w ⊎ (inserts x e ≡ true)
 HasItem-step S x w e m h = grind (arith, HasItem-insert_at, slice_get, slice_index_or, HasItem-absorb_side)
 
-HasItem-run : {F : Type 0} (S : Summary F) (x : Item) (w : World) (steps : List Step) (m : ℕ) →
+pub HasItem-run : {F : Type 0} (S : Summary F) (x : Item) (w : World) (steps : List Step) (m : ℕ) →
     HasItem x (node_at (run S w steps) m).history → SomeHas x w ⊎ (list_any (inserts x) steps ≡ true)
 HasItem-run S x w [] m h = inl (m, h)
 HasItem-run S x w (e ∷ es) m h =

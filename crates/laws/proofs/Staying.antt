@@ -54,19 +54,26 @@ extends_all cap h xs = extends_fold cap (record { history = h; added = 0; full =
 -- ==== Worlds whose histories grow
 
 -- v has the versions of w
-record Grows (w v : World) : Type 0 where
-  count : length v.nodes ≡ length w.nodes
-  longer : (n : ℕ) → length (node_at w n).history ≤ length (node_at v n).history
-  same : (n u : ℕ) → u ≤ length (node_at w n).history → peer_at v n u ≡ peer_at w n u
+pub record Grows (w v : World) : Type 0 where
+  pub count : length v.nodes ≡ length w.nodes
+  pub longer : (n : ℕ) → length (node_at w n).history ≤ length (node_at v n).history
+  pub same : (n u : ℕ) → u ≤ length (node_at w n).history → peer_at v n u ≡ peer_at w n u
 
 -- nothing is changed in nodes
-same_nodes : (w v : World) → v.nodes ≡ w.nodes → Grows w v
+pub same_nodes : (w v : World) → v.nodes ≡ w.nodes → Grows w v
 same_nodes w v e = record {
   count = ap length e;
   longer = λ n. let same : node_at v n ≡ node_at w n = ap (λ ns. slice_index_or ns n no_node) e in
       omega (arith, ap (λ m. length m.history) same);
   same = λ n u l.
       ap (λ ns. let m = slice_index_or ns n no_node in record { table = m.table; items = version m.history u }) e;
+}
+
+pub grows_on : (w v u : World) → Grows w v → Grows v u → Grows w u
+grows_on w v u a b = record {
+  count = b.count ∙ a.count;
+  longer = λ n. omega (arith, a.longer n, b.longer n);
+  same = λ n m l. b.same n m (omega (arith, l, a.longer n)) ∙ a.same n m l;
 }
 
 -- a node with a longer history in the place of one
@@ -212,6 +219,9 @@ step_stays S w (Insert n x) = insert_stays w n x (slice_get w.nodes n) refl
 step_stays S w (Open i r) = open_stays w i r (slice_get w.nodes i) (slice_get w.nodes r)
 step_stays S w (Deliver k) = deliver_stays S w k (slice_get w.sessions k)
 step_stays S w (Absorb k side) = absorb_stays S w side (slice_get w.sessions k)
+
+pub step_grows : {F : Type 0} (S : Summary F) (w : World) (e : Step) → Grows w (step S w e).0
+step_grows S w e = (step_stays S w e).grows
 
 pub sessions_stay : {F : Type 0} (S : Summary F) → SessionsStay S
 sessions_stay S w e =

@@ -11,3 +11,4 @@ pub mod Ranks
 pub mod Codec
 pub mod Parts
 pub mod Meeting
+pub mod Spreading

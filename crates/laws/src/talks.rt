@@ -24,6 +24,7 @@ ghost use Rattle.laws.specs.Hearing.{OwnIsFew, OwnIsShort};
 ghost use Rattle.laws.specs.Sessions.{SessionsOpen, SessionsGoOn, SessionsStay, SessionsKeepNodes, SessionsTell};
 ghost use Rattle.laws.specs.Meeting.{TwoSessionsMeet, EndedCallsWriteAll};
 ghost use Rattle.laws.specs.Sizes.{CountsTellSizes};
+ghost use Rattle.laws.specs.Spreading.{SpreadClaim, UnionClaim};
 ghost use Rattle.laws.specs.Weaker.{InitiatorStopsAnyhow, ResponderStopsAnyhow, ListsAreShortAnyhow};
 ghost use Rattle.laws.specs.Weaker.{KnowledgeIsExactAnyhow, PartsAreFewAnyhow, count_summary, blind, wary};
 
@@ -389,6 +390,19 @@ pub fn history_claim<F>()
 #[tactic(auto, using(crate::proofs::Runs::absorb_claim))]
 pub fn absorb_claim<F>()
     ensures { (S : Summary F) → AbsorbClaim S }
+{}
+
+/// An item travels along sessions, each of which is opened after the last one was absorbed.
+/// docs/LAWS.md: *Spread*.
+pub fn spread_claim<F>()
+    ensures { (S : Summary F) → SpreadClaim S }
+{}
+
+/// Where each node reaches each one along such sessions, all end with all items, and with no others.
+/// docs/LAWS.md: *Spread*.
+#[tactic(auto, using(crate::proofs::Spreading::union_claim))]
+pub fn union_claim<F>()
+    ensures { (S : Summary F) → UnionClaim S }
 {}
 
 /// A session has ended after 513 deliveries.

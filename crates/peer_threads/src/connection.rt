@@ -1,6 +1,6 @@
 //! Both ways of a connection.
 
-ghost use Rattle.std.specs.Prelude.{◌≡◌, false};
+ghost use Rattle.std.specs.Prelude.{◌≡◌, false, None};
 
 use io_core::Watched;
 
@@ -16,8 +16,8 @@ pub struct Connection<R, W> {
 impl<R, W> Connection<R, W> {
     /// Nothing was read or written so far.
     pub fn new(reader: R, writer: W) -> Connection<R, W>
-        ensures reader { result.reader ≡ record { inner = reader; failed = false; ended = false; reads = 0 } }
-        ensures writer { result.writer ≡ record { inner = writer; failed = false; ended = false; reads = 0 } }
+        ensures reader { result.reader ≡ record { inner = reader; failed = false; ended = false; reads = 0; fault = None } }
+        ensures writer { result.writer ≡ record { inner = writer; failed = false; ended = false; reads = 0; fault = None } }
     {
         Connection {
             reader: Watched::new(reader),

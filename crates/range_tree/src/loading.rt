@@ -74,6 +74,7 @@ fn leaves_by<R: Threads + Sync>(
     items: &[Item],
     halvings: u32,
 ) -> Result<Vec<Arc<Leaf>>, AllocError>
+    requires { halvings ≤ 2 }
     ensures { IfOk result (λ held. AreLeavesOf items.now held.items) }
 {
     if halvings == 0 || items.len() < FEW {
@@ -84,11 +85,11 @@ fn leaves_by<R: Threads + Sync>(
     let (first, second) = join(
         rt,
         || -> Result<Vec<Arc<Leaf>>, AllocError>
-            requires { IsSync R.row }
+            requires { IsSync R.row × (less ≤ 2) }
             ensures { IfOk result (λ held. AreLeavesOf front.entry.now held.items) }
         { leaves_by(rt, alloc, front, less) },
         || -> Result<Vec<Arc<Leaf>>, AllocError>
-            requires { IsSync R.row }
+            requires { IsSync R.row × (less ≤ 2) }
             ensures { IfOk result (λ held. AreLeavesOf back.entry.now held.items) }
         { leaves_by(rt, alloc, back, less) },
     );

@@ -4,9 +4,9 @@ use Rattle.std.proofs.Common.{◌≡◌, ◌≢◌, ◌≤◌, ℕ, List, Result
 use Rattle.std.specs.Arc.{arc_value}
 use Rattle.strategy_check.specs.Checked.{Checked}
 use Rattle.item_files.specs.declared.form.ItemForm.{ItemForm}
-use Rattle.embedded_core.specs.Faults.{embedded_fault_number}
-use Rattle.embedded_core.specs.SetStates.{SetState, IsSetFrom, IsNoSet}
-use Rattle.embedded_core.specs.declared.fault.EmbeddedFault.{EmbeddedFault}
+use Rattle.rangesync_c.specs.Faults.{embedded_fault_number}
+use Rattle.rangesync_c.specs.SetStates.{SetState, IsSetFrom, IsNoSet}
+use Rattle.rangesync_c.specs.declared.fault.EmbeddedFault.{EmbeddedFault}
 use Rattle.rangesync_c.specs.Meaning.{IfStrategy, IsRefusal, IsNoSetIn, form_number}
 use Rattle.rangesync_c.specs.declared.held.Thing.{Thing}
 use Rattle.rangesync_c.specs.declared.held.Thing.TheVariants as things

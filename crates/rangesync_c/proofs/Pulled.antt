@@ -7,9 +7,9 @@ use Rattle.std.proofs.lemmas.List.{length-take, take_min}
 use Rattle.definitions.specs.Fingerprints.{Summary, two_lanes, counted_lanes}
 use Rattle.definitions.specs.Wire.{Profile, two_lane_profile, counted_profile}
 use Rattle.session_core.specs.Sessions.{SessionState, Knows, Takes, due}
-use Rattle.embedded_core.specs.SessionStates.{Changes, MakesDue, TakesOff, Pulls, ready_of, due_of}
-use Rattle.embedded_core.specs.declared.any_session.AnySession.{AnySession}
-use Rattle.embedded_core.specs.declared.any_session.AnySession.TheVariants.{First, Second, FirstCounted, SecondCounted}
+use Rattle.rangesync_c.specs.SessionStates.{Changes, MakesDue, TakesOff, Pulls, ready_of, due_of}
+use Rattle.rangesync_c.specs.declared.any_session.AnySession.{AnySession}
+use Rattle.rangesync_c.specs.declared.any_session.AnySession.TheVariants.{First, Second, FirstCounted, SecondCounted}
 use Rattle.rangesync_c.specs.Meaning.{IfSession, IsSession}
 use Rattle.rangesync_c.specs.declared.held.Thing.{Thing}
 use Rattle.rangesync_c.specs.declared.held.Thing.TheVariants as things

@@ -18,10 +18,10 @@ use Rattle.std.specs.Arc.{arc_value}
 use Rattle.strategy_check.specs.Checked.{Checked}
 use Rattle.definitions.specs.Items.{Item}
 use Rattle.definitions.specs.Histories.{insertion}
-use Rattle.embedded_core.specs.SetStates.{SetState, VersionState, IsNoSet, IsAnswer}
-use Rattle.embedded_core.specs.Faults.{embedded_fault_number}
-use Rattle.embedded_core.specs.declared.fault.EmbeddedFault.{EmbeddedFault}
-use Rattle.embedded_core.specs.declared.any_session.AnySession.{AnySession}
+use Rattle.rangesync_c.specs.SetStates.{SetState, VersionState, IsNoSet, IsAnswer}
+use Rattle.rangesync_c.specs.Faults.{embedded_fault_number}
+use Rattle.rangesync_c.specs.declared.fault.EmbeddedFault.{EmbeddedFault}
+use Rattle.rangesync_c.specs.declared.any_session.AnySession.{AnySession}
 use Rattle.ends_core.specs.declared.side.Side.{Side}
 use Rattle.ends_core.specs.declared.side.Side.TheVariants as sides
 use Rattle.item_files.specs.declared.profile.WireProfile.{WireProfile}

@@ -4,8 +4,9 @@ ghost use Rattle.std.specs.Prelude.{◌≡◌, ◌≢◌, Option, Some};
 ghost use Rattle.rangesync_c.specs.declared.held.Thing.{Thing};
 ghost use Rattle.rangesync_c.specs.Owned.{held_owns, slot_owns};
 
+use crate::any_session::AnySession;
 use crate::loose::Loose;
-use embedded_core::{AnySession, Set, Version};
+use crate::set::{Set, Version};
 use std::alloc::Global;
 use std::marker::Model;
 use std::sync::Arc;

@@ -2,7 +2,7 @@
 
 ghost use Rattle.std.specs.Prelude.{◌≡◌, ◌≢◌, ◌≤◌, ◌<◌, ◌⊎◌, true, Some, None, Err, IfOk, IfErr};
 ghost use Rattle.std.specs.Prelude.{length, take, slice_get};
-ghost use Rattle.embedded_core.specs.SessionStates.{learned_in, state_in};
+ghost use Rattle.rangesync_c.specs.SessionStates.{learned_in, state_in};
 ghost use Rattle.session_core.specs.declared.state.State.TheVariants as states;
 ghost use Rattle.rangesync_c.specs.Meaning.{IfSession, no_session, IsNoPlace};
 

@@ -2,14 +2,19 @@
 //! not there, or 99 for a handle of another kind; where it is not 0, no handle was made.
 #![tactic(auto)]
 
+mod any_session;
+mod between;
 mod codes;
+mod fault;
 mod held;
 mod items;
 mod learned;
 mod loose;
 mod sessions;
+mod set;
 mod sets;
 mod strategies;
+mod strategy;
 mod versions;
 
 use held::Held;

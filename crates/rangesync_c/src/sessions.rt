@@ -2,18 +2,19 @@
 
 ghost use Rattle.std.specs.Prelude.{◌≡◌, ◌≢◌, ◌≤◌, ◌<◌, ◌⊎◌, true, false, Ok, Err};
 ghost use Rattle.std.specs.Prelude.{IsSomeAnd, IfOk, IfErr, IfSome, IfNone, length, take, drop, min};
-ghost use Rattle.embedded_core.specs.SessionStates.{Opens, Changes, PushesTo, Finishes, MakesDue, TakesOff, Pulls};
-ghost use Rattle.embedded_core.specs.SessionStates.{ready_of, due_of, state_in, bound_of, sent_by};
+ghost use Rattle.rangesync_c.specs.SessionStates.{Opens, Changes, PushesTo, Finishes, MakesDue, TakesOff, Pulls};
+ghost use Rattle.rangesync_c.specs.SessionStates.{ready_of, due_of, state_in, bound_of, sent_by};
 ghost use Rattle.session_core.specs.Sessions.{is_open};
 ghost use Rattle.rangesync_c.specs.Meaning.{IfVersion, IfSession, IsSession, no_version, no_session};
 ghost use Rattle.rangesync_c.specs.Meaning.{side_number, profile_number, state_number, state_code};
 ghost use Rattle.rangesync_c.specs.Meaning.{NamesBoth, NamesNone, IsUnopened};
 
+use crate::any_session::AnySession;
 use crate::codes::{FINE, MEMORY, NOT_THERE, OTHER_KIND};
 use crate::held::{Held, Slot, Thing, thing_out};
 use core::mem::replace_with;
-use embedded_core::{AnySession, WireProfile};
 use ends_core::Side;
+use item_files::WireProfile;
 use std::alloc::{AllocError, Global};
 
 /// The role of a number: 0 speaks first, 1 is spoken to first.

@@ -2,18 +2,19 @@
 
 ghost use Rattle.std.specs.Prelude.{◌≡◌, ◌≢◌, ◌<◌, ◌≤◌, ◌⊎◌, true, Ok, Err, IsSomeAnd, IfOk, IfErr, IfSome, IfNone};
 ghost use Rattle.std.specs.Prelude.{length};
-ghost use Rattle.embedded_core.specs.SetStates.{newest, with_item, IsSetFrom, IsAnswer};
+ghost use Rattle.rangesync_c.specs.SetStates.{newest, with_item, IsSetFrom, IsAnswer};
 ghost use Rattle.std.specs.Arc.{arc_value};
 ghost use Rattle.definitions.specs.Histories.{insertion};
-ghost use Rattle.embedded_core.specs.Faults.{embedded_fault_number};
+ghost use Rattle.rangesync_c.specs.Faults.{embedded_fault_number};
 ghost use Rattle.rangesync_c.specs.Meaning.{IfStrategy, IfSet, IsSet, IsVersion, no_strategy, no_set, form_number};
 ghost use Rattle.rangesync_c.specs.Meaning.{IsNoSetIn, IsItemLength, IsNotPut};
 
 use crate::codes::{FINE, MEMORY, NOT_THERE, OTHER_KIND};
+use crate::fault::EmbeddedFault;
 use crate::held::{Held, Slot, Thing, thing_out};
 use crate::items::item_of;
+use crate::set::{Set, Version};
 use core::mem::replace_with;
-use embedded_core::{EmbeddedFault, Set, Version};
 use item_files::ItemForm;
 use std::alloc::Global;
 use std::sync::Arc;

@@ -2,12 +2,13 @@
 
 ghost use Rattle.std.specs.Prelude.{◌≡◌, ◌≢◌, Ok, IsSomeAnd, IsOkAnd, IfOk, IfErr};
 ghost use Rattle.std.specs.Arc.{arc_value};
-ghost use Rattle.embedded_core.specs.Faults as faults;
-ghost use Rattle.embedded_core.specs.Faults.{embedded_fault_number};
+ghost use Rattle.rangesync_c.specs.Faults as faults;
+ghost use Rattle.rangesync_c.specs.Faults.{embedded_fault_number};
 ghost use Rattle.rangesync_c.specs.Meaning.{IsStrategy, IsRefusal};
 
+use crate::fault::EmbeddedFault;
 use crate::held::{Slot, Thing, thing_out};
-use embedded_core::{EmbeddedFault, read_strategy};
+use crate::strategy::read_strategy;
 use std::alloc::Global;
 use std::sync::Arc;
 use strategy_check::Accepted;

@@ -3,15 +3,15 @@
 ghost use Rattle.std.specs.Prelude.{◌≡◌, ◌≢◌, ◌≤◌, ◌<◌, ◌⊎◌, true, Ok, Err, Some, None, IfOk, IfErr};
 ghost use Rattle.std.specs.Prelude.{length, take, slice_get};
 ghost use Rattle.definitions.specs.Sets.{has, items_in};
-ghost use Rattle.embedded_core.specs.SetStates.{between, AreBounds, IsNoRange};
+ghost use Rattle.rangesync_c.specs.SetStates.{between, AreBounds, IsNoRange};
 ghost use Rattle.rangesync_c.specs.Meaning.{IfVersion, no_version};
 ghost use Rattle.rangesync_c.specs.Meaning.{IsItemLength, IsItemFault, IsNumberOf, IsNoPlace};
 
+use crate::between::range_between;
 use crate::codes::{FINE, NOT_THERE, OTHER_KIND};
 use crate::held::{Held, Thing};
 use crate::items::{item_of, write_item};
 use core::mem::replace_with;
-use embedded_core::range_between;
 use item_core::Item;
 
 /// How many items a version has.

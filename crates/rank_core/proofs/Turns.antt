@@ -14,7 +14,7 @@ use Rattle.definitions.specs.Climbs.{climbing_end, find_steps}
 use Rattle.definitions.specs.Ranks.{IsLeastRankTable, IsServing, ranks_by}
 use Rattle.laws.specs.Ranks.{IsGradual}
 use Rattle.strategy_core.specs.Acts.{greatest}
-use Rattle.rank_core.specs.Refused.{Finds, Climbs}
+use Rattle.rank_core.specs.Refused.{FindsSo, Climbs}
 use Rattle.rank_core.specs.declared.fault.RankFault.TheVariants.{NoDescent, BadCertificate}
 use Rattle.rank_core.specs.declared.fault.RankError.{RankError}
 use Rattle.rank_core.specs.declared.fault.RankError.TheVariants as errors
@@ -154,7 +154,7 @@ found_tells T steps e =
     from (first_stuck T) refl e
 
 pub find_fails : (T : Table) (k : ℕ) (steps : List ℕ) (e : RankError) → find_steps T ≡ found T → k + 1 ≤ T.cap →
-    Climbs {A = Unit {0}} (Err e) steps (climb_to T (k + 1)) → Finds (Err e) (found T)
+    Climbs {A = Unit {0}} (Err e) steps (climb_to T (k + 1)) → FindsSo (Err e) (found T)
 find_fails T k steps errors.Memory law h climbs = tt
 find_fails T k steps (errors.Fault (NoDescent m)) law h climbs = sym law ∙ found_stuck T (k + 1) m climbs h
 find_fails T k steps (errors.Fault (BadCertificate m)) law h climbs = climbs

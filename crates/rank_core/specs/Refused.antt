@@ -1,9 +1,11 @@
 -- What the calls return, beside what the definitions say.
 --     fault_number f             the number of a fault
---     Finds, Brings, Fits        the same ranks or the same fault, unless memory ran out
+--     Finds, Brings, Fits        the same ranks or the same fault, unless memory ran out; of Finds that is only where
+--                                there are ranks
+--     FindsSo                    as Finds, but that memory may run out anyhow
 --     Climbs                     the same for one turn of the loop
 --     IsCutting                  the number of some shares, and the greatest
-use Rattle.std.specs.Prelude.{◌≡◌, ℕ, List, length, Option, Some, None, Result, Ok, Err, ⊤}
+use Rattle.std.specs.Prelude.{◌≡◌, ℕ, List, length, Option, Some, None, Result, Ok, Err, IsOk, ⊤}
 use Rattle.strategy_core.specs.Acts.{greatest}
 use Rattle.strategy_core.specs.declared.act.Cutting.{Cutting}
 use Rattle.definitions.specs.Climbs.{Climbing, Stuck_at, At}
@@ -20,9 +22,13 @@ fault_number (BadCertificate count) = codes.bad_certificate
 -- the staircase that was found, or the count that is stuck
 abbrev pub Finds : Result (List ℕ) RankError → Result (List ℕ) ℕ → Type 0
 Finds (Ok steps) found = found ≡ Ok steps
-Finds (Err errors.Memory) found = ⊤
+Finds (Err errors.Memory) found = IsOk found
 Finds (Err (errors.Fault (NoDescent count))) found = found ≡ Err count
 Finds (Err (errors.Fault (BadCertificate count))) found = ⊥
+
+abbrev pub FindsSo : Result (List ℕ) RankError → Result (List ℕ) ℕ → Type 0
+FindsSo (Err errors.Memory) found = ⊤
+FindsSo r found = Finds r found
 
 -- the staircase that was brought, or the entry that is wrong
 abbrev pub Brings : Result (List ℕ) RankError → List ℕ → Option ℕ → Type 0

@@ -1,7 +1,7 @@
-ghost use Rattle.std.specs.Prelude.{◌≡◌, ◌-◌, ◌≤◌, ◌<◌, ℕ, List, length, slice_index, IfOk};
+ghost use Rattle.std.specs.Prelude.{◌≡◌, ◌-◌, ◌≤◌, ◌<◌, ℕ, List, length, slice_index, Err, IfOk};
 ghost use Rattle.definitions.specs.Ranks.{IsRankTable, IsLeastRankTable, IsStaircase, IsServing, rank_by, ranks_by};
 ghost use Rattle.definitions.specs.Ranks.{steps_fault, first_unfit, is_unfit, found};
-ghost use Rattle.rank_core.specs.Refused.{Finds, Brings, Fits};
+ghost use Rattle.rank_core.specs.Refused.{Finds, FindsSo, Brings, Fits};
 
 use crate::climb::{climb, parts};
 use crate::fault::{RankError, RankFault};
@@ -27,13 +27,22 @@ impl Model for Ranks {
     ghost invariant = { λ a. IsStaircase a.steps.items };
 }
 
+/// Why there are no ranks where memory ran out: 36 if a count is cut into fewer than two shares.
+fn without_memory(strategy: &Strategy) -> RankError
+    ensures { Finds (Err result) (found strategy.now) }
+{
+    for count in 0..strategy.cap() + 1 {
+        if parts(strategy, count).is_none() {
+            return RankError::Fault(RankFault::NoDescent { count });
+        }
+    }
+    RankError::Memory
+}
+
 impl Ranks {
-    /// The least ranks of the counts up to the strategy's cap.
-    ///
-    /// Else 36 with the least count that is cut into fewer than two shares; there are no ranks then. Memory may run
-    /// out before that.
-    pub fn find(alloc: Global, strategy: &Strategy) -> Result<Ranks, RankError>
-        ensures exact { Finds result (found strategy.now) }
+    /// The ranks that `find` returns, or why there are none; memory may run out before 36.
+    fn climb_all(alloc: Global, strategy: &Strategy) -> Result<Ranks, RankError>
+        ensures exact { FindsSo result (found strategy.now) }
         ensures least { IfOk result (λ steps. IsLeastRankTable strategy.now (ranks_by steps strategy.now.cap)) }
         ensures serving { IfOk result (λ steps. IsServing strategy.now steps) }
     {
@@ -50,6 +59,20 @@ impl Ranks {
         }
         steps.push(strategy.cap())?;
         Ok(Ranks { steps })
+    }
+
+    /// The least ranks of the counts up to the strategy's cap.
+    ///
+    /// Else 36 with the least count that is cut into fewer than two shares, and 90 only where there is no such count.
+    pub fn find(alloc: Global, strategy: &Strategy) -> Result<Ranks, RankError>
+        ensures exact { Finds result (found strategy.now) }
+        ensures least { IfOk result (λ steps. IsLeastRankTable strategy.now (ranks_by steps strategy.now.cap)) }
+        ensures serving { IfOk result (λ steps. IsServing strategy.now steps) }
+    {
+        match Ranks::climb_all(alloc, strategy) {
+            Err(RankError::Memory) => Err(without_memory(strategy)),
+            found => found,
+        }
     }
 
     /// The ranks of this staircase.

@@ -6,7 +6,7 @@ use Rattle.std.proofs.Common.{drop, min, refl, sym, ap, subst, ◌∙◌, arith,
 use Rattle.std.proofs.Common.{Option, Some, None, Ok, Err, Result, option_map}
 use Rattle.std.specs.Prelude.{nat_lt, nat_le, bytes_eq, if◌then◌else◌}
 use Rattle.std.specs.Io.KnownBytes.{Consumes, Keeps, IsAtEnd, ReadConsumes, prepend_known}
-use Rattle.std.proofs.KnownBytes.{Keeps-trans}
+use Rattle.std.proofs.KnownBytes.{Keeps-trans, Consumes-trans, Consumes-kept}
 use Rattle.std.proofs.lemmas.List.{take-append-le, drop-append-le, drop_all, get_or_append_left}
 use Rattle.std.proofs.lemmas.List.{take-append-drop, drop-drop}
 use Rattle.std.proofs.lemmas.List.{length-append}
@@ -16,6 +16,7 @@ use Rattle.shard_core.specs.declared.selector.Which.{Which}
 use Rattle.shard_core.specs.Selectors.{mark, selector_text, which_number}
 use Rattle.std.specs.Int.{w16, to_be_bytes}
 use Rattle.shard_core.specs.Fronts.{FrontState, is_marked, marked_length, front_length, after_front, wanted, passed_on}
+use Rattle.shard_core.specs.Fronts.{ComesOn}
 
 enough : (n ml : ℕ) (marked : Bool) →
     (if nat_lt n 4 then 4 else if marked then (if nat_lt n 5 then 5 else ml) else 0) ≤ n →
@@ -182,3 +183,36 @@ other_bytes bytes e = ap (λ c. drop (if c then marked_length bytes else 0) byte
 pub nothing_before : (unread : Option (List ℕ)) → prepend_known [] unread ≡ unread
 nothing_before None = refl
 nothing_before (Some x) = refl
+
+-- ---- what came of the front stays
+
+alone : (first came : List ℕ) (a b : Option (List ℕ)) (so : ComesOn first came a b []) → Consumes a b so.more
+alone first came a b so = subst (Consumes a b) (append-nil so.more) so.read
+
+pub comes_on : (first old new bytes : List ℕ) (a b c : Option (List ℕ)) → ComesOn first old a b [] →
+    new ≡ old ++ bytes → Consumes b c bytes → ComesOn first new a c []
+comes_on first old new bytes a b c so came read = record {
+  more = so.more ++ bytes;
+  stays = came ∙ ap (λ l. l ++ bytes) so.stays ∙ append_assoc first so.more bytes;
+  read = subst (Consumes a c) (sym (append-nil (so.more ++ bytes)))
+      (Consumes-trans a b c so.more bytes (alone first old a b so) read);
+}
+
+pub reads_after : {E : Type 0} (first came : List ℕ) (a b c : Option (List ℕ)) (r : Result ℕ E) (buf : List ℕ) →
+    ComesOn first came a b [] → ReadConsumes b c r buf → (after : List ℕ) × ComesOn first came a c after
+reads_after first came a b c (Ok n) buf so read = (
+  take n buf,
+  record {
+    more = so.more;
+    stays = so.stays;
+    read = Consumes-trans a b c so.more (take n buf) (alone first came a b so) read.0;
+  },
+)
+reads_after first came a b c (Err e) buf so read = (
+  [],
+  record {
+    more = so.more;
+    stays = so.stays;
+    read = Consumes-kept a b c (so.more ++ []) so.read read;
+  },
+)

@@ -8,8 +8,9 @@
 --     chosen ds first last          who is asked for which of the shards from one number to another
 --     AreBelow n asks               who is asked is one of n servers
 --     HasOne ds s                   one server alone has it
---     IsUnchosen ds first last e    a fault that is not for memory names the first shard that no server has, or two
-use Rattle.std.specs.Prelude.{◌≡◌, ⊤, ℕ, ◌+◌, ◌<◌, ◌≤◌, Bool, not, ◌&&◌, ◌==◌, List, [], ◌∷◌, length, map, filter}
+--     IsUnchosen ds first last e    a fault names the first shard that no server has, or two; memory runs out only where
+--                                   each shard up to the one that it ran out at is had by one alone
+use Rattle.std.specs.Prelude.{◌≡◌, ℕ, ◌+◌, ◌<◌, ◌≤◌, Bool, not, ◌&&◌, ◌==◌, List, [], ◌∷◌, length, map, filter}
 use Rattle.std.specs.Prelude.{flat_map}
 use Rattle.std.specs.Prelude.{is_some, get_or, if◌then◌else◌, Vec, Option, Some, None}
 use Rattle.std.specs.declared.alloc.Global.{Global}
@@ -68,7 +69,7 @@ HaveOne ds first s = (t : ℕ) → first ≤ t → t < s → HasOne ds t
 abbrev pub IsUnheld : List (List Unequal) → ℕ → ChoiceFault → Type 0
 IsUnheld ds s (NoServer n) = (n ≡ s) × (holders ds s ≡ [])
 IsUnheld ds s (TwoServers n) = (n ≡ s) × (2 ≤ length (holders ds s))
-IsUnheld ds s Memory = ⊤
+IsUnheld ds s Memory = HasOne ds s
 
 abbrev pub IsUnchosen : List (List Unequal) → ℕ → ℕ → ChoiceFault → Type 0
 IsUnchosen ds first last e = (s : ℕ) × (first ≤ s) × (s ≤ last) × HaveOne ds first s × IsUnheld ds s e

@@ -5,9 +5,10 @@
 --     FrontState                   the bytes that were read of the front, how many of them are not passed on any more,
 --                                  and whether all of it was read
 --     passed_on came passed whole unread      what is passed on of these bytes and of all that come
-use Rattle.std.specs.Prelude.{ℕ, ◌+◌, Bool, List, ◌++◌, length, take, drop, get_or, nat_le, nat_lt}
+--     ComesOn old new unread left after       more of the front came, which was read before these bytes
+use Rattle.std.specs.Prelude.{◌≡◌, ℕ, ◌+◌, Bool, List, ◌++◌, length, take, drop, get_or, nat_le, nat_lt}
 use Rattle.std.specs.Prelude.{bytes_eq, Option, option_map, if◌then◌else◌}
-use Rattle.std.specs.Io.KnownBytes.{prepend_known}
+use Rattle.std.specs.Io.KnownBytes.{prepend_known, Consumes}
 use Rattle.shard_core.specs.Selectors.{mark}
 
 abbrev pub is_marked : List ℕ → Bool
@@ -39,3 +40,8 @@ abbrev pub passed_on : {R : Type 0} → FrontState R → Option (List ℕ) → O
 passed_on s unread =
     if s.whole then prepend_known (drop s.passed s.came) unread
     else option_map (λ bytes. after_front (s.came ++ bytes)) unread
+
+pub record ComesOn (old new : List ℕ) (unread left : Option (List ℕ)) (after : List ℕ) : Type 0 where
+  pub more : List ℕ
+  pub stays : new ≡ old ++ more
+  pub read : Consumes unread left (more ++ after)

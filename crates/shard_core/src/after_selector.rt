@@ -2,11 +2,12 @@
 
 ghost use Rattle.std.specs.Prelude.{◌≡◌, ◌+◌, ◌<◌, ◌≤◌, ◌++◌, ◌⊎◌, ℕ, List, [], true, false, length, take, Some};
 ghost use Rattle.std.specs.Prelude.{OnOk, OnErr, IfOk, Option};
-ghost use Rattle.std.specs.Io.KnownBytes.{Consumes, IsAtEnd, Keeps};
+ghost use Rattle.std.specs.Io.{ReadsAtMost};
+ghost use Rattle.std.specs.Io.KnownBytes.{Consumes, IsAtEnd, Keeps, ReadConsumes};
 ghost use Rattle.arrayvec.specs.ArrayVec.{array_vec_len};
 ghost use Rattle.shard_core.specs.Selectors.{selector_text};
 ghost use Rattle.shard_core.specs.declared.selector.Which.{Which as Whichever};
-ghost use Rattle.shard_core.specs.Fronts.{front_length, marked_length, is_marked, wanted, passed_on};
+ghost use Rattle.shard_core.specs.Fronts.{front_length, marked_length, is_marked, wanted, passed_on, ComesOn};
 
 use crate::selector::{MARK, MAX_NAME, rest};
 use arrayvec::ArrayVec;
@@ -180,6 +181,7 @@ impl<R: Read> AfterSelector<R> {
         ensures whole { OnOk result (self.new.whole ≡ true) }
         ensures kept { Keeps (passed_on self.old (R.remaining self.old.inner))
             (passed_on self.new (R.remaining self.new.inner)) }
+        ensures came { ComesOn self.old.came self.new.came (R.remaining self.old.inner) (R.remaining self.new.inner) [] }
     {
         'front: while self.read_more()? > 0 {}
         self.passed = front_length(&self.came).min(self.came.len());
@@ -192,6 +194,7 @@ impl<R: Read> AfterSelector<R> {
         ensures whole { OnOk result (self.new.whole ≡ true) }
         ensures kept { Keeps (passed_on self.old (R.remaining self.old.inner))
             (passed_on self.new (R.remaining self.new.inner)) }
+        ensures came { ComesOn self.old.came self.new.came (R.remaining self.old.inner) (R.remaining self.new.inner) [] }
     {
         if self.is_whole {
             return Ok(());
@@ -208,6 +211,7 @@ impl<R: Read> AfterSelector<R> {
             (take result buf.new) }
         ensures some { result ≡ 0 → length buf.new ≡ 0 }
         ensures inner { self.new.inner ≡ self.old.inner }
+        ensures came { self.new.came ≡ self.old.came }
         ensures room { length buf.new ≡ length buf.old }
     {
         let kept = rest(&self.came, self.passed);
@@ -221,7 +225,14 @@ impl<R: Read> AfterSelector<R> {
 impl<R: Read> Read for AfterSelector<R> {
     ghost remaining = { λ s. passed_on s (R.remaining s.inner) };
 
-    fn read(&mut self, buf: &mut [u8]) -> io::Result<usize> {
+    fn read(&mut self, buf: &mut [u8]) -> io::Result<usize>
+        ensures bound { ReadsAtMost result buf.new }
+        ensures bytes { ReadConsumes (passed_on self.old (R.remaining self.old.inner))
+            (passed_on self.new (R.remaining self.new.inner)) result buf.new }
+        // What came of the front stays, and was read of the input before all else.
+        ensures came { (after : List ℕ) × ComesOn self.old.came self.new.came (R.remaining self.old.inner)
+            (R.remaining self.new.inner) after }
+    {
         self.make_whole()?;
         if self.passed == self.came.len() {
             return self.inner.read(buf);

@@ -2,7 +2,7 @@
 --     fault_number f             the number of a fault
 --     fault_of f, error_of e     a fault as the definitions have it; an error of ranks as one of the check
 --     Finds, Checks, ChecksWith  what is accepted, or the same fault, unless memory ran out
-use Rattle.std.specs.Prelude.{◌≡◌, ℕ, List, Option, Some, None, Result, Ok, Err}
+use Rattle.std.specs.Prelude.{◌≡◌, ℕ, List, Option, Some, None, Result, Ok, Err, IsOk}
 use Rattle.definitions.specs.Strategies.{Table}
 use Rattle.definitions.specs.Ranks as ranks
 use Rattle.definitions.specs.Ranks.{check_fault, check_with_fault, first_long, found}
@@ -33,9 +33,9 @@ error_of rank_errors.Memory = errors.Memory
 error_of (rank_errors.Fault (rank_faults.NoDescent count)) = errors.Fault (NoDescent count)
 error_of (rank_errors.Fault (rank_faults.BadCertificate count)) = errors.Fault (BadCertificate count)
 
--- the reason why the table is refused; memory runs out only where no row lists past the limit
+-- the reason why the table is refused; memory runs out only where no row lists past the limit, and there are ranks
 abbrev pub Refuses : CheckError → Table → Type 0
-Refuses errors.Memory T = first_long T ≡ None
+Refuses errors.Memory T = (first_long T ≡ None) × IsOk (found T)
 Refuses (errors.Fault f) T = check_fault T ≡ Some (fault_of f)
 
 -- the least ranks of a table that is accepted

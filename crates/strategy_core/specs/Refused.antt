@@ -2,8 +2,8 @@
 --     fault_number f             the number of a fault
 --     error_in_row n e           the error in the row of this number
 --     GivesField, Gives          the same value or the same fault, unless memory ran out
---     Opens, Reads               the table of a text, and the strategy
-use Rattle.std.specs.Prelude.{◌≡◌, ℕ, List, Some, String, Result, Ok, Err, ⊤}
+--     Opens, Reads               the table of a text, and the strategy; memory may run out of UTF-8 alone
+use Rattle.std.specs.Prelude.{◌≡◌, ℕ, List, Some, String, Result, Ok, Err, IsUtf8, ⊤}
 use Rattle.std.specs.BTreeMap.{BTreeMap}
 use Rattle.std.specs.declared.alloc.Global.{Global}
 use Rattle.toml.specs.View.{table_view}
@@ -48,11 +48,11 @@ abbrev pub Opens : Result (BTreeMap (String Global) Value) StrategyError → Lis
 Opens (Ok table) text = IsDocument text (table_view table)
 Opens (Err errors.NotToml) text = IsText text → ⊥
 Opens (Err (errors.Fault flaw)) text = ⊥
-Opens (Err errors.Memory) text = ⊤
+Opens (Err errors.Memory) text = IsUtf8 text
 
 -- the strategy of a text, or the fault of its table, or that there is none
 abbrev pub Reads : Result Table StrategyError → List ℕ → Type 0
 Reads (Ok T) text = IsTextOf text (Ok T)
 Reads (Err errors.NotToml) text = IsText text → ⊥
 Reads (Err (errors.Fault flaw)) text = IsTextOf text (Err flaw)
-Reads (Err errors.Memory) text = ⊤
+Reads (Err errors.Memory) text = IsUtf8 text

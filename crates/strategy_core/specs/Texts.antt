@@ -177,6 +177,14 @@ apart_from (Some n) bounds = in_row n (Err (whole BadBounds))
 
 -- ---- a strategy
 
+-- the array of rows, if what stands in front of them is right; no memory is needed for this
+abbrev pub rows_at : Members → Result Items StrategyFlaw
+rows_at ms = do
+  cap ← number_at ms fields.Cap 1 65536
+  limit ← number_at ms fields.Limit 0 cap
+  rounds ← number_at ms fields.Rounds 0 255
+  entries_at ms
+
 abbrev pub table_in : Members → Result Table StrategyFlaw
 table_in ms = do
   cap ← number_at ms fields.Cap 1 65536

@@ -1,11 +1,11 @@
 //! What a TOML table says of a strategy, test by test.
 
-ghost use Rattle.std.specs.Prelude.{◌≡◌, ◌≤◌, IfOk, None, length, option_map};
+ghost use Rattle.std.specs.Prelude.{◌≡◌, ◌≤◌, IfOk, IsOk, Err, None, length, option_map};
 ghost use Rattle.toml.specs.View.{table_view, view, array_view};
 ghost use Rattle.toml.specs.Data.{get_member, as_table};
 ghost use Rattle.strategy_core.specs.Texts.{IsDocument, IsText, key_of, member_at, number_in, number_at, weights_in};
 ghost use Rattle.strategy_core.specs.Texts.{array_in, few_in, split_in, list_in, peel_in, act_at, row_in, upto_in};
-ghost use Rattle.strategy_core.specs.Texts.{rows_in, entries_at, last_upto, bounds_in, bounds_at, table_in};
+ghost use Rattle.strategy_core.specs.Texts.{rows_in, entries_at, last_upto, bounds_in, bounds_at, rows_at, table_in};
 ghost use Rattle.strategy_core.specs.Texts.{row_says_bounds, bounds_row};
 ghost use Rattle.strategy_core.specs.Refused.{Gives, GivesField, Opens};
 ghost use Rattle.strategy_core.specs.Rules.{act_of, bounds_of};
@@ -34,11 +34,14 @@ const MAX_WEIGHT: u32 = 1_024;
 /// The most items that a row cuts off the front.
 const MAX_FRONT: u32 = 65_536;
 
-/// The table that a TOML text is. Else 30.
+/// The table that a TOML text is. Else 30; memory may run out before that where the bytes are UTF-8.
 pub fn document(alloc: Global, text: &[u8]) -> Result<Table, StrategyError>
     ensures { Opens result text.now }
 {
-    match toml::table_from_slice(alloc, text) {
+    let Ok(text) = std::str::from_utf8(text) else {
+        return Err(StrategyError::NotToml);
+    };
+    match toml::table_from_str(alloc, text) {
         Ok(table) => Ok(table),
         Err(error) if error.is_memory() => Err(StrategyError::Memory),
         Err(_) => Err(StrategyError::NotToml),
@@ -265,7 +268,8 @@ fn bounds_row(entries: &Array) -> Option<usize>
 
 /// The strategy of a table, or the first fault.
 pub fn strategy_of(alloc: Global, table: &Table) -> Result<Strategy, StrategyError>
-    ensures { Gives (λ strategy. strategy) result (table_in (table_view table.now)) }
+    ensures table { Gives (λ strategy. strategy) result (table_in (table_view table.now)) }
+    ensures memory { result ≡ Err StrategyError.Memory → IsOk (rows_at (table_view table.now)) }
 {
     let cap = number(table, Field::Cap, 1, MAX_CAP)?;
     let limit = number(table, Field::Limit, 0, cap)?;

@@ -1,10 +1,10 @@
-ghost use Rattle.std.specs.Prelude.{◌≡◌, ◌<◌, ◌≤◌, length, sum, take, slice_get, Some, option_map};
+ghost use Rattle.std.specs.Prelude.{◌≡◌, ◌<◌, ◌≤◌, length, sum, take, slice_get, Some, Err, IsOk, option_map};
 ghost use Rattle.toml.specs.View.{table_view};
 ghost use Rattle.definitions.specs.Strategies.{IsTable, act, shares, width};
 ghost use Rattle.strategy_core.specs.Acts.{kind_of, greatest, outline};
 ghost use Rattle.strategy_core.specs.Refused.{Gives, Reads};
 ghost use Rattle.strategy_core.specs.Rules.{bounds_of};
-ghost use Rattle.strategy_core.specs.Texts.{table_in};
+ghost use Rattle.strategy_core.specs.Texts.{rows_at, table_in};
 
 use crate::act::{Act, Cutting};
 use crate::bounds::Bounds;
@@ -52,7 +52,7 @@ impl Strategy {
     /// The strategy of a TOML text.
     ///
     /// Else 30 where the bytes are no TOML, or the fault of its table, 29 or 31 to 35; memory may run out before any of
-    /// these.
+    /// these, if the bytes are UTF-8.
     pub fn read(alloc: Global, text: &[u8]) -> Result<Strategy, StrategyError>
         ensures { Reads result text.now }
     {
@@ -62,9 +62,11 @@ impl Strategy {
 
     /// The strategy of a TOML table. Keys other than the strategy's own are ignored.
     ///
-    /// Else the first fault, 29 or 31 to 35; memory may run out before any of these.
+    /// Else the first fault, 29 or 31 to 35; memory may run out before one that is in the rows, or that is found after
+    /// them.
     pub fn from_table(alloc: Global, table: &Table) -> Result<Strategy, StrategyError>
-        ensures { Gives (λ strategy. strategy) result (table_in (table_view table.now)) }
+        ensures table { Gives (λ strategy. strategy) result (table_in (table_view table.now)) }
+        ensures memory { result ≡ Err StrategyError.Memory → IsOk (rows_at (table_view table.now)) }
     {
         strategy_of(alloc, table)
     }

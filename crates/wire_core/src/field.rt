@@ -1,7 +1,7 @@
 //! Reading the fields of a body. Each reader takes a field off the front of the bytes and gives its value, or the
 //! fault.
 
-ghost use Rattle.std.specs.Prelude.{◌≡◌, ◌≤◌, ◌*◌, length, None, IfOk};
+ghost use Rattle.std.specs.Prelude.{◌≡◌, ◌≤◌, ◌*◌, [], length, vec_capacity, None, IfOk};
 ghost use Rattle.std.specs.Option.{option_copied};
 ghost use Rattle.definitions.specs.Reading as reading;
 ghost use Rattle.definitions.specs.Faults as faults;
@@ -11,7 +11,7 @@ ghost use Rattle.wire_core.specs.Readers.{byte_at};
 
 use crate::fault::{DecodeError, WireFault};
 use item_core::{Item, Lower, Range, Upper};
-use std::alloc::Global;
+use std::alloc::{AllocError, Global};
 
 /// So many bytes.
 pub fn take_bytes<'a>(bytes: &mut &'a [u8], count: usize) -> Result<&'a [u8], WireFault>
@@ -135,12 +135,13 @@ pub fn take_item<'a>(
     Ok(text)
 }
 
-/// How many items the bytes can hold at most, of those counted: an item takes two bytes at least. So a count alone
+/// Room for so many items, but for no more than the bytes can hold: an item takes two bytes at least. So a count alone
 /// makes nobody take memory.
-fn room_for(bytes: &[u8], count: u32) -> usize
-    ensures few { 2 * result ≤ length bytes.now }
+fn room_for(alloc: Global, bytes: &[u8], count: u32) -> Result<Vec<Item>, AllocError>
+    ensures none { IfOk result (λ items. items.items ≡ []) }
+    ensures few { IfOk result (λ items. 2 * vec_capacity items ≤ length bytes.now) }
 {
-    bytes.len().min(2 * count as usize) / 2
+    Vec::with_capacity(alloc, bytes.len().min(2 * count as usize) / 2)
 }
 
 /// So many items, which rise and lie in the range.
@@ -152,7 +153,7 @@ pub fn take_items(
 ) -> Result<Vec<Item>, DecodeError>
     ensures { Gives (λ x. (x.items, bytes.new.now)) result (reading.items_at range.now count None bytes.old.now) }
 {
-    let mut items: Vec<Item> = Vec::with_capacity(alloc, room_for(bytes, count))?;
+    let mut items = room_for(alloc, bytes, count)?;
     let mut before: Option<&[u8]> = None;
     'each: for _ in 0..count {
         let text = take_item(bytes, range, before)?;

@@ -5,15 +5,16 @@ use Rattle.definitions.proofs.Words.{AllByRecursion, World, Session, Node, Step,
 use Rattle.definitions.proofs.Words.{HistoryClaim, AbsorbClaim, CostClaim, CostsLittle, SessionsEnd, deliveries}
 use Rattle.definitions.proofs.Words.{has_ended, KnowledgeIsSound, KnowsNothingWrong, IsSound, IsSet, Item, set_of}
 use Rattle.definitions.proofs.Words.{node_at, items_of, messages, initiator_of, responder_of, initiator_knows}
-use Rattle.definitions.proofs.Words.{responder_knows, talk}
+use Rattle.definitions.proofs.Words.{responder_knows, talk, has}
 use Rattle.definitions.proofs.Lemmas.{All-both, fold-append}
 use Rattle.definitions.specs.Worlds as worlds
 use Rattle.definitions.specs.Fingerprints.{Summary}
 use Rattle.laws.specs.Turns.{TalksBegin}
+use Rattle.laws.specs.Spreading.{SpreadClaim}
 use Rattle.world_core.specs.declared.session.RunSession as live
 use Rattle.world_core.specs.Live.{IsRunning, world_of}
 use Rattle.world_core.specs.Runs.{Came, LearnsNothingWrong, Holds, ComesFrom, HasItemsOfRuns, EndsByDeliveries}
-use Rattle.world_core.specs.Runs.{AbsorbsAll}
+use Rattle.world_core.specs.Runs.{AbsorbsAll, SpreadsIn}
 
 module _ {F : Type 0} (S : Summary F) where
   -- what is learned so far is what is learned of the talk so far
@@ -70,6 +71,15 @@ module _ {F : Type 0} (S : Summary F) where
   -- and each item of it is one of whatever run made it
   pub items_of_runs : HistoryClaim S → (w : World) → HasItemsOfRuns S w
   items_of_runs law w = λ nodes steps e. subst (ComesFrom nodes steps) (sym e) (law nodes steps)
+
+  -- what travels along the last steps arrives
+  pub spreads_in : SpreadClaim S → IsExact S → (nodes : List Node) (steps : List Step) (w : World) →
+      w ≡ run S (start nodes) steps → SpreadsIn S nodes steps w
+  spreads_in law exact nodes steps w is before along from to x parts r here =
+      let u : World = run S (start nodes) before in
+      let same : w ≡ run S u along =
+      is ∙ ap (run S (start nodes)) (sym parts) ∙ fold-append (λ v e. (step S v e).0) (start nodes) before along in
+      subst (λ v. has (items_of (node_at v to).history) x ≡ true) (sym same) (law exact u along from to x r here)
 
   -- and deliveries end each session of it
   pub ends_by : SessionsEnd S → IsExact S → (w : World) → Came S w → EndsByDeliveries S w

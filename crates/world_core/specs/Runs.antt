@@ -4,10 +4,11 @@
 --     LearnsBoth S w s, LearnsNothingWrong S w s, HasFewParts S w s
 --     Holds S w s                  these six
 --     ComesFrom nodes steps w      where the items of the histories come from
+--     SpreadsIn S nodes steps w    an item that travels along some of the steps arrives
 --     HasItemsOfRuns S w           they come from whatever run made the world
 --     EndsByDeliveries S w         deliveries end each session
 --     AbsorbsAll S w e v           an ended session that was absorbed below the cap
-use Rattle.std.specs.Prelude.{◌≡◌, ℕ, ◌<◌, ◌≤◌, ◌||◌, ◌⊎◌, List, length, slice_get, Some, IsTrue, ⊤}
+use Rattle.std.specs.Prelude.{◌≡◌, ℕ, ◌<◌, ◌≤◌, ◌||◌, ◌⊎◌, ◌++◌, List, length, slice_get, Some, IsTrue, ⊤}
 use Rattle.std.specs.List.{AllByRecursion, list_any}
 use Rattle.definitions.specs.Items.{Item}
 use Rattle.definitions.specs.Sets.{has}
@@ -17,6 +18,7 @@ use Rattle.definitions.specs.Ranks.{IsRankTable}
 use Rattle.definitions.specs.Talks.{IsClear}
 use Rattle.definitions.specs.Theorems.{rank, CostsLittle, KeepLimits, KnowsDifference, KnowsNothingWrong, IsNode}
 use Rattle.definitions.specs.Theorems.{inserts, node_of, deliveries}
+use Rattle.laws.specs.Spreading.{Reaches}
 use Rattle.definitions.specs.Worlds as worlds
 use Rattle.definitions.specs.Worlds.{World, Node, Session, node_at, messages, has_ended, initiator_of, responder_of}
 use Rattle.definitions.specs.Worlds.{initiator_knowledge, responder_knowledge, message_bound, report_of, run, start}
@@ -72,6 +74,12 @@ pub record Holds {F : Type 0} (S : Summary F) (w : World) (s : Session) : Type 0
 abbrev pub ComesFrom : List Node → List worlds.Step → World → Type 0
 ComesFrom nodes steps w = (n : ℕ) (x : Item) → IsTrue (has (items_of (node_at w n).history) x) →
     IsTrue (list_any (λ m. has (items_of m.history) x) nodes) ⊎ IsTrue (list_any (inserts x) steps)
+
+-- an item that a node has before some of the steps, and that travels along these to another one, is there in the end
+abbrev pub SpreadsIn : {F : Type 0} → Summary F → List Node → List worlds.Step → World → Type 0
+SpreadsIn S nodes steps w = (before along : List worlds.Step) (from to : ℕ) (x : Item) → before ++ along ≡ steps →
+    let u = run S (start nodes) before in Reaches S u along from to →
+    IsTrue (has (items_of (node_at u from).history) x) → IsTrue (has (items_of (node_at w to).history) x)
 
 -- whatever nodes and steps made the world, each item of a history is one of theirs
 abbrev pub HasItemsOfRuns : {F : Type 0} → Summary F → World → Type 0

@@ -10,7 +10,7 @@ ghost use Rattle.definitions.specs.Sets.{set_of};
 ghost use Rattle.world_core.specs.Reports.{knowledge_of, report_of};
 ghost use Rattle.world_core.specs.Runs.{HasFewMessages, IsWithinBound, KeepsLimits, LearnsBoth, LearnsNothingWrong};
 ghost use Rattle.world_core.specs.Runs.{HasFewParts, Holds, Came, ComesFrom, HasItemsOfRuns, EndsByDeliveries};
-ghost use Rattle.world_core.specs.Runs.{AbsorbsAll};
+ghost use Rattle.world_core.specs.Runs.{AbsorbsAll, SpreadsIn};
 ghost use Rattle.world_core.specs.Steps.{did_of, side_of, step_of, added_in, absorbed_at, absorbing, AbsorbsSome};
 ghost use Rattle.world_core.specs.Steps.{IsCutShort};
 
@@ -299,7 +299,7 @@ fn run_steps<F: Summary>(
 /// it is longer than its sender's limit; nothing wrong is learned, and once it has ended, where no unequal compared
 /// ranges share a fingerprint, both differences. No message has more parts than the widths of both tables allow for
 /// each item that only one of the two versions has, or one. Each item of a history was there at the start, or was
-/// inserted.
+/// inserted. An item travels along sessions, each opened after the last one was absorbed by a node below its cap.
 pub fn run<F: Summary>(alloc: Global, setup: &Setup, steps: &[Step]) -> Result<World<F>, AllocError>
     ensures world { IfOk result (λ w. w ≡ worlds.run F.summary (worlds.start setup.now) (map step_of steps.now)) }
     ensures few { IfOk result (λ w. AllByRecursion (HasFewMessages F.summary w) w.sessions) }
@@ -309,7 +309,9 @@ pub fn run<F: Summary>(alloc: Global, setup: &Setup, steps: &[Step]) -> Result<W
     ensures sound { IfOk result (λ w. AllByRecursion (LearnsNothingWrong F.summary w) w.sessions) }
     ensures cost { IfOk result (λ w. AllByRecursion (HasFewParts F.summary w) w.sessions) }
     ensures items { IfOk result (λ w. ComesFrom setup.now (map step_of steps.now) w) }
+    ensures spread { IfOk result (λ w. SpreadsIn F.summary setup.now (map step_of steps.now) w) }
 {
+    laws::talks::spread_claim::<F>();
     let world = run_steps(alloc, setup, steps)?;
     let _ = world.sessions(); // proof only: what holds of each session
     Ok(world)

@@ -1,5 +1,6 @@
 use Rattle.std.proofs.Common.{◌≡◌, length, inr, ap, arith, rules}
 use Rattle.std.proofs.lemmas.List.{length-append}
+use Rattle.io_core.specs.declared.read_fault.ReadFault.TheVariants as faults
 use Rattle.io_core.proofs.Streams.{consumes_nothing, read_on}
 use Rattle.io_core.proofs.input.read_input.Goals as goal
 
@@ -13,12 +14,15 @@ chunks-init g c = record {
 
 pub returns-then-len-gt-MAX_INPUT-clause-unread : goal.returns-then-len-gt-MAX_INPUT-clause-unread
 returns-then-len-gt-MAX_INPUT-clause-unread g c =
-    λ _ _. inr (
-      c.read_more.new.input.items,
-      read_on (g.R.Read.remaining c.args.reader.now.inner) (g.R.Read.remaining c.chunks.reader.inner)
-          (g.R.Read.remaining c.read_more.new.reader.inner) c.chunks.input.items c.read_more.new.input.items
-          _ c.chunks.invariant.read c.in_ok-read_more.ensures.more,
-      (let n : c.len.result ≡ length c.read_more.new.input.items = search rules in omega arith),
+    λ f is. inr (
+      (let same : f ≡ faults.TooLong = cc in same),
+      (
+        c.read_more.new.input.items,
+        read_on (g.R.Read.remaining c.args.reader.now.inner) (g.R.Read.remaining c.chunks.reader.inner)
+            (g.R.Read.remaining c.read_more.new.reader.inner) c.chunks.input.items c.read_more.new.input.items
+            _ c.chunks.invariant.read c.in_ok-read_more.ensures.more,
+        (let n : c.len.result ≡ length c.read_more.new.input.items = search rules in omega arith),
+      ),
     )
 
 pub chunks-preserved : goal.chunks-preserved

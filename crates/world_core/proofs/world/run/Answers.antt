@@ -3,6 +3,7 @@ use Rattle.definitions.proofs.Lemmas.{All-map}
 use Rattle.world_core.specs.Steps.{step_of}
 use Rattle.world_core.specs.Runs.{Holds, HasFewMessages, IsWithinBound, KeepsLimits, LearnsBoth, LearnsNothingWrong}
 use Rattle.world_core.specs.Runs.{HasFewParts}
+use Rattle.world_core.proofs.Runs.{spreads_in}
 use Rattle.world_core.proofs.world.run.Goals as goal
 
 pub returns : goal.returns
@@ -18,4 +19,6 @@ returns g c =
       sound = All-map (Holds S w) (LearnsNothingWrong S w) (λ s h. h.sound) w.sessions hold;
       cost = All-map (Holds S w) (HasFewParts S w) (λ s h. h.cost) w.sessions hold;
       items = c.sessions.ensures.items c.args.setup.now (map step_of c.args.steps.now) c.in_ok-world.ensures;
+      spread = spreads_in S (c.spread_claim.ensures S) g.met.F.Summary.exact c.args.setup.now
+          (map step_of c.args.steps.now) w c.in_ok-world.ensures;
     }

@@ -1,4 +1,4 @@
-use Rattle.std.proofs.Common.{subst, List, ℕ, ◌≡◌, ◌≤◌, ◌+◌, false, length, take, drop, nat_lt, sym, ◌∙◌, ap}
+use Rattle.std.proofs.Common.{subst, List, ℕ, ◌≡◌, ◌≤◌, ◌+◌, false, length, take, nat_lt, sym, ◌∙◌, ap}
 use Rattle.std.specs.Io.KnownBytes.{append_known}
 use Rattle.io_core.specs.Lines.{AreLines}
 use Rattle.io_core.specs.Keeping.{IsKept}

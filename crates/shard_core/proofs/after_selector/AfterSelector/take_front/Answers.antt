@@ -1,17 +1,23 @@
 use Rattle.std.proofs.Common.{rules, ◌≡◌, false, min, length, drop, sym, subst, arith}
 use Rattle.std.specs.Io.KnownBytes.{Keeps, prepend_known}
 use Rattle.shard_core.specs.Fronts.{front_length, passed_on}
-use Rattle.shard_core.proofs.Taken.{goes_on, is_known}
+use Rattle.shard_core.proofs.Taken.{goes_on, is_known, comes_on}
 use Rattle.shard_core.proofs.after_selector.AfterSelector.take_front.Goals as goal
 
 pub front-preserved : goal.front-preserved
 front-preserved g c =
     let came = c.in_ok-read_more.ensures.came in
     let begun : c.front.self.whole ≡ false = c.front.invariant.0 in
-    goes_on c.args.self.now c.front.self c.read_more.new.self
+    let on = goes_on c.args.self.now c.front.self c.read_more.new.self
     (g.R.Read.remaining c.args.self.now.inner) (g.R.Read.remaining c.front.self.inner)
     (g.R.Read.remaining c.read_more.new.self.inner) came.0 begun
-    c.in_ok-read_more.ensures.same.1 c.front.invariant.1 came.1 came.3
+    c.in_ok-read_more.ensures.same.1 c.front.invariant.1 came.1 came.3 in (
+      on.0,
+      on.1,
+      comes_on c.args.self.now.came c.front.self.came c.read_more.new.self.came came.0
+          (g.R.Read.remaining c.args.self.now.inner) (g.R.Read.remaining c.front.self.inner)
+          (g.R.Read.remaining c.read_more.new.self.inner) c.front.invariant.2 came.1 came.3,
+    )
 
 pub returns-clause-kept : goal.returns-clause-kept
 returns-clause-kept g c =

@@ -14,7 +14,7 @@ read_says : (text : List â„•) (ms : Members) (r : Result Table StrategyError) â†
 read_says text ms (Ok T) h said = (ms, h, said)
 read_says text ms (Err errors.NotToml) h said = absurd said
 read_says text ms (Err (errors.Fault flaw)) h said = (ms, h, said)
-read_says text ms (Err errors.Memory) h said = tt
+read_says text ms (Err errors.Memory) h said = h.0
 
 pub returns : goal.returns
-returns c = read_says c.args.text.now _ _ c.in_ok-table.ensures c.from_table.ensures
+returns c = read_says c.args.text.now _ _ c.in_ok-table.ensures c.from_table.ensures.table

@@ -15,8 +15,8 @@ use Rattle.item_files.specs.declared.fault.SettingsFault.{SettingsFault}
 use Rattle.item_files.specs.declared.fault.SettingsFault.TheVariants as settings
 use Rattle.version_log.specs.declared.answer.LogFault.{LogFault}
 use Rattle.version_log.specs.declared.answer.LogFault.TheVariants as logs
-use Rattle.embedded_core.specs.declared.fault.EmbeddedFault.{EmbeddedFault}
-use Rattle.embedded_core.specs.declared.fault.EmbeddedFault.TheVariants as faults
+use Rattle.rangesync_c.specs.declared.fault.EmbeddedFault.{EmbeddedFault}
+use Rattle.rangesync_c.specs.declared.fault.EmbeddedFault.TheVariants as faults
 
 abbrev pub length_fault_number : LengthFault → ℕ
 length_fault_number lengths.Empty = codes.empty_item

@@ -1,8 +1,8 @@
 use Rattle.std.proofs.Common.{◌≡◌, rules, Err}
 use Rattle.std.specs.Arc.{arc_value}
-use Rattle.embedded_core.specs.Faults.{of_settings}
-use Rattle.embedded_core.proofs.NoSets.{no_set}
-use Rattle.embedded_core.proofs.set.Set.from_text.Goals as goal
+use Rattle.rangesync_c.specs.Faults.{of_settings}
+use Rattle.rangesync_c.proofs.SetFaults.{no_set}
+use Rattle.rangesync_c.proofs.set.Set.from_text.Goals as goal
 
 pub returns-in_err-items : goal.returns-in_err-items
 returns-in_err-items c =

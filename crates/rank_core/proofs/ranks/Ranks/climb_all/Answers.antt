@@ -2,7 +2,7 @@ use Rattle.std.proofs.Common.{◌≡◌, ◌++◌, ◌∷◌, [], ap, sym, ◌�
 use Rattle.std.proofs.lemmas.Result.{err_from_is_err_and}
 use Rattle.definitions.specs.Ranks.{found, IsLeastRankTable, ranks_by}
 use Rattle.rank_core.proofs.Turns.{find_fails, found_steps, whole_staircase, least_found, serves_least}
-use Rattle.rank_core.proofs.ranks.Ranks.find.Goals as goal
+use Rattle.rank_core.proofs.ranks.Ranks.climb_all.Goals as goal
 
 pub returns-in_err-climb-clause-exact : goal.returns-in_err-climb-clause-exact
 returns-in_err-climb-clause-exact c =

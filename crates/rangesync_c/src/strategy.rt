@@ -1,7 +1,7 @@
 //! Strategies from texts.
 
 ghost use Rattle.std.specs.Arc.{arc_value};
-ghost use Rattle.embedded_core.specs.Faults.{IsStrategy};
+ghost use Rattle.rangesync_c.specs.Faults.{IsStrategy};
 
 use crate::fault::EmbeddedFault;
 use item_files::{SettingsFault, accepted_of};

@@ -6,8 +6,8 @@ use Rattle.item_files.specs.Faults.{IsSetFault}
 use Rattle.item_files.specs.declared.form.ItemForm.{ItemForm}
 use Rattle.item_files.specs.declared.fault.SettingsFault.{SettingsFault}
 use Rattle.item_files.specs.declared.fault.SettingsFault.TheVariants as settings
-use Rattle.embedded_core.specs.Faults.{of_settings}
-use Rattle.embedded_core.specs.SetStates.{IsNoSet}
+use Rattle.rangesync_c.specs.Faults.{of_settings}
+use Rattle.rangesync_c.specs.SetStates.{IsNoSet}
 
 pub no_set : (form : ItemForm) (text : List ℕ) (a : Checked) (cap : ℕ) (f : SettingsFault) → cap ≡ a.table.cap
     → IsSetFault form text cap f → IsNoSet form text a (of_settings f)

@@ -1,8 +1,8 @@
 //! Why a call is refused.
 
 ghost use Rattle.std.specs.Prelude.{◌≡◌, ◌<◌};
-ghost use Rattle.embedded_core.specs.Faults.{embedded_fault_number, of_settings, of_log};
-ghost use Rattle.embedded_core.specs.declared.fault.EmbeddedFault.TheVariants as faults;
+ghost use Rattle.rangesync_c.specs.Faults.{embedded_fault_number, of_settings, of_log};
+ghost use Rattle.rangesync_c.specs.declared.fault.EmbeddedFault.TheVariants as faults;
 
 use item_core::{EmptyRange, LengthFault};
 use item_files::SettingsFault;

@@ -2,8 +2,8 @@
 
 ghost use Rattle.std.specs.Prelude.{◌≡◌, ◌≢◌, ◌≤◌, ◌<◌, false, length, take, min};
 ghost use Rattle.std.specs.Prelude.{Ok, IfOk, OnOk, OnErr, IfSome, IfNone};
-ghost use Rattle.embedded_core.specs.SessionStates.{Opens, Changes, PushesTo, Finishes, MakesDue, TakesOff};
-ghost use Rattle.embedded_core.specs.SessionStates.{ready_of, state_in, bound_of, sent_by, learned_in};
+ghost use Rattle.rangesync_c.specs.SessionStates.{Opens, Changes, PushesTo, Finishes, MakesDue, TakesOff};
+ghost use Rattle.rangesync_c.specs.SessionStates.{ready_of, state_in, bound_of, sent_by, learned_in};
 ghost use Rattle.definitions.specs.Engines.{initiating, responding};
 ghost use Rattle.session_core.specs.Sessions.{Begins, is_open};
 ghost use Rattle.ends_core.specs.Sides.{peer_of};

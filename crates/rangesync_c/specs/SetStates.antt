@@ -19,8 +19,8 @@ use Rattle.strategy_check.specs.Checked.{Checked}
 use Rattle.item_files.specs.ItemFiles.{file_items}
 use Rattle.item_files.specs.declared.bad_line.BadLine.{BadLine}
 use Rattle.item_files.specs.declared.form.ItemForm.{ItemForm}
-use Rattle.embedded_core.specs.declared.fault.EmbeddedFault.{EmbeddedFault}
-use Rattle.embedded_core.specs.declared.fault.EmbeddedFault.TheVariants as faults
+use Rattle.rangesync_c.specs.declared.fault.EmbeddedFault.{EmbeddedFault}
+use Rattle.rangesync_c.specs.declared.fault.EmbeddedFault.TheVariants as faults
 
 pub record SetState : Type 0 where
   pub accepted : Checked

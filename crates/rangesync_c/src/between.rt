@@ -4,9 +4,9 @@ ghost use Rattle.std.specs.Prelude.{◌≡◌, ◌≤◌, ◌<◌, length, IfOk,
 ghost use Rattle.definitions.specs.Items.{is_below};
 ghost use Rattle.item_core.specs.Bounds.{upper_value};
 ghost use Rattle.item_core.specs.declared.item.LengthFault.TheVariants as lengths;
-ghost use Rattle.embedded_core.specs.SetStates as sets;
-ghost use Rattle.embedded_core.specs.SetStates.{AreBounds, IsNoRange};
-ghost use Rattle.embedded_core.specs.declared.fault.EmbeddedFault.TheVariants as faults;
+ghost use Rattle.rangesync_c.specs.SetStates as sets;
+ghost use Rattle.rangesync_c.specs.SetStates.{AreBounds, IsNoRange};
+ghost use Rattle.rangesync_c.specs.declared.fault.EmbeddedFault.TheVariants as faults;
 
 use crate::fault::EmbeddedFault;
 use item_core::{LengthFault, Lower, Range, Upper};

@@ -6,7 +6,7 @@ ghost use Rattle.definitions.specs.Items.{Item as Bytes};
 ghost use Rattle.definitions.specs.Sets.{has, items_in};
 ghost use Rattle.definitions.specs.Histories.{content};
 ghost use Rattle.range_tree.specs.Trees.{tree_items};
-ghost use Rattle.embedded_core.specs.SetStates.{set_by, newest, Inserts, IsSetFrom};
+ghost use Rattle.rangesync_c.specs.SetStates.{set_by, newest, Inserts, IsSetFrom};
 
 use crate::fault::EmbeddedFault;
 use item_core::{Item, Range};
@@ -29,7 +29,7 @@ pub struct Set {
 impl Model for Set {
     ghost use Rattle.std.specs.Prelude.{◌≡◌};
     ghost use Rattle.std.specs.Arc.{arc_value};
-    ghost use Rattle.embedded_core.specs.SetStates.{SetState, set_by};
+    ghost use Rattle.rangesync_c.specs.SetStates.{SetState, set_by};
 
     ghost Value = { SetState };
 
@@ -49,7 +49,7 @@ impl Model for Version {
     ghost use Rattle.std.specs.Prelude.{◌≤◌, length};
     ghost use Rattle.std.specs.Arc.{arc_value};
     ghost use Rattle.range_tree.specs.Trees.{tree_items};
-    ghost use Rattle.embedded_core.specs.SetStates.{VersionState};
+    ghost use Rattle.rangesync_c.specs.SetStates.{VersionState};
 
     ghost Value = { VersionState };
 

@@ -18,9 +18,9 @@ use Rattle.definitions.specs.Wire.{Profile, two_lane_profile, counted_profile}
 use Rattle.session_core.specs.Sessions.{SessionState, Begins, Pushes, Takes, Knows, due, finished}
 use Rattle.ends_core.specs.Sides.{peer_of}
 use Rattle.session_core.specs.declared.state.State.{State}
-use Rattle.embedded_core.specs.SetStates.{VersionState}
-use Rattle.embedded_core.specs.declared.any_session.AnySession.{AnySession}
-use Rattle.embedded_core.specs.declared.any_session.AnySession.TheVariants as any
+use Rattle.rangesync_c.specs.SetStates.{VersionState}
+use Rattle.rangesync_c.specs.declared.any_session.AnySession.{AnySession}
+use Rattle.rangesync_c.specs.declared.any_session.AnySession.TheVariants as any
 use Rattle.ends_core.specs.declared.side.Side.{Side}
 use Rattle.ends_core.specs.declared.side.Side.TheVariants as sides
 use Rattle.item_files.specs.declared.profile.WireProfile.{WireProfile}
