@@ -24,7 +24,13 @@ impl<T> Model for Watched<T> {
 
     ghost Value = { Watch T };
 
-    ghost view = { λ a. record { inner = a.inner; failed = a.failed; ended = a.ended; reads = a.reads; fault = a.fault } };
+    ghost view = { λ a. record {
+      inner = a.inner;
+      failed = a.failed;
+      ended = a.ended;
+      reads = a.reads;
+      fault = a.fault;
+    } };
 }
 
 impl<T> Watched<T> {

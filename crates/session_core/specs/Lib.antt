@@ -18,6 +18,7 @@ pub use Rattle.laws.specs.Hearing as HearingLaws
 pub use Rattle.laws.specs.Meeting
 pub mod Sizes
 pub mod Outboxes
+pub mod Overs
 pub mod Sessions
 pub mod Kept
 pub mod Laws

@@ -1,6 +1,7 @@
 //! What a side has to say: texts that are made, and messages whose text is not made yet.
 
-ghost use Rattle.std.specs.Prelude.{◌≡◌, ◌≢◌, ◌++◌, [], length, drop, min, flat_map, IfOk, IfErr, OnOk, OnErr};
+ghost use Rattle.std.specs.Prelude.{◌≡◌, ◌≢◌, ◌+◌, ◌≤◌, ◌++◌, [], vec_len, length, drop, min, flat_map, IfOk, IfErr};
+ghost use Rattle.std.specs.Prelude.{OnOk, OnErr};
 ghost use Rattle.ends_core.specs.declared.turn.EndFault.TheVariants as faults;
 ghost use Rattle.definitions.specs.Wire.{message_text};
 ghost use Rattle.definitions.specs.Ends.{own_of};
@@ -26,14 +27,15 @@ pub(crate) struct Outbox<F: Summary> {
 }
 
 impl<F: Summary> Model for Outbox<F> {
-    ghost use Rattle.std.specs.Prelude.{◌≤◌, drop, vec_len, vec_items};
+    ghost use Rattle.std.specs.Prelude.{◌+◌, ◌≤◌, drop, vec_len, vec_items};
     ghost use Rattle.session_core.specs.Outboxes.{OutboxState, outbox_state};
 
     ghost Value = { OutboxState F };
 
     ghost view = { λ o. outbox_state (drop o.from (vec_items o.made)) o.unsaid.items };
 
-    ghost invariant = { λ o. o.from ≤ vec_len o.made };
+    // Of the bytes that were taken no more are kept than are still to be said.
+    ghost invariant = { λ o. o.from + o.from ≤ vec_len o.made };
 }
 
 /// The texts of messages, and these bytes after them.
@@ -59,6 +61,20 @@ pub(crate) fn hello_text<F: Summary>(alloc: Global) -> Result<Vec<u8>, AllocErro
     let mut text = Vec::new(alloc);
     text.extend_from_slice(&encode_hello::<F>())?;
     Ok(text)
+}
+
+/// Gives back the memory of the bytes in front of this place, once they are half of all. Returns the place then.
+fn forget(made: &mut Vec<u8>, from: usize) -> usize
+    requires { from ≤ vec_len made.old }
+    ensures rest { drop result made.new.items ≡ drop from made.old.items }
+    ensures few { result + result ≤ vec_len made.new }
+{
+    if from < made.len() - from {
+        return from;
+    }
+    made.drain(..from);
+    made.shrink_to_fit();
+    0
 }
 
 impl<F: Summary> Outbox<F> {
@@ -141,19 +157,7 @@ impl<F: Summary> Outbox<F> {
         ensures rest { self.new ≡ outbox_state (drop result self.old.ready) self.old.later }
     {
         let taken = count.min(self.made.len() - self.from);
-        self.from += taken;
-        self.forget();
+        self.from = forget(&mut self.made, self.from + taken);
         taken
-    }
-
-    /// Gives back the memory of the bytes that were taken, once they are half of all.
-    fn forget(&mut self)
-        ensures { self.new ≡ self.old }
-    {
-        if self.from >= self.made.len() - self.from {
-            self.made.drain(..self.from);
-            self.from = 0;
-            self.made.shrink_to_fit();
-        }
     }
 }

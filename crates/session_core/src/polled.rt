@@ -4,6 +4,7 @@ ghost use Rattle.std.specs.Prelude.{◌≡◌, ◌<◌, ◌≤◌, length, take}
 ghost use Rattle.std.specs.IoError.{error_kind};
 ghost use Rattle.std.specs.Io.KnownBytes.{Consumes, Appends, IsAtEnd};
 ghost use Rattle.session_core.specs.Polls.{ReadsSo, WritesSo, stopped_by};
+ghost use Rattle.session_core.specs.Overs.{after_read, after_write};
 ghost use Rattle.session_core.specs.declared.polled.Last.TheVariants as lasts;
 
 use std::io;
@@ -50,6 +51,28 @@ fn stop_of(error: &io::Error) -> Last
         ErrorKind::WouldBlock => Last::Waits,
         ErrorKind::Interrupted => Last::Interrupted,
         _ => Last::Failed,
+    }
+}
+
+/// What a read did that gave this.
+fn after_read(given: &io::Result<usize>) -> Last
+    ensures { result ≡ after_read given.now }
+{
+    match given {
+        Ok(0) => Last::Ended,
+        Ok(_) => Last::Moved,
+        Err(error) => stop_of(error),
+    }
+}
+
+/// What a write did that gave this.
+fn after_write(given: &io::Result<usize>) -> Last
+    ensures { result ≡ after_write given.now }
+{
+    match given {
+        Ok(0) => Last::Failed,
+        Ok(_) => Last::Moved,
+        Err(error) => stop_of(error),
     }
 }
 
@@ -104,20 +127,9 @@ impl<I: Read> Polled<I> {
         ensures last { ReadsSo result self.new.last }
         ensures ended { self.new.last ≡ lasts.Ended → IsAtEnd (I.remaining self.new.way) }
     {
-        match self.way.read(room) {
-            Ok(0) => {
-                self.last = Last::Ended;
-                0
-            }
-            Ok(count) => {
-                self.last = Last::Moved;
-                count
-            }
-            Err(error) => {
-                self.last = stop_of(&error);
-                0
-            }
-        }
+        let given = self.way.read(room);
+        self.last = after_read(&given);
+        given.unwrap_or(0)
     }
 }
 
@@ -128,19 +140,8 @@ impl<O: Write> Polled<O> {
         ensures bytes { Appends (O.contents self.old.way) (O.contents self.new.way) (take result bytes.now) }
         ensures last { WritesSo result self.new.last }
     {
-        match self.way.write(bytes) {
-            Ok(0) => {
-                self.last = Last::Failed;
-                0
-            }
-            Ok(count) => {
-                self.last = Last::Moved;
-                count
-            }
-            Err(error) => {
-                self.last = stop_of(&error);
-                0
-            }
-        }
+        let given = self.way.write(bytes);
+        self.last = after_write(&given);
+        given.unwrap_or(0)
     }
 }

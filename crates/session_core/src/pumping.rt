@@ -2,6 +2,7 @@
 
 ghost use Rattle.std.specs.Prelude.{◌≡◌, ◌≢◌, ◌<◌, ◌≤◌, ℕ, true, false, [], List, length, take, OnOk, OnErr};
 ghost use Rattle.session_core.specs.Links.{Fails, MovesSo, Stands};
+ghost use Rattle.session_core.specs.Overs.{EndsBy, Rests};
 ghost use Rattle.session_core.specs.declared.fault.LinkFault.TheVariants as faults;
 ghost use Rattle.session_core.specs.declared.polled.Last.TheVariants as lasts;
 ghost use Rattle.session_core.specs.Sessions as sessions;
@@ -31,6 +32,8 @@ fn say_once<O: Write, R: Role, S: RangeStore, F: Summary>(
         (O.contents writer.old.way) (O.contents writer.new.way) result }
     ensures stands { (r : _) → Stands F.profile result session.new r writer.new.last }
     ensures fails { (r : _) → Fails result r writer.new.last }
+    ensures over { session.new.over ≡ session.old.over }
+    ensures state { session.new.talk.state ≡ session.old.talk.state }
 {
     let count = writer.write(session.due());
     session.take(count);
@@ -57,6 +60,7 @@ fn hear<R: Role, S: RangeStore, F: Summary>(
     ensures fault { OnErr result (result ≡ Err faults.Memory) }
     ensures ended { OnOk result (last ≡ lasts.Ended → session.new.over ≡ true) }
     ensures waits { last ≡ lasts.Waits → session.new ≡ session.old }
+    ensures over { OnOk result (EndsBy session.old session.new last) }
 {
     match last {
         Last::Moved => {
@@ -88,6 +92,7 @@ fn hear_once<I: Read, R: Role, S: RangeStore, F: Summary>(
         (I.remaining reader.new.way) held held result }
     ensures stands { (w : _) → Stands F.profile result session.new reader.new.last w }
     ensures fails { (w : _) → Fails result reader.new.last w }
+    ensures over { OnOk result (EndsBy session.old session.new reader.new.last) }
     ensures room { length room.new ≡ length room.old }
 {
     let count = reader.read(room);
@@ -121,6 +126,8 @@ fn move_once<I: Read, O: Write, R: Role, S: RangeStore, F: Summary>(
         (I.remaining reader.new.way) (O.contents writer.old.way) (O.contents writer.new.way) result }
     ensures stands { Stands F.profile result session.new reader.new.last writer.new.last }
     ensures fails { Fails result reader.new.last writer.new.last }
+    ensures over { OnOk result (EndsBy session.old session.new reader.new.last) }
+    ensures rests { OnOk result (Rests session.old session.new reader.old.last reader.new.last) }
     ensures room { length room.new ≡ length room.old }
 {
     session.make_due(alloc)?;
@@ -154,6 +161,8 @@ pub fn pump<I: Read, O: Write, R: Role, S: RangeStore, F: Summary>(
         (I.remaining reader.new.way) (O.contents writer.old.way) (O.contents writer.new.way) result }
     ensures stands { Stands F.profile result session.new reader.new.last writer.new.last }
     ensures fails { Fails result reader.new.last writer.new.last }
+    ensures over { OnOk result (EndsBy session.old session.new reader.new.last) }
+    ensures rests { OnOk result (Rests session.old session.new reader.old.last reader.new.last) }
     ensures room { length room.new ≡ length room.old }
 {
     let mut pumped = move_once(alloc, reader, writer, session, room)?;

@@ -181,7 +181,8 @@ impl<R: Read> AfterSelector<R> {
         ensures whole { OnOk result (self.new.whole ≡ true) }
         ensures kept { Keeps (passed_on self.old (R.remaining self.old.inner))
             (passed_on self.new (R.remaining self.new.inner)) }
-        ensures came { ComesOn self.old.came self.new.came (R.remaining self.old.inner) (R.remaining self.new.inner) [] }
+        ensures came { ComesOn self.old.came self.new.came (R.remaining self.old.inner)
+            (R.remaining self.new.inner) [] }
     {
         'front: while self.read_more()? > 0 {}
         self.passed = front_length(&self.came).min(self.came.len());
@@ -194,7 +195,8 @@ impl<R: Read> AfterSelector<R> {
         ensures whole { OnOk result (self.new.whole ≡ true) }
         ensures kept { Keeps (passed_on self.old (R.remaining self.old.inner))
             (passed_on self.new (R.remaining self.new.inner)) }
-        ensures came { ComesOn self.old.came self.new.came (R.remaining self.old.inner) (R.remaining self.new.inner) [] }
+        ensures came { ComesOn self.old.came self.new.came (R.remaining self.old.inner)
+            (R.remaining self.new.inner) [] }
     {
         if self.is_whole {
             return Ok(());

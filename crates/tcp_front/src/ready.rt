@@ -74,7 +74,13 @@ impl<C> Listener<'_, C> {
             return Ok(Arrival::NoMore);
         }
         match self.socket.accept() {
-            Ok((stream, from)) => Ok(self.arrived(stream, from)),
+            Ok((stream, from)) => {
+                let arrival = self.arrived(stream, from);
+                if !matches!(arrival, Arrival::Came(_, _)) {
+                    self.uncount();
+                }
+                Ok(arrival)
+            }
             Err(error) => {
                 self.uncount();
                 let missed = missed(&error);

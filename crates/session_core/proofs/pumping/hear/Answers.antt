@@ -1,4 +1,4 @@
-use Rattle.std.proofs.Common.{◌≡◌, length, take, arith, refl}
+use Rattle.std.proofs.Common.{◌≡◌, length, take, arith, refl, inl}
 use Rattle.session_core.proofs.Moving.{pushes-none, pushes-open, pushes-whole}
 use Rattle.session_core.proofs.pumping.hear.Goals as goal
 
@@ -19,4 +19,5 @@ returns-in_default g c = record {
   fault = tt;
   ended = λ is. absurd (c.in_default.not-Ended is);
   waits = λ is. refl;
+  over = λ is. inl is;
 }

@@ -1,11 +1,14 @@
 use Rattle.std.proofs.Common.{rules, ◌≡◌, ◌∙◌, Err}
 use Rattle.session_core.proofs.Moving.{MovesSo-both, MovesSo-failed, stands-both}
+use Rattle.session_core.proofs.Ending.{ends-both, rests-both}
 use Rattle.session_core.proofs.pumping.pump.Goals as goal
 
 pub loop-turn-init : goal.loop-turn-init
 loop-turn-init g c = record {
   moved = c.in_ok-pumped.ensures.moved;
   stands = c.in_ok-pumped.ensures.stands;
+  over = c.in_ok-pumped.ensures.over;
+  rests = c.in_ok-pumped.ensures.rests;
   room = c.in_ok-pumped.ensures.room;
 }
 
@@ -34,6 +37,10 @@ loop-turn-preserved g c =
       stands = stands-both g.F.Summary.summary g.F.Summary.profile c.loop-turn.pumped c.in_ok-next.next
           next.session next.reader.last next.writer.last
           c.in_ok-next.ensures.stands;
+      over = ends-both c.args.session.now c.loop-turn.session next.session c.loop-turn.reader.last next.reader.last
+          c.loop-turn.invariant.over c.in_ok-next.ensures.over c.in_ok-next.ensures.rests;
+      rests = rests-both c.args.session.now c.loop-turn.session next.session c.args.reader.now.last
+          c.loop-turn.reader.last next.reader.last c.loop-turn.invariant.rests c.in_ok-next.ensures.rests;
       room = c.in_ok-next.ensures.room ∙ c.loop-turn.invariant.room;
     })
 
