@@ -58,7 +58,7 @@ def section(text: str, title: str) -> list[str]:
 
 
 def option_of(line: str) -> Option:
-    found = re.fullmatch(r"\s+(?:(-\w), )?(--[\w-]+)(?: <([\w-]+)>)?\s{2,}(.*)", line)
+    found = re.fullmatch(r"\s+(?:(-\w), )?(--[\w-]+)(?: <([\w,.-]+)>)?\s{2,}(.*)", line)
     if found is None:
         raise ValueError(f"this line of a help text is no option: {line!r}")
     return Option(found[2], found[1] or "", found[3] or "", found[4])

@@ -4,6 +4,7 @@ from __future__ import annotations
 
 import contextlib
 import fcntl
+import http.client
 import itertools
 import os
 import shutil
@@ -232,7 +233,7 @@ class Server:
     def error(self) -> str:
         """What is on standard error, but for the lines with the real addresses, and that of a set in memory alone."""
         lines = self.err.read_text(errors="backslashreplace").splitlines(keepends=True)
-        return "".join(line for line in lines if not line.startswith(("listening ", "metrics ", IN_MEMORY)))
+        return "".join(line for line in lines if not line.startswith(("listening ", "metrics ", "control ", IN_MEMORY)))
 
     def address(self) -> str:
         """The real address, once it listens."""
@@ -279,6 +280,52 @@ def serve(
         yield server
     finally:
         server.kill()
+
+
+# The door of a server.
+
+
+@dataclass(frozen=True)
+class Came:
+    """An answer: its status, its fields by their names in small letters, and its body."""
+
+    status: int
+    fields: dict[str, str]
+    text: str
+
+
+class UnixConnection(http.client.HTTPConnection):
+    """A connection to a Unix socket."""
+
+    def __init__(self, path: Path) -> None:
+        super().__init__("localhost", timeout=SECONDS)
+        self.path = path
+
+    def connect(self) -> None:
+        self.sock = socket.socket(socket.AF_UNIX)
+        self.sock.settimeout(SECONDS)
+        self.sock.connect(str(self.path))
+
+
+class Door:
+    """The door of a server at the Unix socket of this path."""
+
+    def __init__(self, path: Path) -> None:
+        self.path = path
+        self.word = f"unix:{path}"
+
+    def ask(self, method: str, target: str, body: bytes | None = None, **fields: str) -> Came:
+        connection = UnixConnection(self.path)
+        try:
+            connection.request(method, target, body, {name.replace("_", "-"): text for name, text in fields.items()})
+            answer = connection.getresponse()
+            text = answer.read().decode()
+            return Came(answer.status, {name.lower(): value for name, value in answer.getheaders()}, text)
+        finally:
+            connection.close()
+
+    def put(self, lines: str, target: str = "/items") -> Came:
+        return self.ask("POST", target, lines.encode())
 
 
 def main(part: str, *tests: Callable[[Count], None]) -> None:

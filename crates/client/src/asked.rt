@@ -7,7 +7,7 @@ use crate::stdio::sync_stdio;
 use crate::sync::sync;
 use crate::sync_shards::{AskingShards, sync_shards};
 use crate::talking::Talk;
-use item_files::WireProfile;
+use item_files::{ItemForm, WireProfile};
 use loading::{Sources, Target, load, load_shards};
 use printing_core::{Listing, Refusal, difference_status};
 use settings_core::SyncWords;
@@ -40,6 +40,10 @@ pub struct Asking<'a> {
     pub stats: bool,
     /// The path of the file for what is printed, if one is given.
     pub out: Option<&'a str>,
+    /// The path of the file to which what is learned is appended, if one is given.
+    pub keep: Option<&'a str>,
+    /// The form of the lines of that file.
+    pub form: ItemForm,
     /// What the set is called, if the other side is to be told.
     pub set: Option<SetName<'a>>,
     /// How often a session is tried again, if a number is given.
@@ -68,6 +72,7 @@ impl<'a> Asking<'a> {
         ensures limits { (result.limits.patience ≡ words.entry.patience)
             × (result.limits.most_bytes ≡ words.entry.most_bytes) }
         ensures printed { (result.stats ≡ words.entry.stats) × (result.out ≡ words.entry.out) }
+        ensures kept { (result.keep ≡ words.entry.keep) × (result.form ≡ words.entry.form) }
         ensures items { words.entry.counts ≡ false → result.listing ≡ listings.Items words.entry.form }
         ensures counts { words.entry.counts ≡ true → result.listing ≡ listings.Counts }
         ensures again { (result.retry ≡ words.entry.retry) × (result.explains ≡ explains) }
@@ -82,6 +87,8 @@ impl<'a> Asking<'a> {
             },
             stats: words.stats,
             out: words.out,
+            keep: words.keep,
+            form: words.form,
             set,
             retry: words.retry,
             explains,

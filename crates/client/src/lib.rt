@@ -1,9 +1,13 @@
-//! `sync`: sessions with those who listen, over one set or over its shards, and what is printed of them.
+//! `sync`: sessions with those who listen, over one set or over its shards, and what is printed of them. And the
+//! commands that ask a server on this machine at its door.
 #![tactic(auto)]
 
 mod asked;
 mod costs;
 mod directories;
+mod door;
+mod http;
+mod keeping;
 mod printing;
 mod reaching;
 mod sessions;
@@ -14,3 +18,4 @@ mod talking;
 mod trying;
 
 pub use asked::sync_as_asked;
+pub use door::{news, put, status, stop};

@@ -7,7 +7,7 @@ use std::rt::Files;
 use tcp_front::{ConnectFault, Stream, connect, connect_unix};
 
 /// Connects to the address of this word over TCP or to a Unix socket.
-fn connect_at<R: Files + Net<Stream = TcpStream>>(
+fn connect_at<R: Files + Net<Stream = TcpStream> + AllocGlobal>(
     rt: &R,
     word: &str,
     patience: u32,
@@ -20,7 +20,7 @@ fn connect_at<R: Files + Net<Stream = TcpStream>>(
 
 /// Connects to the address of this word. A read or a write that takes longer than this many seconds fails, and so does
 /// a connect over TCP. Else 61 or 90.
-pub fn connect_to<'a, R: Files + Net<Stream = TcpStream>>(
+pub fn connect_to<'a, R: Files + Net<Stream = TcpStream> + AllocGlobal>(
     rt: &R,
     word: &'a str,
     patience: u32,

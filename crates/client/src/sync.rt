@@ -4,6 +4,7 @@ ghost use Rattle.std.specs.Prelude.{◌≡◌, ◌≤◌};
 ghost use Rattle.std.specs.Arc.{arc_value};
 
 use crate::asked::Asking;
+use crate::keeping::{keep_learned, open_keep_file};
 use crate::printing::{create_file, print_to};
 use crate::reaching::connect_to;
 use crate::talking::converse;
@@ -98,11 +99,12 @@ where
     ask_at(rt, &accepted, log, asking)
 }
 
-/// Runs one session as the initiator, and prints what was learned, to the file if one is asked for. If it is asked for,
-/// standard error is told what the session cost, however it ended. Whether the sets differ.
+/// Runs one session as the initiator, and prints what was learned, to the file if one is asked for. Then what the peer
+/// was first to know is appended to the file that keeps it, if that is asked for. If it is asked for, standard error is
+/// told what the session cost, however it ended. Whether the sets differ.
 ///
-/// Else 80 if the file cannot be made, 61, 90, the number of the refusal of this side or of the peer, or `io read` or
-/// `io write`.
+/// Else 80 if a file cannot be opened or made, 61, 90, the number of the refusal of this side or of the peer, or
+/// `io read` or `io write`.
 pub fn sync<'a, R, O: Write + Drop, E: Write>(
     rt: &R,
     loaded: Loaded,
@@ -114,6 +116,7 @@ where
     R: Files<File = File> + Net<Stream = TcpStream> + Wait + Clock + AllocGlobal,
     requires cap { loaded.set.cap ≡ loaded.accepted.table.cap }
 {
+    let keep_file = open_keep_file(rt, asking, loaded.kept.items, err)?;
     let file = create_file(rt, asking.out)?;
     let (outcome, stats) = ask_again(rt, loaded, asking, err)?;
     if asking.stats {
@@ -126,6 +129,8 @@ where
             return Err(Refusal::of_session_after(asking.limits, received, fault));
         }
     };
-    print_to(file, out, text.as_bytes())?;
+    let printed = print_to(file, out, text.as_bytes());
+    keep_learned(rt.alloc(), keep_file, &outcome)?;
+    printed?;
     Ok(finds_any(&outcome))
 }

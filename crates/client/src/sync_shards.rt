@@ -13,6 +13,7 @@ ghost use Rattle.loading.specs.Sharded.{HaveCap};
 use crate::asked::Asking;
 use crate::costs::Costs;
 use crate::directories::{Asker, Own, choose};
+use crate::keeping::{keep_parts, open_keep_file};
 use crate::printing::{create_file, print_to};
 use crate::sessions::{Crew, Gathered, Work, run_sessions};
 use crate::trying::Tries;
@@ -223,11 +224,12 @@ fn refusal_in<'a>(first: Option<(u16, Refusal<'a>)>) -> Option<Refusal<'a>> {
 }
 
 /// Runs a session as the initiator for the directory of each server, and one for each shard that differs, and prints
-/// what all found together, to the file if one is asked for. If it is asked for, standard error is told what they cost,
-/// however they ended. Whether an item was found that one side lacks.
+/// what all found together, to the file if one is asked for. Then what the peers were first to know is appended to the
+/// file that keeps it, if that is asked for. If it is asked for, standard error is told what they cost, however they
+/// ended. Whether an item was found that one side lacks.
 ///
-/// Else 80 if the file cannot be made; before a shard is asked for 61, 56, 57, 90, the number of the refusal of this
-/// side or of a peer, or `io read` or `io write`. Where sessions over shards do not end, what the others found is
+/// Else 80 if a file cannot be opened or made; before a shard is asked for 61, 56, 57, 90, the number of the refusal of
+/// this side or of a peer, or `io read` or `io write`. Where sessions over shards do not end, what the others found is
 /// printed, standard error is told which were not done, and it is `incomplete`.
 pub fn sync_shards<'a, R, O: Write + Drop, E: Write>(
     rt: &R,
@@ -242,6 +244,7 @@ where
     requires cap { loaded.set.cap ≡ loaded.accepted.table.cap }
 {
     let alloc = rt.alloc();
+    let keep_file = open_keep_file(rt, asking.asking, loaded.kept.items, err)?;
     let file = create_file(rt, asking.asking.out)?;
     let addresses = addresses_of(alloc, asking.asking.address)?;
     let bits = loaded.set.bits();
@@ -275,7 +278,9 @@ where
         sent: costs.messages(),
     };
     let text = found_text(alloc, asking.asking.listing, counts, &parts)?;
-    print_to(file, out, text.as_bytes())?;
+    let printed = print_to(file, out, text.as_bytes());
+    keep_parts(alloc, keep_file, &parts)?;
+    printed?;
     ending(alloc, &undone, first, err)?;
     Ok(count_unequal(&parts) > 0)
 }

@@ -5,6 +5,7 @@ pub use Rattle.definitions.specs.Wire
 pub use Rattle.definitions.specs.Placing
 pub use Rattle.definitions.specs.Talks
 pub mod Learning
+pub mod Sizes
 pub mod Drafts
 pub use Rattle.definitions.specs.Ends
 pub use Rattle.definitions.specs.Taking

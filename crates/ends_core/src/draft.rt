@@ -5,15 +5,17 @@ ghost use Rattle.definitions.specs.Ends as ends;
 ghost use Rattle.definitions.specs.Messages as messages;
 ghost use Rattle.definitions.specs.Talks.{and_then};
 ghost use Rattle.definitions.specs.Taking.{grown};
-ghost use Rattle.definitions.specs.Wire.{max_parts};
-ghost use Rattle.ends_core.specs.Drafts.{drafted, nothing_drafted, reply_kept};
+ghost use Rattle.ends_core.specs.Drafts.{drafted, nothing_drafted};
 ghost use Rattle.ends_core.specs.EndStates.{stage_of, taken_of, none_at};
 ghost use Rattle.ends_core.specs.Turns.{answer_of};
 ghost use Rattle.ends_core.specs.Closing.{IsDue, IsTaking, drafted_answer};
+ghost use Rattle.ends_core.specs.Sizes.{drafted_size};
 
 use crate::learned::Learned;
 use crate::learning::learn_part;
+use crate::reply::Reply;
 use crate::replying::reply_part;
+use crate::size::known_size;
 use crate::stage::Stage;
 use crate::turn::{EndFault, Turn};
 use digest_core::Summary;
@@ -23,53 +25,22 @@ use std::alloc::{AllocError, Global};
 use std::marker::Model;
 use store_core::RangeStore;
 use strategy_core::Strategy;
-use wire_core::{MAX_PARTS, Message, Part, PartKind};
+use wire_core::{Part, PartKind};
 
 /// What an end keeps of the parts of a message that has not ended, beside its place.
 #[derive(Debug, Drop)]
 pub(crate) struct Draft<F: Summary> {
     opens: bool,
-    // The reply has too many parts, and is kept no further.
-    overlong: bool,
-    reply: Vec<Part<F>>,
+    reply: Reply<F>,
     learned: Learned,
 }
 
 impl<F: Summary> Model for Draft<F> {
-    ghost use Rattle.std.specs.Prelude.{◌≤◌, length};
-    ghost use Rattle.definitions.specs.Wire.{max_parts};
-    ghost use Rattle.ends_core.specs.Drafts.{Drafted, reply_kept};
+    ghost use Rattle.ends_core.specs.Drafts.{Drafted};
 
     ghost Value = { Drafted F };
 
-    ghost view = { λ a. record { opens = a.opens; reply = reply_kept a.overlong a.reply.items; learned = a.learned } };
-
-    ghost invariant = { λ a. length a.reply.items ≤ max_parts };
-}
-
-/// Goes on with a reply, as long as it may be sent.
-fn grow_reply<F: Summary>(
-    alloc: Global,
-    overlong: &mut bool,
-    reply: &mut Vec<Part<F>>,
-    more: Vec<Part<F>>,
-) -> Result<(), AllocError>
-    requires { length reply.old.items ≤ max_parts }
-    ensures ok { OnOk result (reply_kept overlong.new reply.new.items
-        ≡ grown (reply_kept overlong.old reply.old.items) more.items) }
-    ensures err { OnErr result ((overlong.new ≡ overlong.old) × (reply.new.items ≡ reply.old.items)) }
-    ensures few { length reply.new.items ≤ max_parts }
-{
-    let mut more = more;
-    if *overlong {
-        return Ok(());
-    }
-    if more.len() > MAX_PARTS - reply.len() {
-        *overlong = true;
-        *reply = Vec::new(alloc);
-        return Ok(());
-    }
-    reply.append(&mut more)
+    ghost view = { λ a. record { opens = a.opens; reply = a.reply; learned = a.learned } };
 }
 
 /// Adds what was learned and goes on with a reply; or nothing, where memory runs out.
@@ -77,22 +48,17 @@ fn add_both<F: Summary>(
     alloc: Global,
     learned: &mut Learned,
     fresh: &Learned,
-    overlong: &mut bool,
-    reply: &mut Vec<Part<F>>,
+    reply: &mut Reply<F>,
     more: Vec<Part<F>>,
 ) -> Result<(), AllocError>
-    requires { length reply.old.items ≤ max_parts }
     ensures learned { OnOk result (learned.new ≡ and_then learned.old fresh.now) }
-    ensures ok { OnOk result (reply_kept overlong.new reply.new.items
-        ≡ grown (reply_kept overlong.old reply.old.items) more.items) }
-    ensures err { OnErr result ((learned.new ≡ learned.old) × (overlong.new ≡ overlong.old)
-        × (reply.new.items ≡ reply.old.items)) }
-    ensures few { length reply.new.items ≤ max_parts }
+    ensures ok { OnOk result (reply.new ≡ grown reply.old more.items) }
+    ensures err { OnErr result ((learned.new ≡ learned.old) × (reply.new ≡ reply.old)) }
 {
     let ours = learned.ours().len();
     let theirs = learned.theirs().len();
     learned.append(fresh)?;
-    match grow_reply(alloc, overlong, reply, more) {
+    match reply.grow(alloc, more) {
         Ok(()) => Ok(()),
         Err(AllocError) => {
             learned.cut(ours, theirs);
@@ -133,8 +99,7 @@ impl<F: Summary> Draft<F> {
     {
         Draft {
             opens: false,
-            overlong: false,
-            reply: Vec::new(alloc),
+            reply: Reply::nothing(alloc),
             learned: Learned::nothing(alloc),
         }
     }
@@ -156,14 +121,7 @@ impl<F: Summary> Draft<F> {
     {
         let more = reply_part(alloc, strategy, store, part)?;
         let fresh = learn_part(alloc, listed, part, &more)?;
-        add_both(
-            alloc,
-            &mut self.learned,
-            &fresh,
-            &mut self.overlong,
-            &mut self.reply,
-            more,
-        )?;
+        add_both(alloc, &mut self.learned, &fresh, &mut self.reply, more)?;
         self.opens = self.opens || is_open(part);
         Ok(())
     }
@@ -185,10 +143,17 @@ impl<F: Summary> Draft<F> {
         if !self.opens {
             return Ok(Stage::Over);
         }
-        if self.overlong {
+        let Some(parts) = self.reply.parts() else {
             return Err(EndFault::TooManyParts);
-        }
-        Ok(stage_after_reply(alloc, &self.reply)?)
+        };
+        Ok(stage_after_reply(alloc, parts)?)
+    }
+
+    /// How many bytes of memory are counted for it: the reply so far, and what was learned.
+    pub(crate) fn size(&self) -> u64
+        ensures { result ≡ drafted_size self.now.reply self.now.learned }
+    {
+        self.reply.size().saturating_add(known_size(&self.learned))
     }
 
     /// What is answered at the end of the message.
@@ -199,9 +164,6 @@ impl<F: Summary> Draft<F> {
         if !self.opens {
             return Turn::Over;
         }
-        match Message::new(self.reply) {
-            Ok(reply) => Turn::Reply(reply),
-            Err(_) => unreachable!(),
-        }
+        Turn::Reply(self.reply.into_message())
     }
 }

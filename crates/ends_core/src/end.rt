@@ -12,6 +12,7 @@ ghost use Rattle.ends_core.specs.Drafts.{nothing_drafted};
 ghost use Rattle.ends_core.specs.Turns.{answer_in, told_in, refusal_of, fresh, after_part, after_parts, after_end};
 ghost use Rattle.ends_core.specs.Turns.{after_message, refused, spend};
 ghost use Rattle.ends_core.specs.Closing.{IsClosed, IsTaking};
+ghost use Rattle.ends_core.specs.Sizes.{taken_size};
 ghost use Rattle.definitions.specs.Refusals.{spent};
 ghost use Rattle.definitions.specs.Talks.{nothing};
 
@@ -129,6 +130,16 @@ impl<S: RangeStore, F: Summary> End<S, F> {
         ensures { result ≡ is_over self.now.end.stage }
     {
         matches!(self.stage, Stage::Over)
+    }
+
+    /// How many bytes of memory are counted for what it took of a message that has not ended.
+    pub(crate) fn taken_size(&self) -> u64
+        ensures { result ≡ taken_size self.now.taken }
+    {
+        match &self.stage {
+            Stage::Open(_) => self.draft.size(),
+            _ => 0,
+        }
     }
 
     /// What was learned.

@@ -13,6 +13,7 @@ ghost use Rattle.definitions.specs.Taking.{ended, by_parts};
 ghost use Rattle.ends_core.specs.Closing.{IsTaking};
 ghost use Rattle.ends_core.specs.EndStates.{HasNone};
 ghost use Rattle.ends_core.specs.Roles.{most_of};
+ghost use Rattle.ends_core.specs.Sizes.{taken_size};
 ghost use Rattle.ends_core.specs.Turns.{IsJudged, KeepsLimit, answer_in, told_in, fresh};
 ghost use Rattle.ends_core.specs.Turns.{end_after, after_part, after_end, after_message};
 
@@ -234,6 +235,14 @@ impl<R: Role, S: RangeStore, F: Summary> SessionEnd<R, S, F> {
         ensures { result ≡ is_over self.now.end.stage }
     {
         self.end.is_over()
+    }
+
+    /// How many bytes of memory are counted for what it took of a message that has not ended: the reply to those parts,
+    /// and what they teach.
+    pub fn taken_size(&self) -> u64
+        ensures { result ≡ taken_size self.now.taken }
+    {
+        self.end.taken_size()
     }
 
     /// What was learned, each item once.

@@ -4,6 +4,7 @@
 -- hello before is due after; where more is to be done bytes were moved, or it was interrupted, or the input has ended.
 -- Of two calls it is the second's, and a sum is no less than its second part.
 use Rattle.std.proofs.Common.{◌≡◌, ℕ, Bool, ◌+◌, ◌<◌, ◌≤◌, true, false, List, ◌++◌, length, take}
+use Rattle.std.proofs.Common.{OnOk}
 use Rattle.std.proofs.Common.{Result, Ok, Err, Box, Global, append-nil, inl, inr, refl, sym, ap, ◌∙◌, subst, arith}
 use Rattle.std.specs.Prelude.{◌||◌}
 use Rattle.std.specs.Box.{with_value}
@@ -12,6 +13,7 @@ use Rattle.definitions.specs.Fingerprints as prints
 use Rattle.definitions.specs.Wire.{Profile, two_lane_profile, counted_profile}
 use Rattle.session_core.specs.Sessions.{SessionState}
 use Rattle.session_core.specs.Links.{Stands, Fails, pause_at, both_of}
+use Rattle.session_core.specs.Overs.{EndsBy}
 use Rattle.session_core.specs.Polls.{ReadsSo, WritesSo}
 use Rattle.session_core.specs.declared.fault.LinkFault.{LinkFault}
 use Rattle.session_core.specs.declared.fault.LinkFault.TheVariants as faults
@@ -22,8 +24,9 @@ use Rattle.session_core.specs.declared.pumped.Pause.TheVariants as pauses
 use Rattle.session_core.specs.declared.pumped.Pumped.{Pumped}
 use Rattle.hub_core.specs.Greetings.{GreetingState, IsGreeting}
 use Rattle.hub_core.specs.Firsts.{is_due}
-use Rattle.hub_core.specs.Steps.{LeavesAt, LeavesGreeting, is_ready}
-use Rattle.hub_core.specs.Peers.{LeavesOff}
+use Rattle.hub_core.specs.Steps.{EndsGreeting, LeavesAt, LeavesGreeting, RestsGreeting, is_ready}
+use Rattle.hub_core.specs.Peers.{EndsPhase, LeavesOff, over_in}
+use Rattle.hub_core.specs.declared.phase.Phase.{Phase}
 use Rattle.hub_core.specs.declared.phase.Phase.TheVariants as phases
 
 -- ---- one read or write of a greeting
@@ -134,3 +137,42 @@ pub counted-leaves : (q : Result Pumped LinkFault) (b : Box (SessionState prints
     LeavesOff (phases.Counted (with_value b y)) r w q
 counted-leaves (Ok p) b y r w stands fails = stands
 counted-leaves (Err f) b y r w stands fails = fails
+
+-- ---- that an input is over
+
+pub ends-greeting : (f g h : GreetingState) (mid last : Last) → EndsGreeting f g mid → EndsGreeting g h last →
+    RestsGreeting g h mid last → EndsGreeting f h last
+ends-greeting f g h mid last first second rests = λ is. elim (second is) [
+  | inr here ↦ inr here
+  | inl before ↦ elim (first before) [
+    | inl start ↦ inl start
+    | inr end ↦ inr ((rests before).1 ∙ end)
+  ]
+]
+
+pub rests-greeting : (f g h : GreetingState) (before mid last : Last) → RestsGreeting f g before mid →
+    RestsGreeting g h mid last → RestsGreeting f h before last
+rests-greeting f g h before mid last first second = λ over.
+    let one = first over in
+    let two = second one.0 in
+    (two.0, two.1 ∙ one.1)
+
+pub plain-ends : (q : Result Pumped LinkFault) (old : Phase) (b : Box (SessionState Lanes) Global)
+    (x y : SessionState Lanes) (last : Last) → old ≡ phases.Plain b → x ≡ b.value → OnOk q (EndsBy x y last) →
+    OnOk q (EndsPhase old (phases.Plain (with_value b y)) last)
+plain-ends (Ok p) old b x y last is same ends = λ over. elim (ends over) [
+  | inl before ↦ inl (subst (λ o. over_in o ≡ true) (sym is)
+      (subst (λ (z : SessionState Lanes). z.over ≡ true) same before))
+  | inr end ↦ inr end.0
+]
+plain-ends (Err f) old b x y last is same ends = tt
+
+pub counted-ends : (q : Result Pumped LinkFault) (old : Phase) (b : Box (SessionState prints.Counted) Global)
+    (x y : SessionState prints.Counted) (last : Last) → old ≡ phases.Counted b → x ≡ b.value →
+    OnOk q (EndsBy x y last) → OnOk q (EndsPhase old (phases.Counted (with_value b y)) last)
+counted-ends (Ok p) old b x y last is same ends = λ over. elim (ends over) [
+  | inl before ↦ inl (subst (λ o. over_in o ≡ true) (sym is)
+      (subst (λ (z : SessionState prints.Counted). z.over ≡ true) same before))
+  | inr end ↦ inr end.0
+]
+counted-ends (Err f) old b x y last is same ends = tt

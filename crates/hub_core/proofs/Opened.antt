@@ -16,8 +16,7 @@ use Rattle.definitions.specs.Wire.{Profile, message_text, two_lane_profile, coun
 use Rattle.definitions.specs.Engines.{Speaker, responding}
 use Rattle.definitions.specs.Ends.{is_live}
 use Rattle.ends_core.specs.Sides.{said_to}
-use Rattle.session_core.specs.Outboxes.{outbox_state}
-use Rattle.session_core.specs.Sessions.{SessionState, Knows, Pushes, Takes, due, frame_of, with_talk, with_outbox}
+use Rattle.session_core.specs.Sessions.{SessionState, Knows, Pushes, Takes, all_made, frame_of, with_talk, with_outbox}
 use Rattle.hub_core.specs.Greetings.{GreetingState, is_counted, told}
 use Rattle.hub_core.specs.Peers.{Knowing}
 use Rattle.hub_core.specs.declared.phase.Phase.TheVariants as phases
@@ -25,7 +24,7 @@ use Rattle.hub_core.specs.declared.phase.Phase.TheVariants as phases
 module _ {F : Type 0} (S : Summary F) (W : Profile F) where
   -- as many bytes of the hello as were written are taken
   pub taken-hello : (P : Peer) (c d e : SessionState F) (said n : ℕ) → Knows S W (responding P) c [] [] →
-      d ≡ with_talk c (with_outbox c.talk (outbox_state (due W c.talk) []) true) → Takes S W c [] d →
+      d ≡ with_talk c (with_outbox c.talk (all_made W c.talk) true) → Takes S W c [] d →
       n ≡ min said (length d.talk.outbox.ready) → Takes S W d (take n d.talk.outbox.ready) e →
       length W.hello ≡ 4 → said ≤ 4 → Knows S W (responding P) e [] (take said W.hello)
   taken-hello P c d e said n k made makes count takes four few =

@@ -6,11 +6,11 @@ use Rattle.std.proofs.Common.{◌≡◌, ℕ, ◌+◌, false, List, [], ◌++◌
 use Rattle.std.proofs.Common.{refl, sym, ap, ◌∙◌, subst}
 use Rattle.std.specs.Box.{with_value}
 use Rattle.std.specs.declared.io.traits.Take.{Take}
-use Rattle.definitions.specs.Fingerprints.{Lanes, Summary}
+use Rattle.definitions.specs.Fingerprints.{Lanes, Summary, two_lanes, counted_lanes}
 use Rattle.definitions.specs.Fingerprints as prints
 use Rattle.definitions.specs.Ranks.{rank_by}
 use Rattle.definitions.specs.Replies.{Peer}
-use Rattle.definitions.specs.Wire.{Profile}
+use Rattle.definitions.specs.Wire.{Profile, two_lane_profile, counted_profile}
 use Rattle.definitions.specs.Engines.{responding}
 use Rattle.definitions.specs.Worlds.{Responder}
 use Rattle.ends_core.specs.Roles.{most_of}
@@ -22,7 +22,7 @@ use Rattle.session_core.specs.declared.fault.LinkFault.{LinkFault}
 use Rattle.session_core.specs.declared.pumped.Pumped.{Pumped}
 use Rattle.hub_core.specs.Greetings.{GreetingState, Greets}
 use Rattle.hub_core.specs.Steps.{GreetsSo}
-use Rattle.hub_core.specs.Peers.{Goes, GoesSo, Knowing, PeerState, bound_in, fresh}
+use Rattle.hub_core.specs.Peers.{Goes, GoesSo, Knowing, PeerState, Writes, WritesOf, bound_in, fresh}
 use Rattle.hub_core.specs.declared.phase.Phase.{Phase}
 use Rattle.hub_core.specs.declared.phase.Phase.TheVariants as phases
 
@@ -113,3 +113,16 @@ pub counted-bound : (n : ℕ) (phase : Phase) (b : Box (SessionState prints.Coun
 counted-bound n phase b x is same bound =
     rw is (subst (λ (y : SessionState prints.Counted). n ≡ rank_by y.talk.held.steps
     (length y.talk.held.end.peer.items) + most_of Responder) same bound)
+
+-- ---- how many messages were written whole
+
+pub plain-writes : (n : ℕ) (phase : Phase) (b : Box (SessionState Lanes) Global) (x : SessionState Lanes) →
+    phase ≡ phases.Plain b → x ≡ b.value → WritesOf two_lanes two_lane_profile x n → Writes phase n
+plain-writes n phase b x is same writes =
+    rw is (subst (λ (y : SessionState Lanes). WritesOf two_lanes two_lane_profile y n) same writes)
+
+pub counted-writes : (n : ℕ) (phase : Phase) (b : Box (SessionState prints.Counted) Global)
+    (x : SessionState prints.Counted) → phase ≡ phases.Counted b → x ≡ b.value →
+    WritesOf counted_lanes counted_profile x n → Writes phase n
+counted-writes n phase b x is same writes =
+    rw is (subst (λ (y : SessionState prints.Counted). WritesOf counted_lanes counted_profile y n) same writes)

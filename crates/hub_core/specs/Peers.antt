@@ -6,19 +6,23 @@
 --     LeavesOff phase r w result          why a call left off, and which way failed where one did
 --     CountsSo p q now result             when it was heard, and how many bytes came since our last message
 --     IsChosen phase came                 the session is of the profile that these bytes choose
+--     over_in phase                       whether it was told that the input is over
+--     EndsPhase old new last              it was told so only where the last read found the end
 --     Opens P old new                     the session of a greeting was opened
 --     version_after phase was given       the version that a peer's session speaks of then
 --     kept_in, sent_in, bound_in          what it keeps in memory, how many messages were said to it, and may be
+--     written_in, Writes                  how many of them were written whole: of all that is said to the bytes read,
+--                                         just the first so many end within those that were written
 --     owes, state_in, goes_on, Learns     whether text is made and not written, how its session stands, whether it goes
 --                                         on, and what it has learned
 --     PeerState, IsFresh, woken           a peer, one that has just come, one whose stream is ready again
 --     is_from origin p                    it comes from this origin
-use Rattle.std.specs.Prelude.{◌≡◌, ℕ, ◌+◌, ◌-◌, ◌^◌, ◌&&◌, min, nat_eq, nat_lt, Bool, true, false, List, [], ◌++◌}
+use Rattle.std.specs.Prelude.{◌≡◌, ◌⊎◌, ℕ, ◌+◌, ◌-◌, ◌^◌, ◌&&◌, min, nat_eq, nat_lt, Bool, true, false, List, [], ◌++◌}
 use Rattle.std.specs.Prelude.{length, if◌then◌else◌, Option, Some, None, Result, Ok, Err}
 use Rattle.std.specs.Io.KnownBytes.{Consumes, Appends}
 use Rattle.std.specs.Io.Take.{take_inner, take_limit}
 use Rattle.std.specs.declared.io.traits.Take.{Take}
-use Rattle.definitions.specs.Fingerprints.{two_lanes, counted_lanes}
+use Rattle.definitions.specs.Fingerprints.{Summary, two_lanes, counted_lanes}
 use Rattle.definitions.specs.Ranks.{rank_by}
 use Rattle.definitions.specs.Replies.{Peer}
 use Rattle.definitions.specs.Talks.{Knowledge}
@@ -26,7 +30,10 @@ use Rattle.definitions.specs.Wire.{Profile, two_lane_profile, counted_profile}
 use Rattle.definitions.specs.Engines.{responding}
 use Rattle.definitions.specs.Worlds.{Responder}
 use Rattle.ends_core.specs.Roles.{most_of}
+use Rattle.ends_core.specs.Sides.{said_to}
 use Rattle.session_core.specs.Kept.{kept_by}
+use Rattle.session_core.specs.Outboxes.{unwritten}
+use Rattle.session_core.specs.Written.{IsWritten}
 use Rattle.session_core.specs.Sessions.{SessionState, Knows, is_open}
 use Rattle.session_core.specs.declared.state.State.{State}
 use Rattle.session_core.specs.declared.state.State.TheVariants as states
@@ -76,9 +83,17 @@ IsChosen (phases.Greeting g) came = ⊥
 IsChosen (phases.Plain c) came = is_counted came ≡ false
 IsChosen (phases.Counted c) came = is_counted came ≡ true
 
--- where it was open already nothing has changed
+abbrev pub over_in : Phase → Bool
+over_in (phases.Greeting g) = g.over
+over_in (phases.Plain c) = c.value.over
+over_in (phases.Counted c) = c.value.over
+
+abbrev pub EndsPhase : Phase → Phase → Last → Type 0
+EndsPhase old new last = over_in new ≡ true → (over_in old ≡ true) ⊎ (last ≡ lasts.Ended)
+
+-- its input is over where that of the greeting was; where it was open already nothing has changed
 abbrev pub Opens : Peer → Phase → Phase → Type 0
-Opens P (phases.Greeting g) new = Knowing P new g.came (told g) × IsChosen new g.came
+Opens P (phases.Greeting g) new = Knowing P new g.came (told g) × IsChosen new g.came × (over_in new ≡ g.over)
 Opens P (phases.Plain c) new = new ≡ phases.Plain c
 Opens P (phases.Counted c) new = new ≡ phases.Counted c
 
@@ -100,6 +115,20 @@ abbrev pub sent_in : Phase → ℕ
 sent_in (phases.Greeting g) = 0
 sent_in (phases.Plain c) = c.value.talk.held.end.sent
 sent_in (phases.Counted c) = c.value.talk.held.end.sent
+
+abbrev pub written_in : Phase → ℕ
+written_in (phases.Greeting g) = 0
+written_in (phases.Plain c) = c.value.talk.held.end.sent - unwritten c.value.talk.outbox
+written_in (phases.Counted c) = c.value.talk.held.end.sent - unwritten c.value.talk.outbox
+
+abbrev pub WritesOf : {F : Type 0} → Summary F → Profile F → SessionState F → ℕ → Type 0
+WritesOf S W c n = (P : Peer) (pushed taken : List ℕ) → Knows S W (responding P) c pushed taken →
+    IsWritten W (said_to S W (responding P) pushed) taken n
+
+abbrev pub Writes : Phase → ℕ → Type 0
+Writes (phases.Greeting g) n = n ≡ 0
+Writes (phases.Plain c) n = WritesOf two_lanes two_lane_profile c.value n
+Writes (phases.Counted c) n = WritesOf counted_lanes counted_profile c.value n
 
 -- how many messages its session says at most
 abbrev pub bound_in : Phase → ℕ

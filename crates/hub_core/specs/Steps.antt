@@ -3,6 +3,7 @@
 --     IsIdle, IsBusy, IsDone   a greeting that waits, that goes on soon, that asks for its session
 --     LeavesGreeting .. result why a greeting's call left off, and which way failed where one did
 --     GreetsSo .. result       nothing was lost, and the bytes are counted, unless the call failed
+--     EndsGreeting, RestsGreeting      its input is over only where the last read found the end; nothing is read then
 use Rattle.std.specs.Prelude.{◌≡◌, ◌⊎◌, ◌<◌, ◌≤◌, ℕ, ◌+◌, ◌-◌, ◌^◌, ◌||◌, min, Bool, true, false, List, [], length}
 use Rattle.std.specs.Prelude.{Option, Result, Ok, Err}
 use Rattle.session_core.specs.Links.{count_of, Fails}
@@ -50,3 +51,9 @@ LeavesAt pauses.Over g r w read written = ⊥
 abbrev pub LeavesGreeting : GreetingState → Last → Last → Result Pumped LinkFault → Type 0
 LeavesGreeting g r w (Ok s) = LeavesAt s.pause g r w s.read s.written
 LeavesGreeting g r w (Err f) = Fails {X = Pumped} (Err f) r w
+
+abbrev pub EndsGreeting : GreetingState → GreetingState → Last → Type 0
+EndsGreeting g h last = h.over ≡ true → (g.over ≡ true) ⊎ (last ≡ lasts.Ended)
+
+abbrev pub RestsGreeting : GreetingState → GreetingState → Last → Last → Type 0
+RestsGreeting g h before after = g.over ≡ true → (h.over ≡ true) × (after ≡ before)

@@ -6,7 +6,7 @@ ghost use Rattle.std.specs.Io.KnownBytes.{Consumes, Appends};
 ghost use Rattle.session_core.specs.declared.fault.LinkFault.TheVariants as faults;
 ghost use Rattle.hub_core.specs.Greetings as greetings;
 ghost use Rattle.hub_core.specs.Greetings.{Greets, own_hello};
-ghost use Rattle.hub_core.specs.Steps.{GreetsSo, LeavesGreeting, is_ready};
+ghost use Rattle.hub_core.specs.Steps.{EndsGreeting, GreetsSo, LeavesGreeting, RestsGreeting, is_ready};
 
 use crate::due::{HELLO, is_counted, is_due, rest_of};
 use digest_core::{Counted, Fingerprint, Summary};
@@ -81,7 +81,7 @@ impl Greeting {
     }
 
     /// The hello that is written to it.
-    fn hello(&self) -> [u8; 4]
+    pub fn hello(&self) -> [u8; 4]
         ensures { result ≡ own_hello self.now.came }
     {
         if is_counted(&self.came) {
@@ -97,6 +97,7 @@ impl Greeting {
         ensures leaves { (r : _) → LeavesGreeting self.new r writer.new.last result }
         ensures moved { (unread : _) → GreetsSo self.old self.new unread unread (O.contents writer.old.way)
             (O.contents writer.new.way) result }
+        ensures over { self.new.over ≡ self.old.over }
     {
         let hello = self.hello();
         let count = writer.write(rest_of(&hello, self.said));
@@ -134,6 +135,7 @@ impl Greeting {
         ensures moved { (held : _) → GreetsSo self.old self.new (I.remaining reader.old.way)
             (I.remaining reader.new.way) held held result }
         ensures leaves { (w : _) → LeavesGreeting self.new reader.new.last w result }
+        ensures over { OnOk result (EndsGreeting self.old self.new reader.new.last) }
         ensures room { length room.new ≡ length room.old }
     {
         let count = reader.read(room);
@@ -157,6 +159,8 @@ impl Greeting {
         ensures moved { GreetsSo self.old self.new (I.remaining reader.old.way) (I.remaining reader.new.way)
             (O.contents writer.old.way) (O.contents writer.new.way) result }
         ensures leaves { LeavesGreeting self.new reader.new.last writer.new.last result }
+        ensures over { OnOk result (EndsGreeting self.old self.new reader.new.last) }
+        ensures rests { OnOk result (RestsGreeting self.old self.new reader.old.last reader.new.last) }
         ensures room { length room.new ≡ length room.old }
     {
         if self.came.len() >= HELLO && self.said < HELLO {
@@ -183,6 +187,8 @@ impl Greeting {
         ensures moved { GreetsSo self.old self.new (I.remaining reader.old.way) (I.remaining reader.new.way)
             (O.contents writer.old.way) (O.contents writer.new.way) result }
         ensures leaves { LeavesGreeting self.new reader.new.last writer.new.last result }
+        ensures over { OnOk result (EndsGreeting self.old self.new reader.new.last) }
+        ensures rests { OnOk result (RestsGreeting self.old self.new reader.old.last reader.new.last) }
         ensures room { length room.new ≡ length room.old }
     {
         let mut step = self.move_once(reader, writer, room)?;

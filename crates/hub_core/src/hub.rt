@@ -10,7 +10,7 @@ ghost use Rattle.range_tree.specs.Trees.{tree_items};
 ghost use Rattle.hub_core.specs.Hubs as hubs;
 ghost use Rattle.hub_core.specs.Hubs.{OthersStay, held_by, kept, silence};
 ghost use Rattle.hub_core.specs.Totals.{IsMost, IsMostOf};
-ghost use Rattle.hub_core.specs.Peers.{CountsSo, GoesSo, LeavesOff, Opens, is_from, version_after};
+ghost use Rattle.hub_core.specs.Peers.{CountsSo, EndsPhase, GoesSo, LeavesOff, Opens, is_from, version_after};
 
 use crate::best::{Measure, better};
 use crate::limits::HubLimits;
@@ -167,6 +167,8 @@ impl<I: Read, O: Write> Hub<I, O> {
             (take_remaining I.remaining q.reader.way) (O.contents p.writer.way) (O.contents q.writer.way) did) }
         ensures leaves { IfSome result (λ did. (q : _) → get self.new.peers key ≡ Some q →
             LeavesOff q.phase q.reader.last q.writer.last did) }
+        ensures over { IfSome result (λ did. (p q : _) → get self.old.peers key ≡ Some p →
+            get self.new.peers key ≡ Some q → OnOk did (EndsPhase p.phase q.phase q.reader.last)) }
         ensures counts { IfSome result (λ did. (p q : _) → get self.old.peers key ≡ Some p →
             get self.new.peers key ≡ Some q → CountsSo p q now did) }
         ensures there { IsSome (get self.new.peers key) ↔ IsSome (get self.old.peers key) }

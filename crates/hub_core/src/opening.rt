@@ -1,6 +1,6 @@
 //! The session of a peer whose first message has come.
 
-ghost use Rattle.std.specs.Prelude.{◌≡◌, ◌≤◌, ℕ, List, [], true, false, length, take, IfOk, OnOk};
+ghost use Rattle.std.specs.Prelude.{◌≡◌, ◌≤◌, ◌||◌, ℕ, List, [], true, false, length, take, IfOk, OnOk};
 ghost use Rattle.std.specs.Arc.{arc_value};
 ghost use Rattle.definitions.specs.Ends.{is_live};
 ghost use Rattle.definitions.specs.Engines.{Speaker, responding};
@@ -8,7 +8,7 @@ ghost use Rattle.ends_core.specs.Sides.{peer_of};
 ghost use Rattle.session_core.specs.Sessions.{Knows};
 ghost use Rattle.range_tree.specs.Trees.{tree_items};
 ghost use Rattle.hub_core.specs.Greetings.{told};
-ghost use Rattle.hub_core.specs.Peers.{Knowing, IsChosen};
+ghost use Rattle.hub_core.specs.Peers.{Knowing, IsChosen, over_in};
 
 use crate::greeting::Greeting;
 use crate::phase::Phase;
@@ -48,8 +48,9 @@ fn finish_if<S: RangeStore, F: Summary>(
     session: &mut Session<Responding, S, F>,
     over: bool,
 ) -> Result<(), AllocError>
-    ensures { OnOk result ((s : Speaker F) (pushed taken : List ℕ) → is_live s.start.stage ≡ true →
+    ensures knows { OnOk result ((s : Speaker F) (pushed taken : List ℕ) → is_live s.start.stage ≡ true →
         Knows F.summary F.profile s session.old pushed taken → Knows F.summary F.profile s session.new pushed taken) }
+    ensures over { session.new.over ≡ (over || session.old.over) }
 {
     if over {
         session.finish();
@@ -66,9 +67,10 @@ fn begun<S: RangeStore, F: Summary>(
     greeting: &Greeting,
 ) -> Result<Session<Responding, S, F>, AllocError>
     requires { length (S.content store) ≤ (arc_value accepted).table.cap }
-    ensures { IfOk result (λ c. Knows F.summary F.profile
+    ensures knows { IfOk result (λ c. Knows F.summary F.profile
         (responding (peer_of (arc_value accepted) (S.content store))) c greeting.now.came
         (take greeting.now.said F.profile.hello)) }
+    ensures over { IfOk result (λ c. c.over ≡ greeting.now.over) }
 {
     let mut session = started(alloc, accepted, store, greeting.said())?;
     let taken = session.push(alloc, greeting.came())?;
@@ -90,6 +92,7 @@ pub(crate) fn opened(
     ensures knows { IfOk result (λ phase. Knowing (peer_of (arc_value accepted.now) (tree_items store)) phase
         greeting.now.came (told greeting.now)) }
     ensures chosen { IfOk result (λ phase. IsChosen phase greeting.now.came) }
+    ensures over { IfOk result (λ phase. over_in phase ≡ greeting.now.over) }
 {
     let accepted = Arc::try_clone(accepted)?;
     if greeting.is_counted() {

@@ -7,8 +7,8 @@ ghost use Rattle.std.specs.Io.Take.{take_inner, take_limit, take_remaining};
 ghost use Rattle.ends_core.specs.Sides.{peer_of};
 ghost use Rattle.range_tree.specs.Trees.{tree_items};
 ghost use Rattle.hub_core.specs.Peers as peers;
-ghost use Rattle.hub_core.specs.Peers.{CountsSo, GoesSo, IsFresh, LeavesOff, Learns, Opens, heard_by, kept_in};
-ghost use Rattle.hub_core.specs.Peers.{long_by, sent_in, state_in, version_after, woken};
+ghost use Rattle.hub_core.specs.Peers.{CountsSo, EndsPhase, GoesSo, IsFresh, LeavesOff, Learns, Opens, heard_by};
+ghost use Rattle.hub_core.specs.Peers.{kept_in, long_by, sent_in, state_in, version_after, woken};
 
 use crate::greeting::Greeting;
 use crate::opening::opened;
@@ -241,6 +241,7 @@ impl<I: Read, O: Write> Peer<I, O> {
             (take_remaining I.remaining self.new.reader.way) (O.contents self.old.writer.way)
             (O.contents self.new.writer.way) result }
         ensures leaves { LeavesOff self.new.phase self.new.reader.last self.new.writer.last result }
+        ensures over { OnOk result (EndsPhase self.old.phase self.new.phase self.new.reader.last) }
         ensures counts { CountsSo self.old self.new now result }
         ensures same { (self.new.version ≡ self.old.version) × (self.new.serial ≡ self.old.serial)
             × (self.new.arrived ≡ self.old.arrived) × (self.new.origin ≡ self.old.origin) }

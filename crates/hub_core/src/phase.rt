@@ -1,9 +1,10 @@
 //! How far a peer is: it greets, or its session goes on in one of the two profiles.
 
-ghost use Rattle.std.specs.Prelude.{◌≡◌, ◌≢◌, ◌<◌, length, Some, IfSome, IfNone};
+ghost use Rattle.std.specs.Prelude.{◌≡◌, ◌≢◌, ◌<◌, length, Some, IfSome, IfNone, OnOk};
 ghost use Rattle.session_core.specs.declared.state.State.TheVariants as states;
 ghost use Rattle.hub_core.specs.Peers as peers;
-ghost use Rattle.hub_core.specs.Peers.{GoesSo, LeavesOff, Learns, bound_in, goes_on, kept_in, sent_in, state_in};
+ghost use Rattle.hub_core.specs.Peers.{EndsPhase, GoesSo, LeavesOff, Learns, Writes};
+ghost use Rattle.hub_core.specs.Peers.{bound_in, goes_on, kept_in, sent_in, state_in, written_in};
 
 use crate::greeting::Greeting;
 use digest_core::{Counted, Fingerprint};
@@ -44,6 +45,19 @@ impl Phase {
             Phase::Greeting(_) => 0,
             Phase::Plain(session) => session.sent(),
             Phase::Counted(session) => session.sent(),
+        }
+    }
+
+    /// How many of them were written whole.
+    pub fn written(&self) -> u32
+        ensures written { result ≡ written_in self.now }
+        // Just so many end within the bytes that were written.
+        ensures whole { Writes self.now result }
+    {
+        match self {
+            Phase::Greeting(_) => 0,
+            Phase::Plain(session) => session.written(),
+            Phase::Counted(session) => session.written(),
         }
     }
 
@@ -123,6 +137,7 @@ impl Phase {
         ensures moved { GoesSo self.old self.new (I.remaining reader.old.way) (I.remaining reader.new.way)
             (O.contents writer.old.way) (O.contents writer.new.way) result }
         ensures leaves { LeavesOff self.new reader.new.last writer.new.last result }
+        ensures over { OnOk result (EndsPhase self.old self.new reader.new.last) }
         ensures room { length room.new ≡ length room.old }
     {
         match self {

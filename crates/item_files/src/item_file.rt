@@ -3,7 +3,8 @@
 //! In hex a carriage return at a line's end, then spaces and tabs at both its ends, and blank lines are ignored. A line
 //! of text without one carriage return at its end is an item as it stands, or spells one in hex after `0x`; empty
 //! lines are ignored. Of lines that are hashed this is so too, but that the SHA-256 digest of a line is its item,
-//! unless the line begins with `0x`. An item given twice counts once. A file that begins with a byte order mark is refused.
+//! unless the line begins with `0x`. An item given twice counts once. A file that begins with a byte order mark is
+//! refused.
 
 ghost use Rattle.std.specs.Prelude.{◌≡◌, ◌≢◌, ◌<◌, ◌≤◌, ℕ, List, [], ◌∷◌, ◌++◌, length, IfOk, IfErr, IfSome, OnOk};
 ghost use Rattle.std.specs.Prelude.{option_map, Some, None, Ok, Err};

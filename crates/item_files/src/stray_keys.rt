@@ -2,7 +2,8 @@
 
 ghost use Rattle.std.specs.Prelude.{◌≡◌, ℕ, option_map, IfOk, IfSome, true, Some, None};
 ghost use Rattle.toml.specs.View.{table_view, array_view, view};
-ghost use Rattle.item_files.specs.StrayKeys.{is_key, stray_in, stray_in_row, stray_in_rows, stray_in_table, told, rows_at};
+ghost use Rattle.item_files.specs.StrayKeys.{is_key, stray_in, stray_in_row, stray_in_rows, stray_in_table, told};
+ghost use Rattle.item_files.specs.StrayKeys.{rows_at};
 
 use std::alloc::{AllocError, Global};
 use strategy_core::member;

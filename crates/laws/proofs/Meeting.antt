@@ -1,7 +1,7 @@
 -- Two sides over bytes: if all that each wrote is all that the other got, they had the talk.
 -- Each side says messages that have a spelling (Spelled), so the other hears just these; a fault frame after them is no
--- message. So there are two lists of messages, of which each is what its side says to the other. Two ends that meet in a
--- message M (Turns) and say such lists say the talk from M on: the speaker's list begins with M; the hearer's begins
+-- message. So there are two lists of messages, of which each is what its side says to the other. Two ends that meet in
+-- a message M (Turns) and say such lists say the talk from M on: the speaker's list begins with M; the hearer's begins
 -- with its reply to M, and the two meet again in that; a message with no open part leaves both over. So by induction
 -- both lists are those of the talk, which ends, and both ends are over. A side whose end is over refused nothing.
 -- docs/LAWS.md: Two sessions meet.

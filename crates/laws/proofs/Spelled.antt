@@ -1,11 +1,12 @@
 -- What a side says has a spelling, whatever it gets, so it is heard as it was said.
--- A cut has its bounds at items, or at beginnings of items that are not empty, and its parts rise. So each part of a cut
--- is a range, and its Sum has a spelling. Lists of a set's items and its Answers fit (Made). A reply with too many parts
--- is not said, so each message that is said has a spelling.
+-- A cut has its bounds at items, or at beginnings of items that are not empty, and its parts rise. So each part of a
+-- cut is a range, and its Sum has a spelling. Lists of a set's items and its Answers fit (Made). A reply with too many
+-- parts is not said, so each message that is said has a spelling.
 -- docs/LAWS.md: Two sessions meet.
 use Rattle.std.proofs.Common.{◌≡◌, ℕ, ◌+◌, ◌-◌, ◌<◌, ◌≤◌, List, [], ◌∷◌, length}
 use Rattle.std.proofs.Common.{Option, Some, None, get_or, map, sum, refl, sym, subst, ◌∙◌, arith}
-use Rattle.definitions.proofs.Words.{AllByRecursion, Item, IsItem, IsBytes, IsLower, IsUpper, IsRange, Range, Rises, whole}
+use Rattle.definitions.proofs.Words.{AllByRecursion, Item, IsItem, IsBytes, IsLower, IsUpper, IsRange, Range, Rises}
+use Rattle.definitions.proofs.Words.{whole}
 use Rattle.definitions.proofs.Words.{ranges_between, separator, IsSet, items_in, inner_cuts, bound_at, Bounds, At_items}
 use Rattle.definitions.proofs.Words.{Short, act, shares, Summary, Message, has_open, opening}
 use Rattle.definitions.proofs.Words.{Peer, sum_of, reply, Profile, IsProfile, IsPart, IsMessage, range_text}

@@ -13,7 +13,8 @@ use Rattle.std.specs.Prelude.{IfSome, flat_map, ◌==◌}
 use Rattle.std.proofs.lemmas.List.{take-take}
 use Rattle.definitions.proofs.Words.{Item, Summary, IsExact, History, content, items_of, version, World, Session, Node}
 use Rattle.definitions.proofs.Words.{Side, Initiator, Responder, Step, node_at, no_node, peer_at, has, has_ended, step}
-use Rattle.definitions.proofs.Words.{run, insert_at, absorb_at, absorb_side, list_any, inserts, initiator_of, responder_of}
+use Rattle.definitions.proofs.Words.{run, insert_at, absorb_at, absorb_side, list_any, inserts, initiator_of}
+use Rattle.definitions.proofs.Words.{responder_of}
 use Rattle.definitions.specs.Worlds.{Did, Insert, Open, Deliver, Absorb, open_at, deliver_at, after_delivery}
 use Rattle.definitions.proofs.Lemmas.{cond_both, fold-append, cases_lt, get_or_from_slice_get, get_or_past, or_left}
 use Rattle.definitions.proofs.Lemmas.{or_right}
@@ -74,7 +75,8 @@ absorb_sessions : {F : Type 0} (S : Summary F) (w : World) (side : Side) (o : Op
     (absorb_at S w side o).0.sessions ≡ w.sessions
 absorb_sessions S w side None = refl
 absorb_sessions S w side (Some s) =
-    cond_both (has_ended S w s) _ _ (λ (p : World × Did). p.0.sessions ≡ w.sessions) (λ e. by_side side) (λ e. refl) where
+    cond_both (has_ended S w s) _ _ (λ (p : World × Did). p.0.sessions ≡ w.sessions) (λ e. by_side side)
+    (λ e. refl) where
       by_side : (side : Side) → (absorb_side S w s side).0.sessions ≡ w.sessions
       by_side Initiator = refl
       by_side Responder = refl

@@ -9,7 +9,8 @@
 -- What is heard are messages: the parts that came since the last end have spellings and are no more than a message may
 -- have. A session's text is heard as its messages, since each of its frames is next in turn.
 -- docs/LAWS.md: A stream may come in pieces.
-use Rattle.std.proofs.Common.{rules, ◌≡◌, ℕ, zero, suc, ◌+◌, ◌<◌, ◌≤◌, Bool, true, false, take, drop, List, [], ◌∷◌, ◌++◌}
+use Rattle.std.proofs.Common.{rules, ◌≡◌, ℕ, zero, suc, ◌+◌, ◌<◌, ◌≤◌, Bool, true, false, take, drop, List, [], ◌∷◌}
+use Rattle.std.proofs.Common.{◌++◌}
 use Rattle.std.proofs.Common.{length, Option, Some, None, Ok, refl, sym, ap, subst, ◌∙◌, arith, inl, inr, append_assoc}
 use Rattle.std.proofs.Common.{map}
 use Rattle.std.specs.Prelude.{◌≢◌, nat_lt, bytes_eq, if◌then◌else◌, flat_map}

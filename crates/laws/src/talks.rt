@@ -351,7 +351,7 @@ pub fn knowledge_is_sound<F>()
 
 // ---- two sides over bytes
 
-/// Two sides, each of which gets all that the other writes and nothing else, end their sessions, and have said the talk.
+/// Two sides, each of which gets all that the other writes and nothing else, end their sessions and have said the talk.
 /// docs/LAWS.md: *Two sessions meet*.
 pub fn two_sessions_meet<F>()
     ensures { (S : Summary F) (W : Profile F) → TwoSessionsMeet S W }

@@ -137,6 +137,11 @@ impl Opened {
         self.is_regular && self.length == 0
     }
 
+    /// Whether it is a regular file: no device, pipe or terminal.
+    pub fn is_regular(&self) -> bool {
+        self.is_regular
+    }
+
     /// What the file holds, from its start.
     pub fn reader(&mut self) -> io::Result<&File> {
         self.file.seek(SeekFrom::Start(0))?;

@@ -1,7 +1,7 @@
 //! What a side of sessions begins with.
 
-ghost use Rattle.std.specs.Prelude.{◌≡◌, ◌≤◌, Some, None, length, IfOk};
-ghost use Rattle.definitions.specs.Sets.{IsSet};
+ghost use Rattle.std.specs.Prelude.{◌≡◌, ◌≤◌, ◌++◌, Some, None, length, IfOk};
+ghost use Rattle.definitions.specs.Sets.{IsSet, set_of};
 ghost use Rattle.range_tree.specs.Trees.{tree_items};
 
 use crate::disk::{Kept, Opened, item_file, open_lines};
@@ -71,7 +71,8 @@ fn accepted<'a>(alloc: Global, path: &'a str, table: &Table) -> Result<Accepted,
 }
 
 /// The strategy in the file, accepted, or the one that is shipped under the name, where no file is there. Standard
-/// error is told of a key of it that says nothing, if it is told more. Else 80, 30 to 35 or 29, then 37, 36 or 38, and 90.
+/// error is told of a key of it that says nothing, if it is told more. Else 80, 30 to 35 or 29, then 37, 36 or 38, and
+/// 90.
 pub fn strategy_of<'a, R: Files + AllocGlobal, E: Write>(
     rt: &R,
     source: TableSource<'a>,
@@ -160,7 +161,7 @@ impl<'a> Sources<'a> {
             form: words.form,
             items: Some(words.items),
             keep: None,
-            learns: false,
+            learns: words.keep.is_some(),
             shows,
         }
     }
@@ -257,6 +258,7 @@ fn kept_set<'a>(
 
 /// The set of the items of both. Else 82 where there are more different items than `cap`, or 90.
 fn joined(items: Vec<Item>, more: &[Item], cap: usize) -> Result<Vec<Item>, SettingsFault>
+    ensures union { IfOk result (λ v. v.items ≡ set_of (items.items ++ more.now)) }
     ensures rises { IfOk result (λ v. IsSet v.items) }
     ensures few { IfOk result (λ v. length v.items ≤ cap) }
 {
@@ -279,6 +281,7 @@ fn joined_set<'a>(
     sources: Sources<'a>,
     cap: usize,
 ) -> Result<Vec<Item>, Refusal<'a>>
+    ensures union { IfOk result (λ v. v.items ≡ set_of (items.items ++ more.now)) }
     ensures rises { IfOk result (λ v. IsSet v.items) }
     ensures few { IfOk result (λ v. length v.items ≤ cap) }
 {

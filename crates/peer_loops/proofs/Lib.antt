@@ -1,2 +1,4 @@
+mod Doublings
 mod Entries
+mod Handing
 mod Places

@@ -2,6 +2,11 @@ pub use Rattle.hub_core.specs.Hubs
 pub use Rattle.hub_core.specs.Peers
 pub use Rattle.peer_threads.specs.Workers
 pub mod Changes
+pub mod Hands
+pub mod Links
+pub mod Notes
 pub mod Partings
+pub mod Pauses
 pub mod ShardSpans
 pub mod Visits
+pub mod Fronts

@@ -3,7 +3,7 @@
 --     ours_in o, theirs_in o how many own items its peer lacked, and of the peer's were lacked here, if it came to its
 --                            end
 --     IsTold l o v           what is told of a peer of which this is known, and whose session ended so
-use Rattle.std.specs.Prelude.{◌≡◌, ℕ, ◌-◌, length, Option, Some, None}
+use Rattle.std.specs.Prelude.{◌≡◌, ℕ, ◌-◌, false, length, Option, Some, None}
 use Rattle.session_table.specs.Sent.{sent_in}
 use Rattle.session_table.specs.declared.outcome.Outcome.{Outcome}
 use Rattle.session_table.specs.declared.outcome.Outcome.TheVariants as outcomes
@@ -28,6 +28,7 @@ theirs_in o = 0
 
 pub record IsTold (l : Leaver) (o : Outcome) (v : Visit) : Type 0 where
   pub address : v.address ≡ l.address
+  pub called : v.is_called ≡ false
   pub profile : v.profile ≡ l.profile
   pub serial : v.serial ≡ l.serial
   pub ending : v.ending ≡ ending_of o

@@ -1,5 +1,8 @@
 //! Peers who come to a loop: connections that it accepts, and peers that another loop hands over.
 
+ghost use Rattle.std.specs.Prelude.{◌≡◌, true};
+ghost use Rattle.peer_loops.specs.Notes.{id_of};
+
 use crate::chosen::reader_of;
 use crate::desks::Desks;
 use crate::ending::Parting;
@@ -241,7 +244,9 @@ impl Loop {
     }
 
     /// Notes the session of the peer that is to have this key, and registers its connection. Whether it could.
-    fn register(&mut self, key: usize, fd: RawFd, id: Option<SessionId>) -> bool {
+    fn register(&mut self, key: usize, fd: RawFd, id: Option<SessionId>) -> bool
+        ensures { result ≡ true → id_of self.new.notes.list.items key ≡ id }
+    {
         if self.notes.add(key, id).is_err() {
             return false;
         }

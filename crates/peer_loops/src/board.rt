@@ -1,7 +1,9 @@
 //! What those look at who watch a server: what its loops tell of their peers.
 
+ghost use Rattle.std.specs.Prelude.{◌≡◌, nat_eq, nat_lt, if◌then◌else◌};
+
 use std::alloc::{AllocError, Global};
-use std::sync::atomic::{AtomicU64, Ordering};
+use std::sync::atomic::{AtomicBool, AtomicU64, Ordering};
 use std::sync::{Condvar, Mutex, Wait};
 use std::time::{Clock, Duration};
 use watch_core::{Standing, Visit, Watch, metrics_text, page_text};
@@ -21,6 +23,28 @@ struct Gauge {
     kept: AtomicU64,
 }
 
+/// What one loop has now, as it told last.
+#[derive(Clone, Copy, Debug, PartialEq, Eq)]
+pub(crate) struct Load {
+    /// How many bytes of memory are counted for its peers.
+    pub(crate) kept: u64,
+    /// How many peers it has.
+    pub(crate) peers: u64,
+}
+
+impl Load {
+    /// Whether it is less: in bytes, and of the same bytes in peers.
+    pub(crate) fn is_lighter(self, other: Load) -> bool
+        ensures { result ≡ (if nat_eq self.kept other.kept then nat_lt self.peers other.peers
+            else nat_lt self.kept other.kept) }
+    {
+        if self.kept == other.kept {
+            return self.peers < other.peers;
+        }
+        self.kept < other.kept
+    }
+}
+
 /// What is told under one lock.
 #[derive(Drop)]
 struct Told {
@@ -35,6 +59,10 @@ pub struct Board {
     told: Mutex<Told>,
     changed: Condvar,
     gauges: Vec<Gauge>,
+    /// Whether the server is to stop, and when the peers that are still there are let go, in milliseconds of the steady
+    /// clock.
+    is_stopping: AtomicBool,
+    stops_at: AtomicU64,
 }
 
 /// The last visits.
@@ -73,6 +101,8 @@ impl Board {
             }),
             changed: Condvar::new(),
             gauges: gauges(alloc, LOOPS)?,
+            is_stopping: AtomicBool::new(false),
+            stops_at: AtomicU64::new(0),
         })
     }
 
@@ -88,6 +118,36 @@ impl Board {
             gauge.peers.store(peers, Ordering::SeqCst);
             gauge.kept.store(kept, Ordering::SeqCst);
         }
+    }
+
+    /// What the loop of this number told last that it has.
+    pub(crate) fn load(&self, index: usize) -> Load {
+        self.gauges.get(index).map_or(
+            Load { kept: 0, peers: 0 },
+            |gauge| Load {
+                kept: gauge.kept.load(Ordering::SeqCst),
+                peers: gauge.peers.load(Ordering::SeqCst),
+            },
+        )
+    }
+
+    /// The server is to stop: nobody more is taken in, and who is there at this time, in milliseconds of the steady
+    /// clock, is let go. A second call changes nothing.
+    pub fn stop(&self, at: u64) {
+        if !self.is_stopping() {
+            self.stops_at.store(at, Ordering::SeqCst);
+            self.is_stopping.store(true, Ordering::SeqCst);
+        }
+    }
+
+    /// Whether the server is to stop.
+    pub fn is_stopping(&self) -> bool {
+        self.is_stopping.load(Ordering::SeqCst)
+    }
+
+    /// Whether those are to be let go who are still there at this time.
+    pub(crate) fn lets_go(&self, now: u64) -> bool {
+        self.is_stopping() && self.stops_at.load(Ordering::SeqCst) <= now
     }
 
     /// The server is done.
@@ -152,7 +212,7 @@ impl Board {
         rt: &T,
         alloc: Global,
         standing: &Standing<'_>,
-    ) -> Result<String, AllocError> {
+    ) -> Result<Vec<u8>, AllocError> {
         metrics_text(alloc, standing, &self.told.lock(rt).watch.counts)
     }
 

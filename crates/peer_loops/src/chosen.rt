@@ -1,11 +1,13 @@
 //! Of which set a peer speaks, and of which part of it.
 
-ghost use Rattle.std.specs.Prelude.{◌≡◌};
+ghost use Rattle.std.specs.Prelude.{◌≡◌, ◌==◌, ◌||◌, length};
+ghost use Rattle.std.specs.Io.Take.{take_inner};
 ghost use Rattle.shard_core.specs.Selectors.{selecting};
+ghost use Rattle.peer_loops.specs.Fronts.{refusal_at, selected, set_of};
+ghost use Rattle.peer_loops.specs.ShardSpans as spans;
 ghost use Rattle.peer_loops.specs.ShardSpans.{part_in};
 
 use crate::desks::Desks;
-use digest_core::{Fingerprint, Summary};
 use hub_core::{Greeting, HELLO, Peer, Phase};
 use shard_core::{AfterSelector, Selecting, SetName, Which};
 use std::io::Write;
@@ -34,7 +36,9 @@ pub enum Front<'a> {
 
 impl<'a> Front<'a> {
     /// What the set is called, if peers have to say it.
-    pub fn set(self) -> Option<SetName<'a>> {
+    pub fn set(self) -> Option<SetName<'a>>
+        ensures { result ≡ set_of self.entry }
+    {
         match self {
             Front::Open => None,
             Front::Named(set) | Front::Cut(set) => Some(set),
@@ -59,7 +63,9 @@ pub(crate) fn reader_of(front: Front<'_>, reader: Half) -> Reader {
 }
 
 /// Whether it is known of which set a peer speaks: its hello has come, and ours is written; or its input is over.
-fn is_known(greeting: &Greeting) -> bool {
+fn is_known(greeting: &Greeting) -> bool
+    ensures { result ≡ ((greeting.now.said == 4) || greeting.now.over) }
+{
     greeting.said() == HELLO || greeting.is_over()
 }
 
@@ -74,7 +80,9 @@ fn said_of(set: SetName<'_>, reader: &Reader) -> Option<Which>
 }
 
 /// The part of which a peer speaks, if it has said so: of a set that is not cut the only one.
-pub(crate) fn part_of(front: Front<'_>, reader: &Reader) -> Option<Which> {
+pub(crate) fn part_of(front: Front<'_>, reader: &Reader) -> Option<Which>
+    ensures { result ≡ selected front.entry reader.now.came }
+{
     match front {
         Front::Cut(set) => said_of(set, reader),
         Front::Open | Front::Named(_) => Some(Which::Shard(0)),
@@ -83,7 +91,9 @@ pub(crate) fn part_of(front: Front<'_>, reader: &Reader) -> Option<Which> {
 
 /// The number of the refusal of a peer that speaks of a part that is not kept, or whose input ended before it said of
 /// which.
-fn part_refusal(desks: &Desks<'_>, part: Option<Which>) -> Option<u8> {
+fn part_refusal(desks: &Desks<'_>, part: Option<Which>) -> Option<u8>
+    ensures { result ≡ spans.part_refusal desks.now.first (length desks.now.list.items) part }
+{
     match part {
         Some(which) if desks.keeps(which) => None,
         Some(_) => Some(WRONG_SET),
@@ -98,7 +108,10 @@ pub(crate) fn refusal_of(
     front: Front<'_>,
     desks: &Desks<'_>,
     peer: &Peer<Reader, Half>,
-) -> Option<u8> {
+) -> Option<u8>
+    ensures { result ≡ refusal_at front.entry desks.now.first (length desks.now.list.items) peer.now.phase
+        (take_inner peer.now.reader.way).came }
+{
     let set = front.set()?;
     match peer.phase() {
         Phase::Greeting(greeting) if is_known(greeting) => {}
@@ -112,13 +125,11 @@ pub(crate) fn refusal_of(
     part_refusal(desks, part_of(front, reader))
 }
 
-/// Writes what can be written at once of a fault frame, after our hello.
+/// Writes what can be written at once of a fault frame, after what is not written of our hello.
 pub(crate) fn tell_refusal(phase: &Phase, writer: &mut Half, code: u8) {
-    match phase {
-        Phase::Greeting(greeting) if greeting.said() == 0 => {
-            let _told = writer.write(&Fingerprint::hello());
-        }
-        _ => {}
+    if let Phase::Greeting(greeting) = phase {
+        let hello = greeting.hello();
+        let _told = writer.write(&hello[greeting.said()..]);
     }
     let _told = writer.write(&encode_fault(code));
 }

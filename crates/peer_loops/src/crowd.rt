@@ -2,13 +2,12 @@
 
 ghost use Rattle.std.specs.Prelude.{◌≤◌};
 
-use crate::board::Board;
+use crate::board::{Board, Load};
 use crate::chosen::Front;
 use crate::looping::Kind;
 use crate::note::Guest;
 use hub_core::Origins;
 use mio::{Poll, Waker};
-use range_tree::Tree;
 use session_table::SourceFault;
 use std::alloc::{AllocError, Global};
 use std::net::Net;
@@ -65,9 +64,6 @@ pub(crate) struct Crowd<'a> {
     pub(crate) board: &'a Board,
     /// What peers have to say before their hello.
     pub(crate) front: Front<'a>,
-    /// The directory of the parts, if it was made, and nothing was put in since. Whoever makes it holds it and asks one
-    /// part after the other; whoever puts items in has let the part go before it takes the directory.
-    pub(crate) directory: Mutex<Option<Tree>>,
     /// Of how many loops each kind has.
     pub(crate) loops: usize,
     inlets: Vec<Inlet>,
@@ -127,7 +123,6 @@ impl<'a> Crowd<'a> {
             limits,
             board,
             front,
-            directory: Mutex::new(None),
             loops,
             inlets: inlets(alloc, both_kinds)?,
             polls: Mutex::new(polls(rt, alloc, both_kinds)?),
@@ -248,13 +243,35 @@ impl<'a> Crowd<'a> {
         }
     }
 
-    /// The number of the loop that takes over a loop's peer of this key, if its messages are long.
-    pub(crate) fn taker_of(&self, key: usize) -> usize {
-        key.checked_rem(self.loops).unwrap_or(0)
+    /// What the loop of this number has, those among it who wait for it.
+    fn load<T: Wait>(&self, rt: &T, index: usize) -> Load {
+        let mut load = self.board.load(index);
+        if let Some(inlet) = self.inlets.get(index) {
+            let waiting = inlet.guests.lock(rt).len() as u64;
+            load.peers = load.peers.saturating_add(waiting);
+        }
+        load
+    }
+
+    /// The number of the loop that takes over a peer whose messages are long: of those that run the one that counts the
+    /// fewest bytes, and of these the one that has the fewest peers.
+    pub(crate) fn taker<T: Wait>(&self, rt: &T) -> Option<usize> {
+        let mut least: Option<(usize, Load)> = None;
+        for index in 0..self.loops {
+            if !self.has_inlet(index) {
+                continue;
+            }
+            let load = self.load(rt, index);
+            match least {
+                Some((_, lightest)) if !load.is_lighter(lightest) => {}
+                _ => least = Some((index, load)),
+            }
+        }
+        least.map(|(index, _)| index)
     }
 
     /// Whether the loop of this number runs.
-    pub(crate) fn has_inlet(&self, index: usize) -> bool {
+    fn has_inlet(&self, index: usize) -> bool {
         self.inlets
             .get(index)
             .is_some_and(|inlet| inlet.waker.get().is_some())

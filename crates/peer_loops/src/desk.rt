@@ -9,10 +9,13 @@ ghost use Rattle.hub_core.specs.Hubs.{OthersStay};
 ghost use Rattle.hub_core.specs.Peers.{Opens, version_after};
 ghost use Rattle.peer_threads.specs.Outcomes.{peer_at};
 ghost use Rattle.peer_threads.specs.Workers.{IsSettled, LookedOrNot, are_own};
+ghost use Rattle.version_lock.specs.Calls.{IsPinOf, Looked};
+ghost use Rattle.peer_loops.specs.Hands.{Adds};
 ghost use Rattle.peer_loops.specs.Partings.{PutsInOf};
 
 use crate::chosen::Reader;
 use crate::common::Common;
+use crate::hand::HandFault;
 use crate::part::{Part, Root};
 use ends_core::Learned;
 use hub_core::Hub;
@@ -24,7 +27,8 @@ use shard_core::{ShardSum, entry_of};
 use std::alloc::{AllocError, Global};
 use std::sync::Wait;
 use tcp_front::Half;
-use version_lock::Seat;
+use version_lock::{Pin, Seat};
+use version_log::Added;
 
 /// A loop's seat at the log of a part: sessions are opened over the versions that it pins, and it puts in what they
 /// learned. All that it has entered is of the part.
@@ -36,6 +40,31 @@ pub(crate) struct Desk<'a> {
     ghost fits: { seat.view.cap ≤ (arc_value part.now.accepted).table.cap },
     ghost enrolled: { IsSome seat.view.writer },
     ghost own: { are_own part.now.own seat.view.entered ≡ true },
+}
+
+/// Puts an item into the log of this part by this seat, if it is of the part and the log lacks it.
+fn enter<T: Wait>(
+    rt: &T,
+    alloc: Global,
+    part: &Part,
+    seat: &mut Seat<Tree>,
+    item: &Item,
+) -> Result<Added, HandFault>
+    requires lock { seat.old.table_id ≡ part.now.lock }
+    requires enrolled { IsSome seat.old.view.writer }
+    ensures seat { seat.new.table_id ≡ seat.old.table_id }
+    ensures kept { (seat.new.view.writer ≡ seat.old.view.writer) × (seat.new.view.cap ≡ seat.old.view.cap) }
+    ensures adds { Adds part.now.own item.now seat.old.view seat.new.view result }
+{
+    if let Some(one) = part.own {
+        if !one.owns(item) {
+            return Err(HandFault::Elsewhere);
+        }
+    }
+    match part.lock.insert(rt, alloc, seat, *item) {
+        Ok(added) => Ok(added),
+        Err(fault) => Err(HandFault::Log(fault)),
+    }
 }
 
 impl<'a> Desk<'a> {
@@ -84,6 +113,29 @@ impl<'a> Desk<'a> {
             .unwrap_or(Ok(()))
     }
 
+    /// The newest version.
+    pub(crate) fn pin<T: Wait>(&mut self, rt: &T, alloc: Global) -> Result<Pin<Tree>, AllocError>
+        ensures part { self.new.part ≡ self.old.part }
+        ensures view { Looked self.old.seat.view self.new.seat.view }
+        ensures pin { IfOk result (λ p. IsPinOf p self.new.seat.view) }
+    {
+        self.part.lock.pin(rt, alloc, &mut self.seat)
+    }
+
+    /// Puts an item into the log, if it is of the part and the log lacks it.
+    #[tactic(auto, using(crate::proofs::Handing::added_own))]
+    pub(crate) fn add<T: Wait>(
+        &mut self,
+        rt: &T,
+        alloc: Global,
+        item: &Item,
+    ) -> Result<Added, HandFault>
+        ensures part { self.new.part ≡ self.old.part }
+        ensures adds { Adds self.old.part.now.own item.now self.old.seat.view self.new.seat.view result }
+    {
+        enter(rt, alloc, self.part, &mut self.seat, item)
+    }
+
     /// The entry of the newest version in a directory.
     pub(crate) fn entry<T: Wait>(
         &mut self,
@@ -128,7 +180,7 @@ impl<'a> Desk<'a> {
 
     /// Puts into the log what the session with this serial learned of its peer, in the same way. How many items are
     /// left out.
-    fn settle<T: Wait, G: Gate>(
+    pub(crate) fn settle<T: Wait, G: Gate>(
         &mut self,
         rt: &T,
         alloc: Global,

@@ -89,7 +89,7 @@ impl<'a> Desks<'a> {
     }
 
     /// The place of this part, if its number is not below the first. The directory has none.
-    fn place_of(&self, part: Option<Which>) -> Option<usize>
+    pub(crate) fn place_of(&self, part: Option<Which>) -> Option<usize>
         ensures { result ≡ place_for self.now.first part }
     {
         match part {

@@ -1,11 +1,11 @@
 //! How the session of a peer ended, by how far it was and why the peer is let go.
 
 ghost use Rattle.std.specs.Prelude.{◌≡◌, Some, if◌then◌else◌};
-ghost use Rattle.hub_core.specs.Peers.{sent_in, state_in};
+ghost use Rattle.hub_core.specs.Peers.{state_in};
 ghost use Rattle.session_table.specs.declared.outcome.Direction.TheVariants as directions;
 ghost use Rattle.session_core.specs.declared.state.State.TheVariants as states;
 ghost use Rattle.session_core.specs.declared.fault.LinkFault.TheVariants as faults;
-ghost use Rattle.peer_loops.specs.Partings.{Tells, TellsEnded, broken_by, whole_in};
+ghost use Rattle.peer_loops.specs.Partings.{Tells, TellsEnded, broken_by};
 ghost use Rattle.peer_loops.specs.declared.ending.Parting.TheVariants as partings;
 
 use hub_core::Phase;
@@ -71,7 +71,7 @@ fn ended(phase: Phase, version: usize) -> Outcome
     requires { state_in phase ≡ Some states.Ended }
     ensures { TellsEnded partings.Over phase version result }
 {
-    let sent = phase.sent();
+    let sent = phase.written();
     match phase.into_learned() {
         Some(learned) => Outcome::Ended {
             learned,
@@ -82,22 +82,15 @@ fn ended(phase: Phase, version: usize) -> Outcome
     }
 }
 
-/// How many messages were written whole: one at most is said and not written.
-fn whole(phase: &Phase) -> u32
-    ensures { result ≡ whole_in phase.now }
-{
-    phase.sent().saturating_sub(u32::from(phase.owes()))
-}
-
 /// How the session ended of a peer that is let go.
 pub(crate) fn outcome_of(phase: Phase, version: usize, parting: Parting) -> Outcome
     ensures { Tells parting phase version result }
 {
-    let sent = phase.sent();
+    let sent = phase.written();
     match phase.state() {
         Some(State::Refused(code)) => Outcome::Refused { code, sent },
         Some(State::PeerRefused(code)) => Outcome::PeerRefused { code, sent },
         Some(State::Ended) if parting == Parting::Over => ended(phase, version),
-        _ => broken(parting, phase.owes(), whole(&phase)),
+        _ => broken(parting, phase.owes(), sent),
     }
 }

@@ -1,7 +1,10 @@
 //! One loop: it waits until streams are ready, and goes on with those.
 
+ghost use Rattle.std.specs.Prelude.{◌≡◌, ◌*◌, ◌-◌, ◌/◌, ◌^◌, max, min};
+
 use crate::arriving::Accepting;
 use crate::chosen::Reader;
+use crate::crowd::PeerLimits;
 use crate::desks::Desks;
 use crate::ending::Parting;
 use crate::leaving::Leavers;
@@ -73,14 +76,20 @@ pub(crate) struct Loop {
 }
 
 /// A number of seconds, in milliseconds.
-fn milliseconds(seconds: u32) -> u64 {
-    u64::from(seconds).saturating_mul(1_000)
+fn milliseconds(seconds: u32) -> u64
+    ensures { result ≡ seconds * 1000 }
+{
+    u64::from(seconds) * 1_000
 }
 
-/// The limits of one loop: its part of the memory that all peers may take, and the others as they are.
-fn limits_of<R, G>(site: &Site<'_, R, G>) -> HubLimits {
-    let limits = &site.crowd.limits;
-    let loops = (site.crowd.loops as u64).saturating_mul(2).max(1);
+/// The limits of one loop, of which there are so many of each kind: its part of the memory that all peers may take, and
+/// the others as they are.
+fn limits_of(limits: &PeerLimits, loops: usize) -> HubLimits
+    ensures memory { result.memory ≡ limits.now.memory / max 1 (min (loops * 2) (2 ^ 64 - 1)) }
+    ensures patience { result.patience ≡ limits.now.patience * 1000 }
+    ensures session { result.session ≡ limits.now.session_seconds * 1000 }
+{
+    let loops = (loops as u64).saturating_mul(2).max(1);
     HubLimits {
         memory: limits.memory / loops,
         patience: milliseconds(limits.patience),
@@ -106,8 +115,8 @@ impl Loop {
             poll,
             kind,
             index,
-            hub: Hub::new(site.alloc, limits_of(site)),
-            notes: Notes(Vec::new(site.alloc)),
+            hub: Hub::new(site.alloc, limits_of(&site.crowd.limits, site.crowd.loops)),
+            notes: Notes::new(site.alloc),
             soon: Vec::new(site.alloc),
             waiting: Vec::new(site.alloc),
             leavers: Leavers::new(site.alloc),
@@ -188,6 +197,27 @@ impl Loop {
         }
     }
 
+    /// Takes in nobody more, where the server is to stop, and lets those go who are there for too long after that.
+    fn stop<R: Wait, G: PartGate>(&mut self, site: &Site<'_, R, G>, desks: &mut Desks<'_>) {
+        if !site.crowd.board.is_stopping() {
+            return;
+        }
+        if self.accepting != Accepting::Done {
+            self.accepting = Accepting::Done;
+            site.crowd.wake_all();
+        }
+        if !site.crowd.board.lets_go(self.now) {
+            return;
+        }
+        self.leavers.close_all();
+        for _late in 0..IN_A_ROW {
+            let Some(key) = self.hub.most_silent() else {
+                return;
+            };
+            self.let_go(site, desks, key, Parting::TimeIsOver);
+        }
+    }
+
     /// What it does after a wait.
     fn turn<R: Wait, G: PartGate>(
         &mut self,
@@ -202,6 +232,7 @@ impl Loop {
         }
         let waiting = std::mem::replace(&mut self.waiting, Vec::new(site.alloc));
         self.go_on_with(site, desks, waiting);
+        self.stop(site, desks);
         self.take_in(site, desks);
         self.sweep(site, desks);
     }

@@ -1,9 +1,12 @@
 //! What a loop notes of a peer, beside what the hub has.
 
+ghost use Rattle.std.specs.Prelude.{◌≡◌, ◌≢◌, ℕ, Some, IsSome, OnOk, slice_get};
+ghost use Rattle.peer_loops.specs.Notes.{id_of, OthersKeep};
+
 use crate::chosen::Reader;
 use hub_core::Peer;
 use session_table::SessionId;
-use std::alloc::AllocError;
+use std::alloc::{AllocError, Global};
 use tcp_front::Half;
 
 /// What a loop notes of a peer.
@@ -24,15 +27,27 @@ pub(crate) struct Guest {
 
 /// The notes of all peers, by their keys.
 #[derive(Drop)]
-pub(crate) struct Notes(pub(crate) Vec<Note>);
+pub(crate) struct Notes {
+    list: Vec<Note>,
+}
 
 impl Notes {
-    /// Notes that this peer has come, with this session.
-    pub(crate) fn add(&mut self, key: usize, id: Option<SessionId>) -> Result<(), AllocError> {
-        if key >= self.0.len() {
-            self.0.resize(key.saturating_add(1), NONE)?;
+    /// Nothing is noted.
+    pub(crate) fn new(alloc: Global) -> Notes {
+        Notes {
+            list: Vec::new(alloc),
         }
-        if let Some(note) = self.0.get_mut(key) {
+    }
+
+    /// Notes that this peer has come, with this session, whoever had its key before.
+    pub(crate) fn add(&mut self, key: usize, id: Option<SessionId>) -> Result<(), AllocError>
+        ensures noted { OnOk result (id_of self.new.list.items key ≡ id) }
+        ensures others { OthersKeep self.old.list.items self.new.list.items key }
+    {
+        if key >= self.list.len() {
+            self.list.resize(key.saturating_add(1), NONE)?;
+        }
+        if let Some(note) = self.list.get_mut(key) {
             *note = Note {
                 id,
                 is_listed: false,
@@ -42,20 +57,27 @@ impl Notes {
     }
 
     /// Its session in the table, if it is there.
-    pub(crate) fn id(&self, key: usize) -> Option<SessionId> {
-        self.0.get(key)?.id
+    pub(crate) fn id(&self, key: usize) -> Option<SessionId>
+        ensures { result ≡ id_of self.now.list.items key }
+    {
+        self.list.get(key)?.id
     }
 
     /// Its session is in the table.
-    pub(crate) fn book(&mut self, key: usize, id: SessionId) {
-        if let Some(note) = self.0.get_mut(key) {
+    pub(crate) fn book(&mut self, key: usize, id: SessionId)
+        ensures booked { IsSome (slice_get self.old.list.items key) → id_of self.new.list.items key ≡ Some id }
+        ensures others { OthersKeep self.old.list.items self.new.list.items key }
+    {
+        if let Some(note) = self.list.get_mut(key) {
             note.id = Some(id);
         }
     }
 
     /// Whether it was listed; from now on it is, or it is not.
-    pub(crate) fn set_listed(&mut self, key: usize, is_listed: bool) -> bool {
-        let Some(note) = self.0.get_mut(key) else {
+    pub(crate) fn set_listed(&mut self, key: usize, is_listed: bool) -> bool
+        ensures { (k : ℕ) → id_of self.new.list.items k ≡ id_of self.old.list.items k }
+    {
+        let Some(note) = self.list.get_mut(key) else {
             return is_listed;
         };
         let before = note.is_listed;

@@ -75,7 +75,7 @@ impl Loop {
         desks: &mut Desks<'_>,
         key: usize,
     ) -> Result<(), Parting> {
-        let store = directory_in(site, desks, &mut site.crowd.directory.lock(site.rt))?;
+        let store = directory_in(site, desks, &mut site.common.news.directory.lock(site.rt))?;
         open_over(site.alloc, &mut self.hub, key, site.common.accepted, store)
     }
 

@@ -91,7 +91,7 @@ impl Parts {
     }
 
     /// How many items all have at the end.
-    pub(crate) fn count<T: Wait>(self, rt: &T) -> usize {
+    pub fn count<T: Wait>(self, rt: &T) -> usize {
         let Parts { first: _, roots } = self;
         let mut count: usize = 0;
         for root in roots {

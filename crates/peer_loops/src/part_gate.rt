@@ -10,8 +10,29 @@ pub trait PartGate: Gate {
     /// The session with this serial has ended so, over this part of a set of shards, or over a whole set. It is no
     /// longer in the table of sessions.
     fn ended_in(&self, serial: u64, part: Option<Which>, outcome: &Outcome);
+
+    /// The same of a session with the partner of this address.
+    fn ended_with(&self, address: &str, serial: u64, part: Option<Which>, outcome: &Outcome);
+
+    /// The partner of this address stands so from now on.
+    fn is_told(&self, _address: &str, _told: Told) {}
+}
+
+/// What is told of a partner.
+#[derive(Clone, Copy, Debug, PartialEq, Eq)]
+pub enum Told {
+    /// It is not reached, or its session was cut off. It is called again.
+    Away,
+    /// A session with it has ended, after it was told otherwise.
+    Back,
+    /// This side refuses what it says, with this number.
+    Refuses(u8),
+    /// It refuses the session, with this number.
+    IsRefused(u8),
 }
 
 impl PartGate for OpenGate {
     fn ended_in(&self, _serial: u64, _part: Option<Which>, _outcome: &Outcome) {}
+
+    fn ended_with(&self, _address: &str, _serial: u64, _part: Option<Which>, _outcome: &Outcome) {}
 }

@@ -1,8 +1,12 @@
 //! How a loop lets a peer go.
 
-ghost use Rattle.std.specs.Prelude.{◌≡◌};
+ghost use Rattle.std.specs.Prelude.{◌≡◌, Some, None, IfSome, IfNone};
+ghost use Rattle.slab.specs.Slab.{get};
+ghost use Rattle.hub_core.specs.Hubs.{OthersStay};
+ghost use Rattle.peer_loops.specs.Notes.{id_of};
 ghost use Rattle.session_table.specs.declared.outcome.Outcome as outcomes;
 ghost use Rattle.peer_loops.specs.Changes.{ChangesAt};
+ghost use Rattle.peer_loops.specs.Partings as partings;
 ghost use Rattle.peer_loops.specs.Partings.{PutsInOf, Tells, shown_in};
 ghost use Rattle.peer_loops.specs.ShardSpans.{place_for};
 
@@ -17,7 +21,7 @@ use crate::visiting::{Leaver, profile_of, visit_of};
 use ends_core::Learned;
 use hub_core::{Peer, Phase};
 use peer_threads::{Outcome, kind_of};
-use session_core::LinkFault;
+use session_core::{LinkFault, State};
 use session_table::SessionId;
 use shard_core::Which;
 use std::alloc::Global;
@@ -56,8 +60,7 @@ fn tell_end<R: Wait, G: PartGate>(site: &Site<'_, R, G>, over: &Over, outcome: &
     }
 }
 
-/// The same, and then puts in what was learned. If something was put in, the directory is made anew when somebody asks
-/// for it.
+/// The same, and then puts in what was learned. If something was put in, that is news.
 fn conclude<R: Wait, G: PartGate>(
     site: &Site<'_, R, G>,
     desks: &mut Desks<'_>,
@@ -70,12 +73,12 @@ fn conclude<R: Wait, G: PartGate>(
 {
     tell_end(site, over, outcome);
     if desks.put_in(site.rt, site.alloc, site.common, over, outcome) {
-        *site.crowd.directory.lock(site.rt) = None;
+        site.common.news.tell(site.rt);
     }
 }
 
 /// What the board is told of how a session over a part ended: one over the directory found none of the set's items.
-fn shown(alloc: Global, which: Option<Which>, outcome: Outcome) -> Outcome
+pub(crate) fn shown(alloc: Global, which: Option<Which>, outcome: Outcome) -> Outcome
     ensures { result ≡ shown_in which outcome }
 {
     let Some(Which::Directory) = which else {
@@ -91,11 +94,20 @@ fn shown(alloc: Global, which: Option<Which>, outcome: Outcome) -> Outcome
     }
 }
 
-/// The number of which the peer is told: where memory ran out, if its session is opened, goes on, and has no text that
-/// is begun; and where it speaks of no set that is here.
-fn told_number(phase: &Phase, parting: Parting) -> Option<u8> {
+/// Whether the peer may be told of a fault now: its session is not over, and no text of it is made and not written.
+fn may_be_told(phase: &Phase) -> bool
+    ensures { result ≡ partings.may_be_told phase.now }
+{
+    !phase.owes() && matches!(phase.state(), None | Some(State::Open))
+}
+
+/// The number of which the peer is told: where memory ran out, if it may be told now, and where it speaks of no set
+/// that is here.
+fn told_number(phase: &Phase, parting: Parting) -> Option<u8>
+    ensures { result ≡ partings.told_number parting phase.now }
+{
     match parting {
-        Parting::Failed(LinkFault::Memory) if phase.is_open() && !phase.owes() => Some(NO_MEMORY),
+        Parting::Failed(LinkFault::Memory) if may_be_told(phase) => Some(NO_MEMORY),
         Parting::Refuses(code) => Some(code),
         _ => None,
     }
@@ -142,6 +154,18 @@ fn parted(peer: Peer<Reader, Half>, serial: Option<u64>, parting: Parting, now: 
 }
 
 impl Loop {
+    /// Takes the peer of this key out of the hub, with its own session, if it is there.
+    pub(crate) fn take_out(&mut self, key: usize) -> Option<Guest>
+        ensures own { IfSome result (λ guest. (get self.old.hub.peers key ≡ Some guest.peer)
+            × (guest.id ≡ id_of self.old.notes.list.items key)) }
+        ensures none { IfNone result (get self.old.hub.peers key ≡ None) }
+        ensures others { OthersStay self.old.hub.peers self.new.hub.peers key }
+    {
+        let id = self.notes.id(key);
+        let peer = self.hub.take(key)?;
+        Some(Guest { peer, id })
+    }
+
     /// Lets this peer go, if it is there.
     pub(crate) fn let_go<R: Wait, G: PartGate>(
         &mut self,
@@ -150,9 +174,8 @@ impl Loop {
         key: usize,
         parting: Parting,
     ) {
-        let id = self.notes.id(key);
-        if let Some(peer) = self.hub.take(key) {
-            self.part_with(site, desks, Guest { peer, id }, parting);
+        if let Some(guest) = self.take_out(key) {
+            self.part_with(site, desks, guest, parting);
         }
     }
 

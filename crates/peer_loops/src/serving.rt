@@ -5,15 +5,13 @@ ghost use Rattle.std.specs.Thread.{IsSync};
 
 use crate::common::Common;
 use crate::crowd::{Crowd, Service};
-use crate::desks::Desks;
 use crate::looping::{Kind, Loop};
-use crate::part::Parts;
 use crate::part_gate::PartGate;
+use crate::seats::Seats;
 use crate::site::Site;
 use session_table::WorkersReport;
-use std::alloc::Global;
 use std::net::Net;
-use std::sync::{Mutex, Wait};
+use std::sync::Wait;
 use std::thread::{Threads, join};
 use std::time::Clock;
 use tcp_front::Listener;
@@ -25,16 +23,13 @@ struct Span {
     count: u8,
 }
 
-/// The seats of loops that do not run yet.
-type Pool<'a> = Mutex<Vec<Desks<'a>>>;
-
-/// Serves by the loop of this number, with seats of the pool, until nobody will come. Whether it could.
+/// Serves by the loop of this number, with one of these seats, until nobody will come. Whether it could.
 fn work<R: Clock + Wait, G: PartGate>(
     site: &Site<'_, R, G>,
-    pool: &Pool<'_>,
+    seats: &Seats<'_>,
     index: usize,
 ) -> bool {
-    let Some(mut desks) = pool.lock(site.rt).pop() else {
+    let Some(mut desks) = seats.take(site.rt) else {
         return false;
     };
     let Some(mut own) = Loop::new(site, index) else {
@@ -46,10 +41,10 @@ fn work<R: Clock + Wait, G: PartGate>(
 /// The same; the others are told once it accepts no more. How many loops that accept have served.
 fn work_and_leave<R: Clock + Wait, G: PartGate>(
     site: &Site<'_, R, G>,
-    pool: &Pool<'_>,
+    seats: &Seats<'_>,
     index: usize,
 ) -> u8 {
-    let served = work(site, pool, index);
+    let served = work(site, seats, index);
     if site.crowd.kind_of(index) != Kind::Accepts {
         return 0;
     }
@@ -63,7 +58,7 @@ fn run_half<R: Threads + Clock + Wait + Sync, G: PartGate + Sync>(
     rt: &R,
     common: &Common<'_, G>,
     crowd: &Crowd<'_>,
-    pool: &Pool<'_>,
+    seats: &Seats<'_>,
     listener: &Listener<'_, R>,
     span: Span,
 ) -> u8
@@ -77,7 +72,7 @@ fn run_half<R: Threads + Clock + Wait + Sync, G: PartGate + Sync>(
             crowd: &*crowd,
             listener: &*listener,
         };
-        return work_and_leave(&site, pool, usize::from(span.first));
+        return work_and_leave(&site, seats, usize::from(span.first));
     }
     let half = span.count / 2;
     let front = Span {
@@ -92,69 +87,16 @@ fn run_half<R: Threads + Clock + Wait + Sync, G: PartGate + Sync>(
         rt,
         move || -> u8
             requires { IsSync R.row × (1 ≤ front.count) × (front.first + front.count ≤ 255) }
-        { run_half(rt, common, crowd, pool, listener, front) },
+        { run_half(rt, common, crowd, seats, listener, front) },
         move || -> u8
             requires { IsSync R.row × (1 ≤ back.count) × (back.first + back.count ≤ 255) }
-        { run_half(rt, common, crowd, pool, listener, back) },
+        { run_half(rt, common, crowd, seats, listener, back) },
     );
     first.saturating_add(second)
 }
 
-/// What loops did that have served, and how many items all parts have at the end.
-#[derive(Clone, Copy, Debug, PartialEq, Eq)]
-pub struct Served {
-    /// What they did.
-    pub report: WorkersReport,
-    /// The number of items.
-    pub items: usize,
-}
-
-/// So many seats at each part, for so many loops. None where memory runs out.
-fn pool_of<'a, R: Wait>(
-    rt: &R,
-    alloc: Global,
-    parts: &'a mut Parts,
-    loops: u8,
-) -> Option<Pool<'a>> {
-    let desks = Desks::at(rt, alloc, parts)?;
-    Some(Mutex::new(desks.for_loops(rt, alloc, usize::from(loops))?))
-}
-
-/// Serves by so many loops of each kind.
-fn serve_all<R: Net + Threads + Clock + Wait + AllocGlobal + Sync, G: PartGate + Sync>(
-    rt: &R,
-    common: &Common<'_, G>,
-    parts: &mut Parts,
-    listener: &Listener<'_, R>,
-    service: Service<'_>,
-) -> WorkersReport
-    requires count { (1 ≤ service.loops) × (service.loops ≤ 16) }
-{
-    let both_kinds = service.loops * 2;
-    let nothing = WorkersReport {
-        started: 0,
-        fault: None,
-    };
-    let Some(pool) = pool_of(rt, rt.alloc(), parts, both_kinds) else {
-        return nothing;
-    };
-    let crowd = match Crowd::new(rt, rt.alloc(), service) {
-        Ok(crowd) if listener.never_wait().is_ok() => crowd,
-        _ => return nothing,
-    };
-    let span = Span {
-        first: 0,
-        count: both_kinds,
-    };
-    let started = run_half(rt, common, &crowd, &pool, listener, span);
-    WorkersReport {
-        started,
-        fault: crowd.into_fault(),
-    }
-}
-
 /// Serves all who come to the listener, by so many loops that accept, 1 to 16, and as many that take those from them
-/// whose messages are long; each runs in a thread where one can be made, with a seat of its own at each part. It ends
+/// whose messages are long; each runs in a thread where one can be made, with one of these seats at each part. It ends
 /// once the listener has no more connections and all who came are gone. The board is told of each of them that is gone,
 /// once all that is put in of its session is there.
 ///
@@ -167,16 +109,29 @@ fn serve_all<R: Net + Threads + Clock + Wait + AllocGlobal + Sync, G: PartGate +
 pub fn serve_peers<R: Net + Threads + Clock + Wait + AllocGlobal + Sync, G: PartGate + Sync>(
     rt: &R,
     common: &Common<'_, G>,
-    parts: Parts,
+    seats: &Seats<'_>,
     listener: &Listener<'_, R>,
     service: Service<'_>,
-) -> Served
+) -> WorkersReport
     requires count { (1 ≤ service.loops) × (service.loops ≤ 16) }
 {
-    let mut parts = parts;
-    let report = serve_all(rt, common, &mut parts, listener, service);
-    Served {
-        report,
-        items: parts.count(rt),
+    let both_kinds = service.loops * 2;
+    let crowd = match Crowd::new(rt, rt.alloc(), service) {
+        Ok(crowd) if listener.never_wait().is_ok() => crowd,
+        _ => {
+            return WorkersReport {
+                started: 0,
+                fault: None,
+            };
+        }
+    };
+    let span = Span {
+        first: 0,
+        count: both_kinds,
+    };
+    let started = run_half(rt, common, &crowd, seats, listener, span);
+    WorkersReport {
+        started,
+        fault: crowd.into_fault(),
     }
 }

@@ -4,7 +4,6 @@ use crate::chosen::refusal_of;
 use crate::desks::Desks;
 use crate::ending::Parting;
 use crate::looping::{Kind, Loop};
-use crate::note::Guest;
 use crate::part_gate::PartGate;
 use crate::site::Site;
 use mio::unix::SourceFd;
@@ -55,18 +54,21 @@ impl Loop {
         match pause {
             Pause::Opens => self.open(site, desks, key),
             Pause::Over => self.let_go(site, desks, key, Parting::Over),
-            Pause::More if self.is_long(site, key) => self.hand_over(site, desks, key),
-            Pause::More => self.list(site, desks, key, Until::Soon),
-            Pause::Waits if self.is_long(site, key) => self.hand_over(site, desks, key),
-            Pause::Waits => {}
+            Pause::More | Pause::Waits => match self.taker(site, key) {
+                Some(index) => self.hand_over(site, desks, key, index),
+                None if pause == Pause::More => self.list(site, desks, key, Until::Soon),
+                None => {}
+            },
         }
     }
 
-    /// Whether another loop is to go on with this peer, and runs. Else this loop goes on with it as with any other.
-    fn is_long<R, G>(&self, site: &Site<'_, R, G>, key: usize) -> bool {
-        self.kind == Kind::Accepts
-            && self.hub.get(key).is_some_and(|peer| peer.is_long())
-            && site.crowd.has_inlet(site.crowd.taker_of(key))
+    /// The number of the loop that is to go on with this peer, if its messages are long and such a loop runs. Else this
+    /// loop goes on with it as with any other.
+    fn taker<R: Wait, G>(&self, site: &Site<'_, R, G>, key: usize) -> Option<usize> {
+        if self.kind != Kind::Accepts || !self.hub.get(key)?.is_long() {
+            return None;
+        }
+        site.crowd.taker(site.rt)
     }
 
     /// Lists this peer, with whom it goes on then. Where memory runs out, the peer is let go.
@@ -131,21 +133,20 @@ impl Loop {
         site.common.sessions.lock(site.rt).open(bound).ok()
     }
 
-    /// Hands this peer to the loop for those whose messages are long.
+    /// Hands this peer to the loop of this number, for those whose messages are long.
     fn hand_over<R: Wait, G: PartGate>(
         &mut self,
         site: &Site<'_, R, G>,
         desks: &mut Desks<'_>,
         key: usize,
+        index: usize,
     ) {
-        let index = site.crowd.taker_of(key);
-        let id = self.notes.id(key);
-        let Some(peer) = self.hub.take(key) else {
+        let Some(guest) = self.take_out(key) else {
             return;
         };
-        let fd = peer.reader().inner().as_raw_fd();
+        let fd = guest.peer.reader().inner().as_raw_fd();
         let _gone = self.poll.registry().deregister(&mut SourceFd(&fd));
-        if let Err(guest) = site.crowd.hand_over(site.rt, index, Guest { peer, id }) {
+        if let Err(guest) = site.crowd.hand_over(site.rt, index, guest) {
             self.part_with(site, desks, guest, Parting::Failed(LinkFault::Memory));
         }
     }

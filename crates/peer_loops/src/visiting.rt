@@ -43,7 +43,7 @@ fn counts_of(learned: &Learned) -> (u64, u64)
 }
 
 /// What a session found, if it came to its end.
-fn found(outcome: &Outcome) -> (u64, u64)
+pub(crate) fn found(outcome: &Outcome) -> (u64, u64)
     ensures { (result.0 ≡ ours_in outcome.now) × (result.1 ≡ theirs_in outcome.now) }
 {
     match outcome {
@@ -59,6 +59,7 @@ pub(crate) fn visit_of(leaver: Leaver, outcome: &Outcome, reader: &Half, writer:
     let (ours, theirs) = found(outcome);
     Visit {
         address: leaver.address,
+        is_called: false,
         profile: leaver.profile,
         serial: leaver.serial,
         ending: Ending::of(outcome),

@@ -24,6 +24,7 @@ pub use Rattle.session_table.specs.Sent
 pub mod Outcomes
 pub mod Choices
 pub mod Stops
+pub mod Tokens
 pub mod Inboxes
 pub mod Hellos
 pub mod Senders

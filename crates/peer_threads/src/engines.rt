@@ -247,11 +247,11 @@ fn respond<T: Wait, S: RangeStore, G: Gate, R: Read, W: Write, F: Summary>(
     };
     let booking = match Booking::open(host, party.bound()) {
         Ok(booking) => booking,
-        Err(fault) => return stopped(sender, &mut connection.writer, Stop::from(fault)),
+        Err(refusal) => return stopped(sender, &mut connection.writer, Stop::from(refusal)),
     };
     let talked = answer(&booking, &mut party, begun, &mut sender, connection);
     let outcome = concluded(party, version, sender, &mut connection.writer, talked);
-    booking.close(&outcome);
+    let _left = booking.close(&outcome);
     outcome
 }
 
@@ -315,11 +315,11 @@ fn initiate<T: Wait, S: RangeStore, G: Gate, R: Read, W: Write, F: Summary>(
     };
     let booking = match Booking::open(host, party.bound()) {
         Ok(booking) => booking,
-        Err(fault) => return stopped(sender, &mut connection.writer, Stop::from(fault)),
+        Err(refusal) => return stopped(sender, &mut connection.writer, Stop::from(refusal)),
     };
     let talked = speak(&booking, &mut party, &first, &mut sender, connection);
     let outcome = concluded(party, version, sender, &mut connection.writer, talked);
-    booking.close(&outcome);
+    let _left = booking.close(&outcome);
     outcome
 }
 

@@ -17,6 +17,7 @@ mod sender;
 mod shared;
 mod stop;
 mod talk;
+mod tokens;
 mod worker;
 mod workers;
 

@@ -4,7 +4,7 @@ ghost use Rattle.std.specs.Prelude.{◌≡◌, ◌<◌, ◌+◌, false, true, On
 ghost use Rattle.std.specs.Io.KnownBytes.{Appends};
 ghost use Rattle.peer_threads.specs.Senders.{sender_state, hello_due, refusal_text, Begins, BreaksIn, WroteSo};
 
-use crate::booking::Counted;
+use crate::tokens::Counted;
 use digest_core::Summary;
 use io_core::{Watched, WriterFailed, write_output};
 use std::io::Write;

@@ -18,8 +18,8 @@ use Rattle.version_log.specs.declared.answer.LogFault.TheVariants as logs
 use Rattle.session_table.specs.declared.source.SourceFault.{SourceFault}
 use Rattle.session_table.specs.declared.source.SourceFault.TheVariants as sources
 use Rattle.printing_core.specs.declared.fault.Fault.{Fault}
-use Rattle.printing_core.specs.declared.fault.Fault.TheVariants.{CannotRead, TooManyItems, Wire, Misplaced, Bind, Connect}
-use Rattle.printing_core.specs.declared.fault.Fault.TheVariants.{Accept, ReaderFailed, WriterFailed, LinesLost}
+use Rattle.printing_core.specs.declared.fault.Fault.TheVariants.{CannotRead, TooManyItems, Wire, Misplaced, Bind}
+use Rattle.printing_core.specs.declared.fault.Fault.TheVariants.{Connect, Accept, ReaderFailed, WriterFailed, LinesLost}
 use Rattle.printing_core.specs.declared.fault.Fault.TheVariants.{Incomplete, Memory}
 
 abbrev pub of_answer : AnswerFault → Fault

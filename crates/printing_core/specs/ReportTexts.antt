@@ -1,8 +1,9 @@
 -- What `serve` writes of its sessions to its files.
---     session_name s w             a session, and the shard, or the directory, that it spoke of, if it did of one
+--     session_name s w p           a session, the shard, or the directory, that it spoke of, if it did of one, and the
+--                                  address of the partner with which it was, if it was with one
 --     learned_lines form k         the lines of both differences: ours rising, then theirs rising, items in this form
 --     first_lines n lines          the first n of these lines, or all; then how many were left out, if any were
---     report_text form most s w o  a session that is over: its head and both differences, at most `most` lines of them
+--     report_text form most s w p o a session that is over: its head and both differences, at most `most` lines of them
 --                                  if it is a number; or why it did not end
 --     left_out_line s n            that n items which this session learned were not put in
 use Rattle.std.specs.Prelude.{ℕ, ◌-◌, ◌==◌, if◌then◌else◌, List, [], ◌∷◌, ◌++◌, length, map, take, flat_map, codes}
@@ -21,20 +22,29 @@ use Rattle.printing_core.specs.declared.sessions.Listing.TheVariants.{Items}
 use Rattle.printing_core.specs.declared.fault.Fault.{Fault}
 use Rattle.printing_core.specs.declared.fault.Fault.TheVariants as faults
 
-abbrev pub session_name : ℕ → Option Which → List ℕ
-session_name serial None = codes "session " ++ decimal serial
-session_name serial (Some (Shard shard)) = codes "session " ++ (decimal serial ++ (codes " shard " ++ decimal shard))
-session_name serial (Some Directory) = codes "session " ++ (decimal serial ++ codes " directory")
+abbrev pub part_name : ℕ → Option Which → List ℕ
+part_name serial None = codes "session " ++ decimal serial
+part_name serial (Some (Shard shard)) = codes "session " ++ (decimal serial ++ (codes " shard " ++ decimal shard))
+part_name serial (Some Directory) = codes "session " ++ (decimal serial ++ codes " directory")
 
-abbrev pub stopped_line : ℕ → Option Which → Fault → List ℕ
-stopped_line serial which fault = session_name serial which ++ (32 ∷ (fault_line fault ++ codes "\n"))
+-- the partner's address, if it was with one
+abbrev pub with_text : Option (List ℕ) → List ℕ
+with_text None = []
+with_text (Some partner) = codes " with " ++ partner
+
+abbrev pub session_name : ℕ → Option Which → Option (List ℕ) → List ℕ
+session_name serial which partner = part_name serial which ++ with_text partner
+
+abbrev pub stopped_line : ℕ → Option Which → Option (List ℕ) → Fault → List ℕ
+stopped_line serial which partner fault =
+    session_name serial which partner ++ (32 ∷ (fault_line fault ++ codes "\n"))
 
 -- that of a directory has no version
-abbrev pub head_line : ℕ → Option Which → ℕ → ℕ → List ℕ
-head_line serial (Some Directory) version sent =
-    session_name serial (Some Directory) ++ (codes " sent " ++ (decimal sent ++ codes "\n"))
-head_line serial which version sent = session_name serial which ++ (codes " version " ++ (decimal version
-    ++ (codes " sent " ++ (decimal sent ++ codes "\n"))))
+abbrev pub head_line : ℕ → Option Which → Option (List ℕ) → ℕ → ℕ → List ℕ
+head_line serial (Some Directory) partner version sent =
+    session_name serial (Some Directory) partner ++ (codes " sent " ++ (decimal sent ++ codes "\n"))
+head_line serial which partner version sent = session_name serial which partner
+    ++ (codes " version " ++ (decimal version ++ (codes " sent " ++ (decimal sent ++ codes "\n"))))
 
 abbrev pub learned_lines : ItemForm → Knowledge → List (List ℕ)
 learned_lines form k = map (named_line form (codes "ours")) (set_of k.ours)
@@ -56,13 +66,14 @@ reported_text form most (Some Directory) k = []
 reported_text form None which k = learned_text (Items form) k
 reported_text form (Some most) which k = first_lines most (learned_lines form k)
 
-abbrev pub report_text : ItemForm → Option ℕ → ℕ → Option Which → Outcome → List ℕ
-report_text form most serial which (Ended learned sent version) =
-    head_line serial which version sent ++ reported_text form most which learned
-report_text form most serial which (Refused code sent) = stopped_line serial which (faults.Session code)
-report_text form most serial which (PeerRefused code sent) = stopped_line serial which (faults.PeerRefused code)
-report_text form most serial which (Io side sent) = stopped_line serial which (of_direction side)
-report_text form most serial which (Memory sent) = stopped_line serial which faults.Memory
+abbrev pub report_text : ItemForm → Option ℕ → ℕ → Option Which → Option (List ℕ) → Outcome → List ℕ
+report_text form most serial which partner (Ended learned sent version) =
+    head_line serial which partner version sent ++ reported_text form most which learned
+report_text form most serial which partner (Refused code sent) = stopped_line serial which partner (faults.Session code)
+report_text form most serial which partner (PeerRefused code sent) =
+    stopped_line serial which partner (faults.PeerRefused code)
+report_text form most serial which partner (Io side sent) = stopped_line serial which partner (of_direction side)
+report_text form most serial which partner (Memory sent) = stopped_line serial which partner faults.Memory
 
 abbrev pub left_out_line : ℕ → ℕ → List ℕ
 left_out_line serial count =

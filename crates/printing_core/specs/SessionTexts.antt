@@ -11,8 +11,8 @@
 --     fault_in result            the fault of a call, if it has one
 --     difference_status checks differ    the status of a session that came to its end
 --     may_pass f                 whether a session with this fault may come to its end if it is tried again
-use Rattle.std.specs.Prelude.{ℕ, ◌≡◌, List, ◌∷◌, ◌++◌, length, nat_lt, Bool, true, false, ◌||◌, ◌&&◌, String, codes, flat_map}
-use Rattle.std.specs.Prelude.{◌==◌, if◌then◌else◌}
+use Rattle.std.specs.Prelude.{ℕ, ◌≡◌, List, ◌∷◌, ◌++◌, length, nat_lt, Bool, true, false, ◌||◌, ◌&&◌, String, codes}
+use Rattle.std.specs.Prelude.{flat_map, ◌==◌, if◌then◌else◌}
 use Rattle.std.specs.Prelude.{Option, Some, None, Result, Ok, Err, string_bytes}
 use Rattle.std.specs.declared.alloc.Global.{Global}
 use Rattle.std.specs.Fmt.{decimal}
@@ -32,8 +32,8 @@ use Rattle.printing_core.specs.ItemTexts.{item_line}
 use Rattle.printing_core.specs.declared.sessions.Listing.{Listing}
 use Rattle.printing_core.specs.declared.sessions.Listing.TheVariants as listings
 use Rattle.printing_core.specs.declared.fault.Fault.{Fault}
-use Rattle.printing_core.specs.declared.fault.Fault.TheVariants.{Session, PeerRefused, Connect, ReaderFailed, WriterFailed}
-use Rattle.printing_core.specs.declared.fault.Fault.TheVariants.{Memory}
+use Rattle.printing_core.specs.declared.fault.Fault.TheVariants.{Session, PeerRefused, Connect, ReaderFailed}
+use Rattle.printing_core.specs.declared.fault.Fault.TheVariants.{WriterFailed, Memory}
 
 abbrev pub fault_in : {X : Type 0} → Result X Fault → Option Fault
 fault_in (Ok x) = None

@@ -1,7 +1,8 @@
 //! Why a run is refused.
 
 ghost use Rattle.std.specs.Prelude.{◌≡◌, Some};
-ghost use Rattle.printing_core.specs.FaultsOf.{of_answer, of_input, of_decoding, of_listing, of_log, of_source, status_of};
+ghost use Rattle.printing_core.specs.FaultsOf.{of_answer, of_input, of_decoding, of_listing, of_log, of_source};
+ghost use Rattle.printing_core.specs.FaultsOf.{status_of};
 ghost use Rattle.printing_core.specs.Lines.{strategy_line, check_line, fault_line};
 ghost use Rattle.printing_core.specs.declared.fault.Fault.TheVariants as faults;
 

@@ -3,6 +3,7 @@
 ghost use Rattle.std.specs.Prelude.{◌≡◌};
 ghost use Rattle.printing_core.specs.Causes.{cause_of};
 
+use crate::fault::Fault;
 use crate::shown::shown_line;
 use std::alloc::Global;
 use std::fmt;
@@ -135,6 +136,22 @@ pub fn tell_full<E: Write>(err: &mut E, items: usize) {
         err,
         "the set is full with {items}: what peers have beside them is dropped"
     );
+}
+
+/// Prints that a partner is not reached, or that its session was cut off. A line that is not taken changes nothing.
+pub fn tell_partner_away<E: Write>(err: &mut E, address: &str) {
+    let _told = writeln!(err, "partner {address} is away, and is called again");
+}
+
+/// Prints that a session with a partner has ended again. A line that is not taken changes nothing.
+pub fn tell_partner_back<E: Write>(err: &mut E, address: &str) {
+    let _told = writeln!(err, "partner {address} is back");
+}
+
+/// Prints that a session with a partner is refused, by this side or by the partner. A line that is not taken changes
+/// nothing.
+pub fn tell_partner_refused<E: Write>(err: &mut E, address: &str, fault: Fault) {
+    let _told = writeln!(err, "partner {address}: {fault}");
 }
 
 /// Prints that what is learned is written to no file. A line that is not taken changes nothing.

@@ -1,9 +1,10 @@
 //! What `serve` writes of its sessions to its files.
 
-ghost use Rattle.std.specs.Prelude.{◌≡◌, ◌++◌, IfOk, OnOk, Some, string_bytes, take};
+ghost use Rattle.std.specs.Prelude.{◌≡◌, ◌++◌, IfOk, OnOk, Some, option_map, string_bytes, take};
 ghost use Rattle.printing_core.specs.ItemTexts.{item_line};
-ghost use Rattle.printing_core.specs.ReportTexts.{session_name, head_line, stopped_line, learned_lines, more_line};
-ghost use Rattle.printing_core.specs.ReportTexts.{first_lines, reported_text, report_text, left_out_line};
+ghost use Rattle.printing_core.specs.ReportTexts.{part_name, session_name, with_text, head_line, stopped_line};
+ghost use Rattle.printing_core.specs.ReportTexts.{learned_lines, more_line, first_lines, reported_text, report_text};
+ghost use Rattle.printing_core.specs.ReportTexts.{left_out_line};
 
 use crate::fault::Fault;
 use crate::item_text::push_item;
@@ -27,15 +28,51 @@ pub struct Reporting {
 
 /// Which session is reported. It prints as its name.
 #[derive(Clone, Copy, Debug, PartialEq, Eq)]
-pub struct SessionName {
+pub struct SessionName<'a> {
     /// Its serial.
     pub serial: u64,
     /// The shard, or the directory, that it spoke of; `None`: it spoke of a whole set.
     pub which: Option<Which>,
+    /// The address of the partner with which it was, if it was with one.
+    pub partner: Option<&'a str>,
 }
 
-impl fmt::Display for SessionName {
-    ghost output = { λ s. Some (session_name s.serial s.which) };
+/// With which partner a session was, if it was with one.
+#[derive(Clone, Copy)]
+struct With<'a>(Option<&'a str>);
+
+impl fmt::Display for With<'_> {
+    ghost output = { λ w. Some (with_text (option_map (λ text. text.now) w.0)) };
+
+    fn fmt<W: fmt::Write>(&self, f: &mut fmt::Formatter<W>) -> fmt::Result {
+        match self.0 {
+            Some(partner) => write!(f, " with {partner}"),
+            None => Ok(()),
+        }
+    }
+}
+
+/// A session, and the part that it spoke of.
+#[derive(Clone, Copy)]
+struct PartName {
+    serial: u64,
+    which: Option<Which>,
+}
+
+impl fmt::Display for SessionName<'_> {
+    ghost output = { λ s. Some (session_name s.serial s.which (option_map (λ text. text.now) s.partner)) };
+
+    fn fmt<W: fmt::Write>(&self, f: &mut fmt::Formatter<W>) -> fmt::Result {
+        let name = PartName {
+            serial: self.serial,
+            which: self.which,
+        };
+        write!(f, "{name}{}", With(self.partner))
+    }
+}
+
+impl fmt::Display for PartName {
+    ghost output = { λ s. Some (part_name s.serial s.which) };
 
     fn fmt<W: fmt::Write>(&self, f: &mut fmt::Formatter<W>) -> fmt::Result {
         let serial = self.serial;
@@ -50,11 +87,12 @@ impl fmt::Display for SessionName {
 /// The first line of a session that ended: that of a directory has no version.
 fn head_line(
     alloc: Global,
-    session: SessionName,
+    session: SessionName<'_>,
     version: usize,
     sent: u32,
 ) -> Result<String, AllocError>
-    ensures { IfOk result (λ text. string_bytes text ≡ head_line session.serial session.which version sent) }
+    ensures { IfOk result (λ text. string_bytes text ≡ head_line session.entry.serial session.entry.which
+        (option_map (λ t. t.now) session.entry.partner) version sent) }
 {
     match session.which {
         Some(Which::Directory) => format!(in alloc; "{session} sent {sent}\n"),
@@ -63,8 +101,9 @@ fn head_line(
 }
 
 /// The line of a session that did not end.
-fn stopped_line(alloc: Global, session: SessionName, fault: Fault) -> Result<String, AllocError>
-    ensures { IfOk result (λ text. string_bytes text ≡ stopped_line session.serial session.which fault) }
+fn stopped_line(alloc: Global, session: SessionName<'_>, fault: Fault) -> Result<String, AllocError>
+    ensures { IfOk result (λ text. string_bytes text ≡ stopped_line session.entry.serial session.entry.which
+        (option_map (λ t. t.now) session.entry.partner) fault) }
 {
     format!(in alloc; "{session} {fault}\n")
 }
@@ -135,11 +174,12 @@ fn push_reported(
 pub fn report_text(
     alloc: Global,
     reporting: Reporting,
-    session: SessionName,
+    session: SessionName<'_>,
     outcome: &Outcome,
 ) -> Result<String, AllocError>
     ensures { IfOk result (λ text. string_bytes text
-        ≡ report_text reporting.form reporting.most session.serial session.which outcome.now) }
+        ≡ report_text reporting.form reporting.most session.entry.serial session.entry.which
+        (option_map (λ t. t.now) session.entry.partner) outcome.now) }
 {
     match outcome {
         Outcome::Ended {

@@ -4,7 +4,8 @@ ghost use Rattle.settings_core.specs.Spans.{AreInSpan};
 ghost use Rattle.rangesync.specs.Done.{IsChecking};
 
 use settings_core::{
-    Address, Command, DEFAULT_PORT, METRICS_PORT, ServeWords, SyncWords, address_of, whole_address,
+    Address, CONTROL_PORT, Command, DEFAULT_PORT, METRICS_PORT, NO_ADDRESS, NewsWords, PutWords,
+    ServeWords, StatusWords, StopWords, SyncWords, address_of, whole_address,
 };
 use std::alloc::{AllocError, Global};
 
@@ -35,17 +36,47 @@ pub struct Addresses {
     sessions: String,
     /// Of metrics, if they are asked for.
     metrics: Option<String>,
+    /// Of the partners, with a comma between two, if there are any.
+    partners: Option<String>,
+    /// Of this machine's own programs, if they are answered.
+    control: Option<String>,
+}
+
+/// The address of a word that may not be given, with this port, if it has none.
+fn any_with_port(
+    alloc: Global,
+    word: Option<&str>,
+    port: &str,
+) -> Result<Option<String>, AllocError> {
+    match word {
+        Some(word) => Ok(Some(with_port(alloc, word, port)?)),
+        None => Ok(None),
+    }
+}
+
+/// The addresses of the partners, if there are any.
+fn partners_of(alloc: Global, partners: Option<&str>) -> Result<Option<String>, AllocError> {
+    match partners {
+        Some(word) => Ok(Some(all_with_ports(alloc, word)?)),
+        None => Ok(None),
+    }
+}
+
+/// Where a server listens for peers. One with partners that nobody may call listens nowhere: the word stays.
+fn listened_at(alloc: Global, words: ServeWords<'_>) -> Result<String, AllocError> {
+    if words.partners.is_some() && words.address == NO_ADDRESS {
+        return String::from_str(alloc, NO_ADDRESS);
+    }
+    with_port(alloc, words.address, DEFAULT_PORT)
 }
 
 /// The addresses of a server.
 fn server_addresses(alloc: Global, words: ServeWords<'_>) -> Result<Addresses, AllocError> {
-    let metrics = match words.metrics {
-        Some(word) => Some(with_port(alloc, word, METRICS_PORT)?),
-        None => None,
-    };
     Ok(Addresses {
-        sessions: with_port(alloc, words.address, DEFAULT_PORT)?,
-        metrics,
+        sessions: listened_at(alloc, words)?,
+        metrics: any_with_port(alloc, words.metrics, METRICS_PORT)?,
+        partners: partners_of(alloc, words.partners)?,
+        control: any_with_port(alloc, words.control, CONTROL_PORT)?,
     })
 }
 
@@ -59,18 +90,51 @@ fn asker_addresses(alloc: Global, words: SyncWords<'_>) -> Result<Addresses, All
     Ok(Addresses {
         sessions,
         metrics: None,
+        partners: None,
+        control: None,
     })
 }
 
-/// Where a command listens or connects: 7700 is the port of an address that has none, and 7702 that of metrics.
-pub fn addresses_of(alloc: Global, command: Command<'_>) -> Result<Addresses, AllocError> {
+/// The address of the door at which a command asks: the one that is given, or else the usual one, if there is one.
+fn door_addresses(
+    alloc: Global,
+    given: Option<&str>,
+    usual: Option<&str>,
+) -> Result<Addresses, AllocError> {
+    Ok(Addresses {
+        sessions: String::new(alloc),
+        metrics: None,
+        partners: None,
+        control: any_with_port(alloc, given.or(usual), CONTROL_PORT)?,
+    })
+}
+
+/// Where a command listens or connects: 7700 is the port of an address that has none, 7702 that of metrics, and 7707
+/// that of this machine's own programs, which have a usual address.
+pub fn addresses_of(
+    alloc: Global,
+    command: Command<'_>,
+    usual: Option<&str>,
+) -> Result<Addresses, AllocError> {
     match command {
         Command::Serve(words) => server_addresses(alloc, words),
         Command::Sync(words) => asker_addresses(alloc, words),
-        _ => Ok(Addresses {
-            sessions: String::new(alloc),
-            metrics: None,
-        }),
+        Command::Put(words) => door_addresses(alloc, words.control, usual),
+        Command::News(words) => door_addresses(alloc, words.control, usual),
+        Command::Stop(words) => door_addresses(alloc, words.control, usual),
+        Command::Status(words) => door_addresses(alloc, words.control, usual),
+        _ => door_addresses(alloc, None, None),
+    }
+}
+
+/// Whether a command asks at a door, and none is known.
+pub fn lacks_door(command: Command<'_>) -> bool {
+    match command {
+        Command::Put(words) => words.control.is_none(),
+        Command::News(words) => words.control.is_none(),
+        Command::Stop(words) => words.control.is_none(),
+        Command::Status(words) => words.control.is_none(),
+        _ => false,
     }
 }
 
@@ -84,12 +148,29 @@ pub fn at_addresses<'a>(command: Command<'a>, addresses: &'a Addresses) -> Comma
         Command::Serve(words) => Command::Serve(ServeWords {
             address: &addresses.sessions,
             metrics: addresses.metrics.as_deref(),
+            partners: addresses.partners.as_deref(),
+            control: addresses.control.as_deref(),
             ..words
         }),
         Command::Sync(words) => Command::Sync(SyncWords {
             address: &addresses.sessions,
             ..words
         }),
+        other => at_door(other, addresses.control.as_deref()),
+    }
+}
+
+/// The same command, which asks at this door if it asks at one.
+fn at_door<'a>(command: Command<'a>, control: Option<&'a str>) -> Command<'a>
+    requires { AreInSpan command }
+    ensures span { AreInSpan result }
+    ensures checks { IsChecking result → IsChecking command.entry }
+{
+    match command {
+        Command::Put(words) => Command::Put(PutWords { control, ..words }),
+        Command::News(words) => Command::News(NewsWords { control, ..words }),
+        Command::Stop(_words) => Command::Stop(StopWords { control }),
+        Command::Status(words) => Command::Status(StatusWords { control, ..words }),
         other => other,
     }
 }

@@ -24,6 +24,26 @@ use std::thread::Threads;
 use std::time::Clock;
 use std::{env, io};
 
+/// What the environment says under this name, if that is not empty.
+fn folder_of<R: Env + AllocGlobal>(rt: &R, name: &str) -> Option<String> {
+    let folder = env::var(rt, name).ok()?;
+    if folder.is_empty() {
+        return None;
+    }
+    Some(folder)
+}
+
+/// Where a server answers programs of its machine, if nothing else is said: in the runtime directory of its service, or
+/// in that of the user.
+fn usual_control<R: Env + AllocGlobal>(rt: &R) -> Option<String> {
+    let alloc = rt.alloc();
+    if let Some(folder) = folder_of(rt, "RUNTIME_DIRECTORY") {
+        return format!(in alloc; "unix:{folder}/control").ok();
+    }
+    let folder = folder_of(rt, "XDG_RUNTIME_DIR")?;
+    format!(in alloc; "unix:{folder}/rangesync/control").ok()
+}
+
 /// The status of the run on the environment's words.
 fn status<R, I: Read + IsTerminal + Drop, O: Write + Drop, E: Write + IsTerminal + Drop + Send>(
     rt: &R,
@@ -60,7 +80,8 @@ where
                 log,
                 is_terminal,
             };
-            run::run(rt, words.as_slice(), reader, out, err)
+            let usual = usual_control(rt);
+            run::run(rt, words.as_slice(), usual.as_deref(), reader, out, err)
         }
         Err(refused) => tell(err, Fault::from(refused)),
     }

@@ -1,5 +1,9 @@
 //! The name of the set that a command speaks of.
 
+ghost use Rattle.std.specs.Prelude.{◌≡◌, [], None, IfOk, IfSome, IfNone, IsSome, option_map, unwrap_or};
+ghost use Rattle.rangesync.specs.Names as names;
+ghost use Rattle.rangesync.specs.Names.{name_in, name_told};
+
 use item_files::ItemForm;
 use settings_core::Command;
 use shard_core::SetName;
@@ -10,7 +14,9 @@ use std::alloc::{AllocError, Global};
 pub struct BadName;
 
 /// The name that a command is given, if it is given one, and the form of its items.
-fn named(command: Command<'_>) -> Option<(&str, ItemForm)> {
+fn named(command: Command<'_>) -> Option<(&str, ItemForm)>
+    ensures { option_map (λ n. (n.0.now, n.1)) result ≡ name_in command.entry }
+{
     match command {
         Command::Serve(words) => Some((words.set?, words.form)),
         Command::Sync(words) => Some((words.set?, words.form)),
@@ -19,7 +25,9 @@ fn named(command: Command<'_>) -> Option<(&str, ItemForm)> {
 }
 
 /// The byte that says how items stand.
-fn letter(form: ItemForm) -> u8 {
+fn letter(form: ItemForm) -> u8
+    ensures { result ≡ names.letter form }
+{
     match form {
         ItemForm::Hex => b'h',
         ItemForm::Text => b't',
@@ -29,7 +37,9 @@ fn letter(form: ItemForm) -> u8 {
 
 /// The name of the set as the other side is told it, with one byte more for the form of the items: so no side takes the
 /// other's hex for text. No bytes if the command is given no name.
-pub fn told_of(alloc: Global, command: Command<'_>) -> Result<Vec<u8>, AllocError> {
+pub fn told_of(alloc: Global, command: Command<'_>) -> Result<Vec<u8>, AllocError>
+    ensures { IfOk result (λ told. told.items ≡ name_told command.entry) }
+{
     let mut told = Vec::new(alloc);
     if let Some((name, form)) = named(command) {
         told.extend_from_slice(name.as_bytes())?;
@@ -39,7 +49,10 @@ pub fn told_of(alloc: Global, command: Command<'_>) -> Result<Vec<u8>, AllocErro
 }
 
 /// The set that the other side is told so, and that is cut by so many bits.
-fn set_cut(told: &[u8], bits: u8) -> Result<Option<SetName<'_>>, BadName> {
+fn set_cut(told: &[u8], bits: u8) -> Result<Option<SetName<'_>>, BadName>
+    ensures set { IfOk result (λ set. IfSome set (λ s. (s.name.now ≡ told.now) × (s.bits ≡ bits))) }
+    ensures some { IfOk result (λ set. IsSome set) }
+{
     match SetName::new(told, bits) {
         Some(set) => Ok(Some(set)),
         None => Err(BadName),
@@ -48,7 +61,10 @@ fn set_cut(told: &[u8], bits: u8) -> Result<Option<SetName<'_>>, BadName> {
 
 /// The set of which the other side is told so: none where it is told nothing. A set that is cut into shards may have no
 /// name: the other side is told of its bits.
-pub fn set_of(told: &[u8], bits: Option<u8>) -> Result<Option<SetName<'_>>, BadName> {
+pub fn set_of(told: &[u8], bits: Option<u8>) -> Result<Option<SetName<'_>>, BadName>
+    ensures set { IfOk result (λ set. IfSome set (λ s. (s.name.now ≡ told.now) × (s.bits ≡ unwrap_or bits 0))) }
+    ensures none { IfOk result (λ set. IfNone set ((told.now ≡ []) × (bits ≡ None))) }
+{
     match told.len() {
         1 => Err(BadName),
         0 if bits.is_none() => Ok(None),

@@ -1,28 +1,29 @@
 //! The program over any runtime, reader and writers.
 
-ghost use Rattle.std.specs.Prelude.{◌≡◌, ◌≤◌, ◌⊎◌, IfOk, map};
+ghost use Rattle.std.specs.Prelude.{◌≡◌, ◌≤◌, ◌⊎◌, IfOk, IfSome, map};
 ghost use Rattle.settings_core.specs.Calls.{WordsAskFor};
 ghost use Rattle.settings_core.specs.Spans.{AreInSpan};
 ghost use Rattle.settings_core.specs.declared.commands.Call.{Call as Asked};
 ghost use Rattle.printing_core.specs.FaultsOf.{status_of};
 ghost use Rattle.rangesync.specs.Done.{IsChecking, IsDone};
 
-use crate::addresses::{addresses_of, at_addresses};
+use crate::addresses::{Addresses, addresses_of, at_addresses, lacks_door};
 use crate::answering::answer_for;
 use crate::checking::check_table;
 use crate::naming::{set_of, told_of};
 use crate::planning::plan;
 use crate::sharding::shards_of;
 use crate::simulating::sim;
-use crate::stdio::flaw_of;
-use client::sync_as_asked;
+use crate::stdio::{flaw_of, node_flaw_of};
+use client::{news, put, status, stop, sync_as_asked};
 use loading::Target;
 use printing_core::{
-    Fault, Refusal, Why, tell, tell_name_flaw, tell_shard_flaw, tell_stdio_flaw, tell_why,
-    tell_words,
+    Fault, Refusal, Why, tell, tell_name_flaw, tell_no_control, tell_node_flaw, tell_shard_flaw,
+    tell_stdio_flaw, tell_why, tell_words,
 };
 use server::{Loops, Outputs, serve_as_asked};
 use settings_core::{Call, Command, read_words};
+use std::alloc::{AllocError, Global};
 use std::convert::AsStr;
 use std::fs::File;
 use std::io::{Read, Write};
@@ -51,6 +52,10 @@ where
         Command::Sync(words) => {
             return sync_as_asked(rt, words, target, (reader, outputs.out), err);
         }
+        Command::Put(words) => return put(rt, words, (reader, outputs.out), err),
+        Command::News(words) => return news(rt, words, outputs.out, err),
+        Command::Stop(words) => return stop(rt, words, err),
+        Command::Status(words) => return status(rt, words, outputs.out, err),
     }
     Ok(0)
 }
@@ -96,15 +101,69 @@ fn tell_refusal<E: Write>(err: &mut E, refusal: Refusal<'_>, explains: bool) -> 
     status
 }
 
+/// Tells why the words cannot be done together, if they cannot. The status.
+fn tell_flaw<E: Write>(err: &mut E, command: Command<'_>, is_terminal: bool) -> Option<u8>
+    ensures { IfSome result (λ status. status ≡ 2) }
+{
+    if let Some(flaw) = flaw_of(command, is_terminal) {
+        return Some(tell_stdio_flaw(&mut *err, flaw));
+    }
+    match node_flaw_of(command) {
+        Some(flaw) => Some(tell_node_flaw(&mut *err, flaw)),
+        None => None,
+    }
+}
+
+/// What the other side is told of the set, and where it is.
+#[derive(Drop)]
+struct Places {
+    told: Vec<u8>,
+    addresses: Addresses,
+}
+
+/// What the other side of a command is told of the set, and where it is.
+fn places_of(
+    alloc: Global,
+    command: Command<'_>,
+    usual: Option<&str>,
+) -> Result<Places, AllocError> {
+    Ok(Places {
+        told: told_of(alloc, command)?,
+        addresses: addresses_of(alloc, command, usual)?,
+    })
+}
+
+/// Does what the words ask for, which can be done together, and gives the status.
+fn run_at<'a, R, I: Read + Drop, O: Write + Drop, E: Write + Drop + Send>(
+    rt: &'a R,
+    command: Command<'a>,
+    target: Target<'a>,
+    ends: (I, Outputs<O, E>),
+    err: &mut E,
+) -> u8
+where
+    R: Files<File = File> + Loops,
+    requires { AreInSpan command }
+    ensures known { result ≤ 4 }
+    ensures differ { result ≡ 4 → IsChecking command.entry }
+{
+    let explains = target.explains;
+    match obey(rt, command, target, ends, err) {
+        Ok(status) => status,
+        Err(refusal) => tell_refusal(err, refusal, explains),
+    }
+}
+
 /// Runs the program on these words, of which the first is its own name, and gives the status: 0 done, 1 refused, 2 for
-/// words that it does not know, 3 for a file, an input, an output, the network or memory, 4 for sets that differ, where
-/// that is asked for.
+/// words that it does not know, or if no door is named and there is no usual one, 3 for a file, an input, an output,
+/// the network or memory, 4 for sets that differ, if the words ask for that.
 ///
 /// A refusal is one line on standard error. What it speaks of, and the usual cause, is a second line if standard error
 /// is a terminal, or with `--why`.
 pub fn run<R, W: AsStr, I: Read + Drop, O: Write + Drop, E: Write + Drop + Send>(
     rt: &R,
     words: &[W],
+    usual: Option<&str>,
     input: StandardInput<I>,
     out: O,
     err: StandardError<E>,
@@ -123,25 +182,24 @@ where
         Ok(call) => call,
         Err(fault) => return tell_words(out, err, fault),
     };
-    if let Some(flaw) = flaw_of(command, input.is_terminal) {
-        return tell_stdio_flaw(err, flaw);
+    if let Some(status) = tell_flaw(&mut err, command, input.is_terminal) {
+        return status;
     }
     let sharding = match shards_of(command) {
         Ok(sharding) => sharding,
         Err(flaw) => return tell_shard_flaw(err, flaw),
     };
-    let told = match told_of(rt.alloc(), command) {
-        Ok(told) => told,
+    let places = match places_of(rt.alloc(), command, usual) {
+        Ok(places) => places,
         Err(refused) => return tell(err, Fault::from(refused)),
     };
-    let Ok(set) = set_of(&told, sharding.map(|sharding| sharding.bits)) else {
+    let Ok(set) = set_of(&places.told, sharding.map(|sharding| sharding.bits)) else {
         return tell_name_flaw(err);
     };
-    let addresses = match addresses_of(rt.alloc(), command) {
-        Ok(addresses) => addresses,
-        Err(refused) => return tell(err, Fault::from(refused)),
-    };
-    let command = at_addresses(command, &addresses);
+    let command = at_addresses(command, &places.addresses);
+    if lacks_door(command) {
+        return tell_no_control(err);
+    }
     let target = Target {
         set,
         sharding,
@@ -149,8 +207,5 @@ where
         explains: explains || is_terminal,
     };
     let ends = (input.reader, Outputs { out, log });
-    match obey(rt, command, target, ends, &mut err) {
-        Ok(status) => status,
-        Err(refusal) => tell_refusal(&mut err, refusal, target.explains),
-    }
+    run_at(rt, command, target, ends, &mut err)
 }

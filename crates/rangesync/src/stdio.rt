@@ -1,6 +1,6 @@
-//! Which commands speak over standard input and output.
+//! Which commands speak over standard input and output, and which keep their set equal with others.
 
-use settings_core::{Command, StdioFlaw, StdioWords, stdio_flaw};
+use settings_core::{Command, NodeFlaw, NodeWords, StdioFlaw, StdioWords, node_flaw, stdio_flaw};
 
 /// Why a command does not speak over standard input and output, if it is to and does not.
 pub fn flaw_of(command: Command<'_>, is_terminal: bool) -> Option<StdioFlaw> {
@@ -18,4 +18,17 @@ pub fn flaw_of(command: Command<'_>, is_terminal: bool) -> Option<StdioFlaw> {
         _ => return None,
     };
     stdio_flaw(words, is_terminal)
+}
+
+/// Why a server does not keep its set equal with others, or answers no programs, as its words ask for it.
+pub fn node_flaw_of(command: Command<'_>) -> Option<NodeFlaw> {
+    let Command::Serve(words) = command else {
+        return None;
+    };
+    node_flaw(NodeWords {
+        partners: words.partners,
+        has_every: words.every.is_some(),
+        control: words.control,
+        is_stdio: words.stdio,
+    })
 }

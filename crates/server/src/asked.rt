@@ -39,6 +39,17 @@ pub struct Serving<'a> {
     pub watching: Watching<'a>,
     /// What peers have to say before their hello.
     pub front: Front<'a>,
+    /// With whom the set is kept equal.
+    pub calling: Calling<'a>,
+}
+
+/// With whom a set is kept equal.
+#[derive(Clone, Copy)]
+pub struct Calling<'a> {
+    /// The addresses of the partners, with a comma between two, if there are any.
+    pub partners: Option<&'a str>,
+    /// How many seconds after the last session with a partner the next one begins, if it is given.
+    pub every: Option<u32>,
 }
 
 impl<'a> Serving<'a> {
@@ -52,7 +63,9 @@ impl<'a> Serving<'a> {
         ensures reports { (result.rules.reporting.form ≡ words.entry.form)
             × (result.rules.reporting.most ≡ words.entry.report_items) }
         ensures watching { (result.watching.metrics ≡ words.entry.metrics) × (result.watching.log ≡ words.entry.log)
-            × (result.watching.set ≡ words.entry.set) }
+            × (result.watching.set ≡ words.entry.set) × (result.watching.control ≡ words.entry.control) }
+        ensures calling { (result.calling.partners ≡ words.entry.partners)
+            × (result.calling.every ≡ words.entry.every) }
         ensures bounded { words.entry.read_only ≡ false → result.rules.most_learned ≡ words.entry.most_learned }
         ensures shut { words.entry.read_only ≡ true → result.rules.most_learned ≡ Some 0 }
     {
@@ -81,10 +94,15 @@ impl<'a> Serving<'a> {
             },
             watching: Watching {
                 metrics: words.metrics,
+                control: words.control,
                 log: words.log,
                 set: words.set,
             },
             front,
+            calling: Calling {
+                partners: words.partners,
+                every: words.every,
+            },
         }
     }
 }
@@ -94,6 +112,8 @@ impl<'a> Serving<'a> {
 pub struct Watching<'a> {
     /// The address at which metrics and a page answer HTTP, if there is one.
     pub metrics: Option<&'a str>,
+    /// The address at which programs of this machine are answered, if there is one.
+    pub control: Option<&'a str>,
     /// Whether standard error gets a line for each session.
     pub log: bool,
     /// What the set is called as it was given, if it has a name.

@@ -1,9 +1,17 @@
 //! A file of lines that a server writes to, and what standard error is told of it.
 
+ghost use Rattle.std.specs.Prelude.{◌≡◌, ◌++◌, ℕ, List, true, IfOk, IfErr, IsErr, OnOk, OnErr, string_bytes};
+ghost use Rattle.io_core.specs.Devices.{Holds};
+ghost use Rattle.io_core.specs.Keeping.{IsKept};
+ghost use Rattle.printing_core.specs.ItemTexts.{item_line};
+ghost use Rattle.server.specs.Keeping.{IsStored, lines_of};
+
 use crate::following::Followed;
 use io_core::{Device, LineFile, Unwritten, torn_length};
+use item_core::Item;
+use item_files::ItemForm;
 use printing_core::{
-    Cause, tell_left_out, tell_left_waiting, tell_unwritten, tell_unwritten_cause,
+    Cause, learned_line, tell_left_out, tell_left_waiting, tell_unwritten, tell_unwritten_cause,
     tell_written_again,
 };
 use std::alloc::{AllocError, Global};
@@ -14,6 +22,9 @@ const MOST_WAITING: usize = 16_777_216;
 
 /// After so many failures in a row a new text only waits, until `write` is called.
 const MOST_FAILURES: u8 = 2;
+
+/// How many bytes are told before they are written, where more are to be told at once.
+pub(crate) const BATCH: usize = 65_536;
 
 /// What is written to a file of lines.
 #[derive(Clone, Copy, Debug, PartialEq, Eq)]
@@ -57,8 +68,21 @@ pub struct Book<'a, D> {
     failed: u64,
     /// How many texts were given up. It stops at the greatest number.
     left_out: usize,
+    /// Whether a sync failed: what was written before it may be lost though a later one goes well.
+    is_doubtful: bool,
     /// What is known of other files at its path.
     pub(crate) followed: Followed,
+}
+
+/// Items whose lines are to be in a file.
+#[derive(Clone, Copy)]
+pub struct Wanted<'i> {
+    /// The form of the lines.
+    pub form: ItemForm,
+    /// The items, a line each.
+    pub items: &'i Vec<Item>,
+    /// Whether the lines are to outlive a loss of power.
+    pub is_durable: bool,
 }
 
 /// Why lines wait.
@@ -78,13 +102,14 @@ impl<'a, D: Device> Book<'a, D> {
             failures: 0,
             failed: 0,
             left_out: 0,
+            is_doubtful: false,
             followed: Followed::new(alloc),
         }
     }
 
-    /// Whether it is a report: else it holds items.
-    pub fn is_report(&self) -> bool {
-        self.name.kind == Kind::Report
+    /// Whether lines that are written may be lost.
+    pub fn is_doubtful(&self) -> bool {
+        self.is_doubtful
     }
 
     /// How many lines wait to be written.
@@ -103,7 +128,12 @@ impl<'a, D: Device> Book<'a, D> {
     }
 
     /// Puts a text of whole lines after those that wait; it is left out if too many wait, or where memory runs out.
-    pub(crate) fn tell(&mut self, text: &Result<String, AllocError>) -> Result<(), AllocError> {
+    pub(crate) fn tell(&mut self, text: &Result<String, AllocError>) -> Result<(), AllocError>
+        ensures told { OnOk result (IfOk text.now (λ t. (base told : List ℕ) → IsKept D.held base told self.old.lines
+            → IsKept D.held base (told ++ string_bytes t) self.new.lines)) }
+        ensures read { IfErr text.now (λ _. IsErr result) }
+        ensures same { OnErr result (self.new.lines ≡ self.old.lines) }
+    {
         let Ok(text) = text else {
             return Err(AllocError);
         };
@@ -137,29 +167,40 @@ impl<'a, D: Device> Book<'a, D> {
             self.left_out = self.left_out.saturating_add(1);
         }
         if self.failures < MOST_FAILURES {
-            self.write(err);
+            let _written = self.write(err);
         }
     }
 
-    /// Writes what waits. Standard error is told once when that begins to fail, and once when it goes on.
-    pub fn write<E: Write>(&mut self, err: &mut E) {
+    /// Writes what waits. Standard error is told once when that begins to fail, and once when it goes on. Whether nothing
+    /// waits any more.
+    pub fn write<E: Write>(&mut self, err: &mut E) -> bool
+        ensures kept { (base told : List ℕ) → IsKept D.held base told self.old.lines
+            → IsKept D.held base told self.new.lines }
+        ensures whole { result ≡ true → (base told : List ℕ) → IsKept D.held base told self.old.lines
+            → Holds (D.held self.new.lines.device) (base ++ told) }
+    {
         let waiting = self.lines.waiting_lines();
         match self.lines.write() {
-            Ok(()) if self.failures > 0 => {
-                self.failures = 0;
-                tell_written_again(err, self.name.kind.option(), waiting);
+            Ok(()) => {
+                if self.failures > 0 {
+                    self.failures = 0;
+                    tell_written_again(err, self.name.kind.option(), waiting);
+                }
+                true
             }
-            Ok(()) => {}
             Err(unwritten) => {
                 // Where that fails too, it is done before the next write.
                 let _cut = self.lines.heal();
                 self.fail(err, cause_of(unwritten));
+                false
             }
         }
     }
 
     /// Counts a failure, and tells why lines wait if it is the first in a row.
-    fn fail<E: Write>(&mut self, err: &mut E, cause: Cause) {
+    fn fail<E: Write>(&mut self, err: &mut E, cause: Cause)
+        ensures same { self.new.lines ≡ self.old.lines }
+    {
         if self.failures == 0 {
             let lines = self.lines.waiting_lines();
             tell_unwritten(err, self.name.kind.option());
@@ -169,11 +210,65 @@ impl<'a, D: Device> Book<'a, D> {
         self.failed = self.failed.saturating_add(1);
     }
 
-    /// Sees that what was written outlives a loss of power.
-    pub fn sync<E: Write>(&mut self, err: &mut E) {
-        if let Err(error) = self.lines.sync() {
-            self.fail(err, Cause::from(error.kind()));
+    /// Sees that what was written outlives a loss of power. Whether it does.
+    pub fn sync<E: Write>(&mut self, err: &mut E) -> bool
+        ensures kept { (base told : List ℕ) → IsKept D.held base told self.old.lines
+            → IsKept D.held base told self.new.lines }
+        ensures bytes { D.held self.new.lines.device ≡ D.held self.old.lines.device }
+        ensures saved { result ≡ true → D.saved self.new.lines.device ≡ D.held self.new.lines.device }
+    {
+        match self.lines.sync() {
+            Ok(()) => true,
+            Err(error) => {
+                self.is_doubtful = true;
+                self.fail(err, Cause::from(error.kind()));
+                false
+            }
         }
+    }
+
+    /// Tells the line of an item, and writes all that waits if that is much. Whether the line is told.
+    fn put_one<E: Write>(&mut self, alloc: Global, form: ItemForm, item: &Item, err: &mut E) -> bool
+        ensures told { result ≡ true → (base told : List ℕ) → IsKept D.held base told self.old.lines
+            → IsKept D.held base (told ++ item_line form item.now) self.new.lines }
+    {
+        if self.tell(&learned_line(alloc, form, item)).is_err() {
+            self.left_out = self.left_out.saturating_add(1);
+            return false;
+        }
+        if self.lines.waiting().len() >= BATCH && self.failures < MOST_FAILURES {
+            let _written = self.write(err);
+        }
+        true
+    }
+
+    /// Tells the lines of these items. Whether all are told.
+    fn put_each<E: Write>(&mut self, alloc: Global, wanted: Wanted<'_>, err: &mut E) -> bool
+        ensures told { result ≡ true → (base told : List ℕ) → IsKept D.held base told self.old.lines
+            → IsKept D.held base (told ++ lines_of wanted.entry.form wanted.entry.items.now.items) self.new.lines }
+    {
+        let mut are_told = true;
+        for item in wanted.items {
+            are_told &= self.put_one(alloc, wanted.form, item, err);
+        }
+        are_told
+    }
+
+    /// Tells the lines of these items, and sees that all that was told is written, and outlives a loss of power if that
+    /// is wanted. Whether that is so.
+    pub fn keep<E: Write>(&mut self, alloc: Global, wanted: Wanted<'_>, err: &mut E) -> bool
+        ensures stored { result ≡ true → IsStored D.held D.saved wanted.entry.is_durable
+            (lines_of wanted.entry.form wanted.entry.items.now.items) self.old.lines self.new.lines }
+    {
+        let are_told = self.put_each(alloc, wanted, err);
+        let is_written = self.write(err);
+        if !are_told || !is_written {
+            return false;
+        }
+        if wanted.is_durable {
+            return self.sync(err);
+        }
+        true
     }
 
     /// Writes what waits for the last time, and tells what is lost, if anything is. Whether nothing is.
@@ -181,7 +276,7 @@ impl<'a, D: Device> Book<'a, D> {
     where
         D: Drop,
     {
-        self.write(err);
+        let _written = self.write(err);
         let waiting = self.lines.waiting_lines();
         tell_left_waiting(err, self.name.kind.option(), waiting);
         tell_left_out(err, self.name.kind.option(), self.left_out);

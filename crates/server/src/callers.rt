@@ -1,221 +1,224 @@
-//! Those who ask by HTTP, on connections that never wait: each is heard for a while, answered, and read on until it
-//! closes.
+//! All who ask by HTTP at one place: the system tells when a connection may go on, and none is waited for.
 
+use crate::caller::{Caller, CallerStep, Place};
+use loading::millis_of;
+use mio::unix::SourceFd;
+use mio::{Events, Interest, Poll, Token};
+use peer_loops::Origins;
+use slab::Slab;
 use std::alloc::{AllocError, Global};
 use std::io;
-use std::io::{ErrorKind, Read, Write};
-use std::os::fd::{AsRawFd, RawFd};
-use tcp_front::Half;
-use watch_core::{Asked, request_in};
+use std::net::Net;
+use std::os::fd::AsRawFd;
+use std::time::{Clock, Duration};
+use tcp_front::{Arrival, Half, Listener};
 
-/// For how many milliseconds a connection is kept, at most.
-const MOST_MILLISECONDS: u64 = 5_000;
+/// How many connections are taken in a row.
+const IN_A_ROW: usize = 64;
 
-/// How many bytes are read of one, at most: the head of a request, and what may follow it.
-const MOST_BYTES: usize = 1_048_576;
+/// For how many milliseconds it is waited where a wait fails.
+const PAUSE: u64 = 100;
 
-/// How many bytes are read at a time.
-const ROOM: usize = 4_096;
+/// The token of the listener. A caller's is its key, which is less.
+const LISTENER: Token = Token(usize::MAX);
 
-/// How many reads or writes one call makes at most.
-const TURNS: usize = 32;
-
-/// How far a caller is.
-#[derive(Clone, Copy, Debug, PartialEq, Eq)]
-enum CallerStage {
-    /// Its request has not come whole.
-    Asks,
-    /// The answer is being written.
-    Hears,
-    /// The answer is written. What the caller still sends is dropped.
-    Leaves,
+/// The first of the keys so far that was heard longest ago, where one more was heard then.
+fn earlier(first: Option<(usize, u64)>, key: usize, heard: u64) -> Option<(usize, u64)> {
+    match first {
+        Some((_, least)) if least <= heard => first,
+        _ => Some((key, heard)),
+    }
 }
 
-/// How a call left off.
-#[derive(Clone, Copy, Debug, PartialEq, Eq)]
-pub enum CallerStep {
-    /// There is nothing to do now; until its connection is ready, if that is not.
-    Waits,
-    /// This is asked for.
-    Asks(Asked),
-    /// The connection is to be closed.
-    Gone,
-}
-
-/// Someone who asks by HTTP.
+/// All who ask at one place.
 #[derive(Drop)]
-pub struct Caller {
-    reader: Half,
-    writer: Half,
-    stage: CallerStage,
-    /// What came so far, while it asks.
-    came: Vec<u8>,
-    /// The answer, and how many bytes of it are written.
-    answer: Vec<u8>,
-    said: usize,
-    /// How many bytes more are read.
-    left: usize,
-    /// Whether the connection may go on without waiting.
-    is_ready: bool,
-    /// When the connection is closed.
-    until: u64,
-    /// When a byte of it was last read or written.
-    heard: u64,
+pub struct Callers {
+    poll: Poll,
+    place: Place,
+    /// How many may ask at once. For a further one another makes room.
+    most: usize,
+    all: Slab<Caller>,
+    /// The time, in milliseconds of the steady clock.
+    now: u64,
 }
 
-impl Caller {
-    /// One that has just come.
-    pub fn new(alloc: Global, connection: (Half, Half), now: u64) -> Caller {
-        let (reader, writer) = connection;
-        Caller {
-            reader,
-            writer,
-            stage: CallerStage::Asks,
-            came: Vec::new(alloc),
-            answer: Vec::new(alloc),
-            said: 0,
-            left: MOST_BYTES,
-            is_ready: true,
-            until: now.saturating_add(MOST_MILLISECONDS),
-            heard: now,
+impl Callers {
+    /// Nobody so far. The system tells when somebody comes to the listener.
+    pub fn new<R: Net>(
+        rt: &R,
+        alloc: Global,
+        listener: &Listener<'_, R>,
+        place: Place,
+        most: usize,
+    ) -> io::Result<Callers> {
+        let poll = Poll::new(rt)?;
+        listener.never_wait()?;
+        let fd = listener.as_raw_fd();
+        poll.registry()
+            .register(&mut SourceFd(&fd), LISTENER, Interest::READABLE)?;
+        Ok(Callers {
+            poll,
+            place,
+            most,
+            all: Slab::new(alloc),
+            now: 0,
+        })
+    }
+
+    /// How many may ask at once.
+    pub fn most(&self) -> usize {
+        self.most
+    }
+
+    /// The time, in milliseconds of the steady clock.
+    pub fn now(&self) -> u64 {
+        self.now
+    }
+
+    /// The caller of this key, if it is there.
+    pub fn get(&self, key: usize) -> Option<&Caller> {
+        self.all.get(key)
+    }
+
+    /// Waits until something is ready, or so many milliseconds are over, unless something is ready, and reads the
+    /// clock.
+    pub fn wait<R: Clock>(&mut self, rt: &R, events: &mut Events, is_more: bool, millis: u64) {
+        let is_ready = is_more || self.all.iter().any(|(_key, caller)| caller.is_ready());
+        let wait = Duration::from_millis(if is_ready { 0 } else { millis });
+        if self.poll.poll(events, Some(wait)).is_err() {
+            rt.sleep(Duration::from_millis(PAUSE));
+        }
+        if let Ok(moment) = rt.monotonic() {
+            self.now = millis_of(moment);
         }
     }
 
-    /// Where it counts, if it has an address of TCP.
-    pub fn origin(&self) -> Option<u128> {
-        self.reader.origin()
+    /// Those of these events may go on.
+    pub fn wake(&mut self, events: &Events) {
+        for event in events {
+            let Token(key) = event.token();
+            if let Some(caller) = self.all.get_mut(key) {
+                caller.wake();
+            }
+        }
     }
 
-    /// When a byte of it was last read or written.
-    pub fn heard(&self) -> u64 {
-        self.heard
+    /// The address from which most ask, if any has one.
+    fn most_crowded(&self, alloc: Global) -> Option<u128> {
+        let mut origins = Origins::new(alloc);
+        for (_key, caller) in self.all.iter() {
+            if let Some(origin) = caller.origin() {
+                origins.one_more(origin).ok()?;
+            }
+        }
+        origins.most()
     }
 
-    /// Whether its connection may go on without waiting.
-    pub fn is_ready(&self) -> bool {
-        self.is_ready
+    /// Who makes room: of the address from which most ask the one that has been silent for longest.
+    fn next_to_go(&self, alloc: Global) -> Option<usize> {
+        let crowded = self.most_crowded(alloc);
+        let mut first = None;
+        for (key, caller) in self.all.iter() {
+            if crowded.is_none() || caller.origin() == crowded {
+                first = earlier(first, key, caller.heard());
+            }
+        }
+        let (key, _) = first?;
+        Some(key)
     }
 
-    /// From now on its connection may go on.
-    pub fn wake(&mut self) {
-        self.is_ready = true;
+    /// Closes the connection that makes room, if all places are taken. Whether one is free.
+    fn has_room(&mut self, alloc: Global) -> bool {
+        if self.all.len() < self.most {
+            return true;
+        }
+        let Some(key) = self.next_to_go(alloc) else {
+            return false;
+        };
+        self.all.try_remove(key).is_some()
     }
 
-    /// Its connection is to be waited for, if it failed for that; else it is to be closed.
-    fn after(&mut self, error: &io::Error) -> CallerStep {
-        if error.kind() != ErrorKind::WouldBlock {
+    /// Takes in a connection. Where all places are taken, another makes room.
+    fn admit(&mut self, alloc: Global, connection: (Half, Half)) {
+        if !self.has_room(alloc) {
+            return;
+        }
+        let caller = Caller::new(alloc, self.place, connection, self.now);
+        let fd = caller.as_raw_fd();
+        let token = Token(self.all.vacant_key());
+        let both = Interest::READABLE | Interest::WRITABLE;
+        let registry = self.poll.registry();
+        if registry.register(&mut SourceFd(&fd), token, both).is_ok() {
+            let _key = self.all.insert(caller);
+        }
+    }
+
+    /// Takes in those who have come. Whether more may be there.
+    pub fn accept_all<R>(&mut self, alloc: Global, listener: &Listener<'_, R>) -> bool {
+        for _ in 0..IN_A_ROW {
+            match listener.arrival() {
+                Ok(Arrival::Came(reader, writer)) => self.admit(alloc, (reader, writer)),
+                Ok(Arrival::Gone) => {}
+                _ => return false,
+            }
+        }
+        true
+    }
+
+    /// Goes on with the caller of this key, if it is there and may go on. How that left off.
+    pub fn go_on(&mut self, key: usize) -> CallerStep {
+        let Some(caller) = self.all.get_mut(key) else {
             return CallerStep::Gone;
+        };
+        if !caller.is_ready() {
+            return CallerStep::Waits;
         }
-        self.is_ready = false;
-        CallerStep::Waits
-    }
-
-    /// How many bytes were read of it and written to it.
-    fn bytes(&self) -> u64 {
-        Half::bytes(&self.reader).saturating_add(Half::bytes(&self.writer))
-    }
-
-    /// Whether its time is over.
-    pub fn is_late(&self, now: u64) -> bool {
-        self.until <= now
-    }
-
-    /// Keeps what came. What is asked for, if that has come whole.
-    fn keep(&mut self, piece: &[u8]) -> Result<Option<Asked>, AllocError> {
-        self.came.extend_from_slice(piece)?;
-        Ok(request_in(&self.came))
-    }
-
-    /// Reads until its request has come.
-    fn hear(&mut self) -> CallerStep {
-        let mut room = [0u8; ROOM];
-        for _ in 0..TURNS {
-            let count = match self.reader.read(&mut room) {
-                Ok(0) => return CallerStep::Gone,
-                Ok(count) => count,
-                Err(error) => return self.after(&error),
-            };
-            match self.keep(&room[..count]) {
-                Ok(Some(asked)) => return CallerStep::Asks(asked),
-                Ok(None) => {}
-                Err(AllocError) => return CallerStep::Gone,
-            }
-        }
-        CallerStep::Waits
-    }
-
-    /// From now on it hears this answer.
-    pub fn answer(&mut self, answer: Vec<u8>) {
-        self.answer = answer;
-        self.stage = CallerStage::Hears;
-    }
-
-    /// Writes what is left of the answer, and then says that no more comes.
-    fn say(&mut self) -> CallerStep {
-        for _ in 0..TURNS {
-            let Some(rest) = self.answer.get(self.said..) else {
-                return CallerStep::Gone;
-            };
-            if rest.is_empty() {
-                return self.leave();
-            }
-            match self.writer.write(rest) {
-                Ok(0) => return CallerStep::Gone,
-                Ok(count) => self.said = self.said.saturating_add(count),
-                Err(error) => return self.after(&error),
-            }
-        }
-        CallerStep::Waits
-    }
-
-    /// Says that no more comes, and reads on.
-    fn leave(&mut self) -> CallerStep {
-        self.stage = CallerStage::Leaves;
-        if self.writer.end_output().is_err() {
-            return CallerStep::Gone;
-        }
-        self.read_on()
-    }
-
-    /// Reads what still comes, and drops it: a system that closes a connection with input unread throws away what the
-    /// caller has not got so far.
-    fn read_on(&mut self) -> CallerStep {
-        let mut room = [0u8; ROOM];
-        for _ in 0..TURNS {
-            match self.reader.read(&mut room) {
-                Ok(0) => return CallerStep::Gone,
-                Ok(count) => self.left = self.left.saturating_sub(count),
-                Err(error) => return self.after(&error),
-            }
-            if self.left == 0 {
-                return CallerStep::Gone;
-            }
-        }
-        CallerStep::Waits
-    }
-
-    /// Does what is next of it.
-    fn go_on_once(&mut self) -> CallerStep {
-        match self.stage {
-            CallerStage::Asks => self.hear(),
-            CallerStage::Hears => self.say(),
-            CallerStage::Leaves => self.read_on(),
-        }
-    }
-
-    /// Goes on as far as the connection goes without waiting.
-    pub fn go_on(&mut self, now: u64) -> CallerStep {
-        let before = self.bytes();
-        let step = self.go_on_once();
-        if self.bytes() != before {
-            self.heard = now;
+        let step = caller.go_on(self.now);
+        if step == CallerStep::Gone {
+            let _closed = self.all.try_remove(key);
         }
         step
     }
-}
 
-impl AsRawFd for Caller {
-    fn as_raw_fd(&self) -> RawFd {
-        self.reader.as_raw_fd()
+    /// The caller of this key hears this answer, or this part of it; without one its connection is closed. How that
+    /// left off.
+    pub fn answer(
+        &mut self,
+        key: usize,
+        answer: Result<Vec<u8>, AllocError>,
+        is_last: bool,
+    ) -> CallerStep {
+        let Ok(answer) = answer else {
+            let _closed = self.all.try_remove(key);
+            return CallerStep::Gone;
+        };
+        if let Some(caller) = self.all.get_mut(key) {
+            caller.answer(answer, is_last);
+        }
+        self.go_on(key)
+    }
+
+    /// The caller of this key hears this part of its answer when it goes on; without one its connection is closed.
+    pub fn give(&mut self, key: usize, part: Result<Vec<u8>, AllocError>, is_last: bool) {
+        let Ok(part) = part else {
+            let _closed = self.all.try_remove(key);
+            return;
+        };
+        if let Some(caller) = self.all.get_mut(key) {
+            caller.answer(part, is_last);
+        }
+    }
+
+    /// The caller of this key is kept until then, though nothing comes.
+    pub fn keep_until(&mut self, key: usize, until: u64) {
+        if let Some(caller) = self.all.get_mut(key) {
+            caller.keep_until(until);
+        }
+    }
+
+    /// Closes those whose time is over.
+    pub fn close_late(&mut self) {
+        let now = self.now;
+        self.all.retain(|_key, caller| !caller.is_late(now));
     }
 }

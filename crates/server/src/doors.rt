@@ -4,7 +4,7 @@ use crate::asked::Serving;
 use crate::watching::{Beginning, Window, open_window};
 use io_core::{Watched, WriterFailed, write_output};
 use printing_core::{Refusal, listening_line, tell_address};
-use settings_core::{Address, address_of};
+use settings_core::{Address, NO_ADDRESS, address_of};
 use std::alloc::Global;
 use std::io::Write;
 use std::net::{Net, SocketAddr, TcpListener, TcpStream};
@@ -46,44 +46,90 @@ fn announce<O: Write, E: Write>(
     Ok(())
 }
 
+/// Where a server listens: for sessions, if peers may call, and for those who watch it, if there is a window.
+#[derive(Drop)]
+pub struct Doors<'a, R> {
+    pub listener: Option<Listener<'a, R>>,
+    pub window: Option<Window<'a, R>>,
+}
+
+impl<R> Doors<'_, R> {
+    /// Removes the files of its sockets, if they have any.
+    pub fn remove_files<F: Files>(&self, rt: &F) {
+        if let Some(listener) = &self.listener {
+            listener.remove_file(rt);
+        }
+        if let Some(window) = &self.window {
+            window.remove_file(rt);
+        }
+    }
+
+    /// The real address at which peers call, if it is known.
+    fn real_address(&self) -> Option<SocketAddr> {
+        match &self.listener {
+            Some(listener) => listener.local_addr(),
+            None => None,
+        }
+    }
+}
+
 /// Says at which addresses a server listens: that of sessions, and that of the window if there is one.
 fn announce_doors<R, O: Write, E: Write>(
     alloc: Global,
     address: &str,
-    doors: (&Listener<'_, R>, Option<&Window<'_, R>>),
+    doors: &Doors<'_, R>,
     out: &mut O,
     err: &mut E,
 ) -> Result<(), Refusal<'static>> {
-    let (listener, window) = doors;
-    announce(alloc, address, listener.local_addr(), out, err)?;
-    if let Some(window) = window {
+    announce(alloc, address, doors.real_address(), out, err)?;
+    if let Some(window) = &doors.window {
         window.announce(alloc, out, err)?;
     }
     Ok(())
 }
 
-/// Opens the window of a server that listens already, if one is asked for, and says at which addresses it listens. Else
-/// 60, 90 or `io write`.
-fn open_beside<'a, R, O: Write, E: Write>(
+/// Where a server listens for sessions: nowhere, if it has partners and nobody may call. Else 60 or 90.
+fn open_listener<'a, R>(
     rt: &'a R,
     serving: Serving<'a>,
-    (listener, beginning): (&Listener<'a, R>, Beginning<'a>),
-    out: &mut O,
-    err: &mut E,
-) -> Result<Option<Window<'a, R>>, Refusal<'a>>
+) -> Result<Option<Listener<'a, R>>, Refusal<'a>>
 where
     R: Files + Net<Listener = TcpListener, Stream = TcpStream> + Clock + AllocGlobal,
 {
-    let window = open_window(rt, serving.watching.metrics, beginning)?;
-    let doors = (listener, window.as_ref());
-    let announced = announce_doors(rt.alloc(), serving.address, doors, out, err);
-    if let Err(refusal) = announced {
-        if let Some(window) = &window {
-            window.remove_file(rt);
-        }
-        return Err(refusal);
+    let address = serving.address;
+    if serving.calling.partners.is_some() && address == NO_ADDRESS {
+        return Ok(None);
     }
-    Ok(window)
+    let limits = Limits {
+        patience: serving.limits.patience,
+        most_bytes: serving.limits.most_bytes,
+    };
+    match listen_at(rt, address, serving.sessions, limits) {
+        Ok(listener) => Ok(Some(listener)),
+        Err(fault) => Err(Refusal::of_listen(address, fault)),
+    }
+}
+
+/// Opens the window of a server that listens there already, if one is asked for. Else 60 or 90; and no file of a socket
+/// is left.
+fn open_beside<'a, R>(
+    rt: &'a R,
+    serving: Serving<'a>,
+    beginning: Beginning<'a>,
+    listener: Option<Listener<'a, R>>,
+) -> Result<Doors<'a, R>, Refusal<'a>>
+where
+    R: Files + Net<Listener = TcpListener, Stream = TcpStream> + Clock + AllocGlobal,
+{
+    match open_window(rt, serving.watching.metrics, beginning) {
+        Ok(window) => Ok(Doors { listener, window }),
+        Err(refusal) => {
+            if let Some(listener) = &listener {
+                listener.remove_file(rt);
+            }
+            Err(refusal)
+        }
+    }
 }
 
 /// Listens at the addresses of a server, and says so. Else 60, 90 or `io write`; and no file of a socket is left.
@@ -93,36 +139,17 @@ pub fn open_doors<'a, R, O: Write, E: Write>(
     beginning: Beginning<'a>,
     out: &mut O,
     err: &mut E,
-) -> Result<(Listener<'a, R>, Option<Window<'a, R>>), Refusal<'a>>
+) -> Result<Doors<'a, R>, Refusal<'a>>
 where
     R: Files + Net<Listener = TcpListener, Stream = TcpStream> + Clock + AllocGlobal,
 {
-    let limits = Limits {
-        patience: serving.limits.patience,
-        most_bytes: serving.limits.most_bytes,
-    };
-    let address = serving.address;
-    let listener = match listen_at(rt, address, serving.sessions, limits) {
-        Ok(listener) => listener,
-        Err(fault) => return Err(Refusal::of_listen(address, fault)),
-    };
-    match open_beside(rt, serving, (&listener, beginning), out, err) {
-        Ok(window) => Ok((listener, window)),
+    let listener = open_listener(rt, serving)?;
+    let doors = open_beside(rt, serving, beginning, listener)?;
+    match announce_doors(rt.alloc(), serving.address, &doors, out, err) {
+        Ok(()) => Ok(doors),
         Err(refusal) => {
-            listener.remove_file(rt);
+            doors.remove_files(rt);
             Err(refusal)
         }
-    }
-}
-
-/// Removes the files of the sockets of a server, if they have any.
-pub fn remove_files<R, F: Files>(
-    rt: &F,
-    listener: &Listener<'_, R>,
-    window: Option<&Window<'_, R>>,
-) {
-    listener.remove_file(rt);
-    if let Some(window) = window {
-        window.remove_file(rt);
     }
 }

@@ -1,6 +1,6 @@
 //! Files that others put in the place of those that a server writes to: `mv`, `sed -i`, an editor or a rotation.
 
-use crate::book::{Book, Kind};
+use crate::book::{BATCH, Book, Kind};
 use item_core::Item;
 use item_files::{ItemForm, item_set};
 use loading::{Disk, open_lines};
@@ -11,9 +11,6 @@ use std::io::{ErrorKind, Read, Seek, SeekFrom, Write};
 use std::rt::Files;
 use std::{fs, io, mem};
 use tcp_front::Identity;
-
-/// How many bytes are told before they are written.
-const BATCH: usize = 65_536;
 
 /// What a path leads to now, by which a file was opened.
 #[derive(Clone, Copy, Debug, PartialEq, Eq)]
@@ -188,8 +185,7 @@ impl Book<'_, Disk<File>> {
         if self.followed.before.is_empty() {
             return;
         }
-        self.write(err);
-        if !self.is_written() {
+        if !self.write(err) {
             return;
         }
         let has = items_in(alloc, form, self.file());
@@ -215,8 +211,7 @@ impl Book<'_, Disk<File>> {
                 return false;
             }
         }
-        self.write(err);
-        self.is_written()
+        self.write(err)
     }
 
     /// Tells an item, and writes all that waits if that is much. Whether that went well.
@@ -233,7 +228,6 @@ impl Book<'_, Disk<File>> {
         if self.lines.waiting().len() < BATCH {
             return true;
         }
-        self.write(err);
-        self.is_written()
+        self.write(err)
     }
 }

@@ -41,6 +41,21 @@ pub fn limits_of(words: ServeWords<'_>) -> PeerLimits
     }
 }
 
+/// How many places the table of sessions has for so many peers, and for so many links beside them: at most 1,024.
+pub fn capacity(peers: u32, links: usize) -> usize
+    ensures { IsCapacity result }
+{
+    places(peers).saturating_add(links).clamp(1, MOST_PLACES)
+}
+
+/// The limits of peers beside so many links, whose sessions take no places of the peers'.
+pub fn beside(limits: PeerLimits, links: usize) -> PeerLimits {
+    PeerLimits {
+        sessions: limits.sessions.min(MOST_PLACES.saturating_sub(links)),
+        ..limits
+    }
+}
+
 /// How many places the table of sessions has for so many peers: one for each, and at most 1,024.
 pub fn places(peers: u32) -> usize
     ensures capacity { IsCapacity result }

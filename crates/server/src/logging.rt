@@ -193,6 +193,7 @@ fn visit_of(session: OnlySession<'_>) -> Visit {
     let (ours, theirs) = found(session.outcome);
     Visit {
         address: None,
+        is_called: false,
         profile: session.profile,
         serial: session.serial,
         ending: Ending::of(session.outcome),

@@ -1,19 +1,25 @@
 //! A gate that writes to files what each session found and each item that the log took, and that bounds what one
 //! session may put into the log.
 
+ghost use Rattle.std.specs.Prelude.{◌≡◌, true, IfSome};
 ghost use Rattle.server.specs.Admitting.{LetsIn};
+ghost use Rattle.server.specs.Keeping.{Covers};
 
-use crate::books::Books;
+use crate::book::Wanted;
+use crate::books::{Books, Keeping};
 use crate::following::When;
+use crate::ledger::{Closed, Kept, Ledger};
 use crate::looking::Looking;
+use http_core::Arrivals;
 use io_core::Device;
 use item_core::Item;
 use item_files::ItemForm;
 use loading::{Disk, now};
-use peer_loops::PartGate;
+use peer_loops::{PartGate, Told};
 use peer_threads::{Gate, Outcome};
 use printing_core::{
-    Fault, Reporting, SessionName, learned_line, left_out_line, report_text, tell_full,
+    Fault, Reporting, SessionName, left_out_line, report_text, tell_partner_away,
+    tell_partner_back, tell_partner_refused,
 };
 use shard_core::Which;
 use std::alloc::{AllocError, Global};
@@ -39,110 +45,6 @@ pub struct Rules {
     pub is_durable: bool,
 }
 
-/// What one thread at a time writes.
-#[derive(Drop)]
-struct Ledger<'a, D, E> {
-    books: Books<'a, D>,
-    err: E,
-    /// How many items were dropped. It stops at the greatest number.
-    dropped: u64,
-    /// Whether it was told that the set is full.
-    is_full_told: bool,
-}
-
-impl<D: Device + Drop, E: Write + Drop> Ledger<'_, D, E> {
-    /// Puts this text into the report.
-    fn report(&mut self, text: Result<String, AllocError>) {
-        for book in self.books.all.iter_mut() {
-            if book.is_report() {
-                book.put(&mut self.err, &text);
-            }
-        }
-    }
-
-    /// Writes an item that the log took.
-    fn learn(&mut self, alloc: Global, form: ItemForm, item: &Item) {
-        let line = learned_line(alloc, form, item);
-        for book in self.books.all.iter_mut() {
-            if !book.is_report() {
-                book.put(&mut self.err, &line);
-            }
-        }
-    }
-
-    /// Counts items that were dropped, and tells once that the set is full.
-    fn drop_more(&mut self, fault: LogFault, count: usize, items: usize) {
-        self.dropped = self.dropped.saturating_add(count as u64);
-        if fault == LogFault::Full && !self.is_full_told {
-            self.is_full_told = true;
-            tell_full(&mut self.err, items);
-        }
-    }
-
-    /// Sees that what was learned outlives a loss of power.
-    fn sync(&mut self) {
-        for book in self.books.all.iter_mut() {
-            if !book.is_report() {
-                book.sync(&mut self.err);
-            }
-        }
-    }
-
-    /// Tries again to write what waits.
-    fn try_again(&mut self) {
-        for book in self.books.all.iter_mut() {
-            book.write(&mut self.err);
-        }
-    }
-
-    /// Writes what waits for the last time, and closes the files.
-    fn close(self) -> Closed {
-        let Ledger {
-            books,
-            mut err,
-            dropped,
-            ..
-        } = self;
-        let mut is_written = true;
-        for book in books.all {
-            is_written &= book.close(&mut err);
-        }
-        Closed {
-            dropped,
-            is_written,
-        }
-    }
-}
-
-impl<E: Write + Drop> Ledger<'_, Disk<File>, E> {
-    /// Goes on in files that others put in the place of those that are open.
-    fn follow<R: Files<File = File> + AllocGlobal>(&mut self, rt: &R, form: ItemForm, when: When) {
-        for book in self.books.all.iter_mut() {
-            book.go_on(rt, form, when, &mut self.err);
-        }
-    }
-}
-
-/// What is left to say once no session runs.
-#[derive(Clone, Copy, Debug, PartialEq, Eq)]
-pub struct Closed {
-    /// How many learned items were dropped.
-    pub dropped: u64,
-    /// Whether all that was to be written is written.
-    pub is_written: bool,
-}
-
-impl Closed {
-    /// Refuses if lines are lost.
-    pub fn all_written(self) -> Result<(), Fault> {
-        if self.is_written {
-            Ok(())
-        } else {
-            Err(Fault::LinesLost)
-        }
-    }
-}
-
 /// The gate of a server: it writes to the files of a disk.
 pub type DiskReporter<'r, 'a, R, E> = Reporter<'r, 'a, R, Disk<File>, E>;
 
@@ -162,6 +64,8 @@ pub struct Reporter<'r, 'a, R: Wait, D, E> {
     /// How many items were put in, and how many were dropped, for those who watch.
     inserted: AtomicU64,
     dropped: AtomicU64,
+    /// How many sessions put in now what they learned: of an item that the log has a line may not be told yet.
+    adding: AtomicU64,
 }
 
 impl<'r, 'a, R: Wait, D: Device + Drop, E: Write + Drop> Reporter<'r, 'a, R, D, E> {
@@ -175,23 +79,59 @@ impl<'r, 'a, R: Wait, D: Device + Drop, E: Write + Drop> Reporter<'r, 'a, R, D, 
         err: E,
     ) -> Reporter<'r, 'a, R, D, E> {
         let reports = books.has_report();
-        let ledger = Ledger {
-            books,
-            err,
-            dropped: 0,
-            is_full_told: false,
-        };
         Reporter {
             rt,
             alloc,
             rules,
             cap,
-            ledger: Mutex::new(ledger),
+            ledger: Mutex::new(Ledger::new(books, err)),
             reports,
             looking: Looking::new(),
             inserted: AtomicU64::new(0),
             dropped: AtomicU64::new(0),
+            adding: AtomicU64::new(0),
         }
+    }
+
+    /// The same, and the last items that the log takes from now on are kept.
+    pub fn with_arrivals(self, arrivals: Arrivals) -> Reporter<'r, 'a, R, D, E> {
+        self.ledger.lock(self.rt).arrivals = Some(arrivals);
+        self
+    }
+
+    /// How many items the log ever took.
+    pub fn taken(&self) -> u64 {
+        match &self.ledger.lock(self.rt).arrivals {
+            Some(arrivals) => arrivals.taken(),
+            None => 0,
+        }
+    }
+
+    /// How many items the log took before the oldest one that is kept.
+    pub fn first_taken(&self) -> u64 {
+        match &self.ledger.lock(self.rt).arrivals {
+            Some(arrivals) => arrivals.first(),
+            None => 0,
+        }
+    }
+
+    /// The items that the log took after the first so many, but no more than `most` of them; none where one of them is
+    /// not kept, or where it has not taken so many.
+    pub fn taken_after(&self, seen: u64, most: usize) -> Result<Option<Vec<Item>>, AllocError> {
+        match &self.ledger.lock(self.rt).arrivals {
+            Some(arrivals) => arrivals.after(self.alloc, seen, most),
+            None => Ok(None),
+        }
+    }
+
+    /// How the set is kept.
+    pub fn keeping(&self) -> Keeping {
+        self.ledger.lock(self.rt).books.keeping()
+    }
+
+    /// Tries to write what waits.
+    pub fn try_again(&self) {
+        self.ledger.lock(self.rt).try_again();
     }
 
     /// How many items of peers were put into the log.
@@ -237,8 +177,30 @@ impl<'r, 'a, R: Wait, D: Device + Drop, E: Write + Drop> Reporter<'r, 'a, R, D, 
 }
 
 impl<R: Wait + Clock, D: Device + Drop, E: Write + Drop> Reporter<'_, '_, R, D, E> {
+    /// Notes items that the log took from a program, and sees that the lines of all that it gave are kept. Those of items
+    /// that the log had are told again where a session that taught them may not have told them yet, or after a sync that
+    /// failed. None where lines may be lost.
+    pub fn keep(&self, entered: &Vec<Item>, given: &Vec<Item>) -> Option<Kept>
+        ensures { IfSome result (λ kept. Covers kept entered.now.items given.now.items) }
+    {
+        self.inserted
+            .fetch_add(entered.len() as u64, Ordering::SeqCst);
+        self.looking.ask(self.rt);
+        let mut ledger = self.ledger.lock(self.rt);
+        let are_told = self.adding.load(Ordering::SeqCst) == 0 && !ledger.books.is_doubtful();
+        let wanted = Wanted {
+            form: self.rules.reporting.form,
+            items: if are_told { entered } else { given },
+            is_durable: self.rules.is_durable,
+        };
+        let kept = ledger.keep(self.alloc, entered, wanted);
+        drop(ledger);
+        self.looking.forget(self.rt);
+        kept
+    }
+
     /// Reports a session that is over, if there is a report. Before it is written it is looked what stands at the path.
-    fn report(&self, session: SessionName, outcome: &Outcome) {
+    fn report(&self, session: SessionName<'_>, outcome: &Outcome) {
         if self.reports {
             self.looking.forget(self.rt);
             self.looking.ask(self.rt);
@@ -294,6 +256,8 @@ where
 }
 
 impl<R: Wait + Clock, D: Device + Drop, E: Write + Drop> Gate for Reporter<'_, '_, R, D, E> {
+    ghost answers = { λ _ _ _ goes. goes ≡ true };
+
     ghost lets_in = { λ reporter _. LetsIn reporter.rules.most_learned };
 
     fn pass(&self, _serial: u64, _sent: u32) -> bool {
@@ -304,11 +268,13 @@ impl<R: Wait + Clock, D: Device + Drop, E: Write + Drop> Gate for Reporter<'_, '
         let session = SessionName {
             serial,
             which: None,
+            partner: None,
         };
         self.report(session, outcome);
     }
 
     fn admits(&self, _serial: u64, count: usize) -> usize {
+        self.adding.fetch_add(1, Ordering::SeqCst);
         match self.rules.most_learned {
             Some(most) => count.min(most as usize),
             None => count,
@@ -336,6 +302,7 @@ impl<R: Wait + Clock, D: Device + Drop, E: Write + Drop> Gate for Reporter<'_, '
             ledger.sync();
         }
         self.looking.forget(self.rt);
+        self.adding.fetch_sub(1, Ordering::SeqCst);
     }
 }
 
@@ -344,7 +311,31 @@ impl<R: Wait + Clock, D: Device + Drop, E: Write + Drop> PartGate for Reporter<'
         let session = SessionName {
             serial,
             which: part,
+            partner: None,
         };
         self.report(session, outcome);
+    }
+
+    fn ended_with(&self, address: &str, serial: u64, part: Option<Which>, outcome: &Outcome) {
+        let session = SessionName {
+            serial,
+            which: part,
+            partner: Some(address),
+        };
+        self.report(session, outcome);
+    }
+
+    fn is_told(&self, address: &str, told: Told) {
+        let mut ledger = self.ledger.lock(self.rt);
+        match told {
+            Told::Away => tell_partner_away(&mut ledger.err, address),
+            Told::Back => tell_partner_back(&mut ledger.err, address),
+            Told::Refuses(code) => {
+                tell_partner_refused(&mut ledger.err, address, Fault::Session { code })
+            }
+            Told::IsRefused(code) => {
+                tell_partner_refused(&mut ledger.err, address, Fault::PeerRefused { code })
+            }
+        }
     }
 }

@@ -7,16 +7,23 @@ ghost use Rattle.loading.specs.Sharded.{HaveCap};
 
 use crate::asked::Serving;
 use crate::books::open_books;
-use crate::doors::{open_doors, remove_files};
+use crate::door::{Door, attend, open_door};
+use crate::doors::{Doors, open_doors};
 use crate::following::When;
-use crate::limits::places;
+use crate::ledger::Closed;
+use crate::limits::{beside, capacity};
+use crate::linking::partners_of;
 use crate::logging::log_all;
 use crate::loops::Loops;
-use crate::reporting::{Closed, DiskReporter, Reporter};
-use crate::watching::{Beginning, Window, watch};
+use crate::reporting::{DiskReporter, Reporter};
+use crate::watching::{Beginning, Sight, Window, watch};
+use crate::yard::Yard;
+use http_core::Arrivals;
 use io_core::{Watched, write_output};
 use loading::Loaded;
-use peer_loops::{Board, Common, Front, Parts, Served, Service, serve_peers};
+use peer_loops::{
+    Board, Common, Front, Links, News, Partners, Parts, Seats, Service, call_partners, serve_peers,
+};
 use peer_threads::WorkersReport;
 use printing_core::{Fault, Refusal, refusal_of, served_text, tell_dropped, tell_in_memory};
 use range_tree::Tree;
@@ -41,26 +48,105 @@ pub struct Outputs<O, E> {
     pub log: E,
 }
 
+/// How many milliseconds a server without a listener waits until it looks whether it is to stop.
+const TICK: u64 = 250;
+
 /// Whether what a server learns is gone with its end: it may learn, and writes that nowhere.
 fn forgets(serving: Serving<'_>) -> bool {
     let is_written = serving.paths.keep.is_some() || serving.paths.learned.is_some();
     !is_written && serving.rules.most_learned != Some(0)
 }
 
-/// Serves by loops until the source has no more.
+/// Who serves and who calls: with which seats, and whom.
+#[derive(Clone, Copy)]
+struct Team<'a, 's, 'p> {
+    seats: &'a Seats<'s>,
+    links: Links<'a, 'p>,
+}
+
+impl<'a, 'p> Team<'a, '_, 'p> {
+    /// What is told of sessions, and of the partners.
+    fn sight(self) -> Sight<'a, 'p> {
+        Sight {
+            board: self.links.board,
+            partners: self.links.partners,
+        }
+    }
+}
+
+/// What the threads of a server share, beside its gate and the parts of its set.
+#[derive(Drop)]
+struct State<'p> {
+    accepted: Arc<Accepted>,
+    sessions: Mutex<SessionTable>,
+    news: News,
+    board: Board,
+    partners: Partners<'p>,
+}
+
+/// Serves by loops until the source has no more; where there is none, it waits until the server is done.
+fn serve_all<R: Loops, E: Write + Drop + Send>(
+    rt: &R,
+    common: &Common<'_, DiskReporter<'_, '_, R, E>>,
+    seats: &Seats<'_>,
+    listener: Option<&Listener<'_, R>>,
+    service: Service<'_>,
+) -> WorkersReport
+    requires workers { IsWorkerCount service.loops }
+{
+    if let Some(listener) = listener {
+        return serve_peers(rt, common, seats, listener, service);
+    }
+    for _ in rt.forever() {
+        if common.news.wait(rt, u64::MAX, TICK) || service.board.is_stopping() {
+            break;
+        }
+    }
+    WorkersReport {
+        started: 1,
+        fault: None,
+    }
+}
+
+/// The same; then all others are told that the server is done.
+fn serve_to_end<R: Loops, E: Write + Drop + Send>(
+    rt: &R,
+    common: &Common<'_, DiskReporter<'_, '_, R, E>>,
+    seats: &Seats<'_>,
+    listener: Option<&Listener<'_, R>>,
+    service: Service<'_>,
+) -> WorkersReport
+    requires workers { IsWorkerCount service.loops }
+{
+    let report = serve_all(rt, common, seats, listener, service);
+    common.gate.end();
+    common.news.end(rt);
+    service.board.end(rt);
+    report
+}
+
+/// Serves by loops until the source has no more, and calls the partners beside them, if there are any.
 fn work<R: Loops, E: Write + Drop + Send>(
     rt: &R,
     common: &Common<'_, DiskReporter<'_, '_, R, E>>,
-    parts: Parts,
-    listener: &Listener<'_, R>,
+    team: Team<'_, '_, '_>,
+    listener: Option<&Listener<'_, R>>,
     service: Service<'_>,
-) -> Served
+) -> WorkersReport
     requires workers { IsWorkerCount service.loops }
 {
-    let served = serve_peers(rt, common, parts, listener, service);
-    common.gate.end();
-    service.board.end(rt);
-    served
+    let Team { seats, links } = team;
+    if links.partners.threads() == 0 {
+        return serve_to_end(rt, common, seats, listener, service);
+    }
+    let (_called, report) = join(
+        rt,
+        move || call_partners(rt, common, seats, links),
+        move || -> WorkersReport
+            requires { IsWorkerCount service.loops }
+        { serve_to_end(rt, common, seats, listener, service) },
+    );
+    report
 }
 
 /// Prints a line for each session, if that is asked for, and answers those who watch the server, if there is a window,
@@ -69,19 +155,19 @@ fn log_and_show<R: Loops, E: Write + Drop + Send, L: Write + Drop + Send>(
     rt: &R,
     common: &Common<'_, DiskReporter<'_, '_, R, E>>,
     window: Option<&Window<'_, R>>,
-    board: &Board,
+    sight: Sight<'_, '_>,
     log: Option<L>,
 ) {
     let (_shown, _logged) = join(
         rt,
         move || {
             if let Some(window) = window {
-                watch(rt, window, common, board);
+                watch(rt, window, common, sight);
             }
         },
         move || {
             if let Some(log) = log {
-                log_all(rt, rt.alloc(), board, log);
+                log_all(rt, rt.alloc(), sight.board, log);
             }
         },
     );
@@ -92,26 +178,75 @@ fn log_and_show<R: Loops, E: Write + Drop + Send, L: Write + Drop + Send>(
 fn work_shown<R: Loops, E: Write + Drop + Send, L: Write + Drop + Send>(
     rt: &R,
     common: &Common<'_, DiskReporter<'_, '_, R, E>>,
-    parts: Parts,
-    doors: (&Listener<'_, R>, Option<&Window<'_, R>>),
+    team: Team<'_, '_, '_>,
+    doors: &Doors<'_, R>,
     service: Service<'_>,
     log: Option<L>,
-) -> Served
+) -> WorkersReport
     requires workers { IsWorkerCount service.loops }
 {
-    let (listener, window) = doors;
-    if window.is_none() && log.is_none() {
-        return work(rt, common, parts, listener, service);
+    let listener = doors.listener.as_ref();
+    if doors.window.is_none() && log.is_none() {
+        return work(rt, common, team, listener, service);
     }
-    let board = service.board;
-    let (_shown, served) = join(
+    let window = doors.window.as_ref();
+    let sight = team.sight();
+    let (_shown, report) = join(
         rt,
-        move || log_and_show(rt, common, window, board, log),
-        move || -> Served
+        move || log_and_show(rt, common, window, sight, log),
+        move || -> WorkersReport
             requires { IsWorkerCount service.loops }
-        { work(rt, common, parts, listener, service) },
+        { work(rt, common, team, listener, service) },
     );
-    served
+    report
+}
+
+/// Answers programs of this machine at a door, until the server is done. Where there is no seat for it, nobody is
+/// answered.
+fn answer_programs<R: Loops, E: Write + Drop + Send>(
+    rt: &R,
+    common: &Common<'_, DiskReporter<'_, '_, R, E>>,
+    seats: &Seats<'_>,
+    sight: Sight<'_, '_>,
+    (door, beginning): (&Door<'_, R>, Beginning<'_>),
+) {
+    let Some(mut hand) = seats.hand(rt) else {
+        return;
+    };
+    let yard = Yard {
+        rt: &*rt,
+        alloc: rt.alloc(),
+        common: &*common,
+        sight,
+        beginning,
+    };
+    attend(&yard, &mut hand, door);
+}
+
+/// The same as `work_shown`; beside it a thread answers programs of this machine, if there is a door.
+fn work_answered<R: Loops, E: Write + Drop + Send, L: Write + Drop + Send>(
+    rt: &R,
+    common: &Common<'_, DiskReporter<'_, '_, R, E>>,
+    team: Team<'_, '_, '_>,
+    doors: &Doors<'_, R>,
+    service: Service<'_>,
+    log: Option<L>,
+    door: Option<(&Door<'_, R>, Beginning<'_>)>,
+) -> WorkersReport
+    requires workers { IsWorkerCount service.loops }
+{
+    let Some(door) = door else {
+        return work_shown(rt, common, team, doors, service, log);
+    };
+    let sight = team.sight();
+    let (_answered, report) = join(
+        rt,
+        move || answer_programs(rt, common, team.seats, sight, door),
+        move || -> WorkersReport
+            requires { IsWorkerCount service.loops }
+        { work_shown(rt, common, team, doors, service, log) },
+    );
+    report
 }
 
 /// Serves in a thread, while this one does what a thread that `join` makes cannot do: it tends the files, if there are
@@ -119,29 +254,79 @@ fn work_shown<R: Loops, E: Write + Drop + Send, L: Write + Drop + Send>(
 fn work_tended<R: Loops, E: Write + Drop + Send, L: Write + Drop + Send, T: FnOnce() + Drop>(
     rt: &R,
     common: &Common<'_, DiskReporter<'_, '_, R, E>>,
-    parts: Parts,
-    doors: (&Listener<'_, R>, Option<&Window<'_, R>>),
+    team: Team<'_, '_, '_>,
+    doors: &Doors<'_, R>,
     service: Service<'_>,
     log: Option<L>,
+    door: Option<(&Door<'_, R>, Beginning<'_>)>,
     tend: T,
-) -> Served
+) -> WorkersReport
     requires workers { IsWorkerCount service.loops }
     requires tends { T.pre tend }
 {
     if !common.gate.may_wait() {
-        return work_shown(rt, common, parts, doors, service, log);
+        return work_answered(rt, common, team, doors, service, log, door);
     }
-    let (served, _tended) = join(
+    let (report, _tended) = join(
         rt,
-        move || -> Served
+        move || -> WorkersReport
             requires { IsWorkerCount service.loops }
         {
             common.gate.begin();
-            work_shown(rt, common, parts, doors, service, log)
+            work_answered(rt, common, team, doors, service, log, door)
         },
         tend,
     );
-    served
+    report
+}
+
+/// How many seats there are at each part: one for each loop of both kinds, one for each link, and one for a door.
+fn seats_for(serving: Serving<'_>, partners: &Partners<'_>) -> usize {
+    let own = usize::from(serving.workers) * 2 + usize::from(serving.watching.control.is_some());
+    own.saturating_add(partners.threads())
+}
+
+/// Opens the door of a server, if one is asked for, and says so. Else 60, 90 or `io write`; and no file of a socket is
+/// left.
+fn open_announced<'a, R, O: Write, E: Write>(
+    rt: &'a R,
+    serving: Serving<'a>,
+    doors: &Doors<'_, R>,
+    out: &mut O,
+    err: &mut E,
+) -> Result<Option<Door<'a, R>>, Refusal<'a>>
+where
+    R: Files + Loops,
+{
+    let opened = match open_door(rt, serving.watching.control) {
+        Ok(Some(door)) => door,
+        Ok(None) => return Ok(None),
+        Err(refusal) => {
+            doors.remove_files(rt);
+            return Err(refusal);
+        }
+    };
+    match opened.announce(rt.alloc(), out, err) {
+        Ok(()) => Ok(Some(opened)),
+        Err(refusal) => {
+            doors.remove_files(rt);
+            opened.remove_file(rt);
+            Err(refusal)
+        }
+    }
+}
+
+/// The gate of a server whose set has so many items. If there is a door, it keeps the last items that the set takes.
+fn with_arrivals<'r, 'a, R: Loops, E: Write + Drop>(
+    reporter: DiskReporter<'r, 'a, R, E>,
+    alloc: Global,
+    serving: Serving<'_>,
+    items: u64,
+) -> Result<DiskReporter<'r, 'a, R, E>, AllocError> {
+    if serving.watching.control.is_none() {
+        return Ok(reporter);
+    }
+    Ok(reporter.with_arrivals(Arrivals::new(alloc, items)?))
 }
 
 /// The refusal of a run whose workers ended so, and whose files were closed so.
@@ -180,6 +365,50 @@ fn parts_of(
     Ok(parts)
 }
 
+/// Serves by all threads over what they share, until the source has no more.
+fn serve_over<'b, R: Files<File = File> + Loops, E: Write + Drop + Send, L: Write + Drop + Send>(
+    rt: &'b R,
+    state: &'b State<'_>,
+    seats: &'b Seats<'_>,
+    gate: &'b DiskReporter<'_, '_, R, E>,
+    serving: Serving<'b>,
+    beginning: Beginning<'b>,
+    doors: &Doors<'_, R>,
+    door: Option<&Door<'_, R>>,
+    log: Option<L>,
+) -> WorkersReport
+    requires workers { IsWorkerCount serving.workers }
+{
+    let common = Common {
+        accepted: &state.accepted,
+        sessions: &state.sessions,
+        gate: &*gate,
+        news: &state.news,
+    };
+    let service = Service {
+        loops: serving.workers,
+        limits: beside(serving.limits, state.partners.threads()),
+        board: &state.board,
+        front: serving.front,
+    };
+    let team = Team {
+        seats: &*seats,
+        links: Links {
+            partners: &state.partners,
+            patience: serving.limits.patience,
+            most_bytes: serving.limits.most_bytes,
+            front: serving.front,
+            board: &state.board,
+        },
+    };
+    let answered = match door {
+        Some(door) => Some((door, beginning)),
+        None => None,
+    };
+    let tend = || gate.tend();
+    work_tended(rt, &common, team, doors, service, log, answered, tend)
+}
+
 /// Serves sessions until there are no more connections, and prints what was counted. What is asked for of each session
 /// goes to its files; what cannot be written waits, and is tried again at the next line and each second. Standard error
 /// is told when that begins and when it goes on, and at the end how many learned items were dropped, if any were.
@@ -211,38 +440,56 @@ pub fn serve<'a, R: Files<File = File> + Loops, O: Write + Drop, E: Write + Drop
     let beginning = Beginning::now(rt, &serving, &set);
     let accepted = Arc::new(alloc, accepted)?;
     let first = set.first();
-    let parts = parts_of(alloc, &accepted, serving.front, first, set.into_logs())?;
-    let sessions = Mutex::new(SessionTable::new(alloc, places(serving.limits.peers))?);
-    let board = Board::new(alloc)?;
+    let mut parts = parts_of(alloc, &accepted, serving.front, first, set.into_logs())?;
+    let partners = partners_of(rt, alloc, serving.calling)?;
+    let Some(seats) = parts.seats(rt, alloc, seats_for(serving, &partners)) else {
+        return Err(Refusal::from(Fault::Memory));
+    };
+    let state = State {
+        accepted,
+        sessions: Mutex::new(SessionTable::new(
+            alloc,
+            capacity(serving.limits.peers, partners.threads()),
+        )?),
+        news: News::new(),
+        board: Board::new(alloc)?,
+        partners,
+    };
     let books = open_books(rt, serving.paths, kept, err)?;
-    let (listener, window) = open_doors(rt, serving, beginning, &mut out, err)?;
+    let doors = open_doors(rt, serving, beginning, &mut out, err)?;
+    let door = open_announced(rt, serving, &doors, &mut out, err)?;
     if forgets(serving) {
         tell_in_memory(err);
     }
     let reporter = Reporter::new(rt, alloc, serving.rules, cap, books, &mut *err);
-    let common = Common {
-        accepted: &accepted,
-        sessions: &sessions,
-        gate: &reporter,
-    };
-    let service = Service {
-        loops: serving.workers,
-        limits: serving.limits,
-        board: &board,
-        front: serving.front,
-    };
+    let reporter = with_arrivals(reporter, alloc, serving, beginning.items)?;
     let log = serving.watching.log.then_some(lines);
-    let doors = (&listener, window.as_ref());
-    let tend = || reporter.tend();
-    let served = work_tended(rt, &common, parts, doors, service, log, tend);
+    let report = serve_over(
+        rt,
+        &state,
+        &seats,
+        &reporter,
+        serving,
+        beginning,
+        &doors,
+        door.as_ref(),
+        log,
+    );
     reporter.follow(When::Last);
-    remove_files(rt, &listener, window.as_ref());
+    doors.remove_files(rt);
     let closed = reporter.close();
     tell_dropped(err, closed.dropped);
+    let State { sessions, .. } = state;
     let totals = sessions.into_inner().totals();
-    let text = served_text(alloc, totals, served.items)?;
-    write_output(&mut Watched::new(out), text.as_bytes())?;
-    match ending(served.report, closed) {
+    drop(seats);
+    let text = served_text(alloc, totals, parts.count(rt))?;
+    let printed = write_output(&mut Watched::new(out), text.as_bytes());
+    // Who stopped the server sees by this that all is written.
+    if let Some(door) = &door {
+        door.remove_file(rt);
+    }
+    printed?;
+    match ending(report, closed) {
         Ok(()) => Ok(()),
         Err(fault) => Err(Refusal::of_serving(fault)),
     }

@@ -11,8 +11,9 @@ ghost use Rattle.peer_threads.specs.Workers.{LookedOrNot, PutsInLearned};
 
 use crate::asked::Serving;
 use crate::books::open_books;
+use crate::ledger::Closed;
 use crate::logging::{OnlySession, log_session};
-use crate::reporting::{Closed, Reporter};
+use crate::reporting::Reporter;
 use digest_core::{Counted, Fingerprint, Summary};
 use io_core::{Watched, write_output};
 use loading::{Loaded, Metered, millis_since};

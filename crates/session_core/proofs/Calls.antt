@@ -7,9 +7,9 @@
 -- counts no more (`later` of Steps).
 use Rattle.std.proofs.Common.{◌≡◌, ℕ, ◌+◌, ◌<◌, Bool, true, false, List, [], ◌++◌, length, take, drop, Result, Ok, Err}
 use Rattle.std.proofs.Common.{IfOk, OnOk, flat_map, inl, inr, refl, sym, ap, ◌∙◌, subst, append_assoc, append-nil}
-use Rattle.std.proofs.Common.{arith}
+use Rattle.std.proofs.Common.{◌≤◌, length-append, arith}
 use Rattle.std.specs.declared.alloc.AllocError.{AllocError}
-use Rattle.std.proofs.lemmas.List.{take-append-drop}
+use Rattle.std.proofs.lemmas.List.{take-append-drop, length-take-le}
 use Rattle.std.proofs.Math.Seq.{take-add, take-length}
 use Rattle.definitions.specs.Fingerprints.{Summary}
 use Rattle.definitions.specs.Items.{IsBytes}
@@ -23,11 +23,15 @@ use Rattle.definitions.specs.Engines.{Speaker}
 use Rattle.definitions.specs.Hearing.{Goes_on}
 use Rattle.laws.proofs.Fields.{rest_fits}
 use Rattle.ends_core.specs.EndStates.{EndState}
-use Rattle.session_core.specs.Outboxes.{OutboxState, outbox_state}
+use Rattle.ends_core.specs.Sides.{said_to}
+use Rattle.session_core.specs.Outboxes.{OutboxState, outbox_state, less}
+use Rattle.session_core.specs.Written.{IsLaid}
 use Rattle.session_core.specs.Sessions.{TalkState, SessionState, is_open, frame_due, due, IsBegun, Begins, beginning}
+use Rattle.session_core.specs.Sessions.{all_made}
 use Rattle.session_core.specs.Sessions.{opened, with_outbox, with_talk, GoesOn, Knows, Pushes, Takes}
 use Rattle.session_core.specs.Laws.{Laws}
 use Rattle.session_core.proofs.Steps.{later}
+use Rattle.session_core.proofs.Writing.{laid-first, laid-made, laid-less}
 
 module _ {F : Type 0} (S : Summary F) (W : Profile F) where
   -- ---- the beginning
@@ -46,8 +50,9 @@ module _ {F : Type 0} (S : Summary F) (W : Profile F) where
   -- nothing was pushed to an end that was made
   pub begins-opened : (a : Checked) (s : Speaker F) (h : EndState F) (o : OutboxState F) → h.end ≡ s.start →
       h.taken ≡ nothing_taken s.start → h.steps ≡ a.steps → is_live s.start.stage ≡ true →
-      due W (beginning h o) ≡ session_text W s.first → Begins S W a s (opened h o)
-  begins-opened a s h o end taken steps live text = record {
+      due W (beginning h o) ≡ session_text W s.first → h.end.sent ≡ length s.first →
+      o ≡ outbox_state W.hello [] s.first → Begins S W a s (opened h o)
+  begins-opened a s h o end taken steps live text sent says = record {
     knows = record {
       are_bytes = tt;
       tells = record {
@@ -55,6 +60,8 @@ module _ {F : Type 0} (S : Summary F) (W : Profile F) where
         end = (end, live);
         text = text ∙ ap (λ (l : List (Message F)). session_text W l) (sym (append-nil s.first))
             ∙ sym (append-nil (session_text W (s.first ++ [])));
+        sent = sent ∙ ap (λ (l : List (Message F)). length l) (sym (append-nil s.first));
+        laid = subst (λ (p : OutboxState F). IsLaid W (s.first ++ []) 0 p) (sym says) (laid-first W s.first);
       };
       goes_on = record {
         events = [];
@@ -62,10 +69,8 @@ module _ {F : Type 0} (S : Summary F) (W : Profile F) where
         heard = heard;
         fine = refl;
         listens = refl;
-        parts = refl;
         begun = begun-nothing;
       };
-      ended = λ over. refl;
     };
     goes = refl;
     listens = refl;
@@ -95,12 +100,18 @@ module _ {F : Type 0} (S : Summary F) (W : Profile F) where
 
   pub retold : (s : Speaker F) (c : SessionState F) (o : OutboxState F) (told : Bool) (pushed taken after : List ℕ) →
       after ++ due W (with_outbox c.talk o told) ≡ taken ++ due W c.talk →
-      Knows S W s c pushed taken → Knows S W s (with_talk c (with_outbox c.talk o told)) pushed after
-  retold s c o told pushed taken after same k = record {
+      IsLaid W (said_to S W s pushed) (length after) o → Knows S W s c pushed taken →
+      Knows S W s (with_talk c (with_outbox c.talk o told)) pushed after
+  retold s c o told pushed taken after same laid k = record {
     are_bytes = k.are_bytes;
-    tells = record { heard = k.tells.heard; end = k.tells.end; text = same ∙ k.tells.text };
+    tells = record {
+      heard = k.tells.heard;
+      end = k.tells.end;
+      text = same ∙ k.tells.text;
+      sent = k.tells.sent;
+      laid = laid;
+    };
     goes_on = by (is_open c.talk.state) k.goes_on;
-    ended = k.ended;
   } where
     by : (b : Bool) → GoesOn S W b s c pushed →
         GoesOn S W b s (with_talk c (with_outbox c.talk o told)) pushed
@@ -110,7 +121,6 @@ module _ {F : Type 0} (S : Summary F) (W : Profile F) where
       heard = g.heard;
       fine = g.fine;
       listens = g.listens;
-      parts = g.parts;
       begun = g.begun;
     }
     by false (inl over) = inl over
@@ -118,42 +128,49 @@ module _ {F : Type 0} (S : Summary F) (W : Profile F) where
 
   -- all that is due is made
   pub made-due : (t : TalkState F) →
-      due W (with_outbox t (outbox_state (due W t) []) true) ≡ due W t
+      due W (with_outbox t (all_made W t) true) ≡ due W t
   made-due t = append-nil (due W t)
 
   -- some of the bytes that are made are taken
-  pub taken-due : (t : TalkState F) (front back : List ℕ) → t.outbox.ready ≡ front ++ back →
-      front ++ due W (with_outbox t (outbox_state back t.outbox.later) t.told) ≡ due W t
-  taken-due t front back split =
+  pub taken-due : (t : TalkState F) (front back ends : List ℕ) → t.outbox.ready ≡ front ++ back →
+      front ++ due W (with_outbox t (outbox_state back ends t.outbox.later) t.told) ≡ due W t
+  taken-due t front back ends split =
       let rest = flat_map (message_text W) t.outbox.later ++ frame_due t.state t.told in
       sym (append_assoc front back rest) ∙ ap (λ (l : List ℕ). l ++ rest) (sym split)
 
   -- so many bytes are taken
-  pub takes-some : (s : Speaker F) (c : SessionState F) (n : ℕ) (pushed taken : List ℕ) → Knows S W s c pushed taken →
-      Knows S W s (with_talk c (with_outbox c.talk
-      (outbox_state (drop n c.talk.outbox.ready) c.talk.outbox.later) c.talk.told))
-      pushed (taken ++ take n c.talk.outbox.ready)
-  takes-some s c n pushed taken k =
+  pub takes-some : (s : Speaker F) (c : SessionState F) (n : ℕ) (pushed taken : List ℕ) →
+      n ≤ length c.talk.outbox.ready → Knows S W s c pushed taken →
+      Knows S W s (with_talk c (with_outbox c.talk (less n c.talk.outbox) c.talk.told)) pushed
+      (taken ++ take n c.talk.outbox.ready)
+  takes-some s c n pushed taken fits k =
       let ready = c.talk.outbox.ready in
-      let o = outbox_state (drop n ready) c.talk.outbox.later in
+      let o = less n c.talk.outbox in
+      let far : length taken + n ≡ length (taken ++ take n ready) =
+      omega (arith, length-append taken (take n ready), length-take-le n ready fits) in
       retold s c o c.talk.told pushed taken (taken ++ take n ready)
       (append_assoc taken (take n ready) (due W (with_outbox c.talk o c.talk.told))
       ∙ ap (λ (l : List ℕ). taken ++ l)
-      (taken-due c.talk (take n ready) (drop n ready) (sym (take-append-drop n ready))))
+      (taken-due c.talk (take n ready) (drop n ready) o.ends (sym (take-append-drop n ready))))
+      (subst (λ (m : ℕ). IsLaid W (said_to S W s pushed) m o) far
+      (laid-less W (said_to S W s pushed) (length taken) n c.talk.outbox fits k.tells.laid))
       k
 
   -- all texts are made
   pub makes-all : (s : Speaker F) (c : SessionState F) (pushed taken : List ℕ) → Knows S W s c pushed taken →
-      Knows S W s (with_talk c (with_outbox c.talk (outbox_state (due W c.talk) []) true)) pushed (taken ++ [])
+      Knows S W s (with_talk c (with_outbox c.talk (all_made W c.talk) true)) pushed (taken ++ [])
   makes-all s c pushed taken k =
-      let o = outbox_state (due W c.talk) [] in
+      let o = all_made W c.talk in
       retold s c o true pushed taken (taken ++ [])
       (ap (λ (l : List ℕ). l ++ due W (with_outbox c.talk o true)) (append-nil taken)
       ∙ ap (λ (l : List ℕ). taken ++ l) (made-due c.talk))
+      (subst (λ (l : List ℕ). IsLaid W (said_to S W s pushed) (length l) o) (sym (append-nil taken))
+      (laid-made W (said_to S W s pushed) (length taken) c.talk.outbox (frame_due c.talk.state c.talk.told)
+      k.tells.laid))
       k
 
   pub all-made : (c : SessionState F) (t : TalkState F) (result : Result (Unit {0}) AllocError) →
-      OnOk result (t ≡ with_outbox c.talk (outbox_state (due W c.talk) []) true) →
+      OnOk result (t ≡ with_outbox c.talk (all_made W c.talk) true) →
       OnOk result (Takes S W c [] (with_talk c t))
   all-made c t (Ok x) is = λ s pushed taken k.
       subst (λ (u : TalkState F). Knows S W s (with_talk c u) pushed (taken ++ [])) (sym is)

@@ -1,7 +1,8 @@
 -- Two sessions that have nothing due and were pushed what was taken of each other are two sides that got all that the
--- other wrote: what was taken is all that is said to the bytes pushed, and the frame of a refusal. By the law of two such
--- sides both are over; so both sessions have ended, with the ends that the bytes make.
-use Rattle.std.proofs.Common.{◌≡◌, ℕ, ◌<◌, ◌≤◌, List, [], ◌++◌, length, slice_index, refl, sym, ap, ◌∙◌, subst, append-nil}
+-- other wrote: what was taken is all that is said to the bytes pushed, and the frame of a refusal. By the law of two
+-- such sides both are over; so both sessions have ended, with the ends that the bytes make.
+use Rattle.std.proofs.Common.{◌≡◌, ℕ, ◌<◌, ◌≤◌, List, [], ◌++◌, length, slice_index, refl, sym, ap, ◌∙◌, subst}
+use Rattle.std.proofs.Common.{append-nil}
 use Rattle.definitions.specs.Fingerprints.{Summary}
 use Rattle.definitions.specs.Items.{Item}
 use Rattle.definitions.specs.Ranks.{ranks_by, rank_by}
@@ -78,7 +79,8 @@ module _ {F : Type 0} (S : Summary F) (W : Profile F) where
       record {
         initiator = has-ended (initiating S I) c answered (sym joined.initiator.tells.heard ∙ met.initiator.ended);
         responder = has-ended (responding R) d asked (sym joined.responder.tells.heard ∙ met.responder.ended);
-        met = subst (λ n. HaveMet S W I R n (rank_by b.steps (length theirs)) c.over d.over asked answered (talk S I R k))
+        met = subst (λ n. HaveMet S W I R n (rank_by b.steps (length theirs)) c.over d.over asked answered
+            (talk S I R k))
             i_is (subst (λ n. HaveMet S W I R (slice_index f (length ours)) n c.over d.over asked answered
             (talk S I R k)) r_is met);
       }

@@ -1,5 +1,8 @@
 pub mod Heard
+pub mod Writing
+pub mod Standings
 pub mod Steps
+pub mod Knowing
 pub mod Calls
 pub mod Waiting
 mod Ending

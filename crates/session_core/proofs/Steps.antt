@@ -4,25 +4,24 @@
 -- all that is said to them. A piece that completes no event changes neither; an event adds its reply. Where an event or
 -- a fault of the stream stops the session, the laws say that whatever comes later counts no more.
 --
--- What is counted of the peer's message goes along: a piece that completes no event adds its length, an event begins
--- the bytes anew and adds its part, and the end of a message begins the parts anew.
+-- What is counted goes along: a piece that completes no event adds its length, and an event begins the bytes anew. What
+-- is said to an event comes after all that was to be said (`laid-on` of Writing).
 use Rattle.std.proofs.Common.{◌≡◌, ℕ, Bool, true, false, List, [], ◌∷◌, ◌++◌, length}
 use Rattle.std.proofs.Common.{flat_map, Option, Some, None, IsTrue, inl, inr, refl, sym, ap, ◌∙◌, subst, append_assoc}
 use Rattle.std.proofs.Common.{append-nil}
 use Rattle.std.specs.Prelude.{if◌then◌else◌}
-use Rattle.std.proofs.Common.{length-append, arith}
-use Rattle.std.proofs.lemmas.Grind.{flat_map-append, fold-append}
+use Rattle.std.proofs.Common.{◌+◌, length-append, arith}
+use Rattle.std.proofs.lemmas.Grind.{flat_map-append}
 use Rattle.definitions.specs.Fingerprints.{Summary}
 use Rattle.definitions.specs.Items.{IsBytes}
 use Rattle.definitions.specs.Messages.{Message}
 use Rattle.definitions.specs.Refusals.{truncated}
-use Rattle.definitions.specs.Wire.{Profile, message_text, session_text, fault_text, Event, Came, Ended, Failed}
-use Rattle.definitions.specs.Placing.{next, refusal}
-use Rattle.definitions.specs.Taking.{Taken, taken}
-use Rattle.definitions.specs.Streams.{Standing, Before_hello, In_message, Meaning_over, Faulted, Fed, feed}
+use Rattle.definitions.specs.Wire.{Profile, message_text, session_text, fault_text, Event}
+use Rattle.definitions.specs.Taking.{taken}
+use Rattle.definitions.specs.Streams.{Standing, Before_hello, Faulted, Fed, feed}
 use Rattle.definitions.specs.Ends.{End, is_live, is_over}
 use Rattle.definitions.specs.Engines.{Speaker, says, own, session, messages_in}
-use Rattle.definitions.specs.Hearing.{Hearing, Goes_on, Over_at, hears, hearing_to, goes_unless}
+use Rattle.definitions.specs.Hearing.{Hearing, Goes_on, Over_at, hears, hearing_to}
 use Rattle.laws.specs.Hearing.{has_stopped, AgreesBy}
 use Rattle.laws.specs.Parts.{joined}
 use Rattle.laws.proofs.Fields.{IsBytes-both}
@@ -35,50 +34,16 @@ use Rattle.wire_core.specs.Events.{event_value}
 use Rattle.wire_core.specs.declared.event.Event as declared
 use Rattle.session_core.specs.Sessions.{HearsIf, IsFed, IsBegun, begun_after}
 use Rattle.session_core.specs.Laws.{Laws}
-use Rattle.session_core.specs.Sizes.{plus, parts_after}
+use Rattle.ends_core.specs.Sizes.{plus}
+use Rattle.session_core.specs.Outboxes.{outbox_state}
+use Rattle.session_core.specs.Written.{IsLaid}
 use Rattle.session_core.specs.Sessions.{finished, hearing_at, said_by, Hears}
 use Rattle.ends_core.specs.Sides.{said_to}
 use Rattle.session_core.specs.Sessions.{IsEnd, Tells, Goes, Lasts, Stays, GoesOn, Knows, Pushes}
 use Rattle.ends_core.specs.Sides.{session_at}
 use Rattle.session_core.proofs.Heard.{so_far, events_in, hearing-on, hearing-fault, said-of}
-
-closed-stops : {F : Type 0} (x : State) (h : EndState F) → is_open x ≡ false → has_stopped (hearing_at x h) ≡ true
-closed-stops states.Open h closed = absurd cc
-closed-stops states.Ended h closed = refl
-closed-stops (states.Refused code) h closed = refl
-closed-stops (states.PeerRefused code) h closed = refl
-
--- while it goes on no fault frame is due
-no-frame : (x : State) (told : Bool) → is_open x ≡ true → frame_due x told ≡ []
-no-frame states.Open true goes = refl
-no-frame states.Open false goes = refl
-no-frame states.Ended told goes = absurd cc
-no-frame (states.Refused code) told goes = absurd cc
-no-frame (states.PeerRefused code) told goes = absurd cc
-
-no-frame-yet : (x : State) → is_open x ≡ true → frame_of x ≡ []
-no-frame-yet states.Open goes = refl
-no-frame-yet states.Ended goes = absurd cc
-no-frame-yet (states.Refused code) goes = absurd cc
-no-frame-yet (states.PeerRefused code) goes = absurd cc
-
-open-hears : {F : Type 0} (x : State) (h : EndState F) → is_open x ≡ true → hearing_at x h ≡ Goes_on h.end h.taken
-open-hears states.Open h goes = refl
-open-hears states.Ended h goes = absurd cc
-open-hears (states.Refused code) h goes = absurd cc
-open-hears (states.PeerRefused code) h goes = absurd cc
-
-fault-is : (s : Standing) (code : ℕ) → Some code ≡ fault_at s → s ≡ Faulted code
-fault-is Before_hello code is = absurd cc
-fault-is (In_message parts) code is = absurd cc
-fault-is Meaning_over code is = absurd cc
-fault-is (Faulted fault) code is = let same : code ≡ fault = cc in ap Faulted (sym same)
-
--- three texts after one another
-regroup : (a b c d : List ℕ) → (a ++ b) ++ (c ++ d) ≡ (a ++ (b ++ c)) ++ d
-regroup a b c d =
-    append_assoc a b (c ++ d) ∙ ap (λ (l : List ℕ). a ++ l) (sym (append_assoc b c d))
-    ∙ sym (append_assoc a (b ++ c) d)
+use Rattle.session_core.proofs.Writing.{laid-on, laid-same}
+use Rattle.session_core.proofs.Standings.{closed-stops, no-frame, no-frame-yet, open-hears, fault-is, regroup}
 
 module _ {F : Type 0} (S : Summary F) (W : Profile F) where
   -- ---- the stream
@@ -132,42 +97,57 @@ module _ {F : Type 0} (S : Summary F) (W : Profile F) where
     by (states.Refused code) heard = tt
     by (states.PeerRefused code) heard = tt
 
+  -- how many messages are said, and where they are
+  abbrev Said : Speaker F → SessionState F → List ℕ → List ℕ → Type 0
+  Said s c pushed taken =
+      (c.talk.held.end.sent ≡ length (said_to S W s pushed))
+      × IsLaid W (said_to S W s pushed) (length taken) c.talk.outbox
+
+  -- nothing is said, and what was said stays
+  said-still : (s : Speaker F) (c d : SessionState F) (pushed more taken : List ℕ) →
+      said_to S W s more ≡ said_to S W s pushed → d.talk.held.end.sent ≡ c.talk.held.end.sent →
+      d.talk.outbox ≡ c.talk.outbox → Knows S W s c pushed taken → Said s d more taken
+  said-still s c d pushed more taken same sent outbox k = (
+    sent ∙ k.tells.sent ∙ ap (λ (l : List (Message F)). length l) (sym same),
+    laid-same W (said_to S W s pushed) (said_to S W s more) (length taken) c.talk.outbox d.talk.outbox same outbox
+        k.tells.laid,
+  )
+
   told : Laws S W → (s : Speaker F) (c : SessionState F) (pushed taken : List ℕ) → is_live s.start.stage ≡ true →
       hearing_to S W s c.over pushed ≡ hearing_at c.talk.state c.talk.held → Text s c pushed taken →
-      Tells S W s c pushed taken
-  told laws s c pushed taken live heard text = record {
+      Said s c pushed taken → Tells S W s c pushed taken
+  told laws s c pushed taken live heard text (sent, laid) = record {
     heard = heard;
     end = end-of laws s c.over pushed c.talk.state c.talk.held live heard;
     text = text;
+    sent = sent;
+    laid = laid;
   }
 
   pub knows-open : Laws S W → (s : Speaker F) (c : SessionState F) (pushed taken : List ℕ) →
       is_live s.start.stage ≡ true → IsBytes pushed → is_open c.talk.state ≡ true → Goes S W s c pushed →
-      Text s c pushed taken → Knows S W s c pushed taken
-  knows-open laws s c pushed taken live fits is goes text =
+      Text s c pushed taken → Said s c pushed taken → Knows S W s c pushed taken
+  knows-open laws s c pushed taken live fits is goes text said =
       let heard = ap (λ (over : Bool). hearing_to S W s over pushed) goes.listens
       ∙ hearing-on S W s false c.feed pushed goes.events c.talk.held.end c.talk.held.taken goes.holds goes.heard
       goes.fine
       ∙ sym (open-hears c.talk.state c.talk.held is) in
       record {
         are_bytes = fits;
-        tells = told laws s c pushed taken live heard text;
+        tells = told laws s c pushed taken live heard text said;
         goes_on = subst (λ (b : Bool). GoesOn S W b s c pushed) (sym is) goes;
-        ended = λ over. let wrong = sym is ∙ ap is_open over in absurd cc;
       }
 
   pub knows-closed : Laws S W → (s : Speaker F) (c : SessionState F) (pushed taken : List ℕ) →
       is_live s.start.stage ≡ true → IsBytes pushed → is_open c.talk.state ≡ false →
-      Lasts S W s c.talk pushed → Text s c pushed taken → (c.talk.state ≡ states.Ended → c.talk.parts ≡ 0) →
-      Knows S W s c pushed taken
-  knows-closed laws s c pushed taken live fits closed lasts text ended =
+      Lasts S W s c.talk pushed → Text s c pushed taken → Said s c pushed taken → Knows S W s c pushed taken
+  knows-closed laws s c pushed taken live fits closed lasts text said =
       let heard = ap (λ (l : List ℕ). hearing_to S W s c.over l) (sym (append-nil pushed))
       ∙ (lasts [] c.over tt).0 in
       record {
         are_bytes = fits;
-        tells = told laws s c pushed taken live heard text;
+        tells = told laws s c pushed taken live heard text said;
         goes_on = subst (λ (b : Bool). GoesOn S W b s c pushed) (sym closed) (inr lasts);
-        ended = ended;
       }
 
   -- ---- what is known of it
@@ -228,7 +208,6 @@ module _ {F : Type 0} (S : Summary F) (W : Profile F) where
         heard = g.heard ∙ ap (λ (t : TalkState F). Goes_on t.held.end t.held.taken) (sym talk);
         fine = fine;
         listens = over ∙ g.listens;
-        parts = ap (λ (t : TalkState F). t.parts) talk ∙ g.parts;
         begun = subst (λ (n : ℕ). IsBegun W n (pushed ++ piece) g.events) (sym begun)
             (begun-more c.begun pushed piece g.events g.begun);
       })
@@ -237,7 +216,9 @@ module _ {F : Type 0} (S : Summary F) (W : Profile F) where
       ∙ ap (λ (l : List (Message F)). session_text W l) (sym same)
       ∙ sym (append-nil (session_text W (said_to S W s (pushed ++ piece))))
       ∙ ap (λ (l : List ℕ). session_text W (said_to S W s (pushed ++ piece)) ++ l)
-      (sym (no-frame-yet d.talk.state (ap (λ (t : TalkState F). is_open t.state) talk ∙ goes)))) where
+      (sym (no-frame-yet d.talk.state (ap (λ (t : TalkState F). is_open t.state) talk ∙ goes))))
+      (said-still s c d pushed (pushed ++ piece) taken same (ap (λ (t : TalkState F). t.held.end.sent) talk)
+      (ap (λ (t : TalkState F). t.outbox) talk) k) where
         g : Goes S W s c pushed
         g = goes-of s c pushed taken goes k
 
@@ -248,20 +229,6 @@ module _ {F : Type 0} (S : Summary F) (W : Profile F) where
         same = said-same s c.feed d.feed pushed (pushed ++ piece) g.events g.holds on
 
   -- ---- an event
-
-  not-over : (o : Option ℕ) (e : End F) (t : Taken F) (f : End F) → Over_at f ≡ goes_unless o (Goes_on e t) → ⊥
-  not-over None e t f is = absurd cc
-  not-over (Some code) e t f is = absurd cc
-
-  -- only the end of a message ends a session, and then no part counts
-  ended-none : (t u : TalkState F) (e : Event F) → Hears S W t e u → u.state ≡ states.Ended → u.parts ≡ 0
-  ended-none t u (Came p) h is =
-      let over = ap (λ (x : State). hearing_at x u.held) (sym is) ∙ h.heard in
-      absurd (not-over (refusal (next t.held.taken.place p)) t.held.end (taken S t.held.end t.held.taken p) u.held.end
-      over)
-  ended-none t u Ended h is = h.counted
-  ended-none t u (Failed code) h is =
-      let over = ap (λ (x : State). hearing_at x u.held) (sym is) ∙ h.heard in absurd cc
 
   pub one-event : Laws S W → (s : Speaker F) (c d : SessionState F) (e : Event F) (piece pushed taken : List ℕ) →
       is_live s.start.stage ≡ true → is_open c.talk.state ≡ true → IsBytes piece →
@@ -306,6 +273,33 @@ module _ {F : Type 0} (S : Summary F) (W : Profile F) where
             ∙ ap (λ (l : List ℕ). (W.hello ++ l) ++ frame_of d.talk.state) (sym (flat_map-append f said new))
             ∙ ap (λ (l : List (Message F)). session_text W l ++ frame_of d.talk.state) (sym now)
 
+        -- all text of what was said, before the event
+        lengths : length taken + (length c.talk.outbox.ready + length (flat_map (message_text W) c.talk.outbox.later))
+            ≡ length (session_text W (said_to S W s pushed))
+        lengths =
+            let o = c.talk.outbox in
+            let texts = flat_map (message_text W) o.later in
+            let none = frame_due c.talk.state c.talk.told in
+            omega (
+              arith,
+              ap (λ (l : List ℕ). length l) (text-of s c pushed taken goes k),
+              length-append taken (due W c.talk),
+              length-append o.ready (texts ++ none),
+              length-append texts none,
+              ap (λ (l : List ℕ). length l) (no-frame c.talk.state c.talk.told goes),
+            )
+
+        said : Said s d (pushed ++ piece) taken
+        said =
+            let old = said_to S W s pushed in
+            let new = said_by c.talk.held e in (
+              heard.sent ∙ ap (λ (n : ℕ). n + length new) k.tells.sent ∙ sym (length-append old new)
+                  ∙ ap (λ (l : List (Message F)). length l) (sym now),
+              laid-same W (old ++ new) (said_to S W s (pushed ++ piece)) (length taken)
+                  (outbox_state c.talk.outbox.ready c.talk.outbox.ends (c.talk.outbox.later ++ new)) d.talk.outbox now
+                  heard.later (laid-on W old new (length taken) c.talk.outbox lengths k.tells.laid),
+            )
+
         lasts : is_open d.talk.state ≡ false → Lasts S W s d.talk (pushed ++ piece)
         lasts closed later end bytes =
             let rest = (feed W d.feed.standing (d.feed.kept ++ later)).events in
@@ -328,16 +322,11 @@ module _ {F : Type 0} (S : Summary F) (W : Profile F) where
               heard = hears-all ∙ open-hears d.talk.state d.talk.held still;
               fine = fine;
               listens = over ∙ g.listens;
-              parts = heard.counted
-                  ∙ ap (λ (b : Bool). parts_after b c.talk.parts e) still
-                  ∙ ap (λ (n : ℕ). parts_after true n e) g.parts
-                  ∙ sym (fold-append (parts_after true) 0 g.events (e ∷ []));
               begun = subst (λ (n : ℕ). IsBegun W n (pushed ++ piece) es) (sym begun)
                   (begun-whole d.feed (pushed ++ piece) es on none);
             })
-            text
-        by false closed = knows-closed laws s d (pushed ++ piece) taken live fits closed (lasts closed) text
-            (ended-none c.talk d.talk e heard)
+            text said
+        by false closed = knows-closed laws s d (pushed ++ piece) taken live fits closed (lasts closed) text said
 
   -- ---- a fault of the stream
 
@@ -370,7 +359,8 @@ module _ {F : Type 0} (S : Summary F) (W : Profile F) where
   faulty laws s c d code piece pushed taken live goes more talk over step fault k =
       knows-closed laws s d (pushed ++ piece) taken live fits (ap (λ (t : TalkState F). is_open t.state) talk) lasts
       (refused-text s c d code pushed (pushed ++ piece) taken goes talk same k)
-      (λ over. let wrong = sym (ap (λ (t : TalkState F). t.state) talk) ∙ over in absurd cc) where
+      (said-still s c d pushed (pushed ++ piece) taken same (ap (λ (t : TalkState F). t.held.end.sent) talk)
+      (ap (λ (t : TalkState F). t.outbox) talk) k) where
         g : Goes S W s c pushed
         g = goes-of s c pushed taken goes k
 
@@ -421,7 +411,7 @@ module _ {F : Type 0} (S : Summary F) (W : Profile F) where
             ))
             (k.tells.text
             ∙ ap (λ (l : List (Message F)). session_text W l ++ frame_of c.talk.state) (sym (lasts more false bytes).1))
-            k.ended
+            (said-still s c c pushed (pushed ++ more) taken (lasts more false bytes).1 refl refl k)
 
   -- ---- the end of the bytes
 
@@ -448,10 +438,11 @@ module _ {F : Type 0} (S : Summary F) (W : Profile F) where
         record {
           are_bytes = k.are_bytes;
           tells = told laws s d pushed taken live heard
-              (refused-text s c d truncated pushed pushed taken goes talk refl k);
+              (refused-text s c d truncated pushed pushed taken goes talk refl k)
+              (said-still s c d pushed pushed taken refl (ap (λ (t : TalkState F). t.held.end.sent) talk)
+              (ap (λ (t : TalkState F). t.outbox) talk) k);
           goes_on = subst (λ (b : Bool). GoesOn S W b s d pushed)
               (sym (ap (λ (t : TalkState F). is_open t.state) talk)) (inl refl);
-          ended = λ over. let wrong = sym (ap (λ (t : TalkState F). t.state) talk) ∙ over in absurd cc;
         }
     by false closed =
         let talk = kept closed in
@@ -462,9 +453,10 @@ module _ {F : Type 0} (S : Summary F) (W : Profile F) where
           are_bytes = k.are_bytes;
           tells = told laws s d pushed taken live heard
               (ap (λ (t : TalkState F). taken ++ due W t) talk ∙ k.tells.text
-              ∙ ap (λ (x : State). session_text W (said_to S W s pushed) ++ frame_of x) (sym state));
+              ∙ ap (λ (x : State). session_text W (said_to S W s pushed) ++ frame_of x) (sym state))
+              (said-still s c d pushed pushed taken refl (ap (λ (t : TalkState F). t.held.end.sent) talk)
+              (ap (λ (t : TalkState F). t.outbox) talk) k);
           goes_on = subst (λ (b : Bool). GoesOn S W b s d pushed) (sym (ap is_open state ∙ closed)) (inl refl);
-          ended = λ over. ap (λ (t : TalkState F). t.parts) talk ∙ k.ended (sym state ∙ over);
         } where
           still : Stays S W s c pushed → hearing_to S W s true pushed ≡ hearing_at c.talk.state c.talk.held
           still (inl over) = ap (λ (b : Bool). hearing_to S W s b pushed) (sym over) ∙ k.tells.heard

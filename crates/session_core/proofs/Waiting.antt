@@ -6,7 +6,7 @@ use Rattle.std.proofs.Common.{◌≡◌, Bool, true, false, [], ◌∷◌, refl,
 use Rattle.definitions.specs.Messages.{Message, Sum, Listing, Answer, has_open, open_parts}
 use Rattle.definitions.specs.Ends.{Waits, Over, own_of, stage_after_reply}
 use Rattle.std.specs.Prelude.{if◌then◌else◌}
-use Rattle.session_core.specs.Sizes.{message_size}
+use Rattle.ends_core.specs.Sizes.{message_size}
 
 none-open : {F : Type 0} (N : Message F) → has_open N ≡ false → open_parts N ≡ []
 none-open [] none = refl

@@ -14,10 +14,11 @@ pub use Rattle.ends_core.specs.EndStates
 pub use Rattle.ends_core.specs.Turns
 pub use Rattle.ends_core.specs.Roles
 pub use Rattle.ends_core.specs.Sides
+pub use Rattle.ends_core.specs.Sizes
 pub use Rattle.laws.specs.Hearing as HearingLaws
 pub use Rattle.laws.specs.Meeting
-pub mod Sizes
 pub mod Outboxes
+pub mod Written
 pub mod Overs
 pub mod Sessions
 pub mod Kept

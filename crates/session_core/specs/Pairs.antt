@@ -40,8 +40,8 @@ module _ {F : Type 0} (S : Summary F) (W : Profile F) where
 
   -- by what the laws say of two sides over bytes, each has said its messages of the talk, few and with short lists, and
   -- knows nothing wrong; where the talk was clear each knows exactly both differences
-  pub record HaveTalked (I R : Peer) (i r : ℕ) (c d : SessionState F) (asked answered : List ℕ) (Ms : List (Message F)) :
-      Type 0 where
+  pub record HaveTalked (I R : Peer) (i r : ℕ) (c d : SessionState F) (asked answered : List ℕ)
+      (Ms : List (Message F)) : Type 0 where
     pub initiator : HasEnded (initiating S I) c answered
     pub responder : HasEnded (responding R) d asked
     pub met : HaveMet S W I R i r c.over d.over asked answered Ms

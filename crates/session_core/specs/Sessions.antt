@@ -1,12 +1,13 @@
 -- A session as plain data, and what it says of all bytes that were pushed and all bytes that were taken.
 --     TalkState, SessionState            an end, how its session stands, and what it has to say; and the stream
 --     due P t                            the bytes that are due: texts, and one fault frame where this side refuses
+--     all_made P t                       what it has to say once all texts are made
 --     hearing_at state h                 how the session stands, as a stream is heard
 --     beginning, opened, noted, refused_by, with_outbox, finished     what single calls make of it
 --     feed_of W f piece, IsFed           what a feed makes of a piece, and the event that it completes, if any
 --     IsBegun W n pushed events          n bytes came after the last whole frame
 --     Hears S P t e u, HearsIf           what one event makes of it
---     Tells S P s c pushed taken         the end, the refusal and the text are those of the definitions
+--     Tells S P s c pushed taken         the end, the refusal, the text and the counts are those of the definitions
 --     Goes, Stays                        it goes on; or what comes later counts no more
 --     Knows S P s c pushed taken         all of it
 --     Begins S P a s c                   nothing was pushed, it is open, and it listens
@@ -14,7 +15,7 @@
 --     Takes S P c bytes d                whatever was taken before, these bytes were taken after it
 --     speaker_of S side P                the side of a role
 use Rattle.std.specs.Prelude.{◌≡◌, ℕ, ◌⊎◌, Bool, true, false, List, [], ◌∷◌, ◌++◌, flat_map, Option, Some, None}
-use Rattle.std.specs.Prelude.{IsTrue, if◌then◌else◌, ⊤, ◌-◌, ◌^◌, min, length}
+use Rattle.std.specs.Prelude.{IsTrue, if◌then◌else◌, ⊤, ◌+◌, ◌-◌, ◌^◌, min, length}
 use Rattle.definitions.specs.Fingerprints.{Summary}
 use Rattle.definitions.specs.Items.{IsBytes}
 use Rattle.definitions.specs.Messages.{Message}
@@ -34,8 +35,9 @@ use Rattle.wire_core.specs.Events.{event_value}
 use Rattle.wire_core.specs.declared.event.Event as declared
 use Rattle.ends_core.specs.EndStates.{EndState}
 use Rattle.ends_core.specs.Sides.{said_to, session_at}
-use Rattle.session_core.specs.Outboxes.{OutboxState}
-use Rattle.session_core.specs.Sizes.{plus, parts_after, parts_of}
+use Rattle.ends_core.specs.Sizes.{plus}
+use Rattle.session_core.specs.Outboxes.{OutboxState, outbox_state, made}
+use Rattle.session_core.specs.Written.{IsLaid}
 use Rattle.session_core.specs.declared.state.State.{State}
 use Rattle.session_core.specs.declared.state.State.TheVariants as states
 
@@ -46,8 +48,6 @@ pub record TalkState (F : Type 0) : Type 0 where
   pub state : State
   -- the text of its refusal is made
   pub told : Bool
-  -- what is counted for the parts of the peer's message that has not ended
-  pub parts : ℕ
 
 pub record SessionState (F : Type 0) : Type 0 where
   pub talk : TalkState F
@@ -78,10 +78,13 @@ frame_due state told = if told then [] else frame_of state
 abbrev pub due : {F : Type 0} → Profile F → TalkState F → List ℕ
 due W t = t.outbox.ready ++ (flat_map (message_text W) t.outbox.later ++ frame_due t.state t.told)
 
+abbrev pub all_made : {F : Type 0} → Profile F → TalkState F → OutboxState F
+all_made W t = made W t.outbox (frame_due t.state t.told)
+
 -- ---- what single calls make of it
 
 abbrev pub beginning : {F : Type 0} → EndState F → OutboxState F → TalkState F
-beginning h o = record { held = h; outbox = o; state = states.Open; told = false; parts = 0 }
+beginning h o = record { held = h; outbox = o; state = states.Open; told = false }
 
 abbrev pub opened : {F : Type 0} → EndState F → OutboxState F → SessionState F
 opened h o = record {
@@ -158,7 +161,8 @@ module _ {F : Type 0} (S : Summary F) (W : Profile F) where
   pub record Hears (t : TalkState F) (e : Event F) (u : TalkState F) : Type 0 where
     pub heard : hearing_at u.state u.held ≡ hear_now S t.held.end t.held.taken e
     pub due_then : due W u ≡ due W t ++ (flat_map (message_text W) (said_by t.held e) ++ frame_of u.state)
-    pub counted : u.parts ≡ parts_after (is_open u.state) t.parts e
+    pub later : u.outbox ≡ outbox_state t.outbox.ready t.outbox.ends (t.outbox.later ++ said_by t.held e)
+    pub sent : u.held.end.sent ≡ t.held.end.sent + length (said_by t.held e)
 
   -- an event, if there is one
   abbrev pub HearsIf : TalkState F → Option (declared.Event F) → TalkState F → Type 0
@@ -182,6 +186,9 @@ module _ {F : Type 0} (S : Summary F) (W : Profile F) where
     pub end : IsEnd c.talk.state c.talk.held.end (session_at S W s pushed)
     -- what was taken and what is due: a hello, all that is said to these bytes, and one fault frame for a refusal
     pub text : taken ++ due W c.talk ≡ session_text W (said_to S W s pushed) ++ frame_of c.talk.state
+    -- how many messages are said, and where each of them is
+    pub sent : c.talk.held.end.sent ≡ length (said_to S W s pushed)
+    pub laid : IsLaid W (said_to S W s pushed) (length taken) c.talk.outbox
 
   pub record Goes (s : Speaker F) (c : SessionState F) (pushed : List ℕ) : Type 0 where
     pub events : List (Event F)
@@ -189,8 +196,6 @@ module _ {F : Type 0} (S : Summary F) (W : Profile F) where
     pub heard : hears S s events ≡ Goes_on c.talk.held.end c.talk.held.taken
     pub fine : fault_at c.feed.standing ≡ None
     pub listens : c.over ≡ false
-    -- what is counted of the peer's message that has not ended
-    pub parts : c.talk.parts ≡ parts_of events
     pub begun : IsBegun W c.begun pushed events
 
   -- whatever comes later, the same was heard and said
@@ -210,8 +215,6 @@ module _ {F : Type 0} (S : Summary F) (W : Profile F) where
     pub are_bytes : IsBytes pushed
     pub tells : Tells s c pushed taken
     pub goes_on : GoesOn (is_open c.talk.state) s c pushed
-    -- of a session that has ended no part counts
-    pub ended : c.talk.state ≡ states.Ended → c.talk.parts ≡ 0
 
   -- nothing was pushed, and it listens
   pub record Begins (a : Checked) (s : Speaker F) (c : SessionState F) : Type 0 where

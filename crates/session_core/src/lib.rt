@@ -8,7 +8,6 @@ mod polled;
 mod pumped;
 mod pumping;
 mod session;
-mod size;
 mod state;
 mod talk;
 

@@ -1,17 +1,17 @@
 //! What a side has to say: texts that are made, and messages whose text is not made yet.
 
-ghost use Rattle.std.specs.Prelude.{◌≡◌, ◌≢◌, ◌+◌, ◌≤◌, ◌++◌, [], vec_len, length, drop, min, flat_map, IfOk, IfErr};
-ghost use Rattle.std.specs.Prelude.{OnOk, OnErr};
+ghost use Rattle.std.specs.Prelude.{◌≡◌, ◌≢◌, ◌+◌, ◌-◌, ◌≤◌, ◌++◌, [], vec_len, length, drop, map, min, flat_map, IfOk};
+ghost use Rattle.std.specs.Prelude.{IfErr, OnOk, OnErr};
 ghost use Rattle.ends_core.specs.declared.turn.EndFault.TheVariants as faults;
 ghost use Rattle.definitions.specs.Wire.{message_text};
 ghost use Rattle.definitions.specs.Ends.{own_of};
+ghost use Rattle.ends_core.specs.Sizes as sizes;
 ghost use Rattle.session_core.specs.Kept.{kept_to_say};
-ghost use Rattle.session_core.specs.Outboxes.{outbox_state, Answered};
-ghost use Rattle.session_core.specs.Sizes as sizes;
+ghost use Rattle.session_core.specs.Outboxes as outboxes;
+ghost use Rattle.session_core.specs.Outboxes.{outbox_state, ends_after, ends_from, less, Answered};
 
-use crate::size::{messages_size, open_size};
 use digest_core::Summary;
-use ends_core::{EndFault, Role, SessionEnd, Turn};
+use ends_core::{EndFault, Role, SessionEnd, Turn, messages_size, open_size};
 use std::alloc::{AllocError, Global};
 use std::marker::Model;
 use store_core::RangeStore;
@@ -23,6 +23,8 @@ pub(crate) struct Outbox<F: Summary> {
     made: Vec<u8>,
     // The bytes in front of this place were taken.
     from: usize,
+    // Where the texts of messages end, counted from that place.
+    ends: Vec<usize>,
     unsaid: Vec<Message<F>>,
 }
 
@@ -32,26 +34,42 @@ impl<F: Summary> Model for Outbox<F> {
 
     ghost Value = { OutboxState F };
 
-    ghost view = { λ o. outbox_state (drop o.from (vec_items o.made)) o.unsaid.items };
+    ghost view = { λ o. outbox_state (drop o.from (vec_items o.made)) o.ends.items o.unsaid.items };
 
     // Of the bytes that were taken no more are kept than are still to be said.
     ghost invariant = { λ o. o.from + o.from ≤ vec_len o.made };
 }
 
-/// The texts of messages, and these bytes after them.
+/// Where a text of so many bytes ends that begins at this place. No text ends above the greatest number: there is no
+/// memory for it.
+fn end_of(start: usize, count: usize) -> Result<usize, AllocError>
+    ensures { IfOk result (λ end. end ≡ start + count) }
+{
+    match start.checked_add(count) {
+        Some(end) => Ok(end),
+        None => Err(AllocError),
+    }
+}
+
+/// The texts of messages, and these bytes after them; and where the texts of the messages end, if the first begins at
+/// this place.
 fn texts_of<F: Summary>(
     alloc: Global,
     messages: &[Message<F>],
     last: &[u8],
-) -> Result<Vec<u8>, AllocError>
-    ensures { IfOk result (λ texts. texts.items ≡ flat_map (message_text F.profile) messages.now ++ last.now) }
+    start: usize,
+) -> Result<(Vec<u8>, Vec<usize>), AllocError>
+    ensures texts { IfOk result (λ made. made.0.items ≡ flat_map (message_text F.profile) messages.now ++ last.now) }
+    ensures ends { IfOk result (λ made. made.1.items ≡ ends_from F.profile start messages.now) }
 {
     let mut texts = Vec::new(alloc);
+    let mut ends = Vec::with_capacity(alloc, messages.len())?;
     for message in messages {
         push_message(&mut texts, message)?;
+        ends.push(end_of(start, texts.len())?)?;
     }
     texts.extend_from_slice(last)?;
-    Ok(texts)
+    Ok((texts, ends))
 }
 
 /// The hello.
@@ -77,14 +95,45 @@ fn forget(made: &mut Vec<u8>, from: usize) -> usize
     0
 }
 
+/// How many of the first places are no further on than this one.
+fn passed(ends: &[usize], count: usize) -> usize
+    ensures few { result ≤ length ends.now }
+    ensures rest { ends_after count ends.now ≡ map (λ x. x - count) (drop result ends.now) }
+{
+    let mut passed = 0;
+    while passed < ends.len() && ends[passed] <= count {
+        passed += 1;
+    }
+    passed
+}
+
+/// Counts places from one that is so much further on.
+fn lower_all(ends: &mut [usize], count: usize)
+    ensures { ends.new ≡ map (λ x. x - count) ends.old }
+{
+    for end in ends.iter_mut() {
+        *end = end.saturating_sub(count);
+    }
+}
+
+/// The places once so many bytes were taken.
+fn pass(ends: &mut Vec<usize>, count: usize)
+    ensures { ends.new.items ≡ ends_after count ends.old.items }
+{
+    let passed = passed(ends, count);
+    ends.drain(..passed);
+    lower_all(ends, count);
+}
+
 impl<F: Summary> Outbox<F> {
     /// These bytes are to be said, and then these messages.
-    pub(crate) fn of(made: Vec<u8>, unsaid: Vec<Message<F>>) -> Outbox<F>
-        ensures { result ≡ outbox_state made.items unsaid.items }
+    pub(crate) fn of(alloc: Global, made: Vec<u8>, unsaid: Vec<Message<F>>) -> Outbox<F>
+        ensures { result ≡ outbox_state made.items [] unsaid.items }
     {
         Outbox {
             made,
             from: 0,
+            ends: Vec::new(alloc),
             unsaid,
         }
     }
@@ -113,28 +162,36 @@ impl<F: Summary> Outbox<F> {
 
     /// Makes all texts, and these bytes after them. Where memory runs out nothing has changed.
     pub(crate) fn make(&mut self, alloc: Global, last: &[u8]) -> Result<(), AllocError>
-        ensures made { OnOk result (self.new ≡ outbox_state (self.old.ready
-            ++ (flat_map (message_text F.profile) self.old.later ++ last.now)) []) }
+        ensures made { OnOk result (self.new ≡ outboxes.made F.profile self.old last.now) }
         ensures memory { OnErr result (self.new ≡ self.old) }
     {
-        let texts = texts_of(alloc, &self.unsaid, last)?;
-        self.append(texts)?;
+        let (texts, ends) = texts_of(alloc, &self.unsaid, last, self.ready().len())?;
+        self.append(texts, ends)?;
         self.unsaid.clear();
         Ok(())
     }
 
-    /// Appends text. It is not copied where all before it was taken.
-    fn append(&mut self, texts: Vec<u8>) -> Result<(), AllocError>
-        ensures added { OnOk result (self.new ≡ outbox_state (self.old.ready ++ texts.items) self.old.later) }
+    /// Appends text, in which messages end at these places. It is not copied where all before it was taken.
+    fn append(&mut self, texts: Vec<u8>, ends: Vec<usize>) -> Result<(), AllocError>
+        ensures added { OnOk result (self.new ≡ outbox_state (self.old.ready ++ texts.items)
+            (self.old.ends ++ ends.items) self.old.later) }
         ensures memory { OnErr result (self.new ≡ self.old) }
     {
-        if self.from < self.made.len() {
-            self.made.extend_from_slice(&texts)?;
+        let mut ends = ends;
+        let count = self.ends.len();
+        self.ends.append(&mut ends)?;
+        if self.from == self.made.len() {
+            self.made = texts;
+            self.from = 0;
             return Ok(());
         }
-        self.made = texts;
-        self.from = 0;
-        Ok(())
+        match self.made.extend_from_slice(&texts) {
+            Ok(()) => Ok(()),
+            Err(AllocError) => {
+                self.ends.truncate(count);
+                Err(AllocError)
+            }
+        }
     }
 
     /// The bytes whose text is made.
@@ -154,10 +211,18 @@ impl<F: Summary> Outbox<F> {
     /// Takes this many of these bytes off the front, or all where there are fewer, and returns how many it took.
     pub(crate) fn take(&mut self, count: usize) -> usize
         ensures count { result ≡ min count (length self.old.ready) }
-        ensures rest { self.new ≡ outbox_state (drop result self.old.ready) self.old.later }
+        ensures rest { self.new ≡ less result self.old }
     {
         let taken = count.min(self.made.len() - self.from);
         self.from = forget(&mut self.made, self.from + taken);
+        pass(&mut self.ends, taken);
         taken
+    }
+
+    /// How many messages nobody has taken whole.
+    pub(crate) fn unwritten(&self) -> u64
+        ensures { result ≡ sizes.plus (length self.now.ends) (length self.now.later) }
+    {
+        (self.ends.len() as u64).saturating_add(self.unsaid.len() as u64)
     }
 }

@@ -1,6 +1,6 @@
 //! A session of this side: the bytes that its peer sends are pushed, and the bytes that it says are taken.
 
-ghost use Rattle.std.specs.Prelude.{◌≡◌, ◌≢◌, ◌≤◌, ◌<◌, ◌+◌, true, false, [], ℕ, List, length, take, drop, min};
+ghost use Rattle.std.specs.Prelude.{◌≡◌, ◌≢◌, ◌≤◌, ◌<◌, ◌+◌, ◌-◌, true, false, [], ℕ, List, length, take, min};
 ghost use Rattle.std.specs.Prelude.{Ok, Some, IfOk, IfErr, OnOk, OnErr, IfSome, IfNone};
 ghost use Rattle.std.specs.List.{IsDistinct};
 ghost use Rattle.std.specs.Arc.{arc_value};
@@ -14,19 +14,21 @@ ghost use Rattle.wire_core.specs.Feeds.{fed_into, fault_at};
 ghost use Rattle.ends_core.specs.Roles.{most_of};
 ghost use Rattle.session_core.specs.Kept.{kept_by};
 ghost use Rattle.session_core.specs.Laws.{Laws};
-ghost use Rattle.session_core.specs.Outboxes.{outbox_state};
-ghost use Rattle.session_core.specs.Sizes.{message_size};
-ghost use Rattle.session_core.specs.Sessions.{begun_after, due, opened, with_talk, finished, with_outbox};
+ghost use Rattle.session_core.specs.Outboxes.{less, unwritten};
+ghost use Rattle.session_core.specs.Written.{IsWritten};
+ghost use Rattle.session_core.specs.Sessions.{all_made, begun_after, opened, with_talk, finished, with_outbox};
 ghost use Rattle.session_core.specs.Sessions.{feed_of, IsFed, is_open, Knows, Begins, Pushes, Takes, speaker_of};
-ghost use Rattle.ends_core.specs.Sides.{known_at, peer_of};
+ghost use Rattle.ends_core.specs.Sides.{known_at, peer_of, said_to};
+ghost use Rattle.ends_core.specs.Sizes.{message_size};
 ghost use Rattle.session_core.specs.declared.state.State.TheVariants as states;
 
 use crate::outbox::{Outbox, hello_text};
-use crate::size::open_size;
 use crate::state::State;
 use crate::talk::Talk;
 use digest_core::{Fingerprint, Summary};
-use ends_core::{Initiating, Initiator, Learned, Responder, Responding, Role, SessionEnd};
+use ends_core::{
+    Initiating, Initiator, Learned, Responder, Responding, Role, SessionEnd, open_size,
+};
 use std::alloc::{AllocError, Global};
 use std::marker::Model;
 use std::sync::Arc;
@@ -105,7 +107,7 @@ impl<S: RangeStore, F: Summary> Session<Initiating, S, F> {
         let (end, first) = Initiator::start(alloc, accepted, store)?;
         let waits = open_size(first.parts());
         unsaid.push_reserved(first);
-        Ok(Session::of(alloc, end, Outbox::of(made, unsaid), waits))
+        Ok(Session::of(alloc, end, Outbox::of(alloc, made, unsaid), waits))
     }
 }
 
@@ -125,7 +127,8 @@ impl<S: RangeStore, F: Summary> Session<Responding, S, F> {
             return Err(store);
         };
         let end = Responder::new(alloc, accepted, store);
-        Ok(Session::of(alloc, end, Outbox::of(made, Vec::new(alloc)), 0))
+        let outbox = Outbox::of(alloc, made, Vec::new(alloc));
+        Ok(Session::of(alloc, end, outbox, 0))
     }
 }
 
@@ -303,7 +306,7 @@ impl<R: Role, S: RangeStore, F: Summary> Session<R, S, F> {
     /// Makes the text of all that is due. Where memory runs out the session is as before.
     pub fn make_due(&mut self, alloc: Global) -> Result<(), AllocError>
         ensures made { OnOk result (self.new ≡ with_talk self.old (with_outbox self.old.talk
-            (outbox_state (due F.profile self.old.talk) []) true)) }
+            (all_made F.profile self.old.talk) true)) }
         ensures knows { OnOk result (Takes F.summary F.profile self.old [] self.new) }
         ensures listens { self.new.over ≡ self.old.over }
         ensures memory { OnErr result (self.new ≡ self.old) }
@@ -321,16 +324,17 @@ impl<R: Role, S: RangeStore, F: Summary> Session<R, S, F> {
     /// Takes this many of these bytes off the front, or all where there are fewer, and returns how many it took.
     pub fn take(&mut self, count: usize) -> usize
         ensures count { result ≡ min count (length self.old.talk.outbox.ready) }
-        ensures rest { self.new ≡ with_talk self.old (with_outbox self.old.talk
-            (outbox_state (drop result self.old.talk.outbox.ready) self.old.talk.outbox.later) self.old.talk.told) }
+        ensures rest { self.new ≡ with_talk self.old (with_outbox self.old.talk (less result self.old.talk.outbox)
+            self.old.talk.told) }
         ensures takes { Takes F.summary F.profile self.old (take result self.old.talk.outbox.ready) self.new }
         ensures listens { self.new.over ≡ self.old.over }
     {
         self.talk.take(count)
     }
 
-    /// How many bytes of memory are counted for it: what came and is not answered, what is said and not taken, what
-    /// waits for the peer's answer, and what was learned. It reads no message but those whose text is not made.
+    /// How many bytes of memory are counted for it: what came of a frame that is not whole, the reply to a message that
+    /// has not ended and what it teaches, what is said and not taken, what waits for the peer's answer, and what was
+    /// learned. It reads no message but those whose text is not made.
     pub fn kept(&self) -> u64
         ensures { result ≡ kept_by self.now }
     {
@@ -359,6 +363,16 @@ impl<R: Role, S: RangeStore, F: Summary> Session<R, S, F> {
             + most_of R.side }
     {
         self.talk.end().sent()
+    }
+
+    /// How many messages were taken whole, of those that it has said.
+    pub fn written(&self) -> u32
+        ensures written { result ≡ self.now.talk.held.end.sent - unwritten self.now.talk.outbox }
+        // Just so many end within the bytes that were taken.
+        ensures whole { (s : Speaker F) (pushed taken : List ℕ) → Knows F.summary F.profile s self.now pushed taken →
+            IsWritten F.profile (said_to F.summary F.profile s pushed) taken result }
+    {
+        self.talk.written()
     }
 
     /// What was learned, each item once, where the session has ended.

@@ -1,21 +1,21 @@
 //! What a session says and hears, event by event.
 
-ghost use Rattle.std.specs.Prelude.{◌≡◌, ◌≢◌, [], true, length, drop, min, OnOk, OnErr};
+ghost use Rattle.std.specs.Prelude.{◌≡◌, ◌≢◌, ◌-◌, [], true, length, min, OnOk, OnErr};
 ghost use Rattle.definitions.specs.Ends.{own_of};
 ghost use Rattle.definitions.specs.Wire as wire;
+ghost use Rattle.ends_core.specs.Sizes as sizes;
 ghost use Rattle.ends_core.specs.Turns.{end_fault_number};
 ghost use Rattle.session_core.specs.Kept.{kept_of};
-ghost use Rattle.session_core.specs.Outboxes.{outbox_state};
-ghost use Rattle.session_core.specs.Sizes as sizes;
-ghost use Rattle.session_core.specs.Sessions.{Hears, HearsIf, due, is_open, beginning, noted, refused_by, with_outbox};
+ghost use Rattle.session_core.specs.Outboxes.{less, unwritten};
+ghost use Rattle.session_core.specs.Sessions.{Hears, HearsIf, all_made, is_open, beginning, noted, refused_by};
+ghost use Rattle.session_core.specs.Sessions.{with_outbox};
 ghost use Rattle.ends_core.specs.declared.turn.EndFault.TheVariants as faults;
 ghost use Rattle.session_core.specs.declared.state.State.TheVariants as states;
 
 use crate::outbox::Outbox;
-use crate::size::{known_size, part_size};
 use crate::state::State;
 use digest_core::Summary;
-use ends_core::{EndFault, Learned, Role, SessionEnd};
+use ends_core::{EndFault, Learned, Role, SessionEnd, known_size};
 use std::alloc::{AllocError, Global};
 use std::marker::Model;
 use store_core::RangeStore;
@@ -29,8 +29,6 @@ pub(crate) struct Talk<R: Role, S: RangeStore, F: Summary> {
     state: State,
     // The text of its refusal is made.
     told: bool,
-    // What is counted for the parts of the peer's message that has not ended.
-    parts: u64,
     // What is counted for the open parts of our message that waits for the peer's.
     waits: u64,
 }
@@ -38,8 +36,8 @@ pub(crate) struct Talk<R: Role, S: RangeStore, F: Summary> {
 impl<R: Role, S: RangeStore, F: Summary> Model for Talk<R, S, F> {
     ghost use Rattle.std.specs.Prelude.{◌≡◌};
     ghost use Rattle.definitions.specs.Ends.{own_of};
+    ghost use Rattle.ends_core.specs.Sizes.{message_size};
     ghost use Rattle.session_core.specs.Sessions.{TalkState};
-    ghost use Rattle.session_core.specs.Sizes.{message_size};
 
     ghost Value = { TalkState F };
 
@@ -48,7 +46,6 @@ impl<R: Role, S: RangeStore, F: Summary> Model for Talk<R, S, F> {
       outbox = t.outbox;
       state = t.state;
       told = t.told;
-      parts = t.parts;
     } };
 
     ghost invariant = { λ t. t.waits ≡ message_size (own_of t.end.end.stage) };
@@ -76,7 +73,6 @@ impl<R: Role, S: RangeStore, F: Summary> Talk<R, S, F> {
             outbox,
             state: State::Open,
             told: false,
-            parts: 0,
             waits,
         }
     }
@@ -135,13 +131,9 @@ impl<R: Role, S: RangeStore, F: Summary> Talk<R, S, F> {
         ensures memory { OnErr result (self.new ≡ self.old) }
     {
         match self.end.take(alloc, part) {
-            Ok(()) => {
-                self.parts = self.parts.saturating_add(part_size(part));
-                Ok(())
-            }
+            Ok(()) => Ok(()),
             Err(fault) => {
                 self.waits = unless_refused(self.waits, fault);
-                self.parts = unless_refused(self.parts, fault);
                 self.stop(fault)
             }
         }
@@ -156,13 +148,11 @@ impl<R: Role, S: RangeStore, F: Summary> Talk<R, S, F> {
         match self.outbox.answer(alloc, &mut self.end) {
             Ok(waits) => {
                 self.waits = waits;
-                self.parts = 0;
                 self.note_end();
                 Ok(())
             }
             Err(fault) => {
                 self.waits = unless_refused(self.waits, fault);
-                self.parts = unless_refused(self.parts, fault);
                 self.stop(fault)
             }
         }
@@ -192,7 +182,7 @@ impl<R: Role, S: RangeStore, F: Summary> Talk<R, S, F> {
 
     /// Makes the text of all that is due. Where memory runs out nothing has changed.
     pub(crate) fn make_due(&mut self, alloc: Global) -> Result<(), AllocError>
-        ensures made { OnOk result (self.new ≡ with_outbox self.old (outbox_state (due F.profile self.old) []) true) }
+        ensures made { OnOk result (self.new ≡ with_outbox self.old (all_made F.profile self.old) true) }
         ensures memory { OnErr result (self.new ≡ self.old) }
     {
         match self.state {
@@ -207,7 +197,8 @@ impl<R: Role, S: RangeStore, F: Summary> Talk<R, S, F> {
     pub(crate) fn kept(&self) -> u64
         ensures { result ≡ kept_of self.now }
     {
-        self.parts
+        self.end
+            .taken_size()
             .saturating_add(self.waits)
             .saturating_add(self.outbox.kept())
             .saturating_add(known_size(self.end.learned()))
@@ -230,9 +221,15 @@ impl<R: Role, S: RangeStore, F: Summary> Talk<R, S, F> {
     /// Takes this many of these bytes off the front, or all where there are fewer, and returns how many it took.
     pub(crate) fn take(&mut self, count: usize) -> usize
         ensures count { result ≡ min count (length self.old.outbox.ready) }
-        ensures rest { self.new ≡ with_outbox self.old
-            (outbox_state (drop result self.old.outbox.ready) self.old.outbox.later) self.old.told }
+        ensures rest { self.new ≡ with_outbox self.old (less result self.old.outbox) self.old.told }
     {
         self.outbox.take(count)
+    }
+
+    /// How many messages were taken whole.
+    pub(crate) fn written(&self) -> u32
+        ensures { result ≡ self.now.held.end.sent - unwritten self.now.outbox }
+    {
+        u64::from(self.end.sent()).saturating_sub(self.outbox.unwritten()) as u32
     }
 }

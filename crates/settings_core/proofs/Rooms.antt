@@ -1,5 +1,6 @@
 -- How often a room is doubled, step by step.
-use Rattle.std.proofs.Common.{◌≡◌, ◌∙◌, sym, refl, rules, false, ◌<◌, ◌≤◌, ◌*◌, ◌+◌, ◌-◌, ℕ, zero, suc, Some, None, arith}
+use Rattle.std.proofs.Common.{◌≡◌, ◌∙◌, sym, refl, rules, false, ◌<◌, ◌≤◌, ◌*◌, ◌+◌, ◌-◌, ℕ, zero, suc, Some, None}
+use Rattle.std.proofs.Common.{arith}
 use Rattle.std.specs.Prelude.{nat_le}
 use Rattle.settings_core.specs.ShardSizes.{doublings, bits_for}
 

@@ -21,6 +21,7 @@ use Rattle.item_files.specs.declared.form.ItemForm.TheVariants as forms
 use Rattle.item_files.specs.declared.profile.WireProfile.{WireProfile}
 use Rattle.item_files.specs.declared.profile.WireProfile.TheVariants as profiles
 use Rattle.settings_core.specs.declared.commands.Command.TheVariants.{Answer, Check, Plan, Sim, Serve, Sync}
+use Rattle.settings_core.specs.declared.commands.Command.TheVariants.{Put, News, Stop, Status}
 
 -- the value of an argument
 abbrev pub IsText : Text → List Row → Text → Type 0
@@ -96,7 +97,11 @@ HasValues rows (Serve w) = IsText (codes "table") rows w.table.now × IsText (co
     × IsAnyText (codes "keep") rows (option_map (λ text. text.now) w.keep)
     × IsFlag (codes "durable") rows w.durable × IsNumber (codes "most-learned") rows w.most_learned
     × IsFlag (codes "read-only") rows w.read_only × IsNumber (codes "report-items") rows w.report_items
-    × IsAnyText (codes "metrics") rows (option_map (λ text. text.now) w.metrics) × IsFlag (codes "log") rows w.log
+    × IsAnyText (codes "metrics") rows (option_map (λ text. text.now) w.metrics)
+    × IsAnyText (codes "with") rows (option_map (λ text. text.now) w.partners)
+    × IsNumber (codes "every") rows w.every
+    × IsAnyText (codes "control") rows (option_map (λ text. text.now) w.control)
+    × IsFlag (codes "log") rows w.log
     × HasForm rows w.form
     × IsAnyText (codes "ITEMS") rows (option_map (λ text. text.now) w.items)
 HasValues rows (Sync w) = IsText (codes "table") rows w.table.now × IsText (codes "addr") rows w.address.now
@@ -104,12 +109,20 @@ HasValues rows (Sync w) = IsText (codes "table") rows w.table.now × IsText (cod
     × IsNumber (codes "shards") rows w.shards × IsAnyText (codes "only") rows (option_map (λ text. text.now) w.only)
     × IsNumber (codes "at-once") rows w.at_once
     × IsAnyText (codes "out") rows (option_map (λ text. text.now) w.out)
+    × IsAnyText (codes "keep") rows (option_map (λ text. text.now) w.keep)
     × IsNumber (codes "profile") rows (Some (profile_number w.profile))
     × IsNumber (codes "patience") rows (Some w.patience) × IsNumber (codes "most-bytes") rows (Some w.most_bytes)
     × IsNumber (codes "retry") rows w.retry × IsFlag (codes "check") rows w.checks
     × IsFlag (codes "count") rows w.counts × IsFlag (codes "stats") rows w.stats
     × HasForm rows w.form
     × IsText (codes "ITEMS") rows w.items.now
+HasValues rows (Put w) = IsAnyText (codes "control") rows (option_map (λ text. text.now) w.control)
+    × HasForm rows w.form × IsText (codes "FILE") rows w.file.now
+HasValues rows (News w) = IsAnyText (codes "control") rows (option_map (λ text. text.now) w.control)
+    × IsNumber (codes "after") rows w.after × IsFlag (codes "follow") rows w.follows
+HasValues rows (Stop w) = IsAnyText (codes "control") rows (option_map (λ text. text.now) w.control)
+HasValues rows (Status w) = IsAnyText (codes "control") rows (option_map (λ text. text.now) w.control)
+    × IsFlag (codes "json") rows w.json
 
 abbrev pub name_of : Command → Text
 name_of (Answer w) = codes "answer"
@@ -118,6 +131,10 @@ name_of (Plan w) = codes "plan"
 name_of Sim = codes "sim"
 name_of (Serve w) = codes "serve"
 name_of (Sync w) = codes "sync"
+name_of (Put w) = codes "put"
+name_of (News w) = codes "news"
+name_of (Stop w) = codes "stop"
+name_of (Status w) = codes "status"
 
 abbrev pub AsksFor : Text → List Row → Command → Type 0
 AsksFor name rows c = (name_of c ≡ name) × HasValues rows c × AreInSpan c

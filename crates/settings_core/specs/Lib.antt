@@ -1,5 +1,6 @@
 pub mod Addresses
 pub mod Calls
+pub mod NodeWords
 pub mod Program
 pub mod Retries
 pub mod Rules

@@ -1,5 +1,5 @@
 -- The words that the program knows, as `clap` sees them.
---     program          its commands: answer, check, plan, sim, serve and sync
+--     program          its commands: answer, check, plan, sim, serve, sync, put, news, stop and status
 --     IsWord r a       the argument is this one, for its own command alone
 --     IsCommand a c    the command is this one, with no argument for those below it
 use Rattle.std.specs.Prelude.{◌≡◌, ℕ, pos, codes, Bool, true, false, List, [], ◌∷◌, ◌++◌, Some}
@@ -106,7 +106,8 @@ served = with_rules (new_app (codes "serve"))
     ∷ number (codes "session-seconds") 1 604800 ∷ number (codes "memory") 1 1048576 ∷ valued (codes "report")
     ∷ valued (codes "learned") ∷ valued (codes "keep") ∷ flag (codes "durable")
     ∷ number (codes "most-learned") 1 4294967295 ∷ flag (codes "read-only")
-    ∷ number (codes "report-items") 0 4294967295 ∷ valued (codes "metrics") ∷ flag (codes "log")
+    ∷ number (codes "report-items") 0 4294967295 ∷ valued (codes "metrics")
+    ∷ valued (codes "with") ∷ number (codes "every") 1 86400 ∷ valued (codes "control") ∷ flag (codes "log")
     ∷ flag (codes "text") ∷ flag (codes "hash") ∷ flag (codes "why") ∷ [])
 
 abbrev pub serve : App
@@ -115,14 +116,34 @@ serve = with_rules served (items false ∷ [])
 abbrev pub sync : App
 sync = with_rules (new_app (codes "sync"))
     (table ∷ address ∷ flag (codes "stdio") ∷ valued (codes "set") ∷ shard_bits ∷ valued (codes "only")
-    ∷ number (codes "at-once") 1 64 ∷ valued (codes "out") ∷ defaulting (number (codes "profile") 1 2) (codes "1")
-    ∷ patience ∷ most_bytes ∷ number (codes "retry") 0 1000 ∷ flag (codes "check") ∷ flag (codes "count")
-    ∷ flag (codes "stats") ∷ flag (codes "text") ∷ flag (codes "hash") ∷ flag (codes "why") ∷ items true ∷ [])
+    ∷ number (codes "at-once") 1 64 ∷ valued (codes "out") ∷ valued (codes "keep")
+    ∷ defaulting (number (codes "profile") 1 2) (codes "1") ∷ patience ∷ most_bytes
+    ∷ number (codes "retry") 0 1000 ∷ flag (codes "check") ∷ flag (codes "count") ∷ flag (codes "stats")
+    ∷ flag (codes "text") ∷ flag (codes "hash") ∷ flag (codes "why") ∷ items true ∷ [])
+
+-- `--control A`
+abbrev pub control : Rule
+control = valued (codes "control")
+
+abbrev pub put : App
+put = with_rules (new_app (codes "put"))
+    (control ∷ flag (codes "text") ∷ flag (codes "hash") ∷ flag (codes "why") ∷ placed (codes "FILE") true ∷ [])
+
+abbrev pub news : App
+news = with_rules (new_app (codes "news"))
+    (control ∷ number (codes "after") 0 4294967295 ∷ flag (codes "follow") ∷ flag (codes "why") ∷ [])
+
+abbrev pub stop : App
+stop = with_rules (new_app (codes "stop")) (control ∷ flag (codes "why") ∷ [])
+
+abbrev pub status : App
+status = with_rules (new_app (codes "status")) (control ∷ flag (codes "json") ∷ flag (codes "why") ∷ [])
 
 -- the program itself, which has a version and asks for a command
 abbrev pub top : App
 top = on_top (λ s. record s { has_version = true; subcommand_required = true }) (new_app (codes "rangesync"))
 
 abbrev pub program : App
-program = with_subcommand (with_subcommand (with_subcommand (with_subcommand (with_subcommand (with_subcommand top
-    answer.top) check.top) plan.top) sim.top) serve.top) sync.top
+program = with_subcommand (with_subcommand (with_subcommand (with_subcommand (with_subcommand (with_subcommand
+    (with_subcommand (with_subcommand (with_subcommand (with_subcommand top answer.top) check.top) plan.top) sim.top)
+    serve.top) sync.top) put.top) news.top) stop.top) status.top

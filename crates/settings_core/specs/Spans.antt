@@ -6,6 +6,7 @@
 use Rattle.std.specs.Prelude.{ℕ, ◌≤◌, IfSome, Option, Some, None, ⊤}
 use Rattle.settings_core.specs.declared.commands.Command.{Command}
 use Rattle.settings_core.specs.declared.commands.Command.TheVariants.{Answer, Check, Plan, Sim, Serve, Sync}
+use Rattle.settings_core.specs.declared.commands.Command.TheVariants.{Put, News, Stop, Status}
 
 abbrev pub IsWithin : ℕ → ℕ → ℕ → Type 0
 IsWithin least most n = (least ≤ n) × (n ≤ most)
@@ -50,6 +51,10 @@ AreInSpan (Serve w) = IfSome w.shards IsShardBits × IsWorkerCount w.workers × 
     × IsWithin 1 86400 w.patience × IsWithin 1024 4294967295 w.most_bytes × IfSome w.peers (IsWithin 1 65535)
     × IfSome w.peers_of_one (IsWithin 1 65535) × IfSome w.session_seconds (IsWithin 1 604800)
     × IfSome w.memory (IsWithin 1 1048576) × IfSome w.most_learned (IsWithin 1 4294967295)
-    × IfSome w.report_items (IsWithin 0 4294967295) × IsAnyGiven w.keep w.items
+    × IfSome w.report_items (IsWithin 0 4294967295) × IfSome w.every (IsWithin 1 86400) × IsAnyGiven w.keep w.items
 AreInSpan (Sync w) = IfSome w.shards IsShardBits × IfSome w.at_once (IsWithin 1 64) × IsWithin 1 86400 w.patience
     × IsWithin 1024 4294967295 w.most_bytes × IfSome w.retry (IsWithin 0 1000)
+AreInSpan (Put w) = ⊤
+AreInSpan (News w) = IfSome w.after (IsWithin 0 4294967295)
+AreInSpan (Stop w) = ⊤
+AreInSpan (Status w) = ⊤

@@ -16,6 +16,9 @@ pub const DEFAULT_PORT: &str = "7700";
 /// The port of an address for metrics that is given without one.
 pub const METRICS_PORT: &str = "7702";
 
+/// The port of an address for this machine's own programs that is given without one.
+pub const CONTROL_PORT: &str = "7707";
+
 /// Where one listens, or connects.
 #[derive(Clone, Copy, Debug, PartialEq, Eq)]
 pub enum Address<'a> {
@@ -51,14 +54,14 @@ fn ends_in(bytes: &[u8], last: u8) -> bool
 }
 
 /// Whether an address is a host alone: it has no `:`, or ends with the bracket of an IPv6 address.
-fn is_host(address: &str) -> bool
+pub(crate) fn is_host(address: &str) -> bool
     ensures { result ≡ is_host address.now }
 {
     !has_colon(address.as_bytes()) || ends_in(address.as_bytes(), b']')
 }
 
 /// What stands before the last `:` of an address, if it has one.
-fn host_of(address: &str) -> Option<&str>
+pub(crate) fn host_of(address: &str) -> Option<&str>
     ensures { option_map (λ text. text.now) result ≡ host_of address.now }
 {
     let (host, _port) = address.rsplit_once(':')?;

@@ -26,6 +26,14 @@ pub enum Command<'a> {
     Serve(ServeWords<'a>),
     /// One session with who listens.
     Sync(SyncWords<'a>),
+    /// Items that are put into the set of a server on this machine.
+    Put(PutWords<'a>),
+    /// The items that the set of a server on this machine took.
+    News(NewsWords<'a>),
+    /// The end of a server on this machine.
+    Stop(StopWords<'a>),
+    /// How a server on this machine stands.
+    Status(StatusWords<'a>),
 }
 
 /// What `answer` is asked for.
@@ -120,6 +128,13 @@ pub struct ServeWords<'a> {
     pub report_items: Option<u32>,
     /// The address at which metrics and a page answer HTTP, if one is given.
     pub metrics: Option<&'a str>,
+    /// The addresses of the partners, with a comma between two, if there are any: servers with which the set is kept
+    /// equal.
+    pub partners: Option<&'a str>,
+    /// How many seconds after the last session with a partner the next one begins, 1 to 86,400, if it is given.
+    pub every: Option<u32>,
+    /// The address at which this machine's own programs are answered, if one is given.
+    pub control: Option<&'a str>,
     /// Whether standard error gets a line for each session.
     pub log: bool,
     /// How the item file is read, and how items are written.
@@ -147,6 +162,8 @@ pub struct SyncWords<'a> {
     pub at_once: Option<u32>,
     /// The path of the file for the lines of the session, if one is given.
     pub out: Option<&'a str>,
+    /// The path of the file to which what is learned is appended, if one is given. It may be the item file.
+    pub keep: Option<&'a str>,
     /// The wire profile that is spoken.
     pub profile: WireProfile,
     /// How many seconds the connect, a read or a write may take, 1 to 86,400.
@@ -166,4 +183,42 @@ pub struct SyncWords<'a> {
     pub form: ItemForm,
     /// The path of the item file.
     pub items: &'a str,
+}
+
+/// What `put` is asked for.
+#[derive(Clone, Copy, Debug, PartialEq, Eq)]
+pub struct PutWords<'a> {
+    /// The address at which the server answers programs of its machine, if it is given.
+    pub control: Option<&'a str>,
+    /// How the file is read.
+    pub form: ItemForm,
+    /// The path of the file, or `-`.
+    pub file: &'a str,
+}
+
+/// What `news` is asked for.
+#[derive(Clone, Copy, Debug, PartialEq, Eq)]
+pub struct NewsWords<'a> {
+    /// The address at which the server answers programs of its machine, if it is given.
+    pub control: Option<&'a str>,
+    /// How many of the first items are left out, if it is given.
+    pub after: Option<u32>,
+    /// Whether it goes on with those that come.
+    pub follows: bool,
+}
+
+/// What `stop` is asked for.
+#[derive(Clone, Copy, Debug, PartialEq, Eq)]
+pub struct StopWords<'a> {
+    /// The address at which the server answers programs of its machine, if it is given.
+    pub control: Option<&'a str>,
+}
+
+/// What `status` is asked for.
+#[derive(Clone, Copy, Debug, PartialEq, Eq)]
+pub struct StatusWords<'a> {
+    /// The address at which the server answers programs of its machine, if it is given.
+    pub control: Option<&'a str>,
+    /// Whether it is printed as JSON.
+    pub json: bool,
 }

@@ -6,9 +6,12 @@ ghost use Rattle.settings_core.specs.Calls.{AsksFor, CallsFor, Finds, HasForm, I
 ghost use Rattle.settings_core.specs.Calls.{is_hash, profile_number};
 ghost use Rattle.settings_core.specs.Spans.{IsWithin, IsWorkerCount};
 
-use crate::commands::{AnswerWords, Call, CheckWords, Command, PlanWords, ServeWords, SyncWords};
+use crate::commands::{
+    AnswerWords, Call, CheckWords, Command, NewsWords, PlanWords, PutWords, ServeWords,
+    StatusWords, StopWords, SyncWords,
+};
 use crate::spans::{
-    MAX_AT_ONCE, MAX_ITEM_LENGTH, MAX_ITEMS, MAX_MEMORY, MAX_PATIENCE, MAX_PEERS,
+    MAX_AT_ONCE, MAX_EVERY, MAX_ITEM_LENGTH, MAX_ITEMS, MAX_MEMORY, MAX_PATIENCE, MAX_PEERS,
     MAX_PLANNED_ITEMS, MAX_RATE, MAX_RETRIES, MAX_ROUND_TRIP, MAX_SEARCH, MAX_SESSION_SECONDS,
     MAX_SESSIONS, MAX_SHARD_BITS, MAX_WORKERS, MIN_BYTES, MIN_ITEM_LENGTH,
 };
@@ -179,6 +182,9 @@ fn serve_in<'a>(matches: &ArgMatches<'a>) -> Option<Command<'a>>
         read_only: flag_in(matches, "read-only"),
         report_items: report_items_in(matches)?,
         metrics: text_in(matches, "metrics"),
+        partners: text_in(matches, "with"),
+        every: number_in(matches, "every", 1, MAX_EVERY)?,
+        control: text_in(matches, "control"),
         log: flag_in(matches, "log"),
         form: form_or_hash_in(matches),
         items,
@@ -198,6 +204,7 @@ fn sync_in<'a>(matches: &ArgMatches<'a>) -> Option<Command<'a>>
         only: text_in(matches, "only"),
         at_once: number_in(matches, "at-once", 1, MAX_AT_ONCE)?,
         out: text_in(matches, "out"),
+        keep: text_in(matches, "keep"),
         profile: profile_in(matches)?,
         patience: default_in(matches, "patience", 1, MAX_PATIENCE)?,
         most_bytes: default_in(matches, "most-bytes", MIN_BYTES, u32::MAX)?,
@@ -207,6 +214,47 @@ fn sync_in<'a>(matches: &ArgMatches<'a>) -> Option<Command<'a>>
         stats: flag_in(matches, "stats"),
         form: form_or_hash_in(matches),
         items: text_in(matches, "ITEMS")?,
+    }))
+}
+
+/// What the words of `put` ask for.
+fn put_in<'a>(matches: &ArgMatches<'a>) -> Option<Command<'a>>
+    ensures { Finds (AsksFor (codes "put") (rows_of (found_of matches.now))) result }
+{
+    Some(Command::Put(PutWords {
+        control: text_in(matches, "control"),
+        form: form_or_hash_in(matches),
+        file: text_in(matches, "FILE")?,
+    }))
+}
+
+/// What the words of `news` ask for.
+fn news_in<'a>(matches: &ArgMatches<'a>) -> Option<Command<'a>>
+    ensures { Finds (AsksFor (codes "news") (rows_of (found_of matches.now))) result }
+{
+    Some(Command::News(NewsWords {
+        control: text_in(matches, "control"),
+        after: number_in(matches, "after", 0, u32::MAX)?,
+        follows: flag_in(matches, "follow"),
+    }))
+}
+
+/// What the words of `stop` ask for.
+fn stop_in<'a>(matches: &ArgMatches<'a>) -> Option<Command<'a>>
+    ensures { Finds (AsksFor (codes "stop") (rows_of (found_of matches.now))) result }
+{
+    Some(Command::Stop(StopWords {
+        control: text_in(matches, "control"),
+    }))
+}
+
+/// What the words of `status` ask for.
+fn status_in<'a>(matches: &ArgMatches<'a>) -> Option<Command<'a>>
+    ensures { Finds (AsksFor (codes "status") (rows_of (found_of matches.now))) result }
+{
+    Some(Command::Status(StatusWords {
+        control: text_in(matches, "control"),
+        json: flag_in(matches, "json"),
     }))
 }
 
@@ -221,6 +269,10 @@ fn command_in<'a>(name: &str, matches: &ArgMatches<'a>) -> Option<Command<'a>>
         "sim" => Some(Command::Sim),
         "serve" => serve_in(matches),
         "sync" => sync_in(matches),
+        "put" => put_in(matches),
+        "news" => news_in(matches),
+        "stop" => stop_in(matches),
+        "status" => status_in(matches),
         _ => None,
     }
 }

@@ -6,6 +6,7 @@ ghost use Rattle.settings_core.specs.Program.{IsCommand};
 ghost use Rattle.settings_core.specs.Program as program;
 
 use crate::arguments::{Argument, command_of};
+use crate::door_words::{news_words, put_words, status_words, stop_words};
 use crate::session_words::{serve_words, sync_words};
 use crate::spans::{
     MAX_ITEM_LENGTH, MAX_ITEMS, MAX_PLANNED_ITEMS, MAX_RATE, MAX_ROUND_TRIP, MAX_SEARCH,
@@ -228,5 +229,9 @@ pub(crate) fn program_words<'a>(alloc: Global) -> Result<clap::Command<'a>, Allo
     let words = with_command(words, plan_words(alloc))?;
     let words = with_command(words, sim_words(alloc))?;
     let words = with_command(words, serve_words(alloc))?;
-    with_command(words, sync_words(alloc))
+    let words = with_command(words, sync_words(alloc))?;
+    let words = with_command(words, put_words(alloc))?;
+    let words = with_command(words, news_words(alloc))?;
+    let words = with_command(words, stop_words(alloc))?;
+    with_command(words, status_words(alloc))
 }

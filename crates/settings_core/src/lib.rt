@@ -4,8 +4,10 @@
 mod addresses;
 mod arguments;
 mod commands;
+mod door_words;
 mod given_words;
 mod known_words;
+mod node_words;
 mod retries;
 mod session_words;
 mod shard_sizes;
@@ -16,14 +18,18 @@ mod stdio_words;
 mod words;
 
 pub use addresses::{
-    Address, DEFAULT_ADDRESS, DEFAULT_PORT, METRICS_PORT, address_of, whole_address,
+    Address, CONTROL_PORT, DEFAULT_ADDRESS, DEFAULT_PORT, METRICS_PORT, address_of, whole_address,
 };
-pub use commands::{AnswerWords, Call, CheckWords, Command, PlanWords, ServeWords, SyncWords};
+pub use commands::{
+    AnswerWords, Call, CheckWords, Command, NewsWords, PlanWords, PutWords, ServeWords,
+    StatusWords, StopWords, SyncWords,
+};
 pub use item_files::{
     ItemForm, SettingsFault, WireProfile, has_byte_order_mark, item_of, item_set, read_input_items,
     read_items, read_strategy,
 };
 pub use known_words::VERSION;
+pub use node_words::{NO_ADDRESS, NodeFlaw, NodeWords, node_flaw};
 pub use retries::pause_before;
 pub use shard_sizes::shard_bits_for;
 pub use shard_words::{ShardFlaw, ShardWords, sharding_of};

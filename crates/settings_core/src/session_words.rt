@@ -8,7 +8,7 @@ use crate::addresses::DEFAULT_ADDRESS;
 use crate::arguments::{Argument, command_of, with_arguments};
 use crate::known_words::{HASH, ITEMS_HELP, TABLE, TEXT, WHY};
 use crate::spans::{
-    MAX_AT_ONCE, MAX_MEMORY, MAX_PATIENCE, MAX_PEERS, MAX_RETRIES, MAX_SESSION_SECONDS,
+    MAX_AT_ONCE, MAX_EVERY, MAX_MEMORY, MAX_PATIENCE, MAX_PEERS, MAX_RETRIES, MAX_SESSION_SECONDS,
     MAX_SESSIONS, MAX_SHARD_BITS, MAX_WORKERS, MIN_BYTES,
 };
 use std::alloc::{AllocError, Global};
@@ -49,7 +49,7 @@ const ITEMS: Argument<'static> = Argument::Placed {
 };
 
 /// The arguments of `serve`, but for its ITEMS.
-const SERVE: [Argument<'static>; 26] = [
+const SERVE: [Argument<'static>; 29] = [
     TABLE,
     Argument::ValuedOr {
         name: "addr",
@@ -166,6 +166,23 @@ const SERVE: [Argument<'static>; 26] = [
         value: "A",
         help: "The address at which metrics and a page answer HTTP",
     },
+    Argument::Valued {
+        name: "with",
+        value: "A,..",
+        help: "Keep the set equal with the servers at these addresses, 1 to 64",
+    },
+    Argument::Number {
+        name: "every",
+        value: "SECONDS",
+        least: 1,
+        most: MAX_EVERY,
+        help: "With --with: so long between two sessions with one, 1 to 86,400 [default: 10]",
+    },
+    Argument::Valued {
+        name: "control",
+        value: "A",
+        help: "Answer this machine's own programs at unix:PATH or at an address of the loopback",
+    },
     Argument::Flag {
         name: "log",
         help: "Print a line for each session on standard error",
@@ -194,7 +211,7 @@ pub(crate) fn serve_words<'a>(alloc: Global) -> Result<clap::Command<'a>, AllocE
 }
 
 /// The arguments of `sync`.
-const SYNC: [Argument<'static>; 19] = [
+const SYNC: [Argument<'static>; 20] = [
     TABLE,
     Argument::ValuedOr {
         name: "addr",
@@ -221,6 +238,11 @@ const SYNC: [Argument<'static>; 19] = [
         name: "out",
         value: "FILE",
         help: "Write what is printed to this file",
+    },
+    Argument::Valued {
+        name: "keep",
+        value: "FILE",
+        help: "Append what the server has and ITEMS lacks to this file, which may be ITEMS",
     },
     Argument::NumberOr {
         name: "profile",

@@ -21,6 +21,9 @@ pub(crate) const MAX_RETRIES: u32 = 1_000;
 /// The greatest number of seconds that a session may go on: a week.
 pub(crate) const MAX_SESSION_SECONDS: u32 = 604_800;
 
+/// The greatest number of seconds between two sessions with a partner: a day.
+pub(crate) const MAX_EVERY: u32 = 86_400;
+
 /// The greatest number of MiB of memory for all peers: a TiB.
 pub(crate) const MAX_MEMORY: u32 = 1_048_576;
 

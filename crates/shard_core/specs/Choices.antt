@@ -8,8 +8,8 @@
 --     chosen ds first last          who is asked for which of the shards from one number to another
 --     AreBelow n asks               who is asked is one of n servers
 --     HasOne ds s                   one server alone has it
---     IsUnchosen ds first last e    a fault names the first shard that no server has, or two; memory runs out at one that
---                                   one server alone has, as each before it
+--     IsUnchosen ds first last e    a fault names the first shard that no server has, or two; memory runs out at one
+--                                   that one server alone has, as each before it
 use Rattle.std.specs.Prelude.{◌≡◌, ℕ, ◌+◌, ◌<◌, ◌≤◌, Bool, not, ◌&&◌, ◌==◌, List, [], ◌∷◌, length, map, filter}
 use Rattle.std.specs.Prelude.{flat_map}
 use Rattle.std.specs.Prelude.{is_some, get_or, if◌then◌else◌, Vec, Option, Some, None}

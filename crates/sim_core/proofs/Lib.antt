@@ -1,5 +1,10 @@
+mod Costed
 mod Finishing
 mod Numbers
+mod PlansKept
+mod Scattered
 mod ScenarioReadings
 mod Sims
+mod Spans
 mod Turns
+mod Windows

@@ -9,7 +9,9 @@ pub mod ScenarioOpens
 pub mod Scenarios
 pub mod StepTexts
 pub use Rattle.session_core.specs.Sessions
+pub mod Candidates
 pub mod Costs
+pub mod Lines
 pub mod Plans
 pub mod Samples
 pub mod Shipped

@@ -1,16 +1,18 @@
 //! A session between the program's own two ends, turn by turn.
 
-ghost use Rattle.std.specs.Prelude.{◌≡◌, ◌+◌, ◌≤◌, false, if◌then◌else◌, length, sum, IfOk};
+ghost use Rattle.std.specs.Prelude.{◌≡◌, ◌+◌, ◌≤◌, ◌++◌, false, [], length, sum, IfOk, OnOk};
 ghost use Rattle.std.specs.Arc.{arc_value};
 ghost use Rattle.definitions.specs.Engines.{initiating, responding};
 ghost use Rattle.definitions.specs.Fingerprints.{two_lanes};
+ghost use Rattle.definitions.specs.Ranks.{rank_by};
 ghost use Rattle.definitions.specs.Sets.{IsSet};
 ghost use Rattle.definitions.specs.Wire.{two_lane_profile};
 ghost use Rattle.ends_core.specs.Sides.{peer_of};
 ghost use Rattle.range_tree.specs.Trees.{tree_items};
+ghost use Rattle.session_core.specs.Pairs.{SessionsMeet};
 ghost use Rattle.session_core.specs.Sessions.{due, Begins, Pushes, Takes};
-ghost use Rattle.sim_core.specs.Costs.{Costs, CostsSample, Talks};
-ghost use Rattle.sim_core.specs.Samples.{IsSample};
+ghost use Rattle.sim_core.specs.Costs.{Costs, CostsFrom, CostsSample, HaveSpoken, turn_of};
+ghost use Rattle.sim_core.specs.Samples.{AreMade, IsSample};
 
 use crate::sample::{Sample, sets_of};
 use digest_core::{Fingerprint, Summary};
@@ -22,9 +24,6 @@ use std::alloc::{AllocError, Global};
 use std::sync::Arc;
 use store_core::RangeStore;
 use strategy_check::Accepted;
-
-/// The most turns of each side: no session has more than 3 + 2 * 255 messages.
-const MAX_TURNS: usize = 257;
 
 /// What a session costs.
 #[derive(Drop)]
@@ -38,8 +37,8 @@ pub struct Cost {
     pub messages: u64,
 }
 
-/// Hands over all that one side has to say, and returns how many bytes that is. Fails where memory runs out before the
-/// other side has heard all of it.
+/// Hands over all that one side has to say, and returns how many bytes that is: with none the other side stays as it
+/// is. Fails where memory runs out before the other side has heard all of it.
 fn hand_over<P: Role, Q: Role, F: Summary>(
     alloc: Global,
     from: &mut Session<P, Tree, F>,
@@ -49,11 +48,16 @@ fn hand_over<P: Role, Q: Role, F: Summary>(
     ensures said { IfOk result (λ n. n ≡ length (due F.profile from.old.talk)) }
     ensures takes { IfOk result (λ _. Takes F.summary F.profile from.old (due F.profile from.old.talk) from.new) }
     ensures pushes { IfOk result (λ _. Pushes F.summary F.profile to.old (due F.profile from.old.talk) to.new) }
+    ensures done { IfOk result (λ _. due F.profile from.new.talk ≡ []) }
+    ensures same { IfOk result (λ n. n ≡ 0 → to.new ≡ to.old) }
     ensures from_listens { from.new.over ≡ from.old.over }
     ensures to_listens { to.new.over ≡ to.old.over }
 {
     from.make_due(alloc)?;
     let count = from.due().len();
+    if count == 0 {
+        return Ok(0);
+    }
     if to.push(alloc, from.due())? < count {
         return Err(AllocError);
     }
@@ -63,16 +67,16 @@ fn hand_over<P: Role, Q: Role, F: Summary>(
 
 /// One turn more, unless it is empty.
 fn push_turn(turns: &mut Vec<usize>, count: usize) -> Result<(), AllocError>
-    ensures { IfOk result (λ _. sum turns.new.items ≡ sum turns.old.items + count) }
+    ensures { OnOk result (turns.new.items ≡ turns.old.items ++ turn_of count) }
 {
-    if count == 0 {
-        return Ok(());
+    if count > 0 {
+        turns.push(count)?;
     }
-    turns.push(count)?;
     Ok(())
 }
 
-/// Lets the two sides speak in turn until neither has anything to say, and returns the bytes of each turn.
+/// Lets the two sides speak in turn until neither has anything to say, and returns the bytes of each turn. So many
+/// turns that none would be left fit in no memory.
 fn talk<F: Summary>(
     alloc: Global,
     first: &mut Session<Initiating, Tree, F>,
@@ -80,20 +84,21 @@ fn talk<F: Summary>(
 ) -> Result<Vec<usize>, AllocError>
     requires first { first.old.over ≡ false }
     requires second { second.old.over ≡ false }
-    ensures { IfOk result (λ turns. Talks F.summary F.profile first.old second.old first.new second.new
-        (sum turns.items)) }
+    ensures talks { IfOk result (λ turns. HaveSpoken F.summary F.profile first.old second.old first.new second.new
+        turns.items) }
+    ensures done { OnOk result ((due F.profile first.new.talk ≡ []) × (due F.profile second.new.talk ≡ [])) }
 {
     let mut turns = Vec::new(alloc);
-    for _ in 0..MAX_TURNS {
+    for _ in 0..u64::MAX {
         let asked = hand_over(alloc, first, second)?;
         let answered = hand_over(alloc, second, first)?;
         push_turn(&mut turns, asked)?;
         push_turn(&mut turns, answered)?;
-        if asked == 0 && answered == 0 {
+        if answered == 0 {
             return Ok(turns);
         }
     }
-    Ok(turns)
+    Err(AllocError)
 }
 
 /// All bytes of the turns. Fails where they are too many for a number, which no memory holds.
@@ -108,14 +113,14 @@ fn total(turns: &[usize]) -> Result<usize, AllocError>
 }
 
 /// The side that speaks first.
-fn first_side(
+fn first_side<F: Summary>(
     alloc: Global,
     accepted: &Arc<Accepted>,
     ours: Tree,
-) -> Result<Session<Initiating, Tree>, AllocError>
+) -> Result<Session<Initiating, Tree, F>, AllocError>
     requires { length (tree_items ours) ≤ (arc_value accepted.now).table.cap }
-    ensures begins { IfOk result (λ c. Begins two_lanes two_lane_profile (arc_value accepted.now)
-        (initiating two_lanes (peer_of (arc_value accepted.now) (tree_items ours))) c) }
+    ensures begins { IfOk result (λ c. Begins F.summary F.profile (arc_value accepted.now)
+        (initiating F.summary (peer_of (arc_value accepted.now) (tree_items ours))) c) }
     ensures listens { IfOk result (λ c. c.over ≡ false) }
 {
     match Session::initiate(alloc, Arc::try_clone(accepted)?, ours) {
@@ -125,13 +130,13 @@ fn first_side(
 }
 
 /// The side that is spoken to first.
-fn second_side(
+fn second_side<F: Summary>(
     alloc: Global,
     accepted: &Arc<Accepted>,
     theirs: Tree,
-) -> Result<Session<Responding, Tree>, AllocError>
+) -> Result<Session<Responding, Tree, F>, AllocError>
     requires { length (tree_items theirs) ≤ (arc_value accepted.now).table.cap }
-    ensures begins { IfOk result (λ c. Begins two_lanes two_lane_profile (arc_value accepted.now)
+    ensures begins { IfOk result (λ c. Begins F.summary F.profile (arc_value accepted.now)
         (responding (peer_of (arc_value accepted.now) (tree_items theirs))) c) }
     ensures listens { IfOk result (λ c. c.over ≡ false) }
 {
@@ -141,7 +146,90 @@ fn second_side(
     }
 }
 
-/// What a session costs between two sides of this strategy: the responder's items, and the initiator's.
+/// Two sides of this strategy that have heard each other, and have nothing due, have ended as the laws say.
+fn sides_meet<F: Summary>(accepted: &Arc<Accepted>)
+    ensures { SessionsMeet F.summary F.profile (arc_value accepted.now) (arc_value accepted.now) }
+{
+    session_core::two_sessions_meet::<F>(accepted, accepted);
+}
+
+/// The messages that both sides have said, which are no more than they may.
+fn messages_of<F: Summary>(
+    first: &Session<Initiating, Tree, F>,
+    second: &Session<Responding, Tree, F>,
+) -> u64
+    ensures said { result ≡ first.now.talk.held.end.sent + second.now.talk.held.end.sent }
+    ensures few { result ≤ (rank_by first.now.talk.held.steps (length first.now.talk.held.end.peer.items) + 2)
+        + (rank_by second.now.talk.held.steps (length second.now.talk.held.end.peer.items) + 1) }
+{
+    u64::from(first.sent()) + u64::from(second.sent())
+}
+
+/// What it costs to let the two sides speak until neither has anything to say.
+fn spoken_cost<F: Summary>(
+    alloc: Global,
+    first: &mut Session<Initiating, Tree, F>,
+    second: &mut Session<Responding, Tree, F>,
+) -> Result<Cost, AllocError>
+    requires first { first.old.over ≡ false }
+    requires second { second.old.over ≡ false }
+    ensures talks { IfOk result (λ cost. HaveSpoken F.summary F.profile first.old second.old first.new second.new
+        cost.turns.items) }
+    ensures done { OnOk result ((due F.profile first.new.talk ≡ []) × (due F.profile second.new.talk ≡ [])) }
+    ensures said { IfOk result (λ cost. cost.messages
+        ≡ first.new.talk.held.end.sent + second.new.talk.held.end.sent) }
+    ensures few { IfOk result (λ cost. cost.messages
+        ≤ (rank_by first.new.talk.held.steps (length first.new.talk.held.end.peer.items) + 2)
+        + (rank_by second.new.talk.held.steps (length second.new.talk.held.end.peer.items) + 1)) }
+    ensures bytes { IfOk result (λ cost. cost.bytes ≡ sum cost.turns.items) }
+{
+    let turns = talk(alloc, first, second)?;
+    let bytes = total(&turns)?;
+    let messages = messages_of(first, second);
+    Ok(Cost {
+        turns,
+        bytes,
+        messages,
+    })
+}
+
+/// What a session costs that this side begins with a responder of these items.
+fn cost_with<F: Summary>(
+    alloc: Global,
+    accepted: &Arc<Accepted>,
+    theirs: Tree,
+    first: &mut Session<Initiating, Tree, F>,
+) -> Result<Cost, AllocError>
+    requires theirs { length (tree_items theirs) ≤ (arc_value accepted.now).table.cap }
+    requires first { first.old.over ≡ false }
+    ensures costs { IfOk result (λ cost. CostsFrom F.summary F.profile (arc_value accepted.now) (tree_items theirs)
+        first.old cost.turns.items cost.messages) }
+    ensures bytes { IfOk result (λ cost. cost.bytes ≡ sum cost.turns.items) }
+{
+    sides_meet::<F>(accepted);
+    let mut second = second_side::<F>(alloc, accepted, theirs)?;
+    spoken_cost(alloc, first, &mut second)
+}
+
+/// What a session of any profile costs.
+fn cost_by<F: Summary>(
+    alloc: Global,
+    accepted: &Arc<Accepted>,
+    theirs: Tree,
+    ours: Tree,
+) -> Result<Cost, AllocError>
+    requires theirs { length (tree_items theirs) ≤ (arc_value accepted.now).table.cap }
+    requires ours { length (tree_items ours) ≤ (arc_value accepted.now).table.cap }
+    ensures costs { IfOk result (λ cost. Costs F.summary F.profile (arc_value accepted.now) (tree_items theirs)
+        (tree_items ours) cost.turns.items cost.messages) }
+    ensures bytes { IfOk result (λ cost. cost.bytes ≡ sum cost.turns.items) }
+{
+    let mut first = first_side::<F>(alloc, accepted, ours)?;
+    cost_with(alloc, accepted, theirs, &mut first)
+}
+
+/// What a session costs between two sides of this strategy, from its beginning to its end: the responder's items, and
+/// the initiator's.
 pub fn cost_between(
     alloc: Global,
     accepted: &Arc<Accepted>,
@@ -154,14 +242,25 @@ pub fn cost_between(
         (tree_items ours) cost.turns.items cost.messages) }
     ensures bytes { IfOk result (λ cost. cost.bytes ≡ sum cost.turns.items) }
 {
-    let mut first = first_side(alloc, accepted, ours)?;
-    let mut second = second_side(alloc, accepted, theirs)?;
-    let turns = talk(alloc, &mut first, &mut second)?;
-    Ok(Cost {
-        bytes: total(&turns)?,
-        messages: u64::from(first.sent()) + u64::from(second.sent()),
-        turns,
-    })
+    cost_by::<Fingerprint>(alloc, accepted, theirs, ours)
+}
+
+/// The same between copies of these sets.
+pub(crate) fn cost_of_copies(
+    alloc: Global,
+    accepted: &Arc<Accepted>,
+    theirs: &Tree,
+    ours: &Tree,
+) -> Result<Cost, AllocError>
+    requires theirs { length (tree_items theirs.now) ≤ (arc_value accepted.now).table.cap }
+    requires ours { length (tree_items ours.now) ≤ (arc_value accepted.now).table.cap }
+    ensures costs { IfOk result (λ cost. Costs two_lanes two_lane_profile (arc_value accepted.now)
+        (tree_items theirs.now) (tree_items ours.now) cost.turns.items cost.messages) }
+    ensures bytes { IfOk result (λ cost. cost.bytes ≡ sum cost.turns.items) }
+{
+    let theirs = theirs.copy(alloc)?;
+    let ours = ours.copy(alloc)?;
+    cost_between(alloc, accepted, theirs, ours)
 }
 
 /// The tree of the items of a set.
@@ -175,6 +274,7 @@ fn tree_of(alloc: Global, items: &[Item]) -> Result<Tree, AllocError>
 /// The two sets of a sample, as trees: the responder's, and then the initiator's.
 pub fn trees_of(alloc: Global, sample: Sample) -> Result<(Tree, Tree), AllocError>
     requires { IsSample sample }
+    ensures made { IfOk result (λ trees. AreMade sample (tree_items trees.0) (tree_items trees.1)) }
     ensures rise { IfOk result (λ trees. IsSet (tree_items trees.0) × IsSet (tree_items trees.1)) }
     ensures few { IfOk result (λ trees. (length (tree_items trees.0) ≤ sample.items)
         × (length (tree_items trees.1) ≤ sample.items)) }

@@ -1,7 +1,14 @@
 //! The numbers of a strategy's text, where it lists in its first row and cuts in the others.
 
+ghost use Rattle.std.specs.Prelude.{◌≡◌, IfOk, IfSome};
+ghost use Rattle.toml.specs.Data.{Members, as_str};
+ghost use Rattle.toml.specs.View.{table_view, view};
+ghost use Rattle.strategy_core.specs.Texts.{IsDocument};
+ghost use Rattle.sim_core.specs.Candidates.{has_short_bounds, is_short_name};
+
 use crate::candidate::{Candidate, Cut};
 use std::alloc::{AllocError, Global};
+use strategy_core::member;
 use toml::value::{Array, Table, Value};
 
 /// The number that a value is.
@@ -57,10 +64,22 @@ fn cuts_of(alloc: Global, values: &[Value]) -> Result<Option<Vec<Cut>>, AllocErr
     Ok(Some(cuts))
 }
 
+/// Whether a value is the name of short bounds.
+fn names_short(value: &Value) -> bool
+    ensures { result ≡ is_short_name (as_str (view value.now)) }
+{
+    match value.as_str() {
+        Some("short") => true,
+        _ => false,
+    }
+}
+
 /// Whether the bounds of a table are short.
-fn is_short(table: &Table) -> bool {
-    match table.get("bounds") {
-        Some(bounds) => bounds.as_str() == Some("short"),
+fn is_short(table: &Table) -> bool
+    ensures { result ≡ has_short_bounds (table_view table.now) }
+{
+    match member(table, "bounds") {
+        Some(bounds) => names_short(bounds),
         None => false,
     }
 }
@@ -73,7 +92,10 @@ fn rows_of(table: &Table) -> Option<&[Value]> {
 }
 
 /// The numbers of a table; `None` where it has none, or a row after the first one does not cut by weights.
-pub(crate) fn candidate_of(alloc: Global, text: &str) -> Result<Option<Candidate>, AllocError> {
+pub(crate) fn candidate_of(alloc: Global, text: &str) -> Result<Option<Candidate>, AllocError>
+    ensures { IfOk result (λ found. IfSome found (λ c. (ms : Members) × IsDocument text.now ms
+        × (c.is_short ≡ has_short_bounds ms))) }
+{
     let table = match toml::table_from_slice(alloc, text.as_bytes()) {
         Ok(table) => table,
         Err(error) if error.is_memory() => return Err(AllocError),

@@ -3,10 +3,11 @@
 ghost use Rattle.std.specs.Prelude.{◌≡◌, ◌≤◌, ◌⊎◌, IfOk, IfSome};
 ghost use Rattle.std.specs.Arc.{arc_value};
 ghost use Rattle.range_tree.specs.Trees.{tree_items};
-ghost use Rattle.sim_core.specs.Plans.{AreOf, IsAcceptedText, IsPlanned};
+ghost use Rattle.sim_core.specs.Lines.{line_micros};
+ghost use Rattle.sim_core.specs.Plans.{AreOf, IsAcceptedText, IsNamed, IsNoSlower, IsPlanned, IsTimed};
 ghost use Rattle.sim_core.specs.Samples.{IsSample};
 
-use crate::costing::{cost_between, trees_of};
+use crate::costing::{Cost, cost_of_copies, trees_of};
 use crate::line::{Line, session_micros};
 use crate::sample::Sample;
 use crate::tables::SHIPPED;
@@ -57,6 +58,29 @@ pub(crate) fn accepted_of(alloc: Global, text: &str) -> Result<Option<Arc<Accept
     }
 }
 
+/// A strategy of this name and text, whose session has this cost.
+fn plan_with(
+    alloc: Global,
+    task: Task,
+    name: &str,
+    text: &str,
+    cost: Cost,
+) -> Result<Planned, AllocError>
+    requires { 1 ≤ task.line.rate }
+    ensures named { IfOk result (IsNamed name.now text.now) }
+    ensures bytes { IfOk result (λ p. p.bytes ≡ cost.bytes) }
+    ensures messages { IfOk result (λ p. p.messages ≡ cost.messages) }
+    ensures micros { IfOk result (λ p. p.micros ≡ line_micros task.line cost.turns.items) }
+{
+    Ok(Planned {
+        name: String::from_str(alloc, name)?,
+        text: String::from_str(alloc, text)?,
+        bytes: cost.bytes,
+        messages: cost.messages,
+        micros: session_micros(task.line, &cost.turns),
+    })
+}
+
 /// What a session under the strategy of this text costs between two sets; `None` where it is not accepted, or its cap
 /// is below the items of one set.
 pub(crate) fn planned_of(
@@ -69,7 +93,8 @@ pub(crate) fn planned_of(
 ) -> Result<Option<Planned>, AllocError>
     requires rate { 1 ≤ task.line.rate }
     requires sets { AreOf task.sample (tree_items theirs.now) (tree_items ours.now) }
-    ensures { IfOk result (λ found. IfSome found (IsPlanned task.sample)) }
+    ensures planned { IfOk result (λ found. IfSome found (IsTimed task.line task.sample)) }
+    ensures named { IfOk result (λ found. IfSome found (IsNamed name.now text.now)) }
 {
     let Some(accepted) = accepted_of(alloc, text)? else {
         return Ok(None);
@@ -78,19 +103,16 @@ pub(crate) fn planned_of(
     if theirs.len() > cap || ours.len() > cap {
         return Ok(None);
     }
-    let cost = cost_between(alloc, &accepted, theirs.copy(alloc)?, ours.copy(alloc)?)?;
-    Ok(Some(Planned {
-        name: String::from_str(alloc, name)?,
-        text: String::from_str(alloc, text)?,
-        bytes: cost.bytes,
-        messages: cost.messages,
-        micros: session_micros(task.line, &cost.turns),
-    }))
+    let cost = cost_of_copies(alloc, &accepted, theirs, ours)?;
+    let planned = plan_with(alloc, task, name, text, cost)?;
+    Ok(Some(planned))
 }
 
 /// The quicker of the two: the first if both are as quick.
 fn quicker(best: Option<Planned>, other: Option<Planned>) -> Option<Planned>
-    ensures { (result ≡ best) ⊎ (result ≡ other) }
+    ensures one { (result ≡ best) ⊎ (result ≡ other) }
+    ensures first { IsNoSlower result best }
+    ensures second { IsNoSlower result other }
 {
     match (best, other) {
         (Some(best), Some(other)) => Some(if other.micros < best.micros {
@@ -108,7 +130,8 @@ fn quicker(best: Option<Planned>, other: Option<Planned>) -> Option<Planned>
 pub fn quickest(alloc: Global, task: Task) -> Result<Option<Planned>, AllocError>
     requires sample { IsSample task.sample }
     requires rate { 1 ≤ task.line.rate }
-    ensures { IfOk result (λ found. IfSome found (IsPlanned task.sample)) }
+    ensures planned { IfOk result (λ found. IfSome found (IsPlanned task.sample)) }
+    ensures timed { IfOk result (λ found. IfSome found (IsTimed task.line task.sample)) }
 {
     let (theirs, ours) = trees_of(alloc, task.sample)?;
     let mut best = None;
@@ -129,7 +152,8 @@ pub fn planned_for(
 ) -> Result<Option<Planned>, AllocError>
     requires sample { IsSample task.sample }
     requires rate { 1 ≤ task.line.rate }
-    ensures { IfOk result (λ found. IfSome found (IsPlanned task.sample)) }
+    ensures planned { IfOk result (λ found. IfSome found (IsPlanned task.sample)) }
+    ensures timed { IfOk result (λ found. IfSome found (IsTimed task.line task.sample)) }
 {
     let (theirs, ours) = trees_of(alloc, task.sample)?;
     planned_of(alloc, task, name, text, &theirs, &ours)

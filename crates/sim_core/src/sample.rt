@@ -1,8 +1,9 @@
 //! Two sets that are made: nearly equal, with their differences all over the order.
 
-ghost use Rattle.std.specs.Prelude.{◌≡◌, ◌+◌, ◌-◌, ◌≤◌, length, IfOk};
-ghost use Rattle.definitions.specs.Sets.{IsSet};
-ghost use Rattle.sim_core.specs.Samples.{IsSample};
+ghost use Rattle.std.specs.Prelude.{◌≡◌, ◌+◌, ◌*◌, ◌-◌, ◌<◌, ◌≤◌, ◌++◌, length, take, drop, IfOk};
+ghost use Rattle.std.specs.Int.{w32, to_be_bytes};
+ghost use Rattle.definitions.specs.Sets.{IsSet, set_of};
+ghost use Rattle.sim_core.specs.Samples.{AreMade, IsSample, item_text, items_from, word_after};
 
 use item_core::Item;
 use std::alloc::{AllocError, Global};
@@ -23,21 +24,36 @@ pub struct Sample {
     pub length: u32,
 }
 
+/// The word after a word of the item of this number.
+fn word_after(number: u32, word: u32) -> u32
+    ensures { result ≡ word_after number word }
+{
+    word.wrapping_mul(69_069)
+        .wrapping_add(number.wrapping_mul(514_229))
+        .wrapping_add(1)
+}
+
+/// Puts a word at its place.
+fn put_word(bytes: &mut [u8; 4 * WORDS], place: usize, word: u32)
+    requires { place < 16 }
+    ensures { bytes.new ≡ take (4 * place) bytes.old ++ (to_be_bytes w32 word ++ drop (4 * place + 4) bytes.old) }
+{
+    bytes[4 * place..4 * place + 4].copy_from_slice(&word.to_be_bytes());
+}
+
 /// The item of a number: a first word by which numbers that follow one another are scattered, and words that look like
 /// any. `examples/make-items` makes the same.
 fn item_of(number: u32, size: usize) -> Item
     requires { (4 ≤ size) × (size ≤ 64) }
+    ensures { result ≡ item_text size number }
 {
     let mut bytes = [0u8; 4 * WORDS];
     let mut word = number.wrapping_mul(2_654_435_769);
     let mut next = number.wrapping_mul(2_246_822_519).wrapping_add(12_345);
     for place in 0..WORDS {
-        bytes[4 * place..4 * place + 4].copy_from_slice(&word.to_be_bytes());
+        put_word(&mut bytes, place, word);
         word = next;
-        next = next
-            .wrapping_mul(69_069)
-            .wrapping_add(number.wrapping_mul(514_229))
-            .wrapping_add(1);
+        next = word_after(number, next);
     }
     Item::of(&bytes[..size])
 }
@@ -46,7 +62,7 @@ fn item_of(number: u32, size: usize) -> Item
 fn items_between(alloc: Global, first: u32, end: u32, size: usize) -> Result<Vec<Item>, AllocError>
     requires size { (4 ≤ size) × (size ≤ 64) }
     requires order { first ≤ end }
-    ensures { IfOk result (λ v. length v.items ≡ end - first) }
+    ensures { IfOk result (λ v. v.items ≡ items_from size first (end - first)) }
 {
     let mut items = Vec::new(alloc);
     for number in first..end {
@@ -56,14 +72,11 @@ fn items_between(alloc: Global, first: u32, end: u32, size: usize) -> Result<Vec
 }
 
 /// The same as a set.
-#[tactic(auto, using(definitions::proofs::Counts::set_few))]
 fn set_between(alloc: Global, first: u32, end: u32, size: usize) -> Result<Vec<Item>, AllocError>
     requires size { (4 ≤ size) × (size ≤ 64) }
     requires order { first ≤ end }
-    ensures rises { IfOk result (λ v. IsSet v.items) }
-    ensures few { IfOk result (λ v. length v.items ≤ end - first) }
+    ensures { IfOk result (λ v. v.items ≡ set_of (items_from size first (end - first))) }
 {
-    set_laws::set_of_a_list();
     let items = items_between(alloc, first, end, size)?;
     Ok(distinct(items))
 }
@@ -72,10 +85,12 @@ fn set_between(alloc: Global, first: u32, end: u32, size: usize) -> Result<Vec<I
 /// as the left file and the right one.
 pub fn sets_of(alloc: Global, sample: Sample) -> Result<(Vec<Item>, Vec<Item>), AllocError>
     requires { IsSample sample }
+    ensures made { IfOk result (λ sets. AreMade sample sets.0.items sets.1.items) }
     ensures rise { IfOk result (λ sets. IsSet sets.0.items × IsSet sets.1.items) }
     ensures few { IfOk result (λ sets. (length sets.0.items ≤ sample.items)
         × (length sets.1.items ≤ sample.items)) }
 {
+    set_laws::set_of_a_list();
     let size = sample.length as usize;
     let more = sample.differences / 2;
     let only_theirs = sample.differences - more;

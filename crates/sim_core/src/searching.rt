@@ -1,8 +1,8 @@
 //! A search for a table that is quicker than those that are shipped, for two sets and a line.
 
-ghost use Rattle.std.specs.Prelude.{◌≤◌, IfOk};
+ghost use Rattle.std.specs.Prelude.{◌≡◌, ◌≤◌, true, None, IfOk, IfSome};
 ghost use Rattle.range_tree.specs.Trees.{tree_items};
-ghost use Rattle.sim_core.specs.Plans.{AreOf, IsPlanned};
+ghost use Rattle.sim_core.specs.Plans.{AreOf, IsPlanned, IsRankOf, IsTimed, is_late};
 ghost use Rattle.sim_core.specs.Samples.{IsSample};
 
 use crate::candidate::Candidate;
@@ -13,7 +13,8 @@ use rand_core::SeedableRng;
 use rand_xoshiro::SplitMix64;
 use range_tree::Tree;
 use std::alloc::{AllocError, Global};
-use std::time::{Clock, Instant};
+use std::io;
+use std::time::{Clock, Duration, Instant};
 
 /// What a table that was found is called.
 const NAME: &str = "searched";
@@ -34,23 +35,34 @@ struct Found {
     candidate: Candidate,
 }
 
-/// Whether so many seconds are over since the start, or the clock does not tell.
-fn is_over<C: Clock>(clock: &C, start: Option<Instant>, seconds: u32) -> bool {
-    let Some(start) = start else {
-        return true;
-    };
-    match start.elapsed(clock) {
+/// Whether so many seconds have passed, or the clock did not tell.
+fn is_late(elapsed: &io::Result<Duration>, seconds: u32) -> bool
+    ensures { result ≡ is_late elapsed.now seconds }
+{
+    match elapsed {
         Ok(elapsed) => elapsed.as_secs() >= u64::from(seconds),
         Err(_) => true,
     }
 }
 
-/// The least rounds with which the strategy of this text is accepted.
-fn least_rounds(alloc: Global, text: &str) -> Result<Option<u32>, AllocError> {
+/// Whether so many seconds are over since the start, or the clock does not tell.
+fn is_over<C: Clock>(clock: &C, start: Option<Instant>, seconds: u32) -> bool
+    ensures { start ≡ None → result ≡ true }
+{
+    match start {
+        Some(start) => is_late(&start.elapsed(clock), seconds),
+        None => true,
+    }
+}
+
+/// The least rounds with which the strategy of this text is accepted: the rank of its cap.
+fn least_rounds(alloc: Global, text: &str) -> Result<Option<u32>, AllocError>
+    ensures { IfOk result (λ rounds. IfSome rounds (λ n. IsRankOf text.now n)) }
+{
     match accepted_of(alloc, text)? {
         Some(accepted) => {
             let bound = accepted.bound_as_responder(accepted.cap());
-            Ok(Some(bound.saturating_sub(1)))
+            Ok(Some(bound - 1))
         }
         None => Ok(None),
     }
@@ -68,6 +80,8 @@ fn tightened(
     requires sets { AreOf task.sample (tree_items theirs.now) (tree_items ours.now) }
     requires planned { IsPlanned task.sample found.planned }
     ensures planned { IfOk result (λ f. IsPlanned task.sample f.planned) }
+    ensures timed { IsTimed task.line task.sample found.planned →
+        IfOk result (λ f. IsTimed task.line task.sample f.planned) }
     ensures never_slower { IfOk result (λ f. f.planned.micros ≤ found.planned.micros) }
 {
     let Some(rounds) = least_rounds(alloc, found.planned.text.as_str())? else {
@@ -100,6 +114,8 @@ fn stepped(
     requires sets { AreOf task.sample (tree_items theirs.now) (tree_items ours.now) }
     requires planned { IsPlanned task.sample found.planned }
     ensures planned { IfOk result (λ f. IsPlanned task.sample f.planned) }
+    ensures timed { IsTimed task.line task.sample found.planned →
+        IfOk result (λ f. IsTimed task.line task.sample f.planned) }
     ensures never_slower { IfOk result (λ f. f.planned.micros ≤ found.planned.micros) }
 {
     let candidate = found.candidate.changed(alloc, random)?;
@@ -128,6 +144,7 @@ pub fn searched<C: Clock>(
     requires rate { 1 ≤ task.line.rate }
     requires start { IsPlanned task.sample start }
     ensures planned { IfOk result (IsPlanned task.sample) }
+    ensures timed { IsTimed task.line task.sample start → IfOk result (IsTimed task.line task.sample) }
     ensures never_slower { IfOk result (λ p. p.micros ≤ start.micros) }
 {
     let since = Instant::now(clock).ok();

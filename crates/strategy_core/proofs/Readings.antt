@@ -97,7 +97,8 @@ weights_go_on xs vs i v ws w same here is e h =
     weights_after ws w (weights_in (items_view (drop (i + 1) xs))) ∙ weight_says xs vs i v ws (Ok w) same here is e h
 
 pub weights_fail : (xs vs : List Value) (i : ℕ) (v : Value) (ws : List ℕ) (f : StrategyFault) → vs ≡ xs →
-    i < length vs → v ≡ slice_index_or vs i v → number_in fields.Split 1 1024 (view v) ≡ Err (whole f) → WeightsTo xs i ws →
+    i < length vs → v ≡ slice_index_or vs i v → number_in fields.Split 1 1024 (view v) ≡ Err (whole f) →
+    WeightsTo xs i ws →
     weights_in (items_view xs) ≡ Err (whole f)
 weights_fail xs vs i v ws f same here is e h = sym (weight_says xs vs i v ws (Err (whole f)) same here is e h)
 

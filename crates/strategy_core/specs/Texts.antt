@@ -4,7 +4,8 @@
 --     in_row n said              what is said of the row of this number
 --     table_in members           the strategy of a table, or the fault, and the row in which it is
 --     IsTextOf text said         the text is TOML, and its table says this
-use Rattle.std.specs.Prelude.{◌≡◌, ℕ, suc, ◌+◌, ◌-◌, ℤ, pos, negsuc, codes, Bool, true, false, ◌&&◌, nat_lt, nat_le, nat_eq}
+use Rattle.std.specs.Prelude.{◌≡◌, ℕ, suc, ◌+◌, ◌-◌, ℤ, pos, negsuc, codes, Bool, true, false, ◌&&◌, nat_lt, nat_le}
+use Rattle.std.specs.Prelude.{nat_eq}
 use Rattle.std.specs.Prelude.{List, [], ◌∷◌, length, map, slice_index, Option, Some, None, Result, Ok, Err, IsUtf8}
 use Rattle.std.specs.Prelude.{bytes_eq, if◌then◌else◌, is_some}
 use Rattle.toml.specs.Parse.{parse_document}

@@ -4,7 +4,7 @@ ghost use Rattle.std.specs.Io.{ReadsAtMost, WritesAtMost};
 
 use std::io;
 use std::io::{Read, Write};
-use std::net::{Shutdown, TcpStream};
+use std::net::{Shutdown, SocketAddr, TcpStream};
 use std::os::fd::{AsRawFd, RawFd};
 use std::os::unix::net::UnixStream;
 use std::time::Duration;
@@ -48,6 +48,14 @@ impl Stream {
         match self {
             Stream::Tcp(stream) => stream.set_write_timeout(most),
             Stream::Unix(stream) => stream.set_write_timeout(most),
+        }
+    }
+
+    /// The address of TCP of the other side, if it is known.
+    pub fn address(&self) -> Option<SocketAddr> {
+        match self {
+            Stream::Tcp(stream) => stream.peer_addr().ok(),
+            Stream::Unix(_) => None,
         }
     }
 

@@ -141,6 +141,18 @@ fn reach<R: Net>(rt: &R, path: &str, patience: u32) -> io::Result<Stream> {
     bounded(Stream::Unix(UnixStream::connect(rt, path)?), patience)
 }
 
+/// Connects to a Unix socket as `connect_unix` does, but looks at no file: what stands at the path that is no socket is
+/// nobody who listens.
+pub fn call_unix<R: Net>(rt: &R, path: &str, patience: u32) -> Result<Stream, ConnectFault> {
+    if let Some(flaw) = path_flaw(path) {
+        return Err(ConnectFault::Unreached(flaw));
+    }
+    match reach(rt, path, patience) {
+        Ok(stream) => Ok(stream),
+        Err(error) => Err(ConnectFault::of(unix_unmet(&error))),
+    }
+}
+
 /// Connects to a Unix socket. A read or a write that takes longer than this many seconds fails.
 ///
 /// Fails with 61 if the path is empty or has more than 107 bytes, something else stands there, or nobody listens there,
@@ -153,8 +165,5 @@ pub fn connect_unix<R: Files + Net>(
     if let Some(flaw) = path_flaw(path).or_else(|| standing_at(rt, path)) {
         return Err(ConnectFault::Unreached(flaw));
     }
-    match reach(rt, path, patience) {
-        Ok(stream) => Ok(stream),
-        Err(error) => Err(ConnectFault::of(unix_unmet(&error))),
-    }
+    call_unix(rt, path, patience)
 }

@@ -1,9 +1,9 @@
 pub use Rattle.circular_buffer.specs.Buffer
-pub use Rattle.httparse.specs.Grammar
 pub mod Counting
+pub mod Partners
 pub mod Watching
 pub mod Pieces
 pub mod MetricTexts
 pub mod PageTexts
 pub mod LogTexts
-pub mod Requests
+pub mod StatusTexts

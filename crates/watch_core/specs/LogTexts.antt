@@ -2,16 +2,22 @@
 --     log_line time v      the line of a visit that ended then
 --     lost_line time n     that n visits have no line
 --     metrics_line a       that metrics are answered at this address
-use Rattle.std.specs.Prelude.{ℕ, List, ◌++◌, codes}
+--     control_line a       that programs of this machine are answered at this address
+use Rattle.std.specs.Prelude.{ℕ, List, ◌++◌, codes, Bool, true, false}
 use Rattle.std.specs.Fmt.{decimal}
 use Rattle.watch_core.specs.Pieces.{seconds_text, address_text, known_text, reason_text}
 use Rattle.watch_core.specs.declared.visit.Traffic.{Traffic}
 use Rattle.watch_core.specs.declared.visit.Visit.{Visit}
 
--- who came, and when the visit ended
+-- of an address that was called, or that came
+abbrev pub who_word : Bool → List ℕ
+who_word true = codes "to"
+who_word false = codes "peer"
+
+-- who came or was called, and when the visit ended
 abbrev pub who_text : ℕ → Visit → List ℕ
-who_text time v = codes "time=" ++ (seconds_text time ++ (codes " peer=" ++ (address_text v.address
-    ++ (codes " session=" ++ (known_text v.serial ++ codes " ")))))
+who_text time v = codes "time=" ++ (seconds_text time ++ (codes " " ++ (who_word v.is_called ++ (codes "="
+    ++ (address_text v.address ++ (codes " session=" ++ (known_text v.serial ++ codes " ")))))))
 
 -- in which profile, and how it ended
 abbrev pub ending_text : Visit → List ℕ
@@ -46,3 +52,6 @@ loaded_line time items millis = codes "time=" ++ (seconds_text time ++ (codes " 
 
 abbrev pub metrics_line : List ℕ → List ℕ
 metrics_line address = codes "metrics " ++ (address ++ codes "\n")
+
+abbrev pub control_line : List ℕ → List ℕ
+control_line address = codes "control " ++ (address ++ codes "\n")

@@ -6,14 +6,24 @@
 --     code_line name outcome code n    how many were refused with this number; nothing for none
 --     code_lines name outcome code ns  the same for numbers from code on
 --     bucket_line b                    how many sessions took no longer than the bound of a bucket
+--     figure_line f p                  a line for a partner; nothing where it has no value
+--     partners_text ps                 the metrics of partners; nothing where there are none
 --     metrics_text s c                 all metrics
-use Rattle.std.specs.Prelude.{ℕ, ◌+◌, ◌==◌, if◌then◌else◌, List, [], ◌∷◌, ◌++◌, codes, flat_map}
+use Rattle.std.specs.Prelude.{ℕ, ◌+◌, ◌==◌, ◌||◌, if◌then◌else◌, List, [], ◌∷◌, ◌++◌, codes, flat_map, length}
+use Rattle.std.specs.Prelude.{Option, Some, None}
+use mir.Val.{bool_byte}
 use Rattle.std.specs.Fmt.{decimal}
-use Rattle.watch_core.specs.Pieces.{seconds_text}
+use Rattle.watch_core.specs.Partners.{is_up}
+use Rattle.watch_core.specs.Pieces.{cell_text, seconds_text}
 use Rattle.watch_core.specs.declared.counts.Counts.{Counts}
 use Rattle.watch_core.specs.declared.durations.Bucket.{Bucket}
 use Rattle.watch_core.specs.declared.durations.Durations.{Durations}
 use Rattle.watch_core.specs.declared.endings.EndingCounts.{EndingCounts}
+use Rattle.watch_core.specs.declared.partner_metrics.Figure.{Figure}
+use Rattle.watch_core.specs.declared.partner_metrics.Figure.TheVariants as figures
+use Rattle.watch_core.specs.declared.partnered.Partnered.{Partnered}
+use Rattle.watch_core.specs.declared.pieces.Cell.{Cell}
+use Rattle.watch_core.specs.declared.pieces.Cell.TheVariants as cells
 use Rattle.watch_core.specs.declared.standing.Standing.{Standing}
 use Rattle.watch_core.specs.declared.visit.Traffic.{Traffic}
 
@@ -140,5 +150,69 @@ abbrev pub counts_text : Counts → List ℕ
 counts_text c = all_endings_text c
     ++ (cost_text c.traffic ++ (found_text c.traffic ++ durations_text c.durations c.sessions.all))
 
+-- ---- partners
+
+-- what would end the value of a label, and a line feed, after a backslash: \" \\ \n
+abbrev pub label_byte : ℕ → List ℕ
+label_byte byte = if (byte == 34) || (byte == 92) then 92 ∷ byte ∷ []
+    else if byte == 10 then codes "\\n" else byte ∷ []
+
+abbrev pub label_text : List ℕ → List ℕ
+label_text text = flat_map label_byte text
+
+abbrev pub figure_name : Figure → List ℕ
+figure_name figures.Up = codes "rangesync_partner_up"
+figure_name figures.Ended = codes "rangesync_partner_turns_ended_total"
+figure_name figures.Failed = codes "rangesync_partner_turns_failed_total"
+figure_name figures.Silent = codes "rangesync_partner_silent_seconds"
+
+abbrev pub figure_kind : Figure → List ℕ
+figure_kind figures.Up = codes "gauge"
+figure_kind figures.Ended = codes "counter"
+figure_kind figures.Failed = codes "counter"
+figure_kind figures.Silent = codes "gauge"
+
+abbrev pub figure_help : Figure → List ℕ
+figure_help figures.Up = codes "Whether the last turn with a partner ended."
+figure_help figures.Ended = codes "Turns with a partner that ended."
+figure_help figures.Failed = codes "Turns with a partner that was not reached, or refused, or was cut off."
+figure_help figures.Silent = codes "Seconds since the last turn with a partner that ended."
+
+abbrev pub seconds_of : Option ℕ → Option Cell
+seconds_of None = None
+seconds_of (Some millis) = Some (cells.Seconds millis)
+
+abbrev pub figure_of : Figure → Partnered → Option Cell
+figure_of figures.Up p = Some (cells.Number (bool_byte (is_up p)))
+figure_of figures.Ended p = Some (cells.Number p.ended)
+figure_of figures.Failed p = Some (cells.Number p.failed)
+figure_of figures.Silent p = seconds_of p.silent
+
+abbrev pub figure_value : Cell → List ℕ
+figure_value cell = codes "\"} " ++ (cell_text cell ++ codes "\n")
+
+abbrev pub label_of : List ℕ → List ℕ → List ℕ
+label_of name address = name ++ (codes "{partner=\"" ++ label_text address)
+
+abbrev pub line_of : Figure → List ℕ → Option Cell → List ℕ
+line_of f address None = []
+line_of f address (Some cell) = label_of (figure_name f) address ++ figure_value cell
+
+abbrev pub figure_line : Figure → Partnered → List ℕ
+figure_line f p = line_of f p.address.now (figure_of f p)
+
+abbrev pub figure_head : Figure → List ℕ
+figure_head f = head_text (figure_name f) (figure_kind f) (figure_help f)
+
+abbrev pub figure_text : Figure → List Partnered → List ℕ
+figure_text f ps = figure_head f ++ flat_map (figure_line f) ps
+
+unfoldable pub partners_text : List Partnered → List ℕ
+partners_text ps = if length ps == 0 then [] else figure_text figures.Up ps ++ (figure_text figures.Ended ps
+    ++ (figure_text figures.Failed ps ++ figure_text figures.Silent ps))
+
+abbrev pub own_text : Standing → Counts → List ℕ
+own_text s c = standing_text s ++ counts_text c
+
 abbrev pub metrics_text : Standing → Counts → List ℕ
-metrics_text s c = standing_text s ++ counts_text c
+metrics_text s c = own_text s c ++ partners_text s.partners.now

@@ -2,6 +2,7 @@
 --     escaped text               the text as a page shows it as it is
 --     is_plain byte              whether a byte is none of < > " '
 --     filled template values     the template, in which each `$` is replaced by the next of these values, escaped
+--     partner_row p              the row of a partner
 --     visit_row now v            the row of a visit
 --     endings_table title c      how visits ended, with a bar for each way in which some did
 --     page_text s c visits       the page
@@ -11,11 +12,13 @@ use Rattle.std.specs.Fmt.{decimal}
 use Rattle.std.specs.List.{position_or_len, before_first, after_first}
 use Rattle.session_table.specs.Names.{session_refusal_name}
 use Rattle.watch_core.specs.Counting.{most}
-use Rattle.watch_core.specs.Pieces.{seconds_text, address_text, known_text, named_ending_text}
+use Rattle.watch_core.specs.Partners.{seconds_ago, state_text}
+use Rattle.watch_core.specs.Pieces.{seconds_text, address_text, fault_text, known_text, named_ending_text}
 use Rattle.watch_core.specs.declared.counts.Counts.{Counts}
 use Rattle.watch_core.specs.declared.endings.EndingCounts.{EndingCounts}
 use Rattle.watch_core.specs.declared.page.TheConstants.{FRONT, TITLE, SET, FILE, TILES, TABLE, BAR, TABLE_END, LAST}
-use Rattle.watch_core.specs.declared.page.TheConstants.{ROW, END}
+use Rattle.watch_core.specs.declared.page.TheConstants.{ROW, END, PARTNERS, PARTNER}
+use Rattle.watch_core.specs.declared.partnered.Partnered.{Partnered}
 use Rattle.watch_core.specs.declared.standing.Standing.{Standing}
 use Rattle.watch_core.specs.declared.visit.Visit.{Visit}
 
@@ -95,8 +98,22 @@ last_head = LAST.now
 unfoldable pub last_table : ℕ → List Visit → List ℕ
 last_table now visits = last_head ++ (flat_map (visit_row now) visits ++ END.now)
 
+unfoldable pub partner_row : Partnered → List ℕ
+partner_row p = filled PARTNER.now (p.address.now ∷ state_text p ∷ decimal p.ended ∷ decimal p.failed ∷ decimal p.behind
+    ∷ known_text (seconds_ago p) ∷ fault_text p.fault ∷ [])
+
+unfoldable pub partners_head : List ℕ
+partners_head = PARTNERS.now
+
+unfoldable pub partners_table : List Partnered → List ℕ
+partners_table ps = partners_head ++ (flat_map partner_row ps ++ TABLE_END.now)
+
+-- nothing where there are none
+abbrev pub partners_text : List Partnered → List ℕ
+partners_text ps = if length ps == 0 then [] else partners_table ps
+
 abbrev pub server_text : Standing → List ℕ
-server_text s = title s ++ tiles s
+server_text s = title s ++ (tiles s ++ partners_text s.partners.now)
 
 abbrev pub counts_text : Counts → List ℕ
 counts_text c = endings_table (codes "Sessions") c.sessions

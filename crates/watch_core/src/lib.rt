@@ -12,23 +12,28 @@ mod metrics;
 mod never_markup;
 mod once_each;
 mod page;
+mod partner_metrics;
+mod partnered;
 mod pieces;
-mod replying;
-mod requests;
 mod standing;
+mod status;
+mod turn;
 mod visit;
 mod watch;
 
 pub use counts::Counts;
 pub use durations::{Bucket, Durations};
 pub use endings::{Ending, EndingCounts};
-pub use logged::{left_out_line, loaded_line, loading_line, log_line, lost_line, metrics_line};
+pub use logged::{
+    control_line, left_out_line, loaded_line, loading_line, log_line, lost_line, metrics_line,
+};
 pub use metrics::metrics_text;
 pub use never_markup::texts_are_never_markup;
 pub use once_each::visits_count_once;
 pub use page::page_text;
-pub use replying::{refusal_text, response};
-pub use requests::{Asked, MOST_HEAD, request_in};
+pub use partnered::{Partnered, behind_of};
 pub use standing::Standing;
+pub use status::{Status, partner_lines, status_json, status_lines};
+pub use turn::Turn;
 pub use visit::{Traffic, Visit};
 pub use watch::{MOST_SESSIONS, MOST_VISITS, Watch};

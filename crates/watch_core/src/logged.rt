@@ -2,19 +2,27 @@
 
 ghost use Rattle.std.specs.Prelude.{◌≡◌, IfOk, string_bytes};
 ghost use Rattle.watch_core.specs.LogTexts.{left_out_line, loaded_line, loading_line, log_line, lost_line};
-ghost use Rattle.watch_core.specs.LogTexts.{metrics_line};
+ghost use Rattle.watch_core.specs.LogTexts.{control_line, metrics_line, who_word};
 
 use crate::pieces::{Address, Known, Reason, Seconds};
 use crate::visit::Visit;
 use std::alloc::{AllocError, Global};
+
+/// The name of the key of an address: `to` of one that was called, `peer` of one that came.
+fn who_word(is_called: bool) -> &'static str
+    ensures { result.now ≡ who_word is_called }
+{
+    if is_called { "to" } else { "peer" }
+}
 
 /// The line of a visit that ended then, in thousandths of a second since 1970.
 pub fn log_line(alloc: Global, time: u64, visit: &Visit) -> Result<String, AllocError>
     ensures { IfOk result (λ text. string_bytes text ≡ log_line time visit.now) }
 {
     let mut text = format!(in alloc;
-        "time={} peer={} session={} ",
+        "time={} {}={} session={} ",
         Seconds(time),
+        who_word(visit.is_called),
         Address(visit.address),
         Known(visit.serial)
     )?;
@@ -69,4 +77,11 @@ pub fn metrics_line(alloc: Global, address: &str) -> Result<String, AllocError>
     ensures { IfOk result (λ text. string_bytes text ≡ metrics_line address.now) }
 {
     format!(in alloc; "metrics {address}\n")
+}
+
+/// The line that says that programs of this machine are answered at this address.
+pub fn control_line(alloc: Global, address: &str) -> Result<String, AllocError>
+    ensures { IfOk result (λ text. string_bytes text ≡ control_line address.now) }
+{
+    format!(in alloc; "control {address}\n")
 }

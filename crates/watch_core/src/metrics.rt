@@ -7,6 +7,7 @@ ghost use Rattle.watch_core.specs.MetricTexts.{bucket_line, code_line, code_line
 use crate::counts::Counts;
 use crate::durations::{Bucket, Durations};
 use crate::endings::EndingCounts;
+use crate::partner_metrics::push_partners;
 use crate::pieces::Seconds;
 use crate::standing::Standing;
 use crate::visit::Traffic;
@@ -17,7 +18,12 @@ const SECONDS: &str = "rangesync_session_seconds";
 
 /// Appends what stands above the values of a metric.
 #[tactic(auto, unfolding(crate::specs::MetricTexts::head_text))]
-fn push_head(text: &mut String, name: &str, kind: &str, help: &str) -> Result<(), AllocError>
+pub(crate) fn push_head(
+    text: &mut String,
+    name: &str,
+    kind: &str,
+    help: &str,
+) -> Result<(), AllocError>
     ensures { OnOk result (string_bytes text.new ≡ string_bytes text.old ++ head_text name.now kind.now help.now) }
 {
     write!(text, "# HELP {name} {help}\n# TYPE {name} {kind}\n")
@@ -392,16 +398,29 @@ fn push_counts(text: &mut String, counts: &Counts) -> Result<(), AllocError>
     push_durations(text, &counts.durations, counts.sessions.all)
 }
 
-/// All metrics: how the server stands, and what was counted of visits.
-pub fn metrics_text(
+/// The metrics of the server itself.
+fn own_metrics(
     alloc: Global,
     standing: &Standing<'_>,
     counts: &Counts,
 ) -> Result<String, AllocError>
-    ensures { IfOk result (λ text. string_bytes text ≡ texts.metrics_text standing.now counts.now) }
+    ensures { IfOk result (λ text. string_bytes text ≡ texts.own_text standing.now counts.now) }
 {
     let mut text = String::new(alloc);
     push_standing(&mut text, standing)?;
     push_counts(&mut text, counts)?;
+    Ok(text)
+}
+
+/// All metrics: how the server stands, what was counted of visits, and how the partners stand.
+pub fn metrics_text(
+    alloc: Global,
+    standing: &Standing<'_>,
+    counts: &Counts,
+) -> Result<Vec<u8>, AllocError>
+    ensures { IfOk result (λ text. text.items ≡ texts.metrics_text standing.now counts.now) }
+{
+    let mut text = own_metrics(alloc, standing, counts)?.into_bytes();
+    push_partners(alloc, &mut text, standing.partners)?;
     Ok(text)
 }

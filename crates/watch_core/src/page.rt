@@ -3,11 +3,12 @@
 
 ghost use Rattle.std.specs.Prelude.{◌≡◌, ◌++◌, ◌-◌, ◌/◌, IfOk, OnOk, flat_map};
 ghost use Rattle.watch_core.specs.PageTexts as texts;
-ghost use Rattle.watch_core.specs.PageTexts.{bar_row, code_bar, code_bars, named, percent, visit_row};
+ghost use Rattle.watch_core.specs.PageTexts.{bar_row, code_bar, code_bars, named, partner_row, percent, visit_row};
 
 use crate::counts::Counts;
 use crate::endings::EndingCounts;
 use crate::filling::{push, push_filled};
+use crate::partnered::Partnered;
 use crate::pieces::Cell;
 use crate::standing::Standing;
 use crate::visit::Visit;
@@ -49,6 +50,16 @@ const TILES: &str =
     <div><dt>failed writes</dt><dd>$</dd></div>\n<div><dt>live sessions</dt><dd>$</dd></div>\n\
     <div><dt>peers</dt><dd>$</dd></div>\n<div><dt>memory for peers</dt><dd>$</dd></div>\n\
     <div><dt>seconds up</dt><dd>$</dd></div>\n</dl>\n";
+
+/// The names of the columns of partners.
+const PARTNERS: &str =
+    "<h2>Partners</h2>\n<table class=\"v\">\n<tr><th>partner<th>state<th>turns ended<th>turns failed\
+    <th>failed in a row<th>seconds ago<th>last failure</tr>\n";
+
+/// A partner.
+const PARTNER: &str =
+    "<tr><td>$</td><td>$</td><td class=\"n\">$</td><td class=\"n\">$</td><td class=\"n\">$</td>\
+    <td class=\"n\">$</td><td>$</td></tr>\n";
 
 /// What stands above the ways in which visits ended.
 const TABLE: &str = "<h2>$</h2>\n<table>\n";
@@ -286,12 +297,84 @@ fn push_last(
     push(page, END)
 }
 
-/// Appends what the server is, and how it stands.
+/// Appends the row of a partner.
+#[tactic(auto, unfolding(crate::specs::PageTexts::partner_row))]
+fn push_partner(
+    alloc: Global,
+    page: &mut Vec<u8>,
+    partner: &Partnered<'_>,
+) -> Result<(), AllocError>
+    ensures { OnOk result (page.new.items ≡ page.old.items ++ partner_row partner.now) }
+{
+    let cells = [
+        Cell::Text(partner.address),
+        Cell::Text(partner.state()),
+        Cell::Number(partner.ended),
+        Cell::Number(partner.failed),
+        Cell::Number(partner.behind),
+        Cell::Known(partner.seconds_ago()),
+        Cell::Fault(partner.fault),
+    ];
+    push_filled(alloc, page, PARTNER, &cells)
+}
+
+/// Appends the rows of these partners.
+fn push_partner_rows(
+    alloc: Global,
+    page: &mut Vec<u8>,
+    partners: &[Partnered<'_>],
+) -> Result<(), AllocError>
+    ensures { OnOk result (page.new.items ≡ page.old.items ++ flat_map partner_row partners.now) }
+{
+    for partner in partners {
+        push_partner(alloc, page, partner)?;
+    }
+    Ok(())
+}
+
+/// Appends the names of the columns of partners.
+#[tactic(auto, unfolding(crate::specs::PageTexts::partners_head))]
+fn push_partners_head(page: &mut Vec<u8>) -> Result<(), AllocError>
+    ensures { OnOk result (page.new.items ≡ page.old.items ++ texts.partners_head) }
+{
+    push(page, PARTNERS)
+}
+
+/// Appends the table of these partners.
+#[tactic(auto, unfolding(crate::specs::PageTexts::partners_table))]
+fn push_partners_table(
+    alloc: Global,
+    page: &mut Vec<u8>,
+    partners: &[Partnered<'_>],
+) -> Result<(), AllocError>
+    ensures { OnOk result (page.new.items ≡ page.old.items ++ texts.partners_table partners.now) }
+{
+    push_partners_head(page)?;
+    push_partner_rows(alloc, page, partners)?;
+    push(page, TABLE_END)
+}
+
+/// Appends the table of these partners, if there are any.
+fn push_partners(
+    alloc: Global,
+    page: &mut Vec<u8>,
+    partners: &[Partnered<'_>],
+) -> Result<(), AllocError>
+    ensures { OnOk result (page.new.items ≡ page.old.items ++ texts.partners_text partners.now) }
+{
+    if partners.is_empty() {
+        return Ok(());
+    }
+    push_partners_table(alloc, page, partners)
+}
+
+/// Appends what the server is, and how it and its partners stand.
 fn push_server(alloc: Global, page: &mut Vec<u8>, standing: &Standing<'_>) -> Result<(), AllocError>
     ensures { OnOk result (page.new.items ≡ page.old.items ++ texts.server_text standing.now) }
 {
     push_title(alloc, page, standing)?;
-    push_tiles(alloc, page, standing)
+    push_tiles(alloc, page, standing)?;
+    push_partners(alloc, page, standing.partners)
 }
 
 /// Appends how visits ended.
@@ -311,8 +394,8 @@ fn begun(alloc: Global) -> Result<Vec<u8>, AllocError>
     Vec::from_slice(alloc, FRONT.as_bytes())
 }
 
-/// The page for a person: what the server is, how it stands, how visits ended, and these visits, in this order. Each
-/// value in it is escaped.
+/// The page for a person: what the server is, how it and its partners stand, how visits ended, and these visits, in
+/// this order. Each value in it is escaped.
 pub fn page_text(
     alloc: Global,
     standing: &Standing<'_>,

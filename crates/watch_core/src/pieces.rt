@@ -2,9 +2,10 @@
 
 ghost use Rattle.std.specs.Prelude.{Some};
 ghost use Rattle.watch_core.specs.Pieces.{address_text, cell_text, known_text, named_ending_text, reason_text};
-ghost use Rattle.watch_core.specs.Pieces.{seconds_text};
+ghost use Rattle.watch_core.specs.Pieces.{fault_text, seconds_text};
 
 use crate::endings::Ending;
+use crate::turn::Turn;
 use session_table::{Direction, session_refusal_name};
 use std::fmt;
 use std::net::SocketAddr;
@@ -109,6 +110,21 @@ impl fmt::Display for Named {
     }
 }
 
+/// How the last turn with a partner was that did not end, or `-` where there was none.
+#[derive(Clone, Copy)]
+pub(crate) struct Fault(pub(crate) Option<Turn>);
+
+impl fmt::Display for Fault {
+    ghost output = { λ fault. Some (fault_text fault.0) };
+
+    fn fmt<W: fmt::Write>(&self, f: &mut fmt::Formatter<W>) -> fmt::Result {
+        match self.0 {
+            Some(turn) => write!(f, "{turn}"),
+            None => write!(f, "-"),
+        }
+    }
+}
+
 /// A value that stands in a page.
 #[derive(Clone, Copy)]
 pub(crate) enum Cell<'a> {
@@ -122,6 +138,8 @@ pub(crate) enum Cell<'a> {
     Address(Option<SocketAddr>),
     /// How a visit ended.
     Ending(Ending),
+    /// How the last turn was that did not end, or `-`.
+    Fault(Option<Turn>),
     /// Thousandths of a second, as seconds.
     Seconds(u64),
 }
@@ -136,6 +154,7 @@ impl fmt::Display for Cell<'_> {
             Cell::Known(number) => write!(f, "{}", Known(number)),
             Cell::Address(address) => write!(f, "{}", Address(address)),
             Cell::Ending(ending) => write!(f, "{}", Named(ending)),
+            Cell::Fault(fault) => write!(f, "{}", Fault(fault)),
             Cell::Seconds(millis) => write!(f, "{}", Seconds(millis)),
         }
     }

@@ -1,5 +1,7 @@
 //! How a server stands.
 
+use crate::partnered::Partnered;
+
 /// How a server stands at the moment at which it is asked.
 #[derive(Clone, Copy, Debug, PartialEq, Eq)]
 pub struct Standing<'a> {
@@ -35,4 +37,6 @@ pub struct Standing<'a> {
     pub ran: u64,
     /// The time, in milliseconds of the clock by which visits end.
     pub moment: u64,
+    /// How its partners stand.
+    pub partners: &'a [Partnered<'a>],
 }

@@ -54,6 +54,8 @@ impl Traffic {
 pub struct Visit {
     /// The address of the peer, if it is known.
     pub address: Option<SocketAddr>,
+    /// Whether this side has called it: it is a partner.
+    pub is_called: bool,
     /// The wire profile that it spoke, 1 or 2, if its session was opened.
     pub profile: Option<u64>,
     /// The serial of its session, if that was counted.

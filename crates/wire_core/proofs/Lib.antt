@@ -6,5 +6,6 @@ pub mod Exact
 pub mod Same
 pub mod Feeding
 pub mod Held
+pub mod Outcomes
 pub mod Nexts
 pub mod Waiting

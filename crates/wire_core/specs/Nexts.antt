@@ -5,7 +5,7 @@
 --     taken_by result piece              what was taken of the piece
 --     IsReach standing kept piece count  so many bytes of the piece are all, or reach to that end
 --     IsFedAlone fed result             what was fed is the event, if there is one, and the feed then; or the fault
---     Refuses P old piece e             the fault of the kept bytes and the piece; or memory ran out where it was wanted
+--     Refuses P old piece e             the fault of the kept bytes and the piece; or no memory was left for them
 --     TakesNext P old piece result new   so many bytes of the piece are taken, and the event that they end, if they do
 use Rattle.std.specs.Prelude.{◌≡◌, ℕ, ◌+◌, ◌-◌, ◌<◌, ◌≤◌, min, false, List, [], ◌∷◌, ◌++◌, length, take, drop}
 use Rattle.std.specs.Prelude.{Option, Some, None, Result, Ok, Err, ⊤}

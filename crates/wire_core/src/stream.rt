@@ -75,7 +75,7 @@ fn take_one<F: Summary>(
 }
 
 /// Takes the hello off the front, if its four bytes have come: then no part of a message has.
-#[tactic(auto, using(crate::proofs::Nexts::after_cut))]
+#[tactic(auto, using(crate::proofs::Outcomes::after_cut))]
 fn take_hello<F: Summary>(bytes: &mut &[u8]) -> Result<Option<usize>, WireFault>
     ensures step { feed_start F.profile bytes.old.now
         ≡ starts_at result bytes.new.now (feed_frames F.profile (length bytes.old.now)) }

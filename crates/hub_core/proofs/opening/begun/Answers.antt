@@ -6,8 +6,8 @@ use Rattle.session_core.specs.Sessions.{Knows}
 use Rattle.hub_core.proofs.Opened.{pushed-all}
 use Rattle.hub_core.proofs.opening.begun.Goals as goal
 
-pub returns : goal.returns
-returns g c =
+pub returns-clause-knows : goal.returns-clause-knows
+returns-clause-knows g c =
     let S = g.F.Summary.summary in
     let W = g.F.Summary.profile in
     let P = peer_of (arc_value c.args.accepted) (g.S.RangeStore.content c.args.store) in
@@ -18,4 +18,5 @@ returns g c =
     c.in_ok-session.ensures.knows in
     let all : n ≡ length came = search rules in
     pushed-all S W P session c.push.new.self c.finish_if.new.session _ came (take c.args.greeting.now.said W.hello) n
-    (search rules) knows c.in_ok-session.ensures.listens c.in_ok-taken.ensures.pushes all c.in_ok-finish_if.ensures
+    (search rules) knows c.in_ok-session.ensures.listens c.in_ok-taken.ensures.pushes all
+    c.in_ok-finish_if.ensures.knows

@@ -37,7 +37,7 @@ returns-in-Err-open-clause-bytes g c =
     let r = seen c.args.connection.now.reader.failed c.args.connection.now.reader.ended in
     let w = seen c.stopped-in-Err-open.new.writer.failed c.stopped-in-Err-open.new.writer.ended in
     let o = c.new-sender.result in
-    let code = table_fault_number c.in-Err-open.fault in
+    let code = table_fault_number c.in-Err-open.refusal.fault in
     let broken = c.args.connection.now.writer.failed in
     speaks-unsaid g.F.Summary.summary g.F.Summary.profile s c.args.pin.version _ o unread held holds r w broken
     (stops.Refused code)

@@ -39,7 +39,7 @@ returns-in-Err-open-clause-bytes g c = λ unread held x.
     let r = seen c.args.connection.now.reader.failed c.args.connection.now.reader.ended in
     let w = seen c.stopped-in-Err-open.new.writer.failed c.stopped-in-Err-open.new.writer.ended in
     let o = c.args.sender in
-    let code = table_fault_number c.in-Err-open.fault in
+    let code = table_fault_number c.in-Err-open.refusal.fault in
     let broken = c.args.connection.now.writer.failed in
     speaks-stopped g.F.Summary.summary g.F.Summary.profile p c.args.pin.version _ o t holds r w broken
     (stops.Refused code) c.stopped-in-Err-open.result c.requires.none

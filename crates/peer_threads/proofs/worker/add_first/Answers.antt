@@ -7,7 +7,8 @@ pub loop-place-preserved : goal.loop-place-preserved
 loop-place-preserved g c =
     let next = c.add_own.new.seat.view in
     let so_far = puts-one (PutInAll c.args.own) c.args.items.now c.args.first c.loop-place.place c.item.result
-    c.args.seat.now.view c.loop-place.seat.view next c.loop-place.dropped c.in-Ok.count c.requires.within c.loop-place-test.true
+    c.args.seat.now.view c.loop-place.seat.view next c.loop-place.dropped c.in-Ok.count c.requires.within
+    c.loop-place-test.true
     c.item.ensures c.loop-place.invariant.so_far
     (λ left w n all. inl (next, c.in-Ok.count, n, c.in-Ok.ensures.put, all, refl)) in
     search (rules, so_far)

@@ -1,4 +1,6 @@
-use Rattle.std.proofs.Common.{◌≡◌, length, take, arith, refl, inl}
+use Rattle.std.proofs.Common.{rules, ◌≡◌, length, take, Err, arith, refl, inl}
+use Rattle.session_core.specs.declared.fault.LinkFault.TheVariants as faults
+use Rattle.session_core.proofs.Calls.{pushes-nothing}
 use Rattle.session_core.proofs.Moving.{pushes-none, pushes-open, pushes-whole}
 use Rattle.session_core.proofs.pumping.hear.Goals as goal
 
@@ -21,3 +23,17 @@ returns-in_default g c = record {
   waits = λ is. refl;
   over = λ is. inl is;
 }
+
+pub returns-in_err-taken-in-Moved-clause-some : goal.returns-in_err-taken-in-Moved-clause-some
+returns-in_err-taken-in-Moved-clause-some g c =
+    let is : c.from_residual.result ≡ Err faults.Memory = search rules in
+    rw is (rw c.in_err-taken-in-Moved.ensures.memory
+    (0, pushes-nothing g.F.Summary.summary g.F.Summary.profile c.args.session.now))
+
+pub returns-then-taken-piece-clause-some : goal.returns-then-taken-piece-clause-some
+returns-then-taken-piece-clause-some g c =
+    let took = c.in_ok-taken-in-Moved in (
+      took.taken,
+      pushes-open g.F.Summary.summary g.F.Summary.profile c.args.session.now c.push.new.self
+          (take took.taken c.args.piece.now) c.requires.goes took.ensures.pushes,
+    )

@@ -4,7 +4,7 @@ use Rattle.definitions.specs.Reading.{event_at}
 use Rattle.definitions.specs.Streams.{feed_frames}
 use Rattle.wire_core.specs.Events.{event_value}
 use Rattle.wire_core.specs.Standings.{IsRead}
-use Rattle.wire_core.proofs.Nexts.{refused_one, some_one}
+use Rattle.wire_core.proofs.Outcomes.{refused_one, some_one}
 use Rattle.wire_core.proofs.stream.take_one.Goals as goal
 
 pub returns-in_err-event-clause-read : goal.returns-in_err-event-clause-read

@@ -25,6 +25,7 @@ returns-in_err-pause g c = record {
         greets-said c.args.self.now _ unread _ _ c.rest_of.result.now n
             (search rules) (search rules) piece c.write-count.ensures.bytes,
       );
+  over = search rules;
 }
 
 pub returns : goal.returns
@@ -46,4 +47,5 @@ returns g c = record {
         refl,
         counted-take n c.rest_of.result.now c.write-count.ensures.bound (search rules),
       );
+  over = search rules;
 }

@@ -1,6 +1,6 @@
-use Rattle.std.proofs.Common.{rules, ap, arith}
+use Rattle.std.proofs.Common.{rules, ap, arith, OnOk}
 use Rattle.std.specs.Io.Take.{take_remaining}
-use Rattle.hub_core.specs.Peers.{GoesSo, LeavesOff}
+use Rattle.hub_core.specs.Peers.{EndsPhase, GoesSo, LeavesOff}
 use Rattle.hub_core.specs.Hubs.{HubState}
 use Rattle.hub_core.proofs.Held.{room-changed, held-enough, held-changed}
 use Rattle.hub_core.proofs.Changed.{of-both, of-one}
@@ -35,3 +35,9 @@ pub returns-clause-leaves : goal.returns-clause-leaves
 returns-clause-leaves g c =
     of-one (λ q. LeavesOff q.phase q.reader.last q.writer.last c.pump-did.result) c.self.inside.peers c.args.key
     c.in_ok-peer.peer.now c.pump-did.new.self (search rules) c.pump-did.ensures.leaves
+
+pub returns-clause-over : goal.returns-clause-over
+returns-clause-over g c =
+    of-both (λ p q. OnOk c.pump-did.result (EndsPhase p.phase q.phase q.reader.last)) c.args.self.now.peers
+    c.self.inside.peers c.args.key c.in_ok-peer.peer.now c.pump-did.new.self
+    (ap (λ (h : HubState g.row.I.Denot g.row.O.Denot). h.peers) c.self.view_is) (search rules) c.pump-did.ensures.over

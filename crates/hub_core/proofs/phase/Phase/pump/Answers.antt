@@ -3,7 +3,7 @@ use Rattle.definitions.specs.Fingerprints.{two_lanes, counted_lanes}
 use Rattle.definitions.specs.Wire.{two_lane_profile, counted_profile}
 use Rattle.hub_core.specs.declared.phase.Phase.TheVariants as phases
 use Rattle.hub_core.proofs.Peering.{session-goes}
-use Rattle.hub_core.proofs.Leaving.{plain-leaves, counted-leaves}
+use Rattle.hub_core.proofs.Leaving.{plain-leaves, counted-leaves, plain-ends, counted-ends}
 use Rattle.hub_core.proofs.phase.Phase.pump.Goals as goal
 
 pub returns-in-Plain-clause-moved : goal.returns-in-Plain-clause-moved
@@ -32,3 +32,16 @@ pub returns-in-Counted-clause-leaves : goal.returns-in-Counted-clause-leaves
 returns-in-Counted-clause-leaves g c =
     counted-leaves c.pump-in-Counted.result c.in-Counted.session c.pump-in-Counted.new.session _ _
     c.pump-in-Counted.ensures.stands c.pump-in-Counted.ensures.fails
+
+pub returns-in-Plain-clause-over : goal.returns-in-Plain-clause-over
+returns-in-Plain-clause-over g c =
+    let same : c.deref_mut.result.now ≡ c.in-Plain.session.value = search rules in
+    plain-ends c.pump-in-Plain.result c.args.self.now c.in-Plain.session c.deref_mut.result.now
+    c.pump-in-Plain.new.session c.pump-in-Plain.new.reader.last (search rules) same c.pump-in-Plain.ensures.over
+
+pub returns-in-Counted-clause-over : goal.returns-in-Counted-clause-over
+returns-in-Counted-clause-over g c =
+    let same : c.deref_mut-in-Counted.result.now ≡ c.in-Counted.session.value = search rules in
+    counted-ends c.pump-in-Counted.result c.args.self.now c.in-Counted.session c.deref_mut-in-Counted.result.now
+    c.pump-in-Counted.new.session c.pump-in-Counted.new.reader.last (search rules) same
+    c.pump-in-Counted.ensures.over

@@ -3,7 +3,7 @@ use Rattle.definitions.specs.Messages.{Message, open_parts}
 use Rattle.definitions.specs.Ends.{Replies, own_of}
 use Rattle.ends_core.specs.EndStates.{EndState}
 use Rattle.ends_core.specs.Turns.{after_end}
-use Rattle.session_core.specs.Sizes.{message_size}
+use Rattle.ends_core.specs.Sizes.{message_size}
 use Rattle.session_core.proofs.Waiting.{own-after}
 use Rattle.session_core.proofs.outbox.Outbox.answer.Goals as goal
 

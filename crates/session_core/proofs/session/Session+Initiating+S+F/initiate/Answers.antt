@@ -14,4 +14,4 @@ returns-clause-begins g c =
     subst (λ (d : SessionState g.row.F.Denot). Begins g.F.Summary.summary g.F.Summary.profile a s d)
     (sym c.of-2.ensures)
     (begins-opened g.F.Summary.summary g.F.Summary.profile a s _ _ (search rules) (search rules) (search rules) refl
-    (search rules))
+    (search rules) (search rules) (search rules))

@@ -1,6 +1,6 @@
 use Rattle.std.proofs.Common.{rules, ◌≡◌, true, [], length, ap, refl}
 use Rattle.wire_core.specs.Feeds.{fed_into}
-use Rattle.session_core.specs.Sizes.{plus}
+use Rattle.ends_core.specs.Sizes.{plus}
 use Rattle.session_core.specs.Sessions.{SessionState, feed_of, is_open}
 use Rattle.session_core.proofs.Steps.{piece-kept}
 use Rattle.session_core.proofs.session.Session.keep.Goals as goal

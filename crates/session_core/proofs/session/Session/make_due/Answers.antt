@@ -1,6 +1,5 @@
 use Rattle.std.proofs.Common.{rules, ◌≡◌, [], true, OnOk, subst, sym}
-use Rattle.session_core.specs.Outboxes.{outbox_state}
-use Rattle.session_core.specs.Sessions.{SessionState, Takes, due, with_outbox, with_talk}
+use Rattle.session_core.specs.Sessions.{SessionState, Takes, all_made, with_outbox, with_talk}
 use Rattle.session_core.proofs.Calls.{all-made}
 use Rattle.session_core.proofs.session.Session.make_due.Goals as goal
 
@@ -8,7 +7,7 @@ pub returns-clause-knows : goal.returns-clause-knows
 returns-clause-knows g c =
     let t = c.args.self.now.talk in
     let made : OnOk c.make_due.result (c.make_due.new.self
-    ≡ with_outbox t (outbox_state (due g.F.Summary.profile t) []) true) = search rules in
+    ≡ with_outbox t (all_made g.F.Summary.profile t) true) = search rules in
     let after = all-made g.F.Summary.summary g.F.Summary.profile c.args.self.now c.make_due.new.self c.make_due.result
     made in
     subst (λ (x : SessionState g.row.F.Denot). OnOk c.make_due.result

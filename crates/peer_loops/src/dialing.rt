@@ -1,0 +1,121 @@
+//! One session with a partner over a part: it is spoken first, and what it learned is put in.
+
+ghost use Rattle.std.specs.Prelude.{◌≡◌, ◌+◌, ⊤, false, length};
+ghost use Rattle.std.specs.Arc.{arc_value};
+ghost use Rattle.definitions.specs.Fingerprints.{two_lanes};
+ghost use Rattle.definitions.specs.Wire.{two_lane_profile};
+ghost use Rattle.definitions.specs.Engines.{initiating};
+ghost use Rattle.definitions.specs.Ranks.{rank_by};
+ghost use Rattle.version_lock.specs.Calls.{Looked};
+ghost use Rattle.version_lock.specs.declared.view.View.{View};
+ghost use Rattle.peer_threads.specs.Outcomes.{Speaks, peer_at, seen, traffic};
+ghost use Rattle.peer_threads.specs.Workers.{PutsInBy};
+ghost use Rattle.peer_loops.specs.Links.{PutsInFor};
+
+use crate::common::Common;
+use crate::desk::Desk;
+use crate::link_gate::LinkGate;
+use crate::part_gate::PartGate;
+use digest_core::Fingerprint;
+use peer_threads::{Connection, Gate, Outcome, Shared, dial_one};
+use std::alloc::Global;
+use std::io::{Read, Write};
+use std::sync::Wait;
+
+/// What came of a session with a partner, and whether something was put in, or was there.
+#[derive(Drop)]
+pub(crate) struct Dialed {
+    pub(crate) outcome: Outcome,
+    pub(crate) has_put: bool,
+}
+
+impl<'a> Desk<'a> {
+    /// Speaks first to the partner on this connection, over the newest version, until the session ends.
+    fn dial<T: Wait, G: PartGate, I: Read, O: Write>(
+        &mut self,
+        rt: &T,
+        alloc: Global,
+        shared: (&Common<'_, G>, &LinkGate<'_, G>),
+        connection: &mut Connection<I, O>,
+    ) -> Outcome
+        requires fresh { (connection.old.reader.failed ≡ false) × (connection.old.reader.ended ≡ false)
+            × (connection.old.writer.failed ≡ false) }
+        ensures part { self.new.part ≡ self.old.part }
+        ensures view { Looked self.old.seat.view self.new.seat.view }
+        ensures bytes { Speaks two_lanes two_lane_profile ⊤
+            (initiating two_lanes (peer_at (arc_value self.old.part.now.accepted) self.new.seat.view))
+            (length self.new.seat.view.base)
+            (rank_by (arc_value self.old.part.now.accepted).steps
+            (length (peer_at (arc_value self.old.part.now.accepted) self.new.seat.view).items) + 2)
+            (arc_value self.old.part.now.accepted).table.limit
+            (traffic (I.remaining connection.old.reader.inner) (I.remaining connection.new.reader.inner)
+            (O.contents connection.old.writer.inner) (O.contents connection.new.writer.inner))
+            (seen connection.new.reader.failed connection.new.reader.ended)
+            (seen connection.new.writer.failed connection.new.writer.ended) result }
+    {
+        let (common, gate) = shared;
+        let shared = Shared {
+            lock: &self.part.lock,
+            accepted: &self.part.accepted,
+            sessions: common.sessions,
+            gate,
+        };
+        dial_one::<_, _, _, _, _, Fingerprint>(rt, alloc, &shared, &mut self.seat, connection)
+    }
+
+    /// Puts into the log what the session with this serial learned of its peer, if it ended so, as far as the gate
+    /// admits it and it is of the part. Whether something was put in, or was there.
+    pub(crate) fn put_in_by<T: Wait, G: Gate>(
+        &mut self,
+        rt: &T,
+        alloc: Global,
+        common: &Common<'_, G>,
+        serial: u64,
+        outcome: &Outcome,
+    ) -> bool
+        ensures part { self.new.part ≡ self.old.part }
+        ensures put { PutsInBy (G.lets_in common.now.gate.now) serial self.old.part.now.own outcome.now
+            self.old.seat.view self.new.seat.view }
+    {
+        match outcome {
+            Outcome::Ended { learned, .. } => {
+                let left_out = self.settle(rt, alloc, common, serial, learned);
+                left_out < learned.theirs().len()
+            }
+            _ => false,
+        }
+    }
+
+    /// Runs a session with the partner on this connection over the newest version, and puts what it learned of the
+    /// partner, if it ended, into the log, as far as the gate admits it and it is of the part.
+    pub(crate) fn call<T: Wait, G: PartGate, I: Read, O: Write>(
+        &mut self,
+        rt: &T,
+        alloc: Global,
+        shared: (&Common<'_, G>, &LinkGate<'_, G>),
+        connection: &mut Connection<I, O>,
+    ) -> Dialed
+        requires fresh { (connection.old.reader.failed ≡ false) × (connection.old.reader.ended ≡ false)
+            × (connection.old.writer.failed ≡ false) }
+        ensures part { self.new.part ≡ self.old.part }
+        ensures called { (between : View) × Looked self.old.seat.view between
+            × Speaks two_lanes two_lane_profile ⊤
+            (initiating two_lanes (peer_at (arc_value self.old.part.now.accepted) between)) (length between.base)
+            (rank_by (arc_value self.old.part.now.accepted).steps
+            (length (peer_at (arc_value self.old.part.now.accepted) between).items) + 2)
+            (arc_value self.old.part.now.accepted).table.limit
+            (traffic (I.remaining connection.old.reader.inner) (I.remaining connection.new.reader.inner)
+            (O.contents connection.old.writer.inner) (O.contents connection.new.writer.inner))
+            (seen connection.new.reader.failed connection.new.reader.ended)
+            (seen connection.new.writer.failed connection.new.writer.ended) result.outcome
+            × PutsInFor (G.lets_in shared.entry.0.now.gate.now) self.old.part.now.own result.outcome between
+            self.new.seat.view }
+    {
+        let outcome = self.dial(rt, alloc, shared, connection);
+        let (common, gate) = shared;
+        // the gate was told of a session that ended, so its serial was noted; 0 is no session's
+        let serial = gate.serial().unwrap_or(0);
+        let has_put = self.put_in_by(rt, alloc, common, serial, &outcome);
+        Dialed { outcome, has_put }
+    }
+}

@@ -1,0 +1,151 @@
+//! Seats at all parts for one who is no loop: it puts items in, and looks at versions.
+
+ghost use Rattle.std.specs.Prelude.{◌≡◌, ◌<◌, ◌≤◌, ◌+◌, [], ◌++◌, IfOk, OnErr, vec_len, vec_capacity};
+ghost use Rattle.peer_loops.specs.Hands.{PutsAt, PutsUntil, entered_by, entries};
+
+use crate::desks::Desks;
+use item_core::Item;
+use range_tree::Tree;
+use shard_core::shard_of;
+use std::alloc::{AllocError, Global};
+use std::marker::Model;
+use std::sync::Wait;
+use store_core::RangeStore;
+use version_lock::Pin;
+use version_log::{Added, LogFault};
+
+/// Why an item is not put in.
+#[derive(Clone, Copy, Debug, PartialEq, Eq)]
+pub enum HandFault {
+    /// It is of a part that is not kept here.
+    Elsewhere,
+    /// The log of its part does not take it.
+    Log(LogFault),
+}
+
+/// What came of items that were put in one after the other.
+#[derive(Drop)]
+pub struct Entered {
+    /// Those that their parts lacked, in order.
+    pub items: Vec<Item>,
+    /// Why one was not put in, if that was so: then none after it was.
+    pub fault: Option<HandFault>,
+}
+
+/// Seats at all parts for one who is no loop. Contracts see the parts' own shards and the views of the seats.
+#[derive(Drop)]
+pub struct Hand<'a> {
+    pub(crate) desks: Desks<'a>,
+}
+
+impl<'a> Model for Hand<'a> {
+    ghost use Rattle.std.specs.Prelude.{List, map};
+    ghost use Rattle.peer_loops.specs.Hands.{Held, held};
+
+    ghost Value = { List Held };
+
+    ghost view = { λ h. map (λ d. held d.part.now.own d.seat.view) h.desks.list.items };
+}
+
+/// Appends an item that its part lacked.
+fn note(entered: &mut Vec<Item>, added: Added, item: &Item)
+    requires room { vec_len entered.old < vec_capacity entered.old }
+    ensures items { entered.new.items ≡ entered.old.items ++ entered_by added item.now [] }
+    ensures few { vec_len entered.new ≤ vec_len entered.old + 1 }
+    ensures capacity { vec_capacity entered.new ≡ vec_capacity entered.old }
+{
+    match added {
+        Added::New(_) => entered.push_reserved(*item),
+        Added::Already => {}
+    }
+}
+
+impl<'a> Hand<'a> {
+    /// One with these seats.
+    pub(crate) fn with(desks: Desks<'a>) -> Hand<'a> {
+        Hand { desks }
+    }
+
+    /// How many parts there are.
+    pub fn parts(&self) -> usize {
+        self.desks.list.len()
+    }
+
+    /// The newest version of the part at this place, if there is one.
+    pub fn pin<T: Wait>(
+        &mut self,
+        rt: &T,
+        alloc: Global,
+        place: usize,
+    ) -> Option<Result<Pin<Tree>, AllocError>>
+        ensures nothing { entries self.new ≡ entries self.old }
+    {
+        let desk = self.desks.list.get_mut(place)?;
+        Some(desk.pin(rt, alloc))
+    }
+
+    /// How many items all parts have, each as it is when it is asked.
+    pub fn count<T: Wait>(&mut self, rt: &T, alloc: Global) -> Result<usize, AllocError> {
+        let mut count: usize = 0;
+        for desk in self.desks.list.iter_mut() {
+            let pin = desk.pin(rt, alloc)?;
+            count = count.saturating_add(pin.store().len());
+        }
+        Ok(count)
+    }
+
+    /// The place of the part that may have the item. There may be no part there.
+    pub fn place_of(&self, item: &Item) -> Option<usize> {
+        let desk = self.desks.list.first()?;
+        let Some(one) = desk.part.own else {
+            return Some(0);
+        };
+        let number = shard_of(item, one.bits);
+        if number < self.desks.first {
+            return None;
+        }
+        Some(usize::from(number - self.desks.first))
+    }
+
+    /// Puts an item into its part, if that is kept here and lacks it.
+    fn put<T: Wait>(&mut self, rt: &T, alloc: Global, item: &Item) -> Result<Added, HandFault>
+        ensures put { PutsAt self.old item.now result self.new }
+    {
+        let Some(place) = self.place_of(item) else {
+            return Err(HandFault::Elsewhere);
+        };
+        let Some(desk) = self.desks.list.get_mut(place) else {
+            return Err(HandFault::Elsewhere);
+        };
+        desk.add(rt, alloc, item)
+    }
+
+    /// Puts items into their parts, one after the other, up to the first one that is not put in. Whoever has put in all
+    /// that there is tells the news. Else 90, and nothing is put in.
+    pub fn put_each<T: Wait>(
+        &mut self,
+        rt: &T,
+        alloc: Global,
+        items: &[Item],
+    ) -> Result<Entered, AllocError>
+        ensures put { IfOk result (λ e. PutsUntil self.old items.now e.items.items e.fault self.new) }
+        ensures memory { OnErr result (self.new ≡ self.old) }
+    {
+        let mut entered = Vec::with_capacity(alloc, items.len())?;
+        for item in items {
+            match self.put(rt, alloc, item) {
+                Ok(added) => note(&mut entered, added, item),
+                Err(fault) => {
+                    return Ok(Entered {
+                        items: entered,
+                        fault: Some(fault),
+                    });
+                }
+            }
+        }
+        Ok(Entered {
+            items: entered,
+            fault: None,
+        })
+    }
+}

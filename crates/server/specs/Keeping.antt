@@ -1,0 +1,31 @@
+-- When items count as kept in a file of lines.
+--     lines_of form items                     the lines of these items
+--     IsStored held saved durable lines f g   of the file f, which is g now: after all that was told of it these lines
+--                                             were told, and the device holds all; where it is to outlive a loss of
+--                                             power, what it holds was saved
+--     IsStoredIn held saved durable lines f g the same of such a file; where there is none nothing is kept
+--     Covers kept entered items               those kept are all that were entered, or all that were to be
+use Rattle.std.specs.Prelude.{◌≡◌, ◌⊎◌, ℕ, Bool, true, List, ◌++◌, flat_map, Option, Some, None, ⊤}
+use Rattle.definitions.specs.Items.{Item}
+use Rattle.item_files.specs.declared.form.ItemForm.{ItemForm}
+use Rattle.io_core.specs.Devices.{Holds}
+use Rattle.io_core.specs.Keeping.{Kept, IsKept}
+use Rattle.printing_core.specs.ItemTexts.{item_line}
+
+abbrev pub lines_of : ItemForm → List Item → List ℕ
+lines_of form items = flat_map (item_line form) items
+
+pub record IsStored {D : Type 0} (held saved : D → Option (List ℕ)) (durable : Bool) (lines : List ℕ) (f g : Kept D) :
+    Type 0 where
+  pub told : (base told : List ℕ) → IsKept held base told f → IsKept held base (told ++ lines) g
+  pub written : (base told : List ℕ) → IsKept held base told f → Holds (held g.device) (base ++ (told ++ lines))
+  pub synced : durable ≡ true → saved g.device ≡ held g.device
+
+abbrev pub IsStoredIn : {D : Type 0} → (D → Option (List ℕ)) → (D → Option (List ℕ)) → Bool → List ℕ →
+    Option (Kept D) → Option (Kept D) → Type 0
+IsStoredIn held saved durable lines None g = ⊤
+IsStoredIn held saved durable lines (Some f) None = ⊥
+IsStoredIn held saved durable lines (Some f) (Some g) = IsStored held saved durable lines f g
+
+abbrev pub Covers : List Item → List Item → List Item → Type 0
+Covers kept entered items = (kept ≡ entered) ⊎ (kept ≡ items)
