@@ -68,6 +68,15 @@ export interface SessionOptions {
     mostBytes?: number;
 }
 
+/**
+ * The part of a set that a session speaks of: the items at or after `from` and before `to`, each of which may be left
+ * out. The side that speaks first says it, and the other one answers for its own items there.
+ */
+export interface PartOptions {
+    from?: Uint8Array;
+    to?: Uint8Array;
+}
+
 export interface SyncOptions extends SessionOptions {
     /** Closes the connection when it is aborted. */
     signal?: AbortSignal;
@@ -91,9 +100,10 @@ export class Version implements Iterable<Uint8Array> {
     /** Its items from `lower` on and before `upper`, rising, each a copy. Throws Refused 72, 73. */
     items(lower?: Uint8Array, upper?: Uint8Array): Generator<Uint8Array, void, undefined>;
     [Symbol.iterator](): Generator<Uint8Array, void, undefined>;
-    /** A session that speaks first. Throws Refused 98 for another profile, RangeError for a longer name. */
-    initiate(options?: SessionOptions): Session;
-    /** A session that is spoken to first. Throws as `initiate`. */
+    /** A session that speaks first. Throws Refused 98 for another profile, 72 and 73 as `items`, TypeError, and
+     * RangeError for a longer name. */
+    initiate(options?: SessionOptions & PartOptions): Session;
+    /** A session that is spoken to first, of the part that the other side asks for. Throws Refused 98, RangeError. */
     respond(options?: SessionOptions): Session;
 }
 
@@ -113,7 +123,7 @@ export class RangeSet implements Iterable<Uint8Array> {
     items(lower?: Uint8Array, upper?: Uint8Array): Generator<Uint8Array, void, undefined>;
     [Symbol.iterator](): Generator<Uint8Array, void, undefined>;
     /** A session that speaks first, over the set as it is now. */
-    initiate(options?: SessionOptions): Session;
+    initiate(options?: SessionOptions & PartOptions): Session;
     /** A session that is spoken to first, over the set as it is now. */
     respond(options?: SessionOptions): Session;
 }
@@ -173,7 +183,11 @@ export type Stream = WebSocketLike | StreamPair | NodeSocket;
  * A session that speaks first. Throws Refused where one of the sides refused, 3 where the connection ended before the
  * session did; the signal's reason; and what the connection throws.
  */
-export function sync(set: RangeSet | Version, stream: Stream, options?: SyncOptions): Promise<Learned>;
+export function sync(
+    set: RangeSet | Version,
+    stream: Stream,
+    options?: SyncOptions & PartOptions,
+): Promise<Learned>;
 /** A session that is spoken to first. To be called before bytes can come. Throws as `sync`. */
 export function answer(set: RangeSet | Version, stream: Stream, options?: SyncOptions): Promise<Learned>;
 /** Any session. Throws as `sync`. */
@@ -216,15 +230,15 @@ export class Shards implements Iterable<Uint8Array> {
     has(item: Uint8Array): boolean;
     /** Shard by shard, and rising in each. */
     [Symbol.iterator](): Generator<Uint8Array, void, undefined>;
-    /** A session of whatever shard the other side asks for, or of the directory. */
+    /** A session of whatever shard the other side asks for, or of the directory, or of a part of these. */
     respond(options?: Pick<SessionOptions, "profile" | "mostBytes">): Session;
     /** Answers one connection; `shard` is null for the directory. Throws as `sync`. */
     answer(stream: Stream, options?: Omit<SyncOptions, "set">): Promise<Learned & { shard: number | null }>;
-    /** Finds the difference over a connection for the directory, and one for each shard that differs. Throws
-     * Incomplete; before that as `sync`, what `connect` throws, and Refused 56 and 57. */
+    /** Finds the difference over a connection for the directory, and one for each shard that differs; of a part, what
+     * differs there. Throws Incomplete; before that as `sync`, what `connect` throws, and Refused 56 and 57. */
     reconcile(
         connect: () => Stream | Promise<Stream>,
-        options?: Omit<SyncOptions, "set"> & { atOnce?: number },
+        options?: Omit<SyncOptions, "set"> & PartOptions & { atOnce?: number },
     ): Promise<Reconciled>;
 }
 

@@ -183,6 +183,51 @@ class Between(Check):
             large(4, HERE, b"n" * 64).reconcile(near.connect)
         self.assertEqual([each.bytes for each in near.made], [57 + 8 + 64])
 
+    def test_parts(self) -> None:
+        """The items between two bounds, from one on, or before one; of the last part nothing differs."""
+        middle = sorted(OURS)[7]
+        one = middle, middle + b"\0"
+        for start, end in (b"\x40", b"\xc0"), (middle, b""), (b"", middle), one, (b"\xff" * 64, b""):
+
+            def within(items: Iterable[bytes]) -> list[bytes]:
+                return sorted(item for item in items if start <= item and (not end or item < end))
+
+            ours, theirs = within(OURS), within(THEIRS)
+            for bits in (0, 1, 4):
+                here, there = large(bits, HERE, b"set"), large(bits, THERE, b"set")
+                differ = len({number_of(item, bits) for item in ours + theirs})
+                for profile, at_once in (1, 1), (2, 8):
+                    with self.subTest(bits=bits, profile=profile, start=start), Near(there.answer) as near:
+                        found = here.reconcile(near.connect, profile, at_once, start, end)
+                    self.assertEqual(found, Reconciled(ours, theirs, differ))
+                    self.assertEqual(len(near.made), 1 + differ if bits else 1)
+
+    def test_bounds_that_are_none(self) -> None:
+        here = large(2, HERE)
+        for start, end, text in [
+            (b"x" * 65, b"", "refused 72 TooLong"),
+            (b"", b"x" * 65, "refused 72 TooLong"),
+            (b"b", b"b", "refused 73 EmptyRange"),
+            (b"ba", b"b", "refused 73 EmptyRange"),
+        ]:
+            with Near(print) as near:
+                asked = functools.partial(here.reconcile, near.connect, 1, 1, start, end)
+                self.refuses(text, asked)
+            self.assertEqual(near.made, [])
+        self.assertRaises(TypeError, here.reconcile, near.connect, 1, 1, "text")
+
+    def test_a_part_of_what_is_not_kept(self) -> None:
+        """The number is judged before the bounds, whether they come or not."""
+        some = large(2, [], b"", [1])
+        for asked, outcome in [
+            ("52525350 00 02 0001", "refused 3"),
+            ("52525350 00 02 0000", "refused 55"),
+            ("52525350 00 02 0000 01 62 00 52525331", "refused 55"),
+            ("52525350 00 02 0001 01 62 00 52525333", "refused 1"),
+        ]:
+            connection = Played(bytes.fromhex(asked))
+            self.assertEqual(outcome_of(functools.partial(some.answer, connection)), outcome)
+
     def test_each_takes_in(self) -> None:
         """What was found is put in on both sides, after which the directories are equal."""
         here, there = large(4, HERE), large(4, THERE)
@@ -437,6 +482,18 @@ class Worked(Check):
     def test_selectors(self) -> None:
         for _name, case in self.worked("selectors", 67):
             held, selector = self.held(case, case), bytes.fromhex(case["selector"])
+            wanted = case["outcome"], bytes.fromhex(case["reply"]).hex()
+            self.answers(held, selector + bytes.fromhex(case["message"]), wanted)
+            for length in range(len(selector)) if case["outcome"] == "ended" else ():
+                self.answers(held, selector[:length], ("refused 3", "52525331000000020503"))
+
+    def test_parts(self) -> None:
+        """Of a responder that has neither a name nor shards those that bring a selector of a part: with b = 0 and no
+        name all is the same."""
+        for _name, case in self.worked("parts", 69):
+            if "bits" not in case and not case["selector"].strip().startswith("52525350"):
+                continue
+            held, selector = self.held({"bits": 0, **case}, case), bytes.fromhex(case["selector"])
             wanted = case["outcome"], bytes.fromhex(case["reply"]).hex()
             self.answers(held, selector + bytes.fromhex(case["message"]), wanted)
             for length in range(len(selector)) if case["outcome"] == "ended" else ():

@@ -8,6 +8,11 @@ export const LONGEST = 64;
 /** The empty lower bound, which is before every item. */
 export const START = new Uint8Array(0);
 
+/** @typedef {{ lower: Uint8Array, upper: Uint8Array | null }} Range */
+
+/** @type {Range} The range of all items. */
+export const ALL = { lower: START, upper: null };
+
 /**
  * Whether a value is a Uint8Array, of another window too; a Buffer of Node is one.
  * @param {unknown} value
@@ -38,6 +43,34 @@ export function itemOf(value) {
     if (item.length === 0) throw new Refused(71);
     if (item.length > LONGEST) throw new Refused(72, { length: item.length });
     return item;
+}
+
+/** @param {unknown} value */
+function boundOf(value) {
+    const bound = bytesOf(value);
+    if (bound.length > LONGEST) throw new Refused(72, { length: bound.length });
+    return bound;
+}
+
+/**
+ * The range of two bounds that were given, of which either may be missing. Throws TypeError where one is no Uint8Array,
+ * Refused 72 where it has more than 64 bytes, and 73 if the lower one is not below the upper.
+ * @param {unknown} [lower]
+ * @param {unknown} [upper]
+ * @returns {Range}
+ */
+export function rangeOf(lower = START, upper = undefined) {
+    const range = { lower: boundOf(lower), upper: upper === undefined ? null : boundOf(upper) };
+    if (range.upper !== null && compare(range.lower, range.upper) >= 0) throw new Refused(73);
+    return range;
+}
+
+/**
+ * Whether a range is that of all items.
+ * @param {Range} range
+ */
+export function isAll({ lower, upper }) {
+    return lower.length === 0 && upper === null;
 }
 
 /**

@@ -20,14 +20,16 @@ const MOST_PULLED = 65_536;
 const LENGTH = 4;
 
 /**
- * How a session begins. An initiator has a profile, and the bytes before its hello. A responder has the profiles that
- * it speaks; `select` gives what a selector names, or throws Refused, and is left out where none may come.
+ * How a session begins. An initiator has a profile, what it speaks of, and the bytes before its hello. A responder has
+ * the profiles that it speaks, and `front`, which takes a selector off; `select` gives what it speaks of by what came,
+ * or throws Refused. If it needs no selector, `opened` is what it speaks of without one.
  * @typedef {object} Beginning
  * @property {Strategy} strategy
  * @property {number} mostBytes
  * @property {Profile[]} profiles
  * @property {Opened} [opened]
  * @property {Uint8Array} [selector]
+ * @property {Front} [front]
  * @property {(came: Uint8Array) => Opened} [select]
  */
 
@@ -55,14 +57,14 @@ export class Session {
     #sent = 0;
 
     /** @param {Beginning} beginning */
-    constructor({ strategy, mostBytes, profiles, opened, selector, select }) {
+    constructor({ strategy, mostBytes, profiles, opened, selector, front, select }) {
         if (!(mostBytes >= HELLO)) throw new RangeError(`mostBytes is to be ${HELLO} or more`);
         this.#strategy = strategy;
         this.#left = mostBytes;
         this.#profiles = profiles;
         this.#opened = opened;
         this.#select = select;
-        this.#reading = select === undefined ? new Gathered(HELLO) : new Front();
+        this.#reading = front ?? new Gathered(HELLO);
         this.#isInitiator = selector !== undefined;
         if (selector !== undefined && opened !== undefined) {
             this.#due.push(selector, profiles[0].hello);

@@ -1,9 +1,9 @@
 /** Sets of items under a strategy, and sets as they were. */
 
-import { LONGEST, bytesOf, compare, itemOf, rising } from "./items.js";
+import { ALL, isAll, itemOf, rangeOf, rising } from "./items.js";
 import { PROFILES, profileOf } from "./profiles.js";
 import { Refused } from "./refused.js";
-import { SetName } from "./selector.js";
+import { Front, SetName, asksForPart } from "./selector.js";
 import { MOST_BYTES, Session } from "./session.js";
 import { Strategy } from "./strategy.js";
 import { Tree } from "./tree.js";
@@ -18,14 +18,19 @@ import { Tree } from "./tree.js";
  */
 
 /**
+ * The part of a set of which a session speaks, which the side that speaks first says: the items at or after `from` and
+ * before `to`, each of which may be left out.
+ * @typedef {{ from?: Uint8Array, to?: Uint8Array }} PartOptions
+ */
+
+/**
  * A session that speaks first.
  * @param {Strategy} strategy
  * @param {import("./session.js").Opened} opened
- * @param {SetName | null} name
+ * @param {Uint8Array} selector the bytes before its hello
  * @param {SessionOptions} options
  */
-export function initiated(strategy, opened, name, { profile = 1, mostBytes = MOST_BYTES }) {
-    const selector = name === null ? new Uint8Array(0) : name.selector(opened.shard);
+export function initiated(strategy, opened, selector, { profile = 1, mostBytes = MOST_BYTES }) {
     return new Session({ strategy, opened, selector, mostBytes, profiles: [profileOf(profile)] });
 }
 
@@ -33,13 +38,6 @@ export function initiated(strategy, opened, name, { profile = 1, mostBytes = MOS
  * @param {number} [profile] */
 export function spoken(profile) {
     return profile === undefined ? PROFILES : [profileOf(profile)];
-}
-
-/** @param {unknown} bound @returns {Uint8Array} */
-function boundOf(bound) {
-    const bytes = bytesOf(bound);
-    if (bytes.length > LONGEST) throw new Refused(72, { length: bytes.length });
-    return bytes;
 }
 
 /** A set as it was when the version was taken. */
@@ -73,11 +71,9 @@ export class Version {
      * @param {Uint8Array} [upper]
      * @returns {Generator<Uint8Array, void, undefined>}
      */
-    *items(lower = new Uint8Array(0), upper = undefined) {
-        const from = boundOf(lower);
-        const to = upper === undefined ? null : boundOf(upper);
-        if (to !== null && compare(from, to) >= 0) throw new Refused(73);
-        for (const item of this.#view.items(this.#view.below(from), this.#view.below(to))) yield item.slice();
+    *items(lower, upper) {
+        const part = this.#view.part(rangeOf(lower, upper));
+        for (const item of part.items(0, part.count)) yield item.slice();
     }
 
     [Symbol.iterator]() {
@@ -85,26 +81,34 @@ export class Version {
     }
 
     /**
-     * A session that speaks first. Throws Refused 98 where there is no such profile, RangeError for a name of more than
-     * 64 bytes.
-     * @param {SessionOptions} [options]
+     * A session that speaks first, of a part if it has bounds. Throws Refused 98 where there is no such profile, 72, 73
+     * and TypeError for bounds as `items`, RangeError for a name of more than 64 bytes.
+     * @param {SessionOptions & PartOptions} [options]
      */
     initiate(options = {}) {
-        const name = options.set === undefined ? null : new SetName(options.set);
-        return initiated(this.#strategy, { view: this.#view, shard: 0 }, name, options);
+        const { set, from, to } = options;
+        const range = rangeOf(from, to);
+        const name = new SetName(set);
+        const selector = set === undefined && isAll(range) ? new Uint8Array(0) : name.selector(0, range);
+        return initiated(this.#strategy, { view: this.#view.part(range), shard: 0 }, selector, options);
     }
 
     /**
-     * A session that is spoken to first. With `set` the peer has to name it. Throws as `initiate`.
+     * A session that is spoken to first, of a part if the peer asks for one. With `set` the peer has to name it. Throws
+     * Refused 98 where there is no such profile, RangeError for a name of more than 64 bytes.
      * @param {SessionOptions} [options]
      */
     respond(options = {}) {
         const { profile, set, mostBytes = MOST_BYTES } = options;
-        const opened = { view: this.#view, shard: 0 };
-        const shared = { strategy: this.#strategy, mostBytes, profiles: spoken(profile) };
-        if (set === undefined) return new Session({ ...shared, opened });
         const name = new SetName(set);
-        return new Session({ ...shared, select: (came) => ({ ...opened, shard: name.selected(came) }) });
+        const isPlain = set === undefined;
+        const select = (/** @type {Uint8Array} */ came) => {
+            const { range } = isPlain && !asksForPart(came) ? { range: ALL } : name.selected(came);
+            return { view: this.#view.part(range), shard: 0 };
+        };
+        const opened = isPlain ? { view: this.#view, shard: 0 } : undefined;
+        const asked = { opened, select, front: new Front(isPlain) };
+        return new Session({ strategy: this.#strategy, mostBytes, profiles: spoken(profile), ...asked });
     }
 }
 
@@ -183,7 +187,7 @@ export class RangeSet {
     }
 
     /** As `Version.initiate`, over the set as it is now.
-     * @param {SessionOptions} [options] */
+     * @param {SessionOptions & PartOptions} [options] */
     initiate(options) {
         return this.version().initiate(options);
     }

@@ -1,9 +1,9 @@
 /** A set of any size, as shards with a session for each that differs. */
 
 import { entryOf, numbersOf, shardOf } from "./directory.js";
-import { itemOf, rising } from "./items.js";
+import { isAll, itemOf, rangeOf, rising } from "./items.js";
 import { Refused } from "./refused.js";
-import { DIRECTORY, SetName } from "./selector.js";
+import { DIRECTORY, Front, SetName } from "./selector.js";
 import { MOST_BYTES, Session } from "./session.js";
 import { initiated, spoken } from "./sets.js";
 import { run } from "./sync.js";
@@ -13,7 +13,10 @@ import { Tree } from "./tree.js";
 /** @typedef {import("./strategy.js").Strategy} Strategy */
 /** @typedef {{ ours: Uint8Array[], theirs: Uint8Array[] }} Learned */
 /** @typedef {Learned & { differ: number }} Reconciled */
-/** @typedef {{ profile?: number, mostBytes?: number, atOnce?: number, signal?: AbortSignal }} ReconcileOptions */
+/** @typedef {import("./items.js").Range} Range */
+/** @typedef {import("./sets.js").PartOptions} PartOptions */
+/** @typedef {{ profile?: number, mostBytes?: number, atOnce?: number, signal?: AbortSignal }} TalkOptions */
+/** @typedef {TalkOptions & PartOptions} ReconcileOptions */
 
 /**
  * Some of the shards that differ were not reconciled: `faults` has what stopped each, by their numbers. `found` is what
@@ -184,8 +187,14 @@ export class Shards {
         }
     }
 
-    /** The directory as it is now. */
-    #listed() {
+    /** The directory as it is now, of the items in a range. That of all items is kept; one of a part is made anew, of
+     * the sums that the trees have.
+     * @param {Range} range */
+    #listed(range) {
+        if (!isAll(range)) {
+            const shards = [...this.#trees].map(([number, shard]) => entryOf(number, shard.view().part(range)));
+            return new Tree(rising(shards)).view();
+        }
         if (this.#directory === null) {
             for (const [number, shard] of this.#trees) {
                 if (!this.#entries.has(number)) this.#entries.set(number, entryOf(number, shard.view()));
@@ -196,20 +205,20 @@ export class Shards {
     }
 
     /**
-     * A session that is spoken to first, of whatever shard the other side asks for, or of the directory: its `shard`
-     * says which, and is 65,535 for the directory. What that one learns are entries, and no items. Throws Refused 98
-     * where there is no such profile.
+     * A session that is spoken to first, of whatever shard the other side asks for, or of the directory, or of a part
+     * of these: its `shard` says which, and is 65,535 for the directory. What that one learns are entries, and no
+     * items. Throws Refused 98 where there is no such profile.
      * @param {{ profile?: number, mostBytes?: number }} [options]
      */
     respond(options = {}) {
         const { profile, mostBytes = MOST_BYTES } = options;
         const select = (/** @type {Uint8Array} */ came) => {
-            const shard = this.#name.selected(came);
-            const view = shard === DIRECTORY && this.bits > 0 ? this.#listed() : this.#trees.get(shard)?.view();
-            if (view === undefined) throw new Refused(55);
+            const { number: shard, range } = this.#name.selected(came, (number) => this.#trees.has(number));
+            const view = shard === DIRECTORY ? this.#listed(range) : this.#tree(shard).view().part(range);
             return { view, shard };
         };
-        return new Session({ strategy: this.#strategy, mostBytes, profiles: spoken(profile), select });
+        const front = new Front(false);
+        return new Session({ strategy: this.#strategy, mostBytes, profiles: spoken(profile), select, front });
     }
 
     /**
@@ -227,10 +236,11 @@ export class Shards {
     }
 
     /**
-     * Finds how this set, as it is now, and that of the other side differ. This side speaks first. `connect` opens a
-     * connection, which is closed: it is called once for the directory, and once for each shard that differs, `atOnce`
-     * of them at a time (1 if it is left out); with bits 0 it is called once in all. Once it threw it is not called
-     * again, and the shards that are left have the same fault. Nothing is put in.
+     * Finds how this set, as it is now, and that of the other side differ, in the items at or after `from` and before
+     * `to` if these are given. This side speaks first. `connect` opens a connection, which is closed: it is called once
+     * for the directory, and once for each shard that differs, `atOnce` of them at a time (1 if it is left out); with
+     * bits 0 it is called once in all. Once it threw it is not called again, and the shards that are left have the same
+     * fault. Nothing is put in.
      *
      * Throws Incomplete where shards that differ were not reconciled. Before that, of the session over the directory,
      * throws as `run`, and what `connect` throws. Throws Refused 57 where the directory of the other side is none, 56
@@ -240,19 +250,21 @@ export class Shards {
      * @returns {Promise<Reconciled>}
      */
     async reconcile(connect, options = {}) {
-        const { atOnce = 1 } = options;
+        const { atOnce = 1, from, to } = options;
         if (!(atOnce >= 1)) throw new RangeError("atOnce is to be 1 or more");
-        const views = new Map([...this.#trees].map(([number, tree]) => [number, tree.view()]));
+        const range = rangeOf(from, to);
+        const views = new Map([...this.#trees].map(([number, tree]) => [number, tree.view().part(range)]));
         const connected = connectUntilItThrows(connect);
         const talk = async (/** @type {number} */ shard, /** @type {View} */ view) => {
-            const session = initiated(this.#strategy, { view, shard }, this.#name, options);
+            const selector = this.#name.selector(shard, range);
+            const session = initiated(this.#strategy, { view, shard }, selector, options);
             return run(session, await connected(), options);
         };
         if (this.bits === 0) {
             const { ours, theirs } = await talk(0, /** @type {View} */ (views.get(0)));
             return { ours, theirs, differ: ours.length + theirs.length > 0 ? 1 : 0 };
         }
-        const numbers = this.#differing(await talk(DIRECTORY, this.#listed()));
+        const numbers = this.#differing(await talk(DIRECTORY, this.#listed(range)));
         return this.#each(numbers, atOnce, (number) => talk(number, /** @type {View} */ (views.get(number))));
     }
 

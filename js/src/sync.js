@@ -64,7 +64,7 @@ export async function run(session, stream, options = {}) {
  * `run`, and as `initiate` of the set.
  * @param {import("./sets.js").RangeSet | import("./sets.js").Version} set
  * @param {unknown} stream a WebSocket, a pair of web streams, or a socket of Node; it is closed
- * @param {SyncOptions} [options]
+ * @param {SyncOptions & import("./sets.js").PartOptions} [options] with `from` and `to`, of the items between alone
  */
 export function sync(set, stream, options = {}) {
     return run(set.initiate(options), stream, options);

@@ -3,7 +3,8 @@
  * entry of a node. So the sum of any range costs two walks from the root to a leaf.
  *
  * A version of the set costs nothing: it keeps the root. A node is changed in place while no version has it, which its
- * `owner` says, and is copied otherwise.
+ * `owner` says, and is copied otherwise. A part of a version is no copy: it keeps the root too, and the places between
+ * which its items are. What is asked of it costs what it costs of the whole.
  */
 
 import { LONGEST, compareAt } from "./items.js";
@@ -221,39 +222,73 @@ function hasItem(root, item) {
     }
 }
 
-/** A set as it was when it was taken: nothing changes it. */
+/** How many items of a tree are before a bound.
+ * @param {Node} root @param {Uint8Array | null} bound all of them for null, the end */
+function itemsBelow(root, bound) {
+    if (bound === null) return root.count;
+    let node = root;
+    let before = 0;
+    while (node.children !== null) {
+        const place = node.childBelow(bound);
+        before += node.countBefore(place);
+        node = node.children[place];
+    }
+    return before + node.below(bound);
+}
+
+/** The sum of the digests of the first items of a tree.
+ * @param {Node} root @param {number} count */
+function sumOfItems(root, count) {
+    const sum = new Uint32Array(LANE_WORDS);
+    let node = root;
+    for (let left = count; left > 0; ) {
+        const place = node.entriesWithin(left);
+        if (place > 0) addAt(sum, 0, node.lanes, (place - 1) * LANE_WORDS);
+        left -= node.countBefore(place);
+        if (left > 0 && node.children !== null) node = node.children[place];
+    }
+    return sum;
+}
+
+/** A set as it was when it was taken, or a part of it: nothing changes it. */
 export class View {
     #root;
+    #from;
+    #to;
+    /** The sum of the digests of the items of the tree before this part. */
+    #before;
 
-    /** @param {Node} root */
-    constructor(root) {
+    /** The items of a tree from a place on and before another one.
+     * @param {Node} root @param {number} [from] @param {number} [to] */
+    constructor(root, from = 0, to = root.count) {
         this.#root = root;
+        this.#from = from;
+        this.#to = to;
+        this.#before = sumOfItems(root, from);
+    }
+
+    /** Its items in a range, as a set of their own.
+     * @param {import("./items.js").Range} range */
+    part({ lower, upper }) {
+        return new View(this.#root, this.#from + this.below(lower), this.#from + this.below(upper));
     }
 
     /** How many items it has. */
     get count() {
-        return this.#root.count;
+        return this.#to - this.#from;
     }
 
-    /** How many items are before a bound.
+    /** How many of its items are before a bound.
      * @param {Uint8Array | null} bound all of them for null, the end */
     below(bound) {
-        if (bound === null) return this.count;
-        let node = this.#root;
-        let before = 0;
-        while (node.children !== null) {
-            const place = node.childBelow(bound);
-            before += node.countBefore(place);
-            node = node.children[place];
-        }
-        return before + node.below(bound);
+        return Math.min(Math.max(itemsBelow(this.#root, bound), this.#from), this.#to) - this.#from;
     }
 
-    /** The item that has so many items before it, in the memory of the tree.
+    /** The item that has so many of its items before it, in the memory of the tree.
      * @param {number} place 0 to `count` - 1 */
     item(place) {
         let node = this.#root;
-        let left = place;
+        let left = this.#from + place;
         while (node.children !== null) {
             const at = node.entriesWithin(left);
             left -= node.countBefore(at);
@@ -262,30 +297,26 @@ export class View {
         return node.item(left);
     }
 
-    /** The sum of the digests of the first items.
+    /** The sum of the digests of its first items.
      * @param {number} count 0 to `count` of the set */
     sumOfFirst(count) {
-        const sum = new Uint32Array(LANE_WORDS);
-        let node = this.#root;
-        for (let left = count; left > 0; ) {
-            const place = node.entriesWithin(left);
-            if (place > 0) addAt(sum, 0, node.lanes, (place - 1) * LANE_WORDS);
-            left -= node.countBefore(place);
-            if (left > 0 && node.children !== null) node = node.children[place];
-        }
+        const sum = sumOfItems(this.#root, this.#from + count);
+        if (this.#from > 0) subtractAt(sum, 0, this.#before, 0);
         return sum;
     }
 
     /** Whether it has an item.
      * @param {Uint8Array} item */
     has(item) {
-        return hasItem(this.#root, item);
+        if (!hasItem(this.#root, item)) return false;
+        const place = itemsBelow(this.#root, item);
+        return this.#from <= place && place < this.#to;
     }
 
     /** The items from a place on and before another one, rising, in the memory of the tree.
      * @param {number} from @param {number} to @returns {Generator<Uint8Array, void, undefined>} */
     *items(from, to) {
-        if (from < to) yield* within(this.#root, from, to);
+        if (from < to) yield* within(this.#root, this.#from + from, this.#from + to);
     }
 }
 

@@ -2,6 +2,12 @@
 
 import { Refused, Strategy } from "../index.js";
 
+/** Those of the items that are in a part. */
+export function within(items, { from, to }) {
+    const isIn = (item) => !(from && Buffer.compare(item, from) < 0) && !(to && Buffer.compare(item, to) >= 0);
+    return items.filter(isIn);
+}
+
 /** The seed of a file of tests, which it prints. */
 export function seedOf(name) {
     const seed = Number(process.env.SEED ?? Date.now() % 2 ** 31);
@@ -44,6 +50,15 @@ export class Chance {
     /** Up to so many items. */
     items(most) {
         return Array.from({ length: this.below(most + 1) }, () => this.item());
+    }
+
+    /** The bounds of a part, of which either may be missing: items of these, or others. */
+    part(items) {
+        const bound = () => (items.length > 0 && this.below(2) === 0 ? this.of(items) : this.item());
+        const [from, to] = [bound(), bound()].sort(Buffer.compare);
+        const kind = this.below(3);
+        if (kind === 0) return { from };
+        return kind === 1 || Buffer.compare(from, to) === 0 ? { to } : { from, to };
     }
 
     /** An accepted strategy for sets of this cap. */

@@ -2,6 +2,7 @@
  * Runs sets and sessions for another program, which asks by lines of JSON and is answered by lines of JSON:
  *
  *     {"open": {"role": "initiator", "profile": 1, "set": "..", "mostBytes": 100}, "table": {..}, "items": ["61"]}
+ *                                  in "open" also "from" and "to", the bounds of a part
  *     {"push": ["0102", "03"]}     pieces of what the peer wrote
  *     {"finish": true}             the peer's bytes end
  *     {"judge": "cap = .."}        reads a strategy: its number, or its steps
@@ -26,10 +27,10 @@ function standing(session) {
 }
 
 /** @returns the session of a line */
-function opened({ open: { role, set, ...options }, table, items }) {
+function opened({ open: { role, ...options }, table, items }) {
     const all = new RangeSet(Strategy.from(table), items.map(bytesOf));
-    const named = set === undefined ? options : { ...options, set: bytesOf(set) };
-    return role === "initiator" ? all.initiate(named) : all.respond(named);
+    for (const key of ["set", "from", "to"]) if (key in options) options[key] = bytesOf(options[key]);
+    return role === "initiator" ? all.initiate(options) : all.respond(options);
 }
 
 function judged(text) {

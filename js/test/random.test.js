@@ -4,7 +4,7 @@ import assert from "node:assert/strict";
 import { test } from "node:test";
 
 import { RangeSet, Shards } from "../index.js";
-import { Chance, seedOf } from "./chance.js";
+import { Chance, seedOf, within } from "./chance.js";
 import { hex, pulled } from "./worked.js";
 
 const SESSIONS = Number(process.env.SESSIONS ?? 2000);
@@ -49,17 +49,23 @@ function sameAs(sessions, here, there, told) {
     }
 }
 
-test(`${SESSIONS} sessions`, () => {
+/** The bounds of a part, or none. */
+function someOf(chance, items) {
+    return chance.below(2) === 0 ? {} : chance.part(items);
+}
+
+test(`${SESSIONS} sessions, half of them of a part`, () => {
     for (let turn = 0; turn < SESSIONS; turn++) {
         const chance = new Chance(seed + turn);
         const [here, there] = twoOf(chance, chance.of([0, 3, 20, 200]));
         const strategies = [chance.strategy(400), chance.strategy(400)];
         const set = chance.of([undefined, undefined, "", "logst"]);
-        const options = { profile: chance.of([undefined, 1, 2]), set };
+        const part = someOf(chance, [...here, ...there]);
+        const options = { profile: chance.of([undefined, 1, 2]), set, ...part };
         const initiator = new RangeSet(strategies[0].strategy, here).initiate(options);
         const responder = new RangeSet(strategies[1].strategy, there).respond({ set });
         const told = `SEED=${seed + turn}: ${JSON.stringify(strategies.map(({ given }) => given))}`;
-        sameAs(talk(chance, initiator, responder), here, there, told);
+        sameAs(talk(chance, initiator, responder), within(here, part), within(there, part), told);
     }
 });
 
@@ -81,21 +87,23 @@ function connected() {
     ];
 }
 
-test("sets in shards", async () => {
-    for (let turn = 0; turn < SESSIONS / 60; turn++) {
+test("sets in shards, half of them of a part", async () => {
+    for (let turn = 0; turn < SESSIONS / 20; turn++) {
         const chance = new Chance(seed + turn);
-        const [here, there] = twoOf(chance, chance.of([0, 20, 400]));
+        const both = twoOf(chance, chance.of([0, 20, 400]));
         const bits = chance.of([0, 1, 3, 6]);
         const name = chance.bytes(chance.between(0, 64));
         const shardsOf = (items) => new Shards(chance.strategy(600).strategy, bits, items, { name });
-        const [one, other] = [here, there].map(shardsOf);
+        const [one, other] = both.map(shardsOf);
+        const part = someOf(chance, both.flat());
+        const [here, there] = both.map((items) => within(items, part));
         const answers = [];
         const connect = () => {
             const [near, far] = connected();
             answers.push(other.answer(far));
             return near;
         };
-        const found = await one.reconcile(connect, { profile: chance.of([1, 2]), atOnce: chance.of([1, 4]) });
+        const found = await one.reconcile(connect, { profile: chance.of([1, 2]), atOnce: chance.of([1, 4]), ...part });
         const told = `SEED=${seed + turn}`;
         assert.deepEqual(found.ours.map(hex), lacking(here, there), told);
         assert.deepEqual(found.theirs.map(hex), lacking(there, here), told);
@@ -105,7 +113,8 @@ test("sets in shards", async () => {
         assert.deepEqual(learned.flatMap(({ theirs }) => theirs.map(hex)).sort(), lacking(here, there), told);
         assert.equal(one.update(found.theirs), found.theirs.length);
         other.update(found.ours);
-        assert.equal((await one.reconcile(connect)).differ, 0, told);
-        assert.deepEqual([...one].map(hex).sort(), [...other].map(hex).sort());
+        assert.equal((await one.reconcile(connect, part)).differ, 0, told);
+        const all = [one, other].map((shards) => within([...shards], part).map(hex).sort());
+        assert.deepEqual(all[0], all[1], told);
     }
 });

@@ -228,6 +228,77 @@ test("the names of sets", () => {
     assert.throws(() => set.initiate({ set: 1 }), TypeError);
 });
 
+test("a part of a set", () => {
+    const items = ["a", "b", "c", "d"].map(text);
+    const set = new RangeSet(EIGHT, items);
+    const begins = (options) => hex(set.initiate(options).pull()).slice(0, 40);
+    assert.equal(begins({ from: text("b"), to: text("d") }).slice(0, 32), "525253500000000001620164" + "52525331");
+    assert.equal(begins({ from: text("b"), profile: 2 }).slice(0, 30), "5252535000000000016200" + "52525332");
+    assert.equal(begins({ to: text("d"), set: "logsh" }), "52525350056c6f67736800000000016452525331");
+    // A part has a bound: without one it is the whole set.
+    assert.equal(begins({ from: new Uint8Array(0) }), begins({}));
+    assert.equal(begins({ from: undefined, to: undefined, set: "" }), begins({ set: "" }));
+    const other = new RangeSet(EIGHT, ["a", "c", "c1", "e"].map(text));
+    const bounds = { from: text("b"), to: text("d") };
+    const session = set.initiate(bounds);
+    // The caller keeps the memory of the bounds, and the session is over the set as it was.
+    for (const bound of [bounds.from, bounds.to]) bound.fill(0xff);
+    set.insert(text("b1"));
+    const { ours, theirs } = learnedOf(session, other);
+    assert.deepEqual([texts(ours), texts(theirs)], [["b"], ["c1"]]);
+    for (const [number, values, options] of [
+        [72, { length: 65 }, { from: new Uint8Array(65) }],
+        [72, { length: 65 }, { to: new Uint8Array(65) }],
+        [73, {}, { from: text("b"), to: text("b") }],
+        [73, {}, { from: text("ba"), to: text("b") }],
+        [73, {}, { to: new Uint8Array(0) }],
+    ]) {
+        refuses(number, values, () => set.initiate(options));
+    }
+    for (const bound of ["b", null, 1, [98]]) {
+        assert.throws(() => set.initiate({ from: bound }), TypeError);
+        assert.throws(() => set.initiate({ to: bound }), TypeError);
+    }
+});
+
+test("how many messages a session over a part says", () => {
+    const set = new RangeSet(EIGHT, [..."abcdefgh"].map(text));
+    const whole = set.initiate().bound;
+    assert.deepEqual([set.initiate({ from: text("h") }).bound, whole > 2], [2, true]);
+    const responder = set.respond();
+    assert.equal(responder.bound, whole - 1);
+    responder.push(bytesOf("52525350 00 00 0000 01 68 00 525253"));
+    assert.deepEqual([responder.bound, responder.shard], [whole - 1, 0]);
+    responder.push(bytesOf("31"));
+    assert.deepEqual([responder.bound, responder.shard], [1, 0]);
+});
+
+test("a part of a shard that is not kept", () => {
+    const some = new Shards(EIGHT, 2, [], { only: [1] });
+    // The number is judged before the bounds, whether they come or not.
+    for (const [asked, outcome] of [
+        ["52525350 00 02 0001", "refused 3"],
+        ["52525350 00 02 0000", "refused 55"],
+        ["52525350 00 02 0000 01 62 00 52525331", "refused 55"],
+        ["52525350 00 02 0001 01 62 00 52525333", "refused 1"],
+        ["52525350 00 02 ffff 01", "refused 3"],
+    ]) {
+        assert.equal(outcomeOf(some.respond(), bytesOf(asked)).outcome, outcome, asked);
+    }
+});
+
+test("a peer that brings items outside the part", () => {
+    // Neither the answer nor the list is refused; what the peer brings is told as it came.
+    const set = new RangeSet(ALL, ["a", "b"].map(text));
+    const session = set.initiate({ from: text("b") });
+    session.push(bytesOf("52525331 0000000b 02 00 ff 00000002 0161 0162 00000001 04"));
+    assert.deepEqual(texts(session.learned().theirs), ["a"]);
+    const responder = set.respond();
+    responder.push(bytesOf(`52525350 00 00 0000 01 62 00 52525331 00000023 01 ${NONE}`));
+    responder.push(bytesOf("0000000e 03 00 ff 00000001 00 00000001 0161 00000001 04"));
+    assert.deepEqual(texts(responder.learned().theirs), ["a"]);
+});
+
 test("a fault of a peer, of any number", () => {
     for (const [byte, code] of [["37", "WrongSet"], ["63", "OtherKind"], ["ff", ""], ["00", ""]]) {
         const session = new RangeSet(EIGHT).initiate();

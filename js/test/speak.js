@@ -4,8 +4,9 @@
  *     node speak.js sync OPTIONS PORT FILE      one session, or those of a set in shards, with a server at this port
  *     node speak.js answer OPTIONS COUNT FILE   answers so many connections; it prints its port first
  *
- * OPTIONS is JSON: `profile`, `set`, `bits`, and `over`: `socket`, `web` or `websocket`. FILE has an item a line. It
- * prints what was found, a line each, as `ours one` and `theirs two`, and of an answer its shard; or the refusal.
+ * OPTIONS is JSON: `profile`, `set`, `bits`, `from` and `to` as texts, and `over`: `socket`, `web` or `websocket`. FILE
+ * has an item a line. It prints what was found, a line each, as `ours one` and `theirs two`, and of an answer its
+ * shard; or the refusal.
  */
 
 import { readFileSync } from "node:fs";
@@ -16,12 +17,13 @@ import { RangeSet, Refused, Shards, Strategy, answer, sync } from "../index.js";
 import { bridgeTo } from "./bridge.js";
 
 const [role, given, number, path] = process.argv.slice(2);
-const { profile, set, bits, over, table } = JSON.parse(given);
+const { profile, set, bits, from, to, over, table } = JSON.parse(given);
 const lines = readFileSync(path, "utf8").split("\n").filter(Boolean);
-const items = lines.map((line) => new TextEncoder().encode(line));
+const bytes = (text) => text && new TextEncoder().encode(text);
+const items = lines.map(bytes);
 const strategy = Strategy.named(table);
 const held = bits === undefined ? new RangeSet(strategy, items) : new Shards(strategy, bits, items, { name: set });
-const options = { profile, set };
+const part = { from: bytes(from), to: bytes(to) };
 
 function print({ ours, theirs }) {
     for (const [word, found] of [["ours", ours], ["theirs", theirs]]) {
@@ -38,8 +40,8 @@ function connected(port) {
 async function speakFirst() {
     const bridge = over === "websocket" ? await bridgeTo(Number(number)) : null;
     const port = bridge?.port ?? Number(number);
-    if (bits === undefined) print(await sync(held, connected(port), options));
-    else print(await held.reconcile(() => connected(port), { profile, atOnce: 4 }));
+    if (bits === undefined) print(await sync(held, connected(port), { profile, set, ...part }));
+    else print(await held.reconcile(() => connected(port), { profile, atOnce: 4, ...part }));
     bridge?.close();
 }
 

@@ -5,8 +5,9 @@ import { createHash } from "node:crypto";
 import { test } from "node:test";
 
 import { Tree } from "../src/tree.js";
-import { Chance, seedOf } from "./chance.js";
-import { hex } from "./worked.js";
+import { rangeOf } from "../src/items.js";
+import { Chance, seedOf, within } from "./chance.js";
+import { bytesOf, hex } from "./worked.js";
 
 const chance = new Chance(seedOf("tree"));
 const WHOLE = 2n ** 128n;
@@ -31,8 +32,8 @@ function sumOfFirst(view, count) {
     return [...view.sumOfFirst(count)].map((word) => word.toString(16).padStart(8, "0")).join("");
 }
 
-/** Compares all that a view says with an array. */
-function sameAs(view, texts) {
+/** Compares all that a view says with an array, and so of parts of it, and of parts of these. */
+function sameAs(view, texts, depth = 2) {
     assert.equal(view.count, texts.length);
     assert.deepEqual([...view.items(0, view.count)].map(hex), texts);
     for (let turn = 0; turn < 20; turn++) {
@@ -48,6 +49,12 @@ function sameAs(view, texts) {
     }
     assert.equal(view.below(null), texts.length);
     assert.equal(sumOfFirst(view, texts.length), lanesOf(texts));
+    for (let turn = 0; turn < depth; turn++) {
+        const items = texts.map(bytesOf);
+        const part = chance.part(items);
+        const { from, to } = part;
+        sameAs(view.part(rangeOf(from, to)), within(items, part).map(hex), depth - 1);
+    }
 }
 
 for (const count of [0, 1, 2, 24, 31, 32, 33, 100, 577, 2000]) {

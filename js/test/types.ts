@@ -20,9 +20,9 @@ export async function talk(socket: WebSocket, streams: Streams): Promise<Learned
     const connect = (): Stream => new WebSocket("ws://localhost:7701");
     try {
         const { shard, ours } = await shards.answer(streams, { signal: new AbortController().signal });
-        const found = await shards.reconcile(connect, { atOnce: 8, profile: 1 });
+        const found = await shards.reconcile(connect, { atOnce: 8, profile: 1, from: item });
         const learned = { ours, theirs: shard === null ? [] : [item] };
-        return [await sync(set, socket), await answer(version, streams), await run(session, socket), found, learned];
+        return [await sync(set, socket, { from: item, to: item }), await answer(version, streams), await run(session, socket), found, learned];
     } catch (fault) {
         if (fault instanceof Refused) return fault.number === 3 && !fault.byPeer ? [] : [session.learned()];
         if (fault instanceof Incomplete) return [fault.found];
@@ -33,6 +33,8 @@ export async function talk(socket: WebSocket, streams: Streams): Promise<Learned
 for (const each of set.items(item)) each.fill(isNew ? count : 0);
 // @ts-expect-error: an item is a Uint8Array.
 set.insert("one");
+// @ts-expect-error: the side that speaks first says the part.
+set.respond({ from: item });
 // @ts-expect-error: there is no such profile.
 set.initiate({ profile: 3 });
 // @ts-expect-error: there is no such table.

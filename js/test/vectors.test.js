@@ -77,8 +77,8 @@ for (const folder of ["sessions", "faults"]) {
 }
 
 /** What a side keeps in shards. */
-function shardsOf({ name = "", bits }, { table, items }) {
-    return new Shards(tableOf(table), bits, items.map(bytesOf), { name: bytesOf(name) });
+function shardsOf({ set = "", bits }, { table, items }) {
+    return new Shards(tableOf(table), bits, items.map(bytesOf), { name: bytesOf(set) });
 }
 
 for (const each of casesOf("directories")) {
@@ -95,23 +95,37 @@ for (const each of casesOf("directories")) {
     });
 }
 
-for (const each of casesOf("selectors")) {
-    test(each.name, () => {
-        const selector = bytesOf(each.selector);
-        const all = bytesOf(each.selector + each.message);
-        const responders = [() => shardsOf(each, each).respond()];
-        if (each.bits === 0) responders.push(() => setOf(each).respond({ set: bytesOf(each.name) }));
-        for (const respond of responders) {
-            for (const lengths of CUTS) {
-                const { outcome, written } = outcomeOf(respond(), all, lengths);
-                assert.deepEqual([outcome, written], [each.outcome, hex(bytesOf(each.reply))]);
+/** The responders of a case: a set in shards, and a set where there is no shard. */
+function respondersOf(each) {
+    const responders = [];
+    if (each.bits !== undefined) responders.push(() => shardsOf(each, each).respond());
+    if (!each.bits) responders.push(() => setOf(each).respond({ set: namedBy(each) }));
+    return responders;
+}
+
+/** The name that a side is given, if it is given one. */
+function namedBy({ set }) {
+    return set === undefined ? undefined : bytesOf(set);
+}
+
+
+for (const folder of ["selectors", "parts"]) {
+    for (const each of casesOf(folder)) {
+        test(each.name, () => {
+            const selector = bytesOf(each.selector);
+            const all = bytesOf(each.selector + each.message);
+            for (const respond of respondersOf(each)) {
+                for (const lengths of CUTS) {
+                    const { outcome, written } = outcomeOf(respond(), all, lengths);
+                    assert.deepEqual([outcome, written], [each.outcome, hex(bytesOf(each.reply))]);
+                }
+                for (let length = 0; each.outcome === "ended" && length < selector.length; length++) {
+                    const { outcome, written } = outcomeOf(respond(), selector.subarray(0, length));
+                    assert.deepEqual([outcome, written], ["refused 3", "52525331000000020503"]);
+                }
             }
-            for (let length = 0; each.outcome === "ended" && length < selector.length; length++) {
-                const { outcome, written } = outcomeOf(respond(), selector.subarray(0, length));
-                assert.deepEqual([outcome, written], ["refused 3", "52525331000000020503"]);
-            }
-        }
-    });
+        });
+    }
 }
 
 /** A pair of web streams by which these bytes come, and then the end; what was written is put into a list. */
@@ -125,6 +139,32 @@ function played(bytes, written) {
     const mine = [];
     written.push(mine);
     return { readable, writable: new WritableStream({ write: (piece) => void mine.push(piece) }) };
+}
+
+/** The number that a selector of a part has behind its name and b, in hex, and its bounds as options. */
+function readPart(selector) {
+    const number = 5 + selector[4] + 1;
+    const to = number + 3 + selector[number + 2];
+    const bounds = { from: selector.subarray(number + 3, to), to: selector.subarray(to + 1) };
+    const there = Object.entries(bounds).filter(([, bound]) => bound.length > 0);
+    return { number: hex(selector.subarray(number, number + 2)), bounds: Object.fromEntries(there) };
+}
+
+for (const each of casesOf("parts")) {
+    const selector = bytesOf(each.selector);
+    if (each.outcome !== "ended" || selector.length === 0) continue;
+    const { number, bounds } = readPart(selector);
+    // Of a set in shards the directory is asked for first.
+    if (each.bits > 0 && number !== "ffff") continue;
+    test(`${each.name}: the selector of an initiator`, async () => {
+        const written = [];
+        if (!each.bits) written.push([setOf(each).initiate({ set: namedBy(each), ...bounds }).pull()]);
+        const asked = () => shardsOf(each, each).reconcile(() => played(new Uint8Array(0), written), bounds);
+        if (each.bits !== undefined) await assert.rejects(asked(), { name: "Refused", number: 3 });
+        for (const pieces of written) {
+            assert.equal(hex(Buffer.concat(pieces).subarray(0, selector.length)), hex(selector));
+        }
+    });
 }
 
 /** How a call of `reconcile` ended, as the cases have it. */

@@ -29,13 +29,14 @@ export function fileOf(path) {
     return readFileSync(new URL(path, TOP));
 }
 
-/** The cases of a folder, with their names. */
+/** The cases of a folder, with their names; `set` is the name of a set. */
 export function casesOf(folder) {
     const names = readdirSync(new URL(folder, CASES)).filter((name) => name.endsWith(".toml"));
     if (names.length === 0) throw new Error(`no case in ${folder}`);
     return names.map((file) => {
         const name = `${folder}/${file}`;
-        return { name, ...readToml(readFileSync(new URL(name, CASES))) };
+        const { name: set, ...fields } = readToml(readFileSync(new URL(name, CASES)));
+        return set === undefined ? { name, ...fields } : { name, set, ...fields };
     });
 }
 

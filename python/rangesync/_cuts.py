@@ -3,20 +3,24 @@
 from __future__ import annotations
 
 import hashlib
-from collections.abc import Iterable
+from collections.abc import Container, Iterable
 from dataclasses import dataclass
 
 from ._library import Data, _bytes
 from ._refused import Refused
-from ._sets import Set
+from ._sets import Set, Version
 
 DIRECTORY = 0xFFFF
 """The number that stands for the directory."""
 MOST_BITS, MOST_NAME, MOST_COUNT = 12, 64, 65_536
-_MARK = b"RRSN"
-_ENTRY = 38
+_WHOLE, _PART = b"RRSN", b"RRSP"
+"""What a selector of all items begins with, and one of the items of a range."""
+_ENTRY, _LONGEST = 38, 64
 HELLO = 4
 """How many bytes a hello has."""
+Bounds = tuple[bytes, bytes]
+ALL: Bounds = b"", b""
+"""The bounds of all items: no bytes are the start, and the end."""
 
 
 def shard_of(item: Data, bits: int) -> int:
@@ -30,7 +34,7 @@ def shard_of(item: Data, bits: int) -> int:
     return int.from_bytes(hashlib.sha256(_bytes(item)).digest()[:2], "big") >> 16 - bits
 
 
-def entry_of(number: int, held: Set) -> bytes:
+def entry_of(number: int, held: Set | Version) -> bytes:
     """The entry of a shard that nobody changes meanwhile. The first message of a session has the fingerprint."""
     with held.initiate() as session:
         fingerprint = b"".join(session.pulls())[11:43]
@@ -40,13 +44,36 @@ def entry_of(number: int, held: Set) -> bytes:
 def front_length(came: bytes) -> int:
     """How many bytes are taken off the front of what came: those of a selector, whosever it is.
 
-    Of one that is not whole, and so without a hello, it is more than have come. A name of more than 64 bytes is none:
-    its bytes stay.
+    Of one that is not whole, and so without a hello, it is more than have come. A name or a bound of more than 64 bytes
+    is none: its bytes stay, and what is after them.
     """
-    if came[:4] != _MARK:
-        return 0
-    name = came[4] if len(came) > 4 else 0
-    return 8 + name if name <= MOST_NAME else 5
+    # How many bytes stand behind the bytes of each length.
+    behind = {_WHOLE: (3,), _PART: (3, 0, 0)}.get(came[:4], ())
+    taken = 4 if behind else 0
+    for more in behind:
+        length = came[taken] if taken < len(came) else 0
+        taken += 1
+        if length > _LONGEST:
+            break
+        taken += length + more
+    return taken
+
+
+def _bounds(rest: bytes) -> Bounds:
+    """The bounds with which this begins. Raises `Refused` 55, 3."""
+    found = []
+    for _ in range(2):
+        length = rest[0] if rest else 0
+        if length > _LONGEST:
+            raise Refused(55)
+        if len(rest) <= length:
+            raise Refused(3)
+        found.append(rest[1 : 1 + length])
+        rest = rest[1 + length :]
+    lower, upper = found
+    if lower >= upper and (upper or not lower):
+        raise Refused(55)
+    return lower, upper
 
 
 @dataclass(frozen=True)
@@ -62,25 +89,35 @@ class Cut:
         if len(self.name) > MOST_NAME:
             raise ValueError(f"a name is to have at most {MOST_NAME} bytes")
 
-    def _front(self) -> bytes:
+    def _front(self, mark: bytes) -> bytes:
         """What the selectors of all its sessions begin with."""
-        return _MARK + bytes([len(self.name)]) + self.name + bytes([self.bits])
+        return mark + bytes([len(self.name)]) + self.name + bytes([self.bits])
 
-    def selector(self, number: int) -> bytes:
+    def selector(self, number: int, bounds: Bounds) -> bytes:
         """The selector of a shard's session, or of the directory's."""
-        return self._front() + number.to_bytes(2, "big")
+        if bounds == ALL:
+            return self._front(_WHOLE) + number.to_bytes(2, "big")
+        written = b"".join(bytes([len(bound)]) + bound for bound in bounds)
+        return self._front(_PART) + number.to_bytes(2, "big") + written
 
-    def selected(self, came: bytes) -> int:
-        """The number that what came selects, up to the hello or the end. Raises `Refused` 1, 55, 3."""
-        front = self._front()
-        if not _MARK.startswith(came[:4]):
+    def selected(self, came: bytes, kept: Container[int]) -> tuple[int, Bounds]:
+        """The number, one of these, and the bounds that what came selects, up to the hello or the end.
+
+        Raises `Refused` 1, 55, 3.
+        """
+        is_part = came[:4] == _PART
+        front = self._front(_PART if is_part else _WHOLE)
+        if not front.startswith(came[:4]):
             raise Refused(1)
         if not front.startswith(came[: len(front)]):
             raise Refused(55)
-        number = came[len(front) : len(front) + 2]
-        if len(number) < 2:
+        rest = came[len(front) :]
+        if len(rest) < 2:
             raise Refused(3)
-        return int.from_bytes(number, "big")
+        number = int.from_bytes(rest[:2], "big")
+        if number not in kept:
+            raise Refused(55)
+        return number, _bounds(rest[2:]) if is_part else ALL
 
     def _flaw(self, entry: bytes, numbers: set[int]) -> str:
         """Why an item is no entry beside those of these numbers; empty where it is one."""

@@ -9,7 +9,7 @@ from concurrent.futures import ThreadPoolExecutor
 from dataclasses import dataclass
 from typing import NoReturn, Union
 
-from ._cuts import DIRECTORY, HELLO, Cut, entry_of, front_length, shard_of
+from ._cuts import ALL, DIRECTORY, HELLO, Bounds, Cut, entry_of, front_length, shard_of
 from ._library import Data, _bytes
 from ._refused import Refused
 from ._running import Connection, _hear, run
@@ -68,8 +68,10 @@ class Incomplete(Exception):
 class _Asking:
     """One call of `reconcile`: what it speaks of, and the fault by which no connection could be made."""
 
-    def __init__(self, cut: Cut, versions: dict[int, Version], connect: Connect, profile: int) -> None:
-        self.cut, self.versions = cut, versions
+    def __init__(
+        self, cut: Cut, bounds: Bounds, versions: dict[int, Version], connect: Connect, profile: int
+    ) -> None:
+        self.cut, self.bounds, self.versions = cut, bounds, versions
         self.connect, self.profile = connect, profile
         self.gone: Exception | None = None
 
@@ -82,7 +84,7 @@ class _Asking:
                 self.gone = fault
                 raise
             # In one piece: what follows a selector that goes alone may wait for the other system to confirm that.
-            connection.sendall(self.cut.selector(number) + session.pull())
+            connection.sendall(self.cut.selector(number, self.bounds) + session.pull())
             learned = run(session, connection)
         return learned
 
@@ -261,14 +263,33 @@ class Shards:
         raise TypeError("Shards can be neither copied nor pickled")
 
     def _versions(self) -> dict[int, Version]:
-        """All shards, and the directory, as they are at one time."""
+        """All shards as they are at one time, and the directory of these."""
         with self._lock:
             versions = {number: held.version() for number, held in self._sets.items()}
             if self.bits:
                 versions[DIRECTORY] = self._listed().version()
         return versions
 
-    def reconcile(self, connect: Connect, profile: int = 1, at_once: int = 1) -> Reconciled:
+    def _part(self, version: Version, bounds: Bounds) -> Version:
+        """The items of a shard between two bounds, as a set of their own: a copy. Raises `Refused` 72, 73."""
+        with Set(self._strategy, version.items(*bounds)) as part:
+            return part.version()
+
+    def _parts(self, bounds: Bounds) -> dict[int, Version]:
+        """The same as `_versions`, of the items between two bounds."""
+        versions = self._versions()
+        if bounds == ALL:
+            return versions
+        parts = {number: self._part(versions[number], bounds) for number in self._sets}
+        if self.bits:
+            entries = (entry_of(number, part) for number, part in parts.items())
+            with Set(self._strategy, entries) as directory:
+                parts[DIRECTORY] = directory.version()
+        return parts
+
+    def reconcile(
+        self, connect: Connect, profile: int = 1, at_once: int = 1, start: Data = b"", end: Data = b""
+    ) -> Reconciled:
         """Finds how this set, as it is now, and that of the other side differ. This side speaks first.
 
         `connect` opens a connection to the other side, as `socket.create_connection` does: a context manager, whose end
@@ -276,15 +297,19 @@ class Shards:
         directory, once in all. So many sessions as `at_once` says run at the same time, and `connect` is then called in
         other threads. Nothing is put in: `update(found.theirs)` does that.
 
+        With `start` or `end` it finds how the items from `start` on and before `end` differ, and nothing else. It makes
+        a copy of its items there for that, which takes some microseconds an item, and so does `answer`.
+
         Raises `Incomplete` where shards that differ were not reconciled, with what was found in the others. Before
         that, of the session over the directory, raises as `run`, and what `connect` raises: nothing is known then.
         Raises `Refused` 55 by the peer where it has another name or other bits, 57 where its directory is none, 56 for
-        the first shard that is kept here and not there, with its number in `shard`, and 98 where there is no such
-        profile.
+        the first shard that is kept here and not there, with its number in `shard`, 98 where there is no such profile,
+        72 where a bound has more than 64 bytes, and 73 where `start` is not below `end`.
         """
         if at_once < 1:
             raise ValueError("at_once is to be 1 or more")
-        asking = _Asking(self._cut, self._versions(), connect, profile)
+        bounds = _bytes(start), _bytes(end)
+        asking = _Asking(self._cut, bounds, self._parts(bounds), connect, profile)
         if self.bits:
             numbers = asking.differing()
             return _found(numbers, asking.shards(numbers, at_once))
@@ -292,7 +317,8 @@ class Shards:
         return Reconciled(learned.ours, learned.theirs, int(bool(learned.ours or learned.theirs)))
 
     def answer(self, connection: Connection) -> Answered:
-        """Answers one connection, in the profile of the other side, which speaks first: for a shard or the directory.
+        """Answers one connection, in the profile of the other side, which speaks first: for a shard or the directory,
+        or for a part of these.
 
         It closes nothing. Nothing is put in: `update(answered.learned.theirs)` does that. Threads may answer at the
         same time, each its own connection; a session is of the shard as it is when that is asked for.
@@ -304,25 +330,24 @@ class Shards:
         hello = came[front_length(came) :]
         profile = 2 if hello[:HELLO] == b"RRS2" else 1
         try:
-            number = self._asked(came)
+            number, bounds = self._cut.selected(came, self._sets.keys() | ({DIRECTORY} if self.bits else set()))
         except Refused as fault:
             # The refusal stands, whether the other side can be told of it or not.
             with contextlib.suppress(OSError):
                 connection.sendall(b"RRS%d" % profile + bytes([0, 0, 0, 2, 5, fault.number]))
             raise
-        with self._lock:
-            version = (self._listed() if number == DIRECTORY else self._sets[number]).version()
-        with version, version.respond(profile) as session:
+        with self._asked(number, bounds) as version, version.respond(profile) as session:
             _hear(session, hello)
             learned = run(session, connection)
         return Answered(None, Learned([], [])) if number == DIRECTORY else Answered(number, learned)
 
-    def _asked(self, came: bytes) -> int:
-        """The number of what is asked for: a shard that is kept here, or the directory. Raises `Refused` 1, 55, 3."""
-        number = self._cut.selected(came)
-        if number not in self._sets and not (self.bits and number == DIRECTORY):
-            raise Refused(55)
-        return number
+    def _asked(self, number: int, bounds: Bounds) -> Version:
+        """What is asked for, as it is now: a shard, or the directory, of the items between two bounds."""
+        if number == DIRECTORY and bounds != ALL:
+            return self._parts(bounds)[DIRECTORY]
+        with self._lock:
+            version = (self._listed() if number == DIRECTORY else self._sets[number]).version()
+        return version if bounds == ALL else self._part(version, bounds)
 
 
 def _heard(connection: Connection) -> bytes:

@@ -6,7 +6,8 @@ ghost use Rattle.printing_core.specs.declared.sessions.Listing.TheVariants as li
 use crate::stdio::sync_stdio;
 use crate::sync::sync;
 use crate::sync_shards::{AskingShards, sync_shards};
-use crate::talking::Talk;
+use crate::talking::{Spoken, Talk};
+use item_core::Range;
 use item_files::{ItemForm, WireProfile};
 use loading::{Sources, Target, load, load_shards};
 use printing_core::{Listing, Refusal, difference_status};
@@ -46,6 +47,8 @@ pub struct Asking<'a> {
     pub form: ItemForm,
     /// What the set is called, if the other side is to be told.
     pub set: Option<SetName<'a>>,
+    /// The range of the items that are spoken of.
+    pub part: &'a Range,
     /// How often a session is tried again, if a number is given.
     pub retry: Option<u32>,
     /// Whether standard error is told more.
@@ -65,10 +68,16 @@ fn listing_of(words: SyncWords<'_>) -> Listing
 }
 
 impl<'a> Asking<'a> {
-    /// What is asked for in these words, of a set that is called so; and whether standard error is told more.
-    pub fn asked(words: SyncWords<'a>, set: Option<SetName<'a>>, explains: bool) -> Asking<'a>
+    /// What is asked for in these words, of this part of a set that is called so; and whether standard error is told
+    /// more.
+    pub fn asked(
+        words: SyncWords<'a>,
+        set: Option<SetName<'a>>,
+        part: &'a Range,
+        explains: bool,
+    ) -> Asking<'a>
         ensures reached { (result.address ≡ words.entry.address) × (result.profile ≡ words.entry.profile)
-            × (result.set ≡ set.entry) }
+            × (result.set ≡ set.entry) × (result.part ≡ part.entry) }
         ensures limits { (result.limits.patience ≡ words.entry.patience)
             × (result.limits.most_bytes ≡ words.entry.most_bytes) }
         ensures printed { (result.stats ≡ words.entry.stats) × (result.out ≡ words.entry.out) }
@@ -90,6 +99,7 @@ impl<'a> Asking<'a> {
             keep: words.keep,
             form: words.form,
             set,
+            part,
             retry: words.retry,
             explains,
         }
@@ -100,7 +110,11 @@ impl<'a> Asking<'a> {
         Talk {
             profile: self.profile,
             most_bytes: self.limits.most_bytes,
-            set: self.set.map(|set| (set, Which::Shard(0))),
+            set: self.set.map(|set| Spoken {
+                set,
+                which: Which::Shard(0),
+                range: self.part,
+            }),
         }
     }
 }
@@ -126,8 +140,8 @@ where
     ensures { IfOk result (λ status. (status ≡ 0) ⊎ ((status ≡ 4) × (words.entry.checks ≡ true))) }
 {
     let (reader, out) = ends;
-    let asking = Asking::asked(words, target.set, target.explains);
-    let sources = Sources::of_asker(words, target.explains, target.shows);
+    let asking = Asking::asked(words, target.set, target.part, target.explains);
+    let sources = Sources::of_asker(words, target.part, target.explains, target.shows);
     let differ = if words.stdio {
         let loaded = load(rt, sources, io::empty(), err)?;
         sync_stdio(rt, loaded, asking, (reader, out), err)?

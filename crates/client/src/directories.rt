@@ -12,10 +12,10 @@ ghost use Rattle.version_log.specs.Logs.{IsCap};
 
 use crate::costs::Costs;
 use crate::reaching::connect_to;
-use crate::talking::{Talk, converse};
+use crate::talking::{Spoken, Talk, converse};
 use crate::trying::Tries;
 use ends_core::Learned;
-use item_core::Item;
+use item_core::{Item, Range};
 use item_files::WireProfile;
 use peer_threads::Outcome;
 use printing_core::{Fault, Refusal, Stats, learned_in};
@@ -41,6 +41,8 @@ pub struct Asker<'a> {
     pub limits: Limits,
     /// What the set is called, and how it is cut.
     pub set: SetName<'a>,
+    /// The range of the items that are spoken of.
+    pub part: &'a Range,
 }
 
 impl<'a> Asker<'a> {
@@ -49,7 +51,11 @@ impl<'a> Asker<'a> {
         Talk {
             profile: self.profile,
             most_bytes: self.limits.most_bytes,
-            set: Some((self.set, which)),
+            set: Some(Spoken {
+                set: self.set,
+                which,
+                range: self.part,
+            }),
         }
     }
 

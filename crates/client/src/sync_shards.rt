@@ -156,6 +156,7 @@ where
         profile: asking.asking.profile,
         limits: asking.asking.limits,
         set: asking.set,
+        part: asking.asking.part,
     };
     let cap = accepted.cap();
     let entries = set.directory(alloc)?;

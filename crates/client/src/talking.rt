@@ -5,6 +5,7 @@ ghost use Rattle.std.specs.Arc.{arc_value};
 
 use digest_core::{Counted, Fingerprint, Summary};
 use io_core::{Watched, write_output};
+use item_core::Range;
 use item_files::WireProfile;
 use loading::{Metered, millis_since};
 use peer_threads::{Connection, OpenGate, Outcome, Shared, dial_one};
@@ -21,6 +22,17 @@ use tcp_front::limited;
 use version_lock::{Seat, VersionLock};
 use version_log::Log;
 
+/// Of what a session speaks.
+#[derive(Clone, Copy)]
+pub struct Spoken<'a> {
+    /// What the set is called, and how it is cut.
+    pub set: SetName<'a>,
+    /// The shard, or the directory.
+    pub which: Which,
+    /// The range of the items.
+    pub range: &'a Range,
+}
+
 /// How a session is run.
 #[derive(Clone, Copy)]
 pub struct Talk<'a> {
@@ -28,8 +40,8 @@ pub struct Talk<'a> {
     pub profile: WireProfile,
     /// How many bytes are read.
     pub most_bytes: u32,
-    /// Which set the other side is told, if it is told.
-    pub set: Option<(SetName<'a>, Which)>,
+    /// Of what the other side is told that it is spoken, if it is told.
+    pub set: Option<Spoken<'a>>,
 }
 
 /// Speaks first in the profile of the summary, over this reader and this writer. What comes of it, and what it cost.
@@ -57,17 +69,17 @@ fn dial<R: Wait + Clock, I: Read + Drop, O: Write + Drop, F: Summary>(
     (outcome, stats)
 }
 
-/// Writes of which set is spoken, if it is named: how many bytes. Else 90 or `io write`.
+/// Writes of what is spoken, if the other side is told: how many bytes. Else 90 or `io write`.
 fn name_set<O: Write>(
     alloc: Global,
-    set: Option<(SetName<'_>, Which)>,
+    set: Option<Spoken<'_>>,
     writer: &mut O,
 ) -> Result<u64, Fault> {
-    let Some((set, which)) = set else {
+    let Some(Spoken { set, which, range }) = set else {
         return Ok(0);
     };
     let mut selector = Vec::new(alloc);
-    set.push(&mut selector, which)?;
+    set.push(&mut selector, which, range)?;
     write_output(&mut Watched::new(writer), &selector)?;
     Ok(selector.len() as u64)
 }

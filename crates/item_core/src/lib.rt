@@ -4,6 +4,7 @@
 mod item;
 mod listed;
 mod lower;
+mod prefix;
 mod range;
 mod short;
 mod upper;

@@ -131,7 +131,7 @@ fn content_of(form: ItemForm, line: &[u8]) -> &[u8]
 }
 
 /// The item that what is left of a line spells, if it spells one.
-fn spelled(form: ItemForm, content: &[u8]) -> Option<Item>
+pub fn spelled(form: ItemForm, content: &[u8]) -> Option<Item>
     ensures { result ≡ spelled form content.now }
 {
     match form {

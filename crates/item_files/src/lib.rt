@@ -19,7 +19,9 @@ pub use bad_line::{BadLine, Front, LineFlaw};
 pub use fault::SettingsFault;
 pub use form::ItemForm;
 pub use io_core::ReadFault;
-pub use item_file::{has_byte_order_mark, item_of, item_set, read_input_items, read_items};
+pub use item_file::{
+    has_byte_order_mark, item_of, item_set, read_input_items, read_items, spelled,
+};
 pub use load_fault::LoadFault;
 pub use options::LoadOptions;
 pub use profile::WireProfile;

@@ -3,7 +3,7 @@
 //! | File | Tests |
 //! |---|---|
 //! | `calls` | one run through each call that takes memory and that the program does not make |
-//! | `trees` | trees that grow by one item at a time, and that threads load |
+//! | `trees` | trees that grow by one item at a time, that threads load, and parts of one |
 //! | `floods` | the longest reply, and one that would be longer |
 //! | `streams` | what a stream answers is passed on, and noted |
 //! | `line_files` | which calls of a device are made, and which failure is told |

@@ -1,6 +1,6 @@
-//! Trees that grow by one item at a time, and trees that threads load.
+//! Trees that grow by one item at a time, trees that threads load, and parts of a tree.
 
-use item_core::{Item, Range};
+use item_core::{Item, Lower, Range, Upper};
 use range_tree::Tree;
 use std::alloc::Global;
 use std::process::Abort;
@@ -10,6 +10,15 @@ use store_core::{Insertion, RangeStore, set_laws, spans};
 
 fn item(rt: &impl Abort, number: u16) -> Item {
     Item::new(&number.to_be_bytes()).ok().expect(rt, "an item")
+}
+
+/// The items of the first numbers.
+fn first(rt: &impl Abort, alloc: Global, count: u16) -> Result<Vec<Item>, Fail> {
+    let mut items = Vec::new(alloc);
+    for number in 0..count {
+        items.push(item(rt, number))?;
+    }
+    Ok(items)
 }
 
 fn added(rt: &impl Abort, alloc: Global, tree: &Tree, item: Item) -> Tree {
@@ -40,11 +49,7 @@ fn is_same(rt: &impl Abort, alloc: Global, tree: &Tree, loaded: &Tree) -> Result
 /// The first numbers, loaded by one thread and by as many as four, and put in one by one.
 fn all_ways(rt: &(impl Abort + Threads + Sync), alloc: Global, count: u16) -> Result<(), Fail> {
     set_laws::set_of_a_list();
-    let mut items = Vec::new(alloc);
-    for number in 0..count {
-        items.push(item(rt, number))?;
-    }
-    let items = spans::distinct(items);
+    let items = spans::distinct(first(rt, alloc, count)?);
     let loaded = Tree::from_rising(alloc, &items)?;
     assert!(rt; loaded.len() == usize::from(count));
     is_same(
@@ -62,6 +67,41 @@ fn trees_of_each_size(rt: HostRuntime) -> Result<(), Fail> {
     let alloc = rt.alloc();
     for count in [0u16, 1, 1_023, 1_024, 2_047, 2_048, 20_001] {
         all_ways(&rt, alloc, count)?;
+    }
+    Ok(())
+}
+
+/// The part of a tree between two numbers has the items of that range.
+fn part_is_same(
+    rt: &impl Abort,
+    alloc: Global,
+    tree: &Tree,
+    from: u16,
+    to: u16,
+) -> Result<(), Fail> {
+    let range = Range::new(Lower::from(item(rt, from)), Upper::Before(item(rt, to)))
+        .ok()
+        .expect(rt, "a range");
+    let part = tree.part(alloc, &range)?;
+    let loaded = Tree::from_items(alloc, tree.items(alloc, &range)?)?;
+    is_same(rt, alloc, &part, &loaded)
+}
+
+// Of leaves of 32 items: a part of one, short ends at both sides of one, at both sides of many, whole leaves, all, and
+// none.
+#[test]
+fn parts_of_a_tree(rt: HostRuntime) -> Result<(), Fail> {
+    let alloc = rt.alloc();
+    let tree = Tree::from_items(alloc, first(&rt, alloc, 3_000)?)?;
+    for (from, to) in [
+        (5u16, 9u16),
+        (31, 65),
+        (1, 2_999),
+        (32, 96),
+        (0, 3_000),
+        (3_000, 3_001),
+    ] {
+        part_is_same(&rt, alloc, &tree, from, to)?;
     }
     Ok(())
 }

@@ -1,12 +1,12 @@
 //! What a side of sessions begins with.
 
 ghost use Rattle.std.specs.Prelude.{◌≡◌, ◌≤◌, ◌++◌, Some, None, length, IfOk};
-ghost use Rattle.definitions.specs.Sets.{IsSet, set_of};
+ghost use Rattle.definitions.specs.Sets.{IsSet, items_in, set_of};
 ghost use Rattle.range_tree.specs.Trees.{tree_items};
 
 use crate::disk::{Kept, Opened, item_file, open_lines};
 use crate::sharded_set::ShardedSet;
-use item_core::Item;
+use item_core::{Item, Range};
 use item_files::{
     ItemForm, ReadFault, SettingsFault, accepted_in, document, read_document, read_input_items,
     read_items, stray_key,
@@ -121,12 +121,19 @@ pub struct Sources<'a> {
     pub shows: bool,
     /// Whether what is learned is written to files, which may be the item file.
     pub learns: bool,
+    /// The range of the items that are kept; the others are left out.
+    pub part: &'a Range,
 }
 
 impl<'a> Sources<'a> {
-    /// Where a server begins from that is asked for in these words; whether standard error is told more, and whether it
-    /// is shown how far all is.
-    pub fn of_server(words: ServeWords<'a>, explains: bool, shows: bool) -> Sources<'a>
+    /// Where a server begins from that is asked for in these words, and that has the items of this range; whether
+    /// standard error is told more, and whether it is shown how far all is.
+    pub fn of_server(
+        words: ServeWords<'a>,
+        part: &'a Range,
+        explains: bool,
+        shows: bool,
+    ) -> Sources<'a>
         ensures files { (result.table.path ≡ words.entry.table) × (result.items ≡ words.entry.items)
             × (result.keep ≡ words.entry.keep) × (result.form ≡ words.entry.form) }
         ensures told { (result.table.explains ≡ explains) × (result.shows ≡ shows) }
@@ -142,14 +149,21 @@ impl<'a> Sources<'a> {
             keep: words.keep,
             learns: words.keep.is_some() || words.learned.is_some(),
             shows,
+            part,
         }
     }
 
-    /// Where a `sync` begins from that is asked for in these words; whether standard error is told more, and whether it
-    /// is shown how far all is.
-    pub fn of_asker(words: SyncWords<'a>, explains: bool, shows: bool) -> Sources<'a>
+    /// Where a `sync` begins from that is asked for in these words, and that speaks of the items of this range; whether
+    /// standard error is told more, and whether it is shown how far all is.
+    pub fn of_asker(
+        words: SyncWords<'a>,
+        part: &'a Range,
+        explains: bool,
+        shows: bool,
+    ) -> Sources<'a>
         ensures files { (result.table.path ≡ words.entry.table) × (result.items ≡ Some words.entry.items)
             × (result.keep ≡ None) × (result.form ≡ words.entry.form) }
+        ensures part { result.part ≡ part.entry }
         ensures told { (result.table.explains ≡ explains) × (result.shows ≡ shows) }
     {
         Sources {
@@ -163,6 +177,7 @@ impl<'a> Sources<'a> {
             keep: None,
             learns: words.keep.is_some(),
             shows,
+            part,
         }
     }
 
@@ -291,6 +306,18 @@ fn joined_set<'a>(
     }
 }
 
+/// The items of a set that are in the range.
+fn items_within(items: Vec<Item>, range: &Range) -> Vec<Item>
+    requires { IsSet items.items }
+    ensures held { result.items ≡ items_in items.items range.now }
+    ensures rises { IsSet result.items }
+    ensures few { length result.items ≤ length items.items }
+{
+    let mut items = items;
+    items.retain(|item| range.contains(item));
+    items
+}
+
 /// The store of the items of a set, which up to four threads hash. The list is given up here.
 fn stored<R: Threads + Sync>(rt: &R, alloc: Global, items: Vec<Item>) -> Result<Tree, AllocError>
     requires { IsSet items.items }
@@ -303,7 +330,7 @@ fn stored<R: Threads + Sync>(rt: &R, alloc: Global, items: Vec<Item>) -> Result<
 ///
 /// The strategy is judged first: 80, 30 to 35 or 29, then 37, 36 or 38. Then the items are: 80, 81, then 82 where there
 /// are more different items than the strategy's cap; and then those of the file in which the set is kept, in the same
-/// way.
+/// way. Items out of the range are left out last.
 pub fn load<'a, R: Files<File = File> + AllocGlobal + Threads + Sync, I: Read + Drop, E: Write>(
     rt: &R,
     sources: Sources<'a>,
@@ -322,7 +349,8 @@ pub fn load<'a, R: Files<File = File> + AllocGlobal + Threads + Sync, I: Read + 
     let mut kept = open_kept(rt, sources, err)?;
     let items = {
         let more = kept_set(alloc, sources, &mut kept.opened, cap)?;
-        joined_set(alloc, items, &more, sources, cap)?
+        let joined = joined_set(alloc, items, &more, sources, cap)?;
+        items_within(joined, sources.part)
     };
     let store = stored(rt, alloc, items)?;
     let log = Log::of_store(alloc, accepted.cap(), store);

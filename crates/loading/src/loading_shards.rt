@@ -10,11 +10,11 @@ use crate::loading::{Loaded, Sources, open_kept, strategy_of};
 use crate::sharded_set::ShardedSet;
 use crate::showing::{Screen, Shown};
 use io_core::Watched;
-use item_core::Item;
+use item_core::{Item, Range};
 use item_files::{LoadFault, LoadOptions, ReadFault, read_shards};
 use printing_core::{Refusal, STANDARD_INPUT};
 use settings_core::Sharding;
-use shard_core::{join_shards, shard_count};
+use shard_core::{join_shards, shard_count, shards_within};
 use std::alloc::Global;
 use std::fs::{File, OpenFile};
 use std::io::{ErrorKind, Read, Write};
@@ -180,6 +180,14 @@ fn enough_places<'a>(accepted: &Accepted, table: &'a str, bits: u8) -> Result<()
     Ok(())
 }
 
+/// The shards of the items that are in the range.
+fn part_of(shards: Vec<Vec<Item>>, options: LoadOptions, range: &Range) -> Vec<Vec<Item>>
+    requires { AreKept options.bits options.first options.last options.cap (held shards.items) }
+    ensures { AreKept options.bits options.first options.last options.cap (held result.items) }
+{
+    shards_within(shards, range)
+}
+
 /// How many items all shards have.
 fn count_of(shards: &[Vec<Item>]) -> usize {
     let mut count: usize = 0;
@@ -211,6 +219,7 @@ where
     let shards = item_shards(sources.items, reader, options, screen)?;
     let mut kept = open_kept(rt, sources, screen.err())?;
     let shards = with_kept(sources.keep, &mut kept.opened, shards, options, screen)?;
+    let shards = part_of(shards, options, sources.part);
     screen.hash(count_of(&shards));
     let LoadOptions { bits, first, .. } = options;
     let set = ShardedSet::of(rt, rt.alloc(), bits, first, accepted.cap(), shards)?;
@@ -226,7 +235,8 @@ where
 ///
 /// The strategy is judged first: 80, 30 to 35 or 29, then 37, 36 or 38, then 82 where its cap is below the number of
 /// shards. Then the items are: 80, 81, then 82 where a shard that is kept has more different items than the cap; and
-/// then those of the file in which the set is kept, in the same way. Items of other shards are left out.
+/// then those of the file in which the set is kept, in the same way. Items of other shards are left out, and last those
+/// out of the range.
 pub fn load_shards<
     'a,
     R: Files<File = File> + AllocGlobal + Threads + Clock + Sync,

@@ -1,5 +1,6 @@
 //! The set that a command speaks of.
 
+use item_core::Range;
 use settings_core::Sharding;
 use shard_core::SetName;
 
@@ -10,6 +11,8 @@ pub struct Target<'a> {
     pub set: Option<SetName<'a>>,
     /// Which of its shards are meant, if it is cut into shards.
     pub sharding: Option<Sharding>,
+    /// The range of the items that are meant.
+    pub part: &'a Range,
     /// Whether standard error is a terminal, and may be shown how far all is.
     pub shows: bool,
     /// Whether standard error is told more.

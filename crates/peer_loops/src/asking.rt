@@ -11,6 +11,7 @@ use crate::link_gate::LinkGate;
 use crate::part_gate::PartGate;
 use digest_core::Fingerprint;
 use ends_core::Learned;
+use item_core::Range;
 use peer_threads::{Outcome, Shared, dial_one};
 use range_tree::Tree;
 use shard_core::{DirectoryFault, SetName, Unequal, Which, differing};
@@ -121,7 +122,7 @@ impl<R: Net<Stream = TcpStream> + Wait + Clock, G: PartGate> Caller<'_, '_, R, G
         let Ok(stream) = reach(self.rt, callee, self.links.patience) else {
             return Err(Turn::NotReached);
         };
-        let directory = desks.directory_now(self.rt, self.alloc)?;
+        let directory = desks.directory_now(self.rt, self.alloc, &Range::whole())?;
         let Some(log) = log_of(self.alloc, self.common.accepted, directory) else {
             return Err(Turn::Refuses(WRONG_SET));
         };

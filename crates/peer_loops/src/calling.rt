@@ -12,6 +12,7 @@ use crate::part_gate::PartGate;
 use crate::parting::shown;
 use crate::partners::{Partner, Partners, Place};
 use crate::visiting::found;
+use item_core::Range;
 use peer_threads::{Connection, Direction, Outcome};
 use shard_core::{Unequal, Which};
 use std::alloc::Global;
@@ -109,7 +110,7 @@ impl<R, G> Caller<'_, '_, R, G> {
         };
         if let Some(set) = links.front.set() {
             let mut selector = Vec::new(self.alloc);
-            if set.push(&mut selector, which).is_err() {
+            if set.push(&mut selector, which, &Range::whole()).is_err() {
                 return Err(Outcome::Memory { sent: 0 });
             }
             let named: io::Result<()> = writer.write_all(&selector);

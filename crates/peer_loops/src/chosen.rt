@@ -1,21 +1,22 @@
 //! Of which set a peer speaks, and of which part of it.
 
-ghost use Rattle.std.specs.Prelude.{◌≡◌, ◌==◌, ◌||◌, length};
+ghost use Rattle.std.specs.Prelude.{◌≡◌, ◌==◌, ◌||◌, length, option_map};
 ghost use Rattle.std.specs.Io.Take.{take_inner};
-ghost use Rattle.shard_core.specs.Selectors.{selecting};
-ghost use Rattle.peer_loops.specs.Fronts.{refusal_at, selected, set_of};
-ghost use Rattle.peer_loops.specs.ShardSpans as spans;
-ghost use Rattle.peer_loops.specs.ShardSpans.{part_in};
+ghost use Rattle.peer_loops.specs.Fronts.{chosen_in, refusal_at, refusal_in, said_by, said_openly, set_of};
 
 use crate::desks::Desks;
 use hub_core::{Greeting, HELLO, Peer, Phase};
-use shard_core::{AfterSelector, Selecting, SetName, Which};
+use item_core::Range;
+use shard_core::{AfterSelector, Selecting, SetName, Which, says_part};
 use std::io::Write;
 use tcp_front::Half;
 use wire_core::encode_fault;
 
 /// What is read of a peer: its input, or what comes after the selector of it.
 pub(crate) type Reader = AfterSelector<Half>;
+
+/// The number of the refusal of a peer that does not say of which set it speaks, where it has to.
+const BAD_HELLO: u8 = 1;
 
 /// The number of the refusal of a peer that speaks of a set that is not here.
 pub(crate) const WRONG_SET: u8 = 55;
@@ -32,6 +33,13 @@ pub enum Front<'a> {
     Named(SetName<'a>),
     /// What the set is called, and of which of its shards they speak, or of the directory.
     Cut(SetName<'a>),
+}
+
+/// A part of the set of which a peer speaks: a shard or the directory, and the range of the items that are meant.
+#[derive(Clone, Copy, Debug, PartialEq, Eq)]
+pub(crate) struct Chosen {
+    pub(crate) which: Which,
+    pub(crate) range: Range,
 }
 
 impl<'a> Front<'a> {
@@ -54,11 +62,12 @@ impl<'a> Front<'a> {
     }
 }
 
-/// What is read of a peer that has come: what comes after its selector, where it has to say of which set it speaks.
+/// What is read of a peer that has come: what comes after its selector. Where it does not have to say of which set it
+/// speaks, it may say of which range of its items.
 pub(crate) fn reader_of(front: Front<'_>, reader: Half) -> Reader {
     match front.set() {
         Some(_) => AfterSelector::new(reader),
-        None => AfterSelector::whole(reader),
+        None => AfterSelector::of_parts(reader),
     }
 }
 
@@ -69,36 +78,46 @@ fn is_known(greeting: &Greeting) -> bool
     greeting.said() == HELLO || greeting.is_over()
 }
 
-/// The part of a set of which a peer speaks, if it has said so.
-fn said_of(set: SetName<'_>, reader: &Reader) -> Option<Which>
-    ensures { result ≡ part_in (selecting set.entry.name.now set.entry.bits reader.now.came) }
+/// What the bytes that came of a peer say that need not say of which set it speaks: of which part, or else of all of it.
+fn said_openly(came: &[u8]) -> Selecting
+    ensures { result ≡ said_openly came.now }
 {
-    match set.read(reader.came()) {
-        Selecting::Selected(which, _) => Some(which),
+    if says_part(came) {
+        return SetName::nameless().read(came);
+    }
+    Selecting::Selected(Which::Shard(0), Range::whole(), 0)
+}
+
+/// What the bytes that came of a peer say of the set of which it speaks.
+fn said_by(front: Front<'_>, came: &[u8]) -> Selecting
+    ensures { result ≡ said_by front.entry came.now }
+{
+    match front {
+        Front::Named(set) | Front::Cut(set) => set.read(came),
+        Front::Open => said_openly(came),
+    }
+}
+
+/// The part of which a peer speaks, if it has said so.
+pub(crate) fn part_of(front: Front<'_>, reader: &Reader) -> Option<Chosen>
+    ensures { option_map (λ c. (c.which, c.range)) result ≡ chosen_in (said_by front.entry reader.now.came) }
+{
+    match said_by(front, reader.came()) {
+        Selecting::Selected(which, range, _) => Some(Chosen { which, range }),
         _ => None,
     }
 }
 
-/// The part of which a peer speaks, if it has said so: of a set that is not cut the only one.
-pub(crate) fn part_of(front: Front<'_>, reader: &Reader) -> Option<Which>
-    ensures { result ≡ selected front.entry reader.now.came }
+/// The number of the refusal of a peer that says this, and says no more.
+fn refusal_in(desks: &Desks<'_>, said: Selecting) -> Option<u8>
+    ensures { result ≡ refusal_in desks.now.first (length desks.now.list.items) said }
 {
-    match front {
-        Front::Cut(set) => said_of(set, reader),
-        Front::Open | Front::Named(_) => Some(Which::Shard(0)),
-    }
-}
-
-/// The number of the refusal of a peer that speaks of a part that is not kept, or whose input ended before it said of
-/// which.
-fn part_refusal(desks: &Desks<'_>, part: Option<Which>) -> Option<u8>
-    ensures { result ≡ spans.part_refusal desks.now.first (length desks.now.list.items) part }
-{
-    match part {
-        Some(which) if desks.keeps(which) => None,
-        Some(_) => Some(WRONG_SET),
+    match said {
+        Selecting::Selected(which, _, _) if desks.keeps(which) => None,
+        Selecting::Selected(..) | Selecting::WrongSet => Some(WRONG_SET),
+        Selecting::NoSelector => Some(BAD_HELLO),
         // its input ended inside a selector that was right so far
-        None => Some(TRUNCATED),
+        Selecting::More => Some(TRUNCATED),
     }
 }
 
@@ -112,17 +131,12 @@ pub(crate) fn refusal_of(
     ensures { result ≡ refusal_at front.entry desks.now.first (length desks.now.list.items) peer.now.phase
         (take_inner peer.now.reader.way).came }
 {
-    let set = front.set()?;
     match peer.phase() {
-        Phase::Greeting(greeting) if is_known(greeting) => {}
-        _ => return None,
+        Phase::Greeting(greeting) if is_known(greeting) => {
+            refusal_in(desks, said_by(front, peer.reader().came()))
+        }
+        _ => None,
     }
-    let reader = peer.reader();
-    let refusal = set.refusal(reader.came());
-    if refusal.is_some() {
-        return refusal;
-    }
-    part_refusal(desks, part_of(front, reader))
 }
 
 /// Writes what can be written at once of a fault frame, after what is not written of our hello.

@@ -4,10 +4,12 @@ ghost use Rattle.std.specs.Prelude.{◌≡◌, ◌≤◌, length, true, IsSome, 
 ghost use Rattle.std.specs.Arc.{arc_value};
 ghost use Rattle.slab.specs.Slab.{get};
 ghost use Rattle.definitions.specs.Histories.{content};
+ghost use Rattle.definitions.specs.Sets.{items_in};
 ghost use Rattle.shard_core.specs.Shards.{entry_for};
+ghost use Rattle.range_tree.specs.Trees.{tree_items};
 ghost use Rattle.hub_core.specs.Hubs.{OthersStay};
 ghost use Rattle.hub_core.specs.Peers.{Opens, version_after};
-ghost use Rattle.peer_threads.specs.Outcomes.{peer_at};
+ghost use Rattle.ends_core.specs.Sides.{peer_of};
 ghost use Rattle.peer_threads.specs.Workers.{IsSettled, LookedOrNot, are_own};
 ghost use Rattle.version_lock.specs.Calls.{IsPinOf, Looked};
 ghost use Rattle.peer_loops.specs.Hands.{Adds};
@@ -19,7 +21,7 @@ use crate::hand::HandFault;
 use crate::part::{Part, Root};
 use ends_core::Learned;
 use hub_core::Hub;
-use item_core::Item;
+use item_core::{Item, Range};
 use peer_threads::{Gate, Harvest, Outcome, Shared, settle};
 use range_tree::Tree;
 use session_table::SessionId;
@@ -91,25 +93,44 @@ impl<'a> Desk<'a> {
         })
     }
 
-    /// Pins the newest version, and opens the session of this peer over it, if it is there.
+    /// Pins the newest version. Its items of the range, and its number.
+    fn pinned<T: Wait>(
+        &mut self,
+        rt: &T,
+        alloc: Global,
+        range: &Range,
+    ) -> Result<(Tree, usize), AllocError>
+        ensures part { self.new.part ≡ self.old.part }
+        ensures view { LookedOrNot self.old.seat.view self.new.seat.view }
+        ensures items { IfOk result (λ p. tree_items p.0 ≡ items_in (content self.new.seat.view.base) range.now) }
+        ensures few { IfOk result (λ p. length (tree_items p.0) ≤ (arc_value self.old.part.now.accepted).table.cap) }
+        ensures version { IfOk result (λ p. p.1 ≡ length self.new.seat.view.base) }
+    {
+        let pin = self.part.lock.pin(rt, alloc, &mut self.seat)?;
+        let version = pin.version();
+        Ok((pin.store().part(alloc, range)?, version))
+    }
+
+    /// Pins the newest version, and opens the session of this peer over its items of the range, if the peer is there.
     pub(crate) fn open<T: Wait>(
         &mut self,
         rt: &T,
         alloc: Global,
         hub: &mut Hub<Reader, Half>,
+        range: &Range,
         key: usize,
     ) -> Result<(), AllocError>
         ensures part { self.new.part ≡ self.old.part }
         ensures view { LookedOrNot self.old.seat.view self.new.seat.view }
         ensures opens { OnOk result ((p q : _) → get hub.old.peers key ≡ Some p → get hub.new.peers key ≡ Some q →
-            Opens (peer_at (arc_value self.old.part.now.accepted) self.new.seat.view) p.phase q.phase) }
+            Opens (peer_of (arc_value self.old.part.now.accepted) (items_in (content self.new.seat.view.base) range.now))
+            p.phase q.phase) }
         ensures version { OnOk result ((p q : _) → get hub.old.peers key ≡ Some p → get hub.new.peers key ≡ Some q →
             q.version ≡ version_after p.phase p.version (length self.new.seat.view.base)) }
         ensures others { OthersStay hub.old.peers hub.new.peers key }
     {
-        let pin = self.part.lock.pin(rt, alloc, &mut self.seat)?;
-        let version = pin.version();
-        hub.open(alloc, key, &self.part.accepted, pin.into_store(), version)
+        let (store, version) = self.pinned(rt, alloc, range)?;
+        hub.open(alloc, key, &self.part.accepted, store, version)
             .unwrap_or(Ok(()))
     }
 
@@ -136,20 +157,21 @@ impl<'a> Desk<'a> {
         enter(rt, alloc, self.part, &mut self.seat, item)
     }
 
-    /// The entry of the newest version in a directory.
+    /// The entry of the items of the range in the newest version, in a directory.
     pub(crate) fn entry<T: Wait>(
         &mut self,
         rt: &T,
         alloc: Global,
         number: u16,
+        range: &Range,
     ) -> Result<Item, AllocError>
         ensures part { self.new.part ≡ self.old.part }
         ensures view { LookedOrNot self.old.seat.view self.new.seat.view }
-        ensures entry { IfOk result (λ x. x ≡ entry_for number (content self.new.seat.view.base)) }
+        ensures entry { IfOk result (λ x. x ≡ entry_for number (items_in (content self.new.seat.view.base) range.now)) }
     {
         let _cap = self.part.accepted.cap(); // proof only: there are at most 65,536 items
         let pin = self.part.lock.pin(rt, alloc, &mut self.seat)?;
-        Ok(entry_of(number, ShardSum::of(pin.store())))
+        Ok(entry_of(number, ShardSum::within(pin.store(), range)))
     }
 
     /// Puts into the log what a session learned that ended so, if it is in the table, as far as the gate admits it and

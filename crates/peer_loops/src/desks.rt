@@ -5,12 +5,13 @@ ghost use Rattle.peer_loops.specs.Changes.{ChangesAt};
 ghost use Rattle.peer_loops.specs.Partings.{PutsInOf};
 ghost use Rattle.peer_loops.specs.ShardSpans.{keeps, place_for};
 
-use crate::chosen::{Reader, WRONG_SET};
+use crate::chosen::{Chosen, Reader, WRONG_SET};
 use crate::common::Common;
 use crate::desk::Desk;
 use crate::ending::Parting;
 use crate::part::Parts;
 use hub_core::Hub;
+use item_core::Range;
 use peer_threads::{Gate, Outcome};
 use range_tree::Tree;
 use session_table::SessionId;
@@ -20,12 +21,13 @@ use std::sync::Wait;
 use store_core::RangeStore;
 use tcp_front::Half;
 
-/// A session: its place in the table, if it is there, the part that it was over, if that was said, and how many
-/// messages were said in it.
+/// A session: its place in the table, if it is there, the part that it was over, if that was said, and the range of the
+/// items of it; and how many messages were said in it.
 #[derive(Clone, Copy)]
 pub(crate) struct Over {
     pub(crate) id: Option<SessionId>,
     pub(crate) part: Option<Which>,
+    pub(crate) range: Range,
     pub(crate) said: u32,
 }
 
@@ -100,23 +102,23 @@ impl<'a> Desks<'a> {
         }
     }
 
-    /// Pins the newest version of this part, and opens the session of this peer over it. One that is not kept is
-    /// refused.
+    /// Pins the newest version of this part, and opens the session of this peer over its items of the range. One that is
+    /// not kept is refused.
     pub(crate) fn open<T: Wait>(
         &mut self,
         rt: &T,
         alloc: Global,
         hub: &mut Hub<Reader, Half>,
-        which: Which,
+        chosen: &Chosen,
         key: usize,
     ) -> Result<(), Parting> {
-        let Some(place) = self.place_of(Some(which)) else {
+        let Some(place) = self.place_of(Some(chosen.which)) else {
             return Err(Parting::Refuses(WRONG_SET));
         };
         let Some(desk) = self.list.get_mut(place) else {
             return Err(Parting::Refuses(WRONG_SET));
         };
-        Ok(desk.open(rt, alloc, hub, key)?)
+        Ok(desk.open(rt, alloc, hub, &chosen.range, key)?)
     }
 
     /// Puts what a session learned that ended so into the log of its part, as far as the gate admits it and it is of
@@ -142,16 +144,17 @@ impl<'a> Desks<'a> {
         }
     }
 
-    /// The directory of the parts, each as it is when it is asked.
+    /// The directory of the items of this range in the parts, each as it is when it is asked.
     pub(crate) fn directory_now<T: Wait>(
         &mut self,
         rt: &T,
         alloc: Global,
+        range: &Range,
     ) -> Result<Tree, AllocError> {
         let mut entries = Vec::with_capacity(alloc, self.list.len())?;
         let mut number = self.first;
         for desk in self.list.iter_mut() {
-            entries.push(desk.entry(rt, alloc, number)?)?;
+            entries.push(desk.entry(rt, alloc, number, range)?)?;
             number = number.saturating_add(1);
         }
         Tree::from_items(alloc, entries)

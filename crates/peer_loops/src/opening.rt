@@ -8,12 +8,13 @@ ghost use Rattle.range_tree.specs.Trees.{tree_items};
 ghost use Rattle.hub_core.specs.Hubs.{OthersStay};
 ghost use Rattle.hub_core.specs.Peers.{Opens, version_after};
 
-use crate::chosen::{Reader, TRUNCATED, WRONG_SET, part_of};
+use crate::chosen::{Chosen, Reader, TRUNCATED, WRONG_SET, part_of};
 use crate::desks::Desks;
 use crate::ending::Parting;
 use crate::looping::Loop;
 use crate::site::Site;
 use hub_core::Hub;
+use item_core::Range;
 use range_tree::Tree;
 use shard_core::Which;
 use std::alloc::{AllocError, Global};
@@ -57,25 +58,30 @@ fn directory_in<R: Wait, G>(
     if let Some(tree) = kept {
         return tree.copy(site.alloc);
     }
-    let tree = desks.directory_now(site.rt, site.alloc)?;
+    let tree = desks.directory_now(site.rt, site.alloc, &Range::whole())?;
     *kept = Some(tree.copy(site.alloc)?);
     Ok(tree)
 }
 
 impl Loop {
     /// The part of which this peer speaks, if it has said so.
-    fn meant<R, G>(&self, site: &Site<'_, R, G>, key: usize) -> Option<Which> {
+    fn meant<R, G>(&self, site: &Site<'_, R, G>, key: usize) -> Option<Chosen> {
         part_of(site.crowd.front, self.hub.get(key)?.reader())
     }
 
-    /// Opens the session of this peer over the directory.
+    /// Opens the session of this peer over the directory of the items of this range.
     fn open_directory<R: Wait, G>(
         &mut self,
         site: &Site<'_, R, G>,
         desks: &mut Desks<'_>,
+        range: &Range,
         key: usize,
     ) -> Result<(), Parting> {
-        let store = directory_in(site, desks, &mut site.common.news.directory.lock(site.rt))?;
+        let store = if *range == Range::whole() {
+            directory_in(site, desks, &mut site.common.news.directory.lock(site.rt))?
+        } else {
+            desks.directory_now(site.rt, site.alloc, range)?
+        };
         open_over(site.alloc, &mut self.hub, key, site.common.accepted, store)
     }
 
@@ -86,10 +92,12 @@ impl Loop {
         desks: &mut Desks<'_>,
         key: usize,
     ) -> Result<(), Parting> {
-        match self.meant(site, key) {
-            Some(Which::Directory) => self.open_directory(site, desks, key),
-            Some(which) => desks.open(site.rt, site.alloc, &mut self.hub, which, key),
-            None => Err(Parting::Refuses(TRUNCATED)),
+        let Some(chosen) = self.meant(site, key) else {
+            return Err(Parting::Refuses(TRUNCATED));
+        };
+        match chosen.which {
+            Which::Directory => self.open_directory(site, desks, &chosen.range, key),
+            Which::Shard(_) => desks.open(site.rt, site.alloc, &mut self.hub, &chosen, key),
         }
     }
 }

@@ -1,5 +1,6 @@
 //! Who is told of sessions over parts of a set.
 
+use item_core::Range;
 use peer_threads::{Gate, OpenGate, Outcome};
 use shard_core::Which;
 
@@ -7,9 +8,9 @@ use shard_core::Which;
 /// loop calls `ended_in`, `admits`, then `took` and `dropped`, and last `settled`. Of the directory nothing is put in:
 /// after a session over it the loop calls `ended_in` alone.
 pub trait PartGate: Gate {
-    /// The session with this serial has ended so, over this part of a set of shards, or over a whole set. It is no
-    /// longer in the table of sessions.
-    fn ended_in(&self, serial: u64, part: Option<Which>, outcome: &Outcome);
+    /// The session with this serial has ended so, over the items of this range in this part of a set of shards, or in a
+    /// whole set. It is no longer in the table of sessions.
+    fn ended_in(&self, serial: u64, part: Option<Which>, range: &Range, outcome: &Outcome);
 
     /// The same of a session with the partner of this address.
     fn ended_with(&self, address: &str, serial: u64, part: Option<Which>, outcome: &Outcome);
@@ -32,7 +33,7 @@ pub enum Told {
 }
 
 impl PartGate for OpenGate {
-    fn ended_in(&self, _serial: u64, _part: Option<Which>, _outcome: &Outcome) {}
+    fn ended_in(&self, _serial: u64, _part: Option<Which>, _range: &Range, _outcome: &Outcome) {}
 
     fn ended_with(&self, _address: &str, _serial: u64, _part: Option<Which>, _outcome: &Outcome) {}
 }

@@ -1,16 +1,17 @@
 //! How a loop lets a peer go.
 
-ghost use Rattle.std.specs.Prelude.{◌≡◌, Some, None, IfSome, IfNone};
+ghost use Rattle.std.specs.Prelude.{◌≡◌, Some, None, IfSome, IfNone, option_map};
 ghost use Rattle.slab.specs.Slab.{get};
 ghost use Rattle.hub_core.specs.Hubs.{OthersStay};
 ghost use Rattle.peer_loops.specs.Notes.{id_of};
 ghost use Rattle.session_table.specs.declared.outcome.Outcome as outcomes;
 ghost use Rattle.peer_loops.specs.Changes.{ChangesAt};
+ghost use Rattle.peer_loops.specs.Fronts.{chosen_in, said_by};
 ghost use Rattle.peer_loops.specs.Partings as partings;
 ghost use Rattle.peer_loops.specs.Partings.{PutsInOf, Tells, shown_in};
 ghost use Rattle.peer_loops.specs.ShardSpans.{place_for};
 
-use crate::chosen::{Reader, part_of, tell_refusal};
+use crate::chosen::{Chosen, Front, Reader, part_of, tell_refusal};
 use crate::desks::{Desks, Over};
 use crate::ending::{Parting, outcome_of};
 use crate::looping::Loop;
@@ -20,6 +21,7 @@ use crate::site::Site;
 use crate::visiting::{Leaver, profile_of, visit_of};
 use ends_core::Learned;
 use hub_core::{Peer, Phase};
+use item_core::Range;
 use peer_threads::{Outcome, kind_of};
 use session_core::{LinkFault, State};
 use session_table::SessionId;
@@ -56,7 +58,9 @@ fn tell_end<R: Wait, G: PartGate>(site: &Site<'_, R, G>, over: &Over, outcome: &
     close_session(site, id, over.said, outcome);
     if let Some(which) = over.part {
         let part = site.crowd.front.told(which);
-        site.common.gate.ended_in(id.serial(), part, outcome);
+        site.common
+            .gate
+            .ended_in(id.serial(), part, &over.range, outcome);
     }
 }
 
@@ -74,6 +78,16 @@ fn conclude<R: Wait, G: PartGate>(
     tell_end(site, over, outcome);
     if desks.put_in(site.rt, site.alloc, site.common, over, outcome) {
         site.common.news.tell(site.rt);
+    }
+}
+
+/// The part of which a peer speaks, if it has said so, and the range of its items.
+fn meant_by(front: Front<'_>, reader: &Reader) -> (Option<Which>, Range)
+    ensures { result.0 ≡ option_map (λ c. c.0) (chosen_in (said_by front.entry reader.now.came)) }
+{
+    match part_of(front, reader) {
+        Some(Chosen { which, range }) => (Some(which), range),
+        None => (None, Range::whole()),
     }
 }
 
@@ -188,9 +202,14 @@ impl Loop {
         parting: Parting,
     ) {
         let Guest { peer, id } = guest;
-        let part = part_of(site.crowd.front, peer.reader());
-        let said = peer.sent();
-        self.part(site, desks, peer, Over { id, part, said }, parting);
+        let (part, range) = meant_by(site.crowd.front, peer.reader());
+        let over = Over {
+            id,
+            part,
+            range,
+            said: peer.sent(),
+        };
+        self.part(site, desks, peer, over, parting);
     }
 
     /// Lets a peer go that is not in the hub, and whose session was this. Its connection is read on for a while.

@@ -1,14 +1,18 @@
 -- What `serve` writes of its sessions to its files.
---     session_name s w p           a session, the shard, or the directory, that it spoke of, if it did of one, and the
---                                  address of the partner with which it was, if it was with one
+--     bounds_text X                the bounds of a range in hex: those that it has
+--     session_name s w X p         a session, the shard, or the directory, that it spoke of, if it did of one, the bounds
+--                                  of the range of its items, and the address of the partner with which it was, if it
+--                                  was with one
 --     learned_lines form k         the lines of both differences: ours rising, then theirs rising, items in this form
 --     first_lines n lines          the first n of these lines, or all; then how many were left out, if any were
---     report_text form most s w p o a session that is over: its head and both differences, at most `most` lines of them
+--     report_text form most s w X p o   a session that is over: its head and both differences, at most `most` lines of them
 --                                  if it is a number; or why it did not end
 --     left_out_line s n            that n items which this session learned were not put in
 use Rattle.std.specs.Prelude.{ℕ, ◌-◌, ◌==◌, if◌then◌else◌, List, [], ◌∷◌, ◌++◌, length, map, take, flat_map, codes}
 use Rattle.std.specs.Prelude.{Option, Some, None}
 use Rattle.std.specs.Fmt.{decimal}
+use Rattle.hex.specs.Hex.{encode_lower}
+use Rattle.definitions.specs.Items.{Range}
 use Rattle.definitions.specs.Sets.{set_of}
 use Rattle.definitions.specs.Talks.{Knowledge}
 use Rattle.session_table.specs.declared.outcome.Outcome.{Outcome}
@@ -32,18 +36,30 @@ abbrev pub with_text : Option (List ℕ) → List ℕ
 with_text None = []
 with_text (Some partner) = codes " with " ++ partner
 
-abbrev pub session_name : ℕ → Option Which → Option (List ℕ) → List ℕ
-session_name serial which partner = part_name serial which ++ with_text partner
+-- the start and the end are no bounds
+abbrev pub lower_text : List ℕ → List ℕ
+lower_text [] = []
+lower_text (byte ∷ bytes) = codes " from " ++ encode_lower (byte ∷ bytes)
 
-abbrev pub stopped_line : ℕ → Option Which → Option (List ℕ) → Fault → List ℕ
-stopped_line serial which partner fault =
-    session_name serial which partner ++ (32 ∷ (fault_line fault ++ codes "\n"))
+abbrev pub upper_text : Option (List ℕ) → List ℕ
+upper_text None = []
+upper_text (Some bytes) = codes " to " ++ encode_lower bytes
+
+abbrev pub bounds_text : Range → List ℕ
+bounds_text X = lower_text X.lower ++ upper_text X.upper
+
+abbrev pub session_name : ℕ → Option Which → Range → Option (List ℕ) → List ℕ
+session_name serial which X partner = part_name serial which ++ (bounds_text X ++ with_text partner)
+
+abbrev pub stopped_line : ℕ → Option Which → Range → Option (List ℕ) → Fault → List ℕ
+stopped_line serial which X partner fault =
+    session_name serial which X partner ++ (32 ∷ (fault_line fault ++ codes "\n"))
 
 -- that of a directory has no version
-abbrev pub head_line : ℕ → Option Which → Option (List ℕ) → ℕ → ℕ → List ℕ
-head_line serial (Some Directory) partner version sent =
-    session_name serial (Some Directory) partner ++ (codes " sent " ++ (decimal sent ++ codes "\n"))
-head_line serial which partner version sent = session_name serial which partner
+abbrev pub head_line : ℕ → Option Which → Range → Option (List ℕ) → ℕ → ℕ → List ℕ
+head_line serial (Some Directory) X partner version sent =
+    session_name serial (Some Directory) X partner ++ (codes " sent " ++ (decimal sent ++ codes "\n"))
+head_line serial which X partner version sent = session_name serial which X partner
     ++ (codes " version " ++ (decimal version ++ (codes " sent " ++ (decimal sent ++ codes "\n"))))
 
 abbrev pub learned_lines : ItemForm → Knowledge → List (List ℕ)
@@ -66,14 +82,15 @@ reported_text form most (Some Directory) k = []
 reported_text form None which k = learned_text (Items form) k
 reported_text form (Some most) which k = first_lines most (learned_lines form k)
 
-abbrev pub report_text : ItemForm → Option ℕ → ℕ → Option Which → Option (List ℕ) → Outcome → List ℕ
-report_text form most serial which partner (Ended learned sent version) =
-    head_line serial which partner version sent ++ reported_text form most which learned
-report_text form most serial which partner (Refused code sent) = stopped_line serial which partner (faults.Session code)
-report_text form most serial which partner (PeerRefused code sent) =
-    stopped_line serial which partner (faults.PeerRefused code)
-report_text form most serial which partner (Io side sent) = stopped_line serial which partner (of_direction side)
-report_text form most serial which partner (Memory sent) = stopped_line serial which partner faults.Memory
+abbrev pub report_text : ItemForm → Option ℕ → ℕ → Option Which → Range → Option (List ℕ) → Outcome → List ℕ
+report_text form most serial which X partner (Ended learned sent version) =
+    head_line serial which X partner version sent ++ reported_text form most which learned
+report_text form most serial which X partner (Refused code sent) =
+    stopped_line serial which X partner (faults.Session code)
+report_text form most serial which X partner (PeerRefused code sent) =
+    stopped_line serial which X partner (faults.PeerRefused code)
+report_text form most serial which X partner (Io side sent) = stopped_line serial which X partner (of_direction side)
+report_text form most serial which X partner (Memory sent) = stopped_line serial which X partner faults.Memory
 
 abbrev pub left_out_line : ℕ → ℕ → List ℕ
 left_out_line serial count =

@@ -46,7 +46,7 @@ fn plain_text(bytes: &[u8]) -> Option<&str>
 }
 
 /// Appends the bytes in hex.
-fn push_hex(alloc: Global, text: &mut String, bytes: &[u8]) -> Result<(), AllocError>
+pub(crate) fn push_hex(alloc: Global, text: &mut String, bytes: &[u8]) -> Result<(), AllocError>
     ensures { OnOk result (string_bytes text.new ≡ string_bytes text.old ++ encode_lower bytes.now) }
 {
     text.push_str(&hex::encode(alloc, bytes)?)

@@ -46,6 +46,6 @@ pub use sync_stats::{Stats, Tally, tell_stats};
 pub use warning::tell_stray_key;
 pub use why::{Origin, OtherSide, Why, tell_why};
 pub use words::{
-    tell_name_flaw, tell_no_control, tell_no_text, tell_node_flaw, tell_shard_flaw,
+    tell_name_flaw, tell_no_control, tell_no_text, tell_node_flaw, tell_part_flaw, tell_shard_flaw,
     tell_stdio_flaw, tell_words,
 };

@@ -2,15 +2,15 @@
 
 ghost use Rattle.std.specs.Prelude.{◌≡◌, ◌++◌, IfOk, OnOk, Some, option_map, string_bytes, take};
 ghost use Rattle.printing_core.specs.ItemTexts.{item_line};
-ghost use Rattle.printing_core.specs.ReportTexts.{part_name, session_name, with_text, head_line, stopped_line};
+ghost use Rattle.printing_core.specs.ReportTexts.{part_name, bounds_text, session_name, with_text, head_line};
 ghost use Rattle.printing_core.specs.ReportTexts.{learned_lines, more_line, first_lines, reported_text, report_text};
-ghost use Rattle.printing_core.specs.ReportTexts.{left_out_line};
+ghost use Rattle.printing_core.specs.ReportTexts.{left_out_line, stopped_line};
 
 use crate::fault::Fault;
-use crate::item_text::push_item;
+use crate::item_text::{push_hex, push_item};
 use crate::sessions::{Listing, Naming, of_direction, push_learned, push_lines, rising};
 use ends_core::Learned;
-use item_core::Item;
+use item_core::{Item, Range};
 use item_files::ItemForm;
 use session_table::Outcome;
 use shard_core::Which;
@@ -26,30 +26,17 @@ pub struct Reporting {
     pub most: Option<u32>,
 }
 
-/// Which session is reported. It prints as its name.
+/// Which session is reported.
 #[derive(Clone, Copy, Debug, PartialEq, Eq)]
 pub struct SessionName<'a> {
     /// Its serial.
     pub serial: u64,
     /// The shard, or the directory, that it spoke of; `None`: it spoke of a whole set.
     pub which: Option<Which>,
+    /// The range of the items that it spoke of.
+    pub range: Range,
     /// The address of the partner with which it was, if it was with one.
     pub partner: Option<&'a str>,
-}
-
-/// With which partner a session was, if it was with one.
-#[derive(Clone, Copy)]
-struct With<'a>(Option<&'a str>);
-
-impl fmt::Display for With<'_> {
-    ghost output = { λ w. Some (with_text (option_map (λ text. text.now) w.0)) };
-
-    fn fmt<W: fmt::Write>(&self, f: &mut fmt::Formatter<W>) -> fmt::Result {
-        match self.0 {
-            Some(partner) => write!(f, " with {partner}"),
-            None => Ok(()),
-        }
-    }
 }
 
 /// A session, and the part that it spoke of.
@@ -57,18 +44,6 @@ impl fmt::Display for With<'_> {
 struct PartName {
     serial: u64,
     which: Option<Which>,
-}
-
-impl fmt::Display for SessionName<'_> {
-    ghost output = { λ s. Some (session_name s.serial s.which (option_map (λ text. text.now) s.partner)) };
-
-    fn fmt<W: fmt::Write>(&self, f: &mut fmt::Formatter<W>) -> fmt::Result {
-        let name = PartName {
-            serial: self.serial,
-            which: self.which,
-        };
-        write!(f, "{name}{}", With(self.partner))
-    }
 }
 
 impl fmt::Display for PartName {
@@ -84,28 +59,76 @@ impl fmt::Display for PartName {
     }
 }
 
+/// Appends the bounds of a range in hex: those that it has.
+fn push_bounds(alloc: Global, text: &mut String, range: &Range) -> Result<(), AllocError>
+    ensures { OnOk result (string_bytes text.new ≡ string_bytes text.old ++ bounds_text range.now) }
+{
+    let lower = range.lower().bytes();
+    if !lower.is_empty() {
+        text.push_str(" from ")?;
+        push_hex(alloc, text, lower)?;
+    }
+    if let Some(upper) = range.upper().bytes() {
+        text.push_str(" to ")?;
+        push_hex(alloc, text, upper)?;
+    }
+    Ok(())
+}
+
+/// Appends with which partner a session was, if it was with one.
+fn push_partner(text: &mut String, partner: Option<&str>) -> Result<(), AllocError>
+    ensures { OnOk result (string_bytes text.new ≡ string_bytes text.old
+        ++ with_text (option_map (λ t. t.now) partner.entry)) }
+{
+    match partner {
+        Some(partner) => write!(text, " with {partner}"),
+        None => Ok(()),
+    }
+}
+
+/// The name of a session.
+fn session_name(alloc: Global, session: &SessionName<'_>) -> Result<String, AllocError>
+    ensures { IfOk result (λ text. string_bytes text ≡ session_name session.now.serial session.now.which
+        session.now.range (option_map (λ t. t.now) session.now.partner)) }
+{
+    let name = PartName {
+        serial: session.serial,
+        which: session.which,
+    };
+    let mut text = format!(in alloc; "{name}")?;
+    push_bounds(alloc, &mut text, &session.range)?;
+    push_partner(&mut text, session.partner)?;
+    Ok(text)
+}
+
 /// The first line of a session that ended: that of a directory has no version.
 fn head_line(
     alloc: Global,
-    session: SessionName<'_>,
+    session: &SessionName<'_>,
     version: usize,
     sent: u32,
 ) -> Result<String, AllocError>
-    ensures { IfOk result (λ text. string_bytes text ≡ head_line session.entry.serial session.entry.which
-        (option_map (λ t. t.now) session.entry.partner) version sent) }
+    ensures { IfOk result (λ text. string_bytes text ≡ head_line session.now.serial session.now.which
+        session.now.range (option_map (λ t. t.now) session.now.partner) version sent) }
 {
+    let name = session_name(alloc, session)?;
     match session.which {
-        Some(Which::Directory) => format!(in alloc; "{session} sent {sent}\n"),
-        _ => format!(in alloc; "{session} version {version} sent {sent}\n"),
+        Some(Which::Directory) => format!(in alloc; "{name} sent {sent}\n"),
+        _ => format!(in alloc; "{name} version {version} sent {sent}\n"),
     }
 }
 
 /// The line of a session that did not end.
-fn stopped_line(alloc: Global, session: SessionName<'_>, fault: Fault) -> Result<String, AllocError>
-    ensures { IfOk result (λ text. string_bytes text ≡ stopped_line session.entry.serial session.entry.which
-        (option_map (λ t. t.now) session.entry.partner) fault) }
+fn stopped_line(
+    alloc: Global,
+    session: &SessionName<'_>,
+    fault: Fault,
+) -> Result<String, AllocError>
+    ensures { IfOk result (λ text. string_bytes text ≡ stopped_line session.now.serial session.now.which
+        session.now.range (option_map (λ t. t.now) session.now.partner) fault) }
 {
-    format!(in alloc; "{session} {fault}\n")
+    let name = session_name(alloc, session)?;
+    format!(in alloc; "{name} {fault}\n")
 }
 
 /// Appends how many lines were left out, if any were.
@@ -174,12 +197,12 @@ fn push_reported(
 pub fn report_text(
     alloc: Global,
     reporting: Reporting,
-    session: SessionName<'_>,
+    session: &SessionName<'_>,
     outcome: &Outcome,
 ) -> Result<String, AllocError>
     ensures { IfOk result (λ text. string_bytes text
-        ≡ report_text reporting.form reporting.most session.entry.serial session.entry.which
-        (option_map (λ t. t.now) session.entry.partner) outcome.now) }
+        ≡ report_text reporting.form reporting.most session.now.serial session.now.which session.now.range
+        (option_map (λ t. t.now) session.now.partner) outcome.now) }
 {
     match outcome {
         Outcome::Ended {

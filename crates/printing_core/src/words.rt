@@ -4,7 +4,7 @@ ghost use Rattle.std.specs.Prelude.{◌≡◌};
 ghost use Rattle.printing_core.specs.FaultsOf.{IsWordsStatus};
 
 use crate::fault::{Fault, tell};
-use settings_core::{NodeFlaw, ShardFlaw, StdioFlaw, WordsFault};
+use settings_core::{NodeFlaw, PartFlaw, ShardFlaw, StdioFlaw, WordsFault};
 use std::io::Write;
 
 /// The status of a call whose words ask for nothing that is done.
@@ -22,6 +22,16 @@ pub fn tell_no_text<E: Write + Drop>(err: E) -> u8
 /// Prints why a call does not speak of shards as its words ask for it, and gives the status. A line that is not taken
 /// changes nothing.
 pub fn tell_shard_flaw<E: Write + Drop>(err: E, flaw: ShardFlaw) -> u8
+    ensures { result ≡ 2 }
+{
+    let mut err = err;
+    let _told = writeln!(err, "{flaw}");
+    USAGE_STATUS
+}
+
+/// Prints why a call does not speak of a part of a set as its words ask for it, and gives the status. A line that is not
+/// taken changes nothing.
+pub fn tell_part_flaw<E: Write + Drop>(err: E, flaw: PartFlaw) -> u8
     ensures { result ≡ 2 }
 {
     let mut err = err;

@@ -6,13 +6,13 @@ use Rattle.std.proofs.lemmas.List.{map-append, take-append-drop, append-nil}
 use Rattle.std.proofs.lemmas.Grind.{flat_map-append}
 use Rattle.std.proofs.lemmas.Bool.{ltb-true, ltb-false}
 use Rattle.range_tree.specs.Nodes.{IsFull}
-use Rattle.range_tree.proofs.Widths.{IsWide, wide_append, full_from_wide}
+use Rattle.range_tree.proofs.Widths.{IsWide, wide_append, wide_front, wide_back, full_from_wide}
 
 -- so many are left, and they make a group or there is none before them
 abbrev pub IsGrouped : {P : Type 0} → (P → ℕ) → List P → ℕ → Type 0
 IsGrouped width ps left = IsFull width ps × (0 < left → IsWide width ps) × (0 < left → 0 < length ps → 32 ≤ left)
 
-last_full : {P : Type 0} (width : P → ℕ) (ps : List P) (p : P) → IsWide width ps → (0 < length ps → 32 ≤ width p) →
+pub last_full : {P : Type 0} (width : P → ℕ) (ps : List P) (p : P) → IsWide width ps → (0 < length ps → 32 ≤ width p) →
     IsFull width (ps ++ p ∷ [])
 last_full width [] p all last = tt
 last_full width (q ∷ ps) p all last =
@@ -41,19 +41,13 @@ grouped_more {P} width ps p left n rest grouped some few many wide after = by_le
 pub full_front : {P : Type 0} (width : P → ℕ) (ps qs : List P) → IsFull width (ps ++ qs) → IsFull width ps
 full_front width [] qs full = tt
 full_front width (p ∷ []) qs full = tt
-full_front width (p ∷ q ∷ ps) qs full = wide_front width (p ∷ q ∷ ps) qs full where
-  wide_front : {P : Type 0} (width : P → ℕ) (ps qs : List P) → IsWide width (ps ++ qs) → IsWide width ps
-  wide_front width [] qs all = tt
-  wide_front width (p ∷ ps) qs all = (all.0, wide_front width ps qs all.1)
+full_front width (p ∷ q ∷ ps) qs full = wide_front width (p ∷ q ∷ ps) qs full
 
 pub full_back : {P : Type 0} (width : P → ℕ) (ps qs : List P) → IsFull width (ps ++ qs) → IsFull width qs
 full_back width [] qs full = full
 full_back width (p ∷ []) [] full = tt
 full_back width (p ∷ []) (q ∷ qs) full = full_from_wide width (q ∷ qs) full.1
-full_back width (p ∷ q ∷ ps) qs full = full_from_wide width qs (wide_back width (p ∷ q ∷ ps) qs full) where
-  wide_back : {P : Type 0} (width : P → ℕ) (ps qs : List P) → IsWide width (ps ++ qs) → IsWide width qs
-  wide_back width [] qs all = all
-  wide_back width (p ∷ ps) qs all = wide_back width ps qs all.1
+full_back width (p ∷ q ∷ ps) qs full = full_from_wide width qs (wide_back width (p ∷ q ∷ ps) qs full)
 
 -- both sides of a cut
 pub full_sides : {T P : Type 0} (width : P → ℕ) (v : T → P) (n : ℕ) (xs front back : List T) → front ≡ take n xs →

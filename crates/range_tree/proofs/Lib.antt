@@ -1,8 +1,10 @@
 pub mod Fields
 pub mod Fits
+pub mod Follows
 pub mod Groups
 pub mod Growing
 pub mod Joins
+pub mod Mending
 pub mod Numbers
 pub mod Pieces
 pub mod Places

@@ -53,7 +53,7 @@ ends_append start (x ∷ xs) ys =
     ap (λ es. (start + length x) ∷ es) (ends_append (start + length x) xs ys
     ∙ ap (λ s. ends_from (start + length x) xs ++ ends_from s ys) same)
 
-ends_later : (start n : ℕ) (xs : List Item) → ends_from (start + n) xs ≡ map (λ e. e + n) (ends_from start xs)
+pub ends_later : (start n : ℕ) (xs : List Item) → ends_from (start + n) xs ≡ map (λ e. e + n) (ends_from start xs)
 ends_later start n [] = refl
 ends_later start n (x ∷ xs) =
     let same : start + n + length x ≡ start + length x + n = omega arith in
@@ -320,9 +320,9 @@ part_above xs from to ends start are is low =
     subst (λ es. AllByRecursion (λ e. start ≤ e) es) (sym cut)
     (ends_above (0 + length (joined (take from xs))) start (span from to xs) (omega arith))
 
--- the two halves of 65 items
+-- 65 to 96 items, cut in two
 pub halves : (ys front back : List Item) (n : ℕ) → front ≡ span 0 32 ys → back ≡ span 32 n ys → n ≡ length ys →
-    64 < length ys → length ys ≤ 65 → (length front ≡ 32) × (32 ≤ length back) × (length back ≤ 33)
+    64 < length ys → length ys ≤ 96 → (length front ≡ 32) × (32 ≤ length back) × (length back ≤ 64)
 halves ys front back n in_front in_back all more few =
     let first = ap length in_front in
     let first_is = length-take-le 32 ys (omega arith) in

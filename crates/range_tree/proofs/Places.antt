@@ -6,7 +6,7 @@ use Rattle.std.specs.List.{flat_map, slice_get}
 use Rattle.std.proofs.lemmas.List.{drop_more, take_more, take-append-drop, take-append-le, drop-append-le, append_assoc}
 use Rattle.std.proofs.lemmas.List.{get_or-drop, get_or-take, length-drop}
 use Rattle.std.proofs.lemmas.Option.{get_or_from_slice_get}
-use Rattle.std.proofs.lemmas.List.{append-nil, map-append, length-append, length-take}
+use Rattle.std.proofs.lemmas.List.{append-nil, map-append, length-append, length-take, take_all}
 use Rattle.std.proofs.lemmas.List.Concat.{flat_map-append}
 use Rattle.definitions.proofs.Partitions.{later}
 use Rattle.range_tree.specs.Nodes.{span, PassFirst}
@@ -65,6 +65,22 @@ pub span_step : {A : Type 0} (s e : ℕ) (xs ys held all : List A) → held ++ s
     held ++ span s e xs ++ span (s - length xs) (e - length xs) ys ≡ all
 span_step s e xs ys held all h = append_assoc held (span s e xs) (span (s - length xs) (e - length xs) ys)
     ∙ ap (λ zs. held ++ zs) (sym (span_append s e xs ys)) ∙ h
+
+-- so one more of some nodes that are gone over: what it has between the places is held too
+pub span_next : {T P A : Type 0} (f : P → List A) (v : T → P) (xs : List T) (i : ℕ) (x : T) (s e : ℕ)
+    (held now all : List A) → i < length xs → x ≡ get_or xs i x →
+    held ++ span s e (flat_map f (map v (drop i xs))) ≡ all → now ≡ held ++ span s e (f (v x)) →
+    now ++ span (s - length (f (v x))) (e - length (f (v x))) (flat_map f (map v (drop (i + 1) xs))) ≡ all
+span_next f v xs i x s e held now all low read before is =
+    let rest = flat_map f (map v (drop (i + 1) xs)) in
+    ap (λ zs. zs ++ span (s - length (f (v x))) (e - length (f (v x))) rest) is
+    ∙ span_step s e (f (v x)) rest held all
+    (ap (λ zs. held ++ span s e zs) (sym (flat_rest f v xs i x low read)) ∙ before)
+
+-- as many elements between two places as there are: these are all
+pub span_whole : {X : Type 0} (s e : ℕ) (xs : List X) → e ≤ length xs → e - s ≡ length xs → span s e xs ≡ xs
+span_whole s e [] most all = span_none s e
+span_whole s e (x ∷ xs) most all = let first : s ≡ 0 = omega arith in rw first (take_all e (x ∷ xs) (omega arith))
 
 pub map_take : {X Y : Type 0} (f : X → Y) (n : ℕ) (xs : List X) → map f (take n xs) ≡ take n (map f xs)
 map_take f zero xs = refl

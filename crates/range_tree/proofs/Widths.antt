@@ -33,6 +33,14 @@ module _ {P : Type 0} (width : P → ℕ) where
   wide_append [] qs first second = second
   wide_append (p ∷ ps) qs first second = (first.0, wide_append ps qs first.1 second)
 
+  pub wide_front : (ps qs : List P) → IsWide (ps ++ qs) → IsWide ps
+  wide_front [] qs all = tt
+  wide_front (p ∷ ps) qs all = (all.0, wide_front ps qs all.1)
+
+  pub wide_back : (ps qs : List P) → IsWide (ps ++ qs) → IsWide qs
+  wide_back [] qs all = all
+  wide_back (p ∷ ps) qs all = wide_back ps qs all.1
+
   wide_get : (ps : List P) (i : ℕ) (d : P) → i < length ps → IsWide ps → 32 ≤ width (get_or ps i d)
   wide_get [] i d low all = absurd (omega arith)
   wide_get (p ∷ ps) zero d low all = all.0
@@ -52,6 +60,10 @@ module _ {P : Type 0} (width : P → ℕ) where
   wide_from_full [] more full = absurd (omega arith)
   wide_from_full (p ∷ []) more full = absurd (omega arith)
   wide_from_full (p ∷ q ∷ ps) more full = full
+
+  pub grew_narrower : (g : Grown P) (old less : ℕ) → less ≤ old → GrewWide width old g → GrewWide width less g
+  grew_narrower (One p) old less low grew = omega arith
+  grew_narrower (Two p q) old less low grew = grew
 
   grown_wide : (g : Grown P) (old : ℕ) → 32 ≤ old → GrewWide width old g → IsWide (grown_nodes g)
   grown_wide (One p) old wide grew = (omega arith, tt)

@@ -11,6 +11,7 @@ mod node;
 mod nodes;
 mod packed;
 mod packing;
+mod part;
 mod row;
 mod row_growth;
 mod row_reads;

@@ -109,8 +109,8 @@ fn branch_of(alloc: Global, leaves: &[Arc<Leaf>]) -> Result<Arc<Branch>, AllocEr
     Ok(Arc::new(alloc, Branch::of(alloc, held)?)?)
 }
 
-/// The branches of these leaves.
-fn branches_over(alloc: Global, leaves: &[Arc<Leaf>]) -> Result<Vec<Arc<Branch>>, AllocError>
+/// The branches of these leaves, which they share.
+pub fn branches_over(alloc: Global, leaves: &[Arc<Leaf>]) -> Result<Vec<Arc<Branch>>, AllocError>
     requires { IsFull leaf_width (map arc_value leaves.now) }
     ensures items { IfOk result (λ held. items_of branch_items held.items ≡ items_of leaf_items leaves.now) }
     ensures full { IfOk result (λ held. IsFull branch_width (map arc_value held.items)) }

@@ -1,11 +1,13 @@
-//! Packed items are made: of items, of packed ones with one more, and of some of them.
+//! Packed items are made: of items, of packed ones with one more, of some of them, and of two lots of them.
 
 ghost use Rattle.std.specs.Prelude.{◌≡◌, ◌≤◌, ◌<◌, ◌+◌, ◌-◌, ◌^◌, ◌∷◌, ◌++◌, [], length, take, drop, map, IfOk, OnOk};
 ghost use Rattle.std.specs.List.{AllByRecursion};
 ghost use Rattle.definitions.specs.Items.{IsItem};
+ghost use Rattle.definitions.specs.Fingerprints.{join_lanes};
 ghost use Rattle.range_tree.specs.Nodes.{span};
 
 use crate::packed::Packed;
+use digest_core::{Fingerprint, Summary};
 use item_core::Item;
 use std::alloc::{AllocError, Global};
 use store_core::spans::bytes_in;
@@ -66,6 +68,39 @@ fn ends_with(
     held.extend_from_slice(front)?;
     held.push(start + bytes)?;
     push_later(&mut held, back, bytes)?;
+    Ok(held)
+}
+
+/// Places, and after them others, each so many bytes later.
+fn ends_and_later(
+    alloc: Global,
+    ends: &[u16],
+    others: &[u16],
+    bytes: u16,
+) -> Result<Vec<u16>, AllocError>
+    requires { AllByRecursion (λ end. end + bytes < 2 ^ 16) others.now }
+    ensures { IfOk result (λ held. held.items ≡ ends.now ++ map (λ end. end + bytes) others.now) }
+{
+    let mut held = Vec::with_capacity(alloc, ends.len().saturating_add(others.len()))?;
+    held.extend_from_slice(ends)?;
+    push_later(&mut held, others, bytes)?;
+    Ok(held)
+}
+
+/// Running fingerprints, and after them others, each joined to the fingerprint of what stands before it.
+fn sums_and_later(
+    alloc: Global,
+    sums: &[Fingerprint],
+    others: &[Fingerprint],
+    before: Fingerprint,
+) -> Result<Vec<Fingerprint>, AllocError>
+    ensures { IfOk result (λ held. held.items ≡ sums.now ++ map (λ sum. join_lanes before sum) others.now) }
+{
+    let mut held = Vec::with_capacity(alloc, sums.len().saturating_add(others.len()))?;
+    held.extend_from_slice(sums)?;
+    for sum in others {
+        held.push(before.join(*sum))?;
+    }
     Ok(held)
 }
 
@@ -132,6 +167,19 @@ impl Packed {
             bytes: Vec::from_slice(alloc, &self.bytes[start..end])?,
             ends: earlier(alloc, &self.ends[from..to], start as u16)?,
             sums: sums::part(alloc, &self.sums, from, to)?,
+        })
+    }
+    /// The items, and those of another after them. None is hashed.
+    pub(crate) fn followed_by(&self, alloc: Global, other: &Packed) -> Result<Packed, AllocError>
+        requires { length self.now + length other.now < 1024 }
+        ensures { IfOk result (λ packed. packed ≡ self.now ++ other.now) }
+    {
+        let start = self.start(self.len()) as u16;
+        let total = self.sum_before(self.len());
+        Ok(Packed {
+            bytes: with_run(alloc, &self.bytes, self.bytes.len(), &other.bytes)?,
+            ends: ends_and_later(alloc, &self.ends, &other.ends, start)?,
+            sums: sums_and_later(alloc, &self.sums, &other.sums, total)?,
         })
     }
 }

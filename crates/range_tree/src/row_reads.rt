@@ -6,7 +6,8 @@ ghost use Rattle.std.specs.List.{flat_map};
 ghost use Rattle.std.specs.List.Sorted.{IsNonDecreasingBy};
 ghost use Rattle.definitions.specs.Sets.{IsSet};
 ghost use Rattle.definitions.specs.Fingerprints.{two_lanes};
-ghost use Rattle.range_tree.specs.Nodes.{span, first_item, count_before, IsSpot, IsGap, IsFull, PassFirst};
+ghost use Rattle.range_tree.specs.Nodes.{span, first_item, items_of, count_before, IsSpot, IsGap, IsFull};
+ghost use Rattle.range_tree.specs.Nodes.{PassFirst};
 
 use crate::node::Node;
 use crate::nodes;
@@ -15,7 +16,8 @@ use crate::search::{HasItems, search};
 use digest_core::{Fingerprint, Summary};
 use item_core::Item;
 use std::alloc::{AllocError, Global};
-use store_core::HashedItem;
+use std::sync::Arc;
+use store_core::{HashedItem, Span};
 
 /// The first item of each node.
 impl<P: Node> HasItems for Row<P> {
@@ -87,6 +89,18 @@ impl<P: Node> Row<P> {
         front.join(self.nodes[index].sum_before(own))
     }
 
+    /// The nodes from the one on that holds the first item of a span, and where the span stands in what they hold.
+    pub(crate) fn nodes_at(&self, at: Span) -> (&[Arc<P>], Span)
+        ensures { span result.1.from result.1.to (items_of P.content result.0.now)
+            ≡ span at.from at.to (flat_map P.content self.now) }
+    {
+        let index = ended(&self.ends, at.from);
+        let begun = self.len_of_first(index);
+        let to = at.to.saturating_sub(begun);
+        let from = at.from - begun;
+        (&self.nodes[index..], Span { from, to })
+    }
+
     /// Puts the items from one place on and before another after what is held.
     pub(crate) fn push_between(
         &self,
@@ -96,10 +110,8 @@ impl<P: Node> Row<P> {
     ) -> Result<(), AllocError>
         ensures { OnOk result (held.new.items ≡ held.old.items ++ span from to (flat_map P.content self.now)) }
     {
-        let index = ended(&self.ends, from);
-        let begun = self.len_of_first(index);
-        let end = to.saturating_sub(begun);
-        nodes::push_between(&self.nodes[index..], held, from - begun, end)
+        let (nodes, at) = self.nodes_at(Span { from, to });
+        nodes::push_between(nodes, held, at.from, at.to)
     }
 
     /// How many items come before this one, and how many comparisons with it were made.

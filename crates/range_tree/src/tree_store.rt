@@ -63,7 +63,7 @@ fn tree_over(branches: Row<Branch>) -> Tree
 }
 
 /// The tree of these branches.
-fn tree_of(alloc: Global, branches: Vec<Arc<Branch>>) -> Result<Tree, AllocError>
+pub fn tree_of(alloc: Global, branches: Vec<Arc<Branch>>) -> Result<Tree, AllocError>
     requires rises { IsSet (items_of branch_items branches.items) }
     requires are_items { AllByRecursion IsItem (items_of branch_items branches.items) }
     requires full { IsFull branch_width (map arc_value branches.items) }

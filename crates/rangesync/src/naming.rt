@@ -1,6 +1,6 @@
 //! The name of the set that a command speaks of.
 
-ghost use Rattle.std.specs.Prelude.{◌≡◌, [], None, IfOk, IfSome, IfNone, IsSome, option_map, unwrap_or};
+ghost use Rattle.std.specs.Prelude.{◌≡◌, [], None, false, IfOk, IfSome, IfNone, IsSome, option_map, unwrap_or};
 ghost use Rattle.rangesync.specs.Names as names;
 ghost use Rattle.rangesync.specs.Names.{name_in, name_told};
 
@@ -60,14 +60,14 @@ fn set_cut(told: &[u8], bits: u8) -> Result<Option<SetName<'_>>, BadName>
 }
 
 /// The set of which the other side is told so: none where it is told nothing. A set that is cut into shards may have no
-/// name: the other side is told of its bits.
-pub fn set_of(told: &[u8], bits: Option<u8>) -> Result<Option<SetName<'_>>, BadName>
+/// name, as may one of which a part is meant: the other side is told of its bits, and of the part.
+pub fn set_of(told: &[u8], bits: Option<u8>, is_part: bool) -> Result<Option<SetName<'_>>, BadName>
     ensures set { IfOk result (λ set. IfSome set (λ s. (s.name.now ≡ told.now) × (s.bits ≡ unwrap_or bits 0))) }
-    ensures none { IfOk result (λ set. IfNone set ((told.now ≡ []) × (bits ≡ None))) }
+    ensures none { IfOk result (λ set. IfNone set ((told.now ≡ []) × (bits ≡ None) × (is_part ≡ false))) }
 {
     match told.len() {
         1 => Err(BadName),
-        0 if bits.is_none() => Ok(None),
+        0 if bits.is_none() && !is_part => Ok(None),
         _ => set_cut(told, bits.unwrap_or(0)),
     }
 }

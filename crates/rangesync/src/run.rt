@@ -12,14 +12,15 @@ use crate::answering::answer_for;
 use crate::checking::check_table;
 use crate::naming::{set_of, told_of};
 use crate::planning::plan;
-use crate::sharding::shards_of;
+use crate::sharding::{range_of, shards_of};
 use crate::simulating::sim;
 use crate::stdio::{flaw_of, node_flaw_of};
 use client::{news, put, status, stop, sync_as_asked};
+use item_core::Range;
 use loading::Target;
 use printing_core::{
-    Fault, Refusal, Why, tell, tell_name_flaw, tell_no_control, tell_node_flaw, tell_shard_flaw,
-    tell_stdio_flaw, tell_why, tell_words,
+    Fault, Refusal, Why, tell, tell_name_flaw, tell_no_control, tell_node_flaw, tell_part_flaw,
+    tell_shard_flaw, tell_stdio_flaw, tell_why, tell_words,
 };
 use server::{Loops, Outputs, serve_as_asked};
 use settings_core::{Call, Command, read_words};
@@ -189,20 +190,27 @@ where
         Ok(sharding) => sharding,
         Err(flaw) => return tell_shard_flaw(err, flaw),
     };
+    let part = match range_of(command) {
+        Ok(part) => part,
+        Err(flaw) => return tell_part_flaw(err, flaw),
+    };
     let places = match places_of(rt.alloc(), command, usual) {
         Ok(places) => places,
         Err(refused) => return tell(err, Fault::from(refused)),
     };
-    let Ok(set) = set_of(&places.told, sharding.map(|sharding| sharding.bits)) else {
+    let bits = sharding.map(|sharding| sharding.bits);
+    let Ok(set) = set_of(&places.told, bits, part.is_some()) else {
         return tell_name_flaw(err);
     };
     let command = at_addresses(command, &places.addresses);
     if lacks_door(command) {
         return tell_no_control(err);
     }
+    let range = part.unwrap_or(Range::whole());
     let target = Target {
         set,
         sharding,
+        part: &range,
         shows: is_terminal,
         explains: explains || is_terminal,
     };

@@ -1,9 +1,13 @@
-//! Which shards a command speaks of.
+//! Which shards a command speaks of, and which part of their items.
 
-ghost use Rattle.std.specs.Prelude.{IfSome};
+ghost use Rattle.std.specs.Prelude.{◌≡◌, IfSome};
 ghost use Rattle.settings_core.specs.Spans.{AreInSpan, IsShardBits};
+ghost use Rattle.rangesync.specs.Ranges.{range_asked};
 
-use settings_core::{Command, ShardFlaw, ShardWords, Sharding, sharding_of};
+use item_core::Range;
+use settings_core::{
+    Command, PartFlaw, PartWords, ShardFlaw, ShardWords, Sharding, part_of, sharding_of,
+};
 
 /// A command that has nothing to do with shards.
 const NO_SHARDS: ShardWords<'static> = ShardWords {
@@ -40,4 +44,20 @@ pub fn shards_of(command: Command<'_>) -> Result<Option<Sharding>, ShardFlaw>
     requires { AreInSpan command }
 {
     sharding_of(shard_words(command))
+}
+
+/// The range of the items that a command speaks of: none where it speaks of all.
+pub fn range_of(command: Command<'_>) -> Result<Option<Range>, PartFlaw>
+    ensures { result ≡ range_asked command.entry }
+{
+    match command {
+        Command::Sync(words) => part_of(PartWords {
+            form: words.form,
+            from: words.from,
+            to: words.to,
+            prefix: words.prefix,
+            is_stdio: words.stdio,
+        }),
+        _ => Ok(None),
+    }
 }

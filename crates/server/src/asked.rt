@@ -146,7 +146,7 @@ where
 {
     let (reader, outputs) = ends;
     let serving = Serving::asked(words, front_of(&target));
-    let sources = Sources::of_server(words, target.explains, target.shows);
+    let sources = Sources::of_server(words, target.part, target.explains, target.shows);
     if words.stdio {
         let loaded = load(rt, sources, io::empty(), err)?;
         serve_stdio(rt, loaded, serving, (reader, outputs.out), err)

@@ -12,7 +12,7 @@ use crate::ledger::{Closed, Kept, Ledger};
 use crate::looking::Looking;
 use http_core::Arrivals;
 use io_core::Device;
-use item_core::Item;
+use item_core::{Item, Range};
 use item_files::ItemForm;
 use loading::{Disk, now};
 use peer_loops::{PartGate, Told};
@@ -200,7 +200,7 @@ impl<R: Wait + Clock, D: Device + Drop, E: Write + Drop> Reporter<'_, '_, R, D, 
     }
 
     /// Reports a session that is over, if there is a report. Before it is written it is looked what stands at the path.
-    fn report(&self, session: SessionName<'_>, outcome: &Outcome) {
+    fn report(&self, session: &SessionName<'_>, outcome: &Outcome) {
         if self.reports {
             self.looking.forget(self.rt);
             self.looking.ask(self.rt);
@@ -268,9 +268,10 @@ impl<R: Wait + Clock, D: Device + Drop, E: Write + Drop> Gate for Reporter<'_, '
         let session = SessionName {
             serial,
             which: None,
+            range: Range::whole(),
             partner: None,
         };
-        self.report(session, outcome);
+        self.report(&session, outcome);
     }
 
     fn admits(&self, _serial: u64, count: usize) -> usize {
@@ -307,22 +308,24 @@ impl<R: Wait + Clock, D: Device + Drop, E: Write + Drop> Gate for Reporter<'_, '
 }
 
 impl<R: Wait + Clock, D: Device + Drop, E: Write + Drop> PartGate for Reporter<'_, '_, R, D, E> {
-    fn ended_in(&self, serial: u64, part: Option<Which>, outcome: &Outcome) {
+    fn ended_in(&self, serial: u64, part: Option<Which>, range: &Range, outcome: &Outcome) {
         let session = SessionName {
             serial,
             which: part,
+            range: *range,
             partner: None,
         };
-        self.report(session, outcome);
+        self.report(&session, outcome);
     }
 
     fn ended_with(&self, address: &str, serial: u64, part: Option<Which>, outcome: &Outcome) {
         let session = SessionName {
             serial,
             which: part,
+            range: Range::whole(),
             partner: Some(address),
         };
-        self.report(session, outcome);
+        self.report(&session, outcome);
     }
 
     fn is_told(&self, address: &str, told: Told) {

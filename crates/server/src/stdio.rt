@@ -21,7 +21,7 @@ use peer_threads::{Connection, Gate, Harvest, Outcome, Shared, serve_one, settle
 use printing_core::{Fault, Refusal, Stats, Tally, refusal_of_session, served_text, tell_dropped};
 use range_tree::Tree;
 use session_table::{SessionTable, Totals};
-use shard_core::{AfterSelector, SetName};
+use shard_core::{AfterSelector, Selecting, SetName, says_part};
 use std::alloc::Global;
 use std::fs::File;
 use std::io;
@@ -38,6 +38,9 @@ const SERIAL: u64 = 1;
 
 /// The number of the refusal where a log has no writer number left, as no new one has.
 const WRITERS_SPENT: u8 = 42;
+
+/// The number of the refusal of a peer that speaks of what is not here.
+const WRONG_SET: u8 = 55;
 
 /// Answers the peer of this connection, which speaks first, until the session ends. What the peer was first to know is
 /// put into the log, as much of it as the gate admits.
@@ -139,6 +142,16 @@ fn refused<O: Write + Drop>(writer: O, hello: &[u8], received: Tally, code: u8) 
     }
 }
 
+/// The number of the refusal of a peer that speaks of another set, of none, or of a part of its items: over standard
+/// input and output all of a set is spoken of.
+fn refusal_of(set: SetName<'_>, came: &[u8]) -> Option<u8> {
+    let is_said = matches!(set.read(came), Selecting::Selected(..));
+    if is_said && says_part(came) {
+        return Some(WRONG_SET);
+    }
+    set.refusal(came)
+}
+
 /// Answers a peer over this reader and this writer, and counts what goes through them. One that speaks of another set
 /// is refused, if the set has a name.
 fn answer_one<T: Wait + Clock + AllocGlobal, G: Gate, I: Read + Drop, O: Write + Drop>(
@@ -160,7 +173,7 @@ fn answer_one<T: Wait + Clock + AllocGlobal, G: Gate, I: Read + Drop, O: Write +
     let (reader, writer) = ends;
     let mut reader = AfterSelector::new(Metered::new(reader));
     let hello = hello_of(alloc, &mut reader);
-    if let Some(code) = set.refusal(reader.came()) {
+    if let Some(code) = refusal_of(set, reader.came()) {
         return refused(writer, &hello, reader.inner().tally(), code);
     }
     let selector = reader.came().len() as u64;

@@ -108,6 +108,9 @@ HasValues rows (Sync w) = IsText (codes "table") rows w.table.now × IsText (cod
     × IsFlag (codes "stdio") rows w.stdio × IsAnyText (codes "set") rows (option_map (λ text. text.now) w.set)
     × IsNumber (codes "shards") rows w.shards × IsAnyText (codes "only") rows (option_map (λ text. text.now) w.only)
     × IsNumber (codes "at-once") rows w.at_once
+    × IsAnyText (codes "from") rows (option_map (λ text. text.now) w.from)
+    × IsAnyText (codes "to") rows (option_map (λ text. text.now) w.to)
+    × IsAnyText (codes "prefix") rows (option_map (λ text. text.now) w.prefix)
     × IsAnyText (codes "out") rows (option_map (λ text. text.now) w.out)
     × IsAnyText (codes "keep") rows (option_map (λ text. text.now) w.keep)
     × IsNumber (codes "profile") rows (Some (profile_number w.profile))

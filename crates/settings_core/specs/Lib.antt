@@ -1,6 +1,7 @@
 pub mod Addresses
 pub mod Calls
 pub mod NodeWords
+pub mod PartWords
 pub mod Program
 pub mod Retries
 pub mod Rules

@@ -116,7 +116,8 @@ serve = with_rules served (items false ∷ [])
 abbrev pub sync : App
 sync = with_rules (new_app (codes "sync"))
     (table ∷ address ∷ flag (codes "stdio") ∷ valued (codes "set") ∷ shard_bits ∷ valued (codes "only")
-    ∷ number (codes "at-once") 1 64 ∷ valued (codes "out") ∷ valued (codes "keep")
+    ∷ number (codes "at-once") 1 64 ∷ valued (codes "from") ∷ valued (codes "to") ∷ valued (codes "prefix")
+    ∷ valued (codes "out") ∷ valued (codes "keep")
     ∷ defaulting (number (codes "profile") 1 2) (codes "1") ∷ patience ∷ most_bytes
     ∷ number (codes "retry") 0 1000 ∷ flag (codes "check") ∷ flag (codes "count") ∷ flag (codes "stats")
     ∷ flag (codes "text") ∷ flag (codes "hash") ∷ flag (codes "why") ∷ items true ∷ [])

@@ -160,6 +160,12 @@ pub struct SyncWords<'a> {
     pub only: Option<&'a str>,
     /// How many sessions there are at once, 1 to 64, if it is given.
     pub at_once: Option<u32>,
+    /// The item from which on it is spoken of the set, if one is given.
+    pub from: Option<&'a str>,
+    /// The item before which it is spoken of the set, if one is given.
+    pub to: Option<&'a str>,
+    /// The bytes with which the items begin that it is spoken of, if they are given.
+    pub prefix: Option<&'a str>,
     /// The path of the file for the lines of the session, if one is given.
     pub out: Option<&'a str>,
     /// The path of the file to which what is learned is appended, if one is given. It may be the item file.

@@ -8,6 +8,7 @@ mod door_words;
 mod given_words;
 mod known_words;
 mod node_words;
+mod part_words;
 mod retries;
 mod session_words;
 mod shard_sizes;
@@ -30,6 +31,7 @@ pub use item_files::{
 };
 pub use known_words::VERSION;
 pub use node_words::{NO_ADDRESS, NodeFlaw, NodeWords, node_flaw};
+pub use part_words::{PartFlaw, PartWords, part_of};
 pub use retries::pause_before;
 pub use shard_sizes::shard_bits_for;
 pub use shard_words::{ShardFlaw, ShardWords, sharding_of};

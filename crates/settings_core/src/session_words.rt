@@ -211,7 +211,7 @@ pub(crate) fn serve_words<'a>(alloc: Global) -> Result<clap::Command<'a>, AllocE
 }
 
 /// The arguments of `sync`.
-const SYNC: [Argument<'static>; 20] = [
+const SYNC: [Argument<'static>; 23] = [
     TABLE,
     Argument::ValuedOr {
         name: "addr",
@@ -233,6 +233,21 @@ const SYNC: [Argument<'static>; 20] = [
         least: 1,
         most: MAX_AT_ONCE,
         help: "With --shards: so many sessions at once, 1 to 64 [default: 8]",
+    },
+    Argument::Valued {
+        name: "from",
+        value: "ITEM",
+        help: "Speak of the items from this one on alone",
+    },
+    Argument::Valued {
+        name: "to",
+        value: "ITEM",
+        help: "Speak of the items before this one alone",
+    },
+    Argument::Valued {
+        name: "prefix",
+        value: "BYTES",
+        help: "Speak of the items alone that begin with these bytes",
     },
     Argument::Valued {
         name: "out",

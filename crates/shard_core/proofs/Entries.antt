@@ -11,8 +11,8 @@ use Rattle.std.specs.List.Sorted.{IsStrictlySortedBy}
 use Rattle.std.proofs.lemmas.Bool.{cases_order}
 use Rattle.std.proofs.lemmas.List.{take_more, length-take}
 use Rattle.std.proofs.lemmas.Nat.{from_be_bytes-to_be_bytes_2}
-use Rattle.definitions.specs.Fingerprints.{Lanes, two_lanes}
-use Rattle.definitions.specs.Items.{Item, item_cmp, Range, contains, whole}
+use Rattle.definitions.specs.Fingerprints.{Lanes}
+use Rattle.definitions.specs.Items.{Item, item_cmp, contains, whole}
 use Rattle.definitions.specs.Sets.{IsSet, items_in}
 use Rattle.definitions.specs.Wire.{lanes_text}
 use Rattle.shard_core.specs.declared.shard_sum.ShardSum.{ShardSum}
@@ -79,28 +79,21 @@ entries_more s ws i w low at =
     ap (λ us. entries_from s us) (take_more ws i w low ∙ ap (λ v. front ++ v ∷ []) (sym at))
     ∙ entries_push s front w ∙ ap (λ k. entries_from s front ++ entry k w.count w.fingerprint ∷ []) count
 
--- ---- what is counted and summed of a store
+-- ---- the range of all items
 
 contains_whole : (x : Item) → contains whole x ≡ true
 contains_whole [] = refl
 contains_whole (b ∷ x) = refl
 
-items_in_whole : (A : List Item) → items_in A whole ≡ A
+pub items_in_whole : (A : List Item) → items_in A whole ≡ A
 items_in_whole [] = refl
 items_in_whole (x ∷ xs) = ap (λ c. cond c (x ∷ items_in xs whole) (items_in xs whole)) (contains_whole x)
     ∙ ap (λ ys. x ∷ ys) (items_in_whole xs)
 
+-- ---- the directory
+
 abbrev pub sum_with : ℕ → Lanes → ShardSum
 sum_with n f = record { count = n; fingerprint = f }
-
-pub sum_made : (A : List Item) (X : Range) (n : ℕ) (f : Lanes) → n ≡ length A → f ≡ two_lanes.of (items_in A X) →
-    X ≡ whole → sum_with n f ≡ sum_of A
-sum_made A X n f count sum all =
-    let sums : f ≡ two_lanes.of A = sum ∙ ap (λ Y. two_lanes.of (items_in A Y)) all
-    ∙ ap (λ B. two_lanes.of B) (items_in_whole A) in
-    λ i. sum_with (count i) (sums i)
-
--- ---- the directory
 
 pub entries_are : (f : ℕ → List Item) (a n : ℕ) →
     entries_from a (map (λ s. sum_of (f s)) (range_with_len a n)) ≡ map (λ s. entry_for s (f s)) (range_with_len a n)

@@ -5,8 +5,15 @@ pub mod Entries
 pub mod Told
 pub mod Sums
 pub mod Dealt
+pub mod Agreeing
+pub mod Spelled
 pub mod Chosen
+pub mod Bounded
+pub mod Selections
+pub mod Beginnings
+pub mod Fields
 pub mod Taken
 pub mod Spanned
 pub mod Joins
 pub mod Holders
+pub mod Within

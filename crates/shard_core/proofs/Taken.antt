@@ -1,98 +1,85 @@
 -- The front of an input is taken off. Once as many bytes of it are there as are wanted, no further byte changes how
--- long it is, and it is among those that are there (`known`). So what is passed on is the same before the front is read
--- as after it: while it is read (`moved`), and once it is known or the input has ended (`whole_now`).
-use Rattle.std.proofs.Common.{◌≡◌, ℕ, ◌+◌, ◌≤◌, Bool, true, false, List, [], ◌∷◌, ◌++◌, length, take}
+-- long it is, and it is among those that are there (`known` of `Fields`). So what is passed on is the same before the
+-- front is read as after it: while it is read (`moved`), and once it is known or the input has ended (`whole_now`).
+use Rattle.std.proofs.Common.{◌≡◌, ℕ, ◌+◌, ◌≤◌, true, false, List, [], ◌++◌, length, take}
 use Rattle.std.proofs.Common.{drop, min, refl, sym, ap, subst, ◌∙◌, arith, ◌⊎◌, inl, inr, append_assoc, append-nil}
 use Rattle.std.proofs.Common.{Option, Some, None, Ok, Err, Result, option_map}
-use Rattle.std.specs.Prelude.{nat_lt, nat_le, bytes_eq, if◌then◌else◌}
+use Rattle.std.specs.Prelude.{if◌then◌else◌}
 use Rattle.std.specs.Io.KnownBytes.{Consumes, Keeps, IsAtEnd, ReadConsumes, prepend_known}
 use Rattle.std.proofs.KnownBytes.{Keeps-trans, Consumes-trans, Consumes-kept}
-use Rattle.std.proofs.lemmas.List.{take-append-le, drop-append-le, drop_all, get_or_append_left}
-use Rattle.std.proofs.lemmas.List.{take-append-drop, drop-drop}
-use Rattle.std.proofs.lemmas.List.{length-append}
-use Rattle.std.proofs.lemmas.Bool.{le-leb}
+use Rattle.std.proofs.lemmas.List.{drop-append-le, drop_all, take-append-drop, drop-drop}
 use Rattle.std.proofs.Math.Seq.{take-append_seam, drop-append_seam}
+use Rattle.definitions.specs.Items.{Range, IsRange, same_range, whole}
 use Rattle.shard_core.specs.declared.selector.Which.{Which}
-use Rattle.shard_core.specs.Selectors.{mark, selector_text, which_number}
-use Rattle.std.specs.Int.{w16, to_be_bytes}
-use Rattle.shard_core.specs.Fronts.{FrontState, is_marked, marked_length, front_length, after_front, wanted, passed_on}
-use Rattle.shard_core.specs.Fronts.{ComesOn}
+use Rattle.shard_core.specs.declared.after_selector.KindsTaken.{KindsTaken}
+use Rattle.shard_core.specs.declared.after_selector.KindsTaken.TheVariants.{Both}
+use Rattle.shard_core.specs.Selectors.{mark, part_mark, which_text, bounds_text, selector_text}
+use Rattle.shard_core.specs.Fronts.{front_length, after_front, wanted, FrontState}
+use Rattle.shard_core.specs.Fronts.{passed_on, ComesOn}
+use Rattle.shard_core.proofs.Spelled.{kinds, second}
+use Rattle.shard_core.proofs.Fields.{known, front_of_first, front_of_second}
 
-enough : (n ml : ℕ) (marked : Bool) →
-    (if nat_lt n 4 then 4 else if marked then (if nat_lt n 5 then 5 else ml) else 0) ≤ n →
-    (4 ≤ n) × (marked ≡ true → (5 ≤ n) × (ml ≤ n))
-enough n ml marked few = grind arith
+-- what is passed on, if this much of the front was read and it is not known how long that is
+abbrev pub after_came : KindsTaken → List ℕ → Option (List ℕ) → Option (List ℕ)
+after_came kinds came unread = option_map (λ l. after_front kinds (came ++ l)) unread
 
-either : (m : Bool) (a b : ℕ) → (m ≡ true → a ≡ b) → (if m then a else 0) ≡ (if m then b else 0)
-either true a b e = e refl
-either false a b e = refl
+-- what is passed on of those that were read
+abbrev pub left_of : KindsTaken → List ℕ → List ℕ
+left_of kinds came = drop (min (front_length kinds came) (length came)) came
 
-bounded : (m : Bool) (a n : ℕ) → (m ≡ true → a ≤ n) → (if m then a else 0) ≤ n
-bounded m a n e = grind arith
-
-pub known : (came x : List ℕ) → wanted came ≤ length came →
-    (front_length (came ++ x) ≡ front_length came) × (front_length came ≤ length came)
-known came x few =
-    let there = enough (length came) (marked_length came) (is_marked came) few in
-    let same : is_marked (came ++ x) ≡ is_marked came = ap (λ t. bytes_eq t mark) (take-append-le 4 came x there.0) in
-    let at : is_marked came ≡ true → marked_length (came ++ x) ≡ marked_length came =
-    λ m. ap (λ n. if nat_le n 64 then 8 + n else 5) (get_or_append_left came x 0 4 (there.1 m).0) in (
-      ap (λ m. if m then marked_length (came ++ x) else 0) same
-          ∙ either (is_marked came) (marked_length (came ++ x)) (marked_length came) at,
-      bounded (is_marked came) (marked_length came) (length came) (λ m. (there.1 m).1),
-    )
-
-pub moved : (came bytes : List ℕ) (a b : Option (List ℕ)) → Consumes a b bytes →
-    Keeps (option_map (λ l. after_front (came ++ l)) a) (option_map (λ l. after_front ((came ++ bytes) ++ l)) b)
-moved came bytes None b p = tt
-moved came bytes (Some x) None p = absurd p
-moved came bytes (Some x) (Some y) p =
-    ap after_front (append_assoc came bytes y ∙ ap (λ l. came ++ l) (sym p))
+pub moved : (kinds : KindsTaken) (came bytes : List ℕ) (a b : Option (List ℕ)) → Consumes a b bytes →
+    Keeps (after_came kinds came a) (after_came kinds (came ++ bytes) b)
+moved kinds came bytes None b p = tt
+moved kinds came bytes (Some x) None p = absurd p
+moved kinds came bytes (Some x) (Some y) p =
+    ap (after_front kinds) (append_assoc came bytes y ∙ ap (λ l. came ++ l) (sym p))
 
 -- dropping more than there is
 drop_min : (n : ℕ) (xs : List ℕ) → drop (min n (length xs)) xs ≡ drop n xs
 drop_min n xs = grind (arith, drop_all)
 
-pub whole_now : (came : List ℕ) (a : Option (List ℕ)) → (wanted came ≤ length came) ⊎ IsAtEnd a →
-    Keeps (option_map (λ l. after_front (came ++ l)) a)
-    (prepend_known (drop (min (front_length came) (length came)) came) a)
-whole_now came None p = tt
-whole_now came (Some x) (inl few) =
-    let is = known came x few in
-    ap (λ l. l ++ x) (drop_min (front_length came) came) ∙ sym (drop-append-le (front_length came) came x is.1)
+pub whole_now : (kinds : KindsTaken) (came : List ℕ) (a : Option (List ℕ)) →
+    (wanted kinds came ≤ length came) ⊎ IsAtEnd a →
+    Keeps (after_came kinds came a) (prepend_known (left_of kinds came) a)
+whole_now kinds came None p = tt
+whole_now kinds came (Some x) (inl few) =
+    let is = known kinds came x few in
+    ap (λ l. l ++ x) (drop_min (front_length kinds came) came)
+    ∙ sym (drop-append-le (front_length kinds came) came x is.1)
     ∙ ap (λ n. drop n (came ++ x)) (sym is.0)
-whole_now came (Some x) (inr end) =
+whole_now kinds came (Some x) (inr end) =
     let same : came ++ x ≡ came = ap (λ l. came ++ l) end ∙ append-nil came in
-    ap (λ l. drop (min (front_length came) (length came)) came ++ l) end ∙ append-nil _
-    ∙ drop_min (front_length came) came ∙ ap after_front (sym same)
+    ap (λ l. left_of kinds came ++ l) end ∙ append-nil _
+    ∙ drop_min (front_length kinds came) came ∙ ap (after_front kinds) (sym same)
 
 -- ---- the same of readers
 
 not_whole : {R : Type 0} (s : FrontState R) (u : Option (List ℕ)) → s.whole ≡ false →
-    passed_on s u ≡ option_map (λ l. after_front (s.came ++ l)) u
+    passed_on s u ≡ after_came s.kinds s.came u
 not_whole s u e =
-    ap (λ w. if w then prepend_known (drop s.passed s.came) u else option_map (λ l. after_front (s.came ++ l)) u) e
+    ap (λ w. if w then prepend_known (drop s.passed s.came) u else after_came s.kinds s.came u) e
 
 pub goes_on : {R : Type 0} (first old new : FrontState R) (a b c : Option (List ℕ)) (bytes : List ℕ) →
-    old.whole ≡ false → new.whole ≡ old.whole → Keeps (passed_on first a) (passed_on old b) →
+    old.whole ≡ false → new.whole ≡ old.whole → new.kinds ≡ old.kinds → Keeps (passed_on first a) (passed_on old b) →
     new.came ≡ old.came ++ bytes → Consumes b c bytes →
     (new.whole ≡ false) × Keeps (passed_on first a) (passed_on new c)
-goes_on first old new a b c bytes begun same kept came read =
+goes_on first old new a b c bytes begun same kinds kept came read =
     let still : new.whole ≡ false = same ∙ begun in
-    let step = moved old.came bytes b c read in
-    let front = subst (λ l. Keeps (option_map (λ x. after_front (old.came ++ x)) b)
-    (option_map (λ x. after_front (l ++ x)) c)) (sym came) step in
-    let after = subst (λ o. Keeps o (passed_on new c)) (sym (not_whole old b begun))
-    (subst (Keeps (option_map (λ x. after_front (old.came ++ x)) b)) (sym (not_whole new c still)) front) in
+    let step = moved old.kinds old.came bytes b c read in
+    let unread : Option (List ℕ) = after_came old.kinds old.came b in
+    let here : after_came old.kinds (old.came ++ bytes) c ≡ after_came new.kinds new.came c =
+    λ i. after_came (sym kinds i) (sym came i) c in
+    let front = subst (Keeps unread) (here ∙ sym (not_whole new c still)) step in
+    let after = subst (λ o. Keeps o (passed_on new c)) (sym (not_whole old b begun)) front in
     (still, Keeps-trans (passed_on first a) (passed_on old b) (passed_on new c) kept after)
 
 pub is_known : {R : Type 0} (first old : FrontState R) (a b : Option (List ℕ)) →
     old.whole ≡ false → Keeps (passed_on first a) (passed_on old b) →
-    (wanted old.came ≤ length old.came) ⊎ IsAtEnd b →
-    Keeps (passed_on first a) (prepend_known (drop (min (front_length old.came) (length old.came)) old.came) b)
+    (wanted old.kinds old.came ≤ length old.came) ⊎ IsAtEnd b →
+    Keeps (passed_on first a) (prepend_known (left_of old.kinds old.came) b)
 is_known first old a b begun kept enough =
-    let after = subst (λ o. Keeps o (prepend_known (drop (min (front_length old.came) (length old.came)) old.came) b))
-    (sym (not_whole old b begun)) (whole_now old.came b enough) in
+    let after = subst (λ o. Keeps o (prepend_known (left_of old.kinds old.came) b))
+    (sym (not_whole old b begun)) (whole_now old.kinds old.came b enough) in
     Keeps-trans (passed_on first a) (passed_on old b) _ kept after
 
 -- ---- what is passed on of a front that was read
@@ -124,7 +111,7 @@ all_passed came p (Some x) e = ap (λ l. Some (l ++ x)) (drop_all p came (omega 
 is_whole : {R : Type 0} (s : FrontState R) (u : Option (List ℕ)) → s.whole ≡ true →
     passed_on s u ≡ prepend_known (drop s.passed s.came) u
 is_whole s u e =
-    ap (λ w. if w then prepend_known (drop s.passed s.came) u else option_map (λ l. after_front (s.came ++ l)) u) e
+    ap (λ w. if w then prepend_known (drop s.passed s.came) u else after_came s.kinds s.came u) e
 
 -- some of it is passed on
 pub gives : {R : Type 0} (old new : FrontState R) (n : ℕ) (bytes : List ℕ) → old.whole ≡ true →
@@ -162,27 +149,27 @@ reads_on first mid new a b c r buf kept whole all same came passed read =
 
 -- ---- a reader that has read nothing
 
-text_length : (name : List ℕ) (b : ℕ) (w : Which) → length (selector_text name b w) ≡ 8 + length name
-text_length name b w =
-    let tail = length-append name (b ∷ to_be_bytes w16 (which_number w)) in omega arith
+off_front : (kinds : KindsTaken) (text later : List ℕ) → front_length kinds (text ++ later) ≡ length text →
+    after_front kinds (text ++ later) ≡ later
+off_front kinds text later size = ap (λ n. drop n (text ++ later)) size ∙ drop-append_seam text later
 
-front_of_text : (name : List ℕ) (b : ℕ) (w : Which) (later : List ℕ) → length name ≤ 64 →
-    front_length (selector_text name b w ++ later) ≡ 8 + length name
-front_of_text name b w later short =
-    ap (λ c. if c then 8 + length name else 5) (le-leb (length name) 64 short)
+-- a selector of a part
+pub part_off : (kinds : KindsTaken) (name : List ℕ) (b : ℕ) (w : Which) (X : Range) (later : List ℕ) →
+    length name ≤ 64 → IsRange X → same_range X whole ≡ false →
+    after_front kinds (selector_text name b w X ++ later) ≡ later
+part_off kinds name b w X later short is part =
+    ap (λ t. after_front kinds (t ++ later)) (second name b w X part)
+    ∙ off_front kinds (part_mark ++ (which_text name b w ++ bounds_text X)) later
+    (front_of_second kinds name b w X later short is)
 
-pub taken_off : (name : List ℕ) (b : ℕ) (w : Which) (later : List ℕ) → length name ≤ 64 →
-    after_front (selector_text name b w ++ later) ≡ later
-taken_off name b w later short =
-    ap (λ n. drop n (selector_text name b w ++ later)) (front_of_text name b w later short ∙ sym (text_length name b w))
-    ∙ drop-append_seam (selector_text name b w) later
-
-pub other_bytes : (bytes : List ℕ) → is_marked bytes ≡ false → after_front bytes ≡ bytes
-other_bytes bytes e = ap (λ c. drop (if c then marked_length bytes else 0) bytes) e
-
-pub nothing_before : (unread : Option (List ℕ)) → prepend_known [] unread ≡ unread
-nothing_before None = refl
-nothing_before (Some x) = refl
+-- of either kind
+pub taken_off : (name : List ℕ) (b : ℕ) (w : Which) (X : Range) (later : List ℕ) → length name ≤ 64 → IsRange X →
+    after_front Both (selector_text name b w X ++ later) ≡ later
+taken_off name b w X later short is = elim (kinds name b w X) [
+  | inl first ↦ ap (λ t. after_front Both (t ++ later)) first.text
+      ∙ off_front Both (mark ++ which_text name b w) later (front_of_first name b w later short)
+  | inr other ↦ part_off Both name b w X later short is other.part
+]
 
 -- ---- what came of the front stays
 

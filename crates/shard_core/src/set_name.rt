@@ -1,11 +1,12 @@
 //! What a set is called, as an initiator says it before its hello.
 
-ghost use Rattle.std.specs.Prelude.{◌≡◌, ◌<◌, ◌≤◌, ◌++◌, ◌⊎◌, length, IfSome, IfNone, OnOk};
+ghost use Rattle.std.specs.Prelude.{◌≡◌, ◌<◌, ◌≤◌, ◌++◌, ◌⊎◌, length, IfSome, IfNone, OnOk, []};
 ghost use Rattle.shard_core.specs.Shards.{max_bits};
-ghost use Rattle.shard_core.specs.Selectors.{selector_text, selecting, refusal_of, ReadsBack, ReadsOnly};
+ghost use Rattle.shard_core.specs.Selectors.{selector_text, selecting, refusal_of, ReadsBack, ReadsOnly, WantsMore};
 
 use crate::selector::{MAX_NAME, Selecting, Which, push_selector, read_selector};
 use crate::shard::MAX_BITS;
+use item_core::Range;
 use std::alloc::AllocError;
 
 /// The name of a set, of at most 64 bytes, and by how many bits it is cut into shards, at most 12.
@@ -32,11 +33,19 @@ impl<'a> SetName<'a> {
         Some(SetName { name, bits })
     }
 
+    /// The set that has no name and is not cut.
+    pub fn nameless() -> SetName<'static>
+        ensures { (result.name.now ≡ []) × (result.bits ≡ 0) }
+    {
+        SetName { name: &[], bits: 0 }
+    }
+
     /// What the bytes that have come so far say to a responder that has this set, as `read_selector` says it.
     pub fn read(&self, bytes: &[u8]) -> Selecting
         ensures tests { result ≡ selecting self.now.name.now self.now.bits bytes.now }
         ensures back { ReadsBack self.now.name.now self.now.bits bytes.now result }
         ensures only { ReadsOnly self.now.name.now self.now.bits bytes.now result }
+        ensures more { WantsMore self.now.name.now self.now.bits bytes.now result }
     {
         read_selector(bytes, self.name, self.bits)
     }
@@ -54,11 +63,11 @@ impl<'a> SetName<'a> {
         }
     }
 
-    /// Appends the selector of a part of this set.
-    pub fn push(&self, out: &mut Vec<u8>, which: Which) -> Result<(), AllocError>
+    /// Appends the selector of the items of a range, of a shard of this set or its directory.
+    pub fn push(&self, out: &mut Vec<u8>, which: Which, range: &Range) -> Result<(), AllocError>
         ensures { OnOk result (out.new.items ≡ out.old.items
-            ++ selector_text self.now.name.now self.now.bits which) }
+            ++ selector_text self.now.name.now self.now.bits which range.now) }
     {
-        push_selector(out, self.name, self.bits, which)
+        push_selector(out, self.name, self.bits, which, range)
     }
 }

@@ -1,4 +1,5 @@
 ghost use Rattle.std.specs.Prelude.{◌≡◌, ◌≤◌, length};
+ghost use Rattle.definitions.specs.Sets.{items_in};
 ghost use Rattle.shard_core.specs.Shards.{max_count};
 ghost use Rattle.shard_core.specs.Directories.{sum_of};
 
@@ -24,9 +25,18 @@ impl ShardSum {
         requires { length (S.content store.now) ≤ max_count }
         ensures { result ≡ sum_of (S.content store.now) }
     {
+        ShardSum::within(store, &Range::whole())
+    }
+
+    /// What is counted and summed of the items of a range, of a store of at most 65,536 items.
+    pub fn within<S: RangeStore>(store: &S, range: &Range) -> ShardSum
+        requires { length (S.content store.now) ≤ max_count }
+        ensures { result ≡ sum_of (items_in (S.content store.now) range.now) }
+    {
+        let (count, fingerprint) = store.count_and_sum(range);
         ShardSum {
-            count: store.len() as u32,
-            fingerprint: store.sum(&Range::whole()),
+            count: count as u32,
+            fingerprint,
         }
     }
 }

@@ -1,44 +1,14 @@
-use Rattle.std.proofs.Common.{◌≡◌, ◌≤◌, ◌++◌, ◌∙◌, [], ap, length, arith}
-use Rattle.std.proofs.lemmas.List.{append-nil}
+use Rattle.std.proofs.Common.{◌∙◌, ap, length, arith}
+use Rattle.std.proofs.lemmas.Result.{IfOk-weaker}
+use Rattle.range_tree.specs.Leaves.{leaf_width}
 use Rattle.range_tree.proofs.Places.{length_put}
-use Rattle.range_tree.proofs.Pieces.{halves, halves_are}
+use Rattle.range_tree.proofs.Widths.{grew_narrower}
 use Rattle.range_tree.proofs.leaf_node.LeafNode.with_at.Goals as goal
-use Rattle.range_tree.proofs.leaf_node.LeafNode.with_at.Goals.{In_ok-back}
-
--- how long the two halves are
-cut : (c : goal.In_ok-back) → (length c.in_ok-front.front ≡ 32) × (32 ≤ length c.in_ok-back.back)
-    × (length c.in_ok-back.back ≤ 33)
-cut c =
-    let more = c.if-len-le64.false in
-    let len = c.len.ensures.length in
-    let longer = ap length c.in_ok-packed.ensures ∙ length_put c.args.place c.args.hashed c.args.self.now.packed in
-    let small = c.args.self.now.small in
-    halves c.in_ok-packed.packed c.in_ok-front.front c.in_ok-back.back c.len-2.result c.in_ok-front.ensures
-    c.in_ok-back.ensures c.len-2.ensures.length (omega arith) (omega arith)
-
-pub of-requires-2-clause-small : goal.of-requires-2-clause-small
-of-requires-2-clause-small c =
-    let first = (cut (goal.at.of-requires-2-clause-small c).In_ok-back).0 in omega arith
-
-pub of-requires-3-clause-some : goal.of-requires-3-clause-some
-of-requires-3-clause-some c =
-    let second = (cut (goal.at.of-requires-3-clause-some c).In_ok-back).1 in omega arith
-
-pub of-requires-3-clause-small : goal.of-requires-3-clause-small
-of-requires-3-clause-small c =
-    let second = (cut (goal.at.of-requires-3-clause-small c).In_ok-back).2 in omega arith
-
-pub returns-clause-items : goal.returns-clause-items
-returns-clause-items c =
-    (λ j. c.of-2.ensures j ++ (c.of-3.ensures j ++ [])) ∙ ap (λ t. c.in_ok-front.front ++ t)
-    (append-nil c.in_ok-back.back) ∙ halves_are c.in_ok-packed.packed c.in_ok-front.front c.in_ok-back.back
-    c.len-2.result c.in_ok-front.ensures c.in_ok-back.ensures c.len-2.ensures.length ∙ c.in_ok-packed.ensures
 
 pub returns-clause-widths : goal.returns-clause-widths
 returns-clause-widths c =
-    let both = cut (goal.at.returns-clause-widths c).In_ok-back in
-    let first = both.0 in
-    let second = both.1 in
-    let first_is = ap length c.of-2.ensures in
-    let second_is = ap length c.of-3.ensures in
-    (omega arith, omega arith)
+    let old = leaf_width c.args.self.now in
+    let longer = ap length c.in_ok-with.ensures ∙ length_put c.args.place c.args.hashed c.args.self.now.packed in
+    IfOk-weaker c.one_or_two.result _ _
+    (λ grown wide. grew_narrower leaf_width grown (length c.in_ok-with.field-0) old (omega arith) wide)
+    c.one_or_two.ensures.widths

@@ -10,4 +10,4 @@ invariant-front g l = (l.self.whole ≡ false)
     × ComesOn l.fn.self.came l.self.came (g.R.Read.remaining l.fn.self.inner) (g.R.Read.remaining l.self.inner) []
 
 abbrev pub decreases-front : goal.decreases-front
-decreases-front g l = 72 - length l.self.came
+decreases-front g l = 202 - length l.self.came
