@@ -65,7 +65,7 @@ build_program() {
 # Proves and builds the program of the folder proved, out/proved, once for all scripts.
 build_proved() {
   build_program proved laws item_core digest_core store_core range_tree io_core wire_core place_core \
-    strategy_core rank_core strategy_check ends_core version_log atomic_table version_lock settings_core
+    strategy_core strategy_check ends_core version_log atomic_table version_lock settings_core
 }
 
 # Builds both.

@@ -86,19 +86,19 @@ static text read_text(const char *path) {
     return its;
 }
 
-static rs_handle set_of(rs_handle *strategy, text lines) {
-    rs_handle set;
+static rs_set set_of(rs_strategy *strategy, text lines) {
+    rs_set set;
     must(rs_set_read(strategy, RS_HEX, lines.bytes, lines.length, &set), lines.path);
     return set;
 }
 
-static rs_handle open_on(rs_handle *version, uint32_t role) {
-    rs_handle session;
+static rs_session open_on(rs_version *version, uint32_t role) {
+    rs_session session;
     must(rs_session_open(version, role, 1, &session), "open");
     return session;
 }
 
-static size_t pass(rs_handle *from, rs_handle *to) {
+static size_t pass(rs_session *from, rs_session *to) {
     static uint8_t room[65536];
     size_t used, taken, all = 0;
     do {
@@ -109,7 +109,7 @@ static size_t pass(rs_handle *from, rs_handle *to) {
     return all;
 }
 
-static size_t speak(rs_handle *first, rs_handle *second) {
+static size_t speak(rs_session *first, rs_session *second) {
     size_t moved, all = 0;
     do {
         moved = pass(first, second) + pass(second, first);
@@ -120,12 +120,12 @@ static size_t speak(rs_handle *first, rs_handle *second) {
 
 /* ---- the steps */
 
-static void time_set(rs_handle *strategy, text full) {
+static void time_set(rs_strategy *strategy, text full) {
     double took[ROUNDS];
     size_t before = held, its = 0;
     for (int round = 0; round < ROUNDS; round++) {
         double start = microseconds();
-        rs_handle set = set_of(strategy, full);
+        rs_set set = set_of(strategy, full);
         took[round] = microseconds() - start;
         its = held - before;
         rs_free(set);
@@ -134,8 +134,8 @@ static void time_set(rs_handle *strategy, text full) {
     printf("memory-set %zu\n", its);
 }
 
-static void time_opening(const char *name, rs_handle *version, uint32_t role) {
-    static rs_handle opened[OPENED];
+static void time_opening(const char *name, rs_version *version, uint32_t role) {
+    static rs_session opened[OPENED];
     double took[ROUNDS];
     size_t before = held, its = 0;
     for (int round = 0; round < ROUNDS; round++) {
@@ -149,14 +149,14 @@ static void time_opening(const char *name, rs_handle *version, uint32_t role) {
     printf("memory-%s %zu\n", name, its / OPENED);
 }
 
-static void time_session(rs_handle *left, rs_handle *right) {
+static void time_session(rs_version *left, rs_version *right) {
     double took[ROUNDS];
     size_t before = held, bytes = 0, own = 0, other = 0;
     uint32_t sent = 0, answered = 0, bound;
     most = held;
     for (int round = 0; round < ROUNDS; round++) {
         double start = microseconds();
-        rs_handle first = open_on(left, RS_FIRST), second = open_on(right, RS_SECOND);
+        rs_session first = open_on(left, RS_FIRST), second = open_on(right, RS_SECOND);
         bytes = speak(&first, &second);
         took[round] = microseconds() - start;
         must(rs_session_learned(&first, &own, &other), "learned");
@@ -170,7 +170,7 @@ static void time_session(rs_handle *left, rs_handle *right) {
     printf("bytes-both-ways %zu\nmessages %u\nours %zu\ntheirs %zu\n", bytes, sent + answered, own, other);
 }
 
-static void time_count(rs_handle *set) {
+static void time_count(rs_set *set) {
     double took[ROUNDS];
     size_t items;
     for (int round = 0; round < ROUNDS; round++) {
@@ -186,10 +186,11 @@ int main(int count, char **words) {
         fprintf(stderr, "usage: embedded STRATEGY LEFT RIGHT FULL\n");
         return 2;
     }
-    rs_handle strategy, left, right;
+    rs_strategy strategy;
+    rs_version left, right;
     text its = read_text(words[1]);
     must(rs_strategy_read(its.bytes, its.length, &strategy), its.path);
-    rs_handle left_set = set_of(&strategy, read_text(words[2])), right_set = set_of(&strategy, read_text(words[3]));
+    rs_set left_set = set_of(&strategy, read_text(words[2])), right_set = set_of(&strategy, read_text(words[3]));
     must(rs_set_share(&left_set, &left), "share");
     must(rs_set_share(&right_set, &right), "share");
     time_set(&strategy, read_text(words[4]));

@@ -30,8 +30,10 @@ static uint8_t *read_all(const char *path, size_t *length) {
 }
 
 /* A session over the items of a file. */
-static rs_handle open_over(rs_handle *strategy, const char *path, uint32_t role) {
-    rs_handle set, version, session;
+static rs_session open_over(rs_strategy *strategy, const char *path, uint32_t role) {
+    rs_set set;
+    rs_version version;
+    rs_session session;
     size_t length;
     uint8_t *lines = read_all(path, &length);
     must(rs_set_read(strategy, RS_HEX, lines, length, &set), path);
@@ -44,7 +46,7 @@ static rs_handle open_over(rs_handle *strategy, const char *path, uint32_t role)
 }
 
 /* Moves all that is due of one session to the other, and says how many bytes these were. */
-static size_t pass(rs_handle *from, rs_handle *to) {
+static size_t pass(rs_session *from, rs_session *to) {
     uint8_t room[65536];
     size_t used, taken, all = 0;
     do {
@@ -57,8 +59,8 @@ static size_t pass(rs_handle *from, rs_handle *to) {
     return all;
 }
 
-static void print_items(rs_handle *session, const char *word, size_t count,
-                        uint32_t (*item)(rs_handle *, size_t, uint8_t *, size_t, size_t *)) {
+static void print_items(rs_session *session, const char *word, size_t count,
+                        uint32_t (*item)(rs_session *, size_t, uint8_t *, size_t, size_t *)) {
     for (size_t place = 0; place < count; place++) {
         uint8_t bytes[64];
         size_t used;
@@ -76,12 +78,12 @@ int main(int count, char **words) {
     }
     size_t length, ours, theirs;
     uint32_t sent, bound;
-    rs_handle strategy;
+    rs_strategy strategy;
     uint8_t *text = read_all(words[1], &length);
     must(rs_strategy_read(text, length, &strategy), words[1]);
     free(text);
-    rs_handle left = open_over(&strategy, words[2], RS_FIRST);
-    rs_handle right = open_over(&strategy, words[3], RS_SECOND);
+    rs_session left = open_over(&strategy, words[2], RS_FIRST);
+    rs_session right = open_over(&strategy, words[3], RS_SECOND);
     rs_free(strategy);
     while (pass(&left, &right) + pass(&right, &left) > 0) {
     }

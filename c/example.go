@@ -34,23 +34,26 @@ func fine(err error) {
 // The address of bytes, which is never nil.
 func at(bytes []byte) *C.uint8_t { return (*C.uint8_t)(unsafe.Pointer(&append(bytes, 0)[0])) }
 
-func open(strategyPath, itemsPath string) C.rs_handle {
+func open(strategyPath, itemsPath string) C.rs_session {
 	text, err := os.ReadFile(strategyPath)
 	fine(err)
 	lines, err := os.ReadFile(itemsPath)
 	fine(err)
-	var strategy, set, version, session C.rs_handle
+	var strategy C.rs_strategy
+	var set C.rs_set
+	var version C.rs_version
+	var session C.rs_session
 	must(C.rs_strategy_read(at(text), C.size_t(len(text)), &strategy), strategyPath)
 	must(C.rs_set_read(&strategy, C.RS_HEX, at(lines), C.size_t(len(lines)), &set), itemsPath)
 	must(C.rs_set_share(&set, &version), "share")
 	must(C.rs_session_open(&version, C.RS_FIRST, 1, &session), "open")
-	C.rs_free(strategy)
-	C.rs_free(set)
-	C.rs_free(version)
+	C.rs_free(C.rs_handle(strategy))
+	C.rs_free(C.rs_handle(set))
+	C.rs_free(C.rs_handle(version))
 	return session
 }
 
-func talk(session *C.rs_handle, connection net.Conn) (state, code C.uint32_t) {
+func talk(session *C.rs_session, connection net.Conn) (state, code C.uint32_t) {
 	room := make([]byte, 65536)
 	var used, taken C.size_t
 	for {
@@ -99,5 +102,5 @@ func main() {
 		must(C.rs_session_theirs(&session, place, (*C.uint8_t)(unsafe.Pointer(&room[0])), 64, &used), "theirs")
 		fmt.Println("theirs", hex.EncodeToString(room[:used]))
 	}
-	C.rs_free(session)
+	C.rs_free(C.rs_handle(session))
 }

@@ -15,50 +15,58 @@ var ErrClosed = errors.New("rangesync: the value is closed")
 // mostBytes is how many bytes an item has at most.
 const mostBytes = 64
 
-// A handle is of the library, which wants one call at a time for it, and to be given it back once.
-type handle struct {
-	mutex sync.Mutex
-	raw   C.rs_handle
+// A kind is the type of a handle in C; those of all kinds are alike in memory.
+type kind interface {
+	C.rs_strategy | C.rs_set | C.rs_version | C.rs_session | C.rs_shards
 }
 
+// A handle is of the library, which wants one call at a time for it, and to be given it back once.
+type handle[K kind] struct {
+	mutex sync.Mutex
+	raw   K
+}
+
+// untyped gives the handle as one of any kind.
+func (h *handle[K]) untyped() *C.rs_handle { return (*C.rs_handle)(unsafe.Pointer(&h.raw)) }
+
 // Close frees what the library keeps. A second call does nothing.
-func (h *handle) Close() error {
+func (h *handle[K]) Close() error {
 	h.mutex.Lock()
 	defer h.mutex.Unlock()
-	if h.raw.at != nil {
-		C.rs_free(h.raw)
-		h.raw.at = nil
+	if h.untyped().at != nil {
+		C.rs_free(*h.untyped())
+		h.untyped().at = nil
 	}
 	return nil
 }
 
 // use calls the library for this handle.
-func (h *handle) use(call func(raw *C.rs_handle) C.uint32_t) error {
+func (h *handle[K]) use(call func(raw *K) C.uint32_t) error {
 	h.mutex.Lock()
 	defer h.mutex.Unlock()
-	if h.raw.at == nil {
+	if h.untyped().at == nil {
 		return ErrClosed
 	}
 	return refusedBy(call(&h.raw))
 }
 
 // count asks for a number of items.
-func (h *handle) count(call func(raw *C.rs_handle, count *C.size_t) C.uint32_t) (int, error) {
+func (h *handle[K]) count(call func(raw *K, count *C.size_t) C.uint32_t) (int, error) {
 	var count C.size_t
-	err := h.use(func(raw *C.rs_handle) C.uint32_t { return call(raw, &count) })
+	err := h.use(func(raw *K) C.uint32_t { return call(raw, &count) })
 	return int(count), err
 }
 
 // An itemCall writes the item at a place, which has room, and says its length.
-type itemCall func(raw *C.rs_handle, place C.size_t, room *C.uint8_t, used *C.size_t) C.uint32_t
+type itemCall[K kind] func(raw *K, place C.size_t, room *C.uint8_t, used *C.size_t) C.uint32_t
 
 // items asks for so many items, one after the other.
-func (h *handle) items(count int, call itemCall) ([][]byte, error) {
+func (h *handle[K]) items(count int, call itemCall[K]) ([][]byte, error) {
 	room := make([]byte, mostBytes)
 	items := make([][]byte, 0, count)
 	for place := 0; place < count; place++ {
 		var used C.size_t
-		err := h.use(func(raw *C.rs_handle) C.uint32_t { return call(raw, C.size_t(place), address(room), &used) })
+		err := h.use(func(raw *K) C.uint32_t { return call(raw, C.size_t(place), address(room), &used) })
 		if err != nil {
 			return nil, err
 		}

@@ -74,8 +74,13 @@ func itemFile(t *testing.T, items ...string) string {
 // serve starts a server of one session over these items: its address, and the lines that it prints until its end.
 func serve(t *testing.T, items ...string) (address string, lines func() string) {
 	t.Helper()
-	server := program("serve", "--table", eightPath(), "--addr", "127.0.0.1:0", "--sessions", "1", "--patience", "20",
-		"--text", itemFile(t, items...))
+	return serveWith(t, []string{"--sessions", "1"}, items...)
+}
+
+func serveWith(t *testing.T, words []string, items ...string) (address string, lines func() string) {
+	t.Helper()
+	server := program(append([]string{"serve", "--table", eightPath(), "--addr", "127.0.0.1:0", "--patience", "20",
+		"--text", itemFile(t, items...)}, words...)...)
 	printed := new(strings.Builder)
 	server.Stdout = printed
 	told, err := server.StderrPipe()
@@ -211,6 +216,59 @@ func TestTwoSetsOfThisProcess(t *testing.T) {
 	}
 }
 
+// partOf is the part of a version between two bounds.
+func partOf(t *testing.T, version *Version, lower, upper string) *Version {
+	t.Helper()
+	part, err := version.Part([]byte(lower), []byte(upper))
+	if err != nil {
+		t.Fatal(err)
+	}
+	t.Cleanup(func() { part.Close() })
+	return part
+}
+
+func versionOf(t *testing.T, items ...string) *Version {
+	t.Helper()
+	version, err := setOf(t, items...).Version()
+	if err != nil {
+		t.Fatal(err)
+	}
+	t.Cleanup(func() { version.Close() })
+	return version
+}
+
+func wantItems(t *testing.T, version *Version, wanted ...string) {
+	t.Helper()
+	items, err := version.Items(nil, nil)
+	if err != nil || !reflect.DeepEqual(items, bytesOf(wanted)) {
+		t.Fatalf("wanted %q, came %q, %v", wanted, items, err)
+	}
+}
+
+func TestTwoParts(t *testing.T) {
+	address, accept := listen(t)
+	here, there := dial(t, address), accept()
+	whole, other := versionOf(t, "a", "b", "ba", "d"), versionOf(t, "ba", "bb", "c")
+	part := partOf(t, other, "b", "c")
+	ended := make(chan error, 1)
+	go func() {
+		_, err := part.Answer(there)
+		ended <- err
+	}()
+	learned, err := partOf(t, whole, "b", "c").Reconcile(here)
+	wantLearned(t, learned, err, []string{"b"}, []string{"bb"})
+	if err := <-ended; err != nil {
+		t.Fatal(err)
+	}
+	wantItems(t, partOf(t, whole, "ba", ""), "ba", "d")
+	wantItems(t, partOf(t, whole, "", "b"), "a")
+	wantItems(t, whole, "a", "b", "ba", "d")
+	_, err = whole.Part([]byte("c"), []byte("b"))
+	wantRefused(t, err, 73, false)
+	_, err = whole.Part(nil, make([]byte, 65))
+	wantRefused(t, err, 72, false)
+}
+
 // A peer that sends these bytes, and then nothing more.
 type peer struct {
 	io.Reader
@@ -323,5 +381,112 @@ func TestClosed(t *testing.T) {
 	}
 	if _, err := session.Learned(); err == nil {
 		t.Fatal("an open session has learned nothing yet")
+	}
+}
+
+// shardsOf is a set of these items in two shards.
+func shardsOf(t *testing.T, items ...string) *Shards {
+	t.Helper()
+	shards, err := NewShards(eight(t), nil, 1, bytesOf(items)...)
+	if err != nil {
+		t.Fatal(err)
+	}
+	t.Cleanup(func() { shards.Close() })
+	return shards
+}
+
+// The item a is in shard 1, and b and c are in shard 0.
+func TestShardsWithServe(t *testing.T) {
+	address, lines := serveWith(t, []string{"--shards", "1", "--sessions", "3"}, "b", "c")
+	learned, err := shardsOf(t, "a", "b").Reconcile(func() (io.ReadWriteCloser, error) { return net.Dial("tcp", address) })
+	wantLearned(t, learned, err, []string{"a"}, []string{"c"})
+	if printed := lines(); !strings.HasSuffix(printed, "items 3\n") {
+		t.Fatalf("the server printed %q", printed)
+	}
+}
+
+func TestShardsAnswerToSync(t *testing.T) {
+	listener, err := net.Listen("tcp", "127.0.0.1:0")
+	if err != nil {
+		t.Fatal(err)
+	}
+	defer listener.Close()
+	sync := program("sync", "--table", eightPath(), "--addr", listener.Addr().String(), "--shards", "1", "--text",
+		itemFile(t, "a", "b"))
+	printed := new(strings.Builder)
+	sync.Stdout = printed
+	if err := sync.Start(); err != nil {
+		t.Fatal(err)
+	}
+	here := shardsOf(t, "b", "c")
+	found := new(Learned)
+	for session := 0; session < 3; session++ {
+		connection, err := listener.Accept()
+		if err != nil {
+			t.Fatal(err)
+		}
+		learned, err := here.Answer(connection)
+		connection.Close()
+		if err != nil {
+			t.Fatal(err)
+		}
+		found.Ours = append(found.Ours, learned.Ours...)
+		found.Theirs = append(found.Theirs, learned.Theirs...)
+	}
+	wantLearned(t, found, nil, []string{"c"}, []string{"a"})
+	if err := sync.Wait(); err != nil || !strings.HasSuffix(printed.String(), "ours a\ntheirs c\n") {
+		t.Fatalf("sync ended with %v and printed %q", err, printed)
+	}
+}
+
+func TestShardsThatAreRefused(t *testing.T) {
+	_, err := NewShards(eight(t), nil, 4)
+	wantRefused(t, err, 82, false)
+	for _, bits := range []int{-1, 13, 1<<32 + 1} {
+		_, err = NewShards(eight(t), nil, bits)
+		wantRefused(t, err, 98, false)
+	}
+	_, err = NewShards(eight(t), make([]byte, 65), 1)
+	wantRefused(t, err, 98, false)
+	_, err = ReadShards(eight(t), nil, 0, Text, []byte("a\nb\nc\nd\ne\nf\ng\nh\ni\n"))
+	wantRefused(t, err, 82, false)
+	_, err = ReadShards(eight(t), nil, 1, Hex, []byte("6\n"))
+	wantRefused(t, err, 81, false)
+	read, err := ReadShards(eight(t), nil, 1, Text, []byte("a\nb\na\n0x63\n"))
+	if err != nil {
+		t.Fatal(err)
+	}
+	defer read.Close()
+	if count, err := read.Len(); count != 3 || err != nil {
+		t.Fatal(count, err)
+	}
+	here := shardsOf(t, "a", "b", "c")
+	if count, err := here.Len(); count != 3 || err != nil {
+		t.Fatal(count, err)
+	}
+	if isNew, err := here.Insert([]byte("a")); isNew || err != nil {
+		t.Fatal(isNew, err)
+	}
+	_, err = here.Insert(nil)
+	wantRefused(t, err, 71, false)
+	_, err = here.Version(2)
+	wantRefused(t, err, 98, false)
+	version, err := here.Version(0)
+	if err != nil {
+		t.Fatal(err)
+	}
+	wantItems(t, version, "b", "c")
+	asked := map[string]int{"RRS1": 1, "RRSN\x00\x02\xff\xffRRS2": 55, "RRSN\x00\x01": 3, "RRSN\x01x\x01": 55}
+	for sent, number := range asked {
+		told := new(strings.Builder)
+		_, err = here.Answer(peer{strings.NewReader(sent), told})
+		wantRefused(t, err, number, false)
+		profile := "1"
+		if strings.HasSuffix(sent, "RRS2") {
+			profile = "2"
+		}
+		if wanted := "RRS" + profile + "\x00\x00\x00\x02\x05" + string(rune(number)); told.String() != wanted {
+			t.Fatalf("wanted %q, came %q", wanted, told)
+		}
 	}
 }

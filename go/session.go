@@ -48,26 +48,26 @@ type Learned struct {
 }
 
 // A Session is one side of a session over a version.
-type Session struct{ handle }
+type Session struct{ handle[C.rs_session] }
 
 // Push takes bytes of the peer, cut in any way, and says how many it took: all, unless memory ran out on the way. It is
 // refused 90 where it took none: push them again later. Bytes after the end of a session, or after a refusal, count no
 // more.
 func (s *Session) Push(came []byte) (int, error) {
-	return s.count(func(raw *C.rs_handle, taken *C.size_t) C.uint32_t {
+	return s.count(func(raw *C.rs_session, taken *C.size_t) C.uint32_t {
 		return C.rs_session_push(raw, address(came), length(came), taken)
 	})
 }
 
 // Finish says that the peer's bytes end here: a session that is still open is refused 3.
 func (s *Session) Finish() error {
-	return s.use(func(raw *C.rs_handle) C.uint32_t { return C.rs_session_finish(raw) })
+	return s.use(func(raw *C.rs_session) C.uint32_t { return C.rs_session_finish(raw) })
 }
 
 // Pull moves bytes that are due to the peer to room, all of them or as many as fit, and says how many: none where none
 // are due. Send them all, also where the session has ended or is refused. It is refused 90 where it moved none.
 func (s *Session) Pull(room []byte) (int, error) {
-	return s.count(func(raw *C.rs_handle, used *C.size_t) C.uint32_t {
+	return s.count(func(raw *C.rs_session, used *C.size_t) C.uint32_t {
 		return C.rs_session_pull(raw, address(room), length(room), used)
 	})
 }
@@ -75,14 +75,14 @@ func (s *Session) Pull(room []byte) (int, error) {
 // State says how the session stands, and the number by which it is refused, or 0.
 func (s *Session) State() (state State, number int, err error) {
 	var stands, code C.uint32_t
-	err = s.use(func(raw *C.rs_handle) C.uint32_t { return C.rs_session_state(raw, &stands, &code) })
+	err = s.use(func(raw *C.rs_session) C.uint32_t { return C.rs_session_state(raw, &stands, &code) })
 	return State(stands), int(code), err
 }
 
 // Messages says how many messages the session said, and how many it says at most, whatever comes.
 func (s *Session) Messages() (sent, bound int, err error) {
 	var said, most C.uint32_t
-	err = s.use(func(raw *C.rs_handle) C.uint32_t { return C.rs_session_messages(raw, &said, &most) })
+	err = s.use(func(raw *C.rs_session) C.uint32_t { return C.rs_session_messages(raw, &said, &most) })
 	return int(said), int(most), err
 }
 
@@ -93,7 +93,7 @@ func (s *Session) Learned() (*Learned, error) {
 		return nil, err
 	}
 	var ours, theirs C.size_t
-	err := s.use(func(raw *C.rs_handle) C.uint32_t { return C.rs_session_learned(raw, &ours, &theirs) })
+	err := s.use(func(raw *C.rs_session) C.uint32_t { return C.rs_session_learned(raw, &ours, &theirs) })
 	if err != nil {
 		return nil, err
 	}
@@ -109,11 +109,11 @@ func (s *Session) Learned() (*Learned, error) {
 	return learned, nil
 }
 
-func oursAt(raw *C.rs_handle, place C.size_t, room *C.uint8_t, used *C.size_t) C.uint32_t {
+func oursAt(raw *C.rs_session, place C.size_t, room *C.uint8_t, used *C.size_t) C.uint32_t {
 	return C.rs_session_ours(raw, place, room, mostBytes, used)
 }
 
-func theirsAt(raw *C.rs_handle, place C.size_t, room *C.uint8_t, used *C.size_t) C.uint32_t {
+func theirsAt(raw *C.rs_session, place C.size_t, room *C.uint8_t, used *C.size_t) C.uint32_t {
 	return C.rs_session_theirs(raw, place, room, mostBytes, used)
 }
 

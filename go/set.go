@@ -9,7 +9,7 @@ import (
 )
 
 // A Strategy says what a session does with a range, by how many items of this side are in it.
-type Strategy struct{ handle }
+type Strategy struct{ handle[C.rs_strategy] }
 
 // ReadStrategy reads a strategy, a text in TOML, and checks that sessions under it end. It is refused 29 to 38 if not.
 func ReadStrategy(text []byte) (*Strategy, error) {
@@ -32,13 +32,13 @@ const (
 )
 
 // A Set is a set of items of 1 to 64 bytes each, at most as many as its strategy's cap.
-type Set struct{ handle }
+type Set struct{ handle[C.rs_set] }
 
 // ReadSet makes a set of the items of an item file. It is refused 81 where a line is no item, 82 where there are more
 // different items than the cap, and 98 for another form.
 func ReadSet(strategy *Strategy, form Form, lines []byte) (*Set, error) {
 	set := new(Set)
-	err := strategy.use(func(raw *C.rs_handle) C.uint32_t {
+	err := strategy.use(func(raw *C.rs_strategy) C.uint32_t {
 		return C.rs_set_read(raw, C.uint32_t(form), address(lines), length(lines), &set.raw)
 	})
 	if err != nil {
@@ -67,7 +67,7 @@ func NewSet(strategy *Strategy, items ...[]byte) (*Set, error) {
 // 71 and 72 where the item has no byte or more than 64, and 40 where it is new and the set is full.
 func (s *Set) Insert(item []byte) (bool, error) {
 	var isNew C.bool
-	err := s.use(func(raw *C.rs_handle) C.uint32_t {
+	err := s.use(func(raw *C.rs_set) C.uint32_t {
 		return C.rs_set_insert(raw, address(item), length(item), &isNew)
 	})
 	return bool(isNew), err
@@ -75,13 +75,13 @@ func (s *Set) Insert(item []byte) (bool, error) {
 
 // Len says how many items the set has.
 func (s *Set) Len() (int, error) {
-	return s.count(func(raw *C.rs_handle, count *C.size_t) C.uint32_t { return C.rs_set_count(raw, count) })
+	return s.count(func(raw *C.rs_set, count *C.size_t) C.uint32_t { return C.rs_set_count(raw, count) })
 }
 
 // Version gives the set as it is now.
 func (s *Set) Version() (*Version, error) {
 	version := new(Version)
-	err := s.use(func(raw *C.rs_handle) C.uint32_t { return C.rs_set_share(raw, &version.raw) })
+	err := s.use(func(raw *C.rs_set) C.uint32_t { return C.rs_set_share(raw, &version.raw) })
 	if err != nil {
 		return nil, err
 	}
@@ -110,17 +110,17 @@ func (s *Set) Answer(connection io.ReadWriter) (*Learned, error) {
 }
 
 // A Version is a set as it was when the version was taken.
-type Version struct{ handle }
+type Version struct{ handle[C.rs_version] }
 
 // Len says how many items the version has.
 func (v *Version) Len() (int, error) {
-	return v.count(func(raw *C.rs_handle, count *C.size_t) C.uint32_t { return C.rs_version_count(raw, count) })
+	return v.count(func(raw *C.rs_version, count *C.size_t) C.uint32_t { return C.rs_version_count(raw, count) })
 }
 
 // Has says whether the version has an item. It is refused 71 and 72 where this is none.
 func (v *Version) Has(item []byte) (bool, error) {
 	var found C.bool
-	err := v.use(func(raw *C.rs_handle) C.uint32_t {
+	err := v.use(func(raw *C.rs_version) C.uint32_t {
 		return C.rs_version_has(raw, address(item), length(item), &found)
 	})
 	return bool(found), err
@@ -130,7 +130,7 @@ func (v *Version) Has(item []byte) (bool, error) {
 // of their bytes. An empty bound is the start, or the end. It is refused 72 where a bound has more than 64 bytes, and
 // 73 where the lower one is not below the upper one.
 func (v *Version) Count(lower, upper []byte) (int, error) {
-	return v.count(func(raw *C.rs_handle, count *C.size_t) C.uint32_t {
+	return v.count(func(raw *C.rs_version, count *C.size_t) C.uint32_t {
 		return C.rs_version_count_in(raw, address(lower), length(lower), address(upper), length(upper), count)
 	})
 }
@@ -141,10 +141,24 @@ func (v *Version) Items(lower, upper []byte) ([][]byte, error) {
 	if err != nil {
 		return nil, err
 	}
-	return v.items(count, func(raw *C.rs_handle, place C.size_t, room *C.uint8_t, used *C.size_t) C.uint32_t {
+	return v.items(count, func(raw *C.rs_version, place C.size_t, room *C.uint8_t, used *C.size_t) C.uint32_t {
 		return C.rs_version_item_in(
 			raw, address(lower), length(lower), address(upper), length(upper), place, room, mostBytes, used)
 	})
+}
+
+// Part gives the version that has these items alone; this one stays as it is. It is refused as Count is. A session
+// between two parts with the same bounds finds how the items there differ.
+func (v *Version) Part(lower, upper []byte) (*Version, error) {
+	part := new(Version)
+	err := v.use(func(raw *C.rs_version) C.uint32_t {
+		return C.rs_version_part(raw, address(lower), length(lower), address(upper), length(upper), &part.raw)
+	})
+	if err != nil {
+		return nil, err
+	}
+	runtime.SetFinalizer(part, (*Version).Close)
+	return part, nil
 }
 
 // Initiate opens a session that speaks first, in wire profile 1 or 2. It is refused 98 for another one.
@@ -155,7 +169,7 @@ func (v *Version) Respond(profile int) (*Session, error) { return v.session(C.RS
 
 func (v *Version) session(role C.uint32_t, profile int) (*Session, error) {
 	session := new(Session)
-	err := v.use(func(raw *C.rs_handle) C.uint32_t {
+	err := v.use(func(raw *C.rs_version) C.uint32_t {
 		if profile != 1 && profile != 2 {
 			return 98 // A number of more than 32 bits is not to lose its upper ones.
 		}

@@ -3,7 +3,7 @@
     pip install ./python
     pip wheel ./python
 
-A wheel has the package rangesync and the library librangesync.so side by side. The library is what the repository's
+A wheel has the package rangesync and the library librangesync.so.1 side by side. The library is what the repository's
 c/build makes: the released one if it is of these sources, or else one that is proved and built here, which takes about
 as long as ./build. The variable RANGESYNC_LIBRARY names another file.
 """
@@ -23,7 +23,7 @@ from pathlib import Path
 
 HERE = Path(__file__).resolve().parent
 TOP = HERE.parent
-LIBRARY = TOP / "c" / "out" / "librangesync.so"
+LIBRARY = TOP / "c" / "out" / "librangesync.so.1"
 # The library needs nothing of one Python. Of the system it needs memmove, memcpy, memset, malloc, realloc and free, as
 # glibc has had them since 2.14; 2.17 is the first one that tools for wheels know by its number.
 TAG = "py3-none-manylinux_2_17_x86_64"
@@ -100,7 +100,7 @@ def build_wheel(
     """Writes the wheel, and returns its name."""
     need_repository()
     info = f"{title()}.dist-info"
-    files = {"librangesync.so": library(), **package()}
+    files = {LIBRARY.name: library(), **package()}
     files.update({f"{info}/licenses/{name}": (TOP / name).read_bytes() for name in LICENSES})
     files[f"{info}/METADATA"] = metadata()
     files[f"{info}/WHEEL"] = f"Wheel-Version: 1.0\nGenerator: rangesync\nRoot-Is-Purelib: false\nTag: {TAG}\n".encode()

@@ -152,6 +152,19 @@ class WithTheProgram(Check):
     test_second_in_profile_2_by_1_byte = functools.partialmethod(second, 2, 1)
     test_second_in_profile_2_by_1000_bytes = functools.partialmethod(second, 2, 1000)
 
+    def test_part_with_serve(self) -> None:
+        """A session over a part, after its selector: the server answers for its own items there."""
+        lower, upper = b"\x40", b"\xc0"
+        inside = {item for item in HERE | THERE if lower <= item < upper}
+        words = ["--addr", "127.0.0.1:0", "--sessions", "1", "--workers", "1"]
+        part = large(HERE).version().part(lower, upper)
+        with program("serve", *words, *self.words) as process, part.initiate() as session:
+            with socket.create_connection(("127.0.0.1", port_of(process)), SECONDS) as connection:
+                connection.sendall(b"RRSP" + bytes(4) + b"\x01" + lower + b"\x01" + upper)
+                self.finds(run(session, connection), OURS & inside, THEIRS & inside)
+            said = process.communicate(timeout=SECONDS)[0].splitlines()
+        self.assertEqual((said[2], process.returncode), (f"items {len(THERE | HERE & inside)}", 0))
+
     def test_both_profiles_at_once(self) -> None:
         """One server, and two connections that take turns, one in each profile."""
         words = ["--addr", "127.0.0.1:0", "--sessions", "2", "--workers", "2"]
@@ -368,6 +381,28 @@ class WithoutTheProgram(Check):
             (b"", b"b" * 65, "refused 72 TooLong"),
         ]:
             self.refuses(text, functools.partial(version.count, lower, upper))
+
+    def test_parts(self) -> None:
+        """Two parts are compared, and the whole keeps its other items."""
+        here, there, rising = large(HERE).version(), large(THERE).version(), sorted(HERE | THERE)
+        bounds = (None, None), (rising[7], b""), (b"", rising[9]), (rising[3], rising[500]), (b"\x40", b"\x40\0")
+        for start, end in bounds:
+            inside = {item for item in rising if (start or b"") <= item and (not end or item < end)}
+            one, other = here.part(start, end), there.part(start=start, end=end)
+            self.assertEqual((list(one), list(other)), (sorted(HERE & inside), sorted(THERE & inside)))
+            for profile in 1, 2:
+                speak(session := one.initiate(profile), peer := other.respond(profile))
+                self.finds(session.learned(), OURS & inside, THEIRS & inside)
+                self.finds(peer.learned(), THEIRS & inside, OURS & inside)
+        self.assertEqual((list(here), list(there)), (sorted(HERE), sorted(THERE)))
+        for start, end, text in [
+            (b"b", b"b", "refused 73 EmptyRange"),
+            (b"b" * 65, None, "refused 72 TooLong"),
+            (None, b"b" * 65, "refused 72 TooLong"),
+        ]:
+            self.refuses(text, functools.partial(here.part, start, end))
+        for text in "b", "":
+            self.assertRaises(TypeError, here.part, text)
 
     def test_before_the_end(self) -> None:
         session = eight([b"a"]).initiate()

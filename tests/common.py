@@ -197,6 +197,16 @@ def wait_until(is_so: Callable[[], bool], seconds: float = SECONDS) -> bool:
     return True
 
 
+def is_listening(path: Path) -> bool:
+    """Whether a server takes connections at this Unix socket. Its file is there before that."""
+    with socket.socket(socket.AF_UNIX) as own:
+        try:
+            own.connect(str(path))
+        except OSError:
+            return False
+    return True
+
+
 NUMBERS = itertools.count(1)
 
 
@@ -233,7 +243,8 @@ class Server:
     def error(self) -> str:
         """What is on standard error, but for the lines with the real addresses, and that of a set in memory alone."""
         lines = self.err.read_text(errors="backslashreplace").splitlines(keepends=True)
-        return "".join(line for line in lines if not line.startswith(("listening ", "metrics ", "control ", IN_MEMORY)))
+        told = "listening ", "websocket ", "metrics ", "control ", IN_MEMORY
+        return "".join(line for line in lines if not line.startswith(told))
 
     def address(self) -> str:
         """The real address, once it listens."""

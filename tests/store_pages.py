@@ -5,7 +5,6 @@ from __future__ import annotations
 import contextlib
 import hashlib
 import os
-import re
 import shutil
 import socket
 import sqlite3
@@ -15,6 +14,7 @@ from collections.abc import Callable, Iterator
 from pathlib import Path
 
 from common import ALL_ROUND, SECONDS, TOP, Count, Said, own_folder
+from pages import blocks_of
 from store_servers import WORLD, ran, redis
 
 PAGE = TOP / "docs/STORES.md"
@@ -29,12 +29,9 @@ HERE, THERE = set(map(id_of, range(COMMON))), set(map(id_of, range(EACH, COMMON 
 
 
 def block_of(word: str) -> str:
-    """The lines of the page's block that has this word."""
-    blocks = re.findall(r"(?:^    .*\n|^\n)+", PAGE.read_text(encoding="utf-8"), re.MULTILINE)
-    found = [block for block in blocks if word in block]
-    if len(found) != 1:
-        raise ValueError(f"{len(found)} blocks of the page have {word}")
-    return "".join(line[4:] + "\n" for line in found[0].splitlines() if line.strip())
+    """The block of the page that has this word."""
+    (only,) = (block.text for block in blocks_of(PAGE) if word in block.text)
+    return only
 
 
 @contextlib.contextmanager

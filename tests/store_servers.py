@@ -21,7 +21,7 @@ POSTGRES_FOLDERS = sorted(Path("/usr/lib/postgresql").glob("*/bin"), reverse=Tru
 LONG = 600.0
 """How many seconds a run of an example may take at the full sizes."""
 WORLD = {**os.environ, "PYTHONPATH": str(TOP / "python")}
-WORLD.setdefault("RANGESYNC_LIBRARY", str(TOP / "c/out/librangesync.so"))
+WORLD.setdefault("RANGESYNC_LIBRARY", str(TOP / "c/out/librangesync.so.1"))
 
 Changes = dict[str, object]
 

@@ -37,8 +37,11 @@ static uint8_t *read_all(const char *path, size_t *length) {
 }
 
 /* A session over the items of a file, which speaks first. */
-static rs_handle open_over(const char *strategy_path, const char *items_path) {
-    rs_handle strategy, set, version, session;
+static rs_session open_over(const char *strategy_path, const char *items_path) {
+    rs_strategy strategy;
+    rs_set set;
+    rs_version version;
+    rs_session session;
     size_t length;
     uint8_t *text = read_all(strategy_path, &length);
     must(rs_strategy_read(text, length, &strategy), strategy_path);
@@ -85,7 +88,7 @@ static void send_all(int connection, const uint8_t *bytes, size_t length) {
 }
 
 /* Speaks until the session is over, and says how it stands. */
-static uint32_t talk(rs_handle *session, int connection, uint32_t *code) {
+static uint32_t talk(rs_session *session, int connection, uint32_t *code) {
     uint8_t room[65536];
     size_t used, taken;
     uint32_t state;
@@ -105,8 +108,8 @@ static uint32_t talk(rs_handle *session, int connection, uint32_t *code) {
     }
 }
 
-static void print_items(rs_handle *session, const char *word, size_t count,
-                        uint32_t (*item)(rs_handle *, size_t, uint8_t *, size_t, size_t *)) {
+static void print_items(rs_session *session, const char *word, size_t count,
+                        uint32_t (*item)(rs_session *, size_t, uint8_t *, size_t, size_t *)) {
     for (size_t place = 0; place < count; place++) {
         uint8_t bytes[64];
         size_t used;
@@ -124,7 +127,7 @@ int main(int count, char **words) {
         fprintf(stderr, "usage: session STRATEGY ITEMS ADDRESS\n");
         return 2;
     }
-    rs_handle session = open_over(words[1], words[2]);
+    rs_session session = open_over(words[1], words[2]);
     int connection = connect_to(words[3]);
     if (talk(&session, connection, &code) != RS_ENDED) {
         fprintf(stderr, "the session was refused %u\n", code);

@@ -4,7 +4,8 @@
  *     node speak.js sync OPTIONS PORT FILE      one session, or those of a set in shards, with a server at this port
  *     node speak.js answer OPTIONS COUNT FILE   answers so many connections; it prints its port first
  *
- * OPTIONS is JSON: `profile`, `set`, `bits`, `from` and `to` as texts, and `over`: `socket`, `web` or `websocket`. FILE
+ * OPTIONS is JSON: `profile`, `set`, `bits`, `from` and `to` as texts, and `over`: `socket`, `web`, `websocket`, or `bridge`: a
+ * WebSocket to a server of TCP. FILE
  * has an item a line. It prints what was found, a line each, as `ours one` and `theirs two`, and of an answer its
  * shard; or the refusal.
  */
@@ -32,13 +33,14 @@ function print({ ours, theirs }) {
 }
 
 function connected(port) {
-    if (over === "websocket") return new WebSocket(`ws://127.0.0.1:${port}`);
+    if (over === "websocket") return new WebSocket(`ws://127.0.0.1:${port}`, "rangesync");
+    if (over === "bridge") return new WebSocket(`ws://127.0.0.1:${port}`);
     const socket = connect({ port, host: "127.0.0.1" });
     return over === "web" ? Duplex.toWeb(socket) : socket;
 }
 
 async function speakFirst() {
-    const bridge = over === "websocket" ? await bridgeTo(Number(number)) : null;
+    const bridge = over === "bridge" ? await bridgeTo(Number(number)) : null;
     const port = bridge?.port ?? Number(number);
     if (bits === undefined) print(await sync(held, connected(port), { profile, set, ...part }));
     else print(await held.reconcile(() => connected(port), { profile, atOnce: 4, ...part }));

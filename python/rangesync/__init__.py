@@ -26,12 +26,11 @@ it would wait for ever for the call that it interrupted. Nor does the child that
 from __future__ import annotations
 
 from ._codecs import BadItem, Codec, Integers, LearnedValues, Texts, TypedSet, Uuids
-from ._cuts import shard_of
 from ._refused import Refused
 from ._running import Connection, Reader, Writer, arun, run
 from ._sessions import Learned, Session, State
 from ._sets import Set, Strategy, Version
-from ._shards import Answered, Incomplete, Reconciled, Shards
+from ._shards import Answered, Incomplete, Reconciled, Shards, shard_of
 
 __all__ = [
     "Answered",

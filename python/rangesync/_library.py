@@ -22,10 +22,11 @@ class _Handle(ctypes.Structure):
 
 
 def _path() -> str:
-    """The library that RANGESYNC_LIBRARY names, or the one beside this package, or in a clone the one of c/build."""
-    beside = Path(__file__).resolve().parent.parent / "librangesync.so"
-    made = beside.parent.parent / "c/out/librangesync.so"
-    return os.environ.get("RANGESYNC_LIBRARY") or str(made if made.exists() and not beside.exists() else beside)
+    """The library that RANGESYNC_LIBRARY names, or that beside this package, of c/build in a clone, or installed."""
+    name = "librangesync.so.1"
+    folder = Path(__file__).resolve().parent.parent
+    found = [str(path) for path in (folder / name, folder.parent / "c/out" / name) if path.exists()]
+    return os.environ.get("RANGESYNC_LIBRARY") or (found[0] if found else name)
 
 
 def _load() -> ctypes.CDLL:
@@ -48,6 +49,7 @@ def _load() -> ctypes.CDLL:
         "rs_version_has": [handle, data, size, flag],
         "rs_version_count_in": [handle, data, size, data, size, sizes],
         "rs_version_item_in": [handle, data, size, data, size, size, data, size, sizes],
+        "rs_version_part": [handle, data, size, data, size, handle],
         "rs_session_open": [handle, number, number, handle],
         "rs_session_push": [handle, data, size, sizes],
         "rs_session_finish": [handle],
@@ -57,6 +59,13 @@ def _load() -> ctypes.CDLL:
         "rs_session_learned": [handle, sizes, sizes],
         "rs_session_ours": [handle, size, data, size, sizes],
         "rs_session_theirs": [handle, size, data, size, sizes],
+        "rs_session_differing": [handle, number, data, size],
+        "rs_shards_read": [handle, data, size, number, number, data, size, handle],
+        "rs_shards_insert": [handle, data, size, flag],
+        "rs_shards_count": [handle, sizes],
+        "rs_shards_share": [handle, number, data, size, data, size, handle],
+        "rs_shards_selector": [handle, number, data, size, data, size, data, size, sizes],
+        "rs_shards_asked": [handle, data, size, ctypes.c_bool, numbers, sizes, numbers, handle],
     }
     for name, arguments in calls.items():
         call = getattr(library, name)

@@ -128,3 +128,9 @@ class Session(_Held):
         """What it found, once it has ended. Raises `Refused` with the session's refusal, and 98 while it goes on."""
         ours, theirs = self._counts()
         return Learned(sorted(self._items("rs_session_ours", ours)), sorted(self._items("rs_session_theirs", theirs)))
+
+    def _differing(self, bits: int) -> bytes:
+        """What it says of each shard, by its number, once it has ended over two directories. Raises `Refused` 57."""
+        room = ctypes.create_string_buffer(1 << bits)
+        self._ask("rs_session_differing", bits, room, 1 << bits)
+        return room.raw

@@ -25,6 +25,13 @@ class Version(_Held):
     def __init__(self, of: Set) -> None:
         super().__init__(of._make("rs_set_share"))
 
+    @classmethod
+    def _over(cls, handle: _Handle) -> Version:
+        """The version that this handle stands for."""
+        made = cls.__new__(cls)
+        _Held.__init__(made, handle)
+        return made
+
     def __len__(self) -> int:
         """How many items it has."""
         return self._count("rs_version_count")
@@ -50,6 +57,15 @@ class Version(_Held):
             where = front, len(front), back, len(back), place
             self._ask("rs_version_item_in", *where, room, 64, ctypes.byref(used))
             yield ctypes.string_at(room, used.value)
+
+    def part(self, start: Data | None = None, end: Data | None = None) -> Version:
+        """The version that has its items from `start` on and before `end` alone; either may be left out.
+
+        A session between two parts with the same bounds finds how the items there differ, and nothing else. Raises
+        `Refused` 72 where a bound has more than 64 bytes, 73 where `start` is not below `end`.
+        """
+        front, back = (b"" if bound is None else _bytes(bound) for bound in (start, end))
+        return Version._over(self._make("rs_version_part", front, len(front), back, len(back)))
 
     def __iter__(self) -> Iterator[bytes]:
         """Its items, rising."""

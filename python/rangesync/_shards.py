@@ -3,23 +3,40 @@
 from __future__ import annotations
 
 import contextlib
-import threading
+import ctypes
+import hashlib
 from collections.abc import Callable, Iterable, Iterator
 from concurrent.futures import ThreadPoolExecutor
 from dataclasses import dataclass
-from typing import NoReturn, Union
+from typing import Union
 
-from ._cuts import ALL, DIRECTORY, HELLO, Bounds, Cut, entry_of, front_length, shard_of
-from ._library import Data, _bytes
+from ._library import Data, _bytes, _call, _Handle, _Held
 from ._refused import Refused
 from ._running import Connection, _hear, run
-from ._sessions import Learned
-from ._sets import Set, Strategy, Version
+from ._sessions import Learned, Session
+from ._sets import Set, Strategy, Version, _line
 
 Connect = Callable[[], contextlib.AbstractContextManager[Connection]]
 Came = Union[Learned, Exception]
+Bounds = tuple[bytes, bytes]
 
+_ALL: Bounds = b"", b""
+_DIRECTORY = 0xFFFF
+_MOST_BITS, _MOST_NAME, _MOST_SELECTOR = 12, 64, 202
+_ENTRY, _MOST_COUNT = 38, 65_536
+_DIFFERS, _LACKED = 1, 2
 _PIECE = 65_536
+
+
+def shard_of(item: Data, bits: int) -> int:
+    """The number of an item's shard in a set of 2 ** bits shards: the first bits of its SHA-256 digest.
+
+    `bits` is 0 to 12; it does not look at that.
+
+    >>> shard_of(b"a", 2), shard_of(b"a", 12)
+    (3, 3241)
+    """
+    return int.from_bytes(hashlib.sha256(_bytes(item)).digest()[:2], "big") >> 16 - bits
 
 
 @dataclass(frozen=True)
@@ -68,41 +85,47 @@ class Incomplete(Exception):
 class _Asking:
     """One call of `reconcile`: what it speaks of, and the fault by which no connection could be made."""
 
-    def __init__(
-        self, cut: Cut, bounds: Bounds, versions: dict[int, Version], connect: Connect, profile: int
-    ) -> None:
-        self.cut, self.bounds, self.versions = cut, bounds, versions
-        self.connect, self.profile = connect, profile
+    def __init__(self, shards: Shards, bounds: Bounds, connect: Connect, profile: int) -> None:
+        self.bits, self.connect, self.profile = shards.bits, connect, profile
+        self.versions = shards._versions(bounds)
+        self.selectors = {number: shards._selector(number, bounds) for number in self.versions}
         self.gone: Exception | None = None
 
-    def session(self, number: int) -> Learned:
-        """A session over a shard, or over the directory, on a connection of its own."""
-        with self.versions[number].initiate(self.profile) as session, contextlib.ExitStack() as held:
-            try:
-                connection = held.enter_context(self.connect())
-            except Exception as fault:
-                self.gone = fault
-                raise
-            # In one piece: what follows a selector that goes alone may wait for the other system to confirm that.
-            connection.sendall(self.cut.selector(number, self.bounds) + session.pull())
-            learned = run(session, connection)
-        return learned
+    @contextlib.contextmanager
+    def session(self, number: int) -> Iterator[tuple[Session, Learned]]:
+        """A session over a shard, or over the directory, that ended, on a connection of its own."""
+        with self.versions[number].initiate(self.profile) as session:
+            with contextlib.ExitStack() as held:
+                try:
+                    connection = held.enter_context(self.connect())
+                except Exception as fault:
+                    self.gone = fault
+                    raise
+                # In one piece: what follows a selector that goes alone may wait for the other system to confirm that.
+                connection.sendall(self.selectors[number] + session.pull())
+                learned = run(session, connection)
+            yield session, learned
 
     def differing(self) -> list[int]:
-        """The shards that are kept here and whose entries differ, rising. Raises `Refused` 57, 56."""
-        learned = self.session(DIRECTORY)
-        ours, theirs = self.cut.numbers(learned.ours), self.cut.numbers(learned.theirs)
-        for number in sorted(ours - theirs):
-            raise Refused(56, shard=number)
-        # A peer may have sent our entry of a shard, and another one of it: then theirs alone was learned.
-        return sorted(theirs & self.versions.keys())
+        """The shards that are kept here and of which the peer has another entry, rising. Raises `Refused` 57, 56."""
+        with self.session(_DIRECTORY) as (session, learned):
+            try:
+                told = session._differing(self.bits)
+            except Refused as fault:
+                raise fault from _no_entry(self.bits, learned.theirs)
+        kept = sorted(self.versions.keys() - {_DIRECTORY})
+        for number in kept:
+            if told[number] == _LACKED:
+                raise Refused(56, shard=number)
+        return [number for number in kept if told[number] == _DIFFERS]
 
     def shard(self, number: int) -> Came:
         """What a shard's session finds, or what stopped it."""
         if self.gone is not None:
             return self.gone
         try:
-            return self.session(number)
+            with self.session(number) as (_session, learned):
+                return learned
         except Exception as fault:  # noqa: BLE001
             return fault
 
@@ -112,6 +135,23 @@ class _Asking:
             return list(map(self.shard, numbers))
         with ThreadPoolExecutor(at_once) as threads:
             return list(threads.map(self.shard, numbers))
+
+
+def _no_entry(bits: int, items: Iterable[bytes]) -> ValueError | None:
+    """Why the first of these items that is no entry of a directory is none."""
+    numbers: set[int] = set()
+    for item in items:
+        number, count = int.from_bytes(item[:2], "big"), int.from_bytes(item[2:6], "big")
+        flaws = {
+            f"it has {len(item)} bytes, not {_ENTRY}": len(item) != _ENTRY,
+            f"it is of shard {number}, and there are {1 << bits}": number >= 1 << bits,
+            f"its shard has {count} items, above {_MOST_COUNT}": count > _MOST_COUNT,
+            f"shard {number} has another one": number in numbers,
+        }
+        for flaw in filter(flaws.get, flaws):
+            return ValueError(f"{item.hex()} is no entry: {flaw}")
+        numbers.add(number)
+    return None
 
 
 def _merged(parts: Iterable[list[bytes]]) -> list[bytes]:
@@ -129,7 +169,7 @@ def _found(numbers: list[int], came: list[Came]) -> Reconciled:
     return found
 
 
-class Shards:
+class Shards(_Held):
     """A set of any size: 2 ** bits sets, its shards, of which each has at most as many items as the strategy's cap.
 
     An item is in the shard that the first bits of its SHA-256 digest number (`shard_of`), so the shards are about even.
@@ -157,54 +197,63 @@ class Shards:
         name: Data = b"",
         only: Iterable[int] | None = None,
     ) -> None:
-        self._cut = Cut(bits, _bytes(name))
-        self._strategy = strategy
-        self._lock = threading.Lock()
-        numbers = set(range(1 << bits) if only is None else only)
-        if not numbers or not numbers <= set(range(1 << bits)):
+        self._bits, self._name, self._strategy = bits, _bytes(name), strategy
+        if not 0 <= bits <= _MOST_BITS:
+            raise ValueError(f"bits is to be 0 to {_MOST_BITS}")
+        if len(self._name) > _MOST_NAME:
+            raise ValueError(f"a name is to have at most {_MOST_NAME} bytes")
+        self._kept = set(range(1 << bits) if only is None else only)
+        if not self._kept or not self._kept <= set(range(1 << bits)):
             raise ValueError(f"one shard or more is to be kept, of 0 to {(1 << bits) - 1}")
-        self._sets: dict[int, Set] = {}
-        self._entries: dict[int, bytes] = {}
-        self._directory: Set | None = None
-        self._deal(numbers, items)
-        if bits:
-            self._listed()
+        self._is_whole = len(self._kept) == 1 << bits
+        lines = b"".join(map(_line, items))
+        named = self._name, len(self._name)
+        try:
+            super().__init__(strategy._make("rs_shards_read", *named, bits, 0, lines, len(lines)))
+        except Refused as fault:
+            raise (self._refusal_of(lines) if lines and fault.number == 82 else fault) from None
+        if self._has_others():
+            raise self._refusal_of(lines)
 
-    def _deal(self, numbers: set[int], items: Iterable[Data]) -> None:
-        """Makes the shards of these numbers."""
-        lists: dict[int, list[Data]] = {number: [] for number in sorted(numbers)}
-        for item in items:
-            lists[self._number_of(item, numbers)].append(item)
-        for number in sorted(numbers):
-            try:
-                self._sets[number] = Set(self._strategy, lists.pop(number))
-            except Refused as fault:
-                raise _without_room(fault, number) from None
+    def _has_others(self) -> bool:
+        """Whether it has an item of a shard that is not kept here."""
+        if self._is_whole:
+            return False
+        with self._version(_DIRECTORY) as entries:
+            return any(any(entry[2:6]) and int.from_bytes(entry[:2], "big") not in self._kept for entry in entries)
 
-    def _number_of(self, item: Data, numbers: Iterable[int]) -> int:
-        """The shard of an item, which is to be one of these."""
-        number = shard_of(item, self._cut.bits)
-        if number not in numbers:
+    def _refusal_of(self, lines: bytes) -> Refused:
+        """The refusal of these lines, which names the first shard that has more items than the cap.
+
+        Raises `ValueError` for the first item whose shard is not kept here.
+        """
+        full = set()
+        with Shards(self._strategy, self._bits, only=self._kept) as dealt:
+            for line in lines.decode().split():
+                try:
+                    dealt.insert(bytes.fromhex(line))
+                except Refused as fault:
+                    if fault.shard is None:
+                        raise
+                    full.add(fault.shard)
+        return Refused(82, shard=min(full))
+
+    def _number_of(self, item: Data) -> int:
+        """The shard of an item, which is to be kept here."""
+        number = shard_of(item, self._bits)
+        if number not in self._kept:
             raise ValueError(f"shard {number} is not kept here")
         return number
-
-    def _listed(self) -> Set:
-        """The directory, which is made where it is not of the shards as they are. The lock is held, or not yet used."""
-        if self._directory is None:
-            for number in self._sets.keys() - self._entries.keys():
-                self._entries[number] = entry_of(number, self._sets[number])
-            self._directory = Set(self._strategy, self._entries.values())
-        return self._directory
 
     @property
     def bits(self) -> int:
         """There are 2 to the power of this many shards."""
-        return self._cut.bits
+        return self._bits
 
     @property
     def name(self) -> bytes:
         """The name that the other side needs too, all of its bytes."""
-        return self._cut.name
+        return self._name
 
     def insert(self, item: Data) -> bool:
         """Puts an item in, and says whether it is new.
@@ -212,16 +261,12 @@ class Shards:
         Raises `Refused` 40 where it is new and its shard is full, with the number in `shard`, 71, 72, and `ValueError`
         where its shard is not kept here.
         """
-        number = self._number_of(item, self._sets)
-        with self._lock:
-            try:
-                is_new = self._sets[number].insert(item)
-            except Refused as fault:
-                raise _without_room(fault, number) from None
-            if is_new:
-                self._entries.pop(number, b"")
-                self._directory = None
-        return is_new
+        if not self._is_whole:
+            self._number_of(item)
+        try:
+            return self._says("rs_shards_insert", item)
+        except Refused as fault:
+            raise (Refused(40, shard=shard_of(item, self._bits)) if fault.number == 40 else fault) from None
 
     def update(self, items: Iterable[Data]) -> int:
         """Puts the items in, one after the other, and says how many of them are new. It makes no list of them.
@@ -232,60 +277,58 @@ class Shards:
 
     def __len__(self) -> int:
         """How many items all shards have."""
-        return sum(map(len, self._sets.values()))
+        return self._count("rs_shards_count")
 
     def __contains__(self, item: Data) -> bool:
         """Whether it has the item. Raises `Refused` 71, 72 where this is none, if its shard is kept here."""
-        number = shard_of(item, self._cut.bits)
-        return number in self._sets and item in self._sets[number]
+        number = shard_of(item, self._bits)
+        if number not in self._kept:
+            return False
+        with self._version(number) as version:
+            return item in version
 
     def __iter__(self) -> Iterator[bytes]:
         """Its items, shard by shard, and rising in each. It may grow meanwhile."""
-        for held in self._sets.values():
-            yield from held
+        for number in sorted(self._kept):
+            with self._version(number) as version:
+                yield from version
 
-    def close(self) -> None:
-        """Gives the shards back. Calls of the closed object raise `ValueError`."""
-        with self._lock:
-            for held in self._sets.values():
-                held.close()
-            if self._directory is not None:
-                self._directory.close()
+    def _shared(self, number: int, bounds: Bounds) -> Version:
+        """A shard or the directory as it is now, of the items between two bounds. No other thread may use it."""
+        made, (start, end) = _Handle(), bounds
+        where = number, start, len(start), end, len(end)
+        _call("rs_shards_share", ctypes.byref(self._handle), *where, ctypes.byref(made))
+        return Version._over(made)
 
-    def __enter__(self) -> Shards:
-        return self
+    def _version(self, number: int) -> Version:
+        """A shard as it is now."""
+        with self._in_use():
+            return self._shared(number, _ALL)
 
-    def __exit__(self, *_exception: object) -> None:
-        self.close()
+    def _versions(self, bounds: Bounds) -> dict[int, Version]:
+        """All that is kept as it is at one time, with the directory, of the items between two bounds.
 
-    def __reduce__(self) -> NoReturn:
-        """Its sets would be shared and its directory not, so it is neither copied nor pickled."""
-        raise TypeError("Shards can be neither copied nor pickled")
+        Raises `Refused` 72, 73.
+        """
+        numbers = sorted(self._kept) + ([_DIRECTORY] if self._bits else [])
+        with self._in_use():
+            versions = {number: self._shared(number, bounds) for number in numbers}
+        return {number: self._of_kept(number, version) for number, version in versions.items()}
 
-    def _versions(self) -> dict[int, Version]:
-        """All shards as they are at one time, and the directory of these."""
-        with self._lock:
-            versions = {number: held.version() for number, held in self._sets.items()}
-            if self.bits:
-                versions[DIRECTORY] = self._listed().version()
-        return versions
+    def _of_kept(self, number: int, version: Version) -> Version:
+        """The same version; of the directory the entries of the shards that are kept here."""
+        if number != _DIRECTORY or self._is_whole:
+            return version
+        entries = [entry for entry in version if int.from_bytes(entry[:2], "big") in self._kept]
+        with version, Set(self._strategy, entries) as directory:
+            return directory.version()
 
-    def _part(self, version: Version, bounds: Bounds) -> Version:
-        """The items of a shard between two bounds, as a set of their own: a copy. Raises `Refused` 72, 73."""
-        with Set(self._strategy, version.items(*bounds)) as part:
-            return part.version()
-
-    def _parts(self, bounds: Bounds) -> dict[int, Version]:
-        """The same as `_versions`, of the items between two bounds."""
-        versions = self._versions()
-        if bounds == ALL:
-            return versions
-        parts = {number: self._part(versions[number], bounds) for number in self._sets}
-        if self.bits:
-            entries = (entry_of(number, part) for number, part in parts.items())
-            with Set(self._strategy, entries) as directory:
-                parts[DIRECTORY] = directory.version()
-        return parts
+    def _selector(self, number: int, bounds: Bounds) -> bytes:
+        """The selector of a shard's session, or of the directory's."""
+        room, used = ctypes.create_string_buffer(_MOST_SELECTOR), ctypes.c_size_t()
+        where = number, bounds[0], len(bounds[0]), bounds[1], len(bounds[1])
+        self._ask("rs_shards_selector", *where, room, _MOST_SELECTOR, ctypes.byref(used))
+        return room.raw[: used.value]
 
     def reconcile(
         self, connect: Connect, profile: int = 1, at_once: int = 1, start: Data = b"", end: Data = b""
@@ -297,8 +340,7 @@ class Shards:
         directory, once in all. So many sessions as `at_once` says run at the same time, and `connect` is then called in
         other threads. Nothing is put in: `update(found.theirs)` does that.
 
-        With `start` or `end` it finds how the items from `start` on and before `end` differ, and nothing else. It makes
-        a copy of its items there for that, which takes some microseconds an item, and so does `answer`.
+        With `start` or `end` it finds how the items from `start` on and before `end` differ, and nothing else.
 
         Raises `Incomplete` where shards that differ were not reconciled, with what was found in the others. Before
         that, of the session over the directory, raises as `run`, and what `connect` raises: nothing is known then.
@@ -309,11 +351,12 @@ class Shards:
         if at_once < 1:
             raise ValueError("at_once is to be 1 or more")
         bounds = _bytes(start), _bytes(end)
-        asking = _Asking(self._cut, bounds, self._parts(bounds), connect, profile)
+        asking = _Asking(self, bounds, connect, profile)
         if self.bits:
             numbers = asking.differing()
             return _found(numbers, asking.shards(numbers, at_once))
-        learned = asking.session(0)
+        with asking.session(0) as (_session, learned):
+            pass
         return Reconciled(learned.ours, learned.theirs, int(bool(learned.ours or learned.theirs)))
 
     def answer(self, connection: Connection) -> Answered:
@@ -326,38 +369,46 @@ class Shards:
         Raises `Refused` 1 where the other side does not say which set it asks for, 55 where this is another one, and
         raises as `run`.
         """
-        came = _heard(connection)
-        hello = came[front_length(came) :]
-        profile = 2 if hello[:HELLO] == b"RRS2" else 1
-        try:
-            number, bounds = self._cut.selected(came, self._sets.keys() | ({DIRECTORY} if self.bits else set()))
-        except Refused as fault:
-            # The refusal stands, whether the other side can be told of it or not.
-            with contextlib.suppress(OSError):
-                connection.sendall(b"RRS%d" % profile + bytes([0, 0, 0, 2, 5, fault.number]))
-            raise
-        with self._asked(number, bounds) as version, version.respond(profile) as session:
-            _hear(session, hello)
+        number, profile, asked, rest = self._asked(connection)
+        with self._of_kept(number, asked) as version, version.respond(profile) as session:
+            _hear(session, rest)
             learned = run(session, connection)
-        return Answered(None, Learned([], [])) if number == DIRECTORY else Answered(number, learned)
+        return Answered(None, Learned([], [])) if number == _DIRECTORY else Answered(number, learned)
 
-    def _asked(self, number: int, bounds: Bounds) -> Version:
-        """What is asked for, as it is now: a shard, or the directory, of the items between two bounds."""
-        if number == DIRECTORY and bounds != ALL:
-            return self._parts(bounds)[DIRECTORY]
-        with self._lock:
-            version = (self._listed() if number == DIRECTORY else self._sets[number]).version()
-        return version if bounds == ALL else self._part(version, bounds)
+    def _asked(self, connection: Connection) -> tuple[int, int, Version, bytes]:
+        """What is asked for: its number, the profile, its version as it is now, and what came after the selector.
+
+        Raises `Refused` 1, 3, 55, and tells the other side.
+        """
+        came, ended, made = b"", False, _Handle()
+        number, used, profile = ctypes.c_uint32(), ctypes.c_size_t(), ctypes.c_uint32()
+        out = [ctypes.byref(each) for each in (number, used, profile, made)]
+        while True:
+            try:
+                self._ask("rs_shards_asked", came, len(came), ended, *out)
+                break
+            except Refused as fault:
+                if fault.number != 98:
+                    # It may end after the number of a shard that is not kept.
+                    cut_off = fault.number == 3 and not self._keeps(came[6 + len(self._name) :][:2])
+                    raise _told(connection, profile.value, Refused(55) if cut_off else fault) from None
+            piece = connection.recv(_PIECE)
+            came, ended = came + piece, not piece
+        version = Version._over(made)
+        if not self._keeps(number.value.to_bytes(2, "big")):
+            version.close()
+            raise _told(connection, profile.value, Refused(55))
+        return number.value, profile.value, version, came[used.value :]
+
+    def _keeps(self, number: bytes) -> bool:
+        """Whether the shard of this number is kept here, or it is that of the directory, or has not wholly come."""
+        return len(number) < 2 or int.from_bytes(number, "big") in self._kept | {_DIRECTORY}
 
 
-def _heard(connection: Connection) -> bytes:
-    """What comes up to the hello, and with it: less where the bytes ended, and maybe more."""
-    came = b""
-    while len(came) < front_length(came) + HELLO and (piece := connection.recv(_PIECE)):
-        came += piece
-    return came
-
-
-def _without_room(fault: Refused, number: int) -> Refused:
-    """A refusal of a shard, which says in which one there is no room."""
-    return Refused(fault.number, shard=number) if fault.number in (40, 82) else fault
+def _told(connection: Connection, profile: int, fault: Refused) -> Refused:
+    """The refusal of what was asked for, of which the other side is told."""
+    if fault.number in (1, 3, 55):
+        # The refusal stands, whether the other side can be told of it or not.
+        with contextlib.suppress(OSError):
+            connection.sendall(b"RRS%d" % profile + bytes([0, 0, 0, 2, 5, fault.number]))
+    return fault

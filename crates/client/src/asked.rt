@@ -12,7 +12,7 @@ use item_files::{ItemForm, WireProfile};
 use loading::{Sources, Target, load, load_shards};
 use printing_core::{Listing, Refusal, difference_status};
 use settings_core::SyncWords;
-use shard_core::{SetName, Which};
+use shard_core::{Floor, SetName, Which};
 use std::fs::File;
 use std::io;
 use std::io::{Read, Write};
@@ -68,16 +68,16 @@ fn listing_of(words: SyncWords<'_>) -> Listing
 }
 
 impl<'a> Asking<'a> {
-    /// What is asked for in these words, of this part of a set that is called so; and whether standard error is told
+    /// What is asked for in these words, of these items of a set that is called so; and whether standard error is told
     /// more.
     pub fn asked(
         words: SyncWords<'a>,
         set: Option<SetName<'a>>,
-        part: &'a Range,
+        kept: &'a Floor,
         explains: bool,
     ) -> Asking<'a>
         ensures reached { (result.address ≡ words.entry.address) × (result.profile ≡ words.entry.profile)
-            × (result.set ≡ set.entry) × (result.part ≡ part.entry) }
+            × (result.set ≡ set.entry) × (result.part.now ≡ kept.now.range) }
         ensures limits { (result.limits.patience ≡ words.entry.patience)
             × (result.limits.most_bytes ≡ words.entry.most_bytes) }
         ensures printed { (result.stats ≡ words.entry.stats) × (result.out ≡ words.entry.out) }
@@ -99,7 +99,7 @@ impl<'a> Asking<'a> {
             keep: words.keep,
             form: words.form,
             set,
-            part,
+            part: &kept.range,
             retry: words.retry,
             explains,
         }
@@ -140,15 +140,22 @@ where
     ensures { IfOk result (λ status. (status ≡ 0) ⊎ ((status ≡ 4) × (words.entry.checks ≡ true))) }
 {
     let (reader, out) = ends;
-    let asking = Asking::asked(words, target.set, target.part, target.explains);
-    let sources = Sources::of_asker(words, target.part, target.explains, target.shows);
+    let Target {
+        set,
+        sharding,
+        kept,
+        shows,
+        explains,
+        ..
+    } = target;
+    let asking = Asking::asked(words, set, kept, explains);
+    let sources = Sources::of_asker(words, kept, explains, shows);
     let differ = if words.stdio {
         let loaded = load(rt, sources, io::empty(), err)?;
         sync_stdio(rt, loaded, asking, (reader, out), err)?
-    } else if let (Some(sharding), Some(set)) = (target.sharding, target.set) {
+    } else if let (Some(sharding), Some(set)) = (sharding, set) {
         let loaded = load_shards(rt, sources, sharding, reader, err)?;
         let at_once = at_once_in(words);
-        let shows = target.shows;
         let asking = AskingShards {
             asking,
             set,

@@ -1,6 +1,9 @@
 pub use Rattle.circular_buffer.specs.Buffer
 pub use Rattle.httparse.specs.Grammar
 pub mod Requests
+pub mod Frames
+pub mod Framings
+pub mod Upgrades
 pub mod DoorRequests
 pub mod DoorReplies
 pub mod Arrivals

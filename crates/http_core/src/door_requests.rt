@@ -225,7 +225,7 @@ fn is_foreign(name: &[u8], value: &[u8]) -> bool
 }
 
 /// Whether one of the fields has this name.
-fn has_field(came: &[u8], fields: &[HeaderSpan], name: &[u8]) -> bool
+pub(crate) fn has_field(came: &[u8], fields: &[HeaderSpan], name: &[u8]) -> bool
     requires { All (IsHeaderWithin (length came.now)) fields.now }
     ensures { result ≡ list_any (is_named name.now) (map (header_bytes came.now) fields.now) }
 {
@@ -299,7 +299,7 @@ fn request_of(came: &[u8], head: RequestSpans, fields: &[HeaderSpan], is_tcp: bo
 }
 
 /// The first so many fields.
-fn first_fields(fields: &[HeaderSpan], count: usize) -> &[HeaderSpan]
+pub(crate) fn first_fields(fields: &[HeaderSpan], count: usize) -> &[HeaderSpan]
     requires { count ≤ length fields.now }
     ensures { result.now ≡ take count fields.now }
 {

@@ -1,4 +1,5 @@
 mod Counts
 mod Cuts
+mod Halves
 mod Pieces
 mod Took

@@ -5,6 +5,7 @@
 --     later_line k bad           a bad line, where k line feeds come before the piece that it was found in
 --     joined xs k r              what all gives, where xs and k line feeds come before the piece that gives r
 --     IsPieceFault form text k e   why the items of a piece are not there
+--     IsPiece form text k r        the items of a piece in order, or why they are not there
 --     Deals o old new xs           the items of a piece are dealt too
 --     IsStopped form read e      why what was read is not dealt: its first bad line, whatever comes later
 --     kept_by o A                the items of A in the shards that are loaded
@@ -53,6 +54,10 @@ IsPieceFault form text k (CannotRead f) = ⊥
 IsPieceFault form text k TooLong = ⊥
 IsPieceFault form text k (TooManyItems s) = ⊥
 
+abbrev pub IsPiece : ItemForm → List ℕ → ℕ → Result (Vec Item Global) LoadFault → Type 0
+IsPiece form text k (Ok v) = file_items form text ≡ Ok v.items
+IsPiece form text k (Err e) = IsPieceFault form text k e
+
 -- the items of a piece are dealt too
 abbrev pub Deals : LoadOptions → List (Vec Item Global) → List (Vec Item Global) → List Item → Type 0
 Deals o old new xs =
@@ -61,7 +66,7 @@ Deals o old new xs =
 -- ---- all pieces so far
 
 -- whatever comes later: what all gives follows from what the waiting bytes and those later give. The items before them
--- are dealt, those of a piece as a set
+-- are dealt
 pub record IsDealt (o : LoadOptions) (read waiting : List ℕ) (k : ℕ) (vs : List (Vec Item Global)) : Type 0 where
   pub items : List Item
   pub goes_on : (later : List ℕ) →

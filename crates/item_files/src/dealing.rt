@@ -9,11 +9,12 @@ ghost use Rattle.item_files.specs.PieceTexts.{feeds, Deals, IsPieceFault, IsDeal
 
 use crate::load_fault::LoadFault;
 use crate::options::LoadOptions;
-use crate::piece::{feeds_in, piece_items};
+use crate::piece::{PieceStart, feeds_in, piece_items};
 use item_core::Item;
 use memchr::memrchr;
-use shard_core::{deal_span, none_dealt};
+use shard_core::{ShardSpan, deal_span, none_dealt, shards_of};
 use std::alloc::Global;
+use std::thread::Threads;
 
 /// What was read of a text so far.
 #[derive(Drop)]
@@ -55,7 +56,7 @@ impl Dealing {
 
 impl Dealing {
     /// Reads what waits as a piece, and deals those of its items that are loaded. What waits stays.
-    fn deal_waiting(&mut self, alloc: Global) -> Result<(), LoadFault>
+    fn deal_waiting<T: Threads + Sync>(&mut self, rt: &T, alloc: Global) -> Result<(), LoadFault>
         requires low { self.old.options.bits ≤ max_bits }
         requires all { length self.old.lists.items ≡ 2 ^ self.old.options.bits }
         requires few { self.old.feeds + length self.old.waiting.items < 2 ^ 40 }
@@ -77,14 +78,25 @@ impl Dealing {
             last,
             cap: _,
         } = self.options;
-        let items = piece_items(alloc, form, &self.waiting, self.feeds)?;
-        deal_span(&mut self.lists, bits, first, last, items)?;
+        let start = PieceStart {
+            form,
+            feeds: self.feeds,
+        };
+        let items = piece_items(rt, alloc, start, &self.waiting)?;
+        let numbers = shards_of(rt, alloc, bits, &items)?;
+        let span = ShardSpan { bits, first, last };
+        deal_span(&mut self.lists, span, &items, &numbers)?;
         self.feeds += feeds_in(&self.waiting);
         Ok(())
     }
 
     /// Takes the next bytes of the text. Lines that end in them are read, and the last one waits.
-    pub fn add(&mut self, alloc: Global, bytes: &[u8]) -> Result<(), LoadFault>
+    pub fn add<T: Threads + Sync>(
+        &mut self,
+        rt: &T,
+        alloc: Global,
+        bytes: &[u8],
+    ) -> Result<(), LoadFault>
         requires low { self.old.options.bits ≤ max_bits }
         requires all { length self.old.lists.items ≡ 2 ^ self.old.options.bits }
         requires few { self.old.feeds + length self.old.waiting.items + length bytes.now < 2 ^ 40 }
@@ -108,14 +120,18 @@ impl Dealing {
         };
         let (front, back) = bytes.split_at(end);
         self.waiting.extend_from_slice(front)?;
-        self.deal_waiting(alloc)?;
+        self.deal_waiting(rt, alloc)?;
         self.waiting.clear();
         self.waiting.extend_from_slice(back)?;
         Ok(())
     }
 
     /// The lists of the shards, after the items of the last line are dealt too.
-    pub fn into_lists(mut self, alloc: Global) -> Result<Vec<Vec<Item>>, LoadFault>
+    pub fn into_lists<T: Threads + Sync>(
+        mut self,
+        rt: &T,
+        alloc: Global,
+    ) -> Result<Vec<Vec<Item>>, LoadFault>
         requires low { self.options.bits ≤ max_bits }
         requires all { length self.lists.items ≡ 2 ^ self.options.bits }
         requires few { self.feeds + length self.waiting.items < 2 ^ 40 }
@@ -127,7 +143,7 @@ impl Dealing {
             IsDealt self.options read self.waiting.items self.feeds self.lists.items →
             IfErr result (λ e. IsLastFault self.options.form read e) }
     {
-        self.deal_waiting(alloc)?;
+        self.deal_waiting(rt, alloc)?;
         let Dealing {
             options: _,
             lists,

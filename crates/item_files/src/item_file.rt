@@ -276,7 +276,11 @@ pub fn has_byte_order_mark(text: &[u8]) -> bool
 }
 
 /// The items of a file's text in order.
-fn items_of(alloc: Global, form: ItemForm, text: &[u8]) -> Result<Vec<Item>, SettingsFault>
+pub(crate) fn items_of(
+    alloc: Global,
+    form: ItemForm,
+    text: &[u8],
+) -> Result<Vec<Item>, SettingsFault>
     ensures items { IfOk result (λ v. file_items form text.now ≡ Ok v.items) }
     ensures refused { IfErr result (λ e. e ≢ SettingsFault.Memory → (bad : BadLine)
         × (e ≡ SettingsFault.BadItemLine bad) × (file_items form text.now ≡ Err bad)) }

@@ -14,9 +14,10 @@ use crate::load_fault::LoadFault;
 use crate::options::LoadOptions;
 use io_core::{MAX_INPUT, ReadFault, Watched};
 use item_core::Item;
-use shard_core::{into_span, shard_count};
+use shard_core::{into_span, rising_lists, shard_count};
 use std::alloc::{AllocError, Global};
 use std::io::Read;
+use std::thread::Threads;
 
 /// How many bytes are asked for at a time.
 const PIECE: usize = 1_048_576;
@@ -54,7 +55,8 @@ fn read_once<R: Read>(reader: &mut Watched<R>, room: &mut [u8]) -> Result<usize,
 }
 
 /// Reads once, and deals the items of the lines that end there. Returns how many bytes came.
-fn read_more<R: Read>(
+fn read_more<T: Threads + Sync, R: Read>(
+    rt: &T,
     alloc: Global,
     reader: &mut Watched<R>,
     room: &mut [u8],
@@ -84,14 +86,15 @@ fn read_more<R: Read>(
     if count > most_bytes(dealing.options.bits) - dealing.taken {
         return Err(LoadFault::TooLong);
     }
-    dealing.add(alloc, &room[..count])?;
+    dealing.add(rt, alloc, &room[..count])?;
     dealing.taken += count;
     Ok(count)
 }
 
 /// The items of each shard that is loaded, as the text has them, and empty lists of the others. At most `piece` bytes
 /// are asked for at a time.
-fn read_lists<R: Read>(
+fn read_lists<T: Threads + Sync, R: Read>(
+    rt: &T,
     alloc: Global,
     reader: &mut Watched<R>,
     options: LoadOptions,
@@ -108,12 +111,13 @@ fn read_lists<R: Read>(
 {
     let mut dealing = Dealing::new(alloc, options)?;
     let mut room = room_for(alloc, piece)?;
-    'pieces: while read_more(alloc, reader, &mut room, &mut dealing)? > 0 {}
-    dealing.into_lists(alloc)
+    'pieces: while read_more(rt, alloc, reader, &mut room, &mut dealing)? > 0 {}
+    dealing.into_lists(rt, alloc)
 }
 
 /// As `read_shards` does, with at most `piece` bytes asked for at a time.
-pub fn read_shards_by<R: Read>(
+pub fn read_shards_by<T: Threads + Sync, R: Read>(
+    rt: &T,
     alloc: Global,
     reader: &mut Watched<R>,
     options: LoadOptions,
@@ -129,17 +133,20 @@ pub fn read_shards_by<R: Read>(
     ensures unloaded { IfErr result (λ e. IsUnloaded options (R.remaining reader.old.inner)
         (R.remaining reader.new.inner) reader.new.failed e) }
 {
-    let lists = read_lists(alloc, reader, options, piece)?;
+    let lists = read_lists(rt, alloc, reader, options, piece)?;
     let _count = shard_count(options.bits); // proof only: at most 4,096
-    Ok(into_span(lists, options.first, options.last, options.cap)?)
+    let sets = rising_lists(rt, lists);
+    Ok(into_span(sets, options.first, options.last, options.cap)?)
 }
 
 /// The sets of the shards of the items that are left to read, of those shards that are asked for, each in rising order.
-/// Items of other shards are left out as the text is read.
+/// Items of other shards are left out as the text is read. Up to four threads read lines, hash items and sort them, and
+/// the outcome is the same whichever do.
 ///
 /// Refused 80 if the reader fails or the text is longer than 16,777,216 bytes for each shard, 81 by its first bad line,
 /// and 82 where one of these shards has more than the cap of different items. It stops at the first bad line.
-pub fn read_shards<R: Read>(
+pub fn read_shards<T: Threads + Sync, R: Read>(
+    rt: &T,
     alloc: Global,
     reader: &mut Watched<R>,
     options: LoadOptions,
@@ -153,5 +160,5 @@ pub fn read_shards<R: Read>(
     ensures unloaded { IfErr result (λ e. IsUnloaded options (R.remaining reader.old.inner)
         (R.remaining reader.new.inner) reader.new.failed e) }
 {
-    read_shards_by(alloc, reader, options, PIECE)
+    read_shards_by(rt, alloc, reader, options, PIECE)
 }

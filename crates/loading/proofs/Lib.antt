@@ -1,1 +1,3 @@
 mod OpenedLogs
+mod Appending
+mod Rewritten

@@ -16,30 +16,39 @@ const TAIL: u64 = 65_536;
 
 /// A file that is written at its end.
 #[derive(Drop)]
-pub struct Disk<F>(pub F);
+pub struct Disk<F> {
+    /// The file.
+    pub file: F,
+    /// Its folder, as long as a loss of power may leave another file at its path.
+    unsettled: Option<F>,
+}
 
-impl<F: Write + OpenFile> Device for Disk<F> {
+impl<F: Write + OpenFile + Drop> Device for Disk<F> {
     fn append(&mut self, bytes: &[u8]) -> io::Result<usize> {
-        let taken = self.0.write(bytes)?;
+        let taken = self.file.write(bytes)?;
         if taken == bytes.len() || torn_length(&bytes[..taken]) < taken {
             return Ok(taken);
         }
         // No whole line was taken: the next call says why.
-        let more = self.0.write(&bytes[taken..])?;
+        let more = self.file.write(&bytes[taken..])?;
         Ok(taken + more)
     }
 
     fn cut(&mut self, length: u64) -> io::Result<()> {
         // A file that someone else has cut is not to be made longer.
-        match self.0.metadata()?.len().cmp(&length) {
+        match self.file.metadata()?.len().cmp(&length) {
             Ordering::Less => Err(io::Error::from(ErrorKind::InvalidData)),
             Ordering::Equal => Ok(()),
-            Ordering::Greater => self.0.set_len(length),
+            Ordering::Greater => self.file.set_len(length),
         }
     }
 
     fn sync(&mut self) -> io::Result<()> {
-        self.0.sync_data()
+        if let Some(folder) = &self.unsettled {
+            folder.sync_all()?;
+            self.unsettled = None;
+        }
+        self.file.sync_data()
     }
 }
 
@@ -129,9 +138,21 @@ pub struct Opened {
     length: u64,
     // Whether it is a regular file.
     is_regular: bool,
+    // Its folder, as long as a loss of power may leave another file at its path.
+    unsettled: Option<File>,
 }
 
 impl Opened {
+    /// A new file of whole lines, which have so many bytes.
+    pub(crate) fn of_new(file: File, length: u64, unsettled: Option<File>) -> Opened {
+        Opened {
+            file,
+            length,
+            is_regular: true,
+            unsettled,
+        }
+    }
+
     /// Whether it is a regular file that holds nothing.
     pub fn is_empty(&self) -> bool {
         self.is_regular && self.length == 0
@@ -154,8 +175,9 @@ impl Opened {
             file,
             length,
             is_regular: _,
+            unsettled,
         } = self;
-        LineFile::new(alloc, Disk(file), length)
+        LineFile::new(alloc, Disk { file, unsettled }, length)
     }
 }
 
@@ -208,6 +230,7 @@ fn open_special<'a, R: Files<File = File>>(rt: &R, path: &'a str) -> Result<Open
             file,
             length: 0,
             is_regular: false,
+            unsettled: None,
         }),
         Err(error) => Err(unopened(path, &error)),
     }
@@ -238,6 +261,7 @@ pub fn open_lines<'a, R: Files<File = File> + AllocGlobal, E: Write>(
         file,
         length,
         is_regular: true,
+        unsettled: None,
     })
 }
 

@@ -1,19 +1,21 @@
 //! What a side of sessions begins with.
 
-ghost use Rattle.std.specs.Prelude.{◌≡◌, ◌≤◌, ◌++◌, Some, None, length, IfOk};
-ghost use Rattle.definitions.specs.Sets.{IsSet, items_in, set_of};
+ghost use Rattle.std.specs.Prelude.{◌≡◌, ◌<◌, ◌≤◌, ◌++◌, Some, None, length, IfOk, OnErr};
+ghost use Rattle.definitions.specs.Sets.{IsSet, set_of};
+ghost use Rattle.shard_core.specs.Floors.{kept_by};
 ghost use Rattle.range_tree.specs.Trees.{tree_items};
 
 use crate::disk::{Kept, Opened, item_file, open_lines};
 use crate::sharded_set::ShardedSet;
-use item_core::{Item, Range};
+use item_core::Item;
 use item_files::{
     ItemForm, ReadFault, SettingsFault, accepted_in, document, read_document, read_input_items,
     read_items, stray_key,
 };
-use printing_core::{Refusal, STANDARD_INPUT, tell_stray_key};
+use printing_core::{Refusal, STANDARD_INPUT, tell_no_time, tell_stray_key};
 use range_tree::Tree;
 use settings_core::{ServeWords, SyncWords};
+use shard_core::Floor;
 use sim_core::{SHIPPED_NAMES, shipped_text};
 use std::alloc::{AllocError, Global};
 use std::fs::File;
@@ -121,21 +123,22 @@ pub struct Sources<'a> {
     pub shows: bool,
     /// Whether what is learned is written to files, which may be the item file.
     pub learns: bool,
-    /// The range of the items that are kept; the others are left out.
-    pub part: &'a Range,
+    /// Which of the items are kept; the others are left out.
+    pub kept: &'a Floor,
 }
 
 impl<'a> Sources<'a> {
-    /// Where a server begins from that is asked for in these words, and that has the items of this range; whether
+    /// Where a server begins from that is asked for in these words, and that keeps these items; whether
     /// standard error is told more, and whether it is shown how far all is.
     pub fn of_server(
         words: ServeWords<'a>,
-        part: &'a Range,
+        kept: &'a Floor,
         explains: bool,
         shows: bool,
     ) -> Sources<'a>
         ensures files { (result.table.path ≡ words.entry.table) × (result.items ≡ words.entry.items)
             × (result.keep ≡ words.entry.keep) × (result.form ≡ words.entry.form) }
+        ensures kept { result.kept ≡ kept.entry }
         ensures told { (result.table.explains ≡ explains) × (result.shows ≡ shows) }
     {
         Sources {
@@ -149,21 +152,21 @@ impl<'a> Sources<'a> {
             keep: words.keep,
             learns: words.keep.is_some() || words.learned.is_some(),
             shows,
-            part,
+            kept,
         }
     }
 
-    /// Where a `sync` begins from that is asked for in these words, and that speaks of the items of this range; whether
+    /// Where a `sync` begins from that is asked for in these words, and that speaks of these items; whether
     /// standard error is told more, and whether it is shown how far all is.
     pub fn of_asker(
         words: SyncWords<'a>,
-        part: &'a Range,
+        kept: &'a Floor,
         explains: bool,
         shows: bool,
     ) -> Sources<'a>
         ensures files { (result.table.path ≡ words.entry.table) × (result.items ≡ Some words.entry.items)
             × (result.keep ≡ None) × (result.form ≡ words.entry.form) }
-        ensures part { result.part ≡ part.entry }
+        ensures kept { result.kept ≡ kept.entry }
         ensures told { (result.table.explains ≡ explains) × (result.shows ≡ shows) }
     {
         Sources {
@@ -177,7 +180,7 @@ impl<'a> Sources<'a> {
             keep: None,
             learns: words.keep.is_some(),
             shows,
-            part,
+            kept,
         }
     }
 
@@ -195,33 +198,85 @@ impl<'a> Sources<'a> {
         }
     }
 
+    /// The refusal of the items in this file, or in the input.
+    fn items_refusal(&self, alloc: Global, path: &'a str, fault: SettingsFault) -> Refusal<'a> {
+        if path == "-" {
+            Refusal::of_file(alloc, STANDARD_INPUT, fault)
+        } else {
+            self.refusal(alloc, path, fault)
+        }
+    }
+
     /// The refusal of the file in which the set is kept.
     fn kept_refusal(&self, alloc: Global, fault: SettingsFault) -> Refusal<'a> {
         self.refusal(alloc, self.keep.unwrap_or(STANDARD_INPUT), fault)
     }
 }
 
-/// The set of the items of the file, or of the input. Else 80, 81, then 82, and 90.
+/// The set of the items of the file, or of the input. Else 80, 81 or 90.
 fn item_set<'a, R: Files + AllocGlobal, I: Read + Drop>(
     rt: &R,
     sources: Sources<'a>,
     items: &'a str,
     reader: I,
-    cap: usize,
-) -> Result<Vec<Item>, Refusal<'a>>
+) -> Result<Vec<Item>, SettingsFault>
+    ensures { IfOk result (λ v. IsSet v.items) }
+{
+    if items == "-" {
+        read_input_items(rt.alloc(), sources.form, reader, usize::MAX)
+    } else {
+        read_items(rt, sources.form, items, usize::MAX)
+    }
+}
+
+/// Tells standard error of the first of these items that has no time, if items have one: it is not kept.
+fn tell_untimed<E: Write>(alloc: Global, sources: Sources<'_>, items: &[Item], err: &mut E) {
+    for item in items {
+        if !sources.kept.is_timed(item) {
+            return tell_no_time(alloc, err, sources.form, item);
+        }
+    }
+}
+
+/// The items of a set that are kept, at most `cap`. Else 82.
+fn kept_of(items: Vec<Item>, kept: &Floor, cap: usize) -> Result<Vec<Item>, SettingsFault>
+    requires { IsSet items.items }
+    ensures held { IfOk result (λ v. v.items ≡ kept_by kept.now items.items) }
     ensures rises { IfOk result (λ v. IsSet v.items) }
     ensures few { IfOk result (λ v. length v.items ≤ cap) }
+    ensures many { OnErr result (cap < length (kept_by kept.now items.items)) }
+{
+    let mut items = items;
+    items.retain(|item| kept.keeps(item));
+    if items.len() > cap {
+        let count = items.len();
+        return Err(SettingsFault::TooManyItems { cap, count });
+    }
+    Ok(items)
+}
+
+/// The items of the file, or of the input, that are kept. Else 80, 81, then 82, and 90.
+fn first_set<'a, R: Files + AllocGlobal, I: Read + Drop, E: Write>(
+    rt: &R,
+    sources: Sources<'a>,
+    reader: I,
+    cap: usize,
+    err: &mut E,
+) -> Result<Vec<Item>, Refusal<'a>>
+    ensures { IfOk result (λ v. length v.items ≤ cap) }
 {
     let alloc = rt.alloc();
-    if items == "-" {
-        return match read_input_items(alloc, sources.form, reader, cap) {
-            Ok(items) => Ok(items),
-            Err(fault) => Err(Refusal::of_file(alloc, STANDARD_INPUT, fault)),
-        };
-    }
-    match read_items(rt, sources.form, items, cap) {
+    let Some(path) = sources.items else {
+        return Ok(Vec::new(alloc));
+    };
+    let items = match item_set(rt, sources, path, reader) {
+        Ok(items) => items,
+        Err(fault) => return Err(sources.items_refusal(alloc, path, fault)),
+    };
+    tell_untimed(alloc, sources, &items, err);
+    match kept_of(items, sources.kept, cap) {
         Ok(items) => Ok(items),
-        Err(fault) => Err(sources.refusal(alloc, items, fault)),
+        Err(fault) => Err(sources.items_refusal(alloc, path, fault)),
     }
 }
 
@@ -243,29 +298,33 @@ pub(crate) fn open_kept<'a, R: Files<File = File> + AllocGlobal, E: Write>(
 }
 
 /// The items of a file that is open.
-fn reread(
-    alloc: Global,
-    opened: &mut Opened,
-    form: ItemForm,
-    cap: usize,
-) -> Result<Vec<Item>, SettingsFault> {
+fn reread(alloc: Global, opened: &mut Opened, form: ItemForm) -> Result<Vec<Item>, SettingsFault>
+    ensures { IfOk result (λ v. IsSet v.items) }
+{
     match opened.reader() {
-        Ok(reader) => read_input_items(alloc, form, reader, cap),
+        Ok(reader) => read_input_items(alloc, form, reader, usize::MAX),
         Err(error) => Err(SettingsFault::CannotRead(ReadFault::of(&error))),
     }
 }
 
-/// The set of the items of the file in which it is kept, if there is one. Else 80, 81, then 82, and 90.
-fn kept_set<'a>(
+/// The items that are kept of those in the file in which the set is kept, if there is one. Else 80, 81, then 82, and
+/// 90.
+fn kept_set<'a, E: Write>(
     alloc: Global,
     sources: Sources<'a>,
     opened: &mut Option<Opened>,
     cap: usize,
+    err: &mut E,
 ) -> Result<Vec<Item>, Refusal<'a>> {
     let Some(opened) = opened else {
         return Ok(Vec::new(alloc));
     };
-    match reread(alloc, opened, sources.form, cap) {
+    let items = match reread(alloc, opened, sources.form) {
+        Ok(items) => items,
+        Err(fault) => return Err(sources.kept_refusal(alloc, fault)),
+    };
+    tell_untimed(alloc, sources, &items, err);
+    match kept_of(items, sources.kept, cap) {
         Ok(items) => Ok(items),
         Err(fault) => Err(sources.kept_refusal(alloc, fault)),
     }
@@ -306,18 +365,6 @@ fn joined_set<'a>(
     }
 }
 
-/// The items of a set that are in the range.
-fn items_within(items: Vec<Item>, range: &Range) -> Vec<Item>
-    requires { IsSet items.items }
-    ensures held { result.items ≡ items_in items.items range.now }
-    ensures rises { IsSet result.items }
-    ensures few { length result.items ≤ length items.items }
-{
-    let mut items = items;
-    items.retain(|item| range.contains(item));
-    items
-}
-
 /// The store of the items of a set, which up to four threads hash. The list is given up here.
 fn stored<R: Threads + Sync>(rt: &R, alloc: Global, items: Vec<Item>) -> Result<Tree, AllocError>
     requires { IsSet items.items }
@@ -329,8 +376,8 @@ fn stored<R: Threads + Sync>(rt: &R, alloc: Global, items: Vec<Item>) -> Result<
 /// The strategy in one file and a log of the items in the others, or in the input. Up to four threads hash the items.
 ///
 /// The strategy is judged first: 80, 30 to 35 or 29, then 37, 36 or 38. Then the items are: 80, 81, then 82 where there
-/// are more different items than the strategy's cap; and then those of the file in which the set is kept, in the same
-/// way. Items out of the range are left out last.
+/// are more different items that are kept than the strategy's cap; and then those of the file in which the set is kept,
+/// in the same way.
 pub fn load<'a, R: Files<File = File> + AllocGlobal + Threads + Sync, I: Read + Drop, E: Write>(
     rt: &R,
     sources: Sources<'a>,
@@ -342,15 +389,11 @@ pub fn load<'a, R: Files<File = File> + AllocGlobal + Threads + Sync, I: Read + 
     let alloc = rt.alloc();
     let accepted = strategy_of(rt, sources.table, err)?;
     let cap = accepted.cap() as usize;
-    let items = match sources.items {
-        Some(items) => item_set(rt, sources, items, reader, cap)?,
-        None => Vec::new(alloc),
-    };
+    let items = first_set(rt, sources, reader, cap, err)?;
     let mut kept = open_kept(rt, sources, err)?;
     let items = {
-        let more = kept_set(alloc, sources, &mut kept.opened, cap)?;
-        let joined = joined_set(alloc, items, &more, sources, cap)?;
-        items_within(joined, sources.part)
+        let more = kept_set(alloc, sources, &mut kept.opened, cap, err)?;
+        joined_set(alloc, items, &more, sources, cap)?
     };
     let store = stored(rt, alloc, items)?;
     let log = Log::of_store(alloc, accepted.cap(), store);

@@ -10,11 +10,11 @@ use crate::loading::{Loaded, Sources, open_kept, strategy_of};
 use crate::sharded_set::ShardedSet;
 use crate::showing::{Screen, Shown};
 use io_core::Watched;
-use item_core::{Item, Range};
+use item_core::Item;
 use item_files::{LoadFault, LoadOptions, ReadFault, read_shards};
 use printing_core::{Refusal, STANDARD_INPUT};
 use settings_core::Sharding;
-use shard_core::{join_shards, shard_count, shards_within};
+use shard_core::{Floor, join_shards, shard_count, shards_within};
 use std::alloc::Global;
 use std::fs::{File, OpenFile};
 use std::io::{ErrorKind, Read, Write};
@@ -38,7 +38,7 @@ fn size_of(file: &File) -> Option<u64> {
 }
 
 /// The shards of the items of the file.
-fn file_shards<R: Files<File = File> + Clock + AllocGlobal, E: Write>(
+fn file_shards<R: Files<File = File> + Clock + AllocGlobal + Threads + Sync, E: Write>(
     path: &str,
     options: LoadOptions,
     screen: &mut Screen<'_, R, E>,
@@ -52,14 +52,14 @@ fn file_shards<R: Files<File = File> + Clock + AllocGlobal, E: Write>(
         Ok(file) => {
             let size = size_of(&file);
             let reader = Shown::new(screen, file, size);
-            read_shards(rt.alloc(), &mut Watched::new(reader), options)
+            read_shards(rt, rt.alloc(), &mut Watched::new(reader), options)
         }
         Err(error) => Err(unread(&error)),
     }
 }
 
 /// The shards of the items of the input.
-fn input_shards<'a, R: Clock + AllocGlobal, I: Read + Drop, E: Write>(
+fn input_shards<'a, R: Clock + AllocGlobal + Threads + Sync, I: Read + Drop, E: Write>(
     reader: I,
     options: LoadOptions,
     screen: &mut Screen<'_, R, E>,
@@ -68,9 +68,10 @@ fn input_shards<'a, R: Clock + AllocGlobal, I: Read + Drop, E: Write>(
     requires span { (options.first ≤ options.last) × (options.last < 2 ^ options.bits) }
     ensures { IfOk result (λ v. AreKept options.bits options.first options.last options.cap (held v.items)) }
 {
-    let alloc = screen.rt().alloc();
+    let rt = screen.rt();
+    let alloc = rt.alloc();
     let reader = Shown::new(screen, reader, None);
-    match read_shards(alloc, &mut Watched::new(reader), options) {
+    match read_shards(rt, alloc, &mut Watched::new(reader), options) {
         Ok(shards) => Ok(shards),
         Err(fault) => Err(Refusal::of_shards_file(alloc, STANDARD_INPUT, options.cap, fault)),
     }
@@ -78,7 +79,12 @@ fn input_shards<'a, R: Clock + AllocGlobal, I: Read + Drop, E: Write>(
 
 /// The shards of the items of the file, or of the input; of no items, if neither is given. Else 80, 81, then 82, and
 /// 90.
-fn item_shards<'a, R: Files<File = File> + Clock + AllocGlobal, I: Read + Drop, E: Write>(
+fn item_shards<
+    'a,
+    R: Files<File = File> + Clock + AllocGlobal + Threads + Sync,
+    I: Read + Drop,
+    E: Write,
+>(
     items: Option<&'a str>,
     reader: I,
     options: LoadOptions,
@@ -100,7 +106,7 @@ fn item_shards<'a, R: Files<File = File> + Clock + AllocGlobal, I: Read + Drop, 
 }
 
 /// The shards of the items of a file that is open.
-fn reread_shards<R: Clock + AllocGlobal, E: Write>(
+fn reread_shards<R: Clock + AllocGlobal + Threads + Sync, E: Write>(
     opened: &mut Opened,
     options: LoadOptions,
     screen: &mut Screen<'_, R, E>,
@@ -109,19 +115,19 @@ fn reread_shards<R: Clock + AllocGlobal, E: Write>(
     requires span { (options.first ≤ options.last) × (options.last < 2 ^ options.bits) }
     ensures { IfOk result (λ v. AreKept options.bits options.first options.last options.cap (held v.items)) }
 {
-    let alloc = screen.rt().alloc();
+    let rt = screen.rt();
     match opened.reader() {
         Ok(reader) => {
             let size = size_of(reader);
             let reader = Shown::new(screen, reader, size);
-            read_shards(alloc, &mut Watched::new(reader), options)
+            read_shards(rt, rt.alloc(), &mut Watched::new(reader), options)
         }
         Err(error) => Err(unread(&error)),
     }
 }
 
 /// The shards of the items of both, of which the second are those of a file.
-fn joined_shards<R: Clock + AllocGlobal, E: Write>(
+fn joined_shards<R: Clock + AllocGlobal + Threads + Sync, E: Write>(
     shards: Vec<Vec<Item>>,
     opened: &mut Opened,
     options: LoadOptions,
@@ -137,7 +143,7 @@ fn joined_shards<R: Clock + AllocGlobal, E: Write>(
 }
 
 /// The same with the shards of the file in which the set is kept, if there is one. Else 80, 81, then 82, and 90.
-fn with_kept<'a, R: Clock + AllocGlobal, E: Write>(
+fn with_kept<'a, R: Clock + AllocGlobal + Threads + Sync, E: Write>(
     keep: Option<&'a str>,
     opened: &mut Option<Opened>,
     shards: Vec<Vec<Item>>,
@@ -180,12 +186,12 @@ fn enough_places<'a>(accepted: &Accepted, table: &'a str, bits: u8) -> Result<()
     Ok(())
 }
 
-/// The shards of the items that are in the range.
-fn part_of(shards: Vec<Vec<Item>>, options: LoadOptions, range: &Range) -> Vec<Vec<Item>>
+/// The shards of the items that are kept.
+fn part_of(shards: Vec<Vec<Item>>, options: LoadOptions, kept: &Floor) -> Vec<Vec<Item>>
     requires { AreKept options.bits options.first options.last options.cap (held shards.items) }
     ensures { AreKept options.bits options.first options.last options.cap (held result.items) }
 {
-    shards_within(shards, range)
+    shards_within(shards, kept)
 }
 
 /// How many items all shards have.
@@ -219,7 +225,7 @@ where
     let shards = item_shards(sources.items, reader, options, screen)?;
     let mut kept = open_kept(rt, sources, screen.err())?;
     let shards = with_kept(sources.keep, &mut kept.opened, shards, options, screen)?;
-    let shards = part_of(shards, options, sources.part);
+    let shards = part_of(shards, options, sources.kept);
     screen.hash(count_of(&shards));
     let LoadOptions { bits, first, .. } = options;
     let set = ShardedSet::of(rt, rt.alloc(), bits, first, accepted.cap(), shards)?;
@@ -236,7 +242,7 @@ where
 /// The strategy is judged first: 80, 30 to 35 or 29, then 37, 36 or 38, then 82 where its cap is below the number of
 /// shards. Then the items are: 80, 81, then 82 where a shard that is kept has more different items than the cap; and
 /// then those of the file in which the set is kept, in the same way. Items of other shards are left out, and last those
-/// out of the range.
+/// that are not kept.
 pub fn load_shards<
     'a,
     R: Files<File = File> + AllocGlobal + Threads + Clock + Sync,

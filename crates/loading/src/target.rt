@@ -1,8 +1,7 @@
 //! The set that a command speaks of.
 
-use item_core::Range;
-use settings_core::Sharding;
-use shard_core::SetName;
+use settings_core::{FloorRule, Sharding};
+use shard_core::{Floor, SetName};
 
 /// The set that `serve` or `sync` is about, and what standard error is told beside refusals.
 #[derive(Clone, Copy)]
@@ -11,8 +10,10 @@ pub struct Target<'a> {
     pub set: Option<SetName<'a>>,
     /// Which of its shards are meant, if it is cut into shards.
     pub sharding: Option<Sharding>,
-    /// The range of the items that are meant.
-    pub part: &'a Range,
+    /// Which of its items are meant: those of a range, or those that it does not forget.
+    pub kept: &'a Floor,
+    /// Which items it forgets.
+    pub forgets: &'a FloorRule,
     /// Whether standard error is a terminal, and may be shown how far all is.
     pub shows: bool,
     /// Whether standard error is told more.

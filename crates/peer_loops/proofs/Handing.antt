@@ -16,8 +16,8 @@ use Rattle.version_log.specs.declared.answer.Added.TheVariants.{New, Already}
 use Rattle.version_log.specs.declared.answer.LogFault.TheVariants.{Full, Memory}
 use Rattle.version_lock.specs.declared.view.View.{View}
 use Rattle.shard_core.specs.declared.shard.OneShard.{OneShard}
-use Rattle.peer_threads.specs.Workers.{are_own}
-use Rattle.peer_threads.proofs.Puttings.{settled_own}
+use Rattle.peer_threads.specs.Workers.{are_own, is_own}
+use Rattle.peer_threads.proofs.Puttings.{all_own}
 use Rattle.peer_loops.specs.Hands.{Adds, Held, PutsAt, PutsEach, entered_by, entries}
 use Rattle.peer_loops.specs.declared.hand.HandFault.{HandFault}
 use Rattle.peer_loops.specs.declared.hand.HandFault.TheVariants.{Elsewhere, Log}
@@ -25,14 +25,14 @@ use Rattle.peer_loops.specs.declared.hand.HandFault.TheVariants.{Elsewhere, Log}
 pub added_own : (own : Option OneShard) (x : Item) (v w : View) (r : Result Added HandFault) → Adds own x v w r →
     are_own own v.entered ≡ true → are_own own w.entered ≡ true
 added_own own x v w (Ok did) (is, d) all =
-    settled_own (λ serial size count. Unit {0}) 0 own (x ∷ []) v w 0
-    (1, 0, tt, inl (w, 0, 0, inl (is, inl ((did, d), refl)), (refl, refl), refl), refl) all
+    all_own own (is_own own) (x ∷ []) v w 0 (λ y owned. owned)
+    (inl (w, 0, 0, inl (is, inl ((did, d), refl)), (refl, refl), refl)) all
 added_own own x v w (Err Elsewhere) (is, same) all = subst (λ (u : View). are_own own u.entered ≡ true) (sym same) all
 added_own own x v w (Err (Log Full)) (is, full) all =
-    settled_own (λ serial size count. Unit {0}) 0 own (x ∷ []) v w 1
-    (1, 1, tt, inl (w, 1, 0, inl (is, inr (full, refl)), (refl, refl), refl), refl) all
+    all_own own (is_own own) (x ∷ []) v w 1 (λ y owned. owned)
+    (inl (w, 1, 0, inl (is, inr (full, refl)), (refl, refl), refl)) all
 added_own own x v w (Err (Log Memory)) (is, memory) all =
-    settled_own (λ serial size count. Unit {0}) 0 own (x ∷ []) v w 1 (1, 1, tt, inr (memory, refl), refl) all
+    all_own own (is_own own) (x ∷ []) v w 1 (λ y owned. owned) (inr (memory, refl)) all
 
 pub puts_by : {D : Type 0} (f : D → Held) (xs : List D) (k : ℕ) (d e : D) (x : Item) (r : Result Added HandFault) →
     slice_get xs k ≡ Some d → (f e).own ≡ (f d).own → Adds (f d).own x (f d).seat (f e).seat r →

@@ -4,15 +4,17 @@
 --                                           say of which set it speaks: of which range, or else of all
 --     said_by front came                    the same of any peer
 --     chosen_in said                        the shard or the directory, and the range, if it says so
+--     range_of chosen                       the range; that of all items, if it is not said
+--     selector_by front which X             what a partner is told before the hello
 --     is_known phase                        whether it is known of which set it speaks: its hello has come, and ours is
 --                                           written; or its input is over
 --     refusal_in first count said           the number of the refusal of a peer that says this and no more: of another
 --                                           set or of none, or of a part that is not kept
 --     refusal_at front first count phase came   the same, once it is known what it says
 use Rattle.std.specs.Prelude.{ℕ, Bool, true, false, ◌==◌, ◌||◌, List, [], Option, Some, None, if◌then◌else◌}
-use Rattle.definitions.specs.Items.{Range, whole}
+use Rattle.definitions.specs.Items.{Range, same_range, whole}
 use Rattle.definitions.specs.Refusals.{truncated}
-use Rattle.shard_core.specs.Selectors.{selecting, says_part}
+use Rattle.shard_core.specs.Selectors.{selecting, selector_text, says_part}
 use Rattle.shard_core.specs.declared.selector.Which.{Which}
 use Rattle.shard_core.specs.declared.selector.Which.TheVariants.{Shard}
 use Rattle.shard_core.specs.declared.selector.Selecting.{Selecting}
@@ -42,6 +44,18 @@ chosen_in NoSelector = None
 chosen_in More = None
 chosen_in WrongSet = None
 chosen_in (Selected which X used) = Some (which, X)
+
+abbrev pub range_of : Option (Which × Range) → Range
+range_of None = whole
+range_of (Some (which, X)) = X
+
+-- where sets have no names, nothing of a range of all items
+abbrev pub selector_in : Option SetName → Which → Range → List ℕ
+selector_in None which X = if same_range X whole then [] else selector_text [] 0 which X
+selector_in (Some set) which X = selector_text set.name.now set.bits which X
+
+abbrev pub selector_by : Front → Which → Range → List ℕ
+selector_by front which X = selector_in (set_of front) which X
 
 abbrev pub is_known : Phase → Bool
 is_known (phases.Greeting g) = (g.said == 4) || g.over

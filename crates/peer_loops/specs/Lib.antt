@@ -1,7 +1,9 @@
 pub use Rattle.hub_core.specs.Hubs
 pub use Rattle.hub_core.specs.Peers
 pub use Rattle.peer_threads.specs.Workers
+pub mod Chains
 pub mod Changes
+pub mod Extents
 pub mod Hands
 pub mod Links
 pub mod Notes

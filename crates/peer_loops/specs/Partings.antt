@@ -8,7 +8,7 @@
 --     may_be_told phase                  whether the peer may be told of a fault: its session is not over, and no text
 --                                        of it is made and not written
 --     told_number parting phase          the number of which it is told
---     PutsInOf id lets_in own o v w      what was learned is put into the log, where the session is in the table
+--     PutsInOf id says own o v w     what was learned is put into the log, where the session is in the table
 --     shown_in which o                   the outcome of which the board is told: over the directory no items are found
 use Rattle.std.specs.Prelude.{◌≡◌, ℕ, Bool, true, false, Option, Some, None, if◌then◌else◌}
 use Rattle.session_table.specs.declared.session.SessionId.{SessionId}
@@ -21,7 +21,7 @@ use Rattle.session_table.specs.declared.outcome.Direction.TheVariants as directi
 use Rattle.session_table.specs.declared.outcome.Outcome.{Outcome}
 use Rattle.session_table.specs.declared.outcome.Outcome.TheVariants as outcomes
 use Rattle.version_lock.specs.declared.view.View.{View}
-use Rattle.peer_threads.specs.Workers.{PutsInBy}
+use Rattle.peer_threads.specs.Workers.{PutsInBy, Says}
 use Rattle.session_core.specs.declared.state.State.{State}
 use Rattle.session_core.specs.declared.state.State.TheVariants as states
 use Rattle.session_core.specs.declared.fault.LinkFault.TheVariants as faults
@@ -77,9 +77,9 @@ told_number (partings.Failed faults.Memory) phase = if may_be_told phase then So
 told_number partings.TimeIsOver phase = None
 told_number (partings.Refuses code) phase = Some code
 
-abbrev pub PutsInOf : Option SessionId → (ℕ → ℕ → ℕ → Type 0) → Option OneShard → Outcome → View → View → Type 0
-PutsInOf None lets_in own o v w = w ≡ v
-PutsInOf (Some id) lets_in own o v w = PutsInBy lets_in id.serial own o v w
+abbrev pub PutsInOf : Option SessionId → Says → Option OneShard → Outcome → View → View → Type 0
+PutsInOf None gate own o v w = w ≡ v
+PutsInOf (Some id) gate own o v w = PutsInBy gate id.serial own o v w
 
 abbrev pub found_none : Outcome → Outcome
 found_none (outcomes.Ended learned sent version) = outcomes.Ended nothing sent version

@@ -31,6 +31,8 @@ pub record IsTold (l : Leaver) (o : Outcome) (v : Visit) : Type 0 where
   pub called : v.is_called ≡ false
   pub profile : v.profile ≡ l.profile
   pub serial : v.serial ≡ l.serial
+  pub which : v.which ≡ l.which
+  pub range : v.range ≡ l.range
   pub ending : v.ending ≡ ending_of o
   pub messages : v.traffic.messages ≡ sent_in o
   pub ours : v.traffic.ours ≡ ours_in o

@@ -82,7 +82,7 @@ impl Loop {
     pub(crate) fn take_in<R: Wait, G: PartGate>(
         &mut self,
         site: &Site<'_, R, G>,
-        desks: &mut Desks<'_>,
+        desks: &mut Desks,
     ) {
         match self.kind {
             Kind::Accepts => self.accept_once(site, desks),
@@ -92,7 +92,7 @@ impl Loop {
 
     /// Accepts one connection, if somebody may be there: so it is served before this loop takes another, and the other
     /// loops, which were woken too, take those. Where nobody will come, they are told.
-    fn accept_once<R: Wait, G: PartGate>(&mut self, site: &Site<'_, R, G>, desks: &mut Desks<'_>) {
+    fn accept_once<R: Wait, G: PartGate>(&mut self, site: &Site<'_, R, G>, desks: &mut Desks) {
         if !self.accepting.tries(self.now) {
             return;
         }
@@ -106,7 +106,7 @@ impl Loop {
     fn accept_next<R: Wait, G: PartGate>(
         &mut self,
         site: &Site<'_, R, G>,
-        desks: &mut Desks<'_>,
+        desks: &mut Desks,
     ) -> Accepting {
         match site.listener.arrival() {
             Ok(arrival) => self.accept(site, desks, arrival),
@@ -121,7 +121,7 @@ impl Loop {
     fn accept<R: Wait, G: PartGate>(
         &mut self,
         site: &Site<'_, R, G>,
-        desks: &mut Desks<'_>,
+        desks: &mut Desks,
         arrival: Arrival,
     ) -> Accepting {
         match arrival {
@@ -145,7 +145,7 @@ impl Loop {
     fn miss<R: Wait, G: PartGate>(
         &mut self,
         site: &Site<'_, R, G>,
-        desks: &mut Desks<'_>,
+        desks: &mut Desks,
     ) -> Accepting {
         self.misses = self.misses.saturating_add(1);
         if self.misses > MOST_MISSES {
@@ -180,7 +180,7 @@ impl Loop {
     fn make_room<R: Wait, G: PartGate>(
         &mut self,
         site: &Site<'_, R, G>,
-        desks: &mut Desks<'_>,
+        desks: &mut Desks,
         silent: u64,
     ) {
         let Some(key) = self.next_to_go(site) else {
@@ -197,7 +197,7 @@ impl Loop {
     fn count_in<R: Wait, G: PartGate>(
         &mut self,
         site: &Site<'_, R, G>,
-        desks: &mut Desks<'_>,
+        desks: &mut Desks,
         origin: Option<u128>,
     ) -> bool {
         if site.crowd.count_one_more(site.rt, origin) {
@@ -216,7 +216,7 @@ impl Loop {
     fn admit_new<R: Wait, G: PartGate>(
         &mut self,
         site: &Site<'_, R, G>,
-        desks: &mut Desks<'_>,
+        desks: &mut Desks,
         reader: Half,
         writer: Half,
     ) {
@@ -237,7 +237,7 @@ impl Loop {
     }
 
     /// Takes in all whom other loops hand over.
-    fn take_guests<R: Wait, G: PartGate>(&mut self, site: &Site<'_, R, G>, desks: &mut Desks<'_>) {
+    fn take_guests<R: Wait, G: PartGate>(&mut self, site: &Site<'_, R, G>, desks: &mut Desks) {
         for guest in site.crowd.guests(site.rt, site.alloc, self.index) {
             self.admit(site, desks, guest);
         }
@@ -261,7 +261,7 @@ impl Loop {
     fn admit<R: Wait, G: PartGate>(
         &mut self,
         site: &Site<'_, R, G>,
-        desks: &mut Desks<'_>,
+        desks: &mut Desks,
         guest: Guest,
     ) {
         let no_memory = Parting::Failed(LinkFault::Memory);

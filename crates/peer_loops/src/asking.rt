@@ -6,13 +6,15 @@ ghost use Rattle.shard_core.specs.Shards.{max_bits};
 ghost use Rattle.shard_core.specs.Directories.{differing};
 
 use crate::calling::{Callee, Caller, Over, Ways, now, reach};
+use crate::chosen::WRONG_SET;
 use crate::desks::Desks;
+use crate::extent::Extent;
 use crate::link_gate::LinkGate;
 use crate::part_gate::PartGate;
 use digest_core::Fingerprint;
 use ends_core::Learned;
 use item_core::Range;
-use peer_threads::{Outcome, Shared, dial_one};
+use peer_threads::{Gate, Outcome, Shared, dial_one};
 use range_tree::Tree;
 use shard_core::{DirectoryFault, SetName, Unequal, Which, differing};
 use std::alloc::Global;
@@ -28,9 +30,6 @@ use watch_core::Turn;
 
 /// The number of the refusal of a directory with an item that is no entry.
 const BAD_ENTRY: u8 = 57;
-
-/// The number of the refusal of a set that has more parts than the strategy allows items.
-const WRONG_SET: u8 = 55;
 
 /// The log of a directory, under a strategy for as many entries. None where that allows fewer.
 fn log_of(alloc: Global, accepted: &Arc<Accepted>, directory: Tree) -> Option<Log<Tree>>
@@ -76,21 +75,22 @@ impl<R: Wait + Clock, G: PartGate> Caller<'_, '_, R, G> {
         dial_one::<_, _, _, _, _, Fingerprint>(self.rt, self.alloc, &shared, &mut seat, ways)
     }
 
-    /// Compares the directories on this connection. Which shards differ.
+    /// Compares the directories of the items of this range on this connection. Which shards differ.
     fn compare(
         &self,
         log: Log<Tree>,
         set: SetName<'_>,
         callee: Callee<'_>,
-        stream: &Stream,
+        place: (&Stream, &Range),
     ) -> Result<Vec<Unequal>, Turn>
         requires fits { log.cap ≤ (arc_value self.now.common.now.accepted.now).table.cap }
     {
+        let (stream, range) = place;
         let began = now(self.rt);
         let address = stream.address();
         let which = Which::Directory;
         let gate = LinkGate::new(self.common.gate, callee.address, Some(which));
-        let mut ways = match self.ways(stream, which) {
+        let mut ways = match self.ways(stream, which, range) {
             Ok(ways) => ways,
             Err(outcome) => return Err(Turn::of(&outcome)),
         };
@@ -115,17 +115,22 @@ impl<R: Net<Stream = TcpStream> + Wait + Clock, G: PartGate> Caller<'_, '_, R, G
     /// Asks a partner for its directory. Which of its shards differ from ours.
     pub(crate) fn ask_directory(
         &self,
-        desks: &mut Desks<'_>,
+        desks: &mut Desks,
         set: SetName<'_>,
         callee: Callee<'_>,
     ) -> Result<Vec<Unequal>, Turn> {
         let Ok(stream) = reach(self.rt, callee, self.links.patience) else {
             return Err(Turn::NotReached);
         };
-        let directory = desks.directory_now(self.rt, self.alloc, &Range::whole())?;
+        let floor = self.common.gate.floor();
+        let extent = Extent {
+            floor: &floor.range,
+            range: &floor.range,
+        };
+        let directory = desks.directory_now(self.rt, self.alloc, extent)?;
         let Some(log) = log_of(self.alloc, self.common.accepted, directory) else {
             return Err(Turn::Refuses(WRONG_SET));
         };
-        self.compare(log, set, callee, &stream)
+        self.compare(log, set, callee, (&stream, &floor.range))
     }
 }

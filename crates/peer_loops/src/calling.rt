@@ -1,21 +1,24 @@
 //! A turn with a partner: it is connected to, and a session is run over each part that differs.
 
 ghost use Rattle.std.specs.Prelude.{◌≡◌, false, IfOk};
+ghost use Rattle.peer_loops.specs.Fronts.{selector_by};
 
 use crate::board::Board;
 use crate::chosen::Front;
 use crate::common::Common;
 use crate::desks::Desks;
 use crate::dialing::Dialed;
+use crate::extent::Extent;
 use crate::link_gate::LinkGate;
 use crate::part_gate::PartGate;
 use crate::parting::shown;
 use crate::partners::{Partner, Partners, Place};
+use crate::seats::Seats;
 use crate::visiting::found;
 use item_core::Range;
-use peer_threads::{Connection, Direction, Outcome};
-use shard_core::{Unequal, Which};
-use std::alloc::Global;
+use peer_threads::{Connection, Direction, Gate, Outcome};
+use shard_core::{SetName, Unequal, Which};
+use std::alloc::{AllocError, Global};
 use std::io;
 use std::io::{Read, Take, Write};
 use std::net::{Net, SocketAddr, TcpStream};
@@ -50,6 +53,7 @@ pub(crate) struct Caller<'a, 'p, R, G> {
     pub(crate) rt: &'a R,
     pub(crate) alloc: Global,
     pub(crate) common: &'a Common<'a, G>,
+    pub(crate) seats: &'a Seats,
     pub(crate) links: Links<'a, 'p>,
 }
 
@@ -97,9 +101,29 @@ pub(crate) fn reach<R: Net<Stream = TcpStream>>(
 }
 
 impl<R, G> Caller<'_, '_, R, G> {
-    /// Both ways of this connection, once the partner is told of which part is spoken, if it is told. Else the session
-    /// is cut off.
-    pub(crate) fn ways<'s>(&'s self, stream: &'s Stream, which: Which) -> Result<Ways<'s>, Outcome>
+    /// What a partner is told before the hello: of which part it is spoken, and of which range of its items. Nothing
+    /// where the set has no name and all of it is meant.
+    fn selector(&self, which: Which, range: &Range) -> Result<Vec<u8>, AllocError>
+        ensures { IfOk result (λ v. v.items ≡ selector_by self.now.links.front which range.now) }
+    {
+        let mut selector = Vec::new(self.alloc);
+        let set = match self.links.front.set() {
+            Some(set) => set,
+            None if *range == Range::whole() => return Ok(selector),
+            None => SetName::nameless(),
+        };
+        set.push(&mut selector, which, range)?;
+        Ok(selector)
+    }
+
+    /// Both ways of this connection, once the partner is told of which part is spoken, and of which range of its items,
+    /// if it is told. Else the session is cut off.
+    pub(crate) fn ways<'s>(
+        &'s self,
+        stream: &'s Stream,
+        which: Which,
+        range: &Range,
+    ) -> Result<Ways<'s>, Outcome>
         ensures fresh { IfOk result (λ w. (w.reader.failed ≡ false) × (w.reader.ended ≡ false)
             × (w.writer.failed ≡ false)) }
     {
@@ -108,15 +132,12 @@ impl<R, G> Caller<'_, '_, R, G> {
         let Ok((reader, mut writer)) = attend(stream, links.patience, ending) else {
             return Err(cut_off(Direction::Read));
         };
-        if let Some(set) = links.front.set() {
-            let mut selector = Vec::new(self.alloc);
-            if set.push(&mut selector, which, &Range::whole()).is_err() {
-                return Err(Outcome::Memory { sent: 0 });
-            }
-            let named: io::Result<()> = writer.write_all(&selector);
-            if named.is_err() {
-                return Err(cut_off(Direction::Write));
-            }
+        let Ok(selector) = self.selector(which, range) else {
+            return Err(Outcome::Memory { sent: 0 });
+        };
+        let named: io::Result<()> = writer.write_all(&selector);
+        if named.is_err() {
+            return Err(cut_off(Direction::Write));
         }
         Ok(Connection::new(limited(reader, links.most_bytes), writer))
     }
@@ -149,6 +170,8 @@ impl<R: Wait + Clock, G> Caller<'_, '_, R, G> {
             is_called: true,
             profile: Some(1),
             serial: over.serial,
+            which: part,
+            range: Range::whole(),
             ending: Ending::of(&outcome),
             traffic: Traffic {
                 received,
@@ -169,7 +192,7 @@ impl<R: Wait + Clock, G: PartGate> Caller<'_, '_, R, G> {
     /// something was put in.
     fn hold(
         &self,
-        desks: &mut Desks<'_>,
+        desks: &mut Desks,
         callee: Callee<'_>,
         which: Which,
         stream: &Stream,
@@ -181,7 +204,8 @@ impl<R: Wait + Clock, G: PartGate> Caller<'_, '_, R, G> {
             callee.address,
             self.links.front.told(which),
         );
-        let mut ways = match self.ways(stream, which) {
+        let floor = self.common.gate.floor();
+        let mut ways = match self.ways(stream, which, &floor.range) {
             Ok(ways) => ways,
             Err(outcome) => return (Turn::of(&outcome), false),
         };
@@ -189,12 +213,16 @@ impl<R: Wait + Clock, G: PartGate> Caller<'_, '_, R, G> {
         let Some(desk) = desks.list.get_mut(place) else {
             return (Turn::CutOff, false);
         };
-        let Dialed { outcome, has_put } = desk.call(
-            self.rt,
-            self.alloc,
-            (self.common, &gate),
-            &mut ways,
-        );
+        let shared = (self.common, &gate);
+        let extent = Extent {
+            floor: &floor.range,
+            range: &floor.range,
+        };
+        let called = desk.call(self.rt, self.alloc, shared, extent, &mut ways);
+        let Dialed { outcome, has_put } = called.unwrap_or(Dialed {
+            outcome: Outcome::Memory { sent: 0 },
+            has_put: false,
+        });
         if has_put {
             self.common.news.tell(self.rt);
         }
@@ -213,7 +241,7 @@ impl<R: Wait + Clock, G: PartGate> Caller<'_, '_, R, G> {
 
 impl<R: Net<Stream = TcpStream> + Wait + Clock, G: PartGate> Caller<'_, '_, R, G> {
     /// Connects to a partner, and runs the session over this part. How it ended, and whether something was put in.
-    fn call_part(&self, desks: &mut Desks<'_>, callee: Callee<'_>, which: Which) -> (Turn, bool) {
+    fn call_part(&self, desks: &mut Desks, callee: Callee<'_>, which: Which) -> (Turn, bool) {
         match reach(self.rt, callee, self.links.patience) {
             Ok(stream) => self.hold(desks, callee, which, &stream),
             Err(_) => (Turn::NotReached, false),
@@ -224,7 +252,7 @@ impl<R: Net<Stream = TcpStream> + Wait + Clock, G: PartGate> Caller<'_, '_, R, G
     /// the last one ended, and how often something was put in.
     fn call_shards(
         &self,
-        desks: &mut Desks<'_>,
+        desks: &mut Desks,
         callee: Callee<'_>,
         unequal: Vec<Unequal>,
     ) -> (Turn, u64) {
@@ -244,7 +272,7 @@ impl<R: Net<Stream = TcpStream> + Wait + Clock, G: PartGate> Caller<'_, '_, R, G
 
     /// Runs a session over the set, or over each of its shards that differs, one after the other, until one does not
     /// end. How the last one ended, and how often something was put in.
-    fn call_at(&self, desks: &mut Desks<'_>, callee: Callee<'_>) -> (Turn, u64) {
+    fn call_at(&self, desks: &mut Desks, callee: Callee<'_>) -> (Turn, u64) {
         let Front::Cut(set) = self.links.front else {
             let (turn, has_put) = self.call_part(desks, callee, Which::Shard(0));
             return (turn, u64::from(has_put));
@@ -259,7 +287,7 @@ impl<R: Net<Stream = TcpStream> + Wait + Clock, G: PartGate> Caller<'_, '_, R, G
     /// in that each address has: where there are several, none.
     fn call_each(
         &self,
-        desks: &mut Desks<'_>,
+        desks: &mut Desks,
         partner: Partner<'_>,
         addresses: &[SocketAddr],
     ) -> (Turn, u64) {
@@ -283,7 +311,7 @@ impl<R: Net<Stream = TcpStream> + Wait + Clock, G: PartGate> Caller<'_, '_, R, G
     /// Runs a turn of a partner: a session over the set, or over each of its shards that differs, at each address of
     /// its name, which is looked up anew each time. How it ended, and how often something was put in that the partner
     /// has.
-    pub(crate) fn call(&self, desks: &mut Desks<'_>, partner: Partner<'_>) -> (Turn, u64) {
+    pub(crate) fn call(&self, desks: &mut Desks, partner: Partner<'_>) -> (Turn, u64) {
         let name = match partner.place {
             Place::Tcp(name) => name,
             Place::Unix(path) => {

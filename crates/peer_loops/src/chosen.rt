@@ -19,7 +19,7 @@ pub(crate) type Reader = AfterSelector<Half>;
 const BAD_HELLO: u8 = 1;
 
 /// The number of the refusal of a peer that speaks of a set that is not here.
-pub(crate) const WRONG_SET: u8 = 55;
+pub const WRONG_SET: u8 = 55;
 
 /// The number of the refusal of a peer whose input ended too early.
 pub(crate) const TRUNCATED: u8 = 3;
@@ -109,7 +109,7 @@ pub(crate) fn part_of(front: Front<'_>, reader: &Reader) -> Option<Chosen>
 }
 
 /// The number of the refusal of a peer that says this, and says no more.
-fn refusal_in(desks: &Desks<'_>, said: Selecting) -> Option<u8>
+fn refusal_in(desks: &Desks, said: Selecting) -> Option<u8>
     ensures { result ≡ refusal_in desks.now.first (length desks.now.list.items) said }
 {
     match said {
@@ -123,11 +123,7 @@ fn refusal_in(desks: &Desks<'_>, said: Selecting) -> Option<u8>
 
 /// The number of the refusal of a peer that speaks of another set, of none, or of a part that is not kept, once that is
 /// known.
-pub(crate) fn refusal_of(
-    front: Front<'_>,
-    desks: &Desks<'_>,
-    peer: &Peer<Reader, Half>,
-) -> Option<u8>
+pub(crate) fn refusal_of(front: Front<'_>, desks: &Desks, peer: &Peer<Reader, Half>) -> Option<u8>
     ensures { result ≡ refusal_at front.entry desks.now.first (length desks.now.list.items) peer.now.phase
         (take_inner peer.now.reader.way).came }
 {

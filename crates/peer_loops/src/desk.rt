@@ -1,6 +1,6 @@
 //! A loop's seat at the log of one part.
 
-ghost use Rattle.std.specs.Prelude.{◌≡◌, ◌≤◌, length, true, IsSome, IfOk, IfSome, OnOk, Some};
+ghost use Rattle.std.specs.Prelude.{◌≡◌, ◌≤◌, length, [], true, IsSome, IfOk, IfSome, OnErr, OnOk, Some};
 ghost use Rattle.std.specs.Arc.{arc_value};
 ghost use Rattle.slab.specs.Slab.{get};
 ghost use Rattle.definitions.specs.Histories.{content};
@@ -10,13 +10,17 @@ ghost use Rattle.range_tree.specs.Trees.{tree_items};
 ghost use Rattle.hub_core.specs.Hubs.{OthersStay};
 ghost use Rattle.hub_core.specs.Peers.{Opens, version_after};
 ghost use Rattle.ends_core.specs.Sides.{peer_of};
-ghost use Rattle.peer_threads.specs.Workers.{IsSettled, LookedOrNot, are_own};
+ghost use Rattle.peer_threads.specs.Workers.{IsSettled, LookedOrNot, are_own, says};
 ghost use Rattle.version_lock.specs.Calls.{IsPinOf, Looked};
+ghost use Rattle.version_lock.specs.declared.view.View.{View};
+ghost use Rattle.peer_loops.specs.Chains.{Took, left_out_by};
+ghost use Rattle.peer_loops.specs.Extents.{meant};
 ghost use Rattle.peer_loops.specs.Hands.{Adds};
 ghost use Rattle.peer_loops.specs.Partings.{PutsInOf};
 
 use crate::chosen::Reader;
 use crate::common::Common;
+use crate::extent::Extent;
 use crate::hand::HandFault;
 use crate::part::{Part, Root};
 use ends_core::Learned;
@@ -27,21 +31,22 @@ use range_tree::Tree;
 use session_table::SessionId;
 use shard_core::{ShardSum, entry_of};
 use std::alloc::{AllocError, Global};
-use std::sync::Wait;
+use std::sync::{Arc, Wait};
+use store_core::RangeStore;
 use tcp_front::Half;
 use version_lock::{Pin, Seat};
-use version_log::Added;
+use version_log::{Added, LogFault};
 
 /// A loop's seat at the log of a part: sessions are opened over the versions that it pins, and it puts in what they
 /// learned. All that it has entered is of the part.
 #[derive(Drop)]
-pub(crate) struct Desk<'a> {
-    pub(crate) part: &'a Part,
+pub(crate) struct Desk {
+    pub(crate) part: Arc<Part>,
     pub(crate) seat: Seat<Tree>,
-    ghost lock: { seat.table_id ≡ part.now.lock },
-    ghost fits: { seat.view.cap ≤ (arc_value part.now.accepted).table.cap },
+    ghost lock: { seat.table_id ≡ (arc_value part).lock },
+    ghost fits: { seat.view.cap ≤ (arc_value (arc_value part).accepted).table.cap },
     ghost enrolled: { IsSome seat.view.writer },
-    ghost own: { are_own part.now.own seat.view.entered ≡ true },
+    ghost own: { are_own (arc_value part).own seat.view.entered ≡ true },
 }
 
 /// Puts an item into the log of this part by this seat, if it is of the part and the log lacks it.
@@ -69,68 +74,110 @@ fn enter<T: Wait>(
     }
 }
 
-impl<'a> Desk<'a> {
+/// How many items are left out where one was put in so. Else memory ran out.
+fn left_out_by(did: Result<Added, HandFault>) -> Result<usize, AllocError>
+    ensures { IfOk result (λ count. left_out_by did ≡ Some count) }
+{
+    match did {
+        Ok(_) => Ok(0),
+        Err(HandFault::Log(LogFault::Memory)) => Err(AllocError),
+        Err(HandFault::Log(LogFault::Full) | HandFault::Elsewhere) => Ok(1),
+    }
+}
+
+impl Desk {
     /// A seat at this part that has a writer number, where there is one left.
-    pub(crate) fn at<T: Wait>(rt: &T, root: &'a mut Root) -> Option<Desk<'a>> {
-        let mut seat = root.part.lock.split_seat(&mut root.seat);
-        root.part.lock.enroll(rt, &mut seat).ok()?;
-        Some(Desk {
-            part: &root.part,
-            seat,
-        })
-    }
-
-    /// One more seat at the same part.
-    pub(crate) fn split<T: Wait>(&mut self, rt: &T) -> Option<Desk<'a>>
-        ensures same { self.new.part ≡ self.old.part }
-        ensures part { IfSome result (λ d. d.part ≡ self.old.part) }
+    pub(crate) fn at<T: Wait>(rt: &T, root: &mut Root) -> Option<Desk>
+        ensures kept { root.new.part ≡ root.old.part }
+        ensures part { IfSome result (λ d. arc_value d.part ≡ arc_value root.old.part) }
+        ensures nothing { IfSome result (λ d. d.seat.view.entered ≡ []) }
     {
-        let mut seat = self.part.lock.split_seat(&mut self.seat);
-        self.part.lock.enroll(rt, &mut seat).ok()?;
-        Some(Desk {
-            part: self.part,
-            seat,
-        })
+        let part = Arc::try_clone(&root.part).ok()?;
+        let mut seat = part.lock.split_seat(&mut root.seat);
+        part.lock.enroll(rt, &mut seat).ok()?;
+        Some(Desk { part, seat })
     }
 
-    /// Pins the newest version. Its items of the range, and its number.
-    fn pinned<T: Wait>(
+    /// Puts these items in, as far as the log lacks them and has room. How many are left out.
+    fn add_each<T: Wait>(
         &mut self,
         rt: &T,
         alloc: Global,
-        range: &Range,
-    ) -> Result<(Tree, usize), AllocError>
+        items: &[Item],
+    ) -> Result<usize, AllocError>
         ensures part { self.new.part ≡ self.old.part }
-        ensures view { LookedOrNot self.old.seat.view self.new.seat.view }
-        ensures items { IfOk result (λ p. tree_items p.0 ≡ items_in (content self.new.seat.view.base) range.now) }
-        ensures few { IfOk result (λ p. length (tree_items p.0) ≤ (arc_value self.old.part.now.accepted).table.cap) }
-        ensures version { IfOk result (λ p. p.1 ≡ length self.new.seat.view.base) }
+        ensures took { IfOk result (λ left. Took (arc_value self.old.part).own items.now self.old.seat.view
+            self.new.seat.view left) }
     {
-        let pin = self.part.lock.pin(rt, alloc, &mut self.seat)?;
-        let version = pin.version();
-        Ok((pin.store().part(alloc, range)?, version))
+        let mut left_out: usize = 0;
+        for item in items {
+            left_out += left_out_by(self.add(rt, alloc, item))?;
+        }
+        Ok(left_out)
     }
 
-    /// Pins the newest version, and opens the session of this peer over its items of the range, if the peer is there.
+    /// Goes over to this seat at the part made anew, with the items of the range that the part of this one has, as far as
+    /// there is room. How many are left out. Where memory runs out, it stays at its part.
+    pub(crate) fn go_over<T: Wait>(
+        &mut self,
+        rt: &T,
+        alloc: Global,
+        newer: Desk,
+        kept: &Range,
+    ) -> Result<usize, AllocError>
+        ensures took { IfOk result (λ left. (self.new.part ≡ newer.part) × ((between : View)
+            × Looked self.old.seat.view between × Took (arc_value newer.part).own
+            (items_in (content between.base) kept.now) newer.seat.view self.new.seat.view left)) }
+        ensures memory { OnErr result (self.new.part ≡ self.old.part) }
+    {
+        let mut newer = newer;
+        let pin = self.part.lock.pin(rt, alloc, &mut self.seat)?;
+        let items = pin.store().items(alloc, kept)?;
+        let left_out = newer.add_each(rt, alloc, &items)?;
+        *self = newer;
+        Ok(left_out)
+    }
+
+    /// Pins the newest version. Its items that are meant, and its number.
+    pub(crate) fn pinned<T: Wait>(
+        &mut self,
+        rt: &T,
+        alloc: Global,
+        extent: Extent<'_>,
+    ) -> Result<Pin<Tree>, AllocError>
+        ensures part { self.new.part ≡ self.old.part }
+        ensures view { LookedOrNot self.old.seat.view self.new.seat.view }
+        ensures items { IfOk result (λ p. p.items
+            ≡ meant extent.entry.floor.now extent.entry.range.now (content self.new.seat.view.base)) }
+        ensures few { IfOk result (λ p. length p.items ≤ (arc_value (arc_value self.old.part).accepted).table.cap) }
+        ensures version { IfOk result (λ p. p.version ≡ length self.new.seat.view.base) }
+    {
+        let pin = self.part.lock.pin(rt, alloc, &mut self.seat)?;
+        let store = extent.of(alloc, pin.store())?;
+        Ok(pin.with_store(store))
+    }
+
+    /// Pins the newest version, and opens the session of this peer over its items that are meant, if the peer is there.
     pub(crate) fn open<T: Wait>(
         &mut self,
         rt: &T,
         alloc: Global,
         hub: &mut Hub<Reader, Half>,
-        range: &Range,
+        extent: Extent<'_>,
         key: usize,
     ) -> Result<(), AllocError>
         ensures part { self.new.part ≡ self.old.part }
         ensures view { LookedOrNot self.old.seat.view self.new.seat.view }
         ensures opens { OnOk result ((p q : _) → get hub.old.peers key ≡ Some p → get hub.new.peers key ≡ Some q →
-            Opens (peer_of (arc_value self.old.part.now.accepted) (items_in (content self.new.seat.view.base) range.now))
-            p.phase q.phase) }
+            Opens (peer_of (arc_value (arc_value self.old.part).accepted)
+            (meant extent.entry.floor.now extent.entry.range.now (content self.new.seat.view.base))) p.phase q.phase) }
         ensures version { OnOk result ((p q : _) → get hub.old.peers key ≡ Some p → get hub.new.peers key ≡ Some q →
             q.version ≡ version_after p.phase p.version (length self.new.seat.view.base)) }
         ensures others { OthersStay hub.old.peers hub.new.peers key }
     {
-        let (store, version) = self.pinned(rt, alloc, range)?;
-        hub.open(alloc, key, &self.part.accepted, store, version)
+        let pin = self.pinned(rt, alloc, extent)?;
+        let version = pin.version();
+        hub.open(alloc, key, &self.part.accepted, pin.into_store(), version)
             .unwrap_or(Ok(()))
     }
 
@@ -152,26 +199,27 @@ impl<'a> Desk<'a> {
         item: &Item,
     ) -> Result<Added, HandFault>
         ensures part { self.new.part ≡ self.old.part }
-        ensures adds { Adds self.old.part.now.own item.now self.old.seat.view self.new.seat.view result }
+        ensures adds { Adds (arc_value self.old.part).own item.now self.old.seat.view self.new.seat.view result }
     {
-        enter(rt, alloc, self.part, &mut self.seat, item)
+        enter(rt, alloc, &self.part, &mut self.seat, item)
     }
 
-    /// The entry of the items of the range in the newest version, in a directory.
+    /// The entry of the items of the newest version that are meant, in a directory.
     pub(crate) fn entry<T: Wait>(
         &mut self,
         rt: &T,
         alloc: Global,
         number: u16,
-        range: &Range,
+        extent: Extent<'_>,
     ) -> Result<Item, AllocError>
         ensures part { self.new.part ≡ self.old.part }
         ensures view { LookedOrNot self.old.seat.view self.new.seat.view }
-        ensures entry { IfOk result (λ x. x ≡ entry_for number (items_in (content self.new.seat.view.base) range.now)) }
+        ensures entry { IfOk result (λ x. x ≡ entry_for number
+            (meant extent.entry.floor.now extent.entry.range.now (content self.new.seat.view.base))) }
     {
         let _cap = self.part.accepted.cap(); // proof only: there are at most 65,536 items
-        let pin = self.part.lock.pin(rt, alloc, &mut self.seat)?;
-        Ok(entry_of(number, ShardSum::within(pin.store(), range)))
+        let pin = self.pinned(rt, alloc, extent)?;
+        Ok(entry_of(number, ShardSum::of(pin.store())))
     }
 
     /// Puts into the log what a session learned that ended so, if it is in the table, as far as the gate admits it and
@@ -185,8 +233,8 @@ impl<'a> Desk<'a> {
         outcome: &Outcome,
     ) -> bool
         ensures part { self.new.part ≡ self.old.part }
-        ensures put { PutsInOf id (G.lets_in common.now.gate.now) self.old.part.now.own outcome.now self.old.seat.view
-            self.new.seat.view }
+        ensures put { PutsInOf id (says (G.lets_in common.now.gate.now) (G.floors common.now.gate.now))
+            (arc_value self.old.part).own outcome.now self.old.seat.view self.new.seat.view }
     {
         let Some(id) = id else {
             return false;
@@ -211,8 +259,8 @@ impl<'a> Desk<'a> {
         learned: &Learned,
     ) -> usize
         ensures part { self.new.part ≡ self.old.part }
-        ensures put { IsSettled (G.lets_in common.now.gate.now) serial self.old.part.now.own learned.now.theirs
-            self.old.seat.view self.new.seat.view result }
+        ensures put { IsSettled (says (G.lets_in common.now.gate.now) (G.floors common.now.gate.now)) serial
+            (arc_value self.old.part).own learned.now.theirs self.old.seat.view self.new.seat.view result }
     {
         let shared = Shared {
             lock: &self.part.lock,

@@ -3,14 +3,16 @@
 ghost use Rattle.std.specs.Prelude.{◌≡◌, ◌<◌, ◌≤◌, ◌+◌, [], ◌++◌, IfOk, OnErr, vec_len, vec_capacity};
 ghost use Rattle.peer_loops.specs.Hands.{PutsAt, PutsUntil, entered_by, entries};
 
+use crate::common::Common;
 use crate::desks::Desks;
+use crate::seats::Seats;
 use item_core::Item;
+use peer_threads::Gate;
 use range_tree::Tree;
 use shard_core::shard_of;
 use std::alloc::{AllocError, Global};
 use std::marker::Model;
 use std::sync::Wait;
-use store_core::RangeStore;
 use version_lock::Pin;
 use version_log::{Added, LogFault};
 
@@ -35,16 +37,19 @@ pub struct Entered {
 /// Seats at all parts for one who is no loop. Contracts see the parts' own shards and the views of the seats.
 #[derive(Drop)]
 pub struct Hand<'a> {
-    pub(crate) desks: Desks<'a>,
+    pub(crate) seats: &'a Seats,
+    pub(crate) desks: Desks,
 }
 
 impl<'a> Model for Hand<'a> {
     ghost use Rattle.std.specs.Prelude.{List, map};
+    ghost use Rattle.std.specs.Arc.{arc_value};
     ghost use Rattle.peer_loops.specs.Hands.{Held, held};
+    ghost use Rattle.peer_loops.specs.declared.desk.Desk.{Desk};
 
     ghost Value = { List Held };
 
-    ghost view = { λ h. map (λ d. held d.part.now.own d.seat.view) h.desks.list.items };
+    ghost view = { λ h. map (λ (d : Desk). held (arc_value d.part).own d.seat.view) h.desks.list.items };
 }
 
 /// Appends an item that its part lacked.
@@ -62,8 +67,13 @@ fn note(entered: &mut Vec<Item>, added: Added, item: &Item)
 
 impl<'a> Hand<'a> {
     /// One with these seats.
-    pub(crate) fn with(desks: Desks<'a>) -> Hand<'a> {
-        Hand { desks }
+    pub(crate) fn with(seats: &'a Seats, desks: Desks) -> Hand<'a> {
+        Hand { seats, desks }
+    }
+
+    /// Goes over to the parts that were made anew, before items are asked for, and after some were put in.
+    pub fn follow<T: Wait, G: Gate>(&mut self, rt: &T, alloc: Global, common: &Common<'_, G>) {
+        self.desks.follow(rt, alloc, common, self.seats);
     }
 
     /// How many parts there are.
@@ -82,16 +92,6 @@ impl<'a> Hand<'a> {
     {
         let desk = self.desks.list.get_mut(place)?;
         Some(desk.pin(rt, alloc))
-    }
-
-    /// How many items all parts have, each as it is when it is asked.
-    pub fn count<T: Wait>(&mut self, rt: &T, alloc: Global) -> Result<usize, AllocError> {
-        let mut count: usize = 0;
-        for desk in self.desks.list.iter_mut() {
-            let pin = desk.pin(rt, alloc)?;
-            count = count.saturating_add(pin.store().len());
-        }
-        Ok(count)
     }
 
     /// The place of the part that may have the item. There may be no part there.

@@ -4,7 +4,7 @@ use mio::unix::SourceFd;
 use mio::{Interest, Registry, Token};
 use slab::Slab;
 use std::alloc::Global;
-use std::io::{ErrorKind, Read};
+use std::io::ErrorKind;
 use std::os::fd::AsRawFd;
 use tcp_front::Half;
 
@@ -45,7 +45,7 @@ impl Leaving {
     /// Reads what is there into this room, and drops it.
     fn read_on(&mut self, room: &mut [u8]) -> Reading {
         for _turn in 0..TURNS {
-            match self.reader.read(room) {
+            match self.reader.read_on(room) {
                 Ok(0) => return Reading::Done,
                 Ok(count) => self.left = self.left.saturating_sub(count as u64),
                 Err(error) if error.kind() == ErrorKind::WouldBlock => return Reading::Waits,
@@ -96,7 +96,7 @@ impl Leavers {
         now: u64,
     ) {
         let (reader, writer) = connection;
-        if writer.end_output().is_err() {
+        if writer.end_after(&reader).is_err() {
             return;
         }
         let leaving = Leaving {

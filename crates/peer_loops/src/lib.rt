@@ -12,6 +12,7 @@ mod desk;
 mod desks;
 mod dialing;
 mod ending;
+mod extent;
 mod hand;
 mod leaving;
 mod link_gate;
@@ -33,7 +34,7 @@ mod visiting;
 
 pub use board::{Board, Recent};
 pub use calling::Links;
-pub use chosen::Front;
+pub use chosen::{Front, WRONG_SET};
 pub use common::Common;
 pub use crowd::{PeerLimits, Service};
 pub use hand::{Entered, Hand, HandFault};

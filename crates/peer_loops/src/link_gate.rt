@@ -3,7 +3,7 @@
 use crate::part_gate::PartGate;
 use item_core::Item;
 use peer_threads::{Gate, Outcome};
-use shard_core::Which;
+use shard_core::{Floor, Which};
 use std::sync::OnceLock;
 use version_log::LogFault;
 
@@ -41,6 +41,8 @@ impl<G: PartGate> Gate for LinkGate<'_, G> {
 
     ghost lets_in = { λ n. G.lets_in n.gate.now };
 
+    ghost floors = { λ n. G.floors n.gate.now };
+
     fn pass(&self, serial: u64, sent: u32) -> bool {
         self.gate.pass(serial, sent)
     }
@@ -53,6 +55,14 @@ impl<G: PartGate> Gate for LinkGate<'_, G> {
 
     fn admits(&self, serial: u64, count: usize) -> usize {
         self.gate.admits(serial, count)
+    }
+
+    fn floor(&self) -> Floor {
+        self.gate.floor()
+    }
+
+    fn is_below(&self, item: &Item) {
+        self.gate.is_below(item);
     }
 
     fn took(&self, item: &Item) {

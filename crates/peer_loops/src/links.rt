@@ -31,7 +31,7 @@ where
 
 impl<R: Net<Stream = TcpStream> + Wait + Clock, G: PartGate> Caller<'_, '_, R, G> {
     /// Runs the turn of a partner, and notes when the next one is.
-    fn take_turn(&self, desks: &mut Desks<'_>, call: Call<'_>) {
+    fn take_turn(&self, desks: &mut Desks, call: Call<'_>) {
         let (turn, puts) = self.call(desks, call.partner);
         let news = self.common.news.count(self.rt);
         // what this turn has put in the partner has
@@ -51,11 +51,12 @@ impl<R: Net<Stream = TcpStream> + Wait + Clock, G: PartGate> Caller<'_, '_, R, G
     }
 
     /// Calls partners as their time comes, until the server is done.
-    fn run(&self, desks: &mut Desks<'_>) {
+    fn run(&self, desks: &mut Desks) {
         for _ in self.rt.forever() {
             if self.common.news.is_over() || self.links.board.is_stopping() {
                 return;
             }
+            desks.follow(self.rt, self.alloc, self.common, self.seats);
             let news = self.common.news.count(self.rt);
             let now = now(self.rt);
             match self.links.partners.next(self.rt, now, news) {
@@ -74,7 +75,7 @@ impl<R: Net<Stream = TcpStream> + Wait + Clock, G: PartGate> Caller<'_, '_, R, G
 fn call_by_one<R, G>(
     rt: &R,
     common: &Common<'_, G>,
-    seats: &Seats<'_>,
+    seats: &Seats,
     links: Links<'_, '_>,
     number: usize,
 )
@@ -85,13 +86,14 @@ where
     if number >= links.partners.threads() {
         return;
     }
-    let Some(mut desks) = seats.take(rt) else {
+    let Some(mut desks) = seats.take(rt, rt.alloc()) else {
         return;
     };
     let caller = Caller {
         rt: &*rt,
         alloc: rt.alloc(),
         common: &*common,
+        seats: &*seats,
         links,
     };
     caller.run(&mut desks);
@@ -101,7 +103,7 @@ where
 fn call_by_two<R, G>(
     rt: &R,
     common: &Common<'_, G>,
-    seats: &Seats<'_>,
+    seats: &Seats,
     links: Links<'_, '_>,
     first: usize,
 )
@@ -123,7 +125,7 @@ where
 fn call_by_four<R, G>(
     rt: &R,
     common: &Common<'_, G>,
-    seats: &Seats<'_>,
+    seats: &Seats,
     links: Links<'_, '_>,
     first: usize,
 )
@@ -147,7 +149,7 @@ where
 /// know, by a session that ended, is put in as the loops of `serve_peers` put in what they learn.
 ///
 /// Where a thread cannot be made, its partners are called by the others.
-pub fn call_partners<R, G>(rt: &R, common: &Common<'_, G>, seats: &Seats<'_>, links: Links<'_, '_>)
+pub fn call_partners<R, G>(rt: &R, common: &Common<'_, G>, seats: &Seats, links: Links<'_, '_>)
 where
     R: LinkRuntime,
     G: PartGate + Sync,

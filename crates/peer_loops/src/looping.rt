@@ -12,10 +12,12 @@ use crate::note::Notes;
 use crate::part_gate::PartGate;
 use crate::site::Site;
 use hub_core::{Hub, HubLimits};
+use item_core::Range;
 use mio::unix::SourceFd;
 use mio::{Events, Interest, Poll, Token, Waker};
+use peer_threads::Gate;
 use std::io;
-use std::os::fd::AsRawFd;
+use std::os::fd::{AsRawFd, RawFd};
 use std::sync::Wait;
 use std::time::{Clock, Duration};
 use tcp_front::Half;
@@ -73,6 +75,8 @@ pub(crate) struct Loop {
     pub(crate) room: [u8; ROOM],
     /// When it last looked for those whose time is over.
     swept: u64,
+    /// The range that was kept when it last looked how much is forgotten.
+    kept: Range,
 }
 
 /// A number of seconds, in milliseconds.
@@ -97,6 +101,13 @@ fn limits_of(limits: &PeerLimits, loops: usize) -> HubLimits
     }
 }
 
+/// Has a loop woken where somebody is there at this descriptor of the listener. None where the system does not.
+fn attend_to(poll: &Poll, fd: RawFd) -> Option<()> {
+    poll.registry()
+        .register(&mut SourceFd(&fd), LISTENER, Interest::READABLE)
+        .ok()
+}
+
 impl Loop {
     /// The loop of this number, without peers. The others can wake it, and hand peers to it. None where the system does
     /// not give what it waits with.
@@ -105,10 +116,10 @@ impl Loop {
         let poll = site.crowd.take_poll(site.rt)?;
         let waker = Waker::new(poll.registry(), WAKER).ok()?;
         if kind == Kind::Accepts {
-            let fd = site.listener.as_raw_fd();
-            poll.registry()
-                .register(&mut SourceFd(&fd), LISTENER, Interest::READABLE)
-                .ok()?;
+            attend_to(&poll, site.listener.as_raw_fd())?;
+            if let Some(second) = site.listener.second_fd() {
+                attend_to(&poll, second)?;
+            }
         }
         site.crowd.open_inlet(site.rt, index, waker);
         Some(Loop {
@@ -126,6 +137,7 @@ impl Loop {
             now: 0,
             room: [0u8; ROOM],
             swept: 0,
+            kept: Range::whole(),
         })
     }
 
@@ -156,7 +168,7 @@ impl Loop {
     fn go_on_with<R: Wait, G: PartGate>(
         &mut self,
         site: &Site<'_, R, G>,
-        desks: &mut Desks<'_>,
+        desks: &mut Desks,
         listed: Vec<usize>,
     ) {
         for key in listed {
@@ -166,7 +178,7 @@ impl Loop {
     }
 
     /// Lets those go whose time is over.
-    fn sweep<R: Wait, G: PartGate>(&mut self, site: &Site<'_, R, G>, desks: &mut Desks<'_>) {
+    fn sweep<R: Wait, G: PartGate>(&mut self, site: &Site<'_, R, G>, desks: &mut Desks) {
         self.leavers.close_late(self.now);
         if self.now.saturating_sub(self.swept) < TICK {
             return;
@@ -184,7 +196,7 @@ impl Loop {
     fn meet<R: Wait, G: PartGate>(
         &mut self,
         site: &Site<'_, R, G>,
-        desks: &mut Desks<'_>,
+        desks: &mut Desks,
         token: Token,
     ) {
         if token == LISTENER || token == WAKER {
@@ -198,7 +210,7 @@ impl Loop {
     }
 
     /// Takes in nobody more, where the server is to stop, and lets those go who are there for too long after that.
-    fn stop<R: Wait, G: PartGate>(&mut self, site: &Site<'_, R, G>, desks: &mut Desks<'_>) {
+    fn stop<R: Wait, G: PartGate>(&mut self, site: &Site<'_, R, G>, desks: &mut Desks) {
         if !site.crowd.board.is_stopping() {
             return;
         }
@@ -218,13 +230,33 @@ impl Loop {
         }
     }
 
+    /// Makes those parts anew of which much is forgotten, if the floor has risen.
+    fn make_anew<R: Wait, G: PartGate>(&mut self, site: &Site<'_, R, G>) {
+        let kept = site.common.gate.floor().range;
+        if kept == self.kept {
+            return;
+        }
+        self.kept = kept;
+        let forgotten = site.seats.forget(site.rt, site.alloc, &kept);
+        site.common.gate.forgot(forgotten);
+    }
+
+    /// Goes over to parts that were made anew. The first loop makes them.
+    fn forget<R: Wait, G: PartGate>(&mut self, site: &Site<'_, R, G>, desks: &mut Desks) {
+        if self.index == 0 {
+            self.make_anew(site);
+        }
+        desks.follow(site.rt, site.alloc, site.common, site.seats);
+    }
+
     /// What it does after a wait.
     fn turn<R: Wait, G: PartGate>(
         &mut self,
         site: &Site<'_, R, G>,
-        desks: &mut Desks<'_>,
+        desks: &mut Desks,
         events: &Events,
     ) {
+        self.forget(site, desks);
         let soon = std::mem::replace(&mut self.soon, Vec::new(site.alloc));
         self.go_on_with(site, desks, soon);
         for event in events {
@@ -248,7 +280,7 @@ impl Loop {
     pub(crate) fn run<R: Wait + Clock, G: PartGate>(
         &mut self,
         site: &Site<'_, R, G>,
-        desks: &mut Desks<'_>,
+        desks: &mut Desks,
     ) -> io::Result<()> {
         let mut events = Events::with_capacity(site.alloc, EVENTS)?;
         for _ in site.rt.forever() {

@@ -15,6 +15,9 @@ pub trait PartGate: Gate {
     /// The same of a session with the partner of this address.
     fn ended_with(&self, address: &str, serial: u64, part: Option<Which>, outcome: &Outcome);
 
+    /// So many items are forgotten: no part has them any more.
+    fn forgot(&self, _count: usize) {}
+
     /// The partner of this address stands so from now on.
     fn is_told(&self, _address: &str, _told: Told) {}
 }

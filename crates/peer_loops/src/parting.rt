@@ -1,12 +1,14 @@
 //! How a loop lets a peer go.
 
 ghost use Rattle.std.specs.Prelude.{◌≡◌, Some, None, IfSome, IfNone, option_map};
+ghost use Rattle.std.specs.Arc.{arc_value};
 ghost use Rattle.slab.specs.Slab.{get};
 ghost use Rattle.hub_core.specs.Hubs.{OthersStay};
 ghost use Rattle.peer_loops.specs.Notes.{id_of};
 ghost use Rattle.session_table.specs.declared.outcome.Outcome as outcomes;
+ghost use Rattle.peer_threads.specs.Workers.{says};
 ghost use Rattle.peer_loops.specs.Changes.{ChangesAt};
-ghost use Rattle.peer_loops.specs.Fronts.{chosen_in, said_by};
+ghost use Rattle.peer_loops.specs.Fronts.{chosen_in, range_of, said_by};
 ghost use Rattle.peer_loops.specs.Partings as partings;
 ghost use Rattle.peer_loops.specs.Partings.{PutsInOf, Tells, shown_in};
 ghost use Rattle.peer_loops.specs.ShardSpans.{place_for};
@@ -67,12 +69,13 @@ fn tell_end<R: Wait, G: PartGate>(site: &Site<'_, R, G>, over: &Over, outcome: &
 /// The same, and then puts in what was learned. If something was put in, that is news.
 fn conclude<R: Wait, G: PartGate>(
     site: &Site<'_, R, G>,
-    desks: &mut Desks<'_>,
+    desks: &mut Desks,
     over: &Over,
     outcome: &Outcome,
 )
     ensures put { ChangesAt (place_for desks.old.first over.now.part) desks.old.list.items desks.new.list.items
-        (λ d e. (e.part ≡ d.part) × PutsInOf over.now.id (G.lets_in site.now.common.now.gate.now) d.part.now.own
+        (λ d e. (e.part ≡ d.part) × PutsInOf over.now.id
+        (says (G.lets_in site.now.common.now.gate.now) (G.floors site.now.common.now.gate.now)) (arc_value d.part).own
         outcome.now d.seat.view e.seat.view) }
 {
     tell_end(site, over, outcome);
@@ -83,7 +86,8 @@ fn conclude<R: Wait, G: PartGate>(
 
 /// The part of which a peer speaks, if it has said so, and the range of its items.
 fn meant_by(front: Front<'_>, reader: &Reader) -> (Option<Which>, Range)
-    ensures { result.0 ≡ option_map (λ c. c.0) (chosen_in (said_by front.entry reader.now.came)) }
+    ensures which { result.0 ≡ option_map (λ c. c.0) (chosen_in (said_by front.entry reader.now.came)) }
+    ensures range { result.1 ≡ range_of (chosen_in (said_by front.entry reader.now.came)) }
 {
     match part_of(front, reader) {
         Some(Chosen { which, range }) => (Some(which), range),
@@ -138,8 +142,8 @@ struct Gone {
     left: u64,
 }
 
-/// Takes a peer apart that is let go now, and tells it why, if it is to be told.
-fn parted(peer: Peer<Reader, Half>, serial: Option<u64>, parting: Parting, now: u64) -> Gone
+/// Takes a peer apart that is let go now, whose session was this, and tells it why, if it is to be told.
+fn parted(peer: Peer<Reader, Half>, over: &Over, parting: Parting, now: u64) -> Gone
     ensures { Tells parting peer.phase peer.version result.outcome }
 {
     let left = peer.left();
@@ -153,7 +157,9 @@ fn parted(peer: Peer<Reader, Half>, serial: Option<u64>, parting: Parting, now: 
     let leaver = Leaver {
         address: reader.address(),
         profile: profile_of(&phase),
-        serial,
+        serial: over.id.as_ref().map(|id| id.serial()),
+        which: None,
+        range: over.range,
         arrived,
         now,
     };
@@ -184,7 +190,7 @@ impl Loop {
     pub(crate) fn let_go<R: Wait, G: PartGate>(
         &mut self,
         site: &Site<'_, R, G>,
-        desks: &mut Desks<'_>,
+        desks: &mut Desks,
         key: usize,
         parting: Parting,
     ) {
@@ -193,15 +199,16 @@ impl Loop {
         }
     }
 
-    /// Lets a peer go that is not in the hub.
+    /// Lets a peer go that is not in the hub. What it taught is put into the newest parts.
     pub(crate) fn part_with<R: Wait, G: PartGate>(
         &mut self,
         site: &Site<'_, R, G>,
-        desks: &mut Desks<'_>,
+        desks: &mut Desks,
         guest: Guest,
         parting: Parting,
     ) {
         let Guest { peer, id } = guest;
+        desks.follow(site.rt, site.alloc, site.common, site.seats);
         let (part, range) = meant_by(site.crowd.front, peer.reader());
         let over = Over {
             id,
@@ -216,22 +223,28 @@ impl Loop {
     fn part<R: Wait, G: PartGate>(
         &mut self,
         site: &Site<'_, R, G>,
-        desks: &mut Desks<'_>,
+        desks: &mut Desks,
         peer: Peer<Reader, Half>,
         over: Over,
         parting: Parting,
     )
         ensures put { (o : outcomes.Outcome) × Tells parting peer.phase peer.version o
             × ChangesAt (place_for desks.old.first over.part) desks.old.list.items desks.new.list.items
-            (λ d e. (e.part ≡ d.part) × PutsInOf over.id (G.lets_in site.now.common.now.gate.now) d.part.now.own o
+            (λ d e. (e.part ≡ d.part) × PutsInOf over.id
+            (says (G.lets_in site.now.common.now.gate.now) (G.floors site.now.common.now.gate.now)) (arc_value d.part).own o
             d.seat.view e.seat.view) }
     {
         site.crowd.count_one_less(site.rt, peer.origin());
-        let serial = over.id.as_ref().map(|id| id.serial());
-        let gone = parted(peer, serial, parting, self.now);
+        let gone = parted(peer, &over, parting, self.now);
         conclude(site, desks, &over, &gone.outcome);
+        let front = site.crowd.front;
+        let leaver = Leaver {
+            which: over.part.and_then(|which| front.told(which)),
+            ..gone.leaver
+        };
         let gone = Gone {
             outcome: shown(site.alloc, over.part, gone.outcome),
+            leaver,
             ..gone
         };
         self.see_off(site, gone);

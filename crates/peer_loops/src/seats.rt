@@ -1,35 +1,83 @@
-//! Seats at all parts, for those who do not use them yet.
+//! The parts of a set that threads share, and seats at all of them.
+//!
+//! A part of which much is forgotten is made anew: a lock of its own, with the items that are kept. Whoever has a seat at
+//! the old one goes over with the items that came into that one since. The number of changes rises before the versions
+//! are pinned that the new parts begin with, so whoever has put something in later finds it changed.
 
+use crate::desk::Desk;
 use crate::desks::Desks;
 use crate::hand::Hand;
 use crate::part::Parts;
-use std::alloc::Global;
+use item_core::Range;
+use std::alloc::{AllocError, Global};
+use std::sync::atomic::{AtomicU64, Ordering};
 use std::sync::{Mutex, Wait};
 
-/// So many seats at each part, for loops, links and others that do not run yet.
+/// The parts of a set. Threads take seats at them.
 #[derive(Drop)]
-pub struct Seats<'a> {
-    pool: Mutex<Vec<Desks<'a>>>,
+pub struct Seats {
+    parts: Mutex<Parts>,
+    // How often parts were made anew.
+    changes: AtomicU64,
 }
 
 impl Parts {
-    /// So many seats at each part, at least one. None where memory runs out, or no writer number is left.
-    pub fn seats<T: Wait>(&mut self, rt: &T, alloc: Global, count: usize) -> Option<Seats<'_>> {
-        let desks = Desks::at(rt, alloc, self)?;
-        Some(Seats {
-            pool: Mutex::new(desks.for_loops(rt, alloc, count)?),
-        })
+    /// These parts, at which seats may be taken.
+    pub fn shared(self) -> Seats {
+        Seats {
+            parts: Mutex::new(self),
+            changes: AtomicU64::new(0),
+        }
     }
 }
 
-impl<'a> Seats<'a> {
-    /// One seat at each part, if there is one more.
-    pub(crate) fn take<T: Wait>(&self, rt: &T) -> Option<Desks<'a>> {
-        self.pool.lock(rt).pop()
+impl Seats {
+    /// How often parts were made anew.
+    pub(crate) fn changes(&self) -> u64 {
+        self.changes.load(Ordering::SeqCst)
+    }
+
+    /// One seat at each part. None where memory runs out, or no writer number is left.
+    pub(crate) fn take<T: Wait>(&self, rt: &T, alloc: Global) -> Option<Desks> {
+        let mut parts = self.parts.lock(rt);
+        Desks::at(rt, alloc, &mut parts, self.changes())
     }
 
     /// The same for one who is no loop.
-    pub fn hand<T: Wait>(&self, rt: &T) -> Option<Hand<'a>> {
-        Some(Hand::with(self.take(rt)?))
+    pub fn hand<T: Wait>(&self, rt: &T, alloc: Global) -> Option<Hand<'_>> {
+        let desks = self.take(rt, alloc)?;
+        Some(Hand::with(self, desks))
+    }
+
+    /// A seat at each part that was made anew after that of these desks, in the order of the parts. None where memory runs
+    /// out, or no writer number is left.
+    pub(crate) fn newer<T: Wait>(
+        &self,
+        rt: &T,
+        alloc: Global,
+        desks: &[Desk],
+    ) -> Option<Vec<Option<Desk>>> {
+        let mut parts = self.parts.lock(rt);
+        let mut newer = Vec::with_capacity(alloc, desks.len()).ok()?;
+        for (root, desk) in parts.roots.iter_mut().zip(desks) {
+            newer.push(root.seat_after(rt, desk.part.turn)?).ok()?;
+        }
+        Some(newer)
+    }
+
+    /// Makes each part anew with its items of the range alone of which a quarter is not in it. How many items are
+    /// forgotten.
+    pub(crate) fn forget<T: Wait>(&self, rt: &T, alloc: Global, kept: &Range) -> usize {
+        let mut parts = self.parts.lock(rt);
+        if !parts.are_due(rt, alloc, kept) {
+            return 0;
+        }
+        let _before = self.changes.fetch_add(1, Ordering::SeqCst);
+        parts.forget(rt, alloc, kept)
+    }
+
+    /// How many items of the range all parts have.
+    pub fn count<T: Wait>(&self, rt: &T, alloc: Global, kept: &Range) -> Result<usize, AllocError> {
+        self.parts.lock(rt).count(rt, alloc, kept)
     }
 }

@@ -23,13 +23,9 @@ struct Span {
     count: u8,
 }
 
-/// Serves by the loop of this number, with one of these seats, until nobody will come. Whether it could.
-fn work<R: Clock + Wait, G: PartGate>(
-    site: &Site<'_, R, G>,
-    seats: &Seats<'_>,
-    index: usize,
-) -> bool {
-    let Some(mut desks) = seats.take(site.rt) else {
+/// Serves by the loop of this number, with a seat at each part, until nobody will come. Whether it could.
+fn work<R: Clock + Wait, G: PartGate>(site: &Site<'_, R, G>, index: usize) -> bool {
+    let Some(mut desks) = site.seats.take(site.rt, site.alloc) else {
         return false;
     };
     let Some(mut own) = Loop::new(site, index) else {
@@ -39,12 +35,8 @@ fn work<R: Clock + Wait, G: PartGate>(
 }
 
 /// The same; the others are told once it accepts no more. How many loops that accept have served.
-fn work_and_leave<R: Clock + Wait, G: PartGate>(
-    site: &Site<'_, R, G>,
-    seats: &Seats<'_>,
-    index: usize,
-) -> u8 {
-    let served = work(site, seats, index);
+fn work_and_leave<R: Clock + Wait, G: PartGate>(site: &Site<'_, R, G>, index: usize) -> u8 {
+    let served = work(site, index);
     if site.crowd.kind_of(index) != Kind::Accepts {
         return 0;
     }
@@ -58,7 +50,7 @@ fn run_half<R: Threads + Clock + Wait + Sync, G: PartGate + Sync>(
     rt: &R,
     common: &Common<'_, G>,
     crowd: &Crowd<'_>,
-    seats: &Seats<'_>,
+    seats: &Seats,
     listener: &Listener<'_, R>,
     span: Span,
 ) -> u8
@@ -70,9 +62,10 @@ fn run_half<R: Threads + Clock + Wait + Sync, G: PartGate + Sync>(
             alloc: crowd.alloc,
             common: &*common,
             crowd: &*crowd,
+            seats: &*seats,
             listener: &*listener,
         };
-        return work_and_leave(&site, seats, usize::from(span.first));
+        return work_and_leave(&site, usize::from(span.first));
     }
     let half = span.count / 2;
     let front = Span {
@@ -109,7 +102,7 @@ fn run_half<R: Threads + Clock + Wait + Sync, G: PartGate + Sync>(
 pub fn serve_peers<R: Net + Threads + Clock + Wait + AllocGlobal + Sync, G: PartGate + Sync>(
     rt: &R,
     common: &Common<'_, G>,
-    seats: &Seats<'_>,
+    seats: &Seats,
     listener: &Listener<'_, R>,
     service: Service<'_>,
 ) -> WorkersReport

@@ -2,6 +2,7 @@
 
 use crate::common::Common;
 use crate::crowd::Crowd;
+use crate::seats::Seats;
 use std::alloc::Global;
 use tcp_front::Listener;
 
@@ -12,5 +13,6 @@ pub(crate) struct Site<'a, R, G> {
     pub(crate) alloc: Global,
     pub(crate) common: &'a Common<'a, G>,
     pub(crate) crowd: &'a Crowd<'a>,
+    pub(crate) seats: &'a Seats,
     pub(crate) listener: &'a Listener<'a, R>,
 }

@@ -27,7 +27,7 @@ impl Loop {
     pub(crate) fn go_on<R: Wait, G: PartGate>(
         &mut self,
         site: &Site<'_, R, G>,
-        desks: &mut Desks<'_>,
+        desks: &mut Desks,
         key: usize,
     ) {
         let did = self.hub.pump(site.alloc, key, &mut self.room, self.now);
@@ -47,7 +47,7 @@ impl Loop {
     fn follow<R: Wait, G: PartGate>(
         &mut self,
         site: &Site<'_, R, G>,
-        desks: &mut Desks<'_>,
+        desks: &mut Desks,
         key: usize,
         pause: Pause,
     ) {
@@ -75,7 +75,7 @@ impl Loop {
     fn list<R: Wait, G: PartGate>(
         &mut self,
         site: &Site<'_, R, G>,
-        desks: &mut Desks<'_>,
+        desks: &mut Desks,
         key: usize,
         until: Until,
     ) {
@@ -92,17 +92,12 @@ impl Loop {
     }
 
     /// The number of the refusal of this peer, if it speaks of no set that is here.
-    fn refusal<R, G>(&self, site: &Site<'_, R, G>, desks: &Desks<'_>, key: usize) -> Option<u8> {
+    fn refusal<R, G>(&self, site: &Site<'_, R, G>, desks: &Desks, key: usize) -> Option<u8> {
         refusal_of(site.crowd.front, desks, self.hub.get(key)?)
     }
 
     /// Opens the session of this peer, if the table has a place for it; else the peer waits.
-    fn open<R: Wait, G: PartGate>(
-        &mut self,
-        site: &Site<'_, R, G>,
-        desks: &mut Desks<'_>,
-        key: usize,
-    ) {
+    fn open<R: Wait, G: PartGate>(&mut self, site: &Site<'_, R, G>, desks: &mut Desks, key: usize) {
         if !site.crowd.take_place() {
             self.list(site, desks, key, Until::Place);
             return;
@@ -137,7 +132,7 @@ impl Loop {
     fn hand_over<R: Wait, G: PartGate>(
         &mut self,
         site: &Site<'_, R, G>,
-        desks: &mut Desks<'_>,
+        desks: &mut Desks,
         key: usize,
         index: usize,
     ) {
@@ -152,7 +147,7 @@ impl Loop {
     }
 
     /// Lets the peers go of which most is kept, until all keep no more than they may.
-    fn keep_within<R: Wait, G: PartGate>(&mut self, site: &Site<'_, R, G>, desks: &mut Desks<'_>) {
+    fn keep_within<R: Wait, G: PartGate>(&mut self, site: &Site<'_, R, G>, desks: &mut Desks) {
         for _peer in 0..self.hub.len() {
             let Some(key) = self.hub.over_budget() else {
                 return;

@@ -5,7 +5,9 @@ ghost use Rattle.peer_loops.specs.Visits.{IsTold, ours_in, profile_in, theirs_in
 
 use ends_core::Learned;
 use hub_core::Phase;
+use item_core::Range;
 use peer_threads::Outcome;
+use shard_core::Which;
 use std::net::SocketAddr;
 use tcp_front::Half;
 use watch_core::{Ending, Traffic, Visit};
@@ -19,6 +21,9 @@ pub(crate) struct Leaver {
     pub(crate) profile: Option<u64>,
     /// The serial of its session, if that is in the table.
     pub(crate) serial: Option<u64>,
+    /// The shard, or the directory, of which it spoke, and the range of items.
+    pub(crate) which: Option<Which>,
+    pub(crate) range: Range,
     /// When it came, and when it goes.
     pub(crate) arrived: u64,
     pub(crate) now: u64,
@@ -62,6 +67,8 @@ pub(crate) fn visit_of(leaver: Leaver, outcome: &Outcome, reader: &Half, writer:
         is_called: false,
         profile: leaver.profile,
         serial: leaver.serial,
+        which: leaver.which,
+        range: leaver.range,
         ending: Ending::of(outcome),
         traffic: Traffic {
             received: reader.bytes(),

@@ -37,7 +37,7 @@ use Rattle.peer_threads.specs.Underway.{Leaves}
 use Rattle.peer_threads.specs.Underway.{Spoke}
 use Rattle.peer_threads.proofs.Breaks.{breaks-in-hello, breaks-in-message, cut-in-hello, cut-in-message}
 use Rattle.peer_threads.proofs.Exchanges.{adds, adds-nothing, wrote-first}
-use Rattle.peer_threads.proofs.Endings.{stopped-speaks, of-pin}
+use Rattle.peer_threads.proofs.Endings.{stopped-speaks, speaks}
 
 -- what a pin found fits the table
 pub found-fits : (v w : View) (cap : ℕ) → Looked v w → v.cap ≤ cap → length (content w.base) ≤ cap
@@ -172,18 +172,26 @@ module _ {F : Type 0} (S : Summary F) (W : Profile F) where
       subst (λ y. Spoke S W s version bound (traffic unread unread held holds) r w y) (sym is)
       (stopped-speaks S W s version bound x (traffic unread unread held held) holds r w broken stop stopped leaves few)
 
-  -- what the side that speaks first keeps to
-  abbrev pub FirstIsModest : Checked → Type 0
-  FirstIsModest a = (h : History) (bytes : List ℕ) → IsBytes bytes → length (content h) ≤ a.table.cap →
-      KeepsBounds S W (initiating S (peer_of a (content h))) bytes
-      (rank_by a.steps (length (content h)) + 2) a.table.limit
+  -- a session over any set, by what its two ends come to
+  pub speaks-over : (a b : Checked) (A : List Item) (v : ℕ) (t : Traffic) (r x : Seen) (o : Outcome) → b ≡ a →
+      Spoke S W (initiating S (peer_of b A)) v (rank_by b.steps (length A) + 2) t r x o →
+      ((bytes : List ℕ) → IsBytes bytes → ⊤ →
+      KeepsBounds S W (initiating S (peer_of a A)) bytes (rank_by a.steps (length A) + 2) a.table.limit) →
+      Speaks S W ⊤ (initiating S (peer_of a A)) v (rank_by a.steps (length A) + 2) a.table.limit t r x o
+  speaks-over a b A v t r x o same spoke bounded =
+      speaks S W ⊤ (initiating S (peer_of a A)) v (rank_by a.steps (length A) + 2) a.table.limit t r x o
+      (subst (λ (d : Checked). Spoke S W (initiating S (peer_of d A)) v (rank_by d.steps (length A) + 2) t r x o)
+      same spoke) bounded
 
-  pub dials : (a b : Checked) (w : View) (pin : PinState) (t : Traffic) (r x : Seen) (o : Outcome) → IsPinOf pin w →
-      b ≡ a → length (content w.base) ≤ a.table.cap →
-      Spoke S W (initiating S (peer_of b pin.items)) pin.version (rank_by b.steps (length pin.items) + 2) t r x o →
-      FirstIsModest a →
-      Speaks S W ⊤ (initiating S (peer_at a w)) (length w.base)
-      (rank_by a.steps (length (peer_at a w).items) + 2) a.table.limit t r x o
-  dials a b w pin t r x o is same fits spoke bounded =
-      of-pin S W ⊤ (λ p. initiating S p) 2 a b w pin t r x o is same spoke
-      (λ bytes are known. bounded w.base bytes are fits)
+  -- the same over a pin of the history that was found
+  pub speaks-pinned : (a : Checked) (w : View) (pin : PinState) (t : Traffic) (r x : Seen) (o : Outcome) →
+      IsPinOf pin w →
+      Speaks S W ⊤ (initiating S (peer_of a pin.items)) pin.version (rank_by a.steps (length pin.items) + 2)
+      a.table.limit t r x o →
+      Speaks S W ⊤ (initiating S (peer_at a w)) (length w.base) (rank_by a.steps (length (peer_at a w).items) + 2)
+      a.table.limit t r x o
+  speaks-pinned a w pin t r x o is spoke =
+      let of_set = subst (λ (A : List Item). Speaks S W ⊤ (initiating S (peer_of a A)) pin.version
+      (rank_by a.steps (length A) + 2) a.table.limit t r x o) is.items_are spoke in
+      subst (λ (v : ℕ). Speaks S W ⊤ (initiating S (peer_at a w)) v (rank_by a.steps (length (content w.base)) + 2)
+      a.table.limit t r x o) is.version_is of_set

@@ -3,7 +3,7 @@
 -- Whatever the items that are left come to, the items so far come to it from the start on, with what was left out so
 -- far. So one item more is one step of the same, by cases on what came of it.
 use Rattle.std.proofs.Common.{◌≡◌, ℕ, ◌+◌, ◌-◌, ◌<◌, ◌≤◌, List, [], ◌∷◌, ◌++◌, length, take, drop, Some, Option}
-use Rattle.std.proofs.Common.{true, ◌&&◌, sym, ap, subst, ◌∙◌, arith, inl, inr}
+use Rattle.std.proofs.Common.{Bool, true, ◌&&◌, sym, ap, subst, ◌∙◌, arith, inl, inr}
 use Rattle.std.specs.List.{slice_get}
 use Rattle.std.proofs.lemmas.List.{drop_all, length-drop, length-take-le}
 use Rattle.definitions.specs.Items.{Item}
@@ -13,7 +13,9 @@ use Rattle.store_core.proofs.Packs.{first_at}
 use Rattle.version_log.specs.declared.answer.Added.TheVariants.{New, Already}
 use Rattle.version_lock.specs.declared.view.View.{View}
 use Rattle.shard_core.specs.declared.shard.OneShard.{OneShard}
-use Rattle.peer_threads.specs.Workers.{PutInOrDropped, PutInAll, IsSettled, are_own, is_own}
+use Rattle.shard_core.specs.Floors.{keeps}
+use Rattle.shard_core.specs.declared.floor.Floor.{Floor}
+use Rattle.peer_threads.specs.Workers.{PutInOrDropped, PutInAll, IsSettled, Says, are_own, is_own, may_stand}
 
 -- `All xs old now out`: these were put in, and so many of them left out
 module _ {V : Type 0} (All : List Item → V → V → ℕ → Type 0) where
@@ -63,16 +65,19 @@ module _ {V : Type 0} (All : List Item → V → V → ℕ → Type 0) where
       subst (All xs old now) (omega arith) (so now 0 (subst (λ l. All l now now 0) (sym nothing) none))
 
 -- the first of what was learned, as many as are let in
-pub settled : (lets_in : ℕ → ℕ → ℕ → Type 0) (own : Option OneShard) (xs ys : List Item) (v w : View)
-    (serial size count first dropped : ℕ) → ys ≡ xs → size ≡ length ys → lets_in serial size count →
-    take first ys ≡ take count ys → first ≡ length (take count ys) → PutInAll own (take first ys) v w dropped →
-    IsSettled lets_in serial own xs v w (size - first + dropped)
-settled lets_in own xs ys v w serial size count first dropped same sized admits front counted puts =
-    subst (λ (zs : List Item). IsSettled lets_in serial own zs v w (size - first + dropped)) same (
+pub settled : (gate : Says) (own : Option OneShard) (floor : Floor) (xs ys : List Item) (v w : View)
+    (serial size count first dropped : ℕ) → ys ≡ xs → size ≡ length ys → gate.lets_in serial size count →
+    gate.floors floor → take first ys ≡ take count ys → first ≡ length (take count ys) →
+    PutInAll (may_stand own floor) (take first ys) v w dropped →
+    IsSettled gate serial own xs v w (size - first + dropped)
+settled gate own floor xs ys v w serial size count first dropped same sized admits below front counted puts =
+    subst (λ (zs : List Item). IsSettled gate serial own zs v w (size - first + dropped)) same (
       count,
       dropped,
-      subst (λ (n : ℕ). lets_in serial n count) sized admits,
-      subst (λ (zs : List Item). PutInAll own zs v w dropped) front puts,
+      floor,
+      subst (λ (n : ℕ). gate.lets_in serial n count) sized admits,
+      below,
+      subst (λ (zs : List Item). PutInAll (may_stand own floor) zs v w dropped) front puts,
       λ i. sized i - counted i + dropped,
     )
 
@@ -85,26 +90,32 @@ are_own_push own (d ∷ h) e all one =
     let parts = and_parts (is_own own d.1) (are_own own h) all in
     ap (λ b. b && are_own own (h ++ e ∷ [])) parts.0 ∙ are_own_push own h e parts.1 one
 
-one_own : (own : Option OneShard) (x : Item) (v w : View) (out : ℕ) → PutInOrDropped own x v w out →
-    are_own own v.entered ≡ true → are_own own w.entered ≡ true
-one_own own x v w out (inl (is, inl ((New version, entered), none))) all =
+-- what may be put in is of the shard
+abbrev Only : Option OneShard → (Item → Bool) → Type 0
+Only own may = (x : Item) → may x ≡ true → is_own own x ≡ true
+
+one_own : (own : Option OneShard) (may : Item → Bool) (x : Item) (v w : View) (out : ℕ) → Only own may →
+    PutInOrDropped may x v w out → are_own own v.entered ≡ true → are_own own w.entered ≡ true
+one_own own may x v w out only (inl (is, inl ((New version, entered), none))) all =
     subst (λ h. are_own own h ≡ true) (sym entered.entered.0)
-    (are_own_push own v.entered (entered.writer, x) all is)
-one_own own x v w out (inl (is, inl ((Already, looked), none))) all =
+    (are_own_push own v.entered (entered.writer, x) all (only x is))
+one_own own may x v w out only (inl (is, inl ((Already, looked), none))) all =
     subst (λ h. are_own own h ≡ true) (sym looked.0.nothing.0) all
-one_own own x v w out (inl (is, inr (full, one))) all = subst (λ h. are_own own h ≡ true) (sym full.0.nothing.0) all
-one_own own x v w out (inr (foreign, same, one)) all =
+one_own own may x v w out only (inl (is, inr (full, one))) all =
+    subst (λ h. are_own own h ≡ true) (sym full.0.nothing.0) all
+one_own own may x v w out only (inr (foreign, same, one)) all =
     subst (λ (u : View). are_own own u.entered ≡ true) (sym same) all
 
-all_own : (own : Option OneShard) (xs : List Item) (v w : View) (out : ℕ) → PutInAll own xs v w out →
-    are_own own v.entered ≡ true → are_own own w.entered ≡ true
-all_own own [] v w out (same, none) all = subst (λ (u : View). are_own own u.entered ≡ true) (sym same) all
-all_own own (x ∷ xs) v w out (inl (next, one, others, put, rest, sum)) all =
-    all_own own xs next w others rest (one_own own x v next one put all)
-all_own own (x ∷ xs) v w out (inr (memory, count)) all =
+pub all_own : (own : Option OneShard) (may : Item → Bool) (xs : List Item) (v w : View) (out : ℕ) → Only own may →
+    PutInAll may xs v w out → are_own own v.entered ≡ true → are_own own w.entered ≡ true
+all_own own may [] v w out only (same, none) all = subst (λ (u : View). are_own own u.entered ≡ true) (sym same) all
+all_own own may (x ∷ xs) v w out only (inl (next, one, others, put, rest, sum)) all =
+    all_own own may xs next w others only rest (one_own own may x v next one only put all)
+all_own own may (x ∷ xs) v w out only (inr (memory, count)) all =
     subst (λ h. are_own own h ≡ true) (sym memory.0.nothing.0) all
 
-pub settled_own : (lets_in : ℕ → ℕ → ℕ → Type 0) (serial : ℕ) (own : Option OneShard) (xs : List Item) (v w : View)
-    (left : ℕ) → IsSettled lets_in serial own xs v w left → are_own own v.entered ≡ true → are_own own w.entered ≡ true
-settled_own lets_in serial own xs v w left (count, dropped, lets, puts, is) all =
-    all_own own (take count xs) v w dropped puts all
+pub settled_own : (gate : Says) (serial : ℕ) (own : Option OneShard) (xs : List Item) (v w : View) (left : ℕ) →
+    IsSettled gate serial own xs v w left → are_own own v.entered ≡ true → are_own own w.entered ≡ true
+settled_own gate serial own xs v w left (count, dropped, floor, lets, below, puts, is) all =
+    all_own own (may_stand own floor) (take count xs) v w dropped
+    (λ x stands. (and_parts (is_own own x) (keeps floor x) stands).0) puts all

@@ -2,7 +2,8 @@
 
 ghost use Rattle.std.specs.Prelude.{◌≡◌, ◌≤◌, ◌+◌, ℕ, List, length};
 ghost use Rattle.std.specs.Arc.{arc_value};
-ghost use Rattle.definitions.specs.Items.{IsBytes};
+ghost use Rattle.definitions.specs.Items.{IsBytes, Item};
+ghost use Rattle.definitions.specs.Sets.{IsSet};
 ghost use Rattle.definitions.specs.Histories.{History, content};
 ghost use Rattle.definitions.specs.Ranks.{rank_by};
 ghost use Rattle.definitions.specs.Engines.{initiating, responding};
@@ -15,10 +16,10 @@ use strategy_check::Accepted;
 /// A side that goes by an accepted strategy sends few messages and short lists, and learns just what the messages that
 /// it takes say, whatever the bytes are that it reads.
 pub(crate) fn sides_keep_bounds<F: Summary>(accepted: &Arc<Accepted>)
-    ensures initiator { (h : History) (bytes : List ℕ) → IsBytes bytes →
-        length (content h) ≤ (arc_value accepted.now).table.cap →
-        KeepsBounds F.summary F.profile (initiating F.summary (peer_of (arc_value accepted.now) (content h))) bytes
-        (rank_by (arc_value accepted.now).steps (length (content h)) + 2) (arc_value accepted.now).table.limit }
+    ensures initiator { (A : List Item) (bytes : List ℕ) → IsBytes bytes → IsSet A →
+        length A ≤ (arc_value accepted.now).table.cap →
+        KeepsBounds F.summary F.profile (initiating F.summary (peer_of (arc_value accepted.now) A)) bytes
+        (rank_by (arc_value accepted.now).steps (length A) + 2) (arc_value accepted.now).table.limit }
     ensures responder { (h : History) (bytes : List ℕ) → IsBytes bytes →
         length (content h) ≤ (arc_value accepted.now).table.cap →
         KeepsBounds F.summary F.profile (responding (peer_of (arc_value accepted.now) (content h))) bytes

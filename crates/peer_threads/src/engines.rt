@@ -287,7 +287,7 @@ fn speak<T: Wait, G: Gate, P: Role, S: RangeStore, R: Read, W: Write, F: Summary
 }
 
 /// The side that speaks first, with the version that it speaks of.
-fn initiate<T: Wait, S: RangeStore, G: Gate, R: Read, W: Write, F: Summary>(
+pub(crate) fn initiate<T: Wait, S: RangeStore, G: Gate, R: Read, W: Write, F: Summary>(
     host: &Host<'_, T, G>,
     pin: Pin<S>,
     connection: &mut Connection<R, W>,
@@ -431,42 +431,5 @@ pub fn serve_one<T: Wait, S: RangeStore, G: Gate, R: Read, W: Write>(
         serve_after::<T, S, G, R, W, Counted>(rt, alloc, shared, seat, hello, connection)
     } else {
         serve_after::<T, S, G, R, W, Fingerprint>(rt, alloc, shared, seat, hello, connection)
-    }
-}
-
-/// Speaks first to the peer on this connection, until the session ends. The seat is used for one `pin`, first of all.
-pub fn dial_one<T: Wait, S: RangeStore, G: Gate, R: Read, W: Write, F: Summary>(
-    rt: &T,
-    alloc: Global,
-    shared: &Shared<'_, S, G>,
-    seat: &mut Seat<S>,
-    connection: &mut Connection<R, W>,
-) -> Outcome
-    requires lock { seat.old.table_id ≡ shared.now.lock.now }
-    requires fits { seat.old.view.cap ≤ (arc_value shared.now.accepted.now).table.cap }
-    requires fresh { (connection.old.reader.failed ≡ false) × (connection.old.reader.ended ≡ false)
-        × (connection.old.writer.failed ≡ false) }
-    ensures seat { seat.new.table_id ≡ seat.old.table_id }
-    ensures view { Looked seat.old.view seat.new.view }
-    ensures bytes { Speaks F.summary F.profile ⊤
-        (initiating F.summary (peer_at (arc_value shared.now.accepted.now) seat.new.view))
-        (length seat.new.view.base)
-        (rank_by (arc_value shared.now.accepted.now).steps
-        (length (peer_at (arc_value shared.now.accepted.now) seat.new.view).items) + 2)
-        (arc_value shared.now.accepted.now).table.limit
-        (traffic (R.remaining connection.old.reader.inner) (R.remaining connection.new.reader.inner)
-        (W.contents connection.old.writer.inner)
-        (W.contents connection.new.writer.inner)) (seen connection.new.reader.failed connection.new.reader.ended)
-        (seen connection.new.writer.failed connection.new.writer.ended) result }
-    ensures version { HasVersion result (length seat.new.view.base) }
-    ensures reads { connection.new.reader.reads ≤ connection.old.reader.reads + 2 ^ 32 }
-    ensures fared { HasFared connection.old.reader.reads connection.new.reader.failed connection.new.reader.reads
-        result }
-{
-    sides_keep_bounds::<F>(shared.accepted);
-    let host = Host::of(rt, alloc, shared);
-    match shared.lock.pin(rt, alloc, seat) {
-        Ok(pin) => initiate::<T, S, G, R, W, F>(&host, pin, connection),
-        Err(AllocError) => stopped(Sender::<F>::new(), &mut connection.writer, Stop::Memory),
     }
 }

@@ -4,6 +4,7 @@
 mod booking;
 mod bounds;
 mod connection;
+mod dial;
 mod ending;
 mod engines;
 mod gate;
@@ -22,7 +23,8 @@ mod worker;
 mod workers;
 
 pub use connection::Connection;
-pub use engines::{dial_one, serve_one};
+pub use dial::{dial_one, dial_pinned};
+pub use engines::serve_one;
 pub use gate::{Gate, OpenGate};
 pub use kind::kind_of;
 pub use session_table::{Direction, Outcome, Source, SourceFault, WorkersReport};

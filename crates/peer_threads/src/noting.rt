@@ -3,6 +3,7 @@
 use crate::gate::Gate;
 use item_core::Item;
 use session_table::Outcome;
+use shard_core::Floor;
 use std::sync::OnceLock;
 use version_log::LogFault;
 
@@ -35,6 +36,8 @@ impl<G: Gate> Gate for Noting<'_, G> {
 
     ghost lets_in = { λ n. G.lets_in n.gate.now };
 
+    ghost floors = { λ n. G.floors n.gate.now };
+
     fn pass(&self, serial: u64, sent: u32) -> bool {
         self.gate.pass(serial, sent)
     }
@@ -46,6 +49,14 @@ impl<G: Gate> Gate for Noting<'_, G> {
 
     fn admits(&self, serial: u64, count: usize) -> usize {
         self.gate.admits(serial, count)
+    }
+
+    fn floor(&self) -> Floor {
+        self.gate.floor()
+    }
+
+    fn is_below(&self, item: &Item) {
+        self.gate.is_below(item);
     }
 
     fn took(&self, item: &Item) {

@@ -10,7 +10,7 @@ ghost use Rattle.session_table.specs.declared.outcome.Outcome as outcomes;
 ghost use Rattle.peer_threads.specs.Choices.{ChosenSpeaks};
 ghost use Rattle.peer_threads.specs.Outcomes.{traffic, seen, peer_at};
 ghost use Rattle.peer_threads.specs.Workers.{MayWork, PutIn, PutInAll, IsSettled, LookedOrNot, Taught, PutsInLearned};
-ghost use Rattle.peer_threads.specs.Workers.{PutInOrDropped, PutInOrFull, are_own, is_own, learned_in};
+ghost use Rattle.peer_threads.specs.Workers.{PutInOrDropped, PutInOrFull, are_own, is_own, learned_in, may_stand, says};
 ghost use Rattle.version_log.specs.declared.answer.LogFault.TheVariants.{Memory};
 
 use crate::connection::Connection;
@@ -21,7 +21,7 @@ use crate::shared::Shared;
 use ends_core::Learned;
 use item_core::Item;
 use session_table::{Outcome, Source, SourceFault};
-use shard_core::OneShard;
+use shard_core::{Floor, OneShard};
 use std::alloc::{AllocError, Global};
 use std::io::{Read, Write};
 use std::sync::{OnceLock, Wait};
@@ -138,7 +138,8 @@ fn serve<T: Wait, S: RangeStore, G: Gate, R: Read + Drop, W: Write + Drop>(
         (traffic (R.remaining connection.reader.inner) (R.remaining result.reader.inner)
         (W.contents connection.writer.inner) (W.contents result.writer.inner))
         (seen result.reader.failed result.reader.ended) (seen result.writer.failed result.writer.ended) o
-        × PutsInLearned (G.lets_in shared.now.gate.now) o between seat.new.view }
+        × PutsInLearned (says (G.lets_in shared.now.gate.now) (G.floors shared.now.gate.now)) o between
+        seat.new.view }
 {
     if let Some((serial, learned)) = talk_to(rt, alloc, shared, seat, &mut connection) {
         let harvest = Harvest {
@@ -202,9 +203,16 @@ pub struct Harvest<'a> {
     pub learned: &'a Learned,
 }
 
+/// What may be put into a log: the items of its shard that are not below the floor.
+#[derive(Clone, Copy)]
+struct Scope {
+    own: Option<OneShard>,
+    floor: Floor,
+}
+
 /// Puts into the log what the gate admits of the items that a session learned of its peer, in the order learned, and
-/// tells the gate how many are left out. An item of another shard, or for which there is no room, is dropped; where
-/// memory runs out, so are all that are left. How many are left out.
+/// tells the gate how many are left out. An item of another shard, one that is below the floor, or one for which there
+/// is no room, is dropped; where memory runs out, so are all that are left. How many are left out.
 pub fn settle<T: Wait, S: RangeStore, G: Gate>(
     rt: &T,
     alloc: Global,
@@ -216,8 +224,8 @@ pub fn settle<T: Wait, S: RangeStore, G: Gate>(
     requires enrolled { IsSome seat.old.view.writer }
     ensures seat { seat.new.table_id ≡ seat.old.table_id }
     ensures kept { (seat.new.view.writer ≡ seat.old.view.writer) × (seat.new.view.cap ≡ seat.old.view.cap) }
-    ensures put { IsSettled (G.lets_in shared.now.gate.now) harvest.entry.serial harvest.entry.own
-        harvest.entry.learned.now.theirs seat.old.view seat.new.view result }
+    ensures put { IsSettled (says (G.lets_in shared.now.gate.now) (G.floors shared.now.gate.now)) harvest.entry.serial
+        harvest.entry.own harvest.entry.learned.now.theirs seat.old.view seat.new.view result }
     // What it has entered before was of the shard, and so all is.
     ensures own { are_own harvest.entry.own seat.old.view.entered ≡ true →
         are_own harvest.entry.own seat.new.view.entered ≡ true }
@@ -230,7 +238,11 @@ pub fn settle<T: Wait, S: RangeStore, G: Gate>(
     let theirs = learned.theirs();
     let count = theirs.len();
     let admitted = count_of_first(theirs, shared.gate.admits(serial, count));
-    let dropped = add_first(rt, alloc, shared, seat, own, theirs, admitted);
+    let scope = Scope {
+        own,
+        floor: shared.gate.floor(),
+    };
+    let dropped = add_first(rt, alloc, shared, seat, &scope, theirs, admitted);
     let left_out = count - admitted + dropped;
     shared.gate.settled(serial, left_out);
     left_out
@@ -245,14 +257,14 @@ fn count_of_first(items: &PackedItems, count: usize) -> usize
     count.min(items.len())
 }
 
-// Adds the first so many of the items to the log, in order. One of another shard, or for which there is no room, is
-// dropped. Where memory runs out it stops, and all that are left of them are dropped. How many were dropped.
+// Adds the first so many of the items to the log, in order. One that is not in the scope, or for which there is no room,
+// is dropped. Where memory runs out it stops, and all that are left of them are dropped. How many were dropped.
 fn add_first<T: Wait, S: RangeStore, G: Gate>(
     rt: &T,
     alloc: Global,
     shared: &Shared<'_, S, G>,
     seat: &mut Seat<S>,
-    own: Option<OneShard>,
+    scope: &Scope,
     items: &PackedItems,
     first: usize,
 ) -> usize
@@ -262,11 +274,11 @@ fn add_first<T: Wait, S: RangeStore, G: Gate>(
     ensures seat { seat.new.table_id ≡ seat.old.table_id }
     ensures kept { (seat.new.view.writer ≡ seat.old.view.writer) × (seat.new.view.cap ≡ seat.old.view.cap) }
     ensures dropped { result ≤ first }
-    ensures put { PutInAll own (take first items.now) seat.old.view seat.new.view result }
+    ensures put { PutInAll (may_stand scope.now.own scope.now.floor) (take first items.now) seat.old.view seat.new.view result }
 {
     let mut dropped = 0;
     for place in 0..first {
-        match add_own(rt, alloc, shared, seat, own, &items.item(place)) {
+        match add_own(rt, alloc, shared, seat, scope, &items.item(place)) {
             Ok(count) => dropped += count,
             Err(AllocError) => {
                 let left = first - place;
@@ -288,13 +300,13 @@ fn is_own(own: Option<OneShard>, item: &Item) -> bool
     }
 }
 
-// Adds the item to the log, if it is of this shard. How many were dropped.
+// Adds the item to the log, if it is of this shard and not below the floor. How many were dropped.
 fn add_own<T: Wait, S: RangeStore, G: Gate>(
     rt: &T,
     alloc: Global,
     shared: &Shared<'_, S, G>,
     seat: &mut Seat<S>,
-    own: Option<OneShard>,
+    scope: &Scope,
     item: &Item,
 ) -> Result<usize, AllocError>
     requires lock { seat.old.table_id ≡ shared.now.lock.now }
@@ -302,10 +314,14 @@ fn add_own<T: Wait, S: RangeStore, G: Gate>(
     ensures seat { seat.new.table_id ≡ seat.old.table_id }
     ensures kept { (seat.new.view.writer ≡ seat.old.view.writer) × (seat.new.view.cap ≡ seat.old.view.cap) }
     ensures few { IfOk result (λ count. count ≤ 1) }
-    ensures put { IfOk result (PutInOrDropped own item.now seat.old.view seat.new.view) }
+    ensures put { IfOk result (PutInOrDropped (may_stand scope.now.own scope.now.floor) item.now seat.old.view seat.new.view) }
     ensures memory { OnErr result (DidNotInsert item.now seat.old.view Memory seat.new.view) }
 {
-    if !is_own(own, item) {
+    if !is_own(scope.own, item) {
+        return Ok(1);
+    }
+    if !scope.floor.keeps(item) {
+        shared.gate.is_below(item);
         return Ok(1);
     }
     add_or_drop(rt, alloc, shared, seat, item)

@@ -32,8 +32,8 @@ pub use progress::{
 pub use refusal::{Refusal, STANDARD_INPUT};
 pub use serve::{
     Cause, tell_address, tell_dropped, tell_full, tell_in_memory, tell_left_out, tell_left_waiting,
-    tell_not_followed, tell_partner_away, tell_partner_back, tell_partner_refused, tell_replaced,
-    tell_torn, tell_unwritten, tell_unwritten_cause, tell_written_again,
+    tell_no_time, tell_not_followed, tell_partner_away, tell_partner_back, tell_partner_refused,
+    tell_replaced, tell_torn, tell_unwritten, tell_unwritten_cause, tell_written_again,
 };
 pub use serve_files::{Reporting, SessionName, learned_line, left_out_line, report_text};
 pub use sessions::{
@@ -46,6 +46,6 @@ pub use sync_stats::{Stats, Tally, tell_stats};
 pub use warning::tell_stray_key;
 pub use why::{Origin, OtherSide, Why, tell_why};
 pub use words::{
-    tell_name_flaw, tell_no_control, tell_no_text, tell_node_flaw, tell_part_flaw, tell_shard_flaw,
-    tell_stdio_flaw, tell_words,
+    tell_floor_flaw, tell_name_flaw, tell_no_control, tell_no_text, tell_node_flaw, tell_part_flaw,
+    tell_shard_flaw, tell_stdio_flaw, tell_words,
 };

@@ -4,7 +4,10 @@ ghost use Rattle.std.specs.Prelude.{◌≡◌};
 ghost use Rattle.printing_core.specs.Causes.{cause_of};
 
 use crate::fault::Fault;
+use crate::item_text::push_item;
 use crate::shown::shown_line;
+use item_core::Item;
+use item_files::ItemForm;
 use std::alloc::Global;
 use std::fmt;
 use std::io::{ErrorKind, Write};
@@ -136,6 +139,14 @@ pub fn tell_full<E: Write>(err: &mut E, items: usize) {
         err,
         "the set is full with {items}: what peers have beside them is dropped"
     );
+}
+
+/// Prints that an item has no time, so that it is below every floor. A line that is not taken changes nothing.
+pub fn tell_no_time<E: Write>(alloc: Global, err: &mut E, form: ItemForm, item: &Item) {
+    let mut text = String::new(alloc);
+    if push_item(alloc, &mut text, form, item).is_ok() {
+        let _told = writeln!(err, "not kept, since it does not begin with a time: {text}");
+    }
 }
 
 /// Prints that a partner is not reached, or that its session was cut off. A line that is not taken changes nothing.

@@ -4,7 +4,7 @@ ghost use Rattle.std.specs.Prelude.{◌≡◌};
 ghost use Rattle.printing_core.specs.FaultsOf.{IsWordsStatus};
 
 use crate::fault::{Fault, tell};
-use settings_core::{NodeFlaw, PartFlaw, ShardFlaw, StdioFlaw, WordsFault};
+use settings_core::{FloorFlaw, NodeFlaw, PartFlaw, ShardFlaw, StdioFlaw, WordsFault};
 use std::io::Write;
 
 /// The status of a call whose words ask for nothing that is done.
@@ -32,6 +32,16 @@ pub fn tell_shard_flaw<E: Write + Drop>(err: E, flaw: ShardFlaw) -> u8
 /// Prints why a call does not speak of a part of a set as its words ask for it, and gives the status. A line that is not
 /// taken changes nothing.
 pub fn tell_part_flaw<E: Write + Drop>(err: E, flaw: PartFlaw) -> u8
+    ensures { result ≡ 2 }
+{
+    let mut err = err;
+    let _told = writeln!(err, "{flaw}");
+    USAGE_STATUS
+}
+
+/// Prints why a server does not forget items as its words ask for it, and gives the status. A line that is not taken
+/// changes nothing.
+pub fn tell_floor_flaw<E: Write + Drop>(err: E, flaw: FloorFlaw) -> u8
     ensures { result ≡ 2 }
 {
     let mut err = err;

@@ -5,7 +5,7 @@ ghost use Rattle.rangesync.specs.Done.{IsChecking};
 
 use settings_core::{
     Address, CONTROL_PORT, Command, DEFAULT_PORT, METRICS_PORT, NO_ADDRESS, NewsWords, PutWords,
-    ServeWords, StatusWords, StopWords, SyncWords, address_of, whole_address,
+    ServeWords, StatusWords, StopWords, SyncWords, WEBSOCKET_PORT, address_of, whole_address,
 };
 use std::alloc::{AllocError, Global};
 
@@ -36,6 +36,8 @@ pub struct Addresses {
     sessions: String,
     /// Of metrics, if they are asked for.
     metrics: Option<String>,
+    /// Of browsers, if they may connect.
+    websocket: Option<String>,
     /// Of the partners, with a comma between two, if there are any.
     partners: Option<String>,
     /// Of this machine's own programs, if they are answered.
@@ -62,9 +64,10 @@ fn partners_of(alloc: Global, partners: Option<&str>) -> Result<Option<String>, 
     }
 }
 
-/// Where a server listens for peers. One with partners that nobody may call listens nowhere: the word stays.
+/// Where a server listens for peers. One with partners or browsers that nobody else may call listens nowhere: the word
+/// stays.
 fn listened_at(alloc: Global, words: ServeWords<'_>) -> Result<String, AllocError> {
-    if words.partners.is_some() && words.address == NO_ADDRESS {
+    if words.may_be_alone() && words.address == NO_ADDRESS {
         return String::from_str(alloc, NO_ADDRESS);
     }
     with_port(alloc, words.address, DEFAULT_PORT)
@@ -75,6 +78,7 @@ fn server_addresses(alloc: Global, words: ServeWords<'_>) -> Result<Addresses, A
     Ok(Addresses {
         sessions: listened_at(alloc, words)?,
         metrics: any_with_port(alloc, words.metrics, METRICS_PORT)?,
+        websocket: any_with_port(alloc, words.websocket, WEBSOCKET_PORT)?,
         partners: partners_of(alloc, words.partners)?,
         control: any_with_port(alloc, words.control, CONTROL_PORT)?,
     })
@@ -90,6 +94,7 @@ fn asker_addresses(alloc: Global, words: SyncWords<'_>) -> Result<Addresses, All
     Ok(Addresses {
         sessions,
         metrics: None,
+        websocket: None,
         partners: None,
         control: None,
     })
@@ -104,13 +109,14 @@ fn door_addresses(
     Ok(Addresses {
         sessions: String::new(alloc),
         metrics: None,
+        websocket: None,
         partners: None,
         control: any_with_port(alloc, given.or(usual), CONTROL_PORT)?,
     })
 }
 
-/// Where a command listens or connects: 7700 is the port of an address that has none, 7702 that of metrics, and 7707
-/// that of this machine's own programs, which have a usual address.
+/// Where a command listens or connects: 7700 is the port of an address that has none, 7708 that of
+/// browsers, 7702 that of metrics, and 7707 that of this machine's own programs, which have a usual address.
 pub fn addresses_of(
     alloc: Global,
     command: Command<'_>,
@@ -148,6 +154,7 @@ pub fn at_addresses<'a>(command: Command<'a>, addresses: &'a Addresses) -> Comma
         Command::Serve(words) => Command::Serve(ServeWords {
             address: &addresses.sessions,
             metrics: addresses.metrics.as_deref(),
+            websocket: addresses.websocket.as_deref(),
             partners: addresses.partners.as_deref(),
             control: addresses.control.as_deref(),
             ..words

@@ -12,23 +12,25 @@ use crate::answering::answer_for;
 use crate::checking::check_table;
 use crate::naming::{set_of, told_of};
 use crate::planning::plan;
-use crate::sharding::{range_of, shards_of};
+use crate::sharding::{forgets_of, range_of, shards_of};
 use crate::simulating::sim;
 use crate::stdio::{flaw_of, node_flaw_of};
 use client::{news, put, status, stop, sync_as_asked};
 use item_core::Range;
-use loading::Target;
+use loading::{Target, floor_at, seconds_now};
 use printing_core::{
-    Fault, Refusal, Why, tell, tell_name_flaw, tell_no_control, tell_node_flaw, tell_part_flaw,
-    tell_shard_flaw, tell_stdio_flaw, tell_why, tell_words,
+    Fault, Refusal, Why, tell, tell_floor_flaw, tell_name_flaw, tell_no_control, tell_node_flaw,
+    tell_part_flaw, tell_shard_flaw, tell_stdio_flaw, tell_why, tell_words,
 };
 use server::{Loops, Outputs, serve_as_asked};
-use settings_core::{Call, Command, read_words};
+use settings_core::{Call, Command, FloorRule, read_words};
+use shard_core::Floor;
 use std::alloc::{AllocError, Global};
 use std::convert::AsStr;
 use std::fs::File;
 use std::io::{Read, Write};
 use std::rt::Files;
+use std::time::Clock;
 
 /// Does what the words ask for, and gives the status.
 fn obey<'a, R, I: Read + Drop, O: Write + Drop, E: Write + Drop + Send>(
@@ -134,6 +136,16 @@ fn places_of(
     })
 }
 
+/// Which items are meant: those of a range, if one is given, else those that are not forgotten now.
+fn kept_of<R: Clock>(rt: &R, part: Option<Range>, forgets: FloorRule) -> Floor
+    ensures part { IfSome part (λ range. result.range ≡ range) }
+{
+    match part {
+        Some(range) => Floor::within(range),
+        None => floor_at(forgets, seconds_now(rt)),
+    }
+}
+
 /// Does what the words ask for, which can be done together, and gives the status.
 fn run_at<'a, R, I: Read + Drop, O: Write + Drop, E: Write + Drop + Send>(
     rt: &'a R,
@@ -194,6 +206,10 @@ where
         Ok(part) => part,
         Err(flaw) => return tell_part_flaw(err, flaw),
     };
+    let forgets = match forgets_of(command) {
+        Ok(forgets) => forgets,
+        Err(flaw) => return tell_floor_flaw(err, flaw),
+    };
     let places = match places_of(rt.alloc(), command, usual) {
         Ok(places) => places,
         Err(refused) => return tell(err, Fault::from(refused)),
@@ -206,11 +222,12 @@ where
     if lacks_door(command) {
         return tell_no_control(err);
     }
-    let range = part.unwrap_or(Range::whole());
+    let kept = kept_of(rt, part, forgets);
     let target = Target {
         set,
         sharding,
-        part: &range,
+        kept: &kept,
+        forgets: &forgets,
         shows: is_terminal,
         explains: explains || is_terminal,
     };

@@ -1,12 +1,13 @@
-//! Which shards a command speaks of, and which part of their items.
+//! Which shards a command speaks of, which part of their items, and which of them a server forgets.
 
 ghost use Rattle.std.specs.Prelude.{◌≡◌, IfSome};
 ghost use Rattle.settings_core.specs.Spans.{AreInSpan, IsShardBits};
-ghost use Rattle.rangesync.specs.Ranges.{range_asked};
+ghost use Rattle.rangesync.specs.Ranges.{forgotten_asked, range_asked};
 
 use item_core::Range;
 use settings_core::{
-    Command, PartFlaw, PartWords, ShardFlaw, ShardWords, Sharding, part_of, sharding_of,
+    Command, FloorFlaw, FloorRule, FloorWords, PartFlaw, PartWords, ShardFlaw, ShardWords,
+    Sharding, floor_rule_of, part_of, sharding_of,
 };
 
 /// A command that has nothing to do with shards.
@@ -59,5 +60,20 @@ pub fn range_of(command: Command<'_>) -> Result<Option<Range>, PartFlaw>
             is_stdio: words.stdio,
         }),
         _ => Ok(None),
+    }
+}
+
+/// Which items a command forgets: those of a server may be told.
+pub fn forgets_of(command: Command<'_>) -> Result<FloorRule, FloorFlaw>
+    ensures { result ≡ forgotten_asked command.entry }
+{
+    match command {
+        Command::Serve(words) => floor_rule_of(FloorWords {
+            form: words.form,
+            not_below: words.not_below,
+            newest: words.newest,
+            time_form: words.time_form,
+        }),
+        _ => Ok(FloorRule::none()),
     }
 }

@@ -29,6 +29,8 @@ pub fn node_flaw_of(command: Command<'_>) -> Option<NodeFlaw> {
         partners: words.partners,
         has_every: words.every.is_some(),
         control: words.control,
+        has_pages: words.websocket.is_some(),
+        has_origins: words.origin.is_some(),
         is_stdio: words.stdio,
     })
 }

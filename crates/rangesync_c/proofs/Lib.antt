@@ -4,3 +4,7 @@ pub mod Pulled
 pub mod SetFaults
 pub mod NoSets
 pub mod AsBox
+pub mod ShardSets
+pub mod NotSplit
+pub mod ReadShards
+pub mod ToldShards

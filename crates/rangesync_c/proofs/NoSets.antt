@@ -29,3 +29,4 @@ no-set (things.Strategy x) kind form text b set code owner from refused memory f
 no-set (things.Set x) kind form text b set code owner from refused memory fails = tt
 no-set (things.Version x) kind form text b set code owner from refused memory fails = tt
 no-set (things.Session x) kind form text b set code owner from refused memory fails = tt
+no-set (things.Shards x) kind form text b set code owner from refused memory fails = tt

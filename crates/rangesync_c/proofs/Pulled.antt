@@ -82,6 +82,7 @@ of-thing (things.Session s) t u most front room made taken copied = absurd made
 of-thing (things.Strategy x) t u most front room made taken copied = tt
 of-thing (things.Set x) t u most front room made taken copied = tt
 of-thing (things.Version x) t u most front room made taken copied = tt
+of-thing (things.Shards x) t u most front room made taken copied = tt
 
 -- of a handle, where so many bytes are said to have been moved
 pub pulled : (before ready after : Thing) (most used : ℕ) (front room : List ℕ) → length front ≡ used →
@@ -103,3 +104,4 @@ all-pulled (things.Session s) t most used front all made = absurd made
 all-pulled (things.Strategy x) t most used front all made = tt
 all-pulled (things.Set x) t most used front all made = tt
 all-pulled (things.Version x) t most used front all made = tt
+all-pulled (things.Shards x) t most used front all made = tt

@@ -1,9 +1,9 @@
 -- Why a call is refused.
 --     embedded_fault_number f                the number of a refusal
---     of_settings, of_log                    the faults of other crates
+--     of_settings, of_log, of_split          the faults of other crates
 --     IsUnfit text f                     the text holds no accepted strategy, for this reason
 --     IsStrategy of text result          what a text gives: its strategy, accepted; or why not
-use Rattle.std.specs.Prelude.{◌≡◌, ℕ, List, Result, Ok, Err, ⊤}
+use Rattle.std.specs.Prelude.{ℕ, List, Result, Ok, Err, ⊤}
 use Rattle.definitions.specs.Refusals as codes
 use Rattle.item_core.specs.declared.item.LengthFault.{LengthFault}
 use Rattle.item_core.specs.declared.item.LengthFault.TheVariants as lengths
@@ -15,6 +15,8 @@ use Rattle.item_files.specs.declared.fault.SettingsFault.{SettingsFault}
 use Rattle.item_files.specs.declared.fault.SettingsFault.TheVariants as settings
 use Rattle.version_log.specs.declared.answer.LogFault.{LogFault}
 use Rattle.version_log.specs.declared.answer.LogFault.TheVariants as logs
+use Rattle.shard_core.specs.declared.fault.SplitFault.{SplitFault}
+use Rattle.shard_core.specs.declared.fault.SplitFault.TheVariants as splits
 use Rattle.rangesync_c.specs.declared.fault.EmbeddedFault.{EmbeddedFault}
 use Rattle.rangesync_c.specs.declared.fault.EmbeddedFault.TheVariants as faults
 
@@ -45,6 +47,10 @@ of_settings settings.Memory = faults.Memory
 abbrev pub of_log : LogFault → EmbeddedFault
 of_log logs.Full = faults.Full
 of_log logs.Memory = faults.Memory
+
+abbrev pub of_split : SplitFault → EmbeddedFault
+of_split (splits.TooManyItems shard) = faults.TooManyItems
+of_split splits.Memory = faults.Memory
 
 -- the text holds no strategy, or one that is not accepted, for this reason; or memory ran out
 abbrev pub IsUnfit : List ℕ → EmbeddedFault → Type 0

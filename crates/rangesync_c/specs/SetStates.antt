@@ -1,6 +1,7 @@
 -- A set of items under a strategy, and a version of it.
 --     SetState, set_by a h           a checked table, and a history of at most as many items as its cap
 --     VersionState                   a checked table, and items
+--     part_in v X                    the version of those of its items that a range holds
 --     newest s                       the version of a set that is the newest
 --     IsSetFrom form text a result   what an item file's text gives: the set of its items, or why not
 --     between lower upper            the range between these bytes, where none are the start and the end
@@ -12,7 +13,7 @@ use Rattle.std.specs.Prelude.{◌≡◌, ℕ, ◌≤◌, ◌<◌, ◌⊎◌, Boo
 use Rattle.std.specs.Prelude.{Result, Ok, Err, IsTrue, IsFalse, ⊤}
 use Rattle.definitions.specs.Items.{Item, Range, is_below}
 use Rattle.item_core.specs.declared.item.LengthFault.TheVariants as lengths
-use Rattle.definitions.specs.Sets.{set_of}
+use Rattle.definitions.specs.Sets.{set_of, items_in}
 use Rattle.definitions.specs.Histories.{History, content, opening_history, insertion, history_after}
 use Rattle.definitions.specs.Histories.{Insertion, New, Already, Full}
 use Rattle.strategy_check.specs.Checked.{Checked}
@@ -32,6 +33,9 @@ set_by a h = record { accepted = a; history = h }
 pub record VersionState : Type 0 where
   pub accepted : Checked
   pub items : List Item
+
+abbrev pub part_in : VersionState → Range → VersionState
+part_in v X = record { accepted = v.accepted; items = items_in v.items X }
 
 -- before the item of these bytes; to the end where there are none
 abbrev pub upper_of : List ℕ → Option (List ℕ)

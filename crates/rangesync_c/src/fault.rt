@@ -1,11 +1,12 @@
 //! Why a call is refused.
 
 ghost use Rattle.std.specs.Prelude.{◌≡◌, ◌<◌};
-ghost use Rattle.rangesync_c.specs.Faults.{embedded_fault_number, of_settings, of_log};
+ghost use Rattle.rangesync_c.specs.Faults.{embedded_fault_number, of_settings, of_log, of_split};
 ghost use Rattle.rangesync_c.specs.declared.fault.EmbeddedFault.TheVariants as faults;
 
 use item_core::{EmptyRange, LengthFault};
 use item_files::SettingsFault;
+use shard_core::SplitFault;
 use std::alloc::{AllocError, AllocFailed};
 use strategy_check::CheckFault;
 use strategy_core::StrategyFlaw;
@@ -28,7 +29,7 @@ pub enum EmbeddedFault {
     EmptyRange,
     /// A line of an item file is no item: 81.
     BadItemLine,
-    /// An item file has more different items than the cap: 82.
+    /// An item file has more different items than the cap, in all or in one shard: 82.
     TooManyItems,
     /// Memory ran out: 90.
     Memory,
@@ -92,6 +93,17 @@ impl From<SettingsFault> for EmbeddedFault {
             SettingsFault::Strategy(flaw) => EmbeddedFault::Strategy(flaw),
             SettingsFault::Check(fault) => EmbeddedFault::Check(fault),
             SettingsFault::CannotRead(_) | SettingsFault::Memory => EmbeddedFault::Memory,
+        }
+    }
+}
+
+impl From<SplitFault> for EmbeddedFault {
+    ghost from_gives = { λ f e. e ≡ of_split f };
+
+    fn from(fault: SplitFault) -> EmbeddedFault {
+        match fault {
+            SplitFault::TooManyItems { shard: _ } => EmbeddedFault::TooManyItems,
+            SplitFault::Memory => EmbeddedFault::Memory,
         }
     }
 }

@@ -1,4 +1,4 @@
-//! What C holds: a pointer, which owns a strategy, a set, a version of a set, or a session.
+//! What C holds: a pointer, which owns a strategy, a set, a version of a set, a session, or a set in shards.
 
 ghost use Rattle.std.specs.Prelude.{◌≡◌, ◌≢◌, Option, Some};
 ghost use Rattle.rangesync_c.specs.declared.held.Thing.{Thing};
@@ -7,6 +7,7 @@ ghost use Rattle.rangesync_c.specs.Owned.{held_owns, slot_owns};
 use crate::any_session::AnySession;
 use crate::loose::Loose;
 use crate::set::{Set, Version};
+use crate::sharded::Shards;
 use std::alloc::Global;
 use std::marker::Model;
 use std::sync::Arc;
@@ -23,6 +24,8 @@ pub enum Thing {
     Version(Version),
     /// A session.
     Session(AnySession),
+    /// A set of any size, in shards.
+    Shards(Shards),
 }
 
 /// A handle: to C a struct of one pointer.

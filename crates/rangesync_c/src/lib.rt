@@ -3,9 +3,12 @@
 #![tactic(auto)]
 
 mod any_session;
+mod asked;
 mod between;
 mod codes;
+mod differing;
 mod fault;
+mod front;
 mod held;
 mod items;
 mod learned;
@@ -13,6 +16,9 @@ mod loose;
 mod sessions;
 mod set;
 mod sets;
+mod sharded;
+mod shards;
+mod stores;
 mod strategies;
 mod strategy;
 mod versions;

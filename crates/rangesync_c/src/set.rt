@@ -6,7 +6,7 @@ ghost use Rattle.definitions.specs.Items.{Item as Bytes};
 ghost use Rattle.definitions.specs.Sets.{has, items_in};
 ghost use Rattle.definitions.specs.Histories.{content};
 ghost use Rattle.range_tree.specs.Trees.{tree_items};
-ghost use Rattle.rangesync_c.specs.SetStates.{set_by, newest, Inserts, IsSetFrom};
+ghost use Rattle.rangesync_c.specs.SetStates.{set_by, newest, part_in, Inserts, IsSetFrom};
 
 use crate::fault::EmbeddedFault;
 use item_core::{Item, Range};
@@ -107,11 +107,28 @@ impl Set {
 }
 
 impl Version {
+    /// The version of these items.
+    pub(crate) fn of(accepted: Arc<Accepted>, store: Tree) -> Version
+        requires { length (tree_items store) ≤ (arc_value accepted).table.cap }
+        ensures { result ≡ record { accepted = arc_value accepted; items = tree_items store } }
+    {
+        Version { accepted, store }
+    }
+
     /// The same version again.
     pub fn copy(&self, alloc: Global) -> Result<Version, AllocError>
         ensures { IfOk result (λ v. v ≡ self.now) }
     {
         let store = self.store.copy(alloc)?;
+        let accepted = Arc::try_clone(&self.accepted)?;
+        Ok(Version { accepted, store })
+    }
+
+    /// The version of its items in a range. No item is hashed.
+    pub fn part(&self, alloc: Global, range: &Range) -> Result<Version, AllocError>
+        ensures { IfOk result (λ v. v ≡ part_in self.now range.now) }
+    {
+        let store = self.store.part(alloc, range)?;
         let accepted = Arc::try_clone(&self.accepted)?;
         Ok(Version { accepted, store })
     }

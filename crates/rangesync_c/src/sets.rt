@@ -21,7 +21,7 @@ use std::sync::Arc;
 use strategy_check::Accepted;
 
 /// The form of an item file's text: 0 for hex, 1 for text lines.
-fn form_of(number: u32) -> Option<ItemForm>
+pub(crate) fn form_of(number: u32) -> Option<ItemForm>
     ensures form { IfSome result (λ form. (form_number form ≡ number) × (number ≤ 1)) }
     ensures none { IfNone result (1 < number) }
 {

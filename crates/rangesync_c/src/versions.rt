@@ -1,18 +1,20 @@
 //! Versions of sets.
 
 ghost use Rattle.std.specs.Prelude.{◌≡◌, ◌≢◌, ◌≤◌, ◌<◌, ◌⊎◌, true, Ok, Err, Some, None, IfOk, IfErr};
-ghost use Rattle.std.specs.Prelude.{length, take, slice_get};
+ghost use Rattle.std.specs.Prelude.{IsSomeAnd, length, take, slice_get};
 ghost use Rattle.definitions.specs.Sets.{has, items_in};
-ghost use Rattle.rangesync_c.specs.SetStates.{between, AreBounds, IsNoRange};
-ghost use Rattle.rangesync_c.specs.Meaning.{IfVersion, no_version};
-ghost use Rattle.rangesync_c.specs.Meaning.{IsItemLength, IsItemFault, IsNumberOf, IsNoPlace};
+ghost use Rattle.rangesync_c.specs.SetStates.{between, part_in, AreBounds, IsNoRange};
+ghost use Rattle.rangesync_c.specs.Meaning.{IfVersion, IsVersion, no_version};
+ghost use Rattle.rangesync_c.specs.Meaning.{IsItemLength, IsItemFault, IsNumberOf, IsNoPart, IsNoPlace};
 
 use crate::between::range_between;
-use crate::codes::{FINE, NOT_THERE, OTHER_KIND};
-use crate::held::{Held, Thing};
+use crate::codes::{FINE, MEMORY, NOT_THERE, OTHER_KIND};
+use crate::held::{Held, Slot, Thing, thing_out};
 use crate::items::{item_of, write_item};
+use crate::set::Version;
 use core::mem::replace_with;
 use item_core::Item;
+use std::alloc::Global;
 
 /// How many items a version has.
 fn count_of(thing: &Thing) -> Result<usize, u32>
@@ -193,6 +195,57 @@ pub extern "C" fn rs_version_item_in(
     });
     match found {
         Ok(item) => write_item(&item, room, used),
+        Err(code) => code,
+    }
+}
+
+/// The version of those items that a version has between these bounds.
+fn part_between(alloc: Global, thing: &Thing, lower: &[u8], upper: &[u8]) -> Result<Version, u32>
+    ensures number { IfErr result (λ code. code ≢ 0) }
+    ensures part { IfVersion thing.now (λ v. IfOk result (λ part.
+        part ≡ part_in v (between lower.now upper.now))) }
+    ensures bounds { IfVersion thing.now (λ _. IfOk result (λ _. AreBounds lower.now upper.now)) }
+    ensures refused { IfVersion thing.now (λ _. IfErr result (λ code. IsNoPart lower.now upper.now code)) }
+    ensures kind { no_version thing.now ≡ true → result ≡ Err 99 }
+{
+    let Thing::Version(version) = thing else {
+        return Err(OTHER_KIND);
+    };
+    let range = match range_between(lower, upper) {
+        Ok(range) => range,
+        Err(fault) => return Err(u32::from(fault.number())),
+    };
+    match version.part(alloc, &range) {
+        Ok(part) => Ok(part),
+        Err(_) => Err(MEMORY),
+    }
+}
+
+/// Makes a handle of the version of those items that a version has from the lower bound on and before the upper one;
+/// the version stays as it is. 72 and 73 as `rs_version_count_in`, and else 90.
+#[unsafe(no_mangle)]
+pub extern "C" fn rs_version_part(
+    alloc: Global,
+    version: &mut Held,
+    lower: &[u8],
+    upper: &[u8],
+    out: &mut Slot,
+) -> u32
+    ensures part { result ≡ 0 → IfVersion version.old.value (λ v. IsSomeAnd out.new.value (λ made.
+        IsVersion made (λ part. part ≡ part_in v (between lower.now upper.now)))) }
+    ensures bounds { result ≡ 0 → IfVersion version.old.value (λ _. AreBounds lower.now upper.now) }
+    ensures refused { result ≢ 0 → IfVersion version.old.value (λ _. IsNoPart lower.now upper.now result) }
+    ensures kind { no_version version.old.value ≡ true → result ≡ 99 }
+    ensures failed { result ≢ 0 → out.new.value ≡ out.old.value }
+    ensures same { version.new.value ≡ version.old.value }
+{
+    let part = replace_with(version, (lower, upper), |version, (lower, upper)| {
+        let thing = version.into_thing();
+        let part = part_between(alloc, &thing, lower, upper);
+        (Held::of(thing), part)
+    });
+    match part {
+        Ok(part) => thing_out(alloc, Thing::Version(part), out),
         Err(code) => code,
     }
 }

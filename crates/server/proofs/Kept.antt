@@ -11,7 +11,8 @@ use Rattle.item_files.specs.declared.form.ItemForm.{ItemForm}
 use Rattle.io_core.specs.Devices.{Holds}
 use Rattle.io_core.specs.Keeping.{Kept, IsKept}
 use Rattle.printing_core.specs.ItemTexts.{item_line}
-use Rattle.server.specs.Keeping.{IsStored, lines_of}
+use Rattle.loading.specs.Rewriting.{lines_of}
+use Rattle.server.specs.Keeping.{IsStored}
 
 -- what was told of the first file, and these lines, are told of the second
 abbrev pub Tells : {D : Type 0} → (D → Option (List ℕ)) → List ℕ → Kept D → Kept D → Type 0

@@ -1,19 +1,13 @@
 -- When items count as kept in a file of lines.
---     lines_of form items                     the lines of these items
 --     IsStored held saved durable lines f g   of the file f, which is g now: after all that was told of it these lines
 --                                             were told, and the device holds all; where it is to outlive a loss of
 --                                             power, what it holds was saved
 --     IsStoredIn held saved durable lines f g the same of such a file; where there is none nothing is kept
 --     Covers kept entered items               those kept are all that were entered, or all that were to be
-use Rattle.std.specs.Prelude.{◌≡◌, ◌⊎◌, ℕ, Bool, true, List, ◌++◌, flat_map, Option, Some, None, ⊤}
+use Rattle.std.specs.Prelude.{◌≡◌, ◌⊎◌, ℕ, Bool, true, List, ◌++◌, Option, Some, None, ⊤}
 use Rattle.definitions.specs.Items.{Item}
-use Rattle.item_files.specs.declared.form.ItemForm.{ItemForm}
 use Rattle.io_core.specs.Devices.{Holds}
 use Rattle.io_core.specs.Keeping.{Kept, IsKept}
-use Rattle.printing_core.specs.ItemTexts.{item_line}
-
-abbrev pub lines_of : ItemForm → List Item → List ℕ
-lines_of form items = flat_map (item_line form) items
 
 pub record IsStored {D : Type 0} (held saved : D → Option (List ℕ)) (durable : Bool) (lines : List ℕ) (f g : Kept D) :
     Type 0 where

@@ -14,7 +14,7 @@ use crate::stocking::load_logged;
 use loading::{Sources, Target, load};
 use peer_loops::{Front, PeerLimits};
 use printing_core::{Refusal, Reporting};
-use settings_core::ServeWords;
+use settings_core::{FloorRule, ServeWords};
 use std::fs::File;
 use std::io;
 use std::io::{Read, Write};
@@ -34,13 +34,24 @@ pub struct Serving<'a> {
     /// The files that are written of the sessions.
     pub paths: Paths<'a>,
     /// What is written to them, and how much of a session is put into the log.
-    pub rules: Rules,
+    pub rules: Rules<'a>,
     /// How those see it who watch it.
     pub watching: Watching<'a>,
     /// What peers have to say before their hello.
     pub front: Front<'a>,
     /// With whom the set is kept equal.
     pub calling: Calling<'a>,
+    /// Which browsers may connect, and where.
+    pub pages: Pages<'a>,
+}
+
+/// Which browsers may connect to a server, and where.
+#[derive(Clone, Copy)]
+pub struct Pages<'a> {
+    /// The address at which they connect, over WebSockets, if they may.
+    pub address: Option<&'a str>,
+    /// The origins of the pages that may, with a comma between two, if there are any.
+    pub origins: Option<&'a str>,
 }
 
 /// With whom a set is kept equal.
@@ -53,8 +64,8 @@ pub struct Calling<'a> {
 }
 
 impl<'a> Serving<'a> {
-    /// What is asked for in these words, and what peers have to say before their hello.
-    pub fn asked(words: ServeWords<'a>, front: Front<'a>) -> Serving<'a>
+    /// What is asked for in these words, what peers have to say before their hello, and which items the set forgets.
+    pub fn asked(words: ServeWords<'a>, front: Front<'a>, forgets: &'a FloorRule) -> Serving<'a>
         ensures served { (result.address ≡ words.entry.address) × (result.workers ≡ words.entry.workers)
             × (result.sessions ≡ words.entry.sessions) × (result.front ≡ front.entry) }
         ensures limits { IsLimitsOf words.entry result.limits }
@@ -62,10 +73,12 @@ impl<'a> Serving<'a> {
             × (result.paths.keep ≡ words.entry.keep) × (result.rules.is_durable ≡ words.entry.durable) }
         ensures reports { (result.rules.reporting.form ≡ words.entry.form)
             × (result.rules.reporting.most ≡ words.entry.report_items) }
+        ensures forgets { result.rules.forgets ≡ forgets.entry }
         ensures watching { (result.watching.metrics ≡ words.entry.metrics) × (result.watching.log ≡ words.entry.log)
             × (result.watching.set ≡ words.entry.set) × (result.watching.control ≡ words.entry.control) }
         ensures calling { (result.calling.partners ≡ words.entry.partners)
             × (result.calling.every ≡ words.entry.every) }
+        ensures pages { (result.pages.address ≡ words.entry.websocket) × (result.pages.origins ≡ words.entry.origin) }
         ensures bounded { words.entry.read_only ≡ false → result.rules.most_learned ≡ words.entry.most_learned }
         ensures shut { words.entry.read_only ≡ true → result.rules.most_learned ≡ Some 0 }
     {
@@ -91,6 +104,7 @@ impl<'a> Serving<'a> {
                 },
                 most_learned,
                 is_durable: words.durable,
+                forgets,
             },
             watching: Watching {
                 metrics: words.metrics,
@@ -102,6 +116,10 @@ impl<'a> Serving<'a> {
             calling: Calling {
                 partners: words.partners,
                 every: words.every,
+            },
+            pages: Pages {
+                address: words.websocket,
+                origins: words.origin,
             },
         }
     }
@@ -145,8 +163,8 @@ where
     requires { IsWorkerCount words.workers }
 {
     let (reader, outputs) = ends;
-    let serving = Serving::asked(words, front_of(&target));
-    let sources = Sources::of_server(words, target.part, target.explains, target.shows);
+    let serving = Serving::asked(words, front_of(&target), target.forgets);
+    let sources = Sources::of_server(words, target.kept, target.explains, target.shows);
     if words.stdio {
         let loaded = load(rt, sources, io::empty(), err)?;
         serve_stdio(rt, loaded, serving, (reader, outputs.out), err)

@@ -4,12 +4,14 @@ ghost use Rattle.std.specs.Prelude.{◌≡◌, ◌++◌, ℕ, List, true, IfOk, 
 ghost use Rattle.io_core.specs.Devices.{Holds};
 ghost use Rattle.io_core.specs.Keeping.{IsKept};
 ghost use Rattle.printing_core.specs.ItemTexts.{item_line};
-ghost use Rattle.server.specs.Keeping.{IsStored, lines_of};
+ghost use Rattle.loading.specs.Rewriting.{lines_of};
+ghost use Rattle.server.specs.Keeping.{IsStored};
 
 use crate::following::Followed;
 use io_core::{Device, LineFile, Unwritten, torn_length};
 use item_core::Item;
 use item_files::ItemForm;
+use loading::Rewriting;
 use printing_core::{
     Cause, learned_line, tell_left_out, tell_left_waiting, tell_unwritten, tell_unwritten_cause,
     tell_written_again,
@@ -72,6 +74,8 @@ pub struct Book<'a, D> {
     is_doubtful: bool,
     /// What is known of other files at its path.
     pub(crate) followed: Followed,
+    /// When it is looked at again for what the set has forgotten.
+    pub(crate) rewriting: Rewriting,
 }
 
 /// Items whose lines are to be in a file.
@@ -104,6 +108,7 @@ impl<'a, D: Device> Book<'a, D> {
             left_out: 0,
             is_doubtful: false,
             followed: Followed::new(alloc),
+            rewriting: Rewriting::new(),
         }
     }
 

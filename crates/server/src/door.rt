@@ -124,7 +124,7 @@ enum Answer {
 }
 
 /// The answer to who asks for all items.
-fn answer_items<R: Wait, E: Write + Drop>(
+fn answer_items<R: Wait + Clock, E: Write + Drop>(
     yard: &Yard<'_, '_, R, DiskReporter<'_, '_, R, E>>,
     hand: &mut Hand<'_>,
     request: &DoorRequest,
@@ -189,9 +189,11 @@ fn answer_to<R: Wait + Clock, E: Write + Drop>(
     (target, body): (&[u8], &[u8]),
     now: u64,
 ) -> Result<Answer, AllocError> {
+    hand.follow(yard.rt, yard.alloc, yard.common);
     match request.asked {
         DoorAsked::Put => {
             let answer = put_answer(yard, hand, request, target, body)?;
+            hand.follow(yard.rt, yard.alloc, yard.common);
             Ok(Answer::Whole(answer))
         }
         DoorAsked::Items => answer_items(yard, hand, request, target),

@@ -10,12 +10,15 @@ use http_core::{
 };
 use item_core::{Item, Range};
 use item_files::{ItemForm, SettingsFault, item_set};
+use loading::lines_text;
 use peer_loops::Hand;
-use printing_core::push_item;
+use peer_threads::Gate;
 use range_tree::Tree;
+use shard_core::Floor;
 use std::alloc::{AllocError, Global};
 use std::io::Write;
 use std::sync::Wait;
+use std::time::Clock;
 use store_core::RangeStore;
 
 /// How many items an answer to who asks for news has, at most.
@@ -23,16 +26,6 @@ const MOST_TOLD: usize = 8_192;
 
 /// For how many seconds news are waited for, at most.
 const MOST_SECONDS: u64 = 60;
-
-/// The lines of an item file for these items.
-fn lines_of(alloc: Global, form: ItemForm, items: &[Item]) -> Result<String, AllocError> {
-    let mut text = String::new(alloc);
-    for item in items {
-        push_item(alloc, &mut text, form, item)?;
-        text.push_str("\n")?;
-    }
-    Ok(text)
-}
 
 /// One version of a set, or a range of it, that is being written, part by part.
 #[derive(Drop)]
@@ -69,7 +62,7 @@ impl Pages {
                 is_last: true,
             });
         };
-        let text = lines_of(alloc, self.form, &items)?;
+        let text = lines_text(alloc, self.form, &items)?;
         Ok(Page {
             bytes: chunk_of(alloc, text.as_bytes())?,
             is_last: false,
@@ -77,12 +70,17 @@ impl Pages {
     }
 }
 
-/// The newest version of each part.
-fn stores_of<T: Wait>(rt: &T, alloc: Global, hand: &mut Hand<'_>) -> Result<Vec<Tree>, AllocError> {
+/// The newest version of each part, without what is below the floor.
+fn stores_of<T: Wait>(
+    rt: &T,
+    alloc: Global,
+    hand: &mut Hand<'_>,
+    floor: &Floor,
+) -> Result<Vec<Tree>, AllocError> {
     let mut stores = Vec::new(alloc);
     for place in 0..hand.parts() {
         if let Some(pin) = hand.pin(rt, alloc, place) {
-            stores.push(pin?.into_store())?;
+            stores.push(pin?.store().part(alloc, &floor.range)?)?;
         }
     }
     Ok(stores)
@@ -142,7 +140,7 @@ fn range_in(alloc: Global, form: ItemForm, target: &[u8]) -> Result<Option<Range
 
 /// The first bytes of the answer to who asks for all items, or for those of a range, and the parts that follow them; of
 /// HEAD no part does.
-pub fn items_answer<R: Wait, E: Write + Drop>(
+pub fn items_answer<R: Wait + Clock, E: Write + Drop>(
     yard: &Yard<'_, '_, R, DiskReporter<'_, '_, R, E>>,
     hand: &mut Hand<'_>,
     request: &DoorRequest,
@@ -160,7 +158,8 @@ pub fn items_answer<R: Wait, E: Write + Drop>(
     if request.is_head {
         return Ok((bytes, None));
     }
-    let stores = stores_of(yard.rt, alloc, hand)?;
+    let floor = yard.common.gate.floor();
+    let stores = stores_of(yard.rt, alloc, hand, &floor)?;
     let items = Listing::new(stores, range);
     Ok((bytes, Some(Pages { form, items })))
 }
@@ -188,7 +187,7 @@ fn has<T: Wait>(
 }
 
 /// The answer to who asks whether an item is there.
-pub fn item_answer<R: Wait, E: Write + Drop>(
+pub fn item_answer<R: Wait + Clock, E: Write + Drop>(
     yard: &Yard<'_, '_, R, DiskReporter<'_, '_, R, E>>,
     hand: &mut Hand<'_>,
     request: &DoorRequest,
@@ -200,7 +199,7 @@ pub fn item_answer<R: Wait, E: Write + Drop>(
         let line = b"400: the path names no item\n";
         return whole(alloc, request, plain(DoorStatus::Unread), line);
     };
-    if has(yard.rt, alloc, hand, &item)? {
+    if yard.common.gate.floor().keeps(&item) && has(yard.rt, alloc, hand, &item)? {
         return whole(alloc, request, plain(DoorStatus::Done), b"present\n");
     }
     whole(alloc, request, plain(DoorStatus::Missing), b"absent\n")
@@ -265,7 +264,7 @@ pub fn news_answer<R: Wait, E: Write + Drop>(
     if items.is_empty() && now < asked.until && !yard.sight.board.is_stopping() {
         return Ok(None);
     }
-    let text = lines_of(alloc, asked.form, &items)?;
+    let text = lines_text(alloc, asked.form, &items)?;
     let reply = DoorReply {
         at: Some(after.saturating_add(items.len() as u64)),
         ..plain(DoorStatus::Done)

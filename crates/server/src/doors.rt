@@ -64,6 +64,15 @@ impl<R> Doors<'_, R> {
         }
     }
 
+    /// The real address at which browsers connect, if it is known.
+    fn pages_address(&self, serving: &Serving<'_>) -> Option<SocketAddr> {
+        match &self.listener {
+            Some(listener) if is_alone(serving) => listener.local_addr(),
+            Some(listener) => listener.second_addr(),
+            None => None,
+        }
+    }
+
     /// The real address at which peers call, if it is known.
     fn real_address(&self) -> Option<SocketAddr> {
         match &self.listener {
@@ -73,19 +82,101 @@ impl<R> Doors<'_, R> {
     }
 }
 
-/// Says at which addresses a server listens: that of sessions, and that of the window if there is one.
+/// Says at which address browsers connect, if they may. Where the system chose the port, the real address goes to
+/// standard error.
+fn announce_pages<O: Write, E: Write>(
+    alloc: Global,
+    pages: Option<&str>,
+    real: Option<SocketAddr>,
+    out: &mut O,
+    err: &mut E,
+) -> Result<(), Refusal<'static>> {
+    let Some(address) = pages else {
+        return Ok(());
+    };
+    let line = format!(in alloc; "websocket {address}\n")?;
+    write_output(&mut Watched::new(&mut *out), line.as_bytes())?;
+    out.flush().map_err(|_| WriterFailed)?;
+    if !address.ends_with(":0") {
+        return Ok(());
+    }
+    if let Some(real) = real {
+        let _told = writeln!(err, "websocket {real}");
+    }
+    Ok(())
+}
+
+/// Says at which addresses a server listens: that of sessions, that of browsers, and that of the window, if there are
+/// such.
 fn announce_doors<R, O: Write, E: Write>(
     alloc: Global,
-    address: &str,
+    serving: &Serving<'_>,
     doors: &Doors<'_, R>,
     out: &mut O,
     err: &mut E,
 ) -> Result<(), Refusal<'static>> {
-    announce(alloc, address, doors.real_address(), out, err)?;
+    announce(alloc, serving.address, doors.real_address(), out, err)?;
+    announce_pages(
+        alloc,
+        serving.pages.address,
+        doors.pages_address(serving),
+        out,
+        err,
+    )?;
     if let Some(window) = &doors.window {
         window.announce(alloc, out, err)?;
     }
     Ok(())
+}
+
+/// Where a server listens for browsers, if it does. Else 60 or 90.
+fn open_for_pages<'a, R>(
+    rt: &'a R,
+    serving: Serving<'a>,
+    limits: Limits,
+) -> Result<Option<Listener<'a, R>>, Refusal<'a>>
+where
+    R: Files + Net<Listener = TcpListener, Stream = TcpStream> + Clock + AllocGlobal,
+{
+    let Some(address) = serving.pages.address else {
+        return Ok(None);
+    };
+    match listen_at(rt, address, serving.sessions, limits) {
+        Ok(listener) => Ok(Some(listener.for_pages(serving.pages.origins.unwrap_or(""))?)),
+        Err(fault) => Err(Refusal::of_listen(address, fault)),
+    }
+}
+
+/// Whether a server listens nowhere for peers that are no browsers.
+fn is_alone(serving: &Serving<'_>) -> bool {
+    let may_be = serving.calling.partners.is_some() || serving.pages.address.is_some();
+    may_be && serving.address == NO_ADDRESS
+}
+
+/// Where a server listens for sessions, which does so for browsers already, if it is to.
+fn open_with_pages<'a, R>(
+    rt: &'a R,
+    serving: Serving<'a>,
+    pages: Option<Listener<'a, R>>,
+    limits: Limits,
+) -> Result<Option<Listener<'a, R>>, Refusal<'a>>
+where
+    R: Files + Net<Listener = TcpListener, Stream = TcpStream> + Clock + AllocGlobal,
+{
+    if is_alone(&serving) {
+        return Ok(pages);
+    }
+    let address = serving.address;
+    match (listen_at(rt, address, serving.sessions, limits), pages) {
+        (Ok(listener), None) => Ok(Some(listener)),
+        (Ok(listener), Some(pages)) => Ok(Some(listener.beside(pages))),
+        (Err(fault), pages) => {
+            if let Some(pages) = &pages {
+                pages.remove_file(rt);
+            }
+            Err(Refusal::of_listen(address, fault))
+        }
+    }
 }
 
 /// Where a server listens for sessions: nowhere, if it has partners and nobody may call. Else 60 or 90.
@@ -96,18 +187,12 @@ fn open_listener<'a, R>(
 where
     R: Files + Net<Listener = TcpListener, Stream = TcpStream> + Clock + AllocGlobal,
 {
-    let address = serving.address;
-    if serving.calling.partners.is_some() && address == NO_ADDRESS {
-        return Ok(None);
-    }
     let limits = Limits {
         patience: serving.limits.patience,
         most_bytes: serving.limits.most_bytes,
     };
-    match listen_at(rt, address, serving.sessions, limits) {
-        Ok(listener) => Ok(Some(listener)),
-        Err(fault) => Err(Refusal::of_listen(address, fault)),
-    }
+    let pages = open_for_pages(rt, serving, limits)?;
+    open_with_pages(rt, serving, pages, limits)
 }
 
 /// Opens the window of a server that listens there already, if one is asked for. Else 60 or 90; and no file of a socket
@@ -145,7 +230,7 @@ where
 {
     let listener = open_listener(rt, serving)?;
     let doors = open_beside(rt, serving, beginning, listener)?;
-    match announce_doors(rt.alloc(), serving.address, &doors, out, err) {
+    match announce_doors(rt.alloc(), &serving, &doors, out, err) {
         Ok(()) => Ok(doors),
         Err(refusal) => {
             doors.remove_files(rt);

@@ -91,6 +91,11 @@ impl Followed {
             is_told: false,
         }
     }
+
+    /// Whether the file that is there has all that those before it had.
+    pub(crate) fn has_all(&self) -> bool {
+        self.before.is_empty()
+    }
 }
 
 /// The items of what a file holds, in rising order: none if it does not hold items, or cannot be read.
@@ -106,8 +111,14 @@ fn items_in(alloc: Global, form: ItemForm, file: &File) -> Vec<Item> {
 
 impl Book<'_, Disk<File>> {
     /// The file that is open.
-    fn file(&self) -> &File {
-        &self.lines.device().0
+    pub(crate) fn file(&self) -> &File {
+        &self.lines.device().file
+    }
+
+    /// Whether the file that is open is a regular one, and is known to stand at the path.
+    pub(crate) fn is_there<R: Files>(&self, rt: &R) -> bool {
+        let is_regular = self.file().metadata().is_ok_and(|own| own.is_file());
+        is_regular && found_at(rt, self.name.path, self.file()) == Found::Same
     }
 
     /// Goes on in the file that stands at the path, if that is another one. If nothing stands there a file is made, but

@@ -1,7 +1,8 @@
 //! What one thread at a time writes of sessions and of items.
 
 ghost use Rattle.std.specs.Prelude.{◌≡◌, IfSome, option_map};
-ghost use Rattle.server.specs.Keeping.{IsStoredIn, lines_of};
+ghost use Rattle.loading.specs.Rewriting.{lines_of};
+ghost use Rattle.server.specs.Keeping.{IsStoredIn};
 
 use crate::book::{Book, Wanted};
 use crate::books::Books;
@@ -12,6 +13,7 @@ use item_core::Item;
 use item_files::ItemForm;
 use loading::Disk;
 use printing_core::{Fault, learned_line, tell_full};
+use shard_core::Floor;
 use std::alloc::{AllocError, Global};
 use std::fs::File;
 use std::io::Write;
@@ -170,6 +172,18 @@ impl<E: Write + Drop> Ledger<'_, Disk<File>, E> {
         go_on_in(&mut self.books.report, rt, (form, when), err);
         go_on_in(&mut self.books.learned, rt, (form, when), err);
         go_on_in(&mut self.books.keep, rt, (form, when), err);
+    }
+
+    /// Rewrites the file that keeps the set without what is below the floor, if it is due.
+    pub fn forget<R: Files<File = File> + AllocGlobal>(
+        &mut self,
+        rt: &R,
+        form: ItemForm,
+        floor: &Floor,
+    ) {
+        if let Some(book) = &mut self.books.keep {
+            book.forget(rt, form, floor, &mut self.err);
+        }
     }
 }
 

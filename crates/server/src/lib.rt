@@ -19,6 +19,7 @@ mod looking;
 mod loops;
 mod putting;
 mod reporting;
+mod rewriting;
 mod serve;
 mod stdio;
 mod stocking;

@@ -1,5 +1,6 @@
 //! The log: a line on standard error for each visit of a peer.
 
+use item_core::Range;
 use loading::{millis_of, now};
 use peer_loops::{Board, Recent};
 use peer_threads::Outcome;
@@ -196,6 +197,8 @@ fn visit_of(session: OnlySession<'_>) -> Visit {
         is_called: false,
         profile: session.profile,
         serial: session.serial,
+        which: None,
+        range: Range::whole(),
         ending: Ending::of(session.outcome),
         traffic: Traffic {
             received: session.stats.received.bytes,

@@ -1,6 +1,8 @@
 //! Items that programs of this machine put in.
 
 ghost use Rattle.std.specs.Prelude.{◌≡◌, ◌+◌, ◌≤◌, List, length, IfOk, OnErr};
+ghost use Rattle.std.specs.List.{list_all};
+ghost use Rattle.shard_core.specs.Floors.{keeps};
 ghost use Rattle.definitions.specs.Items.{Item as Bytes};
 ghost use Rattle.peer_loops.specs.Hands.{PutsEach, PutsSome, entries};
 ghost use Rattle.server.specs.Keeping.{Covers};
@@ -13,7 +15,9 @@ use http_core::{DoorReply, DoorRequest, DoorStatus, query_value};
 use item_core::Item;
 use item_files::{ItemForm, SettingsFault, item_set};
 use peer_loops::{Hand, HandFault};
+use peer_threads::Gate;
 use printing_core::{Fault, Refusal};
+use shard_core::Floor;
 use std::alloc::{AllocError, Global};
 use std::io::Write;
 use std::sync::Wait;
@@ -27,6 +31,8 @@ const BODY: &str = "body";
 /// Why items are not put in, or not kept.
 #[derive(Clone, Copy, Debug, PartialEq, Eq)]
 enum PutFault {
+    /// One is below the floor.
+    Below,
     /// One is of a shard that is not kept here.
     Elsewhere,
     /// The set has no room for all.
@@ -152,7 +158,14 @@ fn takes_lines<R: Wait + Clock, E: Write + Drop>(
     Err(PutFault::Disk)
 }
 
-/// Refuses items of which one is of a part that is not kept, for which a part has no room, or whose lines the file does
+/// Whether all of these items are kept.
+fn are_kept(floor: &Floor, items: &[Item]) -> bool
+    ensures { result ≡ list_all (keeps floor.now) items.now }
+{
+    items.iter().all(|item| floor.keeps(item))
+}
+
+/// Refuses items of which one is below the floor, or of a part that is not kept, for which a part has no room, or whose lines the file does
 /// not take. Nothing is put in.
 fn may_put<R: Wait + Clock, E: Write + Drop>(
     yard: &Yard<'_, '_, R, DiskReporter<'_, '_, R, E>>,
@@ -161,6 +174,9 @@ fn may_put<R: Wait + Clock, E: Write + Drop>(
 ) -> Result<(), PutFault>
     ensures nothing { entries hand.new ≡ entries hand.old }
 {
+    if !are_kept(&yard.common.gate.floor(), items) {
+        return Err(PutFault::Below);
+    }
     let cap = yard.common.accepted.cap() as usize;
     has_room(yard.rt, yard.alloc, hand, items, cap)?;
     takes_lines(yard)
@@ -237,6 +253,10 @@ fn answer_unkept(
     fault: PutFault,
 ) -> Result<Vec<u8>, AllocError> {
     let (status, fault) = match fault {
+        PutFault::Below => {
+            let line = b"410: an item is below the floor, or has no time\n";
+            return whole(alloc, request, plain(DoorStatus::Gone), line);
+        }
         PutFault::Elsewhere => (DoorStatus::Unread, Fault::Session { code: 56 }),
         PutFault::Full => (DoorStatus::NoRoom, Fault::TooManyItems),
         PutFault::Memory => (DoorStatus::NoRoom, Fault::Memory),

@@ -1,8 +1,9 @@
 //! A gate that writes to files what each session found and each item that the log took, and that bounds what one
 //! session may put into the log.
 
-ghost use Rattle.std.specs.Prelude.{◌≡◌, true, IfSome};
-ghost use Rattle.server.specs.Admitting.{LetsIn};
+ghost use Rattle.std.specs.Prelude.{◌≡◌, true, false, IfSome};
+ghost use Rattle.definitions.specs.Items.{comes_before};
+ghost use Rattle.server.specs.Admitting.{IsFloorOf, IsNotLower, LetsIn};
 ghost use Rattle.server.specs.Keeping.{Covers};
 
 use crate::book::Wanted;
@@ -12,21 +13,22 @@ use crate::ledger::{Closed, Kept, Ledger};
 use crate::looking::Looking;
 use http_core::Arrivals;
 use io_core::Device;
-use item_core::{Item, Range};
+use item_core::{Item, Lower, Range};
 use item_files::ItemForm;
-use loading::{Disk, now};
+use loading::{Disk, floor_at, higher, now, seconds_now};
 use peer_loops::{PartGate, Told};
 use peer_threads::{Gate, Outcome};
 use printing_core::{
-    Fault, Reporting, SessionName, left_out_line, report_text, tell_partner_away,
+    Fault, Reporting, SessionName, left_out_line, report_text, tell_no_time, tell_partner_away,
     tell_partner_back, tell_partner_refused,
 };
-use shard_core::Which;
+use settings_core::FloorRule;
+use shard_core::{Floor, Which};
 use std::alloc::{AllocError, Global};
 use std::fs::File;
 use std::io::Write;
 use std::rt::Files;
-use std::sync::atomic::{AtomicU64, Ordering};
+use std::sync::atomic::{AtomicBool, AtomicU64, Ordering};
 use std::sync::{Mutex, Wait};
 use std::time::Clock;
 use version_log::LogFault;
@@ -36,13 +38,26 @@ const DUE: u64 = 1_000;
 
 /// What is written of a session, and how much of it may be put into the log.
 #[derive(Clone, Copy)]
-pub struct Rules {
+pub struct Rules<'a> {
     /// How a session is reported.
     pub reporting: Reporting,
     /// How many items of one session may be put into the log, if there is a bound.
     pub most_learned: Option<u32>,
     /// Whether what is learned is to outlive a loss of power.
     pub is_durable: bool,
+    /// Which items the set forgets.
+    pub forgets: &'a FloorRule,
+}
+
+/// The floor of a set, or the highest one so far, if that is higher. The highest one is noted.
+fn raised(highest: &mut Lower, floor: Floor) -> Floor
+    ensures floor { IsNotLower result floor }
+    ensures highest { comes_before result.range.lower highest.old ≡ false }
+    ensures noted { highest.new ≡ result.range.lower }
+{
+    let lower = higher(*highest, *floor.range.lower());
+    *highest = lower;
+    Floor::at(lower, floor.time)
 }
 
 /// The gate of a server: it writes to the files of a disk.
@@ -54,7 +69,7 @@ pub struct Reporter<'r, 'a, R: Wait, D, E> {
     rt: &'r R,
     alloc: Global,
     /// What is written, and how much is put into the log.
-    pub rules: Rules,
+    pub rules: Rules<'a>,
     /// The greatest number of items of the log.
     cap: usize,
     ledger: Mutex<Ledger<'a, D, E>>,
@@ -64,6 +79,12 @@ pub struct Reporter<'r, 'a, R: Wait, D, E> {
     /// How many items were put in, and how many were dropped, for those who watch.
     inserted: AtomicU64,
     dropped: AtomicU64,
+    /// How many items were forgotten.
+    forgotten: AtomicU64,
+    /// The highest floor so far.
+    highest: Mutex<Lower>,
+    /// Whether it was told of an item that has no time.
+    is_untimed_told: AtomicBool,
     /// How many sessions put in now what they learned: of an item that the log has a line may not be told yet.
     adding: AtomicU64,
 }
@@ -73,7 +94,7 @@ impl<'r, 'a, R: Wait, D: Device + Drop, E: Write + Drop> Reporter<'r, 'a, R, D, 
     pub fn new(
         rt: &'r R,
         alloc: Global,
-        rules: Rules,
+        rules: Rules<'a>,
         cap: usize,
         books: Books<'a, D>,
         err: E,
@@ -89,6 +110,9 @@ impl<'r, 'a, R: Wait, D: Device + Drop, E: Write + Drop> Reporter<'r, 'a, R, D, 
             looking: Looking::new(),
             inserted: AtomicU64::new(0),
             dropped: AtomicU64::new(0),
+            forgotten: AtomicU64::new(0),
+            highest: Mutex::new(Lower::start()),
+            is_untimed_told: AtomicBool::new(false),
             adding: AtomicU64::new(0),
         }
     }
@@ -142,6 +166,11 @@ impl<'r, 'a, R: Wait, D: Device + Drop, E: Write + Drop> Reporter<'r, 'a, R, D, 
     /// How many items of peers were dropped.
     pub fn dropped_so_far(&self) -> u64 {
         self.dropped.load(Ordering::SeqCst)
+    }
+
+    /// How many items were forgotten.
+    pub fn forgotten(&self) -> u64 {
+        self.forgotten.load(Ordering::SeqCst)
     }
 
     /// How many lines wait to be written, over all files.
@@ -243,12 +272,22 @@ where
         }
     }
 
+    /// Rewrites the file that keeps the set without what the set has forgotten, if it forgets and the file is due.
+    fn forget(&self) {
+        if *self.rules.forgets != FloorRule::none() {
+            let floor = self.floor();
+            let form = self.rules.reporting.form;
+            self.ledger.lock(self.rt).forget(self.rt, form, &floor);
+        }
+    }
+
     /// Goes on in files that others put in the place of those that are open; if a second is over, what waits is tried
-    /// again.
+    /// again, and what is forgotten is left out.
     fn look(&self, is_due: bool) {
         if is_due {
             self.follow(When::Due);
             self.ledger.lock(self.rt).try_again();
+            self.forget();
         } else {
             self.follow(When::Asked);
         }
@@ -259,6 +298,8 @@ impl<R: Wait + Clock, D: Device + Drop, E: Write + Drop> Gate for Reporter<'_, '
     ghost answers = { λ _ _ _ goes. goes ≡ true };
 
     ghost lets_in = { λ reporter _. LetsIn reporter.rules.most_learned };
+
+    ghost floors = { λ reporter. IsFloorOf reporter.rules.forgets.now };
 
     fn pass(&self, _serial: u64, _sent: u32) -> bool {
         true
@@ -279,6 +320,22 @@ impl<R: Wait + Clock, D: Device + Drop, E: Write + Drop> Gate for Reporter<'_, '
         match self.rules.most_learned {
             Some(most) => count.min(most as usize),
             None => count,
+        }
+    }
+
+    fn floor(&self) -> Floor {
+        let floor = floor_at(*self.rules.forgets, seconds_now(self.rt));
+        raised(&mut self.highest.lock(self.rt), floor)
+    }
+
+    fn is_below(&self, item: &Item) {
+        let is_timed = match self.rules.forgets.time() {
+            Some(form) => form.has_time(item),
+            None => true,
+        };
+        if !is_timed && !self.is_untimed_told.swap(true, Ordering::SeqCst) {
+            let form = self.rules.reporting.form;
+            tell_no_time(self.alloc, &mut self.ledger.lock(self.rt).err, form, item);
         }
     }
 
@@ -326,6 +383,10 @@ impl<R: Wait + Clock, D: Device + Drop, E: Write + Drop> PartGate for Reporter<'
             partner: Some(address),
         };
         self.report(&session, outcome);
+    }
+
+    fn forgot(&self, count: usize) {
+        self.forgotten.fetch_add(count as u64, Ordering::SeqCst);
     }
 
     fn is_told(&self, address: &str, told: Told) {

@@ -24,7 +24,7 @@ use loading::Loaded;
 use peer_loops::{
     Board, Common, Front, Links, News, Partners, Parts, Seats, Service, call_partners, serve_peers,
 };
-use peer_threads::WorkersReport;
+use peer_threads::{Gate, WorkersReport};
 use printing_core::{Fault, Refusal, refusal_of, served_text, tell_dropped, tell_in_memory};
 use range_tree::Tree;
 use session_table::SessionTable;
@@ -59,12 +59,12 @@ fn forgets(serving: Serving<'_>) -> bool {
 
 /// Who serves and who calls: with which seats, and whom.
 #[derive(Clone, Copy)]
-struct Team<'a, 's, 'p> {
-    seats: &'a Seats<'s>,
+struct Team<'a, 'p> {
+    seats: &'a Seats,
     links: Links<'a, 'p>,
 }
 
-impl<'a, 'p> Team<'a, '_, 'p> {
+impl<'a, 'p> Team<'a, 'p> {
     /// What is told of sessions, and of the partners.
     fn sight(self) -> Sight<'a, 'p> {
         Sight {
@@ -88,7 +88,7 @@ struct State<'p> {
 fn serve_all<R: Loops, E: Write + Drop + Send>(
     rt: &R,
     common: &Common<'_, DiskReporter<'_, '_, R, E>>,
-    seats: &Seats<'_>,
+    seats: &Seats,
     listener: Option<&Listener<'_, R>>,
     service: Service<'_>,
 ) -> WorkersReport
@@ -112,7 +112,7 @@ fn serve_all<R: Loops, E: Write + Drop + Send>(
 fn serve_to_end<R: Loops, E: Write + Drop + Send>(
     rt: &R,
     common: &Common<'_, DiskReporter<'_, '_, R, E>>,
-    seats: &Seats<'_>,
+    seats: &Seats,
     listener: Option<&Listener<'_, R>>,
     service: Service<'_>,
 ) -> WorkersReport
@@ -129,7 +129,7 @@ fn serve_to_end<R: Loops, E: Write + Drop + Send>(
 fn work<R: Loops, E: Write + Drop + Send>(
     rt: &R,
     common: &Common<'_, DiskReporter<'_, '_, R, E>>,
-    team: Team<'_, '_, '_>,
+    team: Team<'_, '_>,
     listener: Option<&Listener<'_, R>>,
     service: Service<'_>,
 ) -> WorkersReport
@@ -178,7 +178,7 @@ fn log_and_show<R: Loops, E: Write + Drop + Send, L: Write + Drop + Send>(
 fn work_shown<R: Loops, E: Write + Drop + Send, L: Write + Drop + Send>(
     rt: &R,
     common: &Common<'_, DiskReporter<'_, '_, R, E>>,
-    team: Team<'_, '_, '_>,
+    team: Team<'_, '_>,
     doors: &Doors<'_, R>,
     service: Service<'_>,
     log: Option<L>,
@@ -206,11 +206,11 @@ fn work_shown<R: Loops, E: Write + Drop + Send, L: Write + Drop + Send>(
 fn answer_programs<R: Loops, E: Write + Drop + Send>(
     rt: &R,
     common: &Common<'_, DiskReporter<'_, '_, R, E>>,
-    seats: &Seats<'_>,
+    seats: &Seats,
     sight: Sight<'_, '_>,
     (door, beginning): (&Door<'_, R>, Beginning<'_>),
 ) {
-    let Some(mut hand) = seats.hand(rt) else {
+    let Some(mut hand) = seats.hand(rt, rt.alloc()) else {
         return;
     };
     let yard = Yard {
@@ -227,7 +227,7 @@ fn answer_programs<R: Loops, E: Write + Drop + Send>(
 fn work_answered<R: Loops, E: Write + Drop + Send, L: Write + Drop + Send>(
     rt: &R,
     common: &Common<'_, DiskReporter<'_, '_, R, E>>,
-    team: Team<'_, '_, '_>,
+    team: Team<'_, '_>,
     doors: &Doors<'_, R>,
     service: Service<'_>,
     log: Option<L>,
@@ -254,7 +254,7 @@ fn work_answered<R: Loops, E: Write + Drop + Send, L: Write + Drop + Send>(
 fn work_tended<R: Loops, E: Write + Drop + Send, L: Write + Drop + Send, T: FnOnce() + Drop>(
     rt: &R,
     common: &Common<'_, DiskReporter<'_, '_, R, E>>,
-    team: Team<'_, '_, '_>,
+    team: Team<'_, '_>,
     doors: &Doors<'_, R>,
     service: Service<'_>,
     log: Option<L>,
@@ -278,12 +278,6 @@ fn work_tended<R: Loops, E: Write + Drop + Send, L: Write + Drop + Send, T: FnOn
         tend,
     );
     report
-}
-
-/// How many seats there are at each part: one for each loop of both kinds, one for each link, and one for a door.
-fn seats_for(serving: Serving<'_>, partners: &Partners<'_>) -> usize {
-    let own = usize::from(serving.workers) * 2 + usize::from(serving.watching.control.is_some());
-    own.saturating_add(partners.threads())
 }
 
 /// Opens the door of a server, if one is asked for, and says so. Else 60, 90 or `io write`; and no file of a socket is
@@ -369,7 +363,7 @@ fn parts_of(
 fn serve_over<'b, R: Files<File = File> + Loops, E: Write + Drop + Send, L: Write + Drop + Send>(
     rt: &'b R,
     state: &'b State<'_>,
-    seats: &'b Seats<'_>,
+    seats: &'b Seats,
     gate: &'b DiskReporter<'_, '_, R, E>,
     serving: Serving<'b>,
     beginning: Beginning<'b>,
@@ -440,11 +434,9 @@ pub fn serve<'a, R: Files<File = File> + Loops, O: Write + Drop, E: Write + Drop
     let beginning = Beginning::now(rt, &serving, &set);
     let accepted = Arc::new(alloc, accepted)?;
     let first = set.first();
-    let mut parts = parts_of(alloc, &accepted, serving.front, first, set.into_logs())?;
+    let parts = parts_of(alloc, &accepted, serving.front, first, set.into_logs())?;
+    let seats = parts.shared();
     let partners = partners_of(rt, alloc, serving.calling)?;
-    let Some(seats) = parts.seats(rt, alloc, seats_for(serving, &partners)) else {
-        return Err(Refusal::from(Fault::Memory));
-    };
     let state = State {
         accepted,
         sessions: Mutex::new(SessionTable::new(
@@ -476,13 +468,13 @@ pub fn serve<'a, R: Files<File = File> + Loops, O: Write + Drop, E: Write + Drop
         log,
     );
     reporter.follow(When::Last);
+    let items = seats.count(rt, alloc, &reporter.floor().range)?;
     doors.remove_files(rt);
     let closed = reporter.close();
     tell_dropped(err, closed.dropped);
     let State { sessions, .. } = state;
     let totals = sessions.into_inner().totals();
-    drop(seats);
-    let text = served_text(alloc, totals, parts.count(rt))?;
+    let text = served_text(alloc, totals, items)?;
     let printed = write_output(&mut Watched::new(out), text.as_bytes());
     // Who stopped the server sees by this that all is written.
     if let Some(door) = &door {

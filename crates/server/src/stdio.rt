@@ -7,7 +7,7 @@ ghost use Rattle.definitions.specs.Ranks.{rank_by};
 ghost use Rattle.version_lock.specs.declared.view.View.{View};
 ghost use Rattle.peer_threads.specs.Choices.{ChosenSpeaks};
 ghost use Rattle.peer_threads.specs.Outcomes.{traffic, seen, peer_at};
-ghost use Rattle.peer_threads.specs.Workers.{LookedOrNot, PutsInLearned};
+ghost use Rattle.peer_threads.specs.Workers.{LookedOrNot, PutsInLearned, says};
 
 use crate::asked::Serving;
 use crate::books::open_books;
@@ -17,6 +17,7 @@ use crate::reporting::Reporter;
 use digest_core::{Counted, Fingerprint, Summary};
 use io_core::{Watched, write_output};
 use loading::{Loaded, Metered, millis_since};
+use peer_loops::WRONG_SET;
 use peer_threads::{Connection, Gate, Harvest, Outcome, Shared, serve_one, settle};
 use printing_core::{Fault, Refusal, Stats, Tally, refusal_of_session, served_text, tell_dropped};
 use range_tree::Tree;
@@ -38,9 +39,6 @@ const SERIAL: u64 = 1;
 
 /// The number of the refusal where a log has no writer number left, as no new one has.
 const WRITERS_SPENT: u8 = 42;
-
-/// The number of the refusal of a peer that speaks of what is not here.
-const WRONG_SET: u8 = 55;
 
 /// Answers the peer of this connection, which speaks first, until the session ends. What the peer was first to know is
 /// put into the log, as much of it as the gate admits.
@@ -69,7 +67,8 @@ fn answer_peer<T: Wait, G: Gate, I: Read, O: Write>(
         (O.contents connection.old.writer.inner) (O.contents connection.new.writer.inner))
         (seen connection.new.reader.failed connection.new.reader.ended)
         (seen connection.new.writer.failed connection.new.writer.ended) result
-        × PutsInLearned (G.lets_in shared.now.gate.now) result between seat.new.view }
+        × PutsInLearned (says (G.lets_in shared.now.gate.now) (G.floors shared.now.gate.now)) result between
+        seat.new.view }
 {
     match serve_one(rt, alloc, shared, seat, connection) {
         Outcome::Ended {

@@ -9,6 +9,7 @@ use item_core::Item;
 use item_files::ItemForm;
 use peer_threads::Gate;
 use printing_core::Reporting;
+use settings_core::FloorRule;
 use std::alloc::Global;
 use std::io;
 use std::io::ErrorKind;
@@ -43,7 +44,7 @@ impl Device for Counting<'_> {
 }
 
 /// The file that keeps a set, over this device.
-fn keep_over(alloc: Global, device: Counting<'_>) -> Books<'static, Counting<'_>> {
+fn keep_over<'r>(alloc: Global, device: Counting<'r>) -> Books<'r, Counting<'r>> {
     let name = Name {
         kind: Kind::Keep,
         path: "set",
@@ -55,25 +56,26 @@ fn keep_over(alloc: Global, device: Counting<'_>) -> Books<'static, Counting<'_>
     }
 }
 
-const DURABLE: Rules = Rules {
-    reporting: Reporting {
-        form: ItemForm::Text,
-        most: None,
-    },
-    most_learned: None,
-    is_durable: true,
-};
-
-/// A gate that keeps a set over this device.
+/// A gate that keeps a set over this device, and forgets nothing.
 fn reporter<'r, R: Wait>(
     rt: &'r R,
     alloc: Global,
     device: Counting<'r>,
-) -> Reporter<'r, 'static, R, Counting<'r>, Vec<u8>> {
+    forgets: &'r FloorRule,
+) -> Reporter<'r, 'r, R, Counting<'r>, Vec<u8>> {
+    let rules = Rules {
+        reporting: Reporting {
+            form: ItemForm::Text,
+            most: None,
+        },
+        most_learned: None,
+        is_durable: true,
+        forgets,
+    };
     Reporter::new(
         rt,
         alloc,
-        DURABLE,
+        rules,
         9,
         keep_over(alloc, device),
         Vec::new(alloc),
@@ -87,7 +89,8 @@ fn beside_a_session_that_has_not_told_its_items(rt: HostRuntime) -> Result<(), F
         taken: &taken,
         failing: &failing,
     };
-    let gate = reporter(&rt, rt.alloc(), device);
+    let forgets = FloorRule::none();
+    let gate = reporter(&rt, rt.alloc(), device, &forgets);
     let a = Item::new(b"a").expect(&rt, "an item");
     let b = Item::new(b"b").expect(&rt, "an item");
     let none = Vec::new(rt.alloc());
@@ -116,7 +119,8 @@ fn after_a_sync_that_failed(rt: HostRuntime) -> Result<(), Fail> {
         taken: &taken,
         failing: &failing,
     };
-    let gate = reporter(&rt, rt.alloc(), device);
+    let forgets = FloorRule::none();
+    let gate = reporter(&rt, rt.alloc(), device, &forgets);
     let a = Item::new(b"a").expect(&rt, "an item");
     let none = Vec::new(rt.alloc());
     let one = Vec::from_slice(rt.alloc(), &[a])?;

@@ -128,7 +128,8 @@ pub fn standing<'a, R: Wait, E: Write + Drop>(
     now: u64,
 ) -> Standing<'a> {
     let inserted = common.gate.inserted();
-    let items = beginning.items.saturating_add(inserted);
+    let taken = beginning.items.saturating_add(inserted);
+    let items = taken.saturating_sub(common.gate.forgotten());
     Standing {
         program: VERSION,
         address: beginning.address,

@@ -98,6 +98,11 @@ HasValues rows (Serve w) = IsText (codes "table") rows w.table.now × IsText (co
     × IsFlag (codes "durable") rows w.durable × IsNumber (codes "most-learned") rows w.most_learned
     × IsFlag (codes "read-only") rows w.read_only × IsNumber (codes "report-items") rows w.report_items
     × IsAnyText (codes "metrics") rows (option_map (λ text. text.now) w.metrics)
+    × IsAnyText (codes "websocket") rows (option_map (λ text. text.now) w.websocket)
+    × IsAnyText (codes "origin") rows (option_map (λ text. text.now) w.origin)
+    × IsAnyText (codes "not-below") rows (option_map (λ text. text.now) w.not_below)
+    × IsAnyText (codes "newest") rows (option_map (λ text. text.now) w.newest)
+    × IsAnyText (codes "time-form") rows (option_map (λ text. text.now) w.time_form)
     × IsAnyText (codes "with") rows (option_map (λ text. text.now) w.partners)
     × IsNumber (codes "every") rows w.every
     × IsAnyText (codes "control") rows (option_map (λ text. text.now) w.control)

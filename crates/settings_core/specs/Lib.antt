@@ -1,5 +1,6 @@
 pub mod Addresses
 pub mod Calls
+pub mod FloorWords
 pub mod NodeWords
 pub mod PartWords
 pub mod Program

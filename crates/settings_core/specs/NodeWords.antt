@@ -2,7 +2,7 @@
 --     are_partners text      whether the text is 1 to 64 addresses with a comma between two, each of a byte at least
 --     is_loopback address    whether an address, with a port or without one, is of the loopback, by its text
 --     may_control word       whether this machine's own programs alone reach this place
---     node_flaw with every control stdio    the reason, if there is one, by the words of the call
+--     node_flaw with every control pages origins stdio    the reason, if there is one, by the words of the call
 use Rattle.std.specs.Prelude.{ℕ, ◌-◌, ◌==◌, List, [], ◌∷◌, length, codes, Bool, true, false, not, ◌&&◌, ◌||◌, nat_lt}
 use Rattle.std.specs.Prelude.{bytes_eq, if◌then◌else◌, Option, Some, None, is_some}
 use Rattle.std.specs.Char.{is_ascii_digit}
@@ -10,7 +10,8 @@ use Rattle.std.specs.List.{list_all, position_or_len, before_first, after_first}
 use Rattle.settings_core.specs.Addresses.{is_host, host_of, is_colon}
 use Rattle.settings_core.specs.declared.node_words.Scan as code
 use Rattle.settings_core.specs.declared.node_words.NodeFlaw.{NodeFlaw}
-use Rattle.settings_core.specs.declared.node_words.NodeFlaw.TheVariants.{NoPartners, Stdio, Partners, Control}
+use Rattle.settings_core.specs.declared.node_words.NodeFlaw.TheVariants.{NoPartners, NoPages, Stdio, WebStdio, Partners}
+use Rattle.settings_core.specs.declared.node_words.NodeFlaw.TheVariants.{Control}
 
 -- ---- a list of addresses: 44 is the comma
 
@@ -81,10 +82,12 @@ abbrev pub all_fit : (List ℕ → Bool) → Option (List ℕ) → Bool
 all_fit P None = true
 all_fit P (Some text) = P text
 
-abbrev pub node_flaw : Option (List ℕ) → Bool → Option (List ℕ) → Bool → Option NodeFlaw
-node_flaw partners every control stdio =
+abbrev pub node_flaw : Option (List ℕ) → Bool → Option (List ℕ) → Bool → Bool → Bool → Option NodeFlaw
+node_flaw partners every control pages origins stdio =
     if not (is_some partners) && every then Some NoPartners
+    else if origins && not pages then Some NoPages
     else if stdio && (is_some partners || is_some control) then Some Stdio
+    else if stdio && pages then Some WebStdio
     else if not (all_fit are_partners partners) then Some Partners
     else if not (all_fit may_control control) then Some Control
     else None

@@ -107,6 +107,8 @@ served = with_rules (new_app (codes "serve"))
     ∷ valued (codes "learned") ∷ valued (codes "keep") ∷ flag (codes "durable")
     ∷ number (codes "most-learned") 1 4294967295 ∷ flag (codes "read-only")
     ∷ number (codes "report-items") 0 4294967295 ∷ valued (codes "metrics")
+    ∷ valued (codes "websocket") ∷ valued (codes "origin")
+    ∷ valued (codes "not-below") ∷ valued (codes "newest") ∷ valued (codes "time-form")
     ∷ valued (codes "with") ∷ number (codes "every") 1 86400 ∷ valued (codes "control") ∷ flag (codes "log")
     ∷ flag (codes "text") ∷ flag (codes "hash") ∷ flag (codes "why") ∷ [])
 

@@ -13,6 +13,9 @@ pub const DEFAULT_ADDRESS: &str = "127.0.0.1:7700";
 /// The port of an address that is given without one.
 pub const DEFAULT_PORT: &str = "7700";
 
+/// The port of an address for browsers that is given without one.
+pub const WEBSOCKET_PORT: &str = "7708";
+
 /// The port of an address for metrics that is given without one.
 pub const METRICS_PORT: &str = "7702";
 

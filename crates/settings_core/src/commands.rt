@@ -1,5 +1,7 @@
 //! What the words of a call ask for.
 
+ghost use Rattle.std.specs.Prelude.{◌≡◌, ◌||◌, is_some};
+
 use item_files::{ItemForm, WireProfile};
 
 /// What the words of a call ask for.
@@ -128,6 +130,16 @@ pub struct ServeWords<'a> {
     pub report_items: Option<u32>,
     /// The address at which metrics and a page answer HTTP, if one is given.
     pub metrics: Option<&'a str>,
+    /// The address at which browsers connect, over WebSockets, if one is given.
+    pub websocket: Option<&'a str>,
+    /// The origins of the pages that may connect there, with a comma between two, if there are any.
+    pub origin: Option<&'a str>,
+    /// The item below which all are forgotten, if one is given.
+    pub not_below: Option<&'a str>,
+    /// How old items may be, if it is given.
+    pub newest: Option<&'a str>,
+    /// The form of the times that the items begin with, if it is given.
+    pub time_form: Option<&'a str>,
     /// The addresses of the partners, with a comma between two, if there are any: servers with which the set is kept
     /// equal.
     pub partners: Option<&'a str>,
@@ -141,6 +153,15 @@ pub struct ServeWords<'a> {
     pub form: ItemForm,
     /// The path of the item file. `None` only where there is a file that keeps the set.
     pub items: Option<&'a str>,
+}
+
+impl ServeWords<'_> {
+    /// Whether it may listen nowhere for peers: it has partners, or browsers connect to it.
+    pub fn may_be_alone(&self) -> bool
+        ensures { result ≡ (is_some self.entry.now.partners || is_some self.entry.now.websocket) }
+    {
+        self.partners.is_some() || self.websocket.is_some()
+    }
 }
 
 /// What `sync` is asked for.

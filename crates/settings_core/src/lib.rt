@@ -5,6 +5,7 @@ mod addresses;
 mod arguments;
 mod commands;
 mod door_words;
+mod floor_words;
 mod given_words;
 mod known_words;
 mod node_words;
@@ -19,12 +20,14 @@ mod stdio_words;
 mod words;
 
 pub use addresses::{
-    Address, CONTROL_PORT, DEFAULT_ADDRESS, DEFAULT_PORT, METRICS_PORT, address_of, whole_address,
+    Address, CONTROL_PORT, DEFAULT_ADDRESS, DEFAULT_PORT, METRICS_PORT, WEBSOCKET_PORT, address_of,
+    whole_address,
 };
 pub use commands::{
     AnswerWords, Call, CheckWords, Command, NewsWords, PlanWords, PutWords, ServeWords,
     StatusWords, StopWords, SyncWords,
 };
+pub use floor_words::{FloorFlaw, FloorRule, FloorWords, Newest, floor_rule_of};
 pub use item_files::{
     ItemForm, SettingsFault, WireProfile, has_byte_order_mark, item_of, item_set, read_input_items,
     read_items, read_strategy,

@@ -14,7 +14,7 @@ pub(crate) const MAX_PARTNERS: u32 = 64;
 /// The word in place of an address of a server that nobody may call, which calls others.
 pub const NO_ADDRESS: &str = "none";
 
-/// Why a server does not keep its set equal with others, or answers no programs, as its words ask for it.
+/// Why a server does not keep its set equal with others, or answers no programs or browsers, as its words ask for it.
 ///
 /// It prints as the text for standard error.
 #[derive(Clone, Copy, Debug, PartialEq, Eq, Error)]
@@ -28,12 +28,18 @@ pub enum NodeFlaw {
     /// The partners are none, or too many, or one has no address.
     #[error("error: --with takes 1 to 64 addresses, with a comma between two")]
     Partners,
+    /// It is said of which origins pages may connect, and none can.
+    #[error("error: --origin needs --websocket")]
+    NoPages,
+    /// Browsers are to connect, and the session is to be spoken over standard input and output.
+    #[error("error: --websocket cannot be used with --stdio")]
+    WebStdio,
     /// Programs would be answered that are not on this machine.
     #[error("error: --control takes unix:PATH or an address of the loopback, as 127.0.0.1:7707")]
     Control,
 }
 
-/// The words of a server that may be about partners, or about this machine's own programs.
+/// The words of a server that may be about partners, browsers, or this machine's own programs.
 #[derive(Clone, Copy, Debug, PartialEq, Eq)]
 pub struct NodeWords<'a> {
     /// The addresses of the partners, if they are given.
@@ -42,6 +48,10 @@ pub struct NodeWords<'a> {
     pub has_every: bool,
     /// Where programs are answered, if that is given.
     pub control: Option<&'a str>,
+    /// Whether browsers may connect.
+    pub has_pages: bool,
+    /// Whether it is said of which origins their pages may be.
+    pub has_origins: bool,
     /// Whether the session is to be spoken over standard input and output.
     pub is_stdio: bool,
 }
@@ -168,18 +178,25 @@ fn fits_control(control: Option<&str>) -> bool
     }
 }
 
-/// Why such a server is not run, the first of these that holds: the pause between sessions is given and no partners, a
-/// session is to be spoken over standard input and output, the partners are no list of addresses, or other machines
-/// would reach the place where programs are answered.
+/// Why such a server is not run, the first of these that holds: the pause between sessions is given and no partners, or
+/// origins and no place where browsers connect; a session is to be spoken over standard input and output; the partners
+/// are no list of addresses, or other machines would reach the place where programs are answered.
 pub fn node_flaw(words: NodeWords<'_>) -> Option<NodeFlaw>
     ensures { result ≡ node_flaw (option_map (λ text. text.now) words.entry.partners) words.entry.has_every
-        (option_map (λ text. text.now) words.entry.control) words.entry.is_stdio }
+        (option_map (λ text. text.now) words.entry.control) words.entry.has_pages words.entry.has_origins
+        words.entry.is_stdio }
 {
     if words.partners.is_none() && words.has_every {
         return Some(NodeFlaw::NoPartners);
     }
+    if words.has_origins && !words.has_pages {
+        return Some(NodeFlaw::NoPages);
+    }
     if words.is_stdio && (words.partners.is_some() || words.control.is_some()) {
         return Some(NodeFlaw::Stdio);
+    }
+    if words.is_stdio && words.has_pages {
+        return Some(NodeFlaw::WebStdio);
     }
     if !fits_partners(words.partners) {
         return Some(NodeFlaw::Partners);

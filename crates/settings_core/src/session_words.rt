@@ -49,7 +49,7 @@ const ITEMS: Argument<'static> = Argument::Placed {
 };
 
 /// The arguments of `serve`, but for its ITEMS.
-const SERVE: [Argument<'static>; 29] = [
+const SERVE: [Argument<'static>; 34] = [
     TABLE,
     Argument::ValuedOr {
         name: "addr",
@@ -165,6 +165,31 @@ const SERVE: [Argument<'static>; 29] = [
         name: "metrics",
         value: "A",
         help: "The address at which metrics and a page answer HTTP",
+    },
+    Argument::Valued {
+        name: "websocket",
+        value: "A",
+        help: "The address at which browsers connect too, over WebSockets",
+    },
+    Argument::Valued {
+        name: "origin",
+        value: "O,..",
+        help: "With --websocket: pages of these origins may connect, as https://example.org",
+    },
+    Argument::Valued {
+        name: "not-below",
+        value: "ITEM",
+        help: "Forget the items below this one, and put none of them in",
+    },
+    Argument::Valued {
+        name: "newest",
+        value: "DURATION",
+        help: "Forget the items that are older, as 90s, 10m, 36h or 7d",
+    },
+    Argument::Valued {
+        name: "time-form",
+        value: "FORM",
+        help: "With --newest: the time that items begin with, unix32, unix64 or iso",
     },
     Argument::Valued {
         name: "with",

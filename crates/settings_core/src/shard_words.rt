@@ -40,7 +40,7 @@ pub struct ShardWords<'a> {
 }
 
 /// Whether all bytes are decimal digits.
-fn are_digits(bytes: &[u8]) -> bool
+pub(crate) fn are_digits(bytes: &[u8]) -> bool
     ensures { result ≡ list_all is_ascii_digit bytes.now }
 {
     bytes.iter().all(|byte| byte.is_ascii_digit())

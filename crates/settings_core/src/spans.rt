@@ -24,6 +24,9 @@ pub(crate) const MAX_SESSION_SECONDS: u32 = 604_800;
 /// The greatest number of seconds between two sessions with a partner: a day.
 pub(crate) const MAX_EVERY: u32 = 86_400;
 
+/// The greatest number of seconds that an item may be old: 3,650 days.
+pub(crate) const MAX_NEWEST: u32 = 315_360_000;
+
 /// The greatest number of MiB of memory for all peers: a TiB.
 pub(crate) const MAX_MEMORY: u32 = 1_048_576;
 

@@ -1,7 +1,7 @@
 -- The shards of a span are those of the whole set.
 use Rattle.std.proofs.Common.{◌≡◌, ℕ, zero, suc, ◌+◌, ◌-◌, ◌<◌, ◌≤◌, ◌^◌, Bool, true, false, not, ◌&&◌, List, [], ◌∷◌}
 use Rattle.std.proofs.Common.{length, map, take, drop, cond, refl, sym, ap, ◌∙◌, arith, rules, true≢false}
-use Rattle.std.proofs.Common.{◌||◌, ◌++◌}
+use Rattle.std.proofs.Common.{◌||◌, ◌++◌, get_or, set}
 use Rattle.std.specs.Prelude.{filter, nat_lt, Vec}
 use Rattle.std.specs.declared.alloc.Global.{Global}
 use Rattle.std.specs.List.{AllByRecursion, range_with_len}
@@ -14,6 +14,7 @@ use Rattle.definitions.specs.Items.{Item, item_cmp, same_item}
 use Rattle.definitions.specs.Sets.{IsSet, has, set_of}
 use Rattle.store_core.proofs.Made.{same_set, set_of_is_set, has_set_of}
 use Rattle.shard_core.proofs.Cut.{has_filter}
+use Rattle.shard_core.proofs.Dealt.{dealt_step, dealt_none}
 use Rattle.shard_core.specs.Shards.{shard_number, lies_in, shard, shards}
 use Rattle.shard_core.specs.Splits.{held, HasRoom}
 use Rattle.shard_core.specs.Spans.{in_span, kept, span, span_shards, AreKept}
@@ -116,22 +117,54 @@ module _ (b first last : ℕ) where
   set_kept A set = IsStrictlySortedBy-filter item_cmp is_kept A set
 
   pub kept_more : (ds xs ys : List Item) → set_of ds ≡ kept b first last (set_of xs) →
-      set_of (ds ++ kept b first last (set_of ys)) ≡ kept b first last (set_of (xs ++ ys))
+      set_of (ds ++ kept b first last ys) ≡ kept b first last (set_of (xs ++ ys))
   kept_more ds xs ys same =
-      same_set (set_of (ds ++ kept b first last (set_of ys))) (kept b first last (set_of (xs ++ ys)))
-      (set_of_is_set (ds ++ kept b first last (set_of ys))) (set_kept (set_of (xs ++ ys)) (set_of_is_set (xs ++ ys)))
-      (λ x. has_set_of (ds ++ kept b first last (set_of ys)) x
-      ∙ list_any-append (same_item x) ds (kept b first last (set_of ys))
-      ∙ (λ i. both x i || has_kept ys x i) ∙ or_and (is_kept x) (has xs x) (has ys x)
+      same_set (set_of (ds ++ kept b first last ys)) (kept b first last (set_of (xs ++ ys)))
+      (set_of_is_set (ds ++ kept b first last ys)) (set_kept (set_of (xs ++ ys)) (set_of_is_set (xs ++ ys)))
+      (λ x. has_set_of (ds ++ kept b first last ys) x
+      ∙ list_any-append (same_item x) ds (kept b first last ys)
+      ∙ (λ i. both x i || has_filter is_kept ys x i) ∙ or_and (is_kept x) (has xs x) (has ys x)
       ∙ ap (λ c. is_kept x && c) (sym (list_any-append (same_item x) xs ys)) ∙ sym (has_kept (xs ++ ys) x))
     where
       both : (x : Item) → has ds x ≡ (is_kept x && has xs x)
       both x = sym (has_set_of ds x) ∙ ap (λ A. has A x) same ∙ has_kept xs x
 
+-- ---- one item more, whose shard is in the span
+
+pub within_one : (b first last n : ℕ) (x : Item) → n ≡ shard_number b x → first ≤ n → n ≤ last →
+    kept b first last (x ∷ []) ≡ x ∷ []
+within_one b first last n x own low high =
+    let above : nat_lt (shard_number b x) first ≡ false = search (rules, own, low) in
+    let below : nat_lt last (shard_number b x) ≡ false = search (rules, own, high) in
+    λ i. cond (not (above i) && not (below i)) (x ∷ []) []
+
+pub deals_one : (b n : ℕ) (x : Item) (dealt K : List Item) (old new : List (List Item)) → b ≤ 12 →
+    n ≡ shard_number b x → K ≡ x ∷ [] → old ≡ shards b dealt → new ≡ set old n (get_or old n [] ++ x ∷ []) →
+    new ≡ shards b (dealt ++ K)
+deals_one b n x dealt K old new low own one was is =
+    dealt_step b dealt (x ∷ []) 0 x n old new low (omega arith) refl own (was ∙ dealt_none b dealt) is
+    ∙ ap (λ k. shards b (dealt ++ k)) (sym one)
+
+pub set_again : (xs : List Item) → set_of (set_of xs) ≡ set_of xs
+set_again xs = same_set (set_of (set_of xs)) (set_of xs) (set_of_is_set (set_of xs)) (set_of_is_set xs)
+    (λ x. has_set_of (set_of xs) x)
+
 -- ---- lists as vectors
 
 abbrev listed : Vec Item Global → List Item
 listed v = v.items
+
+-- each list becomes a set in its place
+pub each_is_set : (vs ws : List (Vec Item Global)) → length ws ≡ length vs →
+    ((k : ℕ) (d : Vec Item Global) → k < length vs → (get_or ws k d).items ≡ set_of (get_or vs k d).items) →
+    held ws ≡ map set_of (held vs)
+each_is_set [] [] long each = refl
+each_is_set [] (w ∷ ws) long each = absurd (omega (arith, long))
+each_is_set (v ∷ vs) [] long each = absurd (omega (arith, long))
+each_is_set (v ∷ vs) (w ∷ ws) long each =
+    let less : length ws ≡ length vs = omega (arith, long) in
+    λ i. each 0 v (omega arith) i
+    ∷ each_is_set vs ws less (λ k d inside. each (suc k) d (omega (arith, inside))) i
 
 pub part_held : (vs ws : List (Vec Item Global)) (first n : ℕ) → ws ≡ take n vs →
     held (drop first ws) ≡ drop first (take n (held vs))

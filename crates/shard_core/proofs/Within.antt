@@ -1,4 +1,4 @@
--- Shards of the items of a set that are in a range. Which shard an item has does not hang on the range, so two filters
+-- Shards of the items of a set that are kept. Which shard an item has does not hang on what is kept, so two filters
 -- change places; a filter keeps the order, and takes no item in, so what was a set with room stays one.
 use Rattle.std.proofs.Common.{◌≡◌, ℕ, ◌+◌, ◌<◌, ◌≤◌, Bool, List, [], ◌∷◌, ◌++◌, length, map, get_or, set}
 use Rattle.std.proofs.Common.{take, drop, refl, sym, ap, subst, ◌∙◌, arith}
@@ -7,8 +7,7 @@ use Rattle.std.specs.declared.alloc.Global.{Global}
 use Rattle.std.proofs.lemmas.List.{get_or-map, map-set}
 use Rattle.std.proofs.lemmas.List.Edits.{map_over_more}
 use Rattle.std.proofs.lemmas.List.Kept.{IsStrictlySortedBy-filter}
-use Rattle.definitions.specs.Items.{Item, Range, contains, item_cmp}
-use Rattle.definitions.specs.Sets.{items_in}
+use Rattle.definitions.specs.Items.{Item, item_cmp}
 use Rattle.shard_core.specs.Shards.{lies_in, shard}
 use Rattle.shard_core.specs.Splits.{held, HasRoom}
 use Rattle.shard_core.specs.Spans.{span, span_shards, AreKept}
@@ -37,24 +36,25 @@ short_filter p (x ∷ xs) = grind (arith, short_filter p xs)
 
 -- ---- shards
 
-pub shards_in : (b first last : ℕ) (A : List Item) (X : Range) →
-    map (λ B. items_in B X) (span_shards b first last A) ≡ span_shards b first last (items_in A X)
-shards_in b first last A X =
-    map-map (λ B. items_in B X) (shard b A) (span first last)
-    ∙ map-every (λ s. items_in (shard b A s) X) (shard b (items_in A X))
-    (λ s. filters_change (contains X) (lies_in b s) A) (span first last)
+pub shards_in : (b first last : ℕ) (A : List Item) (p : Item → Bool) →
+    map (λ B. filter p B) (span_shards b first last A) ≡ span_shards b first last (filter p A)
+shards_in b first last A p =
+    map-map (λ B. filter p B) (shard b A) (span first last)
+    ∙ map-every (λ s. filter p (shard b A s)) (shard b (filter p A))
+    (λ s. filters_change p (lies_in b s) A) (span first last)
 
-room_in : (most : ℕ) (X : Range) (Xs : List (List Item)) → HasRoom most Xs → HasRoom most (map (λ B. items_in B X) Xs)
-room_in most X [] room = room
-room_in most X (B ∷ Bs) room = (omega (arith, short_filter (contains X) B, room.0), room_in most X Bs room.1)
+room_in : (most : ℕ) (p : Item → Bool) (Xs : List (List Item)) → HasRoom most Xs →
+    HasRoom most (map (λ B. filter p B) Xs)
+room_in most p [] room = room
+room_in most p (B ∷ Bs) room = (omega (arith, short_filter p B, room.0), room_in most p Bs room.1)
 
-pub kept_in : (b first last cap : ℕ) (X : Range) (Xs Ys : List (List Item)) → Ys ≡ map (λ B. items_in B X) Xs
+pub kept_in : (b first last cap : ℕ) (p : Item → Bool) (Xs Ys : List (List Item)) → Ys ≡ map (λ B. filter p B) Xs
     → AreKept b first last cap Xs → AreKept b first last cap Ys
-kept_in b first last cap X Xs Ys is (room, (A, rises, shards)) = (
-  subst (HasRoom cap) (sym is) (room_in cap X Xs room),
+kept_in b first last cap p Xs Ys is (room, (A, rises, shards)) = (
+  subst (HasRoom cap) (sym is) (room_in cap p Xs room),
   (
-    items_in A X,
-    IsStrictlySortedBy-filter item_cmp (contains X) A rises,
-    is ∙ ap (map (λ B. items_in B X)) shards ∙ shards_in b first last A X,
+    filter p A,
+    IsStrictlySortedBy-filter item_cmp p A rises,
+    is ∙ ap (map (λ B. filter p B)) shards ∙ shards_in b first last A p,
   ),
 )

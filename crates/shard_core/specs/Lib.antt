@@ -10,3 +10,4 @@ pub mod Spans
 pub mod Choices
 pub mod Selectors
 pub mod Fronts
+pub mod Floors

@@ -16,7 +16,7 @@ use item_core::Item;
 use std::alloc::{AllocError, Global};
 
 /// Adds an item to one of the lists.
-fn deal_one(lists: &mut [Vec<Item>], number: usize, item: Item) -> Result<(), AllocError>
+pub(crate) fn deal_one(lists: &mut [Vec<Item>], number: usize, item: Item) -> Result<(), AllocError>
     requires { number < length lists.old }
     ensures dealt { OnOk result (held lists.new
         ≡ set (held lists.old) number (get_or (held lists.old) number [] ++ item ∷ [])) }
@@ -49,7 +49,7 @@ pub fn none_dealt(alloc: Global, bits: u8) -> Result<Vec<Vec<Item>>, AllocError>
 }
 
 /// Appends each of these items to the list of its shard. The lists have the items that were dealt before.
-pub(crate) fn deal(lists: &mut Vec<Vec<Item>>, bits: u8, items: &[Item]) -> Result<(), AllocError>
+fn deal(lists: &mut Vec<Vec<Item>>, bits: u8, items: &[Item]) -> Result<(), AllocError>
     requires low { bits ≤ max_bits }
     requires all { length lists.old.items ≡ 2 ^ bits }
     ensures dealt { (dealt : List Bytes) → held lists.old.items ≡ shards bits dealt →

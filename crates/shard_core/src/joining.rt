@@ -2,14 +2,16 @@
 
 ghost use Rattle.std.specs.Prelude.{◌≡◌, ◌+◌, ◌<◌, ◌≤◌, ◌^◌, ℕ, List, ◌++◌, length, map, IfOk, IfErr, OnOk};
 ghost use Rattle.definitions.specs.Items.{Item as Bytes};
-ghost use Rattle.definitions.specs.Sets.{items_in, set_of};
+ghost use Rattle.definitions.specs.Sets.{set_of};
 ghost use Rattle.shard_core.specs.Shards.{max_bits};
 ghost use Rattle.shard_core.specs.Splits.{held, HasRoom, IsFull};
+ghost use Rattle.shard_core.specs.Floors.{kept_by};
 ghost use Rattle.shard_core.specs.Spans.{span_shards, joined_to, AreKept, IsFullFrom};
 
 use crate::dealing::into_sets;
 use crate::fault::SplitFault;
-use item_core::{Item, Range};
+use crate::floor::Floor;
+use item_core::Item;
 use std::alloc::AllocError;
 
 /// Appends items.
@@ -84,38 +86,38 @@ pub fn join_shards(
     }
 }
 
-/// Keeps the items that are in the range.
-fn keep_within(items: &mut Vec<Item>, range: &Range)
-    ensures { items.new.items ≡ items_in items.old.items range.now }
+/// Keeps the items that the floor keeps.
+fn keep_within(items: &mut Vec<Item>, floor: &Floor)
+    ensures { items.new.items ≡ kept_by floor.now items.old.items }
 {
-    items.retain(|item| range.contains(item));
+    items.retain(|item| floor.keeps(item));
 }
 
-/// Keeps of each list the items that are in the range.
-fn keep_each_within(lists: &mut [Vec<Item>], range: &Range)
-    ensures within { held lists.new ≡ map (λ A. items_in A range.now) (held lists.old) }
+/// Keeps of each list the items that the floor keeps.
+fn keep_each_within(lists: &mut [Vec<Item>], floor: &Floor)
+    ensures within { held lists.new ≡ map (kept_by floor.now) (held lists.old) }
     ensures all { length lists.new ≡ length lists.old }
 {
     for place in 0..lists.len() {
-        keep_within(&mut lists[place], range);
+        keep_within(&mut lists[place], floor);
     }
 }
 
-/// The lists, of each the items that are in the range.
-fn each_within(lists: Vec<Vec<Item>>, range: &Range) -> Vec<Vec<Item>>
-    ensures { held result.items ≡ map (λ A. items_in A range.now) (held lists.items) }
+/// The lists, of each the items that the floor keeps.
+fn each_within(lists: Vec<Vec<Item>>, floor: &Floor) -> Vec<Vec<Item>>
+    ensures { held result.items ≡ map (kept_by floor.now) (held lists.items) }
 {
     let mut all = lists;
-    keep_each_within(&mut all, range);
+    keep_each_within(&mut all, floor);
     all
 }
 
-/// The shards of the items of a set that are in the range.
-pub fn shards_within(lists: Vec<Vec<Item>>, range: &Range) -> Vec<Vec<Item>>
+/// The shards of the items of a set that the floor keeps.
+pub fn shards_within(lists: Vec<Vec<Item>>, floor: &Floor) -> Vec<Vec<Item>>
     ensures shards { (b first last : ℕ) (A : List Bytes) → held lists.items ≡ span_shards b first last A →
-        held result.items ≡ span_shards b first last (items_in A range.now) }
+        held result.items ≡ span_shards b first last (kept_by floor.now A) }
     ensures kept { (b first last cap : ℕ) → AreKept b first last cap (held lists.items) →
         AreKept b first last cap (held result.items) }
 {
-    each_within(lists, range)
+    each_within(lists, floor)
 }

@@ -1,34 +1,17 @@
 //! Some shards of a set, from one number to another.
 
-ghost use Rattle.std.specs.Prelude.{◌≡◌, ◌+◌, ◌<◌, ◌≤◌, ◌^◌, ℕ, List, ◌++◌, length, take, drop, IfOk, IfErr, OnOk};
+ghost use Rattle.std.specs.Prelude.{◌≡◌, ◌+◌, ◌<◌, ◌≤◌, ◌^◌, ℕ, List, [], ◌∷◌, ◌++◌, length, take, drop, map, IfOk, IfErr};
+ghost use Rattle.std.specs.Prelude.{OnOk};
 ghost use Rattle.definitions.specs.Items.{Item as Bytes};
 ghost use Rattle.definitions.specs.Sets.{set_of};
-ghost use Rattle.shard_core.specs.Shards.{max_bits, shards};
+ghost use Rattle.shard_core.specs.Shards.{max_bits, shard_number, shards};
 ghost use Rattle.shard_core.specs.Splits.{held, HasRoom, IsFull};
-ghost use Rattle.shard_core.specs.Spans.{in_span, kept, span_shards, Holds, AreKept};
+ghost use Rattle.shard_core.specs.Spans.{kept, span_shards, Holds, AreKept};
 
-use crate::dealing::{deal, into_sets};
+use crate::dealing::{deal_one, into_sets};
 use crate::fault::SplitFault;
-use crate::shard::shard_of;
 use item_core::Item;
 use std::alloc::AllocError;
-
-/// Whether an item is in one of these shards.
-fn in_span(item: &Item, bits: u8, first: u16, last: u16) -> bool
-    requires { bits ≤ max_bits }
-    ensures { result ≡ in_span bits first last item.now }
-{
-    let number = shard_of(item, bits);
-    number >= first && number <= last
-}
-
-/// Drops the items that are in none of these shards.
-fn retain_span(items: &mut Vec<Item>, bits: u8, first: u16, last: u16)
-    requires { bits ≤ max_bits }
-    ensures { items.new.items ≡ kept bits first last items.old.items }
-{
-    items.retain(|item| in_span(item, bits, first, last));
-}
 
 /// The lists of these shards, of the lists of all shards. The others are let go.
 fn keep_span(lists: Vec<Vec<Item>>, first: u16, last: u16) -> Result<Vec<Vec<Item>>, AllocError>
@@ -44,27 +27,80 @@ fn keep_span(lists: Vec<Vec<Item>>, first: u16, last: u16) -> Result<Vec<Vec<Ite
     lists.split_off(first as usize)
 }
 
-/// Appends each of these items to the list of its shard, of the lists of all shards, if that is one of those from
-/// `first` to `last`; the others are let go. In the clauses the lists have the items of xs that are in these shards,
-/// and the items are the set of ys.
+/// Some shards of a set that is cut into 2 to the power of `bits`: those from `first` to `last`.
+#[derive(Clone, Copy, Debug, PartialEq, Eq)]
+pub struct ShardSpan {
+    /// The number of bits.
+    pub bits: u8,
+    /// The number of the first of these shards.
+    pub first: u16,
+    /// The number of the last one.
+    pub last: u16,
+}
+
+/// Appends an item to the list of its shard, which has this number, if that is one of these shards.
+#[tactic(auto, using(crate::proofs::Numbers::number_below))]
+fn deal_kept(
+    lists: &mut [Vec<Item>],
+    span: ShardSpan,
+    number: u16,
+    item: Item,
+) -> Result<(), AllocError>
+    requires low { span.bits ≤ max_bits }
+    requires all { length lists.old ≡ 2 ^ span.bits }
+    requires number { number ≡ shard_number span.bits item }
+    ensures dealt { (dealt : List Bytes) → held lists.old ≡ shards span.bits dealt →
+        OnOk result (held lists.new ≡ shards span.bits (dealt ++ kept span.bits span.first span.last (item ∷ []))) }
+    ensures all { length lists.new ≡ length lists.old }
+{
+    if number < span.first {
+        return Ok(());
+    }
+    if number > span.last {
+        return Ok(());
+    }
+    deal_one(lists, number as usize, item)
+}
+
+/// Appends each of these items to the list of its shard, whose number is in the same place.
+fn deal_each(
+    lists: &mut [Vec<Item>],
+    span: ShardSpan,
+    items: &[Item],
+    numbers: &[u16],
+) -> Result<(), AllocError>
+    requires low { span.bits ≤ max_bits }
+    requires all { length lists.old ≡ 2 ^ span.bits }
+    requires numbers { numbers.now ≡ map (shard_number span.bits) items.now }
+    ensures dealt { (dealt : List Bytes) → held lists.old ≡ shards span.bits dealt →
+        OnOk result (held lists.new ≡ shards span.bits (dealt ++ kept span.bits span.first span.last items.now)) }
+    ensures all { length lists.new ≡ length lists.old }
+{
+    for place in 0..items.len() {
+        deal_kept(lists, span, numbers[place], items[place])?;
+    }
+    Ok(())
+}
+
+/// Appends each of these items to the list of its shard, of the lists of all shards, if that is one of these; the
+/// others are let go. The numbers of their shards are in the same places. In the clauses the lists have the items of xs
+/// that are in these shards.
 ///
 /// Fails only if memory runs out.
 pub fn deal_span(
     lists: &mut Vec<Vec<Item>>,
-    bits: u8,
-    first: u16,
-    last: u16,
-    items: Vec<Item>,
+    span: ShardSpan,
+    items: &[Item],
+    numbers: &[u16],
 ) -> Result<(), AllocError>
-    requires low { bits ≤ max_bits }
-    requires all { length lists.old.items ≡ 2 ^ bits }
-    ensures dealt { (xs ys : List Bytes) → items.items ≡ set_of ys → Holds bits first last lists.old.items xs →
-        OnOk result (Holds bits first last lists.new.items (xs ++ ys)) }
-    ensures all { length lists.new.items ≡ 2 ^ bits }
+    requires low { span.bits ≤ max_bits }
+    requires all { length lists.old.items ≡ 2 ^ span.bits }
+    requires numbers { numbers.now ≡ map (shard_number span.bits) items.now }
+    ensures dealt { (xs : List Bytes) → Holds span.bits span.first span.last lists.old.items xs →
+        OnOk result (Holds span.bits span.first span.last lists.new.items (xs ++ items.now)) }
+    ensures all { length lists.new.items ≡ 2 ^ span.bits }
 {
-    let mut items = items;
-    retain_span(&mut items, bits, first, last);
-    deal(lists, bits, &items)
+    deal_each(lists, span, items, numbers)
 }
 
 /// The sets of the shards from `first` to `last`, of the lists of all shards, if none of them has more items than the

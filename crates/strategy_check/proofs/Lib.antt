@@ -1,2 +1,5 @@
+pub mod Counts
 pub mod Long
 pub mod Orders
+pub mod Steps
+pub mod Turns

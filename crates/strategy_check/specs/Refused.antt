@@ -1,15 +1,15 @@
 -- What the check returns, beside what the definitions say.
 --     fault_number f             the number of a fault
 --     fault_of f, error_of e     a fault as the definitions have it; an error of ranks as one of the check
---     Finds, Checks, ChecksWith  what is accepted, or the same fault, unless memory ran out
+--     FindsAccepted, Checks and ChecksWith say what is accepted, or the same fault, unless memory ran out
 use Rattle.std.specs.Prelude.{◌≡◌, ℕ, List, Option, Some, None, Result, Ok, Err, IsOk}
 use Rattle.definitions.specs.Strategies.{Table}
 use Rattle.definitions.specs.Ranks as ranks
 use Rattle.definitions.specs.Ranks.{check_fault, check_with_fault, first_long, found}
 use Rattle.definitions.specs.Refusals as codes
-use Rattle.rank_core.specs.declared.fault.RankFault.TheVariants as rank_faults
-use Rattle.rank_core.specs.declared.fault.RankError.{RankError}
-use Rattle.rank_core.specs.declared.fault.RankError.TheVariants as rank_errors
+use Rattle.strategy_check.specs.declared.rank_fault.RankFault.TheVariants as rank_faults
+use Rattle.strategy_check.specs.declared.rank_fault.RankError.{RankError}
+use Rattle.strategy_check.specs.declared.rank_fault.RankError.TheVariants as rank_errors
 use Rattle.strategy_check.specs.Checked.{Checked}
 use Rattle.strategy_check.specs.declared.fault.CheckFault.{CheckFault}
 use Rattle.strategy_check.specs.declared.fault.CheckFault.TheVariants.{ListTooLong, NoDescent, TooDeep, BadCertificate}
@@ -39,9 +39,9 @@ Refuses errors.Memory T = (first_long T ≡ None) × IsOk (found T)
 Refuses (errors.Fault f) T = check_fault T ≡ Some (fault_of f)
 
 -- the least ranks of a table that is accepted
-abbrev pub Finds : Result (List ℕ) CheckError → Table → Type 0
-Finds (Ok steps) T = (check_fault T ≡ None) × (found T ≡ Ok steps)
-Finds (Err e) T = Refuses e T
+abbrev pub FindsAccepted : Result (List ℕ) CheckError → Table → Type 0
+FindsAccepted (Ok steps) T = (check_fault T ≡ None) × (found T ≡ Ok steps)
+FindsAccepted (Err e) T = Refuses e T
 
 -- the same; the table comes back with the reason
 abbrev pub Checks : Result Checked (Table × CheckError) → Table → Type 0

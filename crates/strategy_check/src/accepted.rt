@@ -3,7 +3,7 @@ ghost use Rattle.definitions.specs.Strategies.{width};
 ghost use Rattle.definitions.specs.Ranks.{rank_by};
 ghost use Rattle.strategy_check.specs.Checked.{IsChecked};
 
-use rank_core::Ranks;
+use crate::ranks::Ranks;
 use std::marker::Model;
 use strategy_core::Strategy;
 

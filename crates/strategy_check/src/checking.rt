@@ -2,19 +2,19 @@ ghost use Rattle.std.specs.Prelude.{◌≡◌, ◌≢◌, IfOk, IfErr};
 ghost use Rattle.definitions.specs.Ranks as meaning;
 ghost use Rattle.definitions.specs.Ranks.{IsLeastRankTable, ranks_by, check_with_fault};
 ghost use Rattle.strategy_check.specs.Checked.{IsChecked};
-ghost use Rattle.strategy_check.specs.Refused.{Finds, Checks, ChecksWith, Passes};
+ghost use Rattle.strategy_check.specs.Refused.{FindsAccepted, Checks, ChecksWith, Passes};
 ghost use Rattle.strategy_check.specs.declared.fault.CheckError.TheVariants as errors;
 
 use crate::accepted::Accepted;
 use crate::fault::{CheckError, CheckFault};
 use crate::reasons::{long_list, too_deep};
-use rank_core::Ranks;
+use crate::ranks::Ranks;
 use std::alloc::Global;
 use strategy_core::Strategy;
 
 /// The least ranks of a strategy, where it is to be accepted.
 fn least_ranks(alloc: Global, strategy: &Strategy) -> Result<Ranks, CheckError>
-    ensures exact { Finds result strategy.now }
+    ensures exact { FindsAccepted result strategy.now }
     ensures least { IfOk result (λ steps. IsLeastRankTable strategy.now (ranks_by steps strategy.now.cap)) }
     ensures checked { IfOk result (λ steps. IsChecked (record { table = strategy.now; steps = steps })) }
 {

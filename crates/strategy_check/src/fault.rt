@@ -2,7 +2,7 @@ ghost use Rattle.std.specs.Prelude.{◌≡◌};
 ghost use Rattle.strategy_check.specs.Refused.{fault_number, error_of};
 ghost use Rattle.strategy_check.specs.declared.fault.CheckError.TheVariants as errors;
 
-use rank_core::{RankError, RankFault};
+use crate::rank_fault::{RankError, RankFault};
 
 /// Why a strategy is not accepted.
 #[derive(Clone, Copy, Debug, PartialEq, Eq)]

@@ -7,7 +7,7 @@ ghost use Rattle.definitions.specs.Climbs.{deep_by_steps};
 ghost use Rattle.strategy_check.specs.Refused.{fault_of};
 
 use crate::fault::CheckFault;
-use rank_core::Ranks;
+use crate::ranks::Ranks;
 use strategy_core::{Act, Strategy};
 
 /// The `upto` of the first row that lists and reaches past the limit.

@@ -1,15 +1,30 @@
 //! The two halves of a connection.
 
+ghost use Rattle.std.specs.Io.{ReadsAtMost, WritesAtMost};
+
 use crate::origin::origin_of;
 use crate::stream::Stream;
+use crate::web::{Origins, WebReader, write_close};
+use http_core::Framing;
 use std::alloc::Global;
 use std::io;
-use std::io::{Read, Write};
+use std::io::{ErrorKind, Read, Write};
 use std::net::{Shutdown, SocketAddr};
 use std::os::fd::{AsRawFd, RawFd};
 use std::sync::Arc;
 
-/// One half of a connection: what is read of it, or what is written to it.
+/// What one half does with the bytes that go through.
+#[derive(Drop)]
+enum Way {
+    /// Nothing.
+    Plain,
+    /// It takes them out of the frames of a WebSocket.
+    Reads(Box<WebReader>),
+    /// It puts them into frames.
+    Writes(Framing),
+}
+
+/// One half of a connection: what is read of it, or what is written to it. Of a WebSocket it is what its frames have.
 ///
 /// Both halves share the connection's one descriptor, so a session takes no second one. The connection is closed when
 /// both are dropped.
@@ -20,15 +35,17 @@ pub struct Half {
     address: Option<SocketAddr>,
     /// How many bytes went through. The count stops at 2^64 - 1.
     bytes: u64,
+    way: Way,
 }
 
 impl Half {
     /// One half of a connection from this address, through which nothing went so far.
-    fn new(stream: Arc<Stream>, address: Option<SocketAddr>) -> Half {
+    fn new(stream: Arc<Stream>, address: Option<SocketAddr>, way: Way) -> Half {
         Half {
             stream,
             address,
             bytes: 0,
+            way,
         }
     }
 
@@ -50,7 +67,7 @@ impl Half {
         }
     }
 
-    /// How many bytes were read of this half, or written to it.
+    /// How many bytes were read of this half, or written to it, on the connection itself.
     pub fn bytes(&self) -> u64 {
         self.bytes
     }
@@ -58,6 +75,26 @@ impl Half {
     /// Nothing more is written to the connection.
     pub fn end_output(&self) -> io::Result<()> {
         self.stream.shutdown(Shutdown::Write)
+    }
+
+    /// Nothing more is written to this half of a connection, of which that one was read. A WebSocket that has begun,
+    /// and of which no frame is cut, is closed first.
+    pub fn end_after(&self, reader: &Half) -> io::Result<()> {
+        if let (Way::Writes(framing), Way::Reads(web)) = (&self.way, &reader.way) {
+            if web.has_begun() && !framing.is_inside() {
+                write_close(&self.stream, web.close_code());
+            }
+        }
+        self.end_output()
+    }
+
+    /// What the connection gives, whatever it is.
+    pub fn read_on(&mut self, buf: &mut [u8]) -> io::Result<usize>
+        ensures { ReadsAtMost result buf.new }
+    {
+        let count = self.stream.receive(buf)?;
+        self.bytes = self.bytes.saturating_add(count as u64);
+        Ok(count)
     }
 }
 
@@ -69,7 +106,38 @@ impl AsRawFd for Half {
 
 impl Read for Half {
     fn read(&mut self, buf: &mut [u8]) -> io::Result<usize> {
-        let count = self.stream.receive(buf)?;
+        match &mut self.way {
+            Way::Reads(web) => web.read(&self.stream, buf, &mut self.bytes),
+            _ => self.read_on(buf),
+        }
+    }
+}
+
+/// Writes bytes in a frame: what is owed of its head, and as many as it has room for. How many of them were taken.
+fn write_framed(
+    stream: &Stream,
+    framing: &mut Framing,
+    buf: &[u8],
+    bytes: &mut u64,
+) -> io::Result<usize>
+    ensures bound { WritesAtMost result buf.now }
+{
+    let most = framing.begin(buf.len());
+    let count = stream.send_both(framing.owed(), &buf[..most])?;
+    *bytes = bytes.saturating_add(count as u64);
+    let taken = framing.wrote(count).min(most);
+    if taken == 0 && most > 0 {
+        return Err(io::Error::from(ErrorKind::WouldBlock));
+    }
+    Ok(taken)
+}
+
+impl Half {
+    /// Writes bytes as they are.
+    fn write_plain(&mut self, buf: &[u8]) -> io::Result<usize>
+        ensures bound { WritesAtMost result buf.now }
+    {
+        let count = self.stream.send(buf)?;
         self.bytes = self.bytes.saturating_add(count as u64);
         Ok(count)
     }
@@ -77,9 +145,10 @@ impl Read for Half {
 
 impl Write for Half {
     fn write(&mut self, buf: &[u8]) -> io::Result<usize> {
-        let count = self.stream.send(buf)?;
-        self.bytes = self.bytes.saturating_add(count as u64);
-        Ok(count)
+        match &mut self.way {
+            Way::Writes(framing) => write_framed(&self.stream, framing, buf, &mut self.bytes),
+            _ => self.write_plain(buf),
+        }
     }
 
     fn flush(&mut self) -> io::Result<()> {
@@ -96,5 +165,32 @@ pub(crate) fn halves(
 ) -> Option<(Half, Half)> {
     let reader = Arc::new(alloc, stream).ok()?;
     let writer = Arc::try_clone(&reader).ok()?;
-    Some((Half::new(reader, address), Half::new(writer, address)))
+    Some((
+        Half::new(reader, address, Way::Plain),
+        Half::new(writer, address, Way::Plain),
+    ))
+}
+
+/// The same of a connection that is to be a WebSocket, which pages of these origins may open, and whose frames have at
+/// most so many bytes.
+pub(crate) fn web_halves(
+    alloc: Global,
+    stream: Stream,
+    address: Option<SocketAddr>,
+    pages: (&Origins, u64),
+) -> Option<(Half, Half)> {
+    let (origins, most) = pages;
+    let origins = Arc::try_clone(origins).ok()?;
+    let web = Box::new(alloc, WebReader::new(alloc, origins, most)).ok()?;
+    let (reader, writer) = halves(alloc, stream, address)?;
+    Some((
+        Half {
+            way: Way::Reads(web),
+            ..reader
+        },
+        Half {
+            way: Way::Writes(Framing::new()),
+            ..writer
+        },
+    ))
 }

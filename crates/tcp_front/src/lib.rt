@@ -18,6 +18,7 @@ mod tests;
 mod trying;
 mod unix_socket;
 mod unreached;
+mod web;
 
 pub use attended::{Attended, attend};
 pub use closing::finish;

@@ -14,29 +14,40 @@ use crate::stream::Stream;
 use crate::trying::{Attempt, present};
 use crate::unix_socket::SocketFile;
 use crate::unreached::{Unreached, port_is_too_high, unheard, unknown};
+use crate::web::Origins;
 use session_table::{Source, SourceFault};
-use std::alloc::Global;
+use std::alloc::{AllocError, Global};
 use std::io;
 use std::io::{ErrorKind, Take};
 use std::net::{Net, SocketAddr, TcpListener, TcpStream, ToSocketAddrs};
 use std::os::fd::{AsRawFd, RawFd};
 use std::rt::Files;
+use std::sync::Arc;
 use std::sync::atomic::{AtomicU64, Ordering};
 use std::time::Clock;
 
-/// A listener that workers share, and how many connections they may still wait for.
+/// One place where a listener listens.
+#[derive(Drop)]
+pub(crate) struct Entrance<'a> {
+    pub(crate) socket: Socket,
+    // That of a Unix socket.
+    file: Option<SocketFile<'a>>,
+    // Which pages may connect, where those who come speak over WebSockets.
+    pub(crate) pages: Option<Origins>,
+}
+
+/// A listener that workers share, and how many connections they may still wait for. It may listen at two places.
 ///
 /// A worker counts its connection before it waits to accept, so none waits for one beyond the number. A connection that
 /// is gone before it is accepted is passed over. Where there is no descriptor or memory for one, it is tried again
 /// after a pause, a bounded number of times. After an accept that failed no connection is left.
 #[derive(Drop)]
 pub struct Listener<'a, C> {
-    pub(crate) socket: Socket,
-    // That of a Unix socket.
-    file: Option<SocketFile<'a>>,
+    entrance: Entrance<'a>,
+    second: Option<Entrance<'a>>,
     left: AtomicU64,
     // What each connection may cost.
-    limits: Limits,
+    pub(crate) limits: Limits,
     pub(crate) alloc: Global,
     clock: &'a C,
 }
@@ -111,8 +122,12 @@ impl<'a, R: AllocGlobal> Listener<'a, R> {
         limits: Limits,
     ) -> Listener<'a, R> {
         Listener {
-            socket,
-            file: None,
+            entrance: Entrance {
+                socket,
+                file: None,
+                pages: None,
+            },
+            second: None,
             left: AtomicU64::new(connections.map_or(u64::MAX, u64::from)),
             limits,
             alloc: rt.alloc(),
@@ -123,7 +138,35 @@ impl<'a, R: AllocGlobal> Listener<'a, R> {
     /// The same listener, whose socket has this file.
     pub(crate) fn with_file(self, file: SocketFile<'a>) -> Listener<'a, R> {
         Listener {
-            file: Some(file),
+            entrance: Entrance {
+                file: Some(file),
+                ..self.entrance
+            },
+            ..self
+        }
+    }
+}
+
+impl<'a, C> Listener<'a, C> {
+    /// The same listener, to which browsers come: over WebSockets, and from pages of these origins, with commas between
+    /// them.
+    pub fn for_pages(self, origins: &str) -> Result<Listener<'a, C>, AllocError> {
+        let alloc = self.alloc;
+        let pages = Arc::new(alloc, Vec::from_slice(alloc, origins.as_bytes())?)?;
+        Ok(Listener {
+            entrance: Entrance {
+                pages: Some(pages),
+                ..self.entrance
+            },
+            ..self
+        })
+    }
+
+    /// The same listener, which listens at the place of another one too.
+    pub fn beside(self, other: Listener<'a, C>) -> Listener<'a, C> {
+        let Listener { entrance, .. } = other;
+        Listener {
+            second: Some(entrance),
             ..self
         }
     }
@@ -132,13 +175,49 @@ impl<'a, R: AllocGlobal> Listener<'a, R> {
 impl<C> Listener<'_, C> {
     /// The address of TCP that is listened at, with its real port, if it is one and the system tells it.
     pub fn local_addr(&self) -> Option<SocketAddr> {
-        self.socket.local_addr()
+        self.entrance.socket.local_addr()
     }
 
-    /// Removes the file of the Unix socket, if it is one and the file is still the one that was made: from then on
-    /// nobody finds it. Without this call it is stale once the listener is dropped.
+    /// The same of the second place, if there is one.
+    pub fn second_addr(&self) -> Option<SocketAddr> {
+        match &self.second {
+            Some(second) => second.socket.local_addr(),
+            None => None,
+        }
+    }
+
+    /// The descriptor of the second place, if there is one.
+    pub fn second_fd(&self) -> Option<RawFd> {
+        match &self.second {
+            Some(second) => Some(second.socket.as_raw_fd()),
+            None => None,
+        }
+    }
+
+    /// The places where it listens, each of them first by turns.
+    pub(crate) fn entrances(&self) -> (&Entrance<'_>, Option<&Entrance<'_>>) {
+        match &self.second {
+            Some(second) if self.left.load(Ordering::SeqCst) % 2 == 0 => {
+                (second, Some(&self.entrance))
+            }
+            Some(second) => (&self.entrance, Some(second)),
+            None => (&self.entrance, None),
+        }
+    }
+
+    /// Removes the file of each Unix socket whose file is still the one that was made: from then on nobody finds it.
+    /// Without this call it is stale once the listener is dropped.
     pub fn remove_file<R: Files>(&self, rt: &R) {
-        if let Some(file) = self.file {
+        if let Some(file) = self.entrance.file {
+            file.remove(rt);
+        }
+        if let Some(
+            Entrance {
+                file: Some(file),
+                ..
+            },
+        ) = &self.second
+        {
             file.remove(rt);
         }
     }
@@ -170,7 +249,7 @@ impl<C> Listener<'_, C> {
 impl<C: Clock> Listener<'_, C> {
     /// Waits for a connection, of which small messages are sent at once where the system takes that setting.
     fn accept(&self) -> io::Result<Stream> {
-        let stream = present(self.clock, &Next(&self.socket))?;
+        let stream = present(self.clock, &Next(&self.entrance.socket))?;
         stream.send_at_once();
         bounded(stream, self.limits.patience)
     }
@@ -206,6 +285,6 @@ impl<C: Clock> Source for Listener<'_, C> {
 
 impl<C> AsRawFd for Listener<'_, C> {
     fn as_raw_fd(&self) -> RawFd {
-        self.socket.as_raw_fd()
+        self.entrance.socket.as_raw_fd()
     }
 }

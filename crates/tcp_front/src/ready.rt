@@ -3,11 +3,12 @@
 ghost use Rattle.std.specs.Prelude.{◌≡◌};
 ghost use Rattle.tcp_front.specs.Misses.{miss_for};
 
-use crate::half::{Half, halves};
-use crate::listener::{Listener, accept_fault};
+use crate::half::{Half, halves, web_halves};
+use crate::listener::{Entrance, Listener, accept_fault};
 use crate::stream::Stream;
 use crate::trying::{Miss, miss_of};
 use session_table::SourceFault;
+use std::alloc::Global;
 use std::io;
 use std::io::ErrorKind;
 use std::net::SocketAddr;
@@ -49,21 +50,63 @@ fn prompt(stream: Stream) -> io::Result<Stream> {
     Ok(stream)
 }
 
+/// The two halves of a connection that was accepted at this place, from this address if it is known.
+fn halves_at(
+    alloc: Global,
+    entrance: &Entrance<'_>,
+    (stream, from): (Stream, Option<SocketAddr>),
+    most_bytes: u64,
+) -> Option<(Half, Half)> {
+    match &entrance.pages {
+        Some(pages) => web_halves(alloc, stream, from, (pages, most_bytes)),
+        None => halves(alloc, stream, from),
+    }
+}
+
 impl<C> Listener<'_, C> {
     /// From now on an accept with nobody there does not wait.
     pub fn never_wait(&self) -> io::Result<()> {
-        self.socket.never_wait()
+        let (first, second) = self.entrances();
+        first.socket.never_wait()?;
+        match second {
+            Some(second) => second.socket.never_wait(),
+            None => Ok(()),
+        }
     }
 
-    /// The two halves of a connection that was accepted, from this address if it is known. One that is gone meanwhile
-    /// is passed over.
-    fn arrived(&self, stream: Stream, from: Option<SocketAddr>) -> Arrival {
+    /// The two halves of a connection that was accepted at this place, from this address if it is known. One that is
+    /// gone meanwhile is passed over.
+    fn arrived(
+        &self,
+        entrance: &Entrance<'_>,
+        stream: Stream,
+        from: Option<SocketAddr>,
+    ) -> Arrival {
+        let most_bytes = u64::from(self.limits.most_bytes);
         match prompt(stream) {
-            Ok(stream) => match halves(self.alloc, stream, from) {
+            Ok(stream) => match halves_at(self.alloc, entrance, (stream, from), most_bytes) {
                 Some((reader, writer)) => Arrival::Came(reader, writer),
                 None => Arrival::NoRoom,
             },
             Err(_) => Arrival::Gone,
+        }
+    }
+
+    /// Takes one connection at this place, if somebody is there.
+    fn arrival_at(&self, entrance: &Entrance<'_>) -> Result<Arrival, SourceFault> {
+        match entrance.socket.accept() {
+            Ok((stream, from)) => Ok(self.arrived(entrance, stream, from)),
+            Err(error) => missed(&error),
+        }
+    }
+
+    /// Takes one connection, if somebody is there.
+    fn arrival_anywhere(&self) -> Result<Arrival, SourceFault> {
+        let (first, second) = self.entrances();
+        let arrival = self.arrival_at(first)?;
+        match second {
+            Some(second) if matches!(arrival, Arrival::Nobody) => self.arrival_at(second),
+            _ => Ok(arrival),
         }
     }
 
@@ -73,22 +116,13 @@ impl<C> Listener<'_, C> {
         if !self.count() {
             return Ok(Arrival::NoMore);
         }
-        match self.socket.accept() {
-            Ok((stream, from)) => {
-                let arrival = self.arrived(stream, from);
-                if !matches!(arrival, Arrival::Came(_, _)) {
-                    self.uncount();
-                }
-                Ok(arrival)
-            }
-            Err(error) => {
-                self.uncount();
-                let missed = missed(&error);
-                if missed.is_err() {
-                    self.end();
-                }
-                missed
-            }
+        let arrival = self.arrival_anywhere();
+        if !matches!(arrival, Ok(Arrival::Came(_, _))) {
+            self.uncount();
         }
+        if arrival.is_err() {
+            self.end();
+        }
+        arrival
     }
 }

@@ -3,7 +3,7 @@
 ghost use Rattle.std.specs.Io.{ReadsAtMost, WritesAtMost};
 
 use std::io;
-use std::io::{Read, Write};
+use std::io::{IoSlice, Read, Write};
 use std::net::{Shutdown, SocketAddr, TcpStream};
 use std::os::fd::{AsRawFd, RawFd};
 use std::os::unix::net::UnixStream;
@@ -127,6 +127,26 @@ impl Stream {
         match self {
             Stream::Tcp(stream) => write_tcp(stream, buf),
             Stream::Unix(stream) => write_unix(stream, buf),
+        }
+    }
+}
+
+/// What the system takes of two texts, one after the other, for a connection over TCP.
+fn write_both_tcp(stream: &TcpStream, front: &[u8], buf: &[u8]) -> io::Result<usize> {
+    stream.write_vectored(&[IoSlice::new(front), IoSlice::new(buf)])
+}
+
+/// What the system takes of two texts, one after the other, for a connection over a Unix socket.
+fn write_both_unix(stream: &UnixStream, front: &[u8], buf: &[u8]) -> io::Result<usize> {
+    stream.write_vectored(&[IoSlice::new(front), IoSlice::new(buf)])
+}
+
+impl Stream {
+    /// What the system takes of two texts, one after the other.
+    pub(crate) fn send_both(&self, front: &[u8], buf: &[u8]) -> io::Result<usize> {
+        match self {
+            Stream::Tcp(stream) => write_both_tcp(stream, front, buf),
+            Stream::Unix(stream) => write_both_unix(stream, front, buf),
         }
     }
 }

@@ -1,4 +1,5 @@
 ghost use Rattle.std.specs.Prelude.{◌≡◌};
+ghost use Rattle.version_lock.specs.Calls.{pin_state};
 
 use std::marker::Model;
 use store_core::RangeStore;
@@ -31,6 +32,16 @@ impl<S: RangeStore> Pin<S> {
         ensures { S.content result.now ≡ self.now.items }
     {
         &self.store
+    }
+
+    /// The same version, of which this store has a part of the items.
+    pub fn with_store(self, store: S) -> Pin<S>
+        ensures { result ≡ pin_state (S.content store) self.version }
+    {
+        Pin {
+            version: self.version,
+            store,
+        }
     }
 
     /// The store of its items, for good.

@@ -10,13 +10,16 @@
 --     with_duration millis b   a bucket after one more session
 --     Lasted millis old new    all buckets before and after one more session
 --     no_counts                all counts of no visit
+--     with_ranged X c          the counts after one more session over this range, in the count of those over a range
 --     Counted v old new        all counts before and after one more visit
 --     visits_of c              how many visits are counted
 use Rattle.std.specs.Prelude.{◌≡◌, ℕ, ◌+◌, ◌-◌, ◌^◌, min, List, [], ◌∷◌, map, set, slice_index, slice_index_or}
 use Rattle.std.specs.Prelude.{◌<◌, length, ⊤, EachIndex, nat_le, if◌then◌else◌, Option, Some, None, replicate}
+use Rattle.definitions.specs.Items.{Range}
 use Rattle.session_table.specs.declared.outcome.Direction.TheVariants.{Read, Write}
 use Rattle.session_table.specs.declared.outcome.Outcome.{Outcome}
 use Rattle.session_table.specs.declared.outcome.Outcome.TheVariants as outcomes
+use Rattle.watch_core.specs.Pieces.{has_bound}
 use Rattle.watch_core.specs.declared.endings.Ending.{Ending}
 use Rattle.watch_core.specs.declared.endings.Ending.TheVariants as endings
 use Rattle.watch_core.specs.declared.endings.EndingCounts.{EndingCounts}
@@ -119,14 +122,19 @@ Lasted millis old new = (new.millis ≡ plus old.millis millis)
 
 abbrev pub no_counts : Counts
 no_counts =
-    record { sessions = no_endings; strangers = no_endings; durations = no_durations; traffic = no_traffic }
+    record { sessions = no_endings; strangers = no_endings; ranged = 0; durations = no_durations; traffic = no_traffic }
+
+-- a session is over a range if that has a bound
+abbrev pub with_ranged : Range → Counts → Counts
+with_ranged X c = if has_bound X then record c { ranged = plus c.ranged 1 } else c
 
 -- a visit without a session is counted among the strangers alone, and one with a session among the sessions alone
 abbrev pub CountedBy : Option ℕ → Visit → Counts → Counts → Type 0
 CountedBy None v old new = (new.sessions ≡ old.sessions) × (new.durations ≡ old.durations)
-    × (new.strangers ≡ with_ending v.ending old.strangers)
+    × (new.ranged ≡ old.ranged) × (new.strangers ≡ with_ending v.ending old.strangers)
 CountedBy (Some serial) v old new = (new.sessions ≡ with_ending v.ending old.sessions)
-    × Lasted v.millis old.durations new.durations × (new.strangers ≡ old.strangers)
+    × Lasted v.millis old.durations new.durations × (new.ranged ≡ (with_ranged v.range old).ranged)
+    × (new.strangers ≡ old.strangers)
 
 -- the visit is counted once under its ending, and what it cost and found is added
 abbrev pub Counted : Visit → Counts → Counts → Type 0

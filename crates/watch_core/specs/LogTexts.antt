@@ -5,7 +5,7 @@
 --     control_line a       that programs of this machine are answered at this address
 use Rattle.std.specs.Prelude.{ℕ, List, ◌++◌, codes, Bool, true, false}
 use Rattle.std.specs.Fmt.{decimal}
-use Rattle.watch_core.specs.Pieces.{seconds_text, address_text, known_text, reason_text}
+use Rattle.watch_core.specs.Pieces.{seconds_text, address_text, known_text, reason_text, session_text}
 use Rattle.watch_core.specs.declared.visit.Traffic.{Traffic}
 use Rattle.watch_core.specs.declared.visit.Visit.{Visit}
 
@@ -14,10 +14,10 @@ abbrev pub who_word : Bool → List ℕ
 who_word true = codes "to"
 who_word false = codes "peer"
 
--- who came or was called, and when the visit ended
+-- who came or was called, when the visit ended, and of which part of the set its session was
 abbrev pub who_text : ℕ → Visit → List ℕ
 who_text time v = codes "time=" ++ (seconds_text time ++ (codes " " ++ (who_word v.is_called ++ (codes "="
-    ++ (address_text v.address ++ (codes " session=" ++ (known_text v.serial ++ codes " ")))))))
+    ++ (address_text v.address ++ (codes " session=" ++ (session_text v ++ codes " ")))))))
 
 -- in which profile, and how it ended
 abbrev pub ending_text : Visit → List ℕ

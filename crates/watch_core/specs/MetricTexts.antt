@@ -143,8 +143,10 @@ durations_text d n =
 unfoldable pub all_endings_text : Counts → List ℕ
 all_endings_text c = endings_text (codes "rangesync_sessions_total")
     (codes "Sessions that are over, by how they ended and by the number of a refusal.") c.sessions
-    ++ endings_text (codes "rangesync_strangers_total")
+    ++ (endings_text (codes "rangesync_strangers_total")
     (codes "Connections that were over before a session, by how they ended.") c.strangers
+    ++ counter (codes "rangesync_ranged_sessions_total")
+    (codes "Sessions that are over, of those that spoke of a range of the items.") c.ranged)
 
 abbrev pub counts_text : Counts → List ℕ
 counts_text c = all_endings_text c

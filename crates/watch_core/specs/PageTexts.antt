@@ -3,17 +3,19 @@
 --     is_plain byte              whether a byte is none of < > " '
 --     filled template values     the template, in which each `$` is replaced by the next of these values, escaped
 --     partner_row p              the row of a partner
+--     shown_session v            the session of a visit, without the bounds of its range
 --     visit_row now v            the row of a visit
 --     endings_table title c      how visits ended, with a bar for each way in which some did
 --     page_text s c visits       the page
 use Rattle.std.specs.Prelude.{ℕ, ◌+◌, ◌-◌, ◌*◌, ◌/◌, min, max, ◌==◌, if◌then◌else◌, List, [], ◌∷◌, ◌++◌, codes, map}
-use Rattle.std.specs.Prelude.{Bool, not, ◌||◌, flat_map, length, nat_lt}
+use Rattle.std.specs.Prelude.{Bool, true, false, not, ◌||◌, flat_map, length, nat_lt}
 use Rattle.std.specs.Fmt.{decimal}
 use Rattle.std.specs.List.{position_or_len, before_first, after_first}
 use Rattle.session_table.specs.Names.{session_refusal_name}
 use Rattle.watch_core.specs.Counting.{most}
 use Rattle.watch_core.specs.Partners.{seconds_ago, state_text}
-use Rattle.watch_core.specs.Pieces.{seconds_text, address_text, fault_text, known_text, named_ending_text}
+use Rattle.watch_core.specs.Pieces.{seconds_text, address_text, fault_text, known_text, named_ending_text, which_text}
+use Rattle.watch_core.specs.Pieces.{has_bound}
 use Rattle.watch_core.specs.declared.counts.Counts.{Counts}
 use Rattle.watch_core.specs.declared.endings.EndingCounts.{EndingCounts}
 use Rattle.watch_core.specs.declared.page.TheConstants.{FRONT, TITLE, SET, FILE, TILES, TABLE, BAR, TABLE_END, LAST}
@@ -87,8 +89,16 @@ ending_bars c = bar_row (codes "ended") c.ended c.all ++ (refused_bars c ++ fail
 unfoldable pub endings_table : List ℕ → EndingCounts → List ℕ
 endings_table title c = filled TABLE.now (title ∷ []) ++ (ending_bars c ++ TABLE_END.now)
 
+abbrev pub range_word : Bool → List ℕ
+range_word false = []
+range_word true = codes " range"
+
+-- its serial and its shard, and whether it was over a range, without the bounds
+abbrev pub shown_session : Visit → List ℕ
+shown_session v = known_text v.serial ++ (which_text v.which ++ range_word (has_bound v.range))
+
 unfoldable pub visit_row : ℕ → Visit → List ℕ
-visit_row now v = filled ROW.now (known_text v.serial ∷ address_text v.address ∷ known_text v.profile
+visit_row now v = filled ROW.now (shown_session v ∷ address_text v.address ∷ known_text v.profile
     ∷ named_ending_text v.ending ∷ decimal v.traffic.ours ∷ decimal v.traffic.theirs ∷ decimal v.traffic.received
     ∷ decimal v.traffic.sent ∷ seconds_text v.millis ∷ decimal ((now - v.ended) / 1000) ∷ [])
 

@@ -2,15 +2,24 @@
 --     seconds_text millis      thousandths of a second as seconds to three places
 --     address_text address        an address, or `-`
 --     known_text n             a number, or `-`
+--     which_text w             the shard, or the directory, that a session spoke of, if it did of one
+--     bounds_text X            the bounds of a range in hex: those that it has
+--     has_bound X              whether it has one
+--     session_text v           the session of a visit: its serial, or `-`, and the shard and the bounds that it spoke of
 --     reason_text between e    how a visit ended, as a word, and after `between` the number of a refusal
 --     named_ending_text e      how a visit ended, for a person: the number and the name of a refusal
 --     turn_text t              how a turn with a partner ended, as words
 --     fault_text t             how the last one was that did not end, or `-`
 --     cell_text c              a value as a page has it
-use Rattle.std.specs.Prelude.{ℕ, ◌/◌, ◌%◌, List, ◌++◌, codes, Option, Some, None}
+use Rattle.std.specs.Prelude.{ℕ, ◌/◌, ◌%◌, List, [], ◌∷◌, ◌++◌, codes, Option, Some, None}
+use Rattle.std.specs.Prelude.{Bool, true, false, ◌||◌}
 use Rattle.std.specs.Fmt.{decimal}
 use Rattle.std.specs.Net.Text.{socket_text}
 use Rattle.std.specs.declared.net.socket_addr.SocketAddr.{SocketAddr}
+use Rattle.hex.specs.Hex.{encode_lower}
+use Rattle.definitions.specs.Items.{Range}
+use Rattle.shard_core.specs.declared.selector.Which.{Which}
+use Rattle.shard_core.specs.declared.selector.Which.TheVariants.{Shard, Directory}
 use Rattle.session_table.specs.Names.{session_refusal_name}
 use Rattle.session_table.specs.declared.outcome.Direction.TheVariants.{Read, Write}
 use Rattle.watch_core.specs.declared.endings.Ending.{Ending}
@@ -19,6 +28,7 @@ use Rattle.watch_core.specs.declared.pieces.Cell.{Cell}
 use Rattle.watch_core.specs.declared.pieces.Cell.TheVariants as cells
 use Rattle.watch_core.specs.declared.turn.Turn.{Turn}
 use Rattle.watch_core.specs.declared.turn.Turn.TheVariants as turns
+use Rattle.watch_core.specs.declared.visit.Visit.{Visit}
 
 abbrev pub seconds_text : ℕ → List ℕ
 seconds_text millis = decimal (millis / 1000) ++ (codes "." ++ (decimal (millis / 100 % 10)
@@ -31,6 +41,37 @@ address_text (Some address) = socket_text address
 abbrev pub known_text : Option ℕ → List ℕ
 known_text None = codes "-"
 known_text (Some n) = decimal n
+
+abbrev pub which_text : Option Which → List ℕ
+which_text None = []
+which_text (Some (Shard shard)) = codes " shard=" ++ decimal shard
+which_text (Some Directory) = codes " shard=directory"
+
+-- the start and the end are no bounds
+abbrev pub lower_text : List ℕ → List ℕ
+lower_text [] = []
+lower_text (byte ∷ bytes) = codes " from=" ++ encode_lower (byte ∷ bytes)
+
+abbrev pub upper_text : Option (List ℕ) → List ℕ
+upper_text None = []
+upper_text (Some bytes) = codes " to=" ++ encode_lower bytes
+
+abbrev pub bounds_text : Range → List ℕ
+bounds_text X = lower_text X.lower ++ upper_text X.upper
+
+abbrev pub is_after_start : List ℕ → Bool
+is_after_start [] = false
+is_after_start (byte ∷ bytes) = true
+
+abbrev pub is_before_end : Option (List ℕ) → Bool
+is_before_end None = false
+is_before_end (Some bytes) = true
+
+abbrev pub has_bound : Range → Bool
+has_bound X = is_after_start X.lower || is_before_end X.upper
+
+abbrev pub session_text : Visit → List ℕ
+session_text v = known_text v.serial ++ (which_text v.which ++ bounds_text v.range)
 
 abbrev pub reason_text : List ℕ → Ending → List ℕ
 reason_text between endings.Ended = codes "ended"

@@ -1,11 +1,13 @@
 //! All that is counted of visits.
 
 ghost use Rattle.std.specs.Prelude.{◌≡◌};
-ghost use Rattle.watch_core.specs.Counting.{Counted, CountedBy, no_counts, visits_of};
+ghost use Rattle.watch_core.specs.Counting.{Counted, CountedBy, no_counts, visits_of, with_ranged};
 
 use crate::durations::Durations;
 use crate::endings::EndingCounts;
+use crate::named::has_bound;
 use crate::visit::{Traffic, Visit};
+use item_core::Range;
 
 /// All that is counted of visits.
 #[derive(Drop)]
@@ -14,6 +16,8 @@ pub struct Counts {
     pub sessions: EndingCounts,
     /// How the visits ended that were over before a session was counted.
     pub strangers: EndingCounts,
+    /// How many sessions were over a range that has a bound. It stops at 2^64 - 1.
+    pub ranged: u64,
     /// How long the sessions took.
     pub durations: Durations,
     /// What all visits cost, and what they found.
@@ -28,8 +32,18 @@ impl Counts {
         Counts {
             sessions: EndingCounts::none(),
             strangers: EndingCounts::none(),
+            ranged: 0,
             durations: Durations::none(),
             traffic: Traffic::none(),
+        }
+    }
+
+    /// Counts a session over this range, if that has a bound.
+    fn count_range(&mut self, range: &Range)
+        ensures { self.new ≡ with_ranged range.now self.old }
+    {
+        if has_bound(range) {
+            self.ranged = self.ranged.saturating_add(1);
         }
     }
 
@@ -44,6 +58,7 @@ impl Counts {
         };
         self.sessions.count(visit.ending);
         self.durations.add(visit.millis);
+        self.count_range(&visit.range);
     }
 
     /// Counts a visit: once under its ending, and among the sessions alone if it had one.

@@ -9,6 +9,7 @@ mod escaping;
 mod filling;
 mod logged;
 mod metrics;
+mod named;
 mod never_markup;
 mod once_each;
 mod page;

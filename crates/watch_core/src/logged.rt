@@ -4,6 +4,7 @@ ghost use Rattle.std.specs.Prelude.{◌≡◌, IfOk, string_bytes};
 ghost use Rattle.watch_core.specs.LogTexts.{left_out_line, loaded_line, loading_line, log_line, lost_line};
 ghost use Rattle.watch_core.specs.LogTexts.{control_line, metrics_line, who_word};
 
+use crate::named::session_text;
 use crate::pieces::{Address, Known, Reason, Seconds};
 use crate::visit::Visit;
 use std::alloc::{AllocError, Global};
@@ -19,12 +20,12 @@ fn who_word(is_called: bool) -> &'static str
 pub fn log_line(alloc: Global, time: u64, visit: &Visit) -> Result<String, AllocError>
     ensures { IfOk result (λ text. string_bytes text ≡ log_line time visit.now) }
 {
+    let session = session_text(alloc, visit)?;
     let mut text = format!(in alloc;
-        "time={} {}={} session={} ",
+        "time={} {}={} session={session} ",
         Seconds(time),
         who_word(visit.is_called),
-        Address(visit.address),
-        Known(visit.serial)
+        Address(visit.address)
     )?;
     let reason = Reason {
         ending: visit.ending,

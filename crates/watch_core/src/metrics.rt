@@ -369,7 +369,7 @@ fn push_standing(text: &mut String, standing: &Standing<'_>) -> Result<(), Alloc
     push_peers(text, standing)
 }
 
-/// Appends how sessions and strangers ended.
+/// Appends how sessions and strangers ended, and how many sessions were over a range.
 #[tactic(auto, unfolding(crate::specs::MetricTexts::all_endings_text))]
 fn push_all_endings(text: &mut String, counts: &Counts) -> Result<(), AllocError>
     ensures { OnOk result (string_bytes text.new ≡ string_bytes text.old ++ texts.all_endings_text counts.now) }
@@ -385,6 +385,12 @@ fn push_all_endings(text: &mut String, counts: &Counts) -> Result<(), AllocError
         "rangesync_strangers_total",
         "Connections that were over before a session, by how they ended.",
         &counts.strangers,
+    )?;
+    push_counter(
+        text,
+        "rangesync_ranged_sessions_total",
+        "Sessions that are over, of those that spoke of a range of the items.",
+        counts.ranged,
     )
 }
 

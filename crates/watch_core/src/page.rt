@@ -1,15 +1,17 @@
 //! The page for a person: templates, and the values that stand in them. Each `$` of a template is replaced by the next
 //! value, so that a page shows the value as it is, whatever it has.
 
-ghost use Rattle.std.specs.Prelude.{◌≡◌, ◌++◌, ◌-◌, ◌/◌, IfOk, OnOk, flat_map};
+ghost use Rattle.std.specs.Prelude.{◌≡◌, ◌++◌, ◌-◌, ◌/◌, IfOk, OnOk, flat_map, string_bytes};
 ghost use Rattle.watch_core.specs.PageTexts as texts;
 ghost use Rattle.watch_core.specs.PageTexts.{bar_row, code_bar, code_bars, named, partner_row, percent, visit_row};
+ghost use Rattle.watch_core.specs.PageTexts.{range_word, shown_session};
 
 use crate::counts::Counts;
 use crate::endings::EndingCounts;
 use crate::filling::{push, push_filled};
+use crate::named::has_bound;
 use crate::partnered::Partnered;
-use crate::pieces::Cell;
+use crate::pieces::{Cell, Session};
 use crate::standing::Standing;
 use crate::visit::Visit;
 use session_table::refusal_name;
@@ -239,13 +241,37 @@ fn seconds_since(moment: u64, now: u64) -> u64
     now.saturating_sub(moment) / 1_000
 }
 
+/// Appends that a session was over a range, if it was.
+fn push_range_word(text: &mut String, is_ranged: bool) -> Result<(), AllocError>
+    ensures { OnOk result (string_bytes text.new ≡ string_bytes text.old ++ range_word is_ranged) }
+{
+    match is_ranged {
+        true => text.push_str(" range"),
+        false => Ok(()),
+    }
+}
+
+/// The session of a visit, without the bounds of its range: nobody shows who they are to see the page.
+fn shown_session(alloc: Global, visit: &Visit) -> Result<String, AllocError>
+    ensures { IfOk result (λ text. string_bytes text ≡ shown_session visit.now) }
+{
+    let session = Session {
+        serial: visit.serial,
+        which: visit.which,
+    };
+    let mut text = format!(in alloc; "{session}")?;
+    push_range_word(&mut text, has_bound(&visit.range))?;
+    Ok(text)
+}
+
 /// Appends the row of a visit.
 #[tactic(auto, unfolding(crate::specs::PageTexts::visit_row))]
 fn push_visit(alloc: Global, page: &mut Vec<u8>, now: u64, visit: &Visit) -> Result<(), AllocError>
     ensures { OnOk result (page.new.items ≡ page.old.items ++ visit_row now visit.now) }
 {
+    let session = shown_session(alloc, visit)?;
     let cells = [
-        Cell::Known(visit.serial),
+        Cell::Text(&session),
         Cell::Address(visit.address),
         Cell::Known(visit.profile),
         Cell::Ending(visit.ending),

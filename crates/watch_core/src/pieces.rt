@@ -1,12 +1,13 @@
 //! Pieces that several texts have.
 
-ghost use Rattle.std.specs.Prelude.{Some};
+ghost use Rattle.std.specs.Prelude.{Some, ◌++◌};
 ghost use Rattle.watch_core.specs.Pieces.{address_text, cell_text, known_text, named_ending_text, reason_text};
-ghost use Rattle.watch_core.specs.Pieces.{fault_text, seconds_text};
+ghost use Rattle.watch_core.specs.Pieces.{fault_text, seconds_text, which_text};
 
 use crate::endings::Ending;
 use crate::turn::Turn;
 use session_table::{Direction, session_refusal_name};
+use shard_core::Which;
 use std::fmt;
 use std::net::SocketAddr;
 
@@ -53,6 +54,26 @@ impl fmt::Display for Known {
         match self.0 {
             Some(number) => write!(f, "{number}"),
             None => write!(f, "-"),
+        }
+    }
+}
+
+/// The serial of a session, or `-`, and the shard, or the directory, that it spoke of, if it did of one.
+#[derive(Clone, Copy)]
+pub(crate) struct Session {
+    pub(crate) serial: Option<u64>,
+    pub(crate) which: Option<Which>,
+}
+
+impl fmt::Display for Session {
+    ghost output = { λ s. Some (known_text s.serial ++ which_text s.which) };
+
+    fn fmt<W: fmt::Write>(&self, f: &mut fmt::Formatter<W>) -> fmt::Result {
+        let serial = Known(self.serial);
+        match self.which {
+            None => write!(f, "{serial}"),
+            Some(Which::Shard(shard)) => write!(f, "{serial} shard={shard}"),
+            Some(Which::Directory) => write!(f, "{serial} shard=directory"),
         }
     }
 }

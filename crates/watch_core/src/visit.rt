@@ -4,6 +4,8 @@ ghost use Rattle.std.specs.Prelude.{◌≡◌};
 ghost use Rattle.watch_core.specs.Counting.{no_traffic, traffic_sum};
 
 use crate::endings::Ending;
+use item_core::Range;
+use shard_core::Which;
 use std::net::SocketAddr;
 
 /// What visits cost, and what they found. Each number stops at 2^64 - 1.
@@ -60,6 +62,10 @@ pub struct Visit {
     pub profile: Option<u64>,
     /// The serial of its session, if that was counted.
     pub serial: Option<u64>,
+    /// The shard, or the directory, that its session spoke of; `None`: it spoke of a whole set, or was not opened.
+    pub which: Option<Which>,
+    /// The range of items that its session spoke of: that of all items if it named none, or was not opened.
+    pub range: Range,
     /// How it ended.
     pub ending: Ending,
     /// What it cost, and what it found.

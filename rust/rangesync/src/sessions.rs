@@ -1,6 +1,6 @@
 use std::io::{self, ErrorKind, Read, Write};
 
-use crate::library::Handle;
+use crate::library::{kind, Handle};
 use crate::{Error, Profile, Refused};
 
 /// How a session stands.
@@ -24,10 +24,10 @@ pub struct Learned {
 }
 
 /// One side of a session over a version. It keeps what it needs of the version.
-pub struct Session(Handle);
+pub struct Session(Handle<kind::Session>);
 
 impl Session {
-    pub(crate) fn open(version: &Handle, role: u32, profile: Profile) -> Result<Session, Refused> {
+    pub(crate) fn open(version: &Handle<kind::Version>, role: u32, profile: Profile) -> Result<Session, Refused> {
         Handle::session(version, role, profile as u32).map(Session)
     }
 
@@ -87,6 +87,11 @@ impl Session {
         Ok(learned)
     }
 
+    /// What it says of each of 2 to the power of `bits` shards, once it has ended over two directories.
+    pub(crate) fn differing(&self, bits: u8) -> Result<Vec<u8>, Refused> {
+        self.0.differing(u32::from(bits))
+    }
+
     /// Speaks with the peer over a connection until the session is over, and gives what it found.
     ///
     /// It waits as long as the peer does: a timeout of the connection sets a limit. Bytes that the peer sends after the
@@ -135,7 +140,7 @@ impl Session {
 }
 
 /// One read that no signal interrupted.
-fn read(connection: &mut impl Read, room: &mut [u8]) -> io::Result<usize> {
+pub(crate) fn read(connection: &mut impl Read, room: &mut [u8]) -> io::Result<usize> {
     loop {
         match connection.read(room) {
             Err(fault) if fault.kind() == ErrorKind::Interrupted => {}

@@ -1,10 +1,10 @@
 use std::io::{Read, Write};
 
-use crate::library::Handle;
+use crate::library::{kind, Handle};
 use crate::{Error, Learned, Refused, Session};
 
 /// What a session does with a range, by how many items of this side are in it.
-pub struct Strategy(Handle);
+pub struct Strategy(pub(crate) Handle<kind::Strategy>);
 
 impl Strategy {
     /// Reads a strategy, a text in TOML, and checks that sessions under it end. Refused 29 to 38 if not.
@@ -33,7 +33,7 @@ pub enum Profile {
 }
 
 /// A set of items of 1 to 64 bytes each, at most as many as its strategy's cap.
-pub struct Set(Handle);
+pub struct Set(Handle<kind::Set>);
 
 impl Set {
     /// A set without items.
@@ -95,7 +95,7 @@ impl Set {
 }
 
 /// A set as it was when the version was taken.
-pub struct Version(Handle);
+pub struct Version(pub(crate) Handle<kind::Version>);
 
 impl Version {
     /// How many items it has.
@@ -124,6 +124,13 @@ impl Version {
     /// These items, rising. Refused as by [`Version::count`].
     pub fn items(&self, lower: &[u8], upper: &[u8]) -> Result<Vec<Vec<u8>>, Refused> {
         (0..self.count(lower, upper)?).map(|place| self.0.item_in(lower, upper, place)).collect()
+    }
+
+    /// The version that has these items alone; this one stays as it is. Refused as by [`Version::count`].
+    ///
+    /// A session between two parts with the same bounds finds how the items there differ.
+    pub fn part(&self, lower: &[u8], upper: &[u8]) -> Result<Version, Refused> {
+        Handle::part(&self.0, lower, upper).map(Version)
     }
 
     /// A session that speaks first.

@@ -10,7 +10,7 @@ use std::sync::atomic::{AtomicU32, Ordering};
 use std::thread;
 use std::time::Duration;
 
-use rangesync::{Error, Form, Learned, Profile, Refused, Set, State, Strategy};
+use rangesync::{Error, Form, Learned, Profile, Refused, Set, Shards, State, Strategy};
 
 const TIMEOUT: Option<Duration> = Some(Duration::from_secs(20));
 
@@ -73,9 +73,13 @@ struct Server {
 
 impl Server {
     fn new(items: &[&str]) -> Server {
+        Server::with(&["--sessions", "1"], items)
+    }
+
+    fn with(more: &[&str], items: &[&str]) -> Server {
         let items = ItemFile::new(items);
-        let words = ["--addr", "127.0.0.1:0", "--sessions", "1", "--patience", "20", "--text"];
-        let mut process = program("serve").args(words).arg(&items.0).spawn().unwrap();
+        let words = ["--addr", "127.0.0.1:0", "--patience", "20", "--text"];
+        let mut process = program("serve").args(more).args(words).arg(&items.0).spawn().unwrap();
         let told = BufReader::new(process.stderr.take().unwrap());
         let mut lines = told.lines().map_while(Result::ok);
         let address = lines.find_map(|line| line.strip_prefix("listening ").map(str::to_owned));
@@ -185,6 +189,28 @@ fn a_set_moves_to_another_thread() {
 }
 
 #[test]
+fn parts_are_compared() {
+    let (mine, other) = (set_of(&["a", "b", "ba", "d"]), set_of(&["ba", "bb", "c"]));
+    let (whole, far) = (mine.version().unwrap(), other.version().unwrap());
+    for profile in [Profile::One, Profile::Two] {
+        let (here, there) = connected();
+        let mut asked = far.part(b"b", b"c").unwrap().respond(profile).unwrap();
+        let answered = thread::spawn(move || asked.run(there).unwrap());
+        let learned = whole.part(b"b", b"c").unwrap().initiate(profile).unwrap().run(here).unwrap();
+        assert_eq!(learned, learned_of(&["b"], &["bb"]));
+        assert_eq!(answered.join().unwrap(), learned_of(&["bb"], &["b"]));
+    }
+    let items = |lower, upper| whole.part(lower, upper).unwrap().items(b"", b"").unwrap();
+    assert_eq!(items(b"ba", b""), [b"ba".to_vec(), b"d".to_vec()]);
+    assert_eq!(items(b"", b"b"), [b"a".to_vec()]);
+    assert_eq!(items(b"", b""), whole.items(b"", b"").unwrap());
+    assert_eq!(whole.len(), 4);
+    let refused = |lower, upper| whole.part(lower, upper).map(|_| ()).unwrap_err().to_string();
+    assert_eq!(refused(b"c", b"b"), "refused 73 EmptyRange");
+    assert_eq!(refused(b"", &[b'x'; 65]), "refused 72 TooLong");
+}
+
+#[test]
 fn sessions_are_refused() {
     let set = set_of(&["a"]);
     let truncated = set.reconcile(Peer(b"")).unwrap_err();
@@ -238,4 +264,86 @@ fn a_version_stays_as_it_is() {
     assert_eq!(version.contains(b"d"), Ok(false));
     drop(set);
     assert_eq!(version.items(b"b", b""), Ok(vec![b"b".to_vec(), b"c".to_vec()]));
+}
+
+fn shards_of(items: &[&str]) -> Shards {
+    let mut shards = Shards::new(&eight(), b"", 1).unwrap();
+    assert_eq!(shards.insert_all(items), Ok(items.len()));
+    shards
+}
+
+/// The item a is in shard 1, and b and c are in shard 0.
+#[test]
+fn shards_with_serve() {
+    let mut server = Server::with(&["--shards", "1", "--sessions", "3"], &["b", "c"]);
+    let learned = shards_of(&["a", "b"]).reconcile(|| Ok(server.connect())).unwrap();
+    assert_eq!(learned, learned_of(&["a"], &["c"]));
+    assert!(server.printed().ends_with("items 3\n"));
+}
+
+#[test]
+fn shards_answer_to_sync() {
+    let listener = TcpListener::bind("127.0.0.1:0").unwrap();
+    let items = ItemFile::new(&["a", "b"]);
+    let address = listener.local_addr().unwrap().to_string();
+    let sync = program("sync").args(["--shards", "1", "--addr", &address, "--text"]).arg(&items.0).spawn().unwrap();
+    let here = shards_of(&["b", "c"]);
+    let mut found = Learned::default();
+    for _ in 0..3 {
+        let learned = here.answer(with_timeout(listener.accept().unwrap().0)).unwrap();
+        found.ours.extend(learned.ours);
+        found.theirs.extend(learned.theirs);
+    }
+    assert_eq!(found, learned_of(&["c"], &["a"]));
+    let printed = sync.wait_with_output().unwrap();
+    assert!(printed.status.success() && printed.stdout.ends_with(b"ours a\ntheirs c\n"));
+}
+
+#[test]
+fn shards_that_are_refused() {
+    let number = |made: Result<Shards, Refused>| made.err().unwrap().number();
+    assert_eq!(number(Shards::new(&eight(), b"", 4)), 82);
+    assert_eq!(number(Shards::new(&eight(), b"", 13)), 98);
+    assert_eq!(number(Shards::new(&eight(), &[0; 65], 1)), 98);
+    assert_eq!(number(Shards::read(&eight(), b"", 0, Form::Text, b"a\nb\nc\nd\ne\nf\ng\nh\ni\n")), 82);
+    assert_eq!(number(Shards::read(&eight(), b"", 1, Form::Hex, b"6\n")), 81);
+    assert_eq!(Shards::read(&eight(), b"", 1, Form::Text, b"a\nb\na\n0x63\n").unwrap().len(), 3);
+    let mut here = shards_of(&["a", "b", "c"]);
+    assert_eq!((here.len(), here.insert(b"a"), here.is_empty()), (3, Ok(false), false));
+    assert_eq!(here.insert(b"").unwrap_err().number(), 71);
+    assert_eq!(here.version(2).err().unwrap().number(), 98);
+    assert_eq!(here.version(0).unwrap().items(b"", b"").unwrap(), [b"b", b"c"]);
+    let asked: [(&[u8], u8, u8); 4] = [
+        (b"RRS1", b'1', 1),
+        (b"RRSN\0\x02\xff\xffRRS2", b'2', 55),
+        (b"RRSN\0\x01", b'1', 3),
+        (b"RRSN\x01x\x01", b'1', 55),
+    ];
+    for (sent, profile, wanted) in asked {
+        let mut peer = Told { sent, wrote: Vec::new() };
+        assert_eq!(here.answer(&mut peer).unwrap_err().number(), Some(u32::from(wanted)));
+        assert_eq!(peer.wrote, [b'R', b'R', b'S', profile, 0, 0, 0, 2, 5, wanted]);
+    }
+}
+
+/// A peer that sends these bytes, and then nothing more.
+struct Told<'a> {
+    sent: &'a [u8],
+    wrote: Vec<u8>,
+}
+
+impl Read for &mut Told<'_> {
+    fn read(&mut self, room: &mut [u8]) -> io::Result<usize> {
+        self.sent.read(room)
+    }
+}
+
+impl Write for &mut Told<'_> {
+    fn write(&mut self, bytes: &[u8]) -> io::Result<usize> {
+        self.wrote.write(bytes)
+    }
+
+    fn flush(&mut self) -> io::Result<()> {
+        Ok(())
+    }
 }

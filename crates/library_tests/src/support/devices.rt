@@ -3,6 +3,7 @@
 use ends_core::Learned;
 use item_core::Item;
 use peer_threads::{Gate, Outcome};
+use shard_core::Floor;
 use std::alloc::{AllocError, Global};
 use std::io;
 use std::io::{ErrorKind, Read, Write};
@@ -174,6 +175,10 @@ impl Gate for Witness {
 
     fn admits(&self, _serial: u64, _count: usize) -> usize {
         self.most
+    }
+
+    fn floor(&self) -> Floor {
+        Floor::none()
     }
 
     fn took(&self, _item: &Item) {

@@ -1,12 +1,12 @@
 use Rattle.std.proofs.Common.{rules, ◌≤◌, inl, inr, refl}
-use Rattle.peer_threads.specs.Workers.{PutInAll}
+use Rattle.peer_threads.specs.Workers.{PutInAll, may_stand}
 use Rattle.peer_threads.proofs.Puttings.{puts-one, puts-all, drops-rest}
 use Rattle.peer_threads.proofs.worker.add_first.Goals as goal
 
 pub loop-place-preserved : goal.loop-place-preserved
 loop-place-preserved g c =
     let next = c.add_own.new.seat.view in
-    let so_far = puts-one (PutInAll c.args.own) c.args.items.now c.args.first c.loop-place.place c.item.result
+    let so_far = puts-one (PutInAll (may_stand c.args.scope.now.own c.args.scope.now.floor)) c.args.items.now c.args.first c.loop-place.place c.item.result
     c.args.seat.now.view c.loop-place.seat.view next c.loop-place.dropped c.in-Ok.count c.requires.within
     c.loop-place-test.true
     c.item.ensures c.loop-place.invariant.so_far
@@ -15,7 +15,7 @@ loop-place-preserved g c =
 
 pub returns-in-Err-clause-put : goal.returns-in-Err-clause-put
 returns-in-Err-clause-put g c =
-    let dropped = drops-rest (PutInAll c.args.own) c.args.items.now c.args.first c.loop-place.place c.item.result
+    let dropped = drops-rest (PutInAll (may_stand c.args.scope.now.own c.args.scope.now.floor)) c.args.items.now c.args.first c.loop-place.place c.item.result
     c.args.seat.now.view c.loop-place.seat.view c.add_own.new.seat.view c.loop-place.dropped c.requires.within
     c.loop-place-test.true c.item.ensures c.loop-place.invariant.so_far
     (λ left n count. inr (c.in-Err.ensures.memory, count)) in
@@ -24,5 +24,5 @@ returns-in-Err-clause-put g c =
 pub returns-clause-put : goal.returns-clause-put
 returns-clause-put g c =
     let past : c.args.first ≤ c.loop-place.place = search rules in
-    puts-all (PutInAll c.args.own) c.args.items.now c.args.first c.loop-place.place _ _ _ c.requires.within past
+    puts-all (PutInAll (may_stand c.args.scope.now.own c.args.scope.now.floor)) c.args.items.now c.args.first c.loop-place.place _ _ _ c.requires.within past
     c.loop-place.invariant.so_far (refl, refl)

@@ -5,14 +5,14 @@ use Rattle.item_files.proofs.Pieces.{read_on, front_is, add_done, add_stop}
 use Rattle.item_files.proofs.dealing.Dealing.add.Goals as goal
 
 pub returns-in_default-clause-dealt : goal.returns-in_default-clause-dealt
-returns-in_default-clause-dealt c = λ read is.
+returns-in_default-clause-dealt g c = λ read is.
     subst (λ w. IsDealt c.args.self.now.options (read ++ c.args.bytes.now) w
     c.args.self.now.feeds c.args.self.now.lists.items) (sym c.in_ok-extend_from_slice.ensures.items)
     (read_on c.args.self.now.options read c.args.self.now.waiting.items
     c.args.self.now.feeds c.args.self.now.lists.items is c.args.bytes.now)
 
 pub returns-in_err-deal_waiting-clause-bad : goal.returns-in_err-deal_waiting-clause-bad
-returns-in_err-deal_waiting-clause-bad c = λ read is.
+returns-in_err-deal_waiting-clause-bad g c = λ read is.
     let gives : c.from_residual-in_err-deal_waiting.result ≡ Err c.in_err-deal_waiting.field-0.0 = search rules in
     let found = rw c.in-Some.is at c.memrchr.ensures in
     let cut = front_is c.args.bytes.now c.split_at.result.0.now c.split_at.result.1.now c.in-Some.end found.0.high
@@ -24,7 +24,7 @@ returns-in_err-deal_waiting-clause-bad c = λ read is.
     c.in_ok-extend_from_slice-2.ensures.items c.in_err-deal_waiting.field-0.0 c.in_err-deal_waiting.ensures.bad)
 
 pub returns-clause-dealt : goal.returns-clause-dealt
-returns-clause-dealt c = λ read is.
+returns-clause-dealt g c = λ read is.
     let found = rw c.in-Some.is at c.memrchr.ensures in
     let cut = front_is c.args.bytes.now c.split_at.result.0.now c.split_at.result.1.now c.in-Some.end found.0.high
     found.1 c.split_at.ensures.front c.split_at.ensures.back in

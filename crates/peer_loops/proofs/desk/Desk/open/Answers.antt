@@ -1,4 +1,4 @@
-use Rattle.std.proofs.Common.{rules, ◌≡◌, length, OnOk, Some, ℕ, subst}
+use Rattle.std.proofs.Common.{rules, ◌≡◌, ◌∙◌, length, OnOk, Some, ℕ, subst}
 use Rattle.slab.specs.Slab.{get}
 use Rattle.hub_core.specs.Peers.{version_after}
 use Rattle.peer_loops.proofs.desk.Desk.open.Goals as goal
@@ -8,7 +8,7 @@ pub returns-clause-version : goal.returns-clause-version
 returns-clause-version g c =
     let noted : OnOk c.unwrap_or.result ((p q : _) → get c.args.hub.now.peers c.args.key ≡ Some p →
     get c.open.new.self.peers c.args.key ≡ Some q →
-    q.version ≡ version_after p.phase p.version c.in_ok-store.version) = search rules in
+    q.version ≡ version_after p.phase p.version c.version-version.result) = search rules in
     subst (λ (n : ℕ). OnOk c.unwrap_or.result ((p q : _) → get c.args.hub.now.peers c.args.key ≡ Some p →
     get c.open.new.self.peers c.args.key ≡ Some q → q.version ≡ version_after p.phase p.version n))
-    c.in_ok-store.ensures.version noted
+    (c.version-version.ensures ∙ c.in_ok-pin.ensures.version) noted

@@ -1,6 +1,8 @@
-use Rattle.std.proofs.Common.{rules, length, ap, refl, sym}
+use Rattle.std.proofs.Common.{rules, ◌≡◌, length, refl, sym}
 use Rattle.std.proofs.lemmas.Option.{slice_get_read}
+use Rattle.std.specs.Arc.{arc_value}
 use Rattle.peer_loops.specs.Hands.{held}
+use Rattle.peer_loops.specs.declared.desk.Desk.{Desk}
 use Rattle.peer_loops.proofs.Handing.{puts_in}
 use Rattle.peer_loops.proofs.hand.Hand.put.Goals as goal
 
@@ -10,8 +12,9 @@ returns g c =
     let k = c.in-Some.place in
     let at = slice_get_read xs (length xs) k c.in-Some-get_mut.desk.now refl c.in-Some-get_mut.ensures.item.3.0
     c.in-Some-get_mut.ensures.value in
+    let same : (arc_value c.add.new.self.part).own ≡ (arc_value c.in-Some-get_mut.desk.now.part).own = search rules in
     record {
-      put = puts_in (λ d. held d.part.now.own d.seat.view) c.args.self.now xs k c.in-Some-get_mut.desk.now c.add.new.self
-          c.args.item.now c.add.result (sym c.self.view_is) at (ap (λ p. p.now.own) c.add.ensures.part)
+      put = puts_in (λ (d : Desk). held (arc_value d.part).own d.seat.view) c.args.self.now xs k
+          c.in-Some-get_mut.desk.now c.add.new.self c.args.item.now c.add.result (sym c.self.view_is) at same
           c.add.ensures.adds;
     }

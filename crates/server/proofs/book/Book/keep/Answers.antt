@@ -1,5 +1,5 @@
 use Rattle.std.proofs.Common.{rules, ◌≡◌, true, false, refl}
-use Rattle.server.specs.Keeping.{lines_of}
+use Rattle.loading.specs.Rewriting.{lines_of}
 use Rattle.server.proofs.Kept.{stored}
 use Rattle.server.proofs.book.Book.keep.Goals as goal
 

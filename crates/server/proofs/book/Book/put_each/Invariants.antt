@@ -1,5 +1,5 @@
 use Rattle.std.proofs.Common.{◌≡◌, true, take}
-use Rattle.server.specs.Keeping.{lines_of}
+use Rattle.loading.specs.Rewriting.{lines_of}
 use Rattle.server.proofs.Kept.{Tells}
 use Rattle.server.proofs.book.Book.put_each.Given as goal
 

@@ -1,0 +1,28 @@
+-- A session over what is meant of a version that was pinned: what is said of the pin is said of that.
+use Rattle.std.proofs.Common.{◌≡◌, ℕ, ◌+◌, List, length, subst}
+use Rattle.std.specs.Prelude.{⊤}
+use Rattle.definitions.specs.Accounts.{Seen}
+use Rattle.definitions.specs.Items.{Item}
+use Rattle.definitions.specs.Fingerprints.{two_lanes}
+use Rattle.definitions.specs.Wire.{two_lane_profile}
+use Rattle.definitions.specs.Engines.{initiating}
+use Rattle.definitions.specs.Ranks.{rank_by}
+use Rattle.strategy_check.specs.Checked.{Checked}
+use Rattle.ends_core.specs.Sides.{peer_of}
+use Rattle.version_lock.specs.Calls.{PinState}
+use Rattle.session_table.specs.declared.outcome.Outcome.{Outcome}
+use Rattle.peer_threads.specs.Outcomes.{Speaks, Traffic}
+
+pub speaks-meant : (a b : Checked) (A : List Item) (v : ℕ) (p : PinState) (t : Traffic) (r x : Seen) (o : Outcome) →
+    b ≡ a → p.items ≡ A → p.version ≡ v →
+    Speaks two_lanes two_lane_profile ⊤ (initiating two_lanes (peer_of b p.items)) p.version
+    (rank_by b.steps (length p.items) + 2) b.table.limit t r x o →
+    Speaks two_lanes two_lane_profile ⊤ (initiating two_lanes (peer_of a A)) v (rank_by a.steps (length A) + 2)
+    a.table.limit t r x o
+speaks-meant a b A v p t r x o same items version spoke =
+    let of_set = subst (λ (X : List Item). Speaks two_lanes two_lane_profile ⊤ (initiating two_lanes (peer_of b X))
+    p.version (rank_by b.steps (length X) + 2) b.table.limit t r x o) items spoke in
+    let of_version = subst (λ (n : ℕ). Speaks two_lanes two_lane_profile ⊤ (initiating two_lanes (peer_of b A)) n
+    (rank_by b.steps (length A) + 2) b.table.limit t r x o) version of_set in
+    subst (λ (d : Checked). Speaks two_lanes two_lane_profile ⊤ (initiating two_lanes (peer_of d A)) v
+    (rank_by d.steps (length A) + 2) d.table.limit t r x o) same of_version

@@ -1,5 +1,0 @@
-pub use Rattle.definitions.specs.Strategies
-pub use Rattle.definitions.specs.Ranks
-pub use Rattle.definitions.specs.Climbs
-pub use Rattle.definitions.specs.Refusals
-pub mod Refused

@@ -1,0 +1,40 @@
+-- What a set that forgets keeps.
+--     has_time form x     the item begins with a time of this form
+--     from_bound lower    the range of the items from a bound on
+--     keeps f x           the item is kept: it is in the range, and has a time where items have one
+--     kept_by f A         the items of A that are kept
+--     LacksAQuarter a k   of a items k are kept: at least one is not, and at least a quarter, rounded down
+use Rattle.std.specs.Prelude.{ℕ, ◌==◌, ◌<◌, ◌≤◌, ◌-◌, ◌/◌, Bool, true, false, not, ◌&&◌, nat_lt, List, [], ◌∷◌, length, filter}
+use Rattle.std.specs.Prelude.{Option, Some, None}
+use Rattle.std.specs.Char.{is_ascii_digit}
+use Rattle.definitions.specs.Items.{Item, Range, contains}
+use Rattle.shard_core.specs.declared.floor.TimeForm.{TimeForm}
+use Rattle.shard_core.specs.declared.floor.TimeForm.TheVariants as forms
+use Rattle.shard_core.specs.declared.floor.Floor.{Floor}
+
+-- four digits and a dash
+abbrev pub has_year : Item → Bool
+has_year (a ∷ b ∷ c ∷ d ∷ e ∷ rest) =
+    is_ascii_digit a && is_ascii_digit b && is_ascii_digit c && is_ascii_digit d && (e == 45)
+has_year x = false
+
+abbrev pub has_time : TimeForm → Item → Bool
+has_time forms.Unix32 x = not (nat_lt (length x) 4)
+has_time forms.Unix64 x = not (nat_lt (length x) 8)
+has_time forms.Iso x = has_year x
+
+abbrev pub is_timed : Option TimeForm → Item → Bool
+is_timed None x = true
+is_timed (Some form) x = has_time form x
+
+abbrev pub from_bound : List ℕ → Range
+from_bound lower = record { lower = lower; upper = None }
+
+abbrev pub keeps : Floor → Item → Bool
+keeps f x = contains f.range x && is_timed f.time x
+
+abbrev pub kept_by : Floor → List Item → List Item
+kept_by f A = filter (keeps f) A
+
+abbrev pub LacksAQuarter : ℕ → ℕ → Type 0
+LacksAQuarter all kept = (kept < all) × (all / 4 ≤ all - kept)
