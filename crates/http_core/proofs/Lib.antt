@@ -1,2 +1,3 @@
 mod Listings
 mod Pieces
+mod Whole

@@ -2,6 +2,7 @@ pub use Rattle.circular_buffer.specs.Buffer
 pub use Rattle.httparse.specs.Grammar
 pub mod Requests
 pub mod Frames
+pub mod SentFrames
 pub mod Framings
 pub mod Upgrades
 pub mod DoorRequests

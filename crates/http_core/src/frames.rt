@@ -2,11 +2,13 @@
 
 ghost use Rattle.std.specs.Prelude.{◌≡◌, ◌<◌, ◌≤◌, ◌+◌, ◌++◌, ℕ, false, None, Some, length, take, drop, option_map};
 ghost use Rattle.std.specs.Prelude.{IfSome, List, option_to_list};
+ghost use Rattle.std.specs.List.{AllByRecursion};
 ghost use Rattle.http_core.specs.Frames as frames;
 ghost use Rattle.http_core.specs.Frames.{FrameState};
 ghost use Rattle.http_core.specs.Frames.{asked_in, begun, code_of, ended, entered, flaw_of, fresh, headed, in_body};
 ghost use Rattle.http_core.specs.Frames.{is_sent_by_client, kept_ping, kind_of, run, said_of, settled, step, unmasked};
 ghost use Rattle.http_core.specs.Frames.{with_ping};
+ghost use Rattle.http_core.specs.SentFrames.{SentFrame, MaySend, encoded, last_ping, stream_of};
 
 use arrayvec::ArrayVec;
 use std::marker::Model;
@@ -348,4 +350,16 @@ pub fn pieces_do_not_matter()
         (run s (front ++ back)).0 ≡ (run (run s front).0 back).0 }
     ensures said { (s : FrameState) (front back : List ℕ) →
         (run s (front ++ back)).1 ≡ (run s front).1 ++ (run (run s front).0 back).1 }
+{}
+
+/// Whole frames that a client may send, with pings and pongs between those of a message, give their payloads in order:
+/// the bytes of the stream are those of the data frames, nothing stops it, and the last ping is to be answered.
+#[tactic(auto, using(crate::proofs::Whole::in_order, crate::proofs::Whole::no_stop, crate::proofs::Whole::last_asked))]
+pub fn whole_frames_give_their_payloads()
+    ensures said { (most : ℕ) (sent : List SentFrame) → AllByRecursion (MaySend most) sent →
+        (run (fresh most) (encoded false sent)).1 ≡ stream_of sent }
+    ensures goes_on { (most : ℕ) (sent : List SentFrame) → AllByRecursion (MaySend most) sent →
+        (run (fresh most) (encoded false sent)).0.stop ≡ None }
+    ensures ping { (most : ℕ) (sent : List SentFrame) → AllByRecursion (MaySend most) sent →
+        asked_in (run (fresh most) (encoded false sent)).0 ≡ last_ping None sent }
 {}

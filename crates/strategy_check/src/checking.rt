@@ -7,8 +7,8 @@ ghost use Rattle.strategy_check.specs.declared.fault.CheckError.TheVariants as e
 
 use crate::accepted::Accepted;
 use crate::fault::{CheckError, CheckFault};
-use crate::reasons::{long_list, too_deep};
 use crate::ranks::Ranks;
+use crate::reasons::{long_list, too_deep};
 use std::alloc::Global;
 use strategy_core::Strategy;
 
