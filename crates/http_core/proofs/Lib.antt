@@ -1,3 +1,5 @@
+mod Answered
 mod Listings
 mod Pieces
+mod Streamed
 mod Whole

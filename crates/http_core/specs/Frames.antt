@@ -7,9 +7,9 @@
 --     flaw_of most inside h n      why a frame with this head and n bytes of payload is not taken, if it is not
 --     step s b                   the state after one more byte, and the byte of the stream that it gives, if any
 --     run s bytes                the state after more bytes, and the bytes of the stream that they give
-use Rattle.std.specs.Prelude.{◌≡◌, ℕ, ◌+◌, ◌-◌, ◌%◌, ◌==◌, ◌&&◌, ◌||◌, not, nat_lt, nat_le, Bool, true, false}
+use Rattle.std.specs.Prelude.{ℕ, ◌+◌, ◌-◌, ◌%◌, ◌==◌, ◌&&◌, ◌||◌, not, nat_lt, nat_le, Bool, true, false}
 use Rattle.std.specs.Prelude.{List, [], ◌∷◌, ◌++◌, length, slice_index, bit_xor, Option, None, Some, is_some, unwrap_or}
-use Rattle.std.specs.Prelude.{Result, Ok, Err, if◌then◌else◌, option_to_list}
+use Rattle.std.specs.Prelude.{Ok, Err, if◌then◌else◌, option_to_list}
 use Rattle.websocket.specs.declared.protocol.frame.header.FrameHeader.{FrameHeader}
 use Rattle.websocket.specs.declared.protocol.frame.coding.OpCode.{OpCode}
 use Rattle.websocket.specs.declared.protocol.frame.coding.OpCode.TheVariants as opcodes

@@ -3,7 +3,7 @@
 --     control_text opcode payload   a frame whose payload is none of the stream
 --     FramingState               what is still to be written of the last frame: of its head, and how much payload
 --     begun n s                  the same, once n bytes of the stream are to be written
-use Rattle.std.specs.Prelude.{ℕ, ◌+◌, ◌/◌, ◌%◌, ◌==◌, ◌||◌, not, nat_lt, min, Bool, List, [], ◌∷◌, ◌++◌, length}
+use Rattle.std.specs.Prelude.{ℕ, ◌+◌, ◌/◌, ◌%◌, ◌==◌, ◌||◌, nat_lt, min, Bool, List, [], ◌∷◌, length}
 use Rattle.std.specs.Prelude.{if◌then◌else◌}
 
 abbrev pub data_head : ℕ → List ℕ

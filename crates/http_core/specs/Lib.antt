@@ -3,6 +3,7 @@ pub use Rattle.httparse.specs.Grammar
 pub mod Requests
 pub mod Frames
 pub mod SentFrames
+pub mod Streams
 pub mod Framings
 pub mod Upgrades
 pub mod DoorRequests

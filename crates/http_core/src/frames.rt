@@ -74,7 +74,7 @@ pub(crate) struct Body {
 
 /// How far a stream of frames was read.
 #[derive(Drop)]
-pub struct Frames {
+pub(crate) struct Frames {
     // How many bytes the payload of a frame may have.
     most: u64,
     // What came of the head of the next frame.
@@ -172,7 +172,7 @@ fn put(bytes: &mut [u8], kept: usize, said: Option<u8>) -> usize
 
 impl Frames {
     /// Nothing was read; a frame may have so many bytes of payload.
-    pub fn new(most: u64) -> Frames
+    pub(crate) fn new(most: u64) -> Frames
         ensures { result ≡ fresh most }
     {
         Frames {
@@ -187,14 +187,14 @@ impl Frames {
     }
 
     /// Why no more is read, if none is.
-    pub fn stop(&self) -> Option<Stop>
+    pub(crate) fn stop(&self) -> Option<Stop>
         ensures { result ≡ self.now.stop }
     {
         self.stop
     }
 
     /// The payload of the last ping, if that is whole and not answered: at most 125 bytes.
-    pub fn ping(&self) -> Option<&[u8]>
+    pub(crate) fn ping(&self) -> Option<&[u8]>
         ensures ping { option_map (λ text. text.now) result ≡ asked_in self.now }
         ensures few { IfSome result (λ text. length text.now ≤ 125) }
     {
@@ -202,7 +202,7 @@ impl Frames {
     }
 
     /// The last ping is answered.
-    pub fn answer_ping(&mut self)
+    pub(crate) fn answer_ping(&mut self)
         ensures { self.new ≡ record self.old { asks = false } }
     {
         self.asks = false;
@@ -327,7 +327,7 @@ impl Frames {
 
     /// Takes bytes that came, and puts the bytes of the stream that they give in their place, from the front on: how
     /// many there are. What stands behind these has no meaning.
-    pub fn unframe(&mut self, bytes: &mut [u8]) -> usize
+    pub(crate) fn unframe(&mut self, bytes: &mut [u8]) -> usize
         ensures state { self.new ≡ (run self.old bytes.old).0 }
         ensures said { take result bytes.new ≡ (run self.old bytes.old).1 }
         ensures few { result ≤ length bytes.new }

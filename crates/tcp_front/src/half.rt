@@ -69,7 +69,10 @@ impl Half {
 
     /// How many bytes were read of this half, or written to it, on the connection itself.
     pub fn bytes(&self) -> u64 {
-        self.bytes
+        match &self.way {
+            Way::Reads(web) => self.bytes.saturating_add(web.bytes()),
+            _ => self.bytes,
+        }
     }
 
     /// Nothing more is written to the connection.
@@ -107,7 +110,7 @@ impl AsRawFd for Half {
 impl Read for Half {
     fn read(&mut self, buf: &mut [u8]) -> io::Result<usize> {
         match &mut self.way {
-            Way::Reads(web) => web.read(&self.stream, buf, &mut self.bytes),
+            Way::Reads(web) => web.read(&self.stream, buf),
             _ => self.read_on(buf),
         }
     }

@@ -1,45 +1,70 @@
 //! A connection that is a WebSocket: what is read of it is the payload of its frames, in order.
 
-ghost use Rattle.std.specs.Prelude.{◌≤◌, IfOk, IfSome, length};
 ghost use Rattle.std.specs.Io.{ReadsAtMost};
 
 use crate::stream::Stream;
 use http_core::{
-    Frames, MOST_UPGRADE, Stop, Upgrade, control_frame, given_text, no_upgrade_text, upgrade_in,
+    Framed, MOST_UPGRADE, Stop, Upgrade, control_frame, given_text, no_upgrade_text, upgrade_in,
 };
 use std::alloc::{AllocError, Global};
 use std::io;
-use std::io::ErrorKind;
+use std::io::{Chain, Cursor, ErrorKind, Read};
 use std::sync::Arc;
 
 /// How many bytes of the head of a request are read at a time.
 const ROOM: usize = 1_024;
 
-/// How many reads one call makes at most that give no byte of the stream.
+/// How many steps of the beginning one call makes at most.
 const TURNS: usize = 16;
 
 /// Which pages may connect: their origins, with commas between them.
 pub(crate) type Origins = Arc<Vec<u8>>;
 
+/// The connection under the frames, and how many bytes were read of it.
+#[derive(Drop)]
+struct Raw {
+    stream: Arc<Stream>,
+    bytes: u64,
+}
+
+impl Read for Raw {
+    fn read(&mut self, buf: &mut [u8]) -> io::Result<usize> {
+        let count = self.stream.receive(buf)?;
+        self.bytes = self.bytes.saturating_add(count as u64);
+        Ok(count)
+    }
+}
+
+/// The stream in the frames of a connection: in those that came with the head of the request first.
+type WebStream = Framed<Chain<Cursor<Vec<u8>>, Raw>>;
+
+/// The head of a request that is read.
+#[derive(Drop)]
+struct Asking {
+    alloc: Global,
+    came: Vec<u8>,
+    origins: Origins,
+    // How many bytes a frame has at most.
+    most: u64,
+}
+
 /// How far the beginning of a WebSocket is.
 #[derive(Drop)]
 enum Stage {
-    /// The head of the request is read: what came of it.
-    Asked(Vec<u8>, Origins),
-    /// The request is answered: by this text, of which so many bytes are written, and whether by a WebSocket.
-    Answered(Vec<u8>, usize, bool),
+    /// The head of the request is read.
+    Asked(Asking),
+    /// The request is answered: by this text, of which so many bytes are written, and by a WebSocket if this is one.
+    Answered(Vec<u8>, usize, Option<WebStream>),
     /// Frames are read.
-    Begun,
+    Begun(WebStream),
 }
 
 /// What is read of a WebSocket.
 #[derive(Drop)]
 pub(crate) struct WebReader {
-    alloc: Global,
     stage: Stage,
-    // What came after the head of the request.
-    rest: Vec<u8>,
-    frames: Frames,
+    // How many bytes were read before frames were.
+    bytes: u64,
 }
 
 /// What a step of the beginning found.
@@ -83,181 +108,145 @@ fn write_whole(stream: &Stream, text: &[u8]) -> io::Result<bool> {
     }
 }
 
-impl WebReader {
-    /// One of which nothing was read, that pages of these origins may open; a frame has at most so many bytes.
-    pub(crate) fn new(alloc: Global, origins: Origins, most: u64) -> WebReader {
-        WebReader {
-            alloc,
-            stage: Stage::Asked(Vec::new(alloc), origins),
-            rest: Vec::new(alloc),
-            frames: Frames::new(most),
-        }
+impl Asking {
+    /// The stream of the frames that come after a head of so many bytes.
+    fn frames(&self, stream: &Arc<Stream>, length: usize) -> Result<WebStream, AllocError> {
+        let rest = Vec::from_slice(self.alloc, self.came.get(length..).unwrap_or(&[]))?;
+        let raw = Raw {
+            stream: Arc::try_clone(stream)?,
+            bytes: 0,
+        };
+        Ok(Framed::new(Cursor::new(rest).chain(raw), self.most))
     }
 
-    /// Whether it has begun: frames are read and written.
-    pub(crate) fn has_begun(&self) -> bool {
-        matches!(self.stage, Stage::Begun)
-    }
-
-    /// The code with which it is closed.
-    pub(crate) fn close_code(&self) -> u16 {
-        match self.frames.stop() {
-            Some(stop) => stop.code(),
-            None => Stop::Closed.code(),
-        }
-    }
-
-    /// The answer to a request for a WebSocket is written now.
-    fn answer(&mut self, upgrade: Upgrade) -> Result<(), AllocError> {
-        let alloc = self.alloc;
-        let (text, is_given) = match upgrade {
+    /// The request gets this; how far the beginning is then.
+    fn answer(&self, stream: &Arc<Stream>, upgrade: Upgrade) -> Result<Stage, AllocError> {
+        match upgrade {
             Upgrade::Given {
                 accept,
                 is_named,
                 length,
             } => {
-                if let Stage::Asked(came, _) = &self.stage {
-                    self.rest = Vec::from_slice(alloc, came.get(length..).unwrap_or(&[]))?;
-                }
-                (given_text(alloc, &accept, is_named)?, true)
+                let text = given_text(self.alloc, &accept, is_named)?;
+                Ok(Stage::Answered(text, 0, Some(self.frames(stream, length)?)))
             }
-            Upgrade::Refused(why) => (
-                Vec::from_slice(alloc, no_upgrade_text(why).as_bytes())?,
-                false,
-            ),
-        };
-        self.stage = Stage::Answered(text, 0, is_given);
-        Ok(())
+            Upgrade::Refused(why) => {
+                let text = Vec::from_slice(self.alloc, no_upgrade_text(why).as_bytes())?;
+                Ok(Stage::Answered(text, 0, None))
+            }
+        }
     }
 
-    /// Reads on of the head of the request; how many bytes were read.
-    fn read_head(&mut self, stream: &Stream) -> io::Result<usize> {
-        let Stage::Asked(came, origins) = &mut self.stage else {
-            return Ok(0);
-        };
+    /// Reads on of the head: how many bytes were read, and what it gets, if it has come whole.
+    fn read_on(&mut self, stream: &Stream) -> io::Result<(usize, Option<Upgrade>)> {
         let mut room = [0u8; ROOM];
-        let most = MOST_UPGRADE.saturating_sub(came.len()).min(ROOM);
+        let most = MOST_UPGRADE.saturating_sub(self.came.len()).min(ROOM);
         let count = stream.receive(&mut room[..most])?;
         if count == 0 {
             return Err(gone());
         }
-        came.extend_from_slice(room.get(..count).unwrap_or(&[]))
+        self.came
+            .extend_from_slice(room.get(..count).unwrap_or(&[]))
             .map_err(no_memory)?;
-        if let Some(upgrade) = upgrade_in(came, origins) {
-            self.answer(upgrade).map_err(no_memory)?;
+        Ok((count, upgrade_in(&self.came, &self.origins)))
+    }
+}
+
+/// Answers the last ping, if that is to be answered and the system takes the answer now. The session writes nothing
+/// while it reads, so no frame is cut.
+fn answer_ping(framed: &mut WebStream, stream: &Stream) -> io::Result<()> {
+    let Some(ping) = framed.ping() else {
+        return Ok(());
+    };
+    if write_whole(stream, &control_frame(PONG, ping))? {
+        framed.answer_ping();
+    }
+    Ok(())
+}
+
+impl WebReader {
+    /// One of which nothing was read, that pages of these origins may open; a frame has at most so many bytes.
+    pub(crate) fn new(alloc: Global, origins: Origins, most: u64) -> WebReader {
+        WebReader {
+            stage: Stage::Asked(Asking {
+                alloc,
+                came: Vec::new(alloc),
+                origins,
+                most,
+            }),
+            bytes: 0,
         }
-        Ok(count)
+    }
+
+    /// Whether it has begun: frames are read and written.
+    pub(crate) fn has_begun(&self) -> bool {
+        matches!(self.stage, Stage::Begun(_))
+    }
+
+    /// The code with which it is closed.
+    pub(crate) fn close_code(&self) -> u16 {
+        match &self.stage {
+            Stage::Begun(framed) => framed.stop().unwrap_or(Stop::Closed).code(),
+            _ => Stop::Closed.code(),
+        }
+    }
+
+    /// How many bytes were read of the connection.
+    pub(crate) fn bytes(&self) -> u64 {
+        match &self.stage {
+            Stage::Begun(framed) => self.bytes.saturating_add(framed.reader().get_ref().1.bytes),
+            _ => self.bytes,
+        }
     }
 
     /// Writes on of the answer to the request.
     fn write_answer(&mut self, stream: &Stream) -> io::Result<Turn> {
-        let Stage::Answered(text, said, is_given) = &mut self.stage else {
+        let Stage::Answered(text, said, framed) = &mut self.stage else {
             return Ok(Turn::Done);
         };
         *said = write_on(stream, text, *said)?;
         if *said < text.len() {
             return Ok(Turn::Again);
         }
-        if !*is_given {
-            return Err(gone());
-        }
-        self.stage = Stage::Begun;
+        self.stage = Stage::Begun(framed.take().ok_or_else(gone)?);
         Ok(Turn::Done)
     }
 
     /// Goes on with the beginning.
-    fn begin_on(&mut self, stream: &Stream, bytes: &mut u64) -> io::Result<Turn> {
-        match self.stage {
-            Stage::Begun => Ok(Turn::Done),
-            Stage::Asked(..) => {
-                let count = self.read_head(stream)?;
-                *bytes = bytes.saturating_add(count as u64);
-                Ok(Turn::Again)
-            }
-            Stage::Answered(..) => self.write_answer(stream),
+    fn begin_on(&mut self, stream: &Arc<Stream>) -> io::Result<Turn> {
+        let Stage::Asked(asking) = &mut self.stage else {
+            return self.write_answer(stream);
+        };
+        let (count, upgrade) = asking.read_on(stream)?;
+        self.bytes = self.bytes.saturating_add(count as u64);
+        if let Some(upgrade) = upgrade {
+            self.stage = asking.answer(stream, upgrade).map_err(no_memory)?;
         }
+        Ok(Turn::Again)
     }
 
     /// Goes on with the beginning, until frames can be read.
-    fn begin(&mut self, stream: &Stream, bytes: &mut u64) -> io::Result<()> {
+    fn begin(&mut self, stream: &Arc<Stream>) -> io::Result<()> {
         for _turn in 0..TURNS {
-            if self.begin_on(stream, bytes)? == Turn::Done {
+            if self.begin_on(stream)? == Turn::Done {
                 return Ok(());
             }
         }
         Err(io::Error::from(ErrorKind::Interrupted))
     }
 
-    /// Reads bytes of frames: those that came after the head of the request first.
-    fn read_raw(&mut self, stream: &Stream, buf: &mut [u8], bytes: &mut u64) -> io::Result<usize>
-        ensures bound { ReadsAtMost result buf.new }
-    {
-        if self.rest.is_empty() {
-            let count = stream.receive(buf)?;
-            *bytes = bytes.saturating_add(count as u64);
-            return Ok(count);
-        }
-        let count = self.rest.len().min(buf.len());
-        buf[..count].copy_from_slice(&self.rest[..count]);
-        self.rest = Vec::from_slice(self.alloc, &self.rest[count..]).map_err(no_memory)?;
-        Ok(count)
-    }
-
-    /// Answers the last ping, if that is to be answered and the system takes the answer now. The session writes nothing
-    /// while it reads, so no frame is cut.
-    fn answer_ping(&mut self, stream: &Stream) -> io::Result<()> {
-        let Some(ping) = self.frames.ping() else {
-            return Ok(());
-        };
-        if write_whole(stream, &control_frame(PONG, ping))? {
-            self.frames.answer_ping();
-        }
-        Ok(())
-    }
-
-    /// Reads bytes once, and gives those of the stream that are in them. None where no more are read.
-    fn read_once(
-        &mut self,
-        stream: &Stream,
-        buf: &mut [u8],
-        bytes: &mut u64,
-    ) -> io::Result<Option<usize>>
-        ensures bound { IfOk result (λ read. IfSome read (λ count. count ≤ length buf.new)) }
-    {
-        match self.frames.stop() {
-            None => {}
-            Some(Stop::Closed) => return Ok(None),
-            Some(_) => return Err(io::Error::from(ErrorKind::InvalidData)),
-        }
-        let count = self.read_raw(stream, buf, bytes)?;
-        if count == 0 {
-            return Ok(None);
-        }
-        let kept = self.frames.unframe(&mut buf[..count]);
-        self.answer_ping(stream)?;
-        Ok(Some(kept))
-    }
-
     /// Reads bytes of the stream. It has ended with the frame that closes it; a frame that is not taken is an error.
-    /// How many bytes were read of the connection is added to `bytes`.
-    pub(crate) fn read(
-        &mut self,
-        stream: &Stream,
-        buf: &mut [u8],
-        bytes: &mut u64,
-    ) -> io::Result<usize>
+    pub(crate) fn read(&mut self, stream: &Arc<Stream>, buf: &mut [u8]) -> io::Result<usize>
         ensures bound { ReadsAtMost result buf.new }
     {
-        self.begin(stream, bytes)?;
-        self.answer_ping(stream)?;
-        for _turn in 0..TURNS {
-            match self.read_once(stream, buf, bytes)? {
-                None => return Ok(0),
-                Some(0) => {}
-                Some(kept) => return Ok(kept),
-            }
-        }
-        Err(io::Error::from(ErrorKind::Interrupted))
+        self.begin(stream)?;
+        let Stage::Begun(framed) = &mut self.stage else {
+            return Err(gone());
+        };
+        answer_ping(framed, stream)?;
+        let read = framed.read(buf);
+        answer_ping(framed, stream)?;
+        read
     }
 }
 

@@ -1,4 +1,4 @@
-use Rattle.std.proofs.Common.{◌≡◌, List, ℕ, subst, map, take, Result, Ok, Err}
+use Rattle.std.proofs.Common.{◌≡◌, List, ℕ, subst, map, take, Result, Err}
 use Rattle.httparse.specs.Spans.{header_bytes, span_bytes}
 use Rattle.websocket.specs.declared.handshake.failure.HandshakeError.{HandshakeError}
 use Rattle.websocket.specs.Handshake.{Answers, requested_key}
