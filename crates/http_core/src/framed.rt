@@ -1,12 +1,12 @@
 //! A reader of what a client says over a WebSocket: the payloads of its frames, in order.
 
-ghost use Rattle.std.specs.Prelude.{◌≡◌, ◌≤◌, ℕ, List, false, Some, length, option_map, IfOk, IfSome};
+ghost use Rattle.std.specs.Prelude.{◌≡◌, ◌≤◌, ℕ, List, true, false, Some, length, option_map, IfOk, IfSome, IfNone};
 ghost use Rattle.std.specs.List.{AllByRecursion};
 ghost use Rattle.std.specs.Io.{ReadsAtMost};
 ghost use Rattle.std.specs.Io.KnownBytes.{ReadConsumes};
 ghost use Rattle.http_core.specs.Frames.{asked_in, fresh, run};
 ghost use Rattle.http_core.specs.SentFrames.{SentFrame, MaySend, encoded, stream_of};
-ghost use Rattle.http_core.specs.Streams.{GivesOnce, stream_left};
+ghost use Rattle.http_core.specs.Streams.{GivesOnce, may_end, stream_left};
 
 use crate::frames::{Frames, Stop};
 use std::io;
@@ -85,6 +85,7 @@ impl<R: Read> Framed<R> {
         ensures bytes { GivesOnce (stream_left self.old.frames (R.remaining self.old.reader))
             (stream_left self.new.frames (R.remaining self.new.reader)) result buf.new }
         ensures room { length buf.new ≡ length buf.old }
+        ensures ended { IfOk result (λ read. IfNone read (may_end self.new.frames.stop ≡ true)) }
     {
         match self.frames.stop() {
             None => {}
@@ -108,6 +109,7 @@ impl<R: Read> Read for Framed<R> {
         ensures bound { ReadsAtMost result buf.new }
         ensures bytes { ReadConsumes (stream_left self.old.frames (R.remaining self.old.reader))
             (stream_left self.new.frames (R.remaining self.new.reader)) result buf.new }
+        ensures ended { IfOk result (λ count. count ≡ 0 → may_end self.new.frames.stop ≡ true) }
     {
         for _turn in 0..TURNS {
             match self.read_once(buf)? {
