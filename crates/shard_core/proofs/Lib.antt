@@ -17,3 +17,4 @@ pub mod Spanned
 pub mod Joins
 pub mod Holders
 pub mod Within
+pub mod Forms

@@ -2,7 +2,7 @@
 
 ghost use Rattle.std.specs.Prelude.{◌≡◌, ◌≤◌, ◌↔◌, None, Some, IsTrue};
 ghost use Rattle.definitions.specs.Items.{whole};
-ghost use Rattle.shard_core.specs.Floors.{from_bound, has_time, has_year, is_timed, keeps, LacksAQuarter};
+ghost use Rattle.shard_core.specs.Floors.{begins_as, fits, from_bound, has_time, is_timed, keeps, leaves, LacksAQuarter};
 
 use item_core::{Item, Lower, Range, Upper};
 
@@ -18,30 +18,42 @@ pub enum TimeForm {
 }
 
 impl TimeForm {
-    /// Whether the item begins with a time of this form: it has as many bytes, or four digits and a dash.
+    /// Whether the item begins with a time of this form: it has as many bytes, or digits and what stands between them.
     pub fn has_time(self, item: &Item) -> bool
         ensures { result ≡ has_time self item.now }
     {
         match self {
             TimeForm::Unix32 => item.bytes().len() >= 4,
             TimeForm::Unix64 => item.bytes().len() >= 8,
-            TimeForm::Iso => has_year(item.bytes()),
+            TimeForm::Iso => begins_as(b"0000-00-00T00:00:00", item.bytes()),
         }
     }
 }
 
-/// Whether a text begins with four digits and a dash.
-fn has_year(text: &[u8]) -> bool
-    ensures { result ≡ has_year text.now }
+/// Whether this may be that byte of a text with a date and a time: a digit for a digit, or the same byte.
+fn fits(form: u8, byte: u8) -> bool
+    ensures { result ≡ fits form byte }
 {
-    let [a, b, c, d, e, ..] = text else {
+    if form.is_ascii_digit() {
+        byte.is_ascii_digit()
+    } else {
+        byte == form
+    }
+}
+
+/// Whether a text begins with a date and a time, as this one is.
+fn begins_as(form: &[u8], text: &[u8]) -> bool
+    ensures { result ≡ begins_as form.now text.now }
+{
+    if text.len() < form.len() {
         return false;
-    };
-    a.is_ascii_digit()
-        && b.is_ascii_digit()
-        && c.is_ascii_digit()
-        && d.is_ascii_digit()
-        && *e == b'-'
+    }
+    for at in 0..form.len() {
+        if !fits(form[at], text[at]) {
+            return false;
+        }
+    }
+    true
 }
 
 /// Whether so much is forgotten that what is left is made anew: of so many items so many are kept, at least one is not,
@@ -102,6 +114,13 @@ impl Floor {
             Some(form) => form.has_time(item),
             None => true,
         }
+    }
+
+    /// Whether the item stays in a file that is rewritten: it is kept, or has no time where items have one.
+    pub fn leaves(&self, item: &Item) -> bool
+        ensures { result ≡ leaves self.now item.now }
+    {
+        self.keeps(item) || !self.is_timed(item)
     }
 
     /// Whether the item is kept.
