@@ -124,6 +124,10 @@ func (s *Shards) Reconcile(connect Connect) (*Learned, error) {
 		return nil, &RefusedError{Number: 56}
 	}
 	found := new(Learned)
+	defer func() {
+		rise(found.Ours)
+		rise(found.Theirs)
+	}()
 	for number, said := range told {
 		if said != C.RS_DIFFERS {
 			continue
@@ -135,8 +139,6 @@ func (s *Shards) Reconcile(connect Connect) (*Learned, error) {
 		found.Ours = append(found.Ours, learned.Ours...)
 		found.Theirs = append(found.Theirs, learned.Theirs...)
 	}
-	rise(found.Ours)
-	rise(found.Theirs)
 	return found, nil
 }
 

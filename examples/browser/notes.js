@@ -46,7 +46,8 @@ async function keep(items) {
     for (const item of items) change.objectStore("notes").put(true, decoder.decode(item));
     await new Promise((resolve, reject) => {
         change.oncomplete = resolve;
-        change.onerror = () => reject(change.error);
+        // A change that fails as it is committed has no error of a request.
+        change.onabort = () => reject(change.error);
     });
     set.update(items);
 }

@@ -27,7 +27,7 @@ const pause = (milliseconds) => new Promise((resolve) => setTimeout(resolve, mil
 
 /** Waits for something, but not longer than a close may take. A fault of it does not matter any more.
  * @param {Promise<unknown>} promise */
-async function forAWhile(promise) {
+export async function forAWhile(promise) {
     /** @type {ReturnType<typeof setTimeout> | undefined} */
     let timer;
     const late = new Promise((resolve) => (timer = setTimeout(resolve, MOST_CLOSING_MILLISECONDS)));

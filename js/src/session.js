@@ -132,7 +132,7 @@ export class Session {
      */
     pull(most = MOST_PULLED) {
         if (!(most >= 1)) throw new RangeError("most is to be 1 or more");
-        let wanted = Math.min(most, this.#due.reduce((sum, text) => sum + text.length, 0));
+        let wanted = Math.min(Math.floor(most), this.#due.reduce((sum, text) => sum + text.length, 0));
         const pulled = new Uint8Array(wanted);
         while (wanted > 0) {
             const text = this.#due[0];

@@ -6,11 +6,11 @@ import { Refused } from "./refused.js";
 import { DIRECTORY, Front, SetName } from "./selector.js";
 import { MOST_BYTES, Session } from "./session.js";
 import { initiated, spoken } from "./sets.js";
+import { Strategy } from "./strategy.js";
 import { run } from "./sync.js";
 import { Tree } from "./tree.js";
 
 /** @typedef {import("./tree.js").View} View */
-/** @typedef {import("./strategy.js").Strategy} Strategy */
 /** @typedef {{ ours: Uint8Array[], theirs: Uint8Array[] }} Learned */
 /** @typedef {Learned & { differ: number }} Reconciled */
 /** @typedef {import("./items.js").Range} Range */
@@ -88,6 +88,7 @@ export class Shards {
      */
     constructor(strategy, bits, items = [], options = {}) {
         const { name = "", only } = options;
+        if (!(strategy instanceof Strategy)) throw new TypeError("the first argument is to be a Strategy");
         this.#strategy = strategy;
         this.#name = new SetName(name, bits);
         for (const number of only ?? Array(2 ** bits).keys()) this.#keep(number);
@@ -258,6 +259,7 @@ export class Shards {
         const talk = async (/** @type {number} */ shard, /** @type {View} */ view) => {
             const selector = this.#name.selector(shard, range);
             const session = initiated(this.#strategy, { view, shard }, selector, options);
+            options.signal?.throwIfAborted();
             return run(session, await connected(), options);
         };
         if (this.bits === 0) {

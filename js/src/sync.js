@@ -1,6 +1,6 @@
 /** Runs a session over a connection. */
 
-import { connectionOver } from "./connections.js";
+import { connectionOver, forAWhile } from "./connections.js";
 import { MOST_BYTES } from "./session.js";
 
 /** @typedef {import("./session.js").Session} Session */
@@ -13,8 +13,20 @@ async function writeDue(session, connection) {
     try {
         for (let bytes = session.pull(); bytes.length > 0; bytes = session.pull()) await connection.write(bytes);
     } catch (fault) {
+        // The peer may have refused before the connection broke.
+        await forAWhile(hearLast(session, connection));
         // A refusal stands, whether the peer can be told of it or not.
         if (session.refusal === null) throw fault;
+    }
+}
+
+/** Takes what has come, while the session goes on.
+ * @param {Session} session @param {Connection} connection */
+async function hearLast(session, connection) {
+    while (session.state === "open") {
+        const came = await connection.read();
+        if (came === null) return;
+        session.push(came);
     }
 }
 
@@ -66,7 +78,7 @@ export async function run(session, stream, options = {}) {
  * @param {unknown} stream a WebSocket, a pair of web streams, or a socket of Node; it is closed
  * @param {SyncOptions & import("./sets.js").PartOptions} [options] with `from` and `to`, of the items between alone
  */
-export function sync(set, stream, options = {}) {
+export async function sync(set, stream, options = {}) {
     return run(set.initiate(options), stream, options);
 }
 
@@ -77,7 +89,7 @@ export function sync(set, stream, options = {}) {
  * @param {unknown} stream a WebSocket, a pair of web streams, or a socket of Node; it is closed
  * @param {SyncOptions} [options]
  */
-export function answer(set, stream, options = {}) {
+export async function answer(set, stream, options = {}) {
     return run(set.respond(options), stream, options);
 }
 

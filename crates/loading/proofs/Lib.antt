@@ -1,3 +1,4 @@
 mod OpenedLogs
 mod Appending
 mod Rewritten
+mod Room

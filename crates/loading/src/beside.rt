@@ -67,9 +67,11 @@ impl<'a, R: Files<File = File> + AllocGlobal> DiskFolder<'a, R> {
         })
     }
 
-    /// The new file, to go on in it, if it stands at the path.
+    /// The new file, to go on in it, if it stands at the path. Else it is removed, and takes the room of no lines.
     pub fn into_opened(self) -> Option<Opened> {
         let DiskFolder {
+            rt,
+            beside,
             folder,
             fresh,
             is_renamed,
@@ -78,6 +80,7 @@ impl<'a, R: Files<File = File> + AllocGlobal> DiskFolder<'a, R> {
         } = self;
         let Fresh { file, length } = fresh?;
         if !is_renamed {
+            let _removed = fs::remove_file(rt, beside.as_str());
             return None;
         }
         let unsettled = if is_settled { None } else { Some(folder) };
@@ -127,10 +130,10 @@ impl<R: Files<File = File> + AllocGlobal> Folder for DiskFolder<'_, R> {
 
     fn begin(&mut self) -> io::Result<()> {
         let file = self.create()?;
-        make_alike(&file, self.old)?;
+        let alike = make_alike(&file, self.old);
         self.fresh = Some(Fresh { file, length: 0 });
         self.is_renamed = false;
-        Ok(())
+        alike
     }
 
     fn append(&mut self, bytes: &[u8]) -> io::Result<usize> {

@@ -1,8 +1,8 @@
 //! What a side of sessions over shards begins with.
 
-ghost use Rattle.std.specs.Prelude.{◌≡◌, ◌<◌, ◌≤◌, ◌^◌, IfOk, OnOk};
+ghost use Rattle.std.specs.Prelude.{◌≡◌, ◌<◌, ◌≤◌, ◌^◌, ◌-◌, IfOk, IfNone, OnOk};
 ghost use Rattle.shard_core.specs.Shards.{max_bits};
-ghost use Rattle.shard_core.specs.Splits.{held};
+ghost use Rattle.shard_core.specs.Splits.{held, HasRoom};
 ghost use Rattle.shard_core.specs.Spans.{AreKept};
 
 use crate::disk::Opened;
@@ -23,6 +23,56 @@ use std::thread::Threads;
 use std::time::Clock;
 use std::{fs, io};
 use strategy_check::Accepted;
+
+/// Which shards are kept, and which of their items.
+#[derive(Clone, Copy)]
+struct Keeping {
+    options: LoadOptions,
+    floor: Floor,
+}
+
+/// The place of the first of these shards that has more items than the cap.
+fn full_place(shards: &[Vec<Item>], cap: usize) -> Option<usize>
+    ensures { IfNone result (HasRoom cap (held shards.now)) }
+{
+    for place in 0..shards.len() {
+        if shards[place].len() > cap {
+            return Some(place);
+        }
+    }
+    None
+}
+
+impl Keeping {
+    /// The options by which a file is read: all of its items, since only those that are kept count.
+    fn reading(&self) -> LoadOptions
+        ensures { result ≡ record self.now.options { cap = 2 ^ 64 - 1 } }
+    {
+        LoadOptions {
+            cap: usize::MAX,
+            ..self.options
+        }
+    }
+
+    /// The shards of the items that are kept. Else 82, for the first shard that has more of them than the cap.
+    fn kept_of(&self, shards: Vec<Vec<Item>>) -> Result<Vec<Vec<Item>>, LoadFault>
+        requires { AreKept self.now.options.bits self.now.options.first self.now.options.last (2 ^ 64 - 1)
+            (held shards.items) }
+        ensures { IfOk result (λ v. AreKept self.now.options.bits self.now.options.first self.now.options.last
+            self.now.options.cap (held v.items)) }
+    {
+        let kept = shards_within(shards, &self.floor);
+        match full_place(&kept, self.options.cap) {
+            Some(place) => {
+                let place = u16::try_from(place).unwrap_or(u16::MAX);
+                Err(LoadFault::TooManyItems {
+                    shard: self.options.first.saturating_add(place),
+                })
+            }
+            None => Ok(kept),
+        }
+    }
+}
 
 /// Why a file is not read that was not opened, or not set to its start.
 fn unread(error: &io::Error) -> LoadFault {
@@ -59,26 +109,47 @@ fn file_shards<R: Files<File = File> + Clock + AllocGlobal + Threads + Sync, E: 
 }
 
 /// The shards of the items of the input.
-fn input_shards<'a, R: Clock + AllocGlobal + Threads + Sync, I: Read + Drop, E: Write>(
+fn input_shards<R: Clock + AllocGlobal + Threads + Sync, I: Read + Drop, E: Write>(
     reader: I,
     options: LoadOptions,
     screen: &mut Screen<'_, R, E>,
-) -> Result<Vec<Vec<Item>>, Refusal<'a>>
+) -> Result<Vec<Vec<Item>>, LoadFault>
     requires low { options.bits ≤ max_bits }
     requires span { (options.first ≤ options.last) × (options.last < 2 ^ options.bits) }
     ensures { IfOk result (λ v. AreKept options.bits options.first options.last options.cap (held v.items)) }
 {
     let rt = screen.rt();
-    let alloc = rt.alloc();
     let reader = Shown::new(screen, reader, None);
-    match read_shards(rt, alloc, &mut Watched::new(reader), options) {
-        Ok(shards) => Ok(shards),
-        Err(fault) => Err(Refusal::of_shards_file(alloc, STANDARD_INPUT, options.cap, fault)),
-    }
+    read_shards(rt, rt.alloc(), &mut Watched::new(reader), options)
 }
 
-/// The shards of the items of the file, or of the input; of no items, if neither is given. Else 80, 81, then 82, and
-/// 90.
+/// The shards of the items of the file, or of the input, that are kept; of no items, if neither is given.
+fn kept_shards<
+    R: Files<File = File> + Clock + AllocGlobal + Threads + Sync,
+    I: Read + Drop,
+    E: Write,
+>(
+    items: Option<&str>,
+    reader: I,
+    keeping: Keeping,
+    screen: &mut Screen<'_, R, E>,
+) -> Result<Vec<Vec<Item>>, LoadFault>
+    requires low { keeping.options.bits ≤ max_bits }
+    requires span { (keeping.options.first ≤ keeping.options.last)
+        × (keeping.options.last < 2 ^ keeping.options.bits) }
+    ensures { IfOk result (λ v. AreKept keeping.options.bits keeping.options.first keeping.options.last
+        keeping.options.cap (held v.items)) }
+{
+    let options = keeping.reading();
+    let shards = match items {
+        Some("-") => input_shards(reader, options, screen)?,
+        Some(path) => file_shards(path, options, screen)?,
+        None => input_shards(io::empty(), options, screen)?,
+    };
+    keeping.kept_of(shards)
+}
+
+/// The same. Else 80, 81, then 82, and 90.
 fn item_shards<
     'a,
     R: Files<File = File> + Clock + AllocGlobal + Threads + Sync,
@@ -87,21 +158,25 @@ fn item_shards<
 >(
     items: Option<&'a str>,
     reader: I,
-    options: LoadOptions,
+    keeping: Keeping,
     screen: &mut Screen<'_, R, E>,
 ) -> Result<Vec<Vec<Item>>, Refusal<'a>>
-    requires low { options.bits ≤ max_bits }
-    requires span { (options.first ≤ options.last) × (options.last < 2 ^ options.bits) }
-    ensures { IfOk result (λ v. AreKept options.bits options.first options.last options.cap (held v.items)) }
+    requires low { keeping.options.bits ≤ max_bits }
+    requires span { (keeping.options.first ≤ keeping.options.last)
+        × (keeping.options.last < 2 ^ keeping.options.bits) }
+    ensures { IfOk result (λ v. AreKept keeping.options.bits keeping.options.first keeping.options.last
+        keeping.options.cap (held v.items)) }
 {
     let alloc = screen.rt().alloc();
-    match items {
-        Some("-") => input_shards(reader, options, screen),
-        Some(path) => match file_shards(path, options, screen) {
-            Ok(shards) => Ok(shards),
-            Err(fault) => Err(Refusal::of_shards_file(alloc, path, options.cap, fault)),
-        },
-        None => input_shards(io::empty(), options, screen),
+    match kept_shards(items, reader, keeping, screen) {
+        Ok(shards) => Ok(shards),
+        Err(fault) => {
+            let file = match items {
+                Some("-") | None => STANDARD_INPUT,
+                Some(path) => path,
+            };
+            Err(Refusal::of_shards_file(alloc, file, keeping.options.cap, fault))
+        }
     }
 }
 
@@ -126,20 +201,24 @@ fn reread_shards<R: Clock + AllocGlobal + Threads + Sync, E: Write>(
     }
 }
 
-/// The shards of the items of both, of which the second are those of a file.
+/// The shards of the items of both, of which the second are those of a file that are kept.
 fn joined_shards<R: Clock + AllocGlobal + Threads + Sync, E: Write>(
     shards: Vec<Vec<Item>>,
     opened: &mut Opened,
-    options: LoadOptions,
+    keeping: Keeping,
     screen: &mut Screen<'_, R, E>,
 ) -> Result<Vec<Vec<Item>>, LoadFault>
-    requires low { options.bits ≤ max_bits }
-    requires span { (options.first ≤ options.last) × (options.last < 2 ^ options.bits) }
-    requires own { AreKept options.bits options.first options.last options.cap (held shards.items) }
-    ensures { IfOk result (λ v. AreKept options.bits options.first options.last options.cap (held v.items)) }
+    requires low { keeping.options.bits ≤ max_bits }
+    requires span { (keeping.options.first ≤ keeping.options.last)
+        × (keeping.options.last < 2 ^ keeping.options.bits) }
+    requires own { AreKept keeping.options.bits keeping.options.first keeping.options.last keeping.options.cap
+        (held shards.items) }
+    ensures { IfOk result (λ v. AreKept keeping.options.bits keeping.options.first keeping.options.last
+        keeping.options.cap (held v.items)) }
 {
-    let more = reread_shards(opened, options, screen)?;
-    Ok(join_shards(shards, &more, options.first, options.cap)?)
+    let read = reread_shards(opened, keeping.reading(), screen)?;
+    let more = keeping.kept_of(read)?;
+    Ok(join_shards(shards, &more, keeping.options.first, keeping.options.cap)?)
 }
 
 /// The same with the shards of the file in which the set is kept, if there is one. Else 80, 81, then 82, and 90.
@@ -147,21 +226,24 @@ fn with_kept<'a, R: Clock + AllocGlobal + Threads + Sync, E: Write>(
     keep: Option<&'a str>,
     opened: &mut Option<Opened>,
     shards: Vec<Vec<Item>>,
-    options: LoadOptions,
+    keeping: Keeping,
     screen: &mut Screen<'_, R, E>,
 ) -> Result<Vec<Vec<Item>>, Refusal<'a>>
-    requires low { options.bits ≤ max_bits }
-    requires span { (options.first ≤ options.last) × (options.last < 2 ^ options.bits) }
-    requires own { AreKept options.bits options.first options.last options.cap (held shards.items) }
-    ensures { IfOk result (λ v. AreKept options.bits options.first options.last options.cap (held v.items)) }
+    requires low { keeping.options.bits ≤ max_bits }
+    requires span { (keeping.options.first ≤ keeping.options.last)
+        × (keeping.options.last < 2 ^ keeping.options.bits) }
+    requires own { AreKept keeping.options.bits keeping.options.first keeping.options.last keeping.options.cap
+        (held shards.items) }
+    ensures { IfOk result (λ v. AreKept keeping.options.bits keeping.options.first keeping.options.last
+        keeping.options.cap (held v.items)) }
 {
     let Some(opened) = opened else {
         return Ok(shards);
     };
     let alloc = screen.rt().alloc();
-    match joined_shards(shards, opened, options, screen) {
+    match joined_shards(shards, opened, keeping, screen) {
         Ok(shards) => Ok(shards),
-        Err(fault) => Err(kept_refusal(alloc, keep, options.cap, fault)),
+        Err(fault) => Err(kept_refusal(alloc, keep, keeping.options.cap, fault)),
     }
 }
 
@@ -184,14 +266,6 @@ fn enough_places<'a>(accepted: &Accepted, table: &'a str, bits: u8) -> Result<()
         return Err(Refusal::of_few_places(table, bits));
     }
     Ok(())
-}
-
-/// The shards of the items that are kept.
-fn part_of(shards: Vec<Vec<Item>>, options: LoadOptions, kept: &Floor) -> Vec<Vec<Item>>
-    requires { AreKept options.bits options.first options.last options.cap (held shards.items) }
-    ensures { AreKept options.bits options.first options.last options.cap (held result.items) }
-{
-    shards_within(shards, kept)
 }
 
 /// How many items all shards have.
@@ -222,10 +296,13 @@ where
     ensures cap { IfOk result (λ o. o.set.cap ≡ o.accepted.table.cap) }
 {
     let rt = screen.rt();
-    let shards = item_shards(sources.items, reader, options, screen)?;
+    let keeping = Keeping {
+        options,
+        floor: *sources.kept,
+    };
+    let shards = item_shards(sources.items, reader, keeping, screen)?;
     let mut kept = open_kept(rt, sources, screen.err())?;
-    let shards = with_kept(sources.keep, &mut kept.opened, shards, options, screen)?;
-    let shards = part_of(shards, options, sources.kept);
+    let shards = with_kept(sources.keep, &mut kept.opened, shards, keeping, screen)?;
     screen.hash(count_of(&shards));
     let LoadOptions { bits, first, .. } = options;
     let set = ShardedSet::of(rt, rt.alloc(), bits, first, accepted.cap(), shards)?;
@@ -241,8 +318,8 @@ where
 ///
 /// The strategy is judged first: 80, 30 to 35 or 29, then 37, 36 or 38, then 82 where its cap is below the number of
 /// shards. Then the items are: 80, 81, then 82 where a shard that is kept has more different items than the cap; and
-/// then those of the file in which the set is kept, in the same way. Items of other shards are left out, and last those
-/// that are not kept.
+/// then those of the file in which the set is kept, in the same way. Items of other shards are left out, and then those
+/// that are not kept: they do not count.
 pub fn load_shards<
     'a,
     R: Files<File = File> + AllocGlobal + Threads + Clock + Sync,

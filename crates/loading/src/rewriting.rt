@@ -3,7 +3,7 @@
 ghost use Rattle.std.specs.Prelude.{◌≡◌, ◌↔◌, ◌++◌, ◌-◌, ◌*◌, ◌<◌, ◌≤◌, true, false, not, length, string_bytes};
 ghost use Rattle.std.specs.Prelude.{OnOk, IfOk, IfSome, IfNone, IsTrue, MatchOption};
 ghost use Rattle.printing_core.specs.ItemTexts.{item_line};
-ghost use Rattle.shard_core.specs.Floors.{kept_by, LacksAQuarter};
+ghost use Rattle.shard_core.specs.Floors.{left_by, LacksAQuarter};
 ghost use Rattle.loading.specs.Folders.{Lifts};
 ghost use Rattle.loading.specs.Rewriting.{lines_of, IsLeft, IsShorter, Rewrites};
 
@@ -77,15 +77,15 @@ impl Rewriting {
     }
 }
 
-/// The items that are kept, if a quarter of all is not.
-fn kept_if_fewer(items: Vec<Item>, floor: &Floor) -> Option<Vec<Item>>
-    ensures kept { IfSome result (λ v. v.items ≡ kept_by floor.now items.items) }
+/// The items that stay in a file, if a quarter of all does not.
+fn left_if_fewer(items: Vec<Item>, floor: &Floor) -> Option<Vec<Item>>
+    ensures kept { IfSome result (λ v. v.items ≡ left_by floor.now items.items) }
     ensures fewer { IfSome result (λ v. LacksAQuarter (length items.items) (length v.items)) }
-    ensures left { IfNone result (LacksAQuarter (length items.items) (length (kept_by floor.now items.items)) → ⊥) }
+    ensures left { IfNone result (LacksAQuarter (length items.items) (length (left_by floor.now items.items)) → ⊥) }
 {
     let mut items = items;
     let count = items.len();
-    items.retain(|item| floor.keeps(item));
+    items.retain(|item| floor.leaves(item));
     if !lacks_a_quarter(count, items.len()) {
         return None;
     }
@@ -116,7 +116,7 @@ pub fn lines_text(alloc: Global, form: ItemForm, items: &[Item]) -> Result<Strin
     Ok(text)
 }
 
-/// Of a file's text the lines of the items that are kept, if a quarter is not. None too where it does not hold items.
+/// Of a file's text the lines of the items that stay, if a quarter does not. None too where it does not hold items.
 fn shorter(
     alloc: Global,
     form: ItemForm,
@@ -131,14 +131,15 @@ fn shorter(
         Err(SettingsFault::BadItemLine(_)) => return Ok(None),
         Err(_) => return Err(AllocError),
     };
-    match kept_if_fewer(items, floor) {
+    match left_if_fewer(items, floor) {
         Some(kept) => Ok(Some(lines_text(alloc, form, &kept)?)),
         None => Ok(None),
     }
 }
 
-/// Rewrites the file at the path without the items that are not kept, if they are a quarter of its items; whether it did. A stop at any moment leaves the old file there or the new one, whole. It fails only if the folder refuses a
-/// call, or where memory runs out.
+/// Rewrites the file at the path without the items below the floor, if they are a quarter of its items; whether it did.
+/// Items without a time stay, where items have one: the form may be the wrong one. A stop at any moment leaves the old
+/// file there or the new one, whole. It fails only if the folder refuses a call, or where memory runs out.
 pub fn rewrite<F: Folder>(
     alloc: Global,
     folder: &mut F,

@@ -1,12 +1,12 @@
 -- What becomes of a part of which much is forgotten: it is made anew with what is kept, and who has a seat goes over.
 --     IsDueIn range h                of the content of a history, of which a range is kept, a quarter is not kept
---     Forgets range cap v w count    the seat v found a history of a part. Where that is due, there is a part that begins
---                                    with its items of the range, so many are forgotten, and w is the first seat at that
---                                    part; else w is v, and none is forgotten
+--     Forgets range cap v w count    the seat v found a history of a part. Where that is due, there is a part that
+--                                    begins with its items of the range, so many are forgotten, and w is the first
+--                                    seat at that part; else w is v, and none is forgotten
 --     IsThere own cap h x            a log of this history has the item; or it is not of the part, or the log was full
 --     left_out_by did                how many items are left out where one was put in so; None where memory ran out
---     Took own xs v w left           what the seat v, which is w after it, has entered of these items: nothing else, and
---                                    each is there; where none is left out the log has all
+--     Took own xs v w left           what the seat v, which is w after it, has entered of these items: nothing else,
+--                                    and each is there; where none is left out the log has all
 use Rattle.std.specs.Prelude.{◌≡◌, ◌⊎◌, ◌+◌, ℕ, true, false, List, ◌++◌, length, Contains, Option, Some, None}
 use Rattle.std.specs.Prelude.{Result, Ok, Err}
 use Rattle.definitions.specs.Items.{Item, Range}

@@ -224,6 +224,8 @@ impl<R: Wait + Clock, G: PartGate> Caller<'_, '_, R, G> {
             has_put: false,
         });
         if has_put {
+            // Others look for it in the newest parts.
+            desks.follow(self.rt, self.alloc, self.common, self.seats);
             self.common.news.tell(self.rt);
         }
         let turn = Turn::of(&outcome);

@@ -78,7 +78,7 @@ fn is_known(greeting: &Greeting) -> bool
     greeting.said() == HELLO || greeting.is_over()
 }
 
-/// What the bytes that came of a peer say that need not say of which set it speaks: of which part, or else of all of it.
+/// What the bytes that came of a peer say that need not say of which set it speaks: of which part, or else of all.
 fn said_openly(came: &[u8]) -> Selecting
     ensures { result ≡ said_openly came.now }
 {

@@ -237,8 +237,7 @@ impl Loop {
             return;
         }
         self.kept = kept;
-        let forgotten = site.seats.forget(site.rt, site.alloc, &kept);
-        site.common.gate.forgot(forgotten);
+        site.seats.forget_by(site.rt, site.alloc, site.common.gate);
     }
 
     /// Goes over to parts that were made anew. The first loop makes them.

@@ -112,7 +112,8 @@ impl Root {
         ensures own { (arc_value self.new.part).own ≡ (arc_value self.old.part).own }
         ensures stays { IfOk result (λ count. count ≡ 0 → self.new.part ≡ self.old.part) }
         ensures forgets { IfOk result (λ count. (between : View) × Looked self.old.seat.view between
-            × Forgets kept.now (arc_value (arc_value self.old.part).accepted).table.cap between self.new.seat.view count) }
+            × Forgets kept.now (arc_value (arc_value self.old.part).accepted).table.cap between
+            self.new.seat.view count) }
         ensures memory { OnErr result (self.new.part ≡ self.old.part) }
     {
         let pin = self.pin(rt, alloc)?;
@@ -179,8 +180,8 @@ impl Parts {
         false
     }
 
-    /// Makes each anew with its items of the range alone of which a quarter is not in it. Where memory runs out it stays
-    /// as it is. How many items are forgotten.
+    /// Makes each anew with its items of the range alone of which a quarter is not in it. Where memory runs out it
+    /// stays as it is. How many items are forgotten.
     pub(crate) fn forget<T: Wait>(&mut self, rt: &T, alloc: Global, kept: &Range) -> usize {
         let mut forgotten: usize = 0;
         for root in self.roots.iter_mut() {

@@ -8,6 +8,7 @@ use crate::desk::Desk;
 use crate::desks::Desks;
 use crate::hand::Hand;
 use crate::part::Parts;
+use crate::part_gate::PartGate;
 use item_core::Range;
 use std::alloc::{AllocError, Global};
 use std::sync::atomic::{AtomicU64, Ordering};
@@ -67,13 +68,18 @@ impl Seats {
 
     /// Makes each part anew with its items of the range alone of which a quarter is not in it. How many items are
     /// forgotten.
-    pub(crate) fn forget<T: Wait>(&self, rt: &T, alloc: Global, kept: &Range) -> usize {
+    fn forget<T: Wait>(&self, rt: &T, alloc: Global, kept: &Range) -> usize {
         let mut parts = self.parts.lock(rt);
         if !parts.are_due(rt, alloc, kept) {
             return 0;
         }
         let _before = self.changes.fetch_add(1, Ordering::SeqCst);
         parts.forget(rt, alloc, kept)
+    }
+
+    /// Makes parts anew by what the gate says is kept, and tells it how many items are forgotten.
+    pub fn forget_by<T: Wait, G: PartGate>(&self, rt: &T, alloc: Global, gate: &G) {
+        gate.forgot(self.forget(rt, alloc, &gate.floor().range));
     }
 
     /// How many items of the range all parts have.

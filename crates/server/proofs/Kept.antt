@@ -1,6 +1,7 @@
 -- How lines come to be kept in a file.
--- A text that was made and told is told (`told_line`). One item more is told after the others (`kept_next`). Lines that were told, then written, then synced are stored
--- (`stored`): each step keeps what was told, the write ends with all of it on the device, and the sync saves that.
+-- A text that was made and told is told (`told_line`). One item more is told after the others (`kept_next`). Lines
+-- that were told, then written, then synced are stored (`stored`): each step keeps what was told, the write ends with
+-- all of it on the device, and the sync saves that.
 use Rattle.std.proofs.Common.{◌≡◌, ℕ, suc, ◌+◌, ◌<◌, Bool, true, List, [], ◌∷◌, ◌++◌, length, take, get_or, Option, arith}
 use Rattle.std.proofs.Common.{sym, ap, subst, ◌∙◌, append_assoc, append-nil, flat_map, Result, Ok, Err, false}
 use Rattle.std.specs.Prelude.{OnOk, IfOk, IfErr, IsErr, is_err}

@@ -176,8 +176,8 @@ impl<'a, D: Device> Book<'a, D> {
         }
     }
 
-    /// Writes what waits. Standard error is told once when that begins to fail, and once when it goes on. Whether nothing
-    /// waits any more.
+    /// Writes what waits. Standard error is told once when that begins to fail, and once when it goes on. Whether
+    /// nothing waits any more.
     pub fn write<E: Write>(&mut self, err: &mut E) -> bool
         ensures kept { (base told : List ℕ) → IsKept D.held base told self.old.lines
             → IsKept D.held base told self.new.lines }

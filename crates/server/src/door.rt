@@ -387,6 +387,8 @@ where
         visitors.callers.wait(yard.rt, &mut events, is_more, tick);
         visitors.callers.wake(&events);
         is_more = visitors.callers.accept_all(alloc, listener);
+        // A hand that stays at parts that were made anew keeps what is forgotten.
+        hand.follow(yard.rt, yard.alloc, yard.common);
         for key in 0..MOST_CALLERS {
             visitors.go_on(yard, hand, key);
         }

@@ -67,7 +67,7 @@ impl Book<'_, Disk<File>> {
     }
 
     /// Rewrites the file without the items that are not kept, if it is due, all lines are in it, and they are a quarter
-    /// of its items. What fails is tried again after a minute.
+    /// of its items. What fails is tried again after a minute. A file of lines of any length stays.
     pub fn forget<R: Files<File = File> + AllocGlobal, E: Write>(
         &mut self,
         rt: &R,
@@ -75,6 +75,10 @@ impl Book<'_, Disk<File>> {
         floor: &Floor,
         err: &mut E,
     ) {
+        // Of a line only its digest is known here.
+        if form == ItemForm::Hash {
+            return;
+        }
         if !self.is_written() || !self.followed.has_all() || !self.is_there(rt) {
             return;
         }

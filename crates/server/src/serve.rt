@@ -84,7 +84,8 @@ struct State<'p> {
     partners: Partners<'p>,
 }
 
-/// Serves by loops until the source has no more; where there is none, it waits until the server is done.
+/// Serves by loops until the source has no more. Where there is none, it waits until the server is done, and forgets what
+/// a loop would have.
 fn serve_all<R: Loops, E: Write + Drop + Send>(
     rt: &R,
     common: &Common<'_, DiskReporter<'_, '_, R, E>>,
@@ -101,6 +102,7 @@ fn serve_all<R: Loops, E: Write + Drop + Send>(
         if common.news.wait(rt, u64::MAX, TICK) || service.board.is_stopping() {
             break;
         }
+        seats.forget_by(rt, rt.alloc(), common.gate);
     }
     WorkersReport {
         started: 1,
