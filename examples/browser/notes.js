@@ -30,7 +30,7 @@ const done = (request) =>
         request.onerror = () => reject(request.error);
     });
 
-/** The database of this page: the texts of all notes are its keys. */
+/** The database of this page: the items are its keys. */
 async function openDatabase() {
     const request = indexedDB.open("notes", 1);
     request.onupgradeneeded = () => request.result.createObjectStore("notes");
@@ -43,7 +43,7 @@ const set = new RangeSet(Strategy.named("all-round"));
 /** Keeps these items: in the database, and then in the set. */
 async function keep(items) {
     const change = database.transaction("notes", "readwrite");
-    for (const item of items) change.objectStore("notes").put(true, decoder.decode(item));
+    for (const item of items) change.objectStore("notes").put(true, item);
     await new Promise((resolve, reject) => {
         change.oncomplete = resolve;
         // A change that fails as it is committed has no error of a request.
@@ -97,7 +97,7 @@ write.addEventListener("submit", async (event) => {
 });
 
 const kept = await done(database.transaction("notes").objectStore("notes").getAllKeys());
-set.update(kept.map((key) => encoder.encode(key)));
+set.update(kept.map((key) => new Uint8Array(key)));
 show();
 for (;;) {
     await compare();
