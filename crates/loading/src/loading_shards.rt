@@ -131,14 +131,14 @@ fn kept_shards<
 >(
     items: Option<&str>,
     reader: I,
-    keeping: Keeping,
+    keeping: &Keeping,
     screen: &mut Screen<'_, R, E>,
 ) -> Result<Vec<Vec<Item>>, LoadFault>
-    requires low { keeping.options.bits ≤ max_bits }
-    requires span { (keeping.options.first ≤ keeping.options.last)
-        × (keeping.options.last < 2 ^ keeping.options.bits) }
-    ensures { IfOk result (λ v. AreKept keeping.options.bits keeping.options.first keeping.options.last
-        keeping.options.cap (held v.items)) }
+    requires low { keeping.now.options.bits ≤ max_bits }
+    requires span { (keeping.now.options.first ≤ keeping.now.options.last)
+        × (keeping.now.options.last < 2 ^ keeping.now.options.bits) }
+    ensures { IfOk result (λ v. AreKept keeping.now.options.bits keeping.now.options.first keeping.now.options.last
+        keeping.now.options.cap (held v.items)) }
 {
     let options = keeping.reading();
     let shards = match items {
@@ -158,16 +158,17 @@ fn item_shards<
 >(
     items: Option<&'a str>,
     reader: I,
-    keeping: Keeping,
+    keeping: &Keeping,
     screen: &mut Screen<'_, R, E>,
 ) -> Result<Vec<Vec<Item>>, Refusal<'a>>
-    requires low { keeping.options.bits ≤ max_bits }
-    requires span { (keeping.options.first ≤ keeping.options.last)
-        × (keeping.options.last < 2 ^ keeping.options.bits) }
-    ensures { IfOk result (λ v. AreKept keeping.options.bits keeping.options.first keeping.options.last
-        keeping.options.cap (held v.items)) }
+    requires low { keeping.now.options.bits ≤ max_bits }
+    requires span { (keeping.now.options.first ≤ keeping.now.options.last)
+        × (keeping.now.options.last < 2 ^ keeping.now.options.bits) }
+    ensures { IfOk result (λ v. AreKept keeping.now.options.bits keeping.now.options.first keeping.now.options.last
+        keeping.now.options.cap (held v.items)) }
 {
     let alloc = screen.rt().alloc();
+    let cap = keeping.options.cap;
     match kept_shards(items, reader, keeping, screen) {
         Ok(shards) => Ok(shards),
         Err(fault) => {
@@ -175,7 +176,7 @@ fn item_shards<
                 Some("-") | None => STANDARD_INPUT,
                 Some(path) => path,
             };
-            Err(Refusal::of_shards_file(alloc, file, keeping.options.cap, fault))
+            Err(Refusal::of_shards_file(alloc, file, cap, fault))
         }
     }
 }
@@ -205,16 +206,16 @@ fn reread_shards<R: Clock + AllocGlobal + Threads + Sync, E: Write>(
 fn joined_shards<R: Clock + AllocGlobal + Threads + Sync, E: Write>(
     shards: Vec<Vec<Item>>,
     opened: &mut Opened,
-    keeping: Keeping,
+    keeping: &Keeping,
     screen: &mut Screen<'_, R, E>,
 ) -> Result<Vec<Vec<Item>>, LoadFault>
-    requires low { keeping.options.bits ≤ max_bits }
-    requires span { (keeping.options.first ≤ keeping.options.last)
-        × (keeping.options.last < 2 ^ keeping.options.bits) }
-    requires own { AreKept keeping.options.bits keeping.options.first keeping.options.last keeping.options.cap
-        (held shards.items) }
-    ensures { IfOk result (λ v. AreKept keeping.options.bits keeping.options.first keeping.options.last
-        keeping.options.cap (held v.items)) }
+    requires low { keeping.now.options.bits ≤ max_bits }
+    requires span { (keeping.now.options.first ≤ keeping.now.options.last)
+        × (keeping.now.options.last < 2 ^ keeping.now.options.bits) }
+    requires own { AreKept keeping.now.options.bits keeping.now.options.first keeping.now.options.last
+        keeping.now.options.cap (held shards.items) }
+    ensures { IfOk result (λ v. AreKept keeping.now.options.bits keeping.now.options.first keeping.now.options.last
+        keeping.now.options.cap (held v.items)) }
 {
     let read = reread_shards(opened, keeping.reading(), screen)?;
     let more = keeping.kept_of(read)?;
@@ -226,24 +227,25 @@ fn with_kept<'a, R: Clock + AllocGlobal + Threads + Sync, E: Write>(
     keep: Option<&'a str>,
     opened: &mut Option<Opened>,
     shards: Vec<Vec<Item>>,
-    keeping: Keeping,
+    keeping: &Keeping,
     screen: &mut Screen<'_, R, E>,
 ) -> Result<Vec<Vec<Item>>, Refusal<'a>>
-    requires low { keeping.options.bits ≤ max_bits }
-    requires span { (keeping.options.first ≤ keeping.options.last)
-        × (keeping.options.last < 2 ^ keeping.options.bits) }
-    requires own { AreKept keeping.options.bits keeping.options.first keeping.options.last keeping.options.cap
-        (held shards.items) }
-    ensures { IfOk result (λ v. AreKept keeping.options.bits keeping.options.first keeping.options.last
-        keeping.options.cap (held v.items)) }
+    requires low { keeping.now.options.bits ≤ max_bits }
+    requires span { (keeping.now.options.first ≤ keeping.now.options.last)
+        × (keeping.now.options.last < 2 ^ keeping.now.options.bits) }
+    requires own { AreKept keeping.now.options.bits keeping.now.options.first keeping.now.options.last
+        keeping.now.options.cap (held shards.items) }
+    ensures { IfOk result (λ v. AreKept keeping.now.options.bits keeping.now.options.first keeping.now.options.last
+        keeping.now.options.cap (held v.items)) }
 {
     let Some(opened) = opened else {
         return Ok(shards);
     };
     let alloc = screen.rt().alloc();
+    let cap = keeping.options.cap;
     match joined_shards(shards, opened, keeping, screen) {
         Ok(shards) => Ok(shards),
-        Err(fault) => Err(kept_refusal(alloc, keep, keeping.options.cap, fault)),
+        Err(fault) => Err(kept_refusal(alloc, keep, cap, fault)),
     }
 }
 
@@ -300,9 +302,9 @@ where
         options,
         floor: *sources.kept,
     };
-    let shards = item_shards(sources.items, reader, keeping, screen)?;
+    let shards = item_shards(sources.items, reader, &keeping, screen)?;
     let mut kept = open_kept(rt, sources, screen.err())?;
-    let shards = with_kept(sources.keep, &mut kept.opened, shards, keeping, screen)?;
+    let shards = with_kept(sources.keep, &mut kept.opened, shards, &keeping, screen)?;
     screen.hash(count_of(&shards));
     let LoadOptions { bits, first, .. } = options;
     let set = ShardedSet::of(rt, rt.alloc(), bits, first, accepted.cap(), shards)?;
