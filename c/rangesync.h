@@ -36,7 +36,7 @@
  * that stood at `out` is not given back.
  *
  * Each function returns 0, or a number, and then changes nothing, but where it says so:
- *   29 to 35  a text is no strategy          36 to 38  a strategy is not accepted
+ *   28 to 35  a text is no strategy          36 to 38  a strategy is not accepted
  *   1, 3, 55  a peer asks for no set, or not wholly, or for another set
  *   40        an item is new, and the set or its shard has as many items as its strategy's cap
  *   57        what a session learned is no directory
@@ -89,7 +89,7 @@ enum { RS_FIRST = 0, RS_SECOND = 1 };
 /* How a session stands. */
 enum { RS_OPEN = 0, RS_ENDED = 1, RS_REFUSED = 2, RS_PEER_REFUSED = 3 };
 
-/* Reads a strategy, a text in TOML, and checks that sessions under it end. 29 to 38, 90. */
+/* Reads a strategy, a text in TOML, and checks that sessions under it end. 28 to 38, 90. */
 uint32_t rs_strategy_read(const uint8_t *text, size_t length, rs_strategy *out);
 
 /* Makes a set of the items of an item file's text, which may be empty. 81, 82, 90, 98 (another form), 99. */

@@ -55,6 +55,7 @@ var names = map[int]string{
 	24: "MarkCount",
 	25: "AnswerRepeats",
 	26: "Spent",
+	28: "BadOpening",
 	29: "BadBounds",
 	30: "NotToml",
 	31: "Missing",

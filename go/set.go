@@ -11,7 +11,7 @@ import (
 // A Strategy says what a session does with a range, by how many items of this side are in it.
 type Strategy struct{ handle[C.rs_strategy] }
 
-// ReadStrategy reads a strategy, a text in TOML, and checks that sessions under it end. It is refused 29 to 38 if not.
+// ReadStrategy reads a strategy, a text in TOML, and checks that sessions under it end. It is refused 28 to 38 if not.
 func ReadStrategy(text []byte) (*Strategy, error) {
 	strategy := new(Strategy)
 	if err := refusedBy(C.rs_strategy_read(address(text), length(text), &strategy.raw)); err != nil {

@@ -90,7 +90,7 @@ export class Strategy {
     }
 
     /**
-     * The strategy of a text in TOML, as a file of examples has it. Throws Refused 29 to 38.
+     * The strategy of a text in TOML, as a file of examples has it. Throws Refused 28 to 38.
      * @param {string | Uint8Array} text
      */
     static parse(text) {
@@ -105,7 +105,7 @@ export class Strategy {
     }
 
     /**
-     * The strategy of an object with the same keys: `JSON.parse(text)` gives one. Throws Refused 29 and 31 to 38, and
+     * The strategy of an object with the same keys: `JSON.parse(text)` gives one. Throws Refused 28, 29 and 31 to 38, and
      * TypeError where it is no object.
      * @param {unknown} value
      */

@@ -1,4 +1,4 @@
-/** Reads a strategy: its keys, in the order of docs/COMMANDS.md (*The strategy file*), as refusals 29 and 31 to 35. */
+/** Reads a strategy: its keys, in the order of docs/COMMANDS.md (*The strategy file*), as refusals 28, 29 and 31 to 35. */
 
 import { Refused } from "./refused.js";
 
@@ -81,9 +81,20 @@ function boundsOf(table) {
     return bounds;
 }
 
+/** Tests what a session has first, which nothing asks here: no profile of this library may begin with a cut. Throws
+ * Refused 28.
+ * @param {Record<string, any>} table */
+function testOpening(table) {
+    const opening = Object.hasOwn(table, "opening") ? table.opening : "sum";
+    if (opening !== "sum" && opening !== "split") throw new Refused(28);
+    for (const [place, row] of table.row.entries()) {
+        if (Object.hasOwn(row, "opening")) throw new Refused(28, { row: place + 1 });
+    }
+}
+
 /**
  * The table that the keys of a strategy spell: `cap`, `limit`, `rounds`, `bounds` and `row`. Other keys are ignored.
- * Throws Refused 29 and 31 to 35, as the first test that fails says, and TypeError where it is no object.
+ * Throws Refused 28, 29 and 31 to 35, as the first test that fails says, and TypeError where it is no object.
  * @param {unknown} given
  * @returns {Table}
  */
@@ -93,5 +104,7 @@ export function readTable(given) {
     const limit = numberOf(valueOf(given, "limit"), "limit", [0, cap]);
     const rounds = numberOf(valueOf(given, "rounds"), "rounds", [0, MOST_ROUNDS]);
     const rows = rowsOf(valueOf(given, "row"), cap);
-    return { cap, limit, rounds, bounds: boundsOf(given), rows };
+    const bounds = boundsOf(given);
+    testOpening(given);
+    return { cap, limit, rounds, bounds, rows };
 }

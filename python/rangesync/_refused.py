@@ -23,6 +23,7 @@ _KNOWN = {
     24: ("MarkCount", "an answer has more or fewer marks than there are listed items"),
     25: ("AnswerRepeats", "an answer has an item that was listed"),
     26: ("Spent", "the session is over, or was refused before"),
+    28: ("BadOpening", 'the opening of a strategy is neither "sum" nor "split", or stands in a row'),
     29: ("BadBounds", 'the bounds of a strategy are neither "items" nor "short", or stand in a row'),
     30: ("NotToml", "the text of a strategy is no TOML"),
     31: ("Missing", "a key of a strategy is missing, or it has no row"),

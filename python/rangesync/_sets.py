@@ -11,7 +11,7 @@ from ._sessions import Learned, Session
 
 
 class Strategy(_Held):
-    """A strategy of a TOML text, read and checked. Raises `Refused` 29 to 38."""
+    """A strategy of a TOML text, read and checked. Raises `Refused` 28 to 38."""
 
     def __init__(self, text: Data) -> None:
         lines, made = _bytes(text), _Handle()

@@ -1,7 +1,6 @@
 -- The shortest byte string between two.
-use Rattle.std.proofs.Common.{◌≡◌, ℕ, suc, ◌≤◌, List, [], ◌∷◌, length, true, false, Bool, arith, refl, take, ◌+◌}
-use Rattle.std.specs.Prelude.{nat_eq, IsTrue, IsFalse, if◌then◌else◌}
-use Rattle.definitions.specs.Items.{comes_before, separator, IsSeparator, IsBytes}
+use Rattle.std.proofs.Common.{◌≡◌, ℕ, ◌≤◌, List, [], ◌∷◌, length, true, false, arith, refl}
+use Rattle.definitions.specs.Items.{comes_before, separator, IsSeparator}
 
 pub separator-after : (x y : List ℕ) → comes_before x y ≡ true → comes_before x (separator x y) ≡ true
 separator-after [] [] h = h

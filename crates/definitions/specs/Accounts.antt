@@ -5,7 +5,7 @@
 --     called_for S P c, said S P c k         what the bytes read call for, and the text of the first k messages of it
 --     IsEnded, IsRefused, IsMemory, IsPeerRefused, IsIo      what the outcome tells, each with k messages written
 --     IsFew S P c bound limit                whatever was read, few messages are called for, and their lists are short
-use Rattle.std.specs.Prelude.{◌≡◌, ℕ, ◌+◌, ◌≤◌, ◌<◌, ◌^◌, ◌⊎◌, Bool, List, ◌++◌, length, Option, Some, slice_get}
+use Rattle.std.specs.Prelude.{◌≡◌, ℕ, ◌+◌, ◌≤◌, ◌<◌, ◌^◌, ◌⊎◌, Bool, List, ◌++◌, length, Some, slice_get}
 use Rattle.std.specs.Prelude.{IsTrue, IsFalse}
 use Rattle.std.specs.List.{AllByRecursion}
 use Rattle.definitions.specs.Fingerprints.{Summary}
@@ -27,7 +27,7 @@ pub data Role : Type 0 where
 
 abbrev pub speaker_of : {F : Type 0} → Summary F → Role → Peer → Speaker F
 speaker_of S Initiates P = initiating S P
-speaker_of S Responds P = responding P
+speaker_of S Responds P = responding S P
 
 -- a watched reader or writer, over one call: whether it failed, and whether it came to its end
 pub record Seen : Type 0 where

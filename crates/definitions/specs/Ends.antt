@@ -1,6 +1,6 @@
 -- One end of a session: what it answers to a message, whatever the peer sends, and what it is then.
 --     Stage, End                      where its session stands; who speaks, how many messages it sent, what it learned
---     initiator S P, responder P      at the beginning: the initiator's first message is sent
+--     initiator S P, responder S P    at the beginning: the initiator's first message is sent
 --     answer S e M, after S e M       what the end answers to M, and the end after that
 --     heard S e Ms                    the end after these messages
 --     is_over s                       whether the session is over
@@ -9,16 +9,16 @@
 use Rattle.std.specs.Prelude.{ℕ, ◌+◌, nat_le, length, Bool, true, false, List, [], Option, Some, None, fold}
 use Rattle.std.specs.Prelude.{if◌then◌else◌}
 use Rattle.definitions.specs.Fingerprints.{Summary}
-use Rattle.definitions.specs.Messages.{Message, has_open, open_parts, opening}
-use Rattle.definitions.specs.Replies.{Peer, reply}
+use Rattle.definitions.specs.Messages.{Message, has_open, open_parts}
+use Rattle.definitions.specs.Replies.{Peer, opening, reply}
 use Rattle.definitions.specs.Placing.{place_fault, opening_fault}
 use Rattle.definitions.specs.Talks.{Knowledge, nothing, and_then, learn, talk, of_first, of_second}
 use Rattle.definitions.specs.Wire.{max_parts}
 use Rattle.definitions.specs.Refusals.{too_many_parts, spent}
 
 pub data Stage (F : Type 0) : Type 0 where
-  -- a responder that has received nothing
-  Fresh : Stage F
+  -- a responder that has received nothing, and whether the first message may cut
+  Fresh : (cut : Bool) → Stage F
   -- the own message that was sent last waits for the peer's: these are its open parts
   Waits : (own : Message F) → Stage F
   -- a message without open part was sent or received
@@ -32,11 +32,11 @@ pub record End (F : Type 0) : Type 0 where
   pub sent : ℕ
   pub learned : Knowledge
 
-abbrev pub responder : {F : Type 0} → Peer → End F
-responder P = record { peer = P; stage = Fresh; sent = 0; learned = nothing }
+abbrev pub responder : {F : Type 0} → Summary F → Peer → End F
+responder S P = record { peer = P; stage = Fresh S.may_cut; sent = 0; learned = nothing }
 
 abbrev pub initiator : {F : Type 0} → Summary F → Peer → End F
-initiator S P = record { peer = P; stage = Waits (opening S P.items); sent = 1; learned = nothing }
+initiator S P = record { peer = P; stage = Waits (opening S P); sent = 1; learned = nothing }
 
 pub data Answer (F : Type 0) : Type 0 where
   Replies : (reply : Message F) → Answer F
@@ -46,14 +46,14 @@ pub data Answer (F : Type 0) : Type 0 where
 
 -- why a message is refused, where it is: a spent end and an end whose session is over take none
 abbrev pub stage_fault : {F : Type 0} → Stage F → Message F → Option ℕ
-stage_fault Fresh M = opening_fault M
+stage_fault (Fresh cut) M = opening_fault cut M
 stage_fault (Waits own) M = place_fault own M
 stage_fault Over M = Some spent
 stage_fault Spent M = Some spent
 
 -- the open parts of the own message that the next one answers: the first message of all answers nothing
 abbrev pub own_of : {F : Type 0} → Stage F → Message F
-own_of Fresh = []
+own_of (Fresh cut) = []
 own_of (Waits own) = own
 own_of Over = []
 own_of Spent = []
@@ -86,7 +86,7 @@ after_answer e M Ends = record e { stage = Over; learned = gained e M }
 after_answer e M (Refuses code) = record e { stage = Spent; learned = nothing }
 
 abbrev pub is_live : {F : Type 0} → Stage F → Bool
-is_live Fresh = true
+is_live (Fresh cut) = true
 is_live (Waits own) = true
 is_live Over = false
 is_live Spent = false
@@ -103,11 +103,11 @@ abbrev pub initiator_at : {F : Type 0} → Summary F → Peer → Peer → ℕ �
 initiator_at S I R k = heard S (initiator S I) (of_second (talk S I R k))
 
 abbrev pub responder_at : {F : Type 0} → Summary F → Peer → Peer → ℕ → End F
-responder_at S I R k = heard S (responder R) (of_first (talk S I R k))
+responder_at S I R k = heard S (responder S R) (of_first (talk S I R k))
 
 -- the session of an end at this stage is over
 abbrev pub is_over : {F : Type 0} → Stage F → Bool
-is_over Fresh = false
+is_over (Fresh cut) = false
 is_over (Waits own) = false
 is_over Over = true
 is_over Spent = false

@@ -8,7 +8,6 @@
 -- The refusal is the one of the earliest frame: a frame is judged as bytes before the end takes what it says.
 use Rattle.std.specs.Prelude.{ℕ, Bool, List, Option, Some, None, fold, if◌then◌else◌}
 use Rattle.definitions.specs.Fingerprints.{Summary}
-use Rattle.definitions.specs.Messages.{Part}
 use Rattle.definitions.specs.Placing.{next, refusal}
 use Rattle.definitions.specs.Wire.{Profile, Event, Came, Ended, Failed}
 use Rattle.definitions.specs.Streams.{Standing, Before_hello, In_message, Meaning_over, Faulted, Fed, feed}

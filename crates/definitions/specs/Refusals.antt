@@ -84,6 +84,10 @@ spent = 26
 
 -- ---- strategies, and the checker
 
+-- the opening of a strategy is neither sum nor split, or stands in a row
+abbrev pub bad_opening : ℕ
+bad_opening = 28
+
 -- the bounds of a strategy are neither items nor short
 abbrev pub bad_bounds : ℕ
 bad_bounds = 29

@@ -5,7 +5,7 @@
 --     ended t                     what the end answers where the message ends here
 --     after_ended e t a           the end after that answer
 --     by_parts S e t M            what it answers to these parts, taken up to the first refusal, and then their end
-use Rattle.std.specs.Prelude.{ℕ, ◌+◌, Bool, false, ◌||◌, List, [], ◌∷◌, ◌++◌, Option, Some, None, fold, if◌then◌else◌}
+use Rattle.std.specs.Prelude.{ℕ, ◌+◌, Bool, false, ◌||◌, [], ◌∷◌, ◌++◌, Option, Some, None, fold, if◌then◌else◌}
 use Rattle.definitions.specs.Fingerprints.{Summary}
 use Rattle.definitions.specs.Messages.{Part, Message, is_open}
 use Rattle.definitions.specs.Replies.{reply_to}
@@ -27,7 +27,7 @@ pub record Taken (F : Type 0) : Type 0 where
 
 -- before the first part of a message: an end that is spent or whose session is over takes none
 abbrev pub place_of : {F : Type 0} → Stage F → Place F
-place_of Fresh = First
+place_of (Fresh cut) = First cut
 place_of (Waits own) = place_after own
 place_of Over = Refused spent
 place_of Spent = Refused spent

@@ -1,5 +1,5 @@
 -- How messages are spelled in bytes.
---     Profile F, two_lane_profile, counted_profile      what differs between profiles
+--     Profile F, two_lane_profile, counted_profile, cutting_profile      what differs between profiles
 --     part_text P p, message_text P M, session_text P Ms, fault_text code      the one spelling
 --     IsPart P p, IsMessage P M, Spells P M bytes       what has a spelling
 --     Event F, event_text P e                           what a frame's body says: a part, the end of a message or a
@@ -52,6 +52,10 @@ counted_profile = record {
   text = λ f. to_be_bytes w32 f.count ++ lanes_text f.lanes;
   read = λ bytes. record { count = from_be_bytes w32 (take 4 bytes); lanes = lanes_read (drop 4 bytes) };
 }
+
+-- profile 4, whose sessions may begin with a cut: the frames of profile 2
+abbrev pub cutting_profile : Profile Counted
+cutting_profile = record counted_profile { hello = 0x52 ∷ 0x52 ∷ 0x53 ∷ 0x34 ∷ [] }
 
 -- ---- fields
 

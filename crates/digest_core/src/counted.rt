@@ -113,6 +113,10 @@ impl Summary for Counted {
         self == other
     }
 
+    fn may_cut() -> bool {
+        false
+    }
+
     fn hello() -> [u8; 4] {
         [0x52, 0x52, 0x53, 0x32]
     }

@@ -168,6 +168,10 @@ impl Summary for Fingerprint {
         self == other
     }
 
+    fn may_cut() -> bool {
+        false
+    }
+
     fn hello() -> [u8; 4] {
         [0x52, 0x52, 0x53, 0x31]
     }

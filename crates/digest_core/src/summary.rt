@@ -45,6 +45,10 @@ pub trait Summary: Copy + Drop {
     fn equals(self, other: Self) -> bool
         ensures { result ≡ summary.same self other };
 
+    /// Whether the first message of a session may cut the range of everything, or is one summary of it.
+    fn may_cut() -> bool
+        ensures { result ≡ summary.may_cut };
+
     /// The four bytes with which a stream begins in which such summaries are sent.
     fn hello() -> [u8; 4]
         ensures { result ≡ profile.hello };

@@ -28,7 +28,7 @@ use Rattle.ends_core.specs.declared.turn.EndFault.TheVariants as faults
 
 -- a refusal that a place keeps
 abbrev Keeps : {F : Type 0} → Place F → Type 0
-Keeps First = ⊤
+Keeps (First cut) = ⊤
 Keeps (After left inside) = ⊤
 Keeps (Refused code) = too_many_parts < code
 
@@ -65,13 +65,15 @@ outside (Sum X f ∷ left) (Listing Y items) = either (same_range X Y) _ _ tt (o
 outside (Sum X f ∷ left) (Answer Y marks items) = outside left (Answer Y marks items)
 outside (Answer X marks items ∷ left) p = outside left p
 
-first : {F : Type 0} (p : Part F) → Keeps (next_first p)
-first (Sum Y f) = either (same_range Y whole) _ _ tt (omega arith)
-first (Listing Y items) = omega arith
-first (Answer Y marks items) = omega arith
+first : {F : Type 0} (cut : Bool) (p : Part F) → Keeps (next_first cut p)
+first cut (Sum Y f) = either (same_range Y whole) _ _ tt
+    (either (cut && same_item Y.lower whole.lower && ends_before Y.upper whole.upper) _ _ (to [] Y.upper whole.upper)
+    (omega arith))
+first cut (Listing Y items) = omega arith
+first cut (Answer Y marks items) = omega arith
 
 step : {F : Type 0} (p : Place F) (q : Part F) → Keeps p → Keeps (next p q)
-step First q k = first q
+step (First cut) q k = first cut q
 step (After left None) q k = outside left q
 step (After left (Some Z)) q k = inside left Z q
 step (Refused code) q k = k
@@ -88,13 +90,13 @@ where-any true code k = k
 where-any false code k = tt
 
 finished : {F : Type 0} (p : Place F) → Keeps p → IsOther (finish p)
-finished First k = omega arith
+finished (First cut) k = omega arith
 finished (After left None) k = where-any (list_any is_list left) _ (omega arith)
 finished (After left (Some Z)) k = omega arith
 finished (Refused code) k = k
 
 other : {F : Type 0} (s : Stage F) (M : Message F) → IsOther (stage_fault s M)
-other Fresh M = finished (fold next First M) (steps M First tt)
+other (Fresh cut) M = finished (fold next (First cut) M) (steps M (First cut) tt)
 other (Waits own) M = finished (fold next (place_after own) M) (steps M (place_after own) tt)
 other Over M = omega arith
 other Spent M = omega arith
@@ -103,7 +105,7 @@ other Spent M = omega arith
 
 exact : {F : Type 0} (s : Stage F) (M : Message F) → PlacingIsExact F → OpeningIsExact F →
     Apart (open_ranges (own_of s)) → RangesRise M → (stage_fault s M ≡ None) ↔ Comes s M
-exact Fresh M placing opening apart rise = opening M
+exact (Fresh cut) M placing opening apart rise = opening cut M
 exact (Waits own) M placing opening apart rise = placing own M apart rise
 exact Over M placing opening apart rise = ((λ no. absurd (cc)), (λ no. absurd no))
 exact Spent M placing opening apart rise = ((λ no. absurd (cc)), (λ no. absurd no))

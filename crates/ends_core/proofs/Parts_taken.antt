@@ -182,7 +182,7 @@ module _ {F : Type 0} (S : Summary F) where
         ∙ ap (fresh h.steps) (sym (ap (λ b. if b then after_answer h.end M (answer S h.end M) else h.end) dead)),
   ) where
     by : (s : Stage F) → is_live s ≡ false → answer_unless S h.end.peer M (stage_fault s M) ≡ Refuses spent
-    by Fresh none = absurd cc
+    by (Fresh cut) none = absurd cc
     by (Waits own) none = absurd cc
     by Over none = refl
     by Spent none = refl

@@ -36,6 +36,6 @@ part-refused S old mid new p faults.Memory steps end dead is = tt
 -- a place is where messages are taken
 pub open-live : {A : Type 0} {F : Type 0} (x : Placement F) → is_live (stage_at x) ≡ false → A
 open-live {A} x none = by x.first none where
-  by : (b : Bool) → is_live (if b then Fresh else Waits x.own) ≡ false → A
+  by : (b : Bool) → is_live (if b then Fresh x.cut else Waits x.own) ≡ false → A
   by true e = absurd cc
   by false e = absurd cc

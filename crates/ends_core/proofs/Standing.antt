@@ -17,11 +17,13 @@ use Rattle.definitions.specs.Taking.{nothing_taken, taken, taken_all, ended, end
 use Rattle.definitions.specs.Talks.{nothing}
 use Rattle.laws.specs.Taking.{PartsAreTaken}
 use Rattle.definitions.specs.Sets.{IsSet}
-use Rattle.definitions.specs.Theorems.{AreParts, Ready, StandsFirm, EndsStandFirm, EndsHearOn, EndsKeepPeers}
+use Rattle.definitions.specs.Theorems.{AreParts, Ready, opened, rank, StandsFirm, EndsStandFirm, EndsHearOn}
+use Rattle.definitions.specs.Theorems.{EndsKeepPeers}
 use Rattle.definitions.specs.Worlds.{Side, Initiator, Responder}
 use Rattle.strategy_check.specs.Checked.{IsChecked}
 use Rattle.ends_core.specs.EndStates.{EndState, IsAble}
-use Rattle.ends_core.specs.Roles.{start_of, most_of}
+use Rattle.ends_core.specs.Roles.{start_of, bound_of}
+use Rattle.laws.proofs.Openings.{opened-le, opened_is}
 use Rattle.ends_core.specs.Standing.{Stands, Came}
 use Rattle.ends_core.specs.Turns.{end_after, after_end, after_part, after_parts, after_message, fresh, spend}
 use Rattle.ends_core.proofs.Parts_taken.{message-end, dead-spends}
@@ -32,32 +34,42 @@ ranks_of h = ranks_by h.steps h.end.peer.table.cap
 abbrev pub ReadsRanks : Type 0
 ReadsRanks = (steps : List ℕ) (cap n : ℕ) → n ≤ cap → slice_index (ranks_by steps cap) n ≡ rank_by steps n
 
--- either side
-sends_few : (side : Side) → most_of side ≤ 2
-sends_few Initiator = omega arith
-sends_few Responder = omega arith
-
 module _ {F : Type 0} (S : Summary F) (Q : Profile F) where
+  -- how many messages either side sends
+  abbrev pub most_of : Side → List ℕ → Peer → ℕ
+  most_of Initiator f P = opened S f P + 2
+  most_of Responder f P = rank f P + 1
+
+  -- as its staircase and its table tell it
+  most_is : (side : Side) → ReadsRanks → (steps : List ℕ) (P : Peer) → Ready P (ranks_by steps P.table.cap) →
+      most_of side (ranks_by steps P.table.cap) P ≡ bound_of side S.may_cut P.table steps (length P.items)
+  most_is Initiator read steps P r = ap (λ n. n + 2) (opened_is S steps P r)
+  most_is Responder read steps P r = ap (λ n. n + 1) (read steps P.table.cap (length P.items) r.room)
+
+  -- no more than 2 above its rank
+  most_le : (side : Side) (f : List ℕ) (P : Peer) → Ready P f → most_of side f P ≤ rank f P + 2
+  most_le Initiator f P r = omega (arith, opened-le S P f r)
+  most_le Responder f P r = omega arith
+
   -- what the law says of either side
   keeps_firm : (side : Side) → EndsStandFirm S → (P : Peer) (f : List ℕ) (Ms : List (Message F)) → Ready P f →
-      AllByRecursion (AreParts Q) Ms → StandsFirm P f (most_of side) (heard S (start_of side S P) Ms)
+      AllByRecursion (AreParts Q) Ms → StandsFirm (most_of side f P) (heard S (start_of side S P) Ms)
   keeps_firm Initiator law P f Ms r a = (law Q P f Ms r a).0
   keeps_firm Responder law P f Ms r a = (law Q P f Ms r a).1
 
+  ready : (side : Side) (h : EndState F) → Stands S Q (start_of side S) h → Ready h.end.peer (ranks_of h)
+  ready side h s = record { ranks = s.checked.serving.ranks; set = s.set; room = s.room }
+
   pub firm : (side : Side) (h : EndState F) → EndsStandFirm S → Stands S Q (start_of side S) h →
-      StandsFirm h.end.peer (ranks_of h) (most_of side) h.end
+      StandsFirm (most_of side (ranks_of h) h.end.peer) h.end
   firm side h law s =
-      subst (StandsFirm h.end.peer (ranks_of h) (most_of side)) (sym s.came.2)
-      (keeps_firm side law h.end.peer (ranks_of h) s.came.0 (record {
-        ranks = s.checked.serving.ranks;
-        set = s.set;
-        room = s.room;
-      }) s.came.1)
+      subst (StandsFirm (most_of side (ranks_of h) h.end.peer)) (sym s.came.2)
+      (keeps_firm side law h.end.peer (ranks_of h) s.came.0 (ready side h s) s.came.1)
 
   pub few : (side : Side) (h : EndState F) → EndsStandFirm S → ReadsRanks → Stands S Q (start_of side S) h →
-      h.end.sent ≤ rank_by h.steps (length h.end.peer.items) + most_of side
+      h.end.sent ≤ bound_of side S.may_cut h.end.peer.table h.steps (length h.end.peer.items)
   few side h law read s =
-      omega (arith, (firm side h law s).few, read h.steps h.end.peer.table.cap (length h.end.peer.items) s.room)
+      omega (arith, (firm side h law s).few, most_is side read h.steps h.end.peer (ready side h s))
 
   pub able : (side : Side) (h : EndState F) → EndsStandFirm S → Stands S Q (start_of side S) h → IsAble h
   able side h law s = record { checked = s.checked; room = s.room; apart = (firm side h law s).apart }
@@ -69,8 +81,8 @@ module _ {F : Type 0} (S : Summary F) (Q : Profile F) where
       let cap = h.end.peer.table.cap in
       omega (
         arith,
-        few side h law read s,
-        sends_few side,
+        (firm side h law s).few,
+        most_le side (ranks_of h) h.end.peer (ready side h s),
         s.checked.serving.ranks.rises n cap s.room
             (omega arith),
         read h.steps cap n s.room,
@@ -104,7 +116,7 @@ module _ {F : Type 0} (S : Summary F) (Q : Profile F) where
   dead-answer : (e : End F) (M : Message F) → is_live e.stage ≡ false → answer S e M ≡ Refuses spent
   dead-answer e M none = by e.stage none where
     by : (s : Stage F) → is_live s ≡ false → answer_unless S e.peer M (stage_fault s M) ≡ Refuses spent
-    by Fresh none = absurd cc
+    by (Fresh cut) none = absurd cc
     by (Waits own) none = absurd cc
     by Over none = refl
     by Spent none = refl
@@ -174,7 +186,7 @@ module _ {F : Type 0} (S : Summary F) (Q : Profile F) where
 
   -- after a part
   refused-finish : (x : Place F) (code : ℕ) → refusal x ≡ Some code → finish x ≡ Some code
-  refused-finish First code e = absurd cc
+  refused-finish (First cut) code e = absurd cc
   refused-finish (After left inside) code e = absurd cc
   refused-finish (Refused n) code e = e
 

@@ -112,7 +112,7 @@ first_answered own (Listing Y listed ∷ ps) X marks items found h =
 pub due_answered : {F : Type 0} (own : Message F) (c : Cursor) (X : Range) (marks : List Bool) (items : List Item) →
     Apart (open_ranges own) →
     refusal (next (place_at own c) (Answer X marks items)) ≡ None → listed_in own X ≡ due own c
-due_answered own cursors.First X marks items apart h = absurd cc
+due_answered own (cursors.First cut) X marks items apart h = absurd cc
 due_answered own (cursors.After at None) X marks items apart h =
     first_answered own (drop at own) X marks items (found-drop own own at (all_found own apart)) h
 due_answered own (cursors.After at (Some Z)) X marks items apart h = absurd cc
@@ -145,7 +145,7 @@ told-alike {F} A l m (Answer X marks items) same = ap (λ k. told {F = F} A k (A
 -- the own message at a place: the first message of all answers none
 own-at : {F : Type 0} (x : Placement F) → (x.first ≡ true → x.own ≡ []) → own_of (stage_at x) ≡ x.own
 own-at x none = by x.first refl where
-  by : (b : Bool) → x.first ≡ b → own_of (if b then Fresh else Waits x.own) ≡ x.own
+  by : (b : Bool) → x.first ≡ b → own_of (if b then Fresh x.cut else Waits x.own) ≡ x.own
   by true e = sym (none e)
   by false e = refl
 

@@ -25,7 +25,7 @@ abbrev pub HasNone : {F : Type 0} → EndState F → Type 0
 HasNone h = h.taken ≡ nothing_taken h.end
 
 abbrev pub stage_at : {F : Type 0} → Placement F → Stage F
-stage_at x = if x.first then Fresh else Waits x.own
+stage_at x = if x.first then Fresh x.cut else Waits x.own
 
 abbrev pub stage_of : {F : Type 0} → own.Stage F → Stage F
 stage_of (stages.Open place) = stage_at place

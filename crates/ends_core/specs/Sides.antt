@@ -38,7 +38,7 @@ module _ {F : Type 0} (S : Summary F) (W : Profile F) where
 
   -- our messages that the messages taken answer, one each: the first that a responder takes answers none
   abbrev pub answered : Stage F → List (Message F) → List (Message F)
-  answered Fresh Ms = [] ∷ Ms
+  answered (Fresh cut) Ms = [] ∷ Ms
   answered (Waits first) Ms = Ms
   answered Over Ms = Ms
   answered Spent Ms = Ms

@@ -11,8 +11,8 @@ use Rattle.std.specs.Prelude.{ℕ, List, Result, Ok, Err, Option, Some, None, if
 use Rattle.std.specs.List.{AllByRecursion}
 use Rattle.definitions.specs.Fingerprints.{Summary}
 use Rattle.definitions.specs.Theorems.{IsShort}
-use Rattle.definitions.specs.Messages.{Part, Message, IsOpening}
-use Rattle.definitions.specs.Placing.{Placed}
+use Rattle.definitions.specs.Messages.{Part, Message}
+use Rattle.definitions.specs.Placing.{IsOpening, Placed}
 use Rattle.definitions.specs.Talks.{nothing}
 use Rattle.definitions.specs.Ends.{End, Stage, Fresh, Waits, Over, Spent, Answer, Replies, Ends, Refuses, after}
 use Rattle.definitions.specs.Ends.{is_live}
@@ -68,7 +68,7 @@ end_after S h M = fresh h.steps (after S h.end M)
 
 -- the message may come at this stage, by the relation
 abbrev pub Comes : {F : Type 0} → Stage F → Message F → Type 0
-Comes Fresh M = IsOpening M
+Comes (Fresh cut) M = IsOpening cut M
 Comes (Waits own) M = Placed own M
 Comes Over M = ⊥
 Comes Spent M = ⊥

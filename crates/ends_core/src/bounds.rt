@@ -3,7 +3,8 @@
 ghost use Rattle.std.specs.Prelude.{◌≤◌, ◌+◌, ℕ, List, length};
 ghost use Rattle.definitions.specs.Items.{Item, IsBytes};
 ghost use Rattle.definitions.specs.Sets.{IsSet};
-ghost use Rattle.definitions.specs.Ranks.{rank_by};
+ghost use Rattle.definitions.specs.Ranks.{greatest, rank_by};
+ghost use Rattle.definitions.specs.Strategies.{opening_counts};
 ghost use Rattle.definitions.specs.Engines.{initiating, responding};
 ghost use Rattle.ends_core.specs.Sides.{BoundLaws, KeepsBounds, peer_of};
 
@@ -32,10 +33,11 @@ pub fn sides_keep_bounds<F: Summary>(accepted: &Accepted)
     ensures initiator { (items : List Item) (bytes : List ℕ) → IsSet items → IsBytes bytes →
         length items ≤ accepted.now.table.cap →
         KeepsBounds F.summary F.profile (initiating F.summary (peer_of accepted.now items)) bytes
-        (rank_by accepted.now.steps (length items) + 2) accepted.now.table.limit }
+        (greatest (rank_by accepted.now.steps)
+        (opening_counts F.summary.may_cut accepted.now.table (length items)) + 2) accepted.now.table.limit }
     ensures responder { (items : List Item) (bytes : List ℕ) → IsSet items → IsBytes bytes →
         length items ≤ accepted.now.table.cap →
-        KeepsBounds F.summary F.profile (responding (peer_of accepted.now items)) bytes
+        KeepsBounds F.summary F.profile (responding F.summary (peer_of accepted.now items)) bytes
         (rank_by accepted.now.steps (length items) + 1) accepted.now.table.limit }
 {
     bound_laws::<F>();

@@ -64,7 +64,7 @@ impl<S: RangeStore, F: Summary> Model for End<S, F> {
 impl<S: RangeStore, F: Summary> End<S, F> {
     /// An end that has received nothing, and is spoken to first.
     pub(crate) fn responding(alloc: Global, accepted: Arc<Accepted>, store: S) -> End<S, F>
-        ensures { result ≡ fresh (arc_value accepted).steps (ends.responder
+        ensures { result ≡ fresh (arc_value accepted).steps (ends.responder F.summary
             (record { table = (arc_value accepted).table; items = S.content store })) }
     {
         End {
@@ -84,7 +84,12 @@ impl<S: RangeStore, F: Summary> End<S, F> {
         store: S,
         place: Place<F>,
     ) -> End<S, F>
-        requires { place ≡ record { first = false; own = place.own; now = placing.place_after place.own } }
+        requires { place ≡ record {
+          first = false;
+          cut = place.cut;
+          own = place.own;
+          now = placing.place_after place.own;
+        } }
         ensures { result ≡ fresh (arc_value accepted).steps (record {
           peer = record { table = (arc_value accepted).table; items = S.content store };
           stage = ends.Waits place.own;

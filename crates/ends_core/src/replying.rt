@@ -1,15 +1,16 @@
 //! The reply to a part of a message under a strategy.
 
-ghost use Rattle.std.specs.Prelude.{◌≡◌, ◌++◌, ◌+◌, ◌-◌, ◌<◌, ◌≤◌, ◌^◌, List, map, take, length, get_or, not};
+ghost use Rattle.std.specs.Prelude.{◌≡◌, ◌++◌, ◌+◌, ◌-◌, ◌<◌, ◌≤◌, ◌^◌, ◌&&◌, List, map, take, length, get_or, not};
 ghost use Rattle.std.specs.Prelude.{IfOk, OnOk, IsTrue};
 ghost use Rattle.std.specs.List.{AllByRecursion};
 ghost use Rattle.std.specs.List.Sorted.{IsNonDecreasing};
 ghost use Rattle.definitions.specs.Items as items;
+ghost use Rattle.definitions.specs.Items.{whole};
 ghost use Rattle.definitions.specs.Fingerprints.{two_lanes};
 ghost use Rattle.definitions.specs.Messages.{Sum, Listing};
 ghost use Rattle.definitions.specs.Replies as replies;
 ghost use Rattle.definitions.specs.Sets.{IsSet, has, items_in, difference};
-ghost use Rattle.definitions.specs.Strategies.{IsTable, act, shares, is_split};
+ghost use Rattle.definitions.specs.Strategies.{IsTable, act, shares, is_cut, is_split};
 ghost use Rattle.definitions.specs.Wire.{IsPart};
 ghost use Rattle.store_core.specs.Stores.{span};
 ghost use Rattle.laws.specs.Cutting.{pieces_at};
@@ -105,13 +106,6 @@ fn sum_at<S: RangeStore, F: Summary>(store: &S, at: Span) -> F
     ensures { result ≡ F.summary.of (span at.from at.to (S.content store.now)) }
 {
     F::of_set(at.len(), store.sum_at(at))
-}
-
-/// The fingerprint of the items in the range.
-pub(crate) fn sum_in<S: RangeStore, F: Summary>(store: &S, range: &Range) -> F
-    ensures { result ≡ F.summary.of (items_in (S.content store.now) range.now) }
-{
-    sum_at(store, store.span_of(range))
 }
 
 /// The fingerprint of the items of a span, by those of the items before its start and before its end.
@@ -234,6 +228,57 @@ fn span_in<S: RangeStore>(store: &S, range: &Range) -> Span
     ensures end { result.to ≤ length (S.content store.now) }
 {
     store.span_of(range).fitted(store.len())
+}
+
+/// Whether the first message of a session with n items is cut: the profile lets it, the strategy says so, and the row
+/// of n cuts.
+fn cuts_first<F: Summary>(strategy: &Strategy, n: u32) -> bool
+    requires { n ≤ strategy.now.cap }
+    ensures { result ≡ (F.summary.may_cut && is_cut strategy.now.opening && is_split (act strategy.now n)) }
+{
+    F::may_cut() && strategy.opening().is_cut() && strategy.act(n) == Act::Split
+}
+
+/// Appends what a session is begun with, where the items of everything stand in this span: one Sum of it, or those of
+/// the parts that the strategy cuts it into, where the profile and the strategy do.
+fn push_opening<S: RangeStore, F: Summary>(
+    alloc: Global,
+    strategy: &Strategy,
+    store: &S,
+    range: &Range,
+    at: Span,
+    parts: &mut Vec<Part<F>>,
+) -> Result<(), AllocError>
+    requires few { length (S.content store.now) ≤ strategy.now.cap }
+    requires range { range.now ≡ whole }
+    requires at { span at.from at.to (S.content store.now) ≡ items_in (S.content store.now) range.now }
+    requires order { at.from ≤ at.to }
+    requires end { at.to ≤ length (S.content store.now) }
+    ensures { OnOk result (parts.new.items ≡ parts.old.items ++ replies.opening F.summary
+        (record { table = strategy.now; items = S.content store.now })) }
+{
+    if cuts_first::<F>(strategy, count_at(strategy, at)) {
+        return push_cut(alloc, strategy, store, range, at, parts);
+    }
+    parts.push(Part::sum(*range, sum_at(store, at)))?;
+    Ok(())
+}
+
+/// What a session is begun with.
+pub(crate) fn opening_parts<S: RangeStore, F: Summary>(
+    alloc: Global,
+    strategy: &Strategy,
+    store: &S,
+) -> Result<Vec<Part<F>>, AllocError>
+    requires { length (S.content store.now) ≤ strategy.now.cap }
+    ensures { IfOk result (λ parts. parts.items ≡ replies.opening F.summary
+        (record { table = strategy.now; items = S.content store.now })) }
+{
+    let whole = Range::whole();
+    let at = span_in(store, &whole);
+    let mut parts = Vec::new(alloc);
+    push_opening(alloc, strategy, store, &whole, at, &mut parts)?;
+    Ok(parts)
 }
 
 /// Appends the reply to a Sum: nothing where the own fingerprint is the same.

@@ -3,33 +3,32 @@
 ghost use Rattle.std.specs.Prelude.{◌≡◌, ◌≤◌, ◌+◌, false, [], ◌∷◌, length, None, IfOk, IfErr, IfSome, IfNone};
 ghost use Rattle.std.specs.List.{IsDistinct};
 ghost use Rattle.std.specs.Arc.{arc_value};
-ghost use Rattle.definitions.specs.Items.{same_item, whole};
-ghost use Rattle.definitions.specs.Messages.{Sum, opening};
-ghost use Rattle.definitions.specs.Ranks.{rank_by};
+ghost use Rattle.definitions.specs.Items.{same_item};
+ghost use Rattle.definitions.specs.Replies.{opening};
 ghost use Rattle.definitions.specs.Ends as ends;
 ghost use Rattle.definitions.specs.Ends.{is_over};
 ghost use Rattle.definitions.specs.Placing as placing;
 ghost use Rattle.definitions.specs.Taking.{ended, by_parts};
 ghost use Rattle.ends_core.specs.Closing.{IsTaking};
 ghost use Rattle.ends_core.specs.EndStates.{HasNone};
-ghost use Rattle.ends_core.specs.Roles.{most_of};
+ghost use Rattle.ends_core.specs.Roles.{bound_of};
 ghost use Rattle.ends_core.specs.Sizes.{taken_size};
 ghost use Rattle.ends_core.specs.Turns.{IsJudged, KeepsLimit, answer_in, told_in, fresh};
 ghost use Rattle.ends_core.specs.Turns.{end_after, after_part, after_end, after_message};
 
 use crate::end::End;
 use crate::learned::Learned;
-use crate::replying::sum_in;
+use crate::replying::opening_parts;
 use crate::role::{Initiating, Responding, Role};
 use crate::turn::{EndFault, Turn};
 use digest_core::{Fingerprint, Summary};
-use item_core::Range;
 use place_core::Place;
 use std::alloc::{AllocError, Global};
 use std::marker::{Model, PhantomData};
 use std::sync::Arc;
 use store_core::RangeStore;
 use strategy_check::Accepted;
+use strategy_core::Strategy;
 use wire_core::{Message, Part};
 
 /// An end of a session: what it is, and what it has taken, said and learned.
@@ -57,34 +56,46 @@ pub type Initiator<S, F = Fingerprint> = SessionEnd<Initiating, S, F>;
 /// The end of a session that is spoken to first.
 pub type Responder<S, F = Fingerprint> = SessionEnd<Responding, S, F>;
 
-/// The message of one Sum over everything.
-fn first_message<F: Summary>(alloc: Global, sum: F) -> Result<Message<F>, AllocError>
-    ensures { IfOk result (λ m. m ≡ Sum whole sum ∷ []) }
+/// The first message of a session: one Sum over everything, or those of the parts that it is cut into.
+fn first_message<S: RangeStore, F: Summary>(
+    alloc: Global,
+    strategy: &Strategy,
+    store: &S,
+) -> Result<Message<F>, AllocError>
+    requires { length (S.content store.now) ≤ strategy.now.cap }
+    ensures { IfOk result (λ m. m ≡ opening F.summary (record { table = strategy.now; items = S.content store.now })) }
 {
-    let mut parts = Vec::with_capacity(alloc, 1)?;
-    parts.push(Part::sum(Range::whole(), sum))?;
-    match Message::new(parts) {
+    laws::talks::openings_are_exact::<F>();
+    let _ = strategy.cap(); // proof only: a cap is below 2^17
+    match Message::new(opening_parts(alloc, strategy, store)?) {
         Ok(message) => Ok(message),
         Err(_) => unreachable!(),
     }
 }
 
 /// The first message, and the place after it.
-fn begin<F: Summary>(alloc: Global, sum: F) -> Result<(Place<F>, Message<F>), AllocError>
+fn begin<S: RangeStore, F: Summary>(
+    alloc: Global,
+    strategy: &Strategy,
+    store: &S,
+) -> Result<(Place<F>, Message<F>), AllocError>
+    requires { length (S.content store.now) ≤ strategy.now.cap }
     ensures { IfOk result (λ r. (r.0 ≡ record {
       first = false;
-      own = Sum whole sum ∷ [];
-      now = placing.place_after (Sum whole sum ∷ []);
-    }) × (r.1 ≡ Sum whole sum ∷ [])) }
+      cut = F.summary.may_cut;
+      own = opening F.summary (record { table = strategy.now; items = S.content store.now });
+      now = placing.place_after (opening F.summary (record { table = strategy.now; items = S.content store.now }));
+    }) × (r.1 ≡ opening F.summary (record { table = strategy.now; items = S.content store.now }))) }
 {
-    let first = first_message(alloc, sum)?;
+    laws::talks::openings_are_exact::<F>();
+    let first = first_message(alloc, strategy, store)?;
     let place = Place::after(alloc, first.parts())?;
     Ok((place, first))
 }
 
 impl<S: RangeStore, F: Summary> SessionEnd<Initiating, S, F> {
-    /// The end, and its first message, which is to be sent: one Sum over everything. Where memory runs out the store is
-    /// given back.
+    /// The end, and its first message, which is to be sent: one Sum over everything, or those of the parts that the
+    /// strategy cuts it into. Where memory runs out the store is given back.
     pub fn start(
         alloc: Global,
         accepted: Arc<Accepted>,
@@ -93,12 +104,12 @@ impl<S: RangeStore, F: Summary> SessionEnd<Initiating, S, F> {
         requires { length (S.content store) ≤ (arc_value accepted).table.cap }
         ensures end { IfOk result (λ r. r.0 ≡ fresh (arc_value accepted).steps (ends.initiator F.summary
             (record { table = (arc_value accepted).table; items = S.content store }))) }
-        ensures message { IfOk result (λ r. r.1 ≡ opening F.summary (S.content store)) }
+        ensures message { IfOk result (λ r. r.1 ≡ opening F.summary
+            (record { table = (arc_value accepted).table; items = S.content store })) }
         ensures memory { IfErr result (λ s. s ≡ store) }
     {
-        laws::talks::whole_has_all();
         let _ = accepted.cap(); // proof only: the strategy was checked
-        match begin(alloc, sum_in(&store, &Range::whole())) {
+        match begin(alloc, accepted.strategy(), &store) {
             Ok((place, first)) => Ok((
                 SessionEnd {
                     end: End::initiating(alloc, accepted, store, place),
@@ -115,7 +126,7 @@ impl<S: RangeStore, F: Summary> SessionEnd<Responding, S, F> {
     /// An end that has received nothing.
     pub fn new(alloc: Global, accepted: Arc<Accepted>, store: S) -> Responder<S, F>
         requires { length (S.content store) ≤ (arc_value accepted).table.cap }
-        ensures { result ≡ fresh (arc_value accepted).steps (ends.responder
+        ensures { result ≡ fresh (arc_value accepted).steps (ends.responder F.summary
             (record { table = (arc_value accepted).table; items = S.content store })) }
     {
         let _ = accepted.cap(); // proof only: the strategy was checked
@@ -212,18 +223,20 @@ impl<R: Role, S: RangeStore, F: Summary> SessionEnd<R, S, F> {
         self.end.receive(alloc, message)
     }
 
-    /// The greatest number of messages that it sends, whatever its peer sends: the rank of the number of its items, and
-    /// 2 where it speaks first, else 1.
+    /// The greatest number of messages that it sends, whatever its peer sends: 2 above the greatest rank that it opened
+    /// where it speaks first, else 1 above the rank of the number of its items.
     pub fn bound(&self) -> u32
-        ensures { result ≡ rank_by self.now.steps (length self.now.end.peer.items) + most_of R.side }
+        ensures { result ≡ bound_of R.side F.summary.may_cut self.now.end.peer.table self.now.steps
+            (length self.now.end.peer.items) }
     {
-        R::bound(self.end.accepted(), self.end.count())
+        R::bound(self.end.accepted(), self.end.count(), F::may_cut())
     }
 
     /// How many messages were sent, which is never more than `bound()`.
     pub fn sent(&self) -> u32
         ensures sent { result ≡ self.now.end.sent }
-        ensures few { result ≤ rank_by self.now.steps (length self.now.end.peer.items) + most_of R.side }
+        ensures few { result ≤ bound_of R.side F.summary.may_cut self.now.end.peer.table self.now.steps
+            (length self.now.end.peer.items) }
     {
         laws::talks::ends_stand_firm::<F>();
         laws::ranks::ranks_are_read();

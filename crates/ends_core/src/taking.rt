@@ -53,7 +53,8 @@ pub(crate) fn take_part<S: RangeStore, F: Summary>(
       sent = 0;
       learned = nothing;
     }) (taken_at place.old draft.old) part.now) }
-    ensures own { (place.new.first ≡ place.old.first) × (place.new.own ≡ place.old.own) }
+    ensures own { (place.new.first ≡ place.old.first) × (place.new.cut ≡ place.old.cut)
+        × (place.new.own ≡ place.old.own) }
     ensures memory { result ≡ Err EndFault.Memory → (place.new ≡ place.old) × (draft.new ≡ draft.old) }
     ensures decided { IfNone (told_in result) (placing.refusal (placing.next place.old.now part.now) ≡ None) }
 {

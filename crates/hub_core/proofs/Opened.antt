@@ -23,12 +23,12 @@ use Rattle.hub_core.specs.declared.phase.Phase.TheVariants as phases
 
 module _ {F : Type 0} (S : Summary F) (W : Profile F) where
   -- as many bytes of the hello as were written are taken
-  pub taken-hello : (P : Peer) (c d e : SessionState F) (said n : ℕ) → Knows S W (responding P) c [] [] →
+  pub taken-hello : (P : Peer) (c d e : SessionState F) (said n : ℕ) → Knows S W (responding S P) c [] [] →
       d ≡ with_talk c (with_outbox c.talk (all_made W c.talk) true) → Takes S W c [] d →
       n ≡ min said (length d.talk.outbox.ready) → Takes S W d (take n d.talk.outbox.ready) e →
-      length W.hello ≡ 4 → said ≤ 4 → Knows S W (responding P) e [] (take said W.hello)
+      length W.hello ≡ 4 → said ≤ 4 → Knows S W (responding S P) e [] (take said W.hello)
   taken-hello P c d e said n k made makes count takes four few =
-      let s : Speaker F = responding P in
+      let s : Speaker F = responding S P in
       let rest = flat_map (message_text W) (said_to S W s []) ++ frame_of c.talk.state in
       let ready : d.talk.outbox.ready ≡ W.hello ++ rest =
       ap (λ (x : SessionState F). x.talk.outbox.ready) made ∙ k.tells.text
@@ -43,16 +43,16 @@ module _ {F : Type 0} (S : Summary F) (W : Profile F) where
 
   -- and all bytes that came are pushed
   pub pushed-all : (P : Peer) (c d e : SessionState F) (piece came taken : List ℕ) (n : ℕ) → piece ≡ came →
-      Knows S W (responding P) c [] taken → c.over ≡ false → (c.over ≡ false → Pushes S W c (take n piece) d) →
+      Knows S W (responding S P) c [] taken → c.over ≡ false → (c.over ≡ false → Pushes S W c (take n piece) d) →
       n ≡ length came →
       ((s : Speaker F) (pushed taken : List ℕ) → is_live s.start.stage ≡ true → Knows S W s d pushed taken →
-      Knows S W s e pushed taken) → Knows S W (responding P) e came taken
+      Knows S W s e pushed taken) → Knows S W (responding S P) e came taken
   pushed-all P c d e piece came taken n is k listens pushes all ends =
       let whole : take n piece ≡ came =
       ap (λ (l : List ℕ). take n l) is ∙ ap (λ (m : ℕ). take m came) all ∙ take-length came in
-      let pushed = pushes listens (responding P) [] taken refl k in
-      ends (responding P) came taken refl
-      (subst (λ (l : List ℕ). Knows S W (responding P) d l taken) whole pushed)
+      let pushed = pushes listens (responding S P) [] taken refl k in
+      ends (responding S P) came taken refl
+      (subst (λ (l : List ℕ). Knows S W (responding S P) d l taken) whole pushed)
 
   -- the texts are made, and before that something else was done by which all stays known
   pub made-then : {X E : Type 0} (r : Result X E) (c d e : SessionState F) →
@@ -67,11 +67,11 @@ module _ {F : Type 0} (S : Summary F) (W : Profile F) where
 
 pub known-counted : (P : Peer) (g : GreetingState) (b : Box (SessionState prints.Counted) Global) →
     is_counted g.came ≡ true →
-    Knows counted_lanes counted_profile (responding P) b.value g.came (take g.said counted_profile.hello) →
+    Knows counted_lanes counted_profile (responding counted_lanes P) b.value g.came (take g.said counted_profile.hello) →
     Knowing P (phases.Counted b) g.came (told g)
 known-counted P g b is k = rw is k
 
 pub known-plain : (P : Peer) (g : GreetingState) (b : Box (SessionState Lanes) Global) → is_counted g.came ≡ false →
-    Knows two_lanes two_lane_profile (responding P) b.value g.came (take g.said two_lane_profile.hello) →
+    Knows two_lanes two_lane_profile (responding two_lanes P) b.value g.came (take g.said two_lane_profile.hello) →
     Knowing P (phases.Plain b) g.came (told g)
 known-plain P g b is k = rw is k

@@ -12,8 +12,6 @@ use Rattle.definitions.specs.Ranks.{rank_by}
 use Rattle.definitions.specs.Replies.{Peer}
 use Rattle.definitions.specs.Wire.{Profile, two_lane_profile, counted_profile}
 use Rattle.definitions.specs.Engines.{responding}
-use Rattle.definitions.specs.Worlds.{Responder}
-use Rattle.ends_core.specs.Roles.{most_of}
 use Rattle.session_core.specs.Sessions.{SessionState, Knows}
 use Rattle.session_core.specs.Links.{Moves, MovesSo}
 use Rattle.session_core.specs.Polls.{Poll}
@@ -62,8 +60,8 @@ greeting-goes (Err f) old g h unread left held holds is (read, said, lost, m) =
 -- a session in its box, in either profile, of which a phase says what is known of a responder
 module _ {F : Type 0} (S : Summary F) (W : Profile F) (at : Box (SessionState F) Global → Phase)
     (known : (c d : Box (SessionState F) Global) (read said : List ℕ) → ((P : Peer) (pushed taken : List ℕ) →
-    Knows S W (responding P) c.value pushed taken →
-    Knows S W (responding P) d.value (pushed ++ read) (taken ++ said)) → (P : Peer) (pushed taken : List ℕ) →
+    Knows S W (responding S P) c.value pushed taken →
+    Knows S W (responding S P) d.value (pushed ++ read) (taken ++ said)) → (P : Peer) (pushed taken : List ℕ) →
     Knowing P (at c) pushed taken → Knowing P (at d) (pushed ++ read) (taken ++ said)) where
   goes-session : (c d : Box (SessionState F) Global) (unread left held holds : Option (List ℕ))
       (read said lost : List ℕ) → Moves S W c.value d.value unread left held holds read said lost →
@@ -71,7 +69,7 @@ module _ {F : Type 0} (S : Summary F) (W : Profile F) (at : Box (SessionState F)
   goes-session c d unread left held holds read said lost m = record {
     consumed = m.consumed;
     appended = m.appended;
-    knows = known c d read said (λ P pushed taken k. m.knows (responding P) pushed taken refl k);
+    knows = known c d read said (λ P pushed taken k. m.knows (responding S P) pushed taken refl k);
   }
 
   session-so : (r : Result Pumped LinkFault) (c d : Box (SessionState F) Global)
@@ -102,17 +100,17 @@ fresh-made way writer serial now r w g reads writes greets = rw (reads, writes, 
 
 pub plain-bound : (n : ℕ) (phase : Phase) (b : Box (SessionState Lanes) Global) (x : SessionState Lanes) →
     phase ≡ phases.Plain b → x ≡ b.value →
-    n ≡ rank_by x.talk.held.steps (length x.talk.held.end.peer.items) + most_of Responder → n ≡ bound_in phase
+    n ≡ rank_by x.talk.held.steps (length x.talk.held.end.peer.items) + 1 → n ≡ bound_in phase
 plain-bound n phase b x is same bound =
     rw is (subst (λ (y : SessionState Lanes). n ≡ rank_by y.talk.held.steps (length y.talk.held.end.peer.items)
-    + most_of Responder) same bound)
+    + 1) same bound)
 
 pub counted-bound : (n : ℕ) (phase : Phase) (b : Box (SessionState prints.Counted) Global)
     (x : SessionState prints.Counted) → phase ≡ phases.Counted b → x ≡ b.value →
-    n ≡ rank_by x.talk.held.steps (length x.talk.held.end.peer.items) + most_of Responder → n ≡ bound_in phase
+    n ≡ rank_by x.talk.held.steps (length x.talk.held.end.peer.items) + 1 → n ≡ bound_in phase
 counted-bound n phase b x is same bound =
     rw is (subst (λ (y : SessionState prints.Counted). n ≡ rank_by y.talk.held.steps
-    (length y.talk.held.end.peer.items) + most_of Responder) same bound)
+    (length y.talk.held.end.peer.items) + 1) same bound)
 
 -- ---- how many messages were written whole
 

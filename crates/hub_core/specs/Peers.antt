@@ -28,8 +28,6 @@ use Rattle.definitions.specs.Replies.{Peer}
 use Rattle.definitions.specs.Talks.{Knowledge}
 use Rattle.definitions.specs.Wire.{Profile, two_lane_profile, counted_profile}
 use Rattle.definitions.specs.Engines.{responding}
-use Rattle.definitions.specs.Worlds.{Responder}
-use Rattle.ends_core.specs.Roles.{most_of}
 use Rattle.ends_core.specs.Sides.{said_to}
 use Rattle.session_core.specs.Kept.{kept_by}
 use Rattle.session_core.specs.Outboxes.{unwritten}
@@ -50,8 +48,8 @@ use Rattle.hub_core.specs.declared.phase.Phase.TheVariants as phases
 
 abbrev pub Knowing : Peer → Phase → List ℕ → List ℕ → Type 0
 Knowing P (phases.Greeting g) pushed taken = (pushed ≡ g.came) × (taken ≡ told g)
-Knowing P (phases.Plain c) pushed taken = Knows two_lanes two_lane_profile (responding P) c.value pushed taken
-Knowing P (phases.Counted c) pushed taken = Knows counted_lanes counted_profile (responding P) c.value pushed taken
+Knowing P (phases.Plain c) pushed taken = Knows two_lanes two_lane_profile (responding two_lanes P) c.value pushed taken
+Knowing P (phases.Counted c) pushed taken = Knows counted_lanes counted_profile (responding counted_lanes P) c.value pushed taken
 
 pub record Goes (old new : Phase) (unread left held holds : Option (List ℕ)) (read said lost : List ℕ) : Type 0 where
   pub consumed : Consumes unread left (read ++ lost)
@@ -122,8 +120,8 @@ written_in (phases.Plain c) = c.value.talk.held.end.sent - unwritten c.value.tal
 written_in (phases.Counted c) = c.value.talk.held.end.sent - unwritten c.value.talk.outbox
 
 abbrev pub WritesOf : {F : Type 0} → Summary F → Profile F → SessionState F → ℕ → Type 0
-WritesOf S W c n = (P : Peer) (pushed taken : List ℕ) → Knows S W (responding P) c pushed taken →
-    IsWritten W (said_to S W (responding P) pushed) taken n
+WritesOf S W c n = (P : Peer) (pushed taken : List ℕ) → Knows S W (responding S P) c pushed taken →
+    IsWritten W (said_to S W (responding S P) pushed) taken n
 
 abbrev pub Writes : Phase → ℕ → Type 0
 Writes (phases.Greeting g) n = n ≡ 0
@@ -133,10 +131,8 @@ Writes (phases.Counted c) n = WritesOf counted_lanes counted_profile c.value n
 -- how many messages its session says at most
 abbrev pub bound_in : Phase → ℕ
 bound_in (phases.Greeting g) = 0
-bound_in (phases.Plain c) =
-    rank_by c.value.talk.held.steps (length c.value.talk.held.end.peer.items) + most_of Responder
-bound_in (phases.Counted c) =
-    rank_by c.value.talk.held.steps (length c.value.talk.held.end.peer.items) + most_of Responder
+bound_in (phases.Plain c) = rank_by c.value.talk.held.steps (length c.value.talk.held.end.peer.items) + 1
+bound_in (phases.Counted c) = rank_by c.value.talk.held.steps (length c.value.talk.held.end.peer.items) + 1
 
 -- text of its session is made and not written
 abbrev pub owes : Phase → Bool

@@ -31,7 +31,7 @@ fn started<S: RangeStore, F: Summary>(
     requires fits { length (S.content store) ≤ (arc_value accepted).table.cap }
     requires few { said ≤ 4 }
     ensures knows { IfOk result (λ c. Knows F.summary F.profile
-        (responding (peer_of (arc_value accepted) (S.content store))) c [] (take said F.profile.hello)) }
+        (responding F.summary (peer_of (arc_value accepted) (S.content store))) c [] (take said F.profile.hello)) }
     ensures listens { IfOk result (λ c. c.over ≡ false) }
 {
     let Ok(mut session) = Session::<Responding, S, F>::respond(alloc, accepted, store) else {
@@ -68,7 +68,7 @@ fn begun<S: RangeStore, F: Summary>(
 ) -> Result<Session<Responding, S, F>, AllocError>
     requires { length (S.content store) ≤ (arc_value accepted).table.cap }
     ensures knows { IfOk result (λ c. Knows F.summary F.profile
-        (responding (peer_of (arc_value accepted) (S.content store))) c greeting.now.came
+        (responding F.summary (peer_of (arc_value accepted) (S.content store))) c greeting.now.came
         (take greeting.now.said F.profile.hello)) }
     ensures over { IfOk result (λ c. c.over ≡ greeting.now.over) }
 {

@@ -11,7 +11,7 @@ use Rattle.item_files.specs.declared.stray_keys.StrayKey.{StrayKey}
 
 abbrev pub is_key : Option ℕ → List ℕ → Bool
 is_key None k = bytes_eq k (codes "bounds") || bytes_eq k (codes "cap") || bytes_eq k (codes "limit")
-    || bytes_eq k (codes "rounds") || bytes_eq k (codes "row")
+    || bytes_eq k (codes "opening") || bytes_eq k (codes "rounds") || bytes_eq k (codes "row")
 is_key (Some n) k = bytes_eq k (codes "list") || bytes_eq k (codes "peel") || bytes_eq k (codes "split")
     || bytes_eq k (codes "upto")
 

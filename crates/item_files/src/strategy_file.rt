@@ -19,7 +19,7 @@ pub fn document(alloc: Global, text: &[u8]) -> Result<Table, SettingsFault>
     Ok(strategy_core::document(alloc, text)?)
 }
 
-/// The strategy of a table, with its least ranks. Refused 29 or 31 to 39, by the first test that fails.
+/// The strategy of a table, with its least ranks. Refused 28, 29 or 31 to 39, by the first test that fails.
 pub fn accepted_in(alloc: Global, table: &Table) -> Result<Accepted, SettingsFault>
     ensures { IsAcceptedIn (table_view table.now) result }
 {

@@ -24,7 +24,10 @@ fn is_key(row: Option<usize>, key: &str) -> bool
     ensures { result ≡ is_key row key.now }
 {
     match row {
-        None => matches!(key, "bounds" | "cap" | "limit" | "rounds" | "row"),
+        None => matches!(
+            key,
+            "bounds" | "cap" | "limit" | "opening" | "rounds" | "row"
+        ),
         Some(_) => matches!(key, "list" | "peel" | "split" | "upto"),
     }
 }
@@ -117,6 +120,7 @@ fn nearest_above(alloc: Global, stray: StrayKey<'_>) -> Result<Option<NearKey>, 
     let best = nearer(alloc, stray, None, "bounds")?;
     let best = nearer(alloc, stray, best, "cap")?;
     let best = nearer(alloc, stray, best, "limit")?;
+    let best = nearer(alloc, stray, best, "opening")?;
     let best = nearer(alloc, stray, best, "rounds")?;
     nearer(alloc, stray, best, "row")
 }

@@ -2,7 +2,7 @@
 -- Messages are few: let the Sums of a message be under a in the speaker's set and under b in the hearer's. The reply
 -- is under b - 1 in the hearer's set, and still under a in the speaker's (Cuts). So by induction at most 2 + min(2a,
 -- 2b - 1) messages follow, the message itself among them: if a or b is 0 the reply has no Sums, and at most two are
--- left. The opening is under rank + 1 in both sets.
+-- left. The opening is under its greatest rank + 1 in the initiator's set, and under rank + 1 in the responder's.
 -- Compared parts: a part that is placed lies in a range that our message opened, so it is no higher in rank than our
 -- message. One end alone needs no more than that to stop (Stops).
 -- Lists: a row that lists reaches no further than the limit, the rows reach the cap, and no set in a range has more
@@ -26,13 +26,15 @@ use Rattle.laws.specs.Cutting.{CutsAreExact, TalksHaveRanges}
 use Rattle.laws.proofs.Tables.{covers}
 use Rattle.laws.proofs.Placing.{rises_append, Placed-from_accepted, opening_exact}
 use Rattle.laws.proofs.OpenRanges.{sums-cuts}
+use Rattle.laws.proofs.Openings.{opening_rises, opening_under, opening_under_all, opening_short, all-IsUnder}
+use Rattle.definitions.proofs.Words.{opened}
 use Rattle.laws.proofs.Saying.{answers-All, after-peer}
 use Rattle.definitions.specs.Ends.{after, stage_fault}
 use Rattle.definitions.specs.Engines.{called, called_unless, calls}
 use Rattle.laws.specs.Hearing.{OwnIsShort}
 use Rattle.laws.proofs.Cuts.{ranges-IsWithin, IsWithin, length-items_in-le, ranges-rise, flat_map-ranges}
 use Rattle.laws.proofs.PeerCuts.{peer_cuts, peer_cutup, peer_cutup-AreCuts, peer_cutup-IsWithin, reply-each}
-use Rattle.laws.proofs.PeerCuts.{reply-rises, talk_from-All, length-items_in-le_all, slice_index-le, IsUnder, SumsUnder}
+use Rattle.laws.proofs.PeerCuts.{reply-rises, talk_from-All, length-items_in-le_all, IsUnder, SumsUnder}
 use Rattle.laws.proofs.PeerCuts.{reply-own, reply-other, reply-no_sums, within-IsUnder, IsSumUnder}
 
 -- ==== What a cut is, and that honest ranges rise
@@ -53,7 +55,7 @@ talks_have_ranges {F} S I R f g k i r =
     let kept : (P : Peer) (f : List ℕ) → Ready P f → (M : Message F) → RangesRise M → RangesRise (reply S P M) =
     λ P f p M h. reply-rises S P f p M
     (All-map (λ p. Rises (range_of p)) (λ p. is_open p ≡ true → Rises (range_of p)) (λ p h e. h) M h) in
-    talk_from-All S RangesRise I R (kept I f i) (kept R g r) (opening S I.items) k (refl, tt)
+    talk_from-All S RangesRise I R (kept I f i) (kept R g r) (opening S I) k (opening_rises S I i.set)
 
 -- so has what was read
 IsPart-rises : {F : Type 0} (P : Profile F) (p : Part F) → IsPart P p → Rises (range_of p)
@@ -90,19 +92,12 @@ length-talk_from S P Q f g p q M (suc a) (suc b) (suc k) h j =
     elim (has_open M) as (λ c. suc (length (cond c (talk_from S Q P (reply S Q M) k) [])) ≤ 2
     + min (2 * suc a) (2 * suc b - 1)) [ true ↦ omega arith | false ↦ omega arith ]
 
-pub whole-IsUnder : {P : Peer} {f : List ℕ} → Ready P f → IsUnder f P.items (rank f P + 1) whole
-whole-IsUnder {P} {f} r = omega (
-  arith,
-  slice_index-le r.ranks (length (items_in P.items whole)) (length P.items)
-      (length-items_in-le_all P.items whole) r.room,
-)
-
 pub messages_are_few : {F : Type 0} (S : Summary F) → MessagesAreFew S
 messages_are_few S I R f g k i r =
     omega (
       arith,
-      length-talk_from S I R f g i r (opening S I.items) (rank f I + 1) (rank g R + 1) k (whole-IsUnder i, tt)
-          (whole-IsUnder r, tt),
+      length-talk_from S I R f g i r (opening S I) (opened S f I + 1) (rank g R + 1) k (opening_under S I f)
+          (opening_under_all S I R g r),
     )
 
 -- ==== What is placed compares only parts of what the own message compared
@@ -180,11 +175,13 @@ pub placed-OpenUnder : {F : Type 0} {P : Peer} {f : List ℕ} → Ready P f → 
 placed-OpenUnder {F} {P} {f} r n sent M h k e = all-OpenUnder r n (open_parts sent) M
     (All-kept (IsSumUnder f P.items n) is_open sent h) k (Placed-from_accepted sent M e)
 
--- an opening compares everything
-pub opening-OpenUnder : {F : Type 0} {P : Peer} {f : List ℕ} → Ready P f → (M : Message F) → opening_fault M ≡ None →
-    AllByRecursion (IsOpenUnder f P.items (rank f P + 1)) M
-opening-OpenUnder {F} {P} {f} r M e =
-    subst (AllByRecursion (IsOpenUnder f P.items (rank f P + 1))) (sym ((opening_exact M).0 e).1) (whole-IsUnder r, tt)
+-- a first message compares no range of a higher rank than that of the whole set
+pub opening-OpenUnder : {F : Type 0} {P : Peer} {f : List ℕ} → Ready P f → (cut : Bool) (M : Message F) →
+    opening_fault cut M ≡ None → AllByRecursion (IsOpenUnder f P.items (rank f P + 1)) M
+opening-OpenUnder {F} {P} {f} r cut M e =
+    let is = (opening_exact cut M).0 e in
+    sums-OpenUnder f P.items (rank f P + 1) (cut_range whole is.0) M is.2
+    (All-every (IsUnder f P.items (rank f P + 1)) (all-IsUnder r) (cut_range whole is.0))
 
 -- ==== Each sender keeps its limit
 
@@ -222,12 +219,14 @@ talk_from-KeepLimits {F} S P Q M (suc k) s a t b i j h = (
 )
 
 pub lists_are_short : {F : Type 0} (S : Summary F) → ListsAreShort S
-lists_are_short S I R k t u a b i j = talk_from-KeepLimits S I R (opening S I.items) k t a u b i j (tt, tt)
+lists_are_short S I R k t u a b i j =
+    talk_from-KeepLimits S I R (opening S I) k t a u b i j (opening_short S I I.table.limit)
 
 pub ends_keep_limits : {F : Type 0} (S : Summary F) → EndsKeepLimits S
-ends_keep_limits {F} S P Ms t a room = (((tt, tt), said (initiator S P) refl), said (responder P) refl) where
-  said : (e : End F) → e.peer ≡ P → AllByRecursion (AllByRecursion (IsShort P.table.limit)) (answers S e Ms)
-  said e is = answers-All S P (AllByRecursion (IsShort P.table.limit)) (λ M. replies_are_short S P M t a room) e Ms is
+ends_keep_limits {F} S P Ms t a room =
+    ((opening_short S P P.table.limit, said (initiator S P) refl), said (responder S P) refl) where
+      said : (e : End F) → e.peer ≡ P → AllByRecursion (AllByRecursion (IsShort P.table.limit)) (answers S e Ms)
+      said e is = answers-All S P (AllByRecursion (IsShort P.table.limit)) (λ M. replies_are_short S P M t a room) e Ms is
 
 -- and of all that is called for
 called-short : {F : Type 0} (S : Summary F) (P : Peer) (C : Message F → Type 0) → ((M : Message F) → C (reply S P M)) →
@@ -245,6 +244,7 @@ calls-short S P C each e (M ∷ Ms) is = All-append C (called S e M) (calls S (a
     (called-short S P C each e M is) (calls-short S P C each (after S e M) Ms (after-peer S e M ∙ is))
 
 pub own_is_short : {F : Type 0} (S : Summary F) → OwnIsShort S
-own_is_short {F} S P Ms t a room = (((tt, tt), all (initiator S P) refl), all (responder P) refl) where
-  all : (e : End F) → e.peer ≡ P → AllByRecursion (AllByRecursion (IsShort P.table.limit)) (calls S e Ms)
-  all e is = calls-short S P (AllByRecursion (IsShort P.table.limit)) (λ M. replies_are_short S P M t a room) e Ms is
+own_is_short {F} S P Ms t a room =
+    ((opening_short S P P.table.limit, all (initiator S P) refl), all (responder S P) refl) where
+      all : (e : End F) → e.peer ≡ P → AllByRecursion (AllByRecursion (IsShort P.table.limit)) (calls S e Ms)
+      all e is = calls-short S P (AllByRecursion (IsShort P.table.limit)) (λ M. replies_are_short S P M t a room) e Ms is

@@ -9,7 +9,7 @@
 -- With the symmetric difference for D and the widths of the tables for w this is the law. With all items of both sets
 -- for D, and w = 1, it says that messages fit, since a range is cut into no more parts than it has own items.
 -- docs/LAWS.md: Parts are few; Messages fit; Cost.
-use Rattle.std.proofs.Common.{◌≡◌, ℕ, ◌+◌, ◌*◌, ◌≤◌, Bool, true, false, not, ◌&&◌, zero, suc, List, [], ◌∷◌, ◌++◌}
+use Rattle.std.proofs.Common.{◌≡◌, ℕ, ◌+◌, ◌*◌, ◌≤◌, Bool, true, false, not, ◌&&◌, zero, suc, List, [], ◌∷◌, ◌++◌, None}
 use Rattle.std.proofs.Common.{length, map, max, unwrap_or, ltb, Less, Equal, Greater, if◌then◌else◌, refl, sym, ap, ◌∙◌}
 use Rattle.std.proofs.Common.{arith}
 use Rattle.std.specs.List.Sorted.{IsStrictlySortedBy}
@@ -27,10 +27,14 @@ use Rattle.definitions.proofs.Lemmas.{All-append, All-every}
 use Rattle.laws.proofs.Tables.{length-shares, widest-positive, length-le-sum, sum-shares_by, shares_by-positive}
 use Rattle.laws.proofs.Times.{when, times, times-append, times-filter, has-times, has-filter, times_le_one, times_below}
 use Rattle.laws.proofs.Times.{all_above}
-use Rattle.laws.proofs.Knowledge.{reply-in_open_le, contains-whole, items_in-whole}
-use Rattle.laws.proofs.Tallies.{tally, in_open, tally-in_open, replies_are_honest}
+use Rattle.laws.proofs.Knowledge.{reply-in_open_le}
+use Rattle.laws.proofs.Openings.{items_in-whole, opening_by, opening_honest, opening_spread, opening_is, opening_rises}
+use Rattle.laws.proofs.Openings.{sums_open, opening_cuts, opening_cuts-rise}
+use Rattle.laws.specs.Opening.{OpeningsAreExact}
+use Rattle.definitions.proofs.Words.{opening_ranges, ranges_between, whole}
+use Rattle.laws.proofs.Tallies.{tally, in_open, tally-in_open, tally-in_open-sums, replies_are_honest}
 use Rattle.laws.proofs.Runs.{peer_at-IsSet}
-use Rattle.laws.proofs.Cuts.{length-ranges_between}
+use Rattle.laws.proofs.Cuts.{length-ranges_between, flat_map-ranges}
 use Rattle.laws.proofs.PeerCuts.{peer_cutup, reply_to_sum}
 
 -- ---- sets are equal where their items are
@@ -229,13 +233,41 @@ talk_from-few S D w b exact bound (suc k) P Q own other diff wide wide' M short 
     )
 
 -- from the opening on
-talk-few : {F : Type 0} (S : Summary F) (D : List Item) (w b : ℕ) → IsExact S → w * length D ≤ b → 1 ≤ b →
-    (k : ℕ) (I R : Peer) → IsSet I.items → IsSet R.items → HasDifference D I.items R.items →
+talk-few : {F : Type 0} (S : Summary F) (D : List Item) (w b : ℕ) → IsExact S → w * length D ≤ b →
+    (k : ℕ) (I R : Peer) → length (opening S I) ≤ b → IsSet I.items → IsSet R.items → HasDifference D I.items R.items →
     CutsFew D w I → CutsFew D w R → AllByRecursion (λ N. length N ≤ b) (talk S I R k)
-talk-few S D w b exact bound one k I R left right diff wide wide' =
-    talk_from-few S D w b exact bound k I R left right diff wide wide' (opening S I.items) one
-    (ap S.of (sym (items_in-whole I.items)), tt) (tt, tt)
-    (λ x. omega (arith, ap (λ b. when b 1) (contains-whole x)))
+talk-few S D w b exact bound k I R first left right diff wide wide' =
+    talk_from-few S D w b exact bound k I R left right diff wide wide' (opening S I) first
+    (opening_honest S I) (sums-IsNews S D I.items (opening_ranges S I))
+    (λ x. omega (arith, tally-in_open-sums S I.items x 1 (opening_ranges S I), opening_spread S I left x 1))
+
+-- it begins with no more parts than the initiator has items, or with one
+pub opening_fits : {F : Type 0} (S : Summary F) (I : Peer) → length (opening S I) ≤ max 1 (length I.items)
+opening_fits S I = omega (
+  arith,
+  length-map (opening_ranges S I) (sum_of S I.items),
+  opening_by S I (λ cs. length (ranges_between [] cs None) ≤ max 1 (length I.items))
+      (omega (
+        arith,
+        length-cutup-items I.table.bounds I.items whole I.table (length (items_in I.items whole)),
+        ap length (items_in-whole I.items),
+      ))
+      (omega arith),
+)
+
+-- ---- what a session opens with
+
+pub openings_are_exact : {F : Type 0} (S : Summary F) → OpeningsAreExact S
+openings_are_exact S P set = record {
+  first = opening_is S P;
+  honest = opening_honest S P;
+  rise = opening_rises S P set;
+  all_open = sums_open S P.items (opening_ranges S P);
+  whole = λ D is. flat_map-ranges D is [] (opening_cuts S P) None (opening_cuts-rise S P set) ∙ items_in-whole D;
+  few = opening_fits S P;
+}
+
+-- ---- parts
 
 by_width : (D : List Item) (Q : Peer) (w : ℕ) → width Q.table ≤ w → CutsFew D w Q
 by_width D Q w wide = record {
@@ -251,7 +283,7 @@ pub few_parts : {F : Type 0} (S : Summary F) → PartsAreFew S
 few_parts S exact I R k left right =
     let D : List Item = symmetric_difference I.items R.items in
     let w : ℕ = max (width I.table) (width R.table) in
-    talk-few S D w (part_bound I R) exact (omega (arith, mul_comm w (length D))) (omega arith) k I R left right
+    talk-few S D w (part_bound S I R) exact (omega (arith, mul_comm w (length D))) k I R (omega arith) left right
     (HasDifference-symmetric I.items R.items left right)
     (by_width D I w (omega arith)) (by_width D R w (omega arith))
 
@@ -275,7 +307,7 @@ pub messages_fit : {F : Type 0} (S : Summary F) → MessagesFit S
 messages_fit S exact I R k left right =
     let D : List Item = I.items ++ R.items in
     talk-few S D 1 (max 1 (length I.items + length R.items)) exact (omega (arith, length-append I.items R.items))
-    (omega arith) k I R left right (HasDifference-both I.items R.items)
+    k I R (omega (arith, opening_fits S I)) left right (HasDifference-both I.items R.items)
     (by_items D I (λ X. omega (arith, length-both I.items R.items X)))
     (by_items D R (λ X. omega (arith, length-both I.items R.items X)))
 
@@ -297,5 +329,5 @@ cost_claim S exact w = All-every (CostsLittle S w) (λ s.
     (peer_at-IsSet w s.responder_node (unwrap_or s.responder_version 0)) in
     record {
       few_parts = few;
-      reported = most_parts_le (messages S w s) (part_bound (initiator_of w s) (responder_of w s)) few;
+      reported = most_parts_le (messages S w s) (part_bound S (initiator_of w s) (responder_of w s)) few;
     }) w.sessions

@@ -107,7 +107,7 @@ open_good S w i r (Some a) (Some b) e f good =
 after_by : {F : Type 0} (S : Summary F) (w : World) (s : Session) (k : Kept F) (b : Bool) → has_open k.last ≡ b →
     GoesOnBy S w s k → HasKept S w (after_delivery w s)
 after_by S w s k true e on =
-    (_, (on.replied (reply S (hearer_now w s k).peer k.last) (on.taken ∙ cond-true (has_open k.last) _ _ e)).0)
+    (_, (on.replied (reply S (hearer_now S w s k).peer k.last) (on.taken ∙ cond-true (has_open k.last) _ _ e)).0)
 after_by S w s k false e on = (_, (on.ended (on.taken ∙ cond-false (has_open k.last) _ _ e)).0)
 
 delivery_good : {F : Type 0} (S : Summary F) (w : World) (k : ℕ) (s : Session) → IsExact S →

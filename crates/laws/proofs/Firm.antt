@@ -8,7 +8,7 @@
 -- and is not open again (Once). A first message teaches nothing and opens one range. Induction over the messages; that
 -- few were sent is Stops, with the count of Saying.
 -- docs/LAWS.md: An end stands firm.
-use Rattle.std.proofs.Common.{◌≡◌, ℕ, ◌+◌, ◌≤◌, ◌∙◌, List, [], ◌∷◌, Option, Some, None, refl, sym, ap, subst, arith}
+use Rattle.std.proofs.Common.{◌≡◌, ℕ, Bool, ◌+◌, ◌≤◌, ◌∙◌, List, [], ◌∷◌, Option, Some, None, refl, sym, subst, arith}
 use Rattle.std.specs.List.{IsDistinct}
 use Rattle.definitions.proofs.Words.{AllByRecursion, Item, Apart, Summary, Message, has_open, open_ranges, opening}
 use Rattle.definitions.proofs.Words.{opening_fault, place_fault, Profile, AreParts, Peer, reply, Knowledge, nothing}
@@ -17,8 +17,9 @@ use Rattle.definitions.proofs.Words.{StandsFirm, End, Fresh, Over, Spent, Stage,
 use Rattle.definitions.proofs.Words.{answer_unless, gained, heard, initiator, responder}
 use Rattle.definitions.proofs.Lemmas.{cond_both, All-map}
 use Rattle.laws.proofs.Placing.{Placed-from_accepted, opening_exact}
-use Rattle.laws.proofs.OpenRanges.{placed_are_apart, replies_are_apart}
-use Rattle.laws.proofs.Knowledge.{items_in-whole}
+use Rattle.laws.proofs.OpenRanges.{placed_are_apart, replies_are_apart, opening_apart, opens_apart}
+use Rattle.laws.proofs.Openings.{opening_honest}
+use Rattle.definitions.proofs.Words.{AreSums, cut_range, whole, Range, Sum, Listing, Answer, opened}
 use Rattle.laws.proofs.Tallies.{replies_are_honest}
 use Rattle.laws.proofs.Once.{learns_once}
 use Rattle.laws.proofs.Saying.{answer-cases, after-peer, answers-counted}
@@ -51,7 +52,7 @@ record IsSent {F : Type 0} (S : Summary F) (P : Peer) (known : Knowledge) (own :
   settled : IsSettled known own
 
 abbrev FirmBy : {F : Type 0} → Summary F → Peer → Knowledge → Stage F → Type 0
-FirmBy S P known Fresh = known ≡ nothing
+FirmBy S P known (Fresh cut) = known ≡ nothing
 FirmBy S P known (Waits own) = IsSent S P known own
 FirmBy {F} S P known Over = IsSettled {F = F} known []
 FirmBy {F} S P known Spent = IsSettled {F = F} known []
@@ -59,11 +60,10 @@ FirmBy {F} S P known Spent = IsSettled {F = F} known []
 abbrev FirmEnd : {F : Type 0} → Summary F → End F → Type 0
 FirmEnd S e = FirmBy S e.peer e.learned e.stage
 
-firm_stands : {F : Type 0} (S : Summary F) (P : Peer) (f : List ℕ) (most : ℕ) (e : End F) → e.sent ≤ rank f P + most →
-    FirmEnd S e → StandsFirm P f most e
-firm_stands {F} S P f most e few h = by e.stage h where
-  by : (s : Stage F) → FirmBy S e.peer e.learned s → StandsFirm P f most (record e { stage = s })
-  by Fresh none =
+firm_stands : {F : Type 0} (S : Summary F) (most : ℕ) (e : End F) → e.sent ≤ most → FirmEnd S e → StandsFirm most e
+firm_stands {F} S most e few h = by e.stage h where
+  by : (s : Stage F) → FirmBy S e.peer e.learned s → StandsFirm most (record e { stage = s })
+  by (Fresh cut) none =
       record { apart = tt; few = few; settled = subst (λ k. IsSettled {F = F} k []) (sym none) (nothing_settled []) }
   by (Waits own) h = record { apart = h.apart; few = few; settled = h.settled }
   by Over settled = record { apart = tt; few = few; settled = settled }
@@ -90,23 +90,35 @@ answered {F} S f e r M apart settled =
     (nothing_settled [])
 
 -- what an opening teaches, and what it opens
-opening_apart : {F : Type 0} (M : Message F) → opening_fault M ≡ None → Apart (open_ranges M)
-opening_apart M h = subst (λ N. Apart (open_ranges N)) (sym ((opening_exact M).0 h).1) (refl, tt, tt)
+opened_apart : {F : Type 0} (cut : Bool) (M : Message F) → RangesRise M → opening_fault cut M ≡ None →
+    Apart (open_ranges M)
+opened_apart cut M rise h = opens_apart cut M rise ((opening_exact cut M).0 h)
 
-opening_teaches : {F : Type 0} (A : List Item) (M : Message F) → opening_fault M ≡ None → learn A [] M ≡ nothing
-opening_teaches A M h = ap (learn A []) ((opening_exact M).0 h).1
+sums_teach : {F : Type 0} (A : List Item) (Xs : List Range) (M : Message F) → AreSums Xs M → learn A [] M ≡ nothing
+sums_teach A [] [] h = refl
+sums_teach A [] (p ∷ M) h = absurd h
+sums_teach A (X ∷ Xs) [] h = absurd h
+sums_teach A (X ∷ Xs) (Sum Y f ∷ M) h = sums_teach A Xs M h.1
+sums_teach A (X ∷ Xs) (Listing Y items ∷ M) h = absurd h
+sums_teach A (X ∷ Xs) (Answer Y marks items ∷ M) h = absurd h
+
+opening_teaches : {F : Type 0} (A : List Item) (cut : Bool) (M : Message F) → opening_fault cut M ≡ None →
+    learn A [] M ≡ nothing
+opening_teaches A cut M h = let is = (opening_exact cut M).0 h in sums_teach A (cut_range whole is.0) M is.2
 
 after_firm : {F : Type 0} (S : Summary F) (Q : Profile F) (f : List ℕ) (e : End F) (M : Message F) → Ready e.peer f →
     AreParts Q M → FirmEnd S e → FirmEnd S (after S e M)
 after_firm {F} S Q f e M r right h = by e.stage h where
   by : (s : Stage F) → FirmBy S e.peer e.learned s → FirmEnd S (after S (record e { stage = s }) M)
-  by Fresh none = fault (opening_fault M) refl where
-    fault : (o : Option ℕ) → opening_fault M ≡ o →
-        FirmEnd S (after_answer (record e { stage = Fresh }) M (answer_unless S e.peer M o))
+  by (Fresh cut) none = fault (opening_fault cut M) refl where
+    fault : (o : Option ℕ) → opening_fault cut M ≡ o →
+        FirmEnd S (after_answer (record e { stage = Fresh cut }) M (answer_unless S e.peer M o))
     fault (Some code) h = nothing_settled []
-    fault None h = answered S f (record e { stage = Fresh }) r M (opening_apart M h)
+    fault None h = answered S f (record e { stage = Fresh cut }) r M
+        (opened_apart cut M (parts_have_ranges Q M right) h)
         (subst (λ k. IsSettled k (reply S e.peer M))
-        (λ i. and_then (sym none i) (sym (opening_teaches e.peer.items M h) i)) (nothing_settled (reply S e.peer M)))
+        (λ i. and_then (sym none i) (sym (opening_teaches e.peer.items cut M h) i))
+        (nothing_settled (reply S e.peer M)))
   by (Waits own) h = fault (place_fault own M) refl where
     fault : (o : Option ℕ) → place_fault own M ≡ o →
         FirmEnd S (after_answer (record e { stage = Waits own }) M (answer_unless S e.peer M o))
@@ -132,14 +144,14 @@ heard_firm S Q f P (M ∷ Ms) e r right is h =
 pub ends_stand_firm : {F : Type 0} (S : Summary F) → EndsStandFirm S
 ends_stand_firm {F} S Q P f Ms r right =
     let rise = All-map (AreParts Q) RangesRise (parts_have_ranges Q) Ms right in (
-      firm_stands S P f 2 (heard S (initiator S P) Ms)
+      firm_stands S (opened S f P + 2) (heard S (initiator S P) Ms)
           (omega (arith, answers-counted S (initiator S P) Ms, initiator_stops S P f Ms r rise))
           (heard_firm S Q f P Ms (initiator S P) r right refl record {
-            honest = (ap S.of (sym (items_in-whole P.items)), tt);
-            apart = (refl, tt, tt);
-            settled = nothing_settled (opening S P.items);
+            honest = opening_honest S P;
+            apart = opening_apart S P r.set;
+            settled = nothing_settled (opening S P);
           }),
-      firm_stands S P f 1 (heard S (responder P) Ms)
-          (omega (arith, answers-counted S (responder P) Ms, responder_stops S P f Ms r rise))
-          (heard_firm S Q f P Ms (responder P) r right refl refl),
+      firm_stands S (rank f P + 1) (heard S (responder S P) Ms)
+          (omega (arith, answers-counted S (responder S P) Ms, responder_stops S P f Ms r rise))
+          (heard_firm S Q f P Ms (responder S P) r right refl refl),
     )

@@ -48,13 +48,13 @@ stays-stopped S code (x ∷ events) = stays-stopped S code events
 -- ---- stages
 
 live-not-over : {F : Type 0} (s : Stage F) → is_live s ≡ true → is_over s ≡ false
-live-not-over Fresh h = refl
+live-not-over (Fresh cut) h = refl
 live-not-over (Waits own) h = refl
 live-not-over Over h = absurd cc
 live-not-over Spent h = refl
 
 pub over-not-live : {F : Type 0} (s : Stage F) → is_over s ≡ true → is_live s ≡ false
-over-not-live Fresh h = absurd cc
+over-not-live (Fresh cut) h = absurd cc
 over-not-live (Waits own) h = absurd cc
 over-not-live Over h = refl
 over-not-live Spent h = refl
@@ -66,7 +66,7 @@ calls_none S e [] h = refl
 calls_none {F} S e (M ∷ Ms) h = by e.stage h ∙ ap (λ d. calls S d Ms) (takes_none S e M h).1 ∙ calls_none S e Ms h where
   by : (s : Stage F) → is_live s ≡ false →
       called S (record e { stage = s }) M ++ calls S (after S e M) Ms ≡ calls S (after S e M) Ms
-  by Fresh h = absurd cc
+  by (Fresh cut) h = absurd cc
   by (Waits own) h = absurd cc
   by Over h = refl
   by Spent h = refl

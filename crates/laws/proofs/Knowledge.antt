@@ -1,7 +1,8 @@
 -- What both sides of a talk learn: the difference of their sets, counted for one item x.
 -- It goes by induction over the messages that follow (`Learns`), with the sums of Tallies. From a message on, each side
 -- learns x once for each open range that has x and where x is in the one set alone; the hearer also learns what the
--- Answers of the message tell. The opening has one open range, which has x. So x is learned once if only one set has
+-- Answers of the message tell. The ranges of the opening do not overlap, and one of them
+-- has x. So x is learned once if only one set has
 -- it, and never otherwise.
 -- For soundness the same with at most in place of equal: a Sum that is wrongly taken for equal loses x and adds
 -- nothing.
@@ -11,18 +12,21 @@
 use Rattle.std.proofs.Common.{◌≡◌, ℕ, ◌+◌, Bool, true, false, not, List, [], ◌∷◌, ◌++◌, length, if◌then◌else◌, refl}
 use Rattle.std.proofs.Common.{sym, ap, ◌∙◌, arith, ◌<◌, zero, suc, ◌≤◌, take, get_or, slice_get, Some, subst}
 use Rattle.std.proofs.Common.{append_assoc}
-use Rattle.definitions.proofs.Words.{AllByRecursion, Item, contains, whole, IsSet, items_in, difference, Summary}
+use Rattle.definitions.proofs.Words.{AllByRecursion, Item, IsSet, difference, Summary}
 use Rattle.definitions.proofs.Words.{IsExact, Part, Sum, Listing, Answer, Message, has_open, opening, Peer, reply_to}
 use Rattle.definitions.proofs.Words.{reply, learn, talk_from, knows, of_first, IsClear, talk, sender}
 use Rattle.definitions.proofs.Words.{Knowledge, nothing, and_then, of_second, IsHonest, KnowledgeIsExact, ListsSome}
 use Rattle.definitions.proofs.Words.{KnowledgeIsSound}
 use Rattle.definitions.proofs.Lemmas.{lt-ltb, ltb-true, append-nil, All-both}
 use Rattle.laws.specs.Growing.{TalksGrow, is_even, answered, KnowledgeGrows}
-use Rattle.laws.proofs.Times.{when, times, times-append, ListsOnce-from_times, difference-IsSet, has-times}
+use Rattle.laws.proofs.Times.{times, times-append, ListsOnce-from_times, difference-IsSet, has-times}
 use Rattle.laws.proofs.Times.{times_le_one, IsDistinct-from_times}
 use Rattle.laws.proofs.PeerCuts.{spread-cutup, peer_cutup}
+use Rattle.laws.proofs.Openings.{opening_honest, opening_spread}
+use Rattle.definitions.proofs.Words.{opening_ranges}
 use Rattle.laws.proofs.Tallies.{tally, in_sum, in_open, marked, offered, tally-append, tally-in_open, tally-no_open}
-use Rattle.laws.proofs.Tallies.{learn-ours, learn-theirs, tally-in_open-sums, replies_are_honest, NoneWhereSame}
+use Rattle.laws.proofs.Tallies.{learn-ours, learn-theirs, tally-sums, tally-in_open-sums, replies_are_honest}
+use Rattle.laws.proofs.Tallies.{NoneWhereSame}
 use Rattle.laws.proofs.Tallies.{NoneWhereSame-difference, reply-marked, reply-offered, reply-in_open}
 
 -- ==== What both learn from a message on is the difference of their sets, once for each open range: counted for one
@@ -142,24 +146,19 @@ Learns-talk S x exact (suc k) P Q M own other honest ended clear =
     ] in
     either (has_open M) refl ended clear
 
-pub contains-whole : (x : Item) → contains whole x ≡ true
-contains-whole [] = refl
-contains-whole (b ∷ bs) = refl
-
-pub items_in-whole : (A : List Item) → items_in A whole ≡ A
-items_in-whole [] = refl
-items_in-whole (x ∷ xs) = ap (λ b. if b then x ∷ items_in xs whole else items_in xs whole) (contains-whole x)
-    ∙ ap (λ ys. x ∷ ys) (items_in-whole xs)
-
 -- What the opening teaches is all. Only the sets matter: the tables may be any.
 pub exact_knowledge : {F : Type 0} (S : Summary F) → KnowledgeIsExact S
 exact_knowledge S exact I R zero left right ended clear = absurd (omega arith)
 exact_knowledge S exact I R (suc k) left right ended clear =
-    let M = opening S I.items in
+    let M = opening S I in
     let learns : (x : Item) → Learns Exactly x I.items R.items M (following S I R M k) =
-    λ x. Learns-talk S x exact k I R M left right (ap S.of (sym (items_in-whole I.items)), tt) (omega arith) clear in
+    λ x. Learns-talk S x exact k I R M left right (opening_honest S I) (omega arith) clear in
     let all : (x : Item) (n : ℕ) → tally (in_open x n) M ≡ n =
-    λ x n. omega (arith, ap (λ b. when b n) (contains-whole x)) in (
+    λ x n. tally-in_open-sums S I.items x n (opening_ranges S I) ∙ opening_spread S I left x n in
+    let unmarked : (x : Item) → tally (marked x []) M ≡ 0 =
+    λ x. tally-sums S I.items (marked x []) (λ X. refl) (opening_ranges S I) in
+    let unoffered : (x : Item) → tally (offered x) M ≡ 0 =
+    λ x. tally-sums S I.items (offered x) (λ X. refl) (opening_ranges S I) in (
       record {
         ours =
             ListsOnce-from_times _ _ (difference-IsSet I.items R.items left) (λ x. (learns x).speaker_ours ∙ all x _);
@@ -168,9 +167,9 @@ exact_knowledge S exact I R (suc k) left right ended clear =
       },
       record {
         ours = ListsOnce-from_times _ _ (difference-IsSet R.items I.items right)
-            (λ x. omega (arith, (learns x).hearer_ours [], all x (times x (difference R.items I.items))));
+            (λ x. omega (arith, (learns x).hearer_ours [], unmarked x, all x (times x (difference R.items I.items))));
         theirs = ListsOnce-from_times _ _ (difference-IsSet I.items R.items left)
-            (λ x. omega (arith, (learns x).hearer_theirs [], all x (times x (difference I.items R.items))));
+            (λ x. omega (arith, (learns x).hearer_theirs [], unoffered x, all x (times x (difference I.items R.items))));
       },
     )
 
@@ -224,12 +223,16 @@ sound_knowledge S I R zero left right =
     λ A. record { once = IsDistinct-from_times [] (λ x. omega arith); among = λ x h. cc } in
     (record { ours = none _; theirs = none _ }, record { ours = none _; theirs = none _ })
 sound_knowledge S I R (suc k) left right =
-    let M = opening S I.items in
-    let Ms = talk_from S R I (reply S R M) k in
+    let M = opening S I in
+    let Ms = following S I R M k in
     let learns : (x : Item) → Learns AtMost x I.items R.items M Ms =
-    λ x. LearnsSome-talk S x k I R M left right (ap S.of (sym (items_in-whole I.items)), tt) in
+    λ x. LearnsSome-talk S x k I R M left right (opening_honest S I) in
     let all : (x : Item) (n : ℕ) → tally (in_open x n) M ≡ n =
-    λ x n. omega (arith, ap (λ b. when b n) (contains-whole x)) in (
+    λ x n. tally-in_open-sums S I.items x n (opening_ranges S I) ∙ opening_spread S I left x n in
+    let unmarked : (x : Item) → tally (marked x []) M ≡ 0 =
+    λ x. tally-sums S I.items (marked x []) (λ X. refl) (opening_ranges S I) in
+    let unoffered : (x : Item) → tally (offered x) M ≡ 0 =
+    λ x. tally-sums S I.items (offered x) (λ X. refl) (opening_ranges S I) in (
       record {
         ours = ListsSome-from_times _ _ (difference-IsSet I.items R.items left)
             (λ x. omega (arith, (learns x).speaker_ours, all x (times x (difference I.items R.items))));
@@ -238,9 +241,9 @@ sound_knowledge S I R (suc k) left right =
       },
       record {
         ours = ListsSome-from_times _ _ (difference-IsSet R.items I.items right)
-            (λ x. omega (arith, (learns x).hearer_ours [], all x (times x (difference R.items I.items))));
+            (λ x. omega (arith, (learns x).hearer_ours [], unmarked x, all x (times x (difference R.items I.items))));
         theirs = ListsSome-from_times _ _ (difference-IsSet I.items R.items left)
-            (λ x. omega (arith, (learns x).hearer_theirs [], all x (times x (difference I.items R.items))));
+            (λ x. omega (arith, (learns x).hearer_theirs [], unoffered x, all x (times x (difference I.items R.items))));
       },
     )
 
@@ -268,7 +271,7 @@ talks_grow S I R k M h =
     let one : k + 1 ≡ suc k = omega arith in
     let two : k + 2 ≡ suc (suc k) = omega arith in
     let there : slice_get (talk S I R (suc k)) k ≡ Some M = subst (λ n. slice_get (talk S I R n) k ≡ Some M) one h in
-    ap (talk S I R) two ∙ talk_from-grows S I R (opening S I.items) k M there
+    ap (talk S I R) two ∙ talk_from-grows S I R (opening S I) k M there
     ∙ (λ i. talk S I R (sym one i) ++ (if has_open M then reply S (sender I R (sym one i)) M ∷ [] else []))
 
 -- ---- knowledge

@@ -16,6 +16,8 @@ use Rattle.definitions.proofs.Words.{gained, heard, initiator, responder, is_liv
 use Rattle.definitions.proofs.Words.{takes}
 use Rattle.definitions.specs.Ends.{Answer}
 use Rattle.definitions.proofs.Lemmas.{append-nil, cond-true}
+use Rattle.laws.proofs.Openings.{sums_open}
+use Rattle.definitions.proofs.Words.{opening_ranges}
 use Rattle.laws.proofs.Opens.{learn-open}
 use Rattle.laws.proofs.Saying.{says_none, takes_none}
 
@@ -45,7 +47,7 @@ takes_no_more {F} S e (M ∷ Ms) over =
     ap (λ Ns. Ns ++ takes S (after S e M) Ms) (refused e.stage over)
     ∙ ap (λ d. takes S d Ms) (takes_none S e M over).1 ∙ takes_no_more S e Ms over where
       refused : (s : Stage F) → is_live s ≡ false → unless_refused M (answer S (record e { stage = s }) M) ≡ []
-      refused Fresh h = absurd cc
+      refused (Fresh cut) h = absurd cc
       refused (Waits own) h = absurd cc
       refused Over h = refl
       refused Spent h = refl
@@ -123,7 +125,8 @@ learns_by {F} S e own (M ∷ Ms) sent ok =
     heard_one S e own M Ms (is_live e.stage) refl sent later ok
 
 pub initiator_learns : {F : Type 0} (S : Summary F) → InitiatorLearns S
-initiator_learns S P Ms ok = learns_by S (initiator S P) (opening S P.items) Ms (λ live. refl) ok
+initiator_learns S P Ms ok = learns_by S (initiator S P) (opening S P) Ms
+    (λ live. sym (sums_open S P.items (opening_ranges S P))) ok
 
 pub responder_learns : {F : Type 0} (S : Summary F) → ResponderLearns S
-responder_learns S P Ms ok = learns_by S (responder P) [] Ms (λ live. refl) ok
+responder_learns S P Ms ok = learns_by S (responder S P) [] Ms (λ live. refl) ok

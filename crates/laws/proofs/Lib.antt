@@ -3,6 +3,7 @@ pub mod Cuts
 pub mod PeerCuts
 pub mod Pieces
 pub mod Placing
+pub mod Openings
 pub mod OpenRanges
 pub mod Saying
 pub mod Learned

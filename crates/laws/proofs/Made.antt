@@ -14,7 +14,8 @@ use Rattle.std.specs.Prelude.{flat_map, if◌then◌else◌, filter, map, IsTrue
 use Rattle.definitions.specs.Sets.{has, difference}
 use Rattle.definitions.proofs.Words.{w32, w128, to_be_bytes, from_be_bytes, AllByRecursion, option_or, IsBytes, Item}
 use Rattle.definitions.proofs.Words.{IsItem, Range, IsRange, contains, item_cmp, lanes_text, lanes_read}
-use Rattle.definitions.proofs.Words.{two_lane_profile, counted_profile, IsProfile, Profile, body, short_text}
+use Rattle.definitions.proofs.Words.{two_lane_profile, counted_profile, cutting_profile, IsProfile, Profile, body}
+use Rattle.definitions.proofs.Words.{short_text}
 use Rattle.definitions.proofs.Words.{range_text, count_text, items_text, mark_bytes, mark_bytes_for, marks_text}
 use Rattle.definitions.proofs.Words.{max_body, Part, rises_from, items_fault, body_fault, frame_length, item_order}
 use Rattle.definitions.proofs.Words.{item_outside, items_in}
@@ -62,6 +63,15 @@ counted_real = record {
       let b : lanes_text (lanes_read (drop 4 bytes)) ≡ drop 4 bytes = lanes_back (drop 4 bytes)
       (rest_fits bytes (take 4 bytes) (drop 4 bytes) whole fits) (let l = length-drop 4 bytes in omega arith) in
       (λ i. a i ++ b i) ∙ sym whole;
+}
+
+pub cutting_real : IsProfile cutting_profile
+cutting_real = record {
+  hello = refl;
+  hello_bytes = (omega arith, (omega arith, (omega arith, (omega arith, tt))));
+  size = counted_real.size;
+  small = counted_real.small;
+  back = counted_real.back;
 }
 
 -- ==== Items and parts that are made: no fault where they have a spelling

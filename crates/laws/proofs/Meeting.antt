@@ -124,24 +124,24 @@ module _ {F : Type 0} (S : Summary F) (W : Profile F) where
       let few : length I.items ≤ 65536 = omega (arith, i.ready.room, i.table.cap_upto) in
       let few' : length R.items ≤ 65536 = omega (arith, r.ready.room, r.table.cap_upto) in
       let said : As ≡ says S (initiating S I) Bs = heard-as-said law (initiating S I) first answered asked (
-        opening-spelled S W law.real law.spelled I.items,
+        opening-spelled S W law.real law.spelled I i.ready.set i.items few,
         answers-spelled S W law.real law.spelled I (initiator S I) Bs
             refl i.ready.set i.items few right',
       ) fits asked_is in
-      let said' : Bs ≡ says S (responding R) As = heard-as-said law (responding R) second asked answered
-      (answers-spelled S W law.real law.spelled R (responder R) As refl r.ready.set r.items few' right) fits'
+      let said' : Bs ≡ says S (responding S R) As = heard-as-said law (responding S R) second asked answered
+      (answers-spelled S W law.real law.spelled R (responder S R) As refl r.ready.set r.items few' right) fits'
       answered_is in
       let less = messages_are_few S I R f g k i.ready r.ready in
       let ends : length Ms < k = omega (arith, less, enough) in
-      let m = met S f g k (initiator S I) (responder R) (opening S I.items) As Bs
+      let m = met S f g k (initiator S I) (responder S R) (opening S I) As Bs
       (two_meet S I R f g law.exact i.ready r.ready few few') ends said said' in
       let own : says S (initiating S I) Bs ≡ of_first Ms = sym said ∙ m.first in
-      let own' : says S (responding R) As ≡ of_second Ms = sym said' ∙ m.second in
+      let own' : says S (responding S R) As ≡ of_second Ms = sym said' ∙ m.second in
       let turn = ends_talk S law.exact I R f g k i.ready r.ready few few' in
       let learned : (heard S (initiator S I) Bs).learned ≡ initiator_knows I.items Ms =
       ap (λ Ns. (heard S (initiator S I) Ns).learned) m.second ∙ turn.initiator_learned in
-      let learned' : (heard S (responder R) As).learned ≡ responder_knows R.items Ms =
-      ap (λ Ns. (heard S (responder R) Ns).learned) m.first ∙ turn.responder_learned in
+      let learned' : (heard S (responder S R) As).learned ≡ responder_knows R.items Ms =
+      ap (λ Ns. (heard S (responder S R) Ns).learned) m.first ∙ turn.responder_learned in
       let sound = sound_knowledge S I R k i.ready.set r.ready.set in
       record {
         initiator = record {
@@ -151,10 +151,10 @@ module _ {F : Type 0} (S : Summary F) (W : Profile F) where
           sent = omega (arith, answers-counted S (initiator S I) Bs, ap length own);
         };
         responder = record {
-          ended = (ended (heard S (responder R) As) _ _ (hearing_to S W (responding R) second asked)
-              (ap is_over m.hearer) (bytes_agree S W (responding R) second asked refl)).0;
+          ended = (ended (heard S (responder S R) As) _ _ (hearing_to S W (responding S R) second asked)
+              (ap is_over m.hearer) (bytes_agree S W (responding S R) second asked refl)).0;
           said = own';
-          sent = omega (arith, answers-counted S (responder R) As, ap length own');
+          sent = omega (arith, answers-counted S (responder S R) As, ap length own');
         };
         few = less;
         few_of_each = (

@@ -6,7 +6,8 @@
 -- induction of talks.
 -- docs/LAWS.md: An honest reply is placed; Open ranges do not overlap.
 use Rattle.std.proofs.Common.{◌≡◌, ℕ, Bool, true, false, not, List, [], ◌∷◌, ◌++◌, length, refl, sym, ap, inl, inr}
-use Rattle.std.proofs.Common.{arith, if◌then◌else◌, ◌<◌, subst, ◌∙◌, map, ◌≤◌, IsTrue, ◌⊎◌, Option, Some}
+use Rattle.std.proofs.Common.{arith, if◌then◌else◌, ◌<◌, subst, ◌∙◌, map, ◌≤◌, IsTrue, ◌⊎◌, Option, Some, None}
+use Rattle.definitions.proofs.Words.{IsSet, IsOpening, opening_ranges, whole}
 use Rattle.std.specs.Prelude.{IsFalse}
 use Rattle.definitions.proofs.Words.{AllByRecursion, Item, Range, cut_range, Rises, Apart, comes_before, is_below}
 use Rattle.definitions.proofs.Words.{ranges_between, has, items_in, difference, Part, Sum, Listing, Answer, Message}
@@ -20,6 +21,7 @@ use Rattle.definitions.proofs.Lemmas.{All-append}
 use Rattle.laws.proofs.Cuts.{span, CutsRise}
 use Rattle.laws.proofs.PeerCuts.{reply-rises, talk_from-All, length-items_in-le_all}
 use Rattle.laws.proofs.Placing.{false_from, chain_below, rises_append}
+use Rattle.laws.proofs.Openings.{sums-AreSums, sum_ranges, opening_cuts, opening_cuts-rise}
 
 -- ==== An honest reply is placed
 
@@ -27,10 +29,6 @@ use Rattle.laws.proofs.Placing.{false_from, chain_below, rises_append}
 not_listed : (xs listed : List Item) → AllByRecursion (λ x. IsFalse (has listed x)) (difference xs listed)
 not_listed xs listed =
     All-map _ _ (λ x e. not-true _ e) (difference xs listed) (All-filter (λ x. not (has listed x)) xs)
-
-sums-AreSums : {F : Type 0} (S : Summary F) (A : List Item) (Xs : List Range) → AreSums Xs (map (sum_of S A) Xs)
-sums-AreSums S A [] = tt
-sums-AreSums S A (X ∷ Xs) = (refl, sums-AreSums S A Xs)
 
 -- two shares or more have a cut
 some_cut : {X : Type 0} (g : ℕ → X) (sizes : List ℕ) → 2 ≤ length sizes → 0 < length (map g (inner_cuts 0 sizes))
@@ -129,7 +127,7 @@ ranges-after u x [] y rise h = (h, tt)
 ranges-after u x (c ∷ cs) y rise h =
     (h, ranges-after u c cs y rise.2 (false_from _ (λ e. false≢true (sym h ∙ below-trans x c u rise.0 e))))
 
-ranges-Apart : (x : List ℕ) (cs : List (List ℕ)) (y : Option (List ℕ)) → is_below x y ≡ true → CutsRise x cs y →
+pub ranges-Apart : (x : List ℕ) (cs : List (List ℕ)) (y : Option (List ℕ)) → is_below x y ≡ true → CutsRise x cs y →
     Apart (ranges_between x cs y)
 ranges-Apart x [] y h rise = (h, tt, tt)
 ranges-Apart x (c ∷ cs) y h rise =
@@ -231,7 +229,18 @@ pub replies_are_apart : {F : Type 0} (S : Summary F) → RepliesAreApart S
 replies_are_apart S P f M r a = placed_are_apart M (reply S P M) a (reply-rises S P f r M (open-rise M a))
     (replies_are_placed S P f M r.ranks r.room)
 
+-- ---- what a session opens with
+
+pub opening_apart : {F : Type 0} (S : Summary F) (P : Peer) → IsSet P.items → Apart (open_ranges (opening S P))
+opening_apart S P set = subst Apart (sym (sum_ranges S P.items (opening_ranges S P)))
+    (ranges-Apart [] (opening_cuts S P) None refl (opening_cuts-rise S P set))
+
+-- and what any first message opens, whose ranges rise
+pub opens_apart : {F : Type 0} (cut : Bool) (M : Message F) → RangesRise M → IsOpening cut M → Apart (open_ranges M)
+opens_apart cut M rise (cuts, one, sums) = subst Apart (sym (sums-open (cut_range whole cuts) M sums))
+    (ranges-Apart [] cuts None refl (sums-cuts [] cuts None M sums rise))
+
 pub talks_are_apart : {F : Type 0} (S : Summary F) → TalksAreApart S
 talks_are_apart S I R f g k i r =
     talk_from-All S (λ N. Apart (open_ranges N)) I R (λ M a. replies_are_apart S I f M i a)
-    (λ M a. replies_are_apart S R g M r a) (opening S I.items) k (refl, tt, tt)
+    (λ M a. replies_are_apart S R g M r a) (opening S I) k (opening_apart S I i.set)

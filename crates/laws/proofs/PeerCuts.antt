@@ -66,7 +66,7 @@ peer_cutup-AreCuts {P} {f} r X s =
     (omega (arith, descends.0)) (shares_by-positive (act P.table n) n)
 
 -- the bounds of a cut rise, whatever the table
-peer_cuts-rise : (P : Peer) (X : Range) → IsSet P.items → CutsRise X.lower (peer_cuts P X) X.upper
+pub peer_cuts-rise : (P : Peer) (X : Range) → IsSet P.items → CutsRise X.lower (peer_cuts P X) X.upper
 peer_cuts-rise P X set = by (shares P.table count) (sum-shares_by (act P.table count) count)
     (shares_by-positive (act P.table count) count) where
       count : ℕ

@@ -18,7 +18,7 @@ use Rattle.definitions.proofs.Words.{opening_fault, Follows, misplaced, stall, g
 use Rattle.definitions.proofs.Words.{answer_repeats, OpeningIsExact, PlacingIsExact}
 use Rattle.definitions.proofs.Lemmas.{none_passes, list_any-none, not-false, eqb-true, and_parts, eq-eqb, false≢true}
 use Rattle.definitions.proofs.Lemmas.{and_from, same_range-eq, same_item-itself, same_range-itself, below-trans}
-use Rattle.definitions.proofs.Lemmas.{before-irrefl}
+use Rattle.definitions.proofs.Lemmas.{before-irrefl, append-nil}
 
 -- ==== What the placing accepts part by part is placed
 
@@ -154,23 +154,32 @@ Placed-from_accepted sent M h = (both_sides M).0 (open_parts sent) h
 
 -- ---- a first message
 
-opening-whole : {F : Type 0} (X : Range) (f : F) → same_range X whole ≡ true → IsOpening (Sum X f ∷ [])
-opening-whole X f e = (f, ap (λ Y. Sum Y f ∷ []) (same_range-eq X whole e))
+-- what goes on from everything to the end partitions it
+opens : {F : Type 0} (M : Message F) → GoesOn [] whole M → (cuts : List (List ℕ)) × AreSums (cut_range whole cuts) M
+opens {F} M (cuts, front, rest, is, sums, none) = (
+  cuts,
+  subst (AreSums (cut_range whole cuts)) (sym (is ∙ ap (λ ps. front ++ ps) none ∙ append-nil front)) sums,
+)
 
-opening-accepted : {F : Type 0} (M : Message F) → opening_fault M ≡ None → IsOpening M
-opening-accepted [] h = absurd cc
-opening-accepted (Listing X items ∷ M) h = absurd (refused misplaced M h)
-opening-accepted (Answer X marks items ∷ M) h = absurd (refused misplaced M h)
-opening-accepted {F} (Sum X f ∷ []) h = grind (arith, if-cases, opening-whole, refused)
-opening-accepted (Sum X f ∷ p ∷ M) h =
-    if-cases (Accepts (p ∷ M)) _ (same_range X whole) (After [] None) (Refused misplaced)
-    (λ _ more. absurd (refused misplaced M more)) (λ _ no. absurd (refused misplaced (p ∷ M) no)) h
-
-accepted-opening : {F : Type 0} (M : Message F) → IsOpening M → opening_fault M ≡ None
-accepted-opening M (f, is) = ap opening_fault is
-
-pub opening_exact : {F : Type 0} → OpeningIsExact F
-opening_exact M = (opening-accepted M, accepted-opening M)
+pub opening-accepted : {F : Type 0} (cut : Bool) (M : Message F) → opening_fault cut M ≡ None → IsOpening cut M
+opening-accepted cut [] h = absurd cc
+opening-accepted cut (Listing X items ∷ M) h = absurd (refused misplaced M h)
+opening-accepted cut (Answer X marks items ∷ M) h = absurd (refused misplaced M h)
+opening-accepted cut (Sum Y f ∷ M) h =
+    if-cases (Accepts M) _ (same_range Y whole) _ _
+    (λ e one. (
+      [],
+      λ may. refl,
+      subst (λ N. AreSums (whole ∷ []) (Sum Y f ∷ N)) (sym ((both_sides M).0 [] one)) (same_range-eq Y whole e, tt),
+    ))
+    (λ _. if-cases (Accepts M) _ (cut && same_item Y.lower whole.lower && ends_before Y.upper whole.upper) _ _
+    (λ e more.
+    let both = and_parts _ _ e in
+    let parts = and_parts _ _ both.0 in
+    let partition = opens (Sum Y f ∷ M) (one_more M [] whole Y f (same_text Y.lower [] (sym parts.1))
+    (comes_to M (both_sides M).1 [] Y.upper None both.1 more)) in
+    (partition.0, λ may. absurd (false≢true (sym may ∙ parts.0)), partition.1))
+    (λ _ no. absurd (refused misplaced M no))) h
 
 -- ==== What is placed is accepted part by part
 
@@ -222,6 +231,41 @@ inside_accepted left z (cut ∷ cuts) y (Sum Y f ∷ ps) rest h r a =
     (inside_accepted left cut cuts y ps rest h.1 r.1 a))
 inside_accepted left z (cut ∷ cuts) y (Listing Y items ∷ ps) rest h r a = absurd h
 inside_accepted left z (cut ∷ cuts) y (Answer Y marks items ∷ ps) rest h r a = absurd h
+
+-- ---- a first message
+
+-- the parts after the first
+parts_accepted : {F : Type 0} (z : List ℕ) (cuts : List (List ℕ)) (ps : Message F) →
+    AreSums (ranges_between z cuts None) ps → Accepts ps (After [] (Some (record { lower = z; upper = None })))
+parts_accepted z [] [] h = absurd h
+parts_accepted z [] (Sum Y f ∷ []) h = search rules
+parts_accepted z [] (Sum Y f ∷ p ∷ ps) h = absurd h.1
+parts_accepted z [] (Listing Y items ∷ ps) h = absurd h
+parts_accepted z [] (Answer Y marks items ∷ ps) h = absurd h
+parts_accepted z (cut ∷ cuts) [] h = absurd h
+parts_accepted z (cut ∷ cuts) (Sum Y f ∷ ps) h =
+    subst (λ (Z : Range). Accepts ps (next (After [] (Some (record { lower = z; upper = None }))) (Sum Z f))) (sym h.0)
+    (subst (Accepts ps) (sym (next_inside-more [] (record { lower = z; upper = None }) cut f refl))
+    (parts_accepted cut cuts ps h.1))
+parts_accepted z (cut ∷ cuts) (Listing Y items ∷ ps) h = absurd h
+parts_accepted z (cut ∷ cuts) (Answer Y marks items ∷ ps) h = absurd h
+
+pub accepted-opening : {F : Type 0} (cut : Bool) (M : Message F) → IsOpening cut M → opening_fault cut M ≡ None
+accepted-opening cut [] ([], one, sums) = absurd sums
+accepted-opening cut [] (c ∷ cs, one, sums) = absurd sums
+accepted-opening cut (Listing Y items ∷ M) ([], one, sums) = absurd sums
+accepted-opening cut (Listing Y items ∷ M) (c ∷ cs, one, sums) = absurd sums
+accepted-opening cut (Answer Y marks items ∷ M) ([], one, sums) = absurd sums
+accepted-opening cut (Answer Y marks items ∷ M) (c ∷ cs, one, sums) = absurd sums
+accepted-opening cut (Sum Y f ∷ p ∷ M) ([], one, sums) = absurd sums.1
+accepted-opening cut (Sum Y f ∷ []) ([], one, sums) =
+    subst (λ (Z : Range). opening_fault cut (Sum Z f ∷ []) ≡ None) (sym sums.0) refl
+accepted-opening false (Sum Y f ∷ M) (c ∷ cs, one, sums) = let no : c ∷ cs ≡ [] = one refl in absurd cc
+accepted-opening true (Sum Y f ∷ M) (c ∷ cs, one, sums) =
+    subst (λ (Z : Range). opening_fault true (Sum Z f ∷ M) ≡ None) (sym sums.0) (parts_accepted c cs M sums.1)
+
+pub opening_exact : {F : Type 0} → OpeningIsExact F
+opening_exact cut M = (opening-accepted cut M, accepted-opening cut M)
 
 -- the first Sum of a partition of X
 next_sum-first : {F : Type 0} (left : Message F) (X : Range) (cut : List ℕ) (f g : F) → is_below cut X.upper ≡ true →

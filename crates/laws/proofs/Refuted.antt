@@ -10,7 +10,8 @@ use Rattle.std.proofs.Common.{◌≡◌, true, ap, ℕ, ◌≤◌, false, List, 
 use Rattle.std.specs.Prelude.{◌==◌}
 use Rattle.std.specs.List.Sorted.{IsStrictlySortedBy}
 use Rattle.definitions.proofs.Words.{IsNonDecreasing, IsExact, Lanes, same_lanes, two_lanes, counted_lanes, whole}
-use Rattle.definitions.proofs.Words.{IsSet, Sum, Message, Table, List_items, Split, At_items, list_only, Descends}
+use Rattle.definitions.proofs.Words.{IsSet, Sum, Message, Table, List_items, Split, At_items, Open_sum, list_only}
+use Rattle.definitions.proofs.Words.{Descends}
 use Rattle.definitions.proofs.Words.{Accepted, Peer, Ready}
 use Rattle.definitions.proofs.Lemmas.{eq-eqb, and_from, false≢true}
 use Rattle.laws.specs.Weaker.{InitiatorStopsAnyhow, ResponderStopsAnyhow, ListsAreShortAnyhow, KnowledgeIsExactAnyhow}
@@ -43,6 +44,7 @@ halves = record {
   rounds = 1;
   rows = record { upto = 1; act = List_items } ∷ record { upto = 2; act = Split (1 ∷ 1 ∷ []) } ∷ [];
   bounds = At_items;
+  opening = Open_sum;
 }
 
 abbrev pair : Peer
@@ -90,7 +92,7 @@ responder_needs_ranges h =
 -- ---- rows that end below the cap
 
 abbrev no_rows : Table
-no_rows = record { cap = 1; limit = 0; rounds = 0; rows = []; bounds = At_items }
+no_rows = record { cap = 1; limit = 0; rounds = 0; rows = []; bounds = At_items; opening = Open_sum }
 
 no_rows-Descends : (n : ℕ) → n ≤ 1 → Descends no_rows (0 ∷ 0 ∷ []) n
 no_rows-Descends n h s = absurd (false≢true s)

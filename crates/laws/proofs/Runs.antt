@@ -29,6 +29,8 @@ use Rattle.definitions.proofs.Lemmas.{get_or-set_same, get_or_past, get_or-set_o
 use Rattle.definitions.proofs.Lemmas.{list_any-append, list_any_at, bytes_eq-Decides, get_or_from_slice_get, All-map}
 use Rattle.definitions.proofs.Lemmas.{All-append, All-at, same_item-itself}
 use Rattle.laws.proofs.Checks.{ranks_by-at}
+use Rattle.laws.proofs.Openings.{opened_is}
+use Rattle.definitions.proofs.Words.{opened_of}
 use Rattle.laws.proofs.Times.{set_of-IsSet, has-filter, has-set_of}
 use Rattle.laws.proofs.Knowledge.{exact_knowledge, sound_knowledge}
 use Rattle.laws.proofs.Ends.{messages_are_few, lists_are_short}
@@ -222,14 +224,16 @@ rank-kept count w n v s h = sym (ranks_by-at (node_at w n).steps (node_at w n).t
     (peer_at-room count w n v s h))
 
 kept_bound : {F : Type 0} (S : Summary F) (count : ℕ) (w : World) (t : Session) → IsSteady count w → IsAmong count t →
-    length (messages S w t) ≤ message_bound (rank_of (node_at w t.initiator_node).steps (initiator_of w t))
+    length (messages S w t) ≤ message_bound
+    (opened_of S (node_at w t.initiator_node).steps (initiator_of w t))
     (rank_of (node_at w t.responder_node).steps (responder_of w t))
 kept_bound S count w t s a =
     let i = node_at-IsNode count w t.initiator_node s a.initiator in
     let r = node_at-IsNode count w t.responder_node s a.responder in
     omega (
       arith,
-      rank-kept count w t.initiator_node t.initiator_version s a.initiator,
+      opened_is S (node_at w t.initiator_node).steps (initiator_of w t)
+          (peer_at-Ready count w t.initiator_node t.initiator_version _ s a.initiator i.serves.ranks),
       rank-kept count w t.responder_node (unwrap_or t.responder_version 0) s a.responder,
       messages_are_few S (initiator_of w t) (responder_of w t) _ _ (t.delivered + 1)
           (peer_at-Ready count w t.initiator_node t.initiator_version _ s a.initiator i.serves.ranks)

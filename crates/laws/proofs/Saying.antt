@@ -46,7 +46,7 @@ pub takes_none : {F : Type 0} (S : Summary F) (e : End F) (M : Message F) → is
 takes_none {F} S e M h = by e.stage h where
   by : (s : Stage F) → is_live s ≡ false → (replied (answer S (record e { stage = s }) M) ≡ [])
       × (after S (record e { stage = s }) M ≡ record e { stage = s })
-  by Fresh h = absurd cc
+  by (Fresh cut) h = absurd cc
   by (Waits own) h = absurd cc
   by Over h = (refl, refl)
   by Spent h = (refl, refl)

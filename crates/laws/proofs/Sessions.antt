@@ -12,7 +12,7 @@ use Rattle.std.proofs.Common.{◌≡◌, ℕ, zero, suc, ◌+◌, ◌<◌, ◌�
 use Rattle.std.proofs.Common.{slice_get, Option, Some, None, unwrap_or, if◌then◌else◌, refl, sym, ap, ◌∙◌, arith}
 use Rattle.std.specs.Prelude.{IfSome, ◌==◌}
 use Rattle.definitions.proofs.Words.{AllByRecursion, of_first, of_second, Summary, IsExact, Message, has_open, Peer}
-use Rattle.definitions.proofs.Words.{reply, sender, talk, Ready, End, Ends, Replies, after, answer, initiator}
+use Rattle.definitions.proofs.Words.{opening, reply, sender, talk, Ready, End, Ends, Replies, after, answer, initiator}
 use Rattle.definitions.proofs.Words.{initiator_at, responder, responder_at, IsNode, World, Session, node_at, peer_at}
 use Rattle.definitions.proofs.Words.{initiator_of, responder_of, messages, has_ended, most_parts, no_node, ranks_by}
 use Rattle.definitions.specs.Worlds.{after_delivery}
@@ -29,6 +29,11 @@ use Rattle.laws.proofs.Few.{most_parts-append}
 
 -- ==== A session that is opened
 
+-- the most parts of one message
+alone : {F : Type 0} (M : Message F) (b : Bool) → length M ≡ most_parts (M ∷ (if b then [] else []))
+alone M true = omega arith
+alone M false = omega arith
+
 pub sessions_open : {F : Type 0} (S : Summary F) → SessionsOpen S
 sessions_open S w i r here there = record {
   initiator_there = here;
@@ -39,7 +44,8 @@ sessions_open S w i r here there = record {
   initiator = refl;
   responder = refl;
   last = λ e. refl;
-  parts = refl;
+  parts = alone (opening S (peer_at w i (length (node_at w i).history)))
+      (has_open (opening S (peer_at w i (length (node_at w i).history))));
 }
 
 -- ==== The two peers of a session are ready
@@ -81,7 +87,7 @@ record Holds {F : Type 0} (S : Summary F) (I R : Peer) (d : ℕ) (k : Kept F) (e
 
 abbrev HoldsNow : {F : Type 0} → Summary F → World → Session → Kept F → Type 0
 HoldsNow S w s k = Keeps S w s k → has_ended S w s ≡ false →
-    Holds S (initiator_of w s) (responder_of w (after_delivery w s)) s.delivered k (responder_now w s k)
+    Holds S (initiator_of w s) (responder_of w (after_delivery w s)) s.delivered k (responder_now S w s k)
 
 is_some : {X : Type 0} (o : Option X) (x y : X) → o ≡ Some x → unwrap_or o y ≡ x
 is_some o x y e = ap (λ o. unwrap_or o y) e
@@ -95,7 +101,7 @@ holds_by : {F : Type 0} (S : Summary F) (w : World) (i r v : ℕ) (o : Option �
       delivered = d;
     } k
 holds_by S w i r v (Some u) d k h going =
-    let same = is_some k.responder _ (responder (peer_at w r (length (node_at w r).history))) h.responder in
+    let same = is_some k.responder _ (responder S (peer_at w r (length (node_at w r).history))) h.responder in
     record {
       initiator = h.initiator;
       responder = same;
@@ -105,7 +111,7 @@ holds_by S w i r v (Some u) d k h going =
     }
 holds_by S w i r v None zero k h going = record {
   initiator = h.initiator;
-  responder = ap (λ o. unwrap_or o (responder (peer_at w r (length (node_at w r).history)))) h.responder;
+  responder = ap (λ o. unwrap_or o (responder S (peer_at w r (length (node_at w r).history)))) h.responder;
   begun = λ odd. absurd cc;
   last = h.last going;
   parts = h.parts;
@@ -131,7 +137,7 @@ pub initiator_peer : {F : Type 0} (S : Summary F) (I R : Peer) (d : ℕ) → (in
 initiator_peer S I R d = ends_keep_peers S (initiator S I) (of_second (talk S I R d))
 
 pub responder_peer : {F : Type 0} (S : Summary F) (I R : Peer) (d : ℕ) → (responder_at S I R d).peer ≡ R
-responder_peer S I R d = ends_keep_peers S (responder R) (of_first (talk S I R d))
+responder_peer S I R d = ends_keep_peers S (responder S R) (of_first (talk S I R d))
 
 -- the end that hears the message made last is the one of the talk, and answers it
 held_hearer : {F : Type 0} {S : Summary F} {I R : Peer} {d : ℕ} {k : Kept F} {e : End F} → Holds S I R d k e →
@@ -297,7 +303,7 @@ sessions_go_on {F} S exact w s k nodes h going =
       replied = λ N e.
           let by = replies_if (has_open k.last) (reply S (sender I R (d + 1)) k.last) N
           (sym said ∙ ap (λ c. answer S c k.last) (sym hearer) ∙ e) in (
-            keeps_next S w s k (kept_after s k (after S (hearer_now w s k) k.last) N (max k.parts (length N))) N
+            keeps_next S w s k (kept_after s k (after S (hearer_now S w s k) k.last) N (max k.parts (length N))) N
                 (max k.parts (length N)) h (held_after held N (max k.parts (length N)))
                 (λ on. next.more by.0 ∙ ap Some by.1)
                 (ap (λ n. max n (length N)) held.parts
@@ -308,7 +314,7 @@ sessions_go_on {F} S exact w s k nodes h going =
           let by = ends_if (has_open k.last) (reply S (sender I R (d + 1)) k.last)
           (sym said ∙ ap (λ c. answer S c k.last) (sym hearer) ∙ e) in
           let over = next.over by in (
-            keeps_next S w s k (kept_after s k (after S (hearer_now w s k) k.last) k.last k.parts) k.last k.parts h
+            keeps_next S w s k (kept_after s k (after S (hearer_now S w s k) k.last) k.last k.parts) k.last k.parts h
                 (held_after held k.last k.parts) (λ on. absurd cc)
                 (held.parts ∙ sym (next.same by)),
             over,

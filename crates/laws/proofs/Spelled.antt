@@ -8,7 +8,7 @@ use Rattle.std.proofs.Common.{Option, Some, None, get_or, map, sum, refl, sym, s
 use Rattle.definitions.proofs.Words.{AllByRecursion, Item, IsItem, IsBytes, IsLower, IsUpper, IsRange, Range, Rises}
 use Rattle.definitions.proofs.Words.{whole}
 use Rattle.definitions.proofs.Words.{ranges_between, separator, IsSet, items_in, inner_cuts, bound_at, Bounds, At_items}
-use Rattle.definitions.proofs.Words.{Short, act, shares, Summary, Message, has_open, opening}
+use Rattle.definitions.proofs.Words.{Short, act, shares, Summary, Message, has_open, opening, opening_ranges}
 use Rattle.definitions.proofs.Words.{Peer, sum_of, reply, Profile, IsProfile, IsPart, IsMessage, range_text}
 use Rattle.definitions.proofs.Words.{max_parts, AreParts, End, Ends, Replies, Refuses, after, answer, answer_unless}
 use Rattle.definitions.proofs.Words.{answers, replied, stage_fault, is_sendable, reply_or_refuse, too_many_parts}
@@ -19,6 +19,8 @@ use Rattle.laws.proofs.Tables.{sum-shares_by, shares_by-positive}
 use Rattle.laws.proofs.PeerCuts.{peer_cuts, peer_cutup, peer_cutup-rises, All-into_map, reply-each}
 use Rattle.laws.proofs.Made.{All-kept, length-range_text, sets_fit_lem, answers_fit_lem}
 use Rattle.laws.proofs.Saying.{after-peer}
+use Rattle.laws.proofs.Openings.{opening_by}
+use Rattle.laws.proofs.Few.{opening_fits}
 use Rattle.definitions.proofs.Words.{contains}
 
 -- ---- bounds of a cut
@@ -106,26 +108,22 @@ module _ {F : Type 0} (S : Summary F) (W : Profile F) (real : IsProfile W)
             (arith, is.0, real.small, length-range_text X range, length-append (range_text X) (W.text f));
       }
 
-  pub opening-spelled : (A : List Item) → IsMessage W (opening S A)
-  opening-spelled A =
-      let fields : IsRange whole × IsFingerprint W (S.of A) = (
-        record {
-          lower = record { not_long = omega arith; bytes = tt };
-          upper = tt;
-          rises = refl;
-        },
-        spelled A,
-      ) in
-      record {
-        count = omega arith;
-        parts = (
-          record {
-            fields = fields;
-            short = omega (arith, fields.1.0, real.small, length-append (range_text whole) (W.text (S.of A)));
-          },
-          tt,
-        );
-      }
+  -- a cut of everything, or everything
+  opening-ranges : (P : Peer) → IsSet P.items → AllByRecursion IsItem P.items →
+      AllByRecursion IsRange (opening_ranges S P)
+  opening-ranges P set each = opening_by S P (λ cuts. AllByRecursion IsRange (ranges_between [] cuts None))
+      (cutup-ranges P whole set each all) (all, tt) where
+        all : IsRange whole
+        all = record { lower = record { not_long = omega arith; bytes = tt }; upper = tt; rises = refl }
+
+  pub opening-spelled : (P : Peer) → IsSet P.items → AllByRecursion IsItem P.items → length P.items ≤ 65536 →
+      IsMessage W (opening S P)
+  opening-spelled P set each few = record {
+    count = omega (arith, opening_fits S P);
+    parts = All-into_map (IsPart W) (sum_of S P.items) (opening_ranges S P)
+        (All-map IsRange (λ Y. IsPart W (sum_of S P.items Y)) (sum-spelled P.items) (opening_ranges S P)
+        (opening-ranges P set each));
+  }
 
   reply-spelled : (P : Peer) (M : Message F) → IsSet P.items → AllByRecursion IsItem P.items →
       length P.items ≤ 65536 → AreParts W M → AreParts W (reply S P M)

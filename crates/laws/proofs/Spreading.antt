@@ -6,15 +6,16 @@
 -- Where each node reaches each one, all have what any had; and nobody has more, since an item of a history was in some
 -- history before, or was inserted.
 -- docs/LAWS.md: Spread.
-use Rattle.std.proofs.Common.{◌≡◌, ℕ, zero, suc, ◌<◌, ◌≤◌, ◌⊎◌, inl, inr, true, false, List, [], ◌∷◌, ◌++◌}
+use Rattle.std.proofs.Common.{◌≡◌, ℕ, zero, suc, ◌+◌, ◌<◌, ◌≤◌, ◌⊎◌, inl, inr, true, false, List, [], ◌∷◌, ◌++◌}
 use Rattle.std.proofs.Common.{length, set, take, slice_get, Option, Some, None, unwrap_or, refl, sym, ap, subst}
 use Rattle.std.proofs.Common.{◌∙◌, arith, ◌||◌}
 use Rattle.std.specs.Prelude.{IfSome, flat_map, ◌==◌}
 use Rattle.std.proofs.lemmas.List.{take-take}
+use Rattle.std.proofs.lemmas.Bool.{eqb-true}
 use Rattle.definitions.proofs.Words.{Item, Summary, IsExact, History, content, items_of, version, World, Session, Node}
 use Rattle.definitions.proofs.Words.{Side, Initiator, Responder, Step, node_at, no_node, peer_at, has, has_ended, step}
 use Rattle.definitions.proofs.Words.{run, insert_at, absorb_at, absorb_side, list_any, inserts, initiator_of}
-use Rattle.definitions.proofs.Words.{responder_of}
+use Rattle.definitions.proofs.Words.{responder_of, Message, opening, talk_from}
 use Rattle.definitions.specs.Worlds.{Did, Insert, Open, Deliver, Absorb, open_at, deliver_at, after_delivery}
 use Rattle.definitions.proofs.Lemmas.{cond_both, fold-append, cases_lt, get_or_from_slice_get, get_or_past, or_left}
 use Rattle.definitions.proofs.Lemmas.{or_right}
@@ -170,7 +171,13 @@ has-later w v n u x g late here =
 
 -- an ended session has a version of the responder's
 heard : {F : Type 0} (S : Summary F) (v : World) (s : Session) → has_ended S v s ≡ true → s.delivered ≡ 0 → ⊥
-heard S v s ended none = absurd cc
+heard {F} S v s ended none = by (opening S (initiator_of v s)) s.delivered ended none where
+  by : (M : Message F) (d : ℕ) → (length (talk_from S (initiator_of v s) (responder_of v s) M (d + 1)) == d) ≡ true →
+      d ≡ 0 → ⊥
+  by M zero ended none =
+      absurd (omega
+      (arith, eqb-true (length (talk_from S (initiator_of v s) (responder_of v s) M 1)) 0 ended))
+  by M (suc d) ended none = absurd cc
 
 -- the item is in the version of the side that has it
 said : {F : Type 0} (S : Summary F) (w v : World) (s : Session) (side : Side) (x : Item) → Follows w v → IsLater w s →

@@ -4,7 +4,8 @@
 -- message that waits are under n in its set, or it takes no more. A message that is refused ends this. One that is
 -- placed has only open parts under n (Ends), so if it has an open part, n is above 0, and the reply's Sums are under n
 -- - 1: the end may reply n - 1 times after it. By induction over the messages an end replies at most n times in all.
--- An initiator of rank i may reply i + 1 times after its opening, a responder of rank r as often as r + 1.
+-- An initiator that opens ranges of rank p at most may reply p + 1 times after its opening, a responder of rank r as
+-- often as r + 1.
 -- The count is made of all that is called for: it never asks whether the last reply may be sent. No more is said.
 -- docs/LAWS.md: An end stops; What is called for is little (its number).
 use Rattle.std.proofs.Common.{◌≡◌, ℕ, ◌+◌, ◌-◌, ◌≤◌, ◌∙◌, Bool, true, false, List, [], ◌∷◌, length, Option, Some, None}
@@ -23,12 +24,14 @@ use Rattle.laws.proofs.PeerCuts.{SumsUnder, IsSumUnder}
 use Rattle.laws.proofs.Opens.{All-open}
 use Rattle.definitions.specs.Messages.{open_parts}
 use Rattle.laws.proofs.Saying.{after-peer}
-use Rattle.laws.proofs.Ends.{whole-IsUnder, IsOpenUnder, placed-OpenUnder, opening-OpenUnder, has_open-under}
+use Rattle.laws.proofs.Openings.{opening_under}
+use Rattle.definitions.proofs.Words.{opened}
+use Rattle.laws.proofs.Ends.{IsOpenUnder, placed-OpenUnder, opening-OpenUnder, has_open-under}
 use Rattle.laws.proofs.Ends.{reply-under}
 
 -- an end at this stage may still reply so often
 abbrev MayReply : {F : Type 0} → Peer → List ℕ → ℕ → Stage F → Type 0
-MayReply P f n Fresh = rank f P + 1 ≤ n
+MayReply P f n (Fresh cut) = rank f P + 1 ≤ n
 MayReply P f n (Waits own) = SumsUnder f P.items n own
 MayReply P f n Over = ⊤
 MayReply P f n Spent = ⊤
@@ -64,12 +67,12 @@ called-few : {F : Type 0} (S : Summary F) (f : List ℕ) (n : ℕ) (e : End F) (
 called-few {F} S f n e M r rises h = by e.stage h where
   by : (s : Stage F) → MayReply e.peer f n s → (k : ℕ) × (length (called S (record e { stage = s }) M) + k ≤ n)
       × MayReply e.peer f k (after S (record e { stage = s }) M).stage
-  by Fresh h = fault (opening_fault M) refl where
-    fault : (o : Option ℕ) → opening_fault M ≡ o → MayCallAfter S f n (record e { stage = Fresh }) M o
+  by (Fresh cut) h = fault (opening_fault cut M) refl where
+    fault : (o : Option ℕ) → opening_fault cut M ≡ o → MayCallAfter S f n (record e { stage = Fresh cut }) M o
     fault (Some code) p = (0, omega arith, tt)
     fault None p =
         let (k, few, more) =
-        called-after S f (rank f e.peer + 1) (record e { stage = Fresh }) M r (opening-OpenUnder r M p) in
+        called-after S f (rank f e.peer + 1) (record e { stage = Fresh cut }) M r (opening-OpenUnder r cut M p) in
         (k, omega (arith, few, h), more)
   by (Waits own) h = fault (place_fault own M) refl where
     fault : (o : Option ℕ) → place_fault own M ≡ o → MayCallAfter S f n (record e { stage = Waits own }) M o
@@ -91,8 +94,8 @@ calls-few S P f n e (M ∷ Ms) r rise is h =
 
 pub own_is_few : {F : Type 0} (S : Summary F) → OwnIsFew S
 own_is_few S P f Ms r rise = (
-  omega (arith, calls-few S P f (rank f P + 1) (initiator S P) Ms r rise refl (whole-IsUnder r, tt)),
-  calls-few S P f (rank f P + 1) (responder P) Ms r rise refl (omega arith),
+  omega (arith, calls-few S P f (opened S f P + 1) (initiator S P) Ms r rise refl (opening_under S P f)),
+  calls-few S P f (rank f P + 1) (responder S P) Ms r rise refl (omega arith),
 )
 
 -- ---- no more is said than is called for
@@ -125,4 +128,4 @@ initiator_stops S P f Ms r rise =
 
 pub responder_stops : {F : Type 0} (S : Summary F) → ResponderStops S
 responder_stops S P f Ms r rise =
-    omega (arith, (own_is_few S P f Ms r rise).1, answers-fewer S (responder P) Ms)
+    omega (arith, (own_is_few S P f Ms r rise).1, answers-fewer S (responder S P) Ms)

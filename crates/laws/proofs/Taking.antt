@@ -87,12 +87,12 @@ stays-refused code [] = refl
 stays-refused code (p ∷ M) = stays-refused code M
 
 pub refused-place : {F : Type 0} (x : Place F) (code : ℕ) → refusal x ≡ Some code → x ≡ Refused code
-refused-place First code e = absurd cc
+refused-place (First cut) code e = absurd cc
 refused-place (After left inside) code e = absurd cc
 refused-place (Refused n) code e = let same : n ≡ code = cc in ap Refused same
 
 pub fault-taken : {F : Type 0} (s : Stage F) (M : Message F) → finish (fold next (place_of s) M) ≡ stage_fault s M
-fault-taken Fresh M = refl
+fault-taken (Fresh cut) M = refl
 fault-taken (Waits own) M = refl
 fault-taken Over M = ap finish (stays-refused _ M)
 fault-taken Spent M = ap finish (stays-refused _ M)

@@ -121,7 +121,7 @@ learn-theirs S x A B sent (p ∷ ps) (here, rest) =
 
 -- ---- what a reply is made of
 
-tally-sums : {F : Type 0} (S : Summary F) (A : List Item) (g : Part F → ℕ) → ((X : Range) → g (sum_of S A X) ≡ 0) →
+pub tally-sums : {F : Type 0} (S : Summary F) (A : List Item) (g : Part F → ℕ) → ((X : Range) → g (sum_of S A X) ≡ 0) →
     (Xs : List Range) → tally g (map (sum_of S A) Xs) ≡ 0
 tally-sums S A g none [] = refl
 tally-sums S A g none (X ∷ Xs) = omega (arith, none X, tally-sums S A g none Xs)

@@ -33,7 +33,7 @@ over e = is_over e.stage
 not_refused : {F : Type 0} (S : Summary F) (P : Peer) (s : Stage F) (n : ℕ) (b : Bool) (M N : Message F) (l : _) →
     answer S record { peer = P; stage = s; sent = n; learned = l } M ≡ (if b then Replies N else Ends) →
     (is_over s ≡ false) × (is_live s ≡ true)
-not_refused S P Fresh n b M N l e = (refl, refl)
+not_refused S P (Fresh cut) n b M N l e = (refl, refl)
 not_refused S P (Waits own) n b M N l e = (refl, refl)
 not_refused S P Over n true M N l e = absurd cc
 not_refused S P Over n false M N l e = absurd cc

@@ -19,8 +19,9 @@ use Rattle.definitions.proofs.Lemmas.{le-leb, take_all, All-map}
 use Rattle.laws.specs.Growing.{is_even}
 use Rattle.laws.specs.Turns.{TalksBegin, TalksGoOn, EndsHear, EndsTalk}
 use Rattle.laws.proofs.PeerCuts.{reply-rises}
-use Rattle.laws.proofs.Placing.{placing_is_exact}
-use Rattle.laws.proofs.OpenRanges.{replies_are_placed, replies_are_apart, open-rise}
+use Rattle.laws.proofs.Placing.{placing_is_exact, opening_exact}
+use Rattle.laws.proofs.Openings.{opening_waits, opening_is}
+use Rattle.laws.proofs.OpenRanges.{replies_are_placed, replies_are_apart, open-rise, opening_apart}
 use Rattle.laws.proofs.Knowledge.{some_is, then_nothing, then_then, of_first-cons, begun-cons, heard-cons, turned}
 use Rattle.laws.proofs.Few.{messages_fit}
 use Rattle.laws.proofs.Saying.{ends_hear_on}
@@ -36,7 +37,7 @@ talk_from-begins S P Q M (suc k) zero h = absurd (omega arith)
 talk_from-begins S P Q M (suc k) (suc n) h = grind (arith, talk_from-begins S Q P (reply S Q M) k n, take_all)
 
 pub talks_begin : {F : Type 0} (S : Summary F) → TalksBegin S
-talks_begin S I R k n h = talk_from-begins S I R (opening S I.items) k n h
+talks_begin S I R k n h = talk_from-begins S I R (opening S I) k n h
 
 -- message number k is N
 record IsLast {F : Type 0} (S : Summary F) (P Q : Peer) (M : Message F) (k : ℕ) (N : Message F) : Type 0 where
@@ -55,7 +56,7 @@ pub talks_go_on : {F : Type 0} (S : Summary F) → TalksGoOn S
 talks_go_on {F} S I R k M h =
     let one : k + 1 ≡ suc k = omega arith in
     let two : k + 2 ≡ suc (suc k) = omega arith in
-    let is = talk_from-last S I R (opening S I.items) k M (subst (λ n. slice_get (talk S I R n) k ≡ Some M) one h) in
+    let is = talk_from-last S I R (opening S I) k M (subst (λ n. slice_get (talk S I R n) k ≡ Some M) one h) in
     record {
       number = is.number;
       last = ap (talk S I R) one ∙ is.last;
@@ -89,8 +90,8 @@ ends_hear {F} S I R k M h =
           ∙ heard_more S (initiator S I) (of_second Ms) M (not (is_even (length Ms)))
           ∙ sym (turned (is_even (length Ms)) (after S (initiator_at S I R k) M) (initiator_at S I R k))
           ∙ ap (λ b. if b then initiator_at S I R k else after S (initiator_at S I R k) M) even;
-      responder = ap (λ Ns. heard S (responder R) (of_first Ns)) is.last ∙ ap (heard S (responder R)) both.0
-          ∙ heard_more S (responder R) (of_first Ms) M (is_even (length Ms))
+      responder = ap (λ Ns. heard S (responder S R) (of_first Ns)) is.last ∙ ap (heard S (responder S R)) both.0
+          ∙ heard_more S (responder S R) (of_first Ms) M (is_even (length Ms))
           ∙ ap (λ b. if b then after S (responder_at S I R k) M else responder_at S I R k) even;
     }
 
@@ -239,21 +240,21 @@ turns {F} S f g (suc k) e d M m = by (λ o. turns S g f k (after_answer d M (Rep
 
 pub two_meet : {F : Type 0} (S : Summary F) (I R : Peer) (f g : List ℕ) → IsExact S → Ready I f → Ready R g →
     length I.items ≤ 65536 → length R.items ≤ 65536 →
-    Meets S f g (initiator S I) (responder R) (opening S I.items)
+    Meets S f g (initiator S I) (responder S R) (opening S I)
 two_meet S I R f g exact i r few few' = record {
   speaker = i;
   hearer = r;
-  spoken = refl;
+  spoken = opening_waits S I;
   live = refl;
-  taken = refl;
-  apart = (refl, tt, tt);
+  taken = (opening_exact S.may_cut (opening S I)).1 (opening_is S I);
+  apart = opening_apart S I i.set;
   fits = λ k. All-map _ _ (λ M l. omega arith) (talk S I R k) (messages_fit S exact I R k i.set r.set);
 }
 
 pub ends_talk : {F : Type 0} (S : Summary F) → EndsTalk S
 ends_talk {F} S exact I R f g k i r few few' =
     let turn =
-    turns S f g k (initiator S I) (responder R) (opening S I.items) (two_meet S I R f g exact i r few few') in
+    turns S f g k (initiator S I) (responder S R) (opening S I) (two_meet S I R f g exact i r few few') in
     let one : suc k ≡ k + 1 = omega arith in
     let there : (M : Message F) → slice_get (talk S I R (k + 1)) k ≡ Some M →
     slice_get (talk S I R (suc k)) k ≡ Some M = λ M. subst (λ n. slice_get (talk S I R n) k ≡ Some M) (sym one) in

@@ -13,7 +13,7 @@ use Rattle.definitions.specs.Messages.{Part, Message, RangesRise}
 use Rattle.definitions.specs.Replies.{Peer}
 use Rattle.definitions.specs.Strategies.{IsTable}
 use Rattle.definitions.specs.Ranks.{Accepted}
-use Rattle.definitions.specs.Theorems.{Ready, rank, IsShort}
+use Rattle.definitions.specs.Theorems.{Ready, opened, rank, IsShort}
 use Rattle.definitions.specs.Wire.{Profile, Event, Came, Ended, Failed}
 use Rattle.definitions.specs.Streams.{Before_hello, feed, messages_of}
 use Rattle.definitions.specs.Refusals.{too_many_parts}
@@ -50,13 +50,13 @@ BytesAgree {F} S P = (s : Speaker F) (over : Bool) (bytes : List ℕ) → is_liv
 
 abbrev pub OwnIsFew : {F : Type 0} → Summary F → Type 0
 OwnIsFew {F} S = (P : Peer) (f : List ℕ) (Ms : List (Message F)) → Ready P f → AllByRecursion RangesRise Ms →
-    (length (own S (initiating S P) Ms) ≤ rank f P + 2) × (length (own S (responding P) Ms) ≤ rank f P + 1)
+    (length (own S (initiating S P) Ms) ≤ opened S f P + 2) × (length (own S (responding S P) Ms) ≤ rank f P + 1)
 
 abbrev pub OwnIsShort : {F : Type 0} → Summary F → Type 0
 OwnIsShort {F} S =
     (P : Peer) (Ms : List (Message F)) → IsTable P.table → Accepted P.table → length P.items ≤ P.table.cap →
     AllByRecursion (AllByRecursion (IsShort P.table.limit)) (own S (initiating S P) Ms)
-    × AllByRecursion (AllByRecursion (IsShort P.table.limit)) (own S (responding P) Ms)
+    × AllByRecursion (AllByRecursion (IsShort P.table.limit)) (own S (responding S P) Ms)
 
 -- ---- what is said while frames are heard
 

@@ -1,4 +1,5 @@
 pub mod Cutting
+pub mod Opening
 pub mod Growing
 pub mod Turns
 pub mod Saying

@@ -4,7 +4,7 @@
 --     AreSpelled                  the test of fingerprints is equality, and a real profile spells each of them
 --     IsPeer P f                  an accepted table with these ranks, and a set of items that it serves
 --     HasSaid s over bytes Ns     its session is over, and these are its messages
---     HaveMet I R i r .. Ms       both sessions are over, and their messages are those of the talk Ms
+--     HaveMet I R p r .. Ms       both sessions are over, and their messages are those of the talk Ms
 --     TwoSessionsMeet S W         however the two got there
 --     EndedCallsWriteAll S W      a call whose session has ended wrote all of it
 use Rattle.std.specs.Prelude.{◌≡◌, ℕ, ◌+◌, ◌≤◌, ◌<◌, Bool, List, [], ◌++◌, length, Option, Some, None}
@@ -16,7 +16,7 @@ use Rattle.definitions.specs.Strategies.{IsTable}
 use Rattle.definitions.specs.Ranks.{Accepted}
 use Rattle.definitions.specs.Replies.{Peer}
 use Rattle.definitions.specs.Talks.{Knowledge, talk, of_first, of_second, IsClear}
-use Rattle.definitions.specs.Theorems.{Ready, rank, KeepLimits, KnowsDifference, KnowsNothingWrong}
+use Rattle.definitions.specs.Theorems.{Ready, opened, rank, KeepLimits, KnowsDifference, KnowsNothingWrong}
 use Rattle.definitions.specs.Wire.{Profile, IsProfile, IsFingerprint, session_text, fault_text}
 use Rattle.definitions.specs.Engines.{Speaker, initiating, responding, says, session, messages_in}
 use Rattle.definitions.specs.Hearing.{Over_at, hearing_to, first_fault}
@@ -55,29 +55,29 @@ module _ {F : Type 0} (S : Summary F) (W : Profile F) where
     pub said : says S s (messages_in W bytes) ≡ Ns
     pub sent : (session S s (messages_in W bytes)).sent ≡ length Ns
 
-  -- Ms is all of the talk, in which the initiator has rank i and the responder r
-  pub record HaveMet (I R : Peer) (i r : ℕ) (first second : Bool) (asked answered : List ℕ) (Ms : List (Message F)) :
+  -- Ms is all of the talk, in which the initiator opens ranges of rank p at most and the responder has rank r
+  pub record HaveMet (I R : Peer) (p r : ℕ) (first second : Bool) (asked answered : List ℕ) (Ms : List (Message F)) :
       Type 0 where
     pub initiator : HasSaid (initiating S I) first answered (of_first Ms)
-    pub responder : HasSaid (responding R) second asked (of_second Ms)
-    pub few : length Ms ≤ message_bound i r
-    pub few_of_each : (length (of_first Ms) ≤ i + 2) × (length (of_second Ms) ≤ r + 1)
+    pub responder : HasSaid (responding S R) second asked (of_second Ms)
+    pub few : length Ms ≤ message_bound p r
+    pub few_of_each : (length (of_first Ms) ≤ p + 2) × (length (of_second Ms) ≤ r + 1)
     pub short : KeepLimits I.table.limit R.table.limit Ms
     -- whatever the fingerprints
     pub sound : KnowsNothingWrong (learned_from (initiating S I) answered) I.items R.items
-        × KnowsNothingWrong (learned_from (responding R) asked) R.items I.items
+        × KnowsNothingWrong (learned_from (responding S R) asked) R.items I.items
     pub exact : IsClear S I.items R.items Ms →
         KnowsDifference (learned_from (initiating S I) answered) I.items R.items
-        × KnowsDifference (learned_from (responding R) asked) R.items I.items
+        × KnowsDifference (learned_from (responding S R) asked) R.items I.items
 
   -- If all that each side wrote is all that the other got, then both sessions are over, no side refused, and what they
   -- said is the talk.
   abbrev pub TwoSessionsMeet : Type 0
   TwoSessionsMeet = AreSpelled → (I R : Peer) (f g : List ℕ) (first second : Bool) (asked answered : List ℕ) (k : ℕ) →
       IsPeer I f → IsPeer R g → IsBytes asked → IsBytes answered →
-      asked ≡ written_to (initiating S I) first answered → answered ≡ written_to (responding R) second asked →
-      message_bound (rank f I) (rank g R) < k →
-      HaveMet I R (rank f I) (rank g R) first second asked answered (talk S I R k)
+      asked ≡ written_to (initiating S I) first answered → answered ≡ written_to (responding S R) second asked →
+      message_bound (opened S f I) (rank g R) < k →
+      HaveMet I R (opened S f I) (rank g R) first second asked answered (talk S I R k)
 
   -- so the law is one of such calls, too
   abbrev pub EndedCallsWriteAll : Type 0

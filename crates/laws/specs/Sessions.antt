@@ -8,8 +8,8 @@ use Rattle.std.specs.Prelude.{◌≡◌, ℕ, ◌+◌, ◌<◌, ◌≤◌, Bool,
 use Rattle.std.specs.Prelude.{None, IfSome, option_map, unwrap_or, if◌then◌else◌, ◌↔◌}
 use Rattle.std.specs.List.{AllByRecursion}
 use Rattle.definitions.specs.Fingerprints.{Summary, IsExact}
-use Rattle.definitions.specs.Messages.{Message, has_open, opening}
-use Rattle.definitions.specs.Replies.{Peer, reply}
+use Rattle.definitions.specs.Messages.{Message, has_open}
+use Rattle.definitions.specs.Replies.{Peer, opening, reply}
 use Rattle.definitions.specs.Talks.{nothing}
 use Rattle.definitions.specs.Ends.{End, Replies, Ends, initiator, responder, answer, after, initiator_at, responder_at}
 use Rattle.definitions.specs.Ends.{is_over}
@@ -44,7 +44,12 @@ pub record Keeps {F : Type 0} (S : Summary F) (w : World) (s : Session) (k : Kep
 
 -- what is kept of a session that is opened
 abbrev pub kept_at_opening : {F : Type 0} → Summary F → Peer → Kept F
-kept_at_opening S I = record { initiator = initiator S I; responder = None; last = opening S I.items; parts = 1 }
+kept_at_opening S I = record {
+  initiator = initiator S I;
+  responder = None;
+  last = opening S I;
+  parts = length (opening S I);
+}
 
 abbrev pub SessionsOpen : {F : Type 0} → Summary F → Type 0
 SessionsOpen S = (w : World) (i r : ℕ) → i < length w.nodes → r < length w.nodes →
@@ -58,13 +63,13 @@ SessionsOpen S = (w : World) (i r : ℕ) → i < length w.nodes → r < length w
     Keeps S w s (kept_at_opening S (initiator_of w s))
 
 -- the responder's end at a delivery: at the first it begins, with the newest version
-abbrev pub responder_now : {F : Type 0} → World → Session → Kept F → End F
-responder_now w s k =
-    unwrap_or k.responder (responder (peer_at w s.responder_node (length (node_at w s.responder_node).history)))
+abbrev pub responder_now : {F : Type 0} → Summary F → World → Session → Kept F → End F
+responder_now S w s k =
+    unwrap_or k.responder (responder S (peer_at w s.responder_node (length (node_at w s.responder_node).history)))
 
 -- who hears the message made last
-abbrev pub hearer_now : {F : Type 0} → World → Session → Kept F → End F
-hearer_now w s k = if is_even s.delivered then responder_now w s k else k.initiator
+abbrev pub hearer_now : {F : Type 0} → Summary F → World → Session → Kept F → End F
+hearer_now S w s k = if is_even s.delivered then responder_now S w s k else k.initiator
 
 -- what is kept after a delivery, whose hearer is then e, which made the message N, and after which no message has
 -- more parts than n
@@ -76,14 +81,14 @@ kept_after s k e N n =
 -- the message made last is heard, and not refused: its reply is made, or the session has ended
 pub record GoesOnBy {F : Type 0} (S : Summary F) (w : World) (s : Session) (k : Kept F) : Type 0 where
   -- it is a reply where the message has an open part
-  pub replied : (N : Message F) → answer S (hearer_now w s k) k.last ≡ Replies N →
-      Keeps S w (after_delivery w s) (kept_after s k (after S (hearer_now w s k) k.last) N (max k.parts (length N)))
+  pub replied : (N : Message F) → answer S (hearer_now S w s k) k.last ≡ Replies N →
+      Keeps S w (after_delivery w s) (kept_after s k (after S (hearer_now S w s k) k.last) N (max k.parts (length N)))
       × (has_ended S w (after_delivery w s) ≡ false)
-  pub ended : answer S (hearer_now w s k) k.last ≡ Ends →
-      Keeps S w (after_delivery w s) (kept_after s k (after S (hearer_now w s k) k.last) k.last k.parts)
+  pub ended : answer S (hearer_now S w s k) k.last ≡ Ends →
+      Keeps S w (after_delivery w s) (kept_after s k (after S (hearer_now S w s k) k.last) k.last k.parts)
       × (has_ended S w (after_delivery w s) ≡ true)
-  pub taken : answer S (hearer_now w s k) k.last
-      ≡ (if has_open k.last then Replies (reply S (hearer_now w s k).peer k.last) else Ends)
+  pub taken : answer S (hearer_now S w s k) k.last
+      ≡ (if has_open k.last then Replies (reply S (hearer_now S w s k).peer k.last) else Ends)
 
 abbrev pub SessionsGoOn : {F : Type 0} → Summary F → Type 0
 SessionsGoOn {F} S = IsExact S → (w : World) (s : Session) (k : Kept F) → AllByRecursion IsNode w.nodes →

@@ -13,15 +13,15 @@ use Rattle.definitions.specs.Replies.{Peer}
 use Rattle.definitions.specs.Talks.{talk, initiator_knows, IsClear}
 use Rattle.definitions.specs.Cost.{part_bound}
 use Rattle.definitions.specs.Engines.{says, initiating, responding}
-use Rattle.definitions.specs.Theorems.{Ready, rank, KeepLimits, KnowsDifference}
+use Rattle.definitions.specs.Theorems.{Ready, opened, rank, KeepLimits, KnowsDifference}
 
 abbrev pub InitiatorStopsAnyhow : {F : Type 0} → Summary F → Type 0
 InitiatorStopsAnyhow {F} S = (P : Peer) (f : List ℕ) (Ms : List (Message F)) → Ready P f →
-    length (says S (initiating S P) Ms) ≤ rank f P + 2
+    length (says S (initiating S P) Ms) ≤ opened S f P + 2
 
 abbrev pub ResponderStopsAnyhow : {F : Type 0} → Summary F → Type 0
 ResponderStopsAnyhow {F} S = (P : Peer) (f : List ℕ) (Ms : List (Message F)) → Ready P f →
-    length (says S (responding P) Ms) ≤ rank f P + 1
+    length (says S (responding S P) Ms) ≤ rank f P + 1
 
 abbrev pub ListsAreShortAnyhow : {F : Type 0} → Summary F → Type 0
 ListsAreShortAnyhow S = (I R : Peer) (k : ℕ) → Accepted I.table → Accepted R.table →
@@ -30,7 +30,7 @@ ListsAreShortAnyhow S = (I R : Peer) (k : ℕ) → Accepted I.table → Accepted
 
 -- the fingerprint of a set is its size
 abbrev pub count_summary : Summary ℕ
-count_summary = record { of = length; same = λ m n. m == n }
+count_summary = record { of = length; same = λ m n. m == n; may_cut = false }
 
 abbrev pub KnowledgeIsExactAnyhow : {F : Type 0} → Summary F → Type 0
 KnowledgeIsExactAnyhow S = (I R : Peer) (k : ℕ) → IsSet I.items → IsSet R.items → length (talk S I R k) < k →
@@ -39,12 +39,12 @@ KnowledgeIsExactAnyhow S = (I R : Peer) (k : ℕ) → IsSet I.items → IsSet R.
 
 -- the fingerprint of a set is the set, and all are taken for equal
 abbrev pub blind : Summary (List Item)
-blind = record { of = λ A. A; same = λ f g. true }
+blind = record { of = λ A. A; same = λ f g. true; may_cut = false }
 
 abbrev pub PartsAreFewAnyhow : {F : Type 0} → Summary F → Type 0
 PartsAreFewAnyhow S = (I R : Peer) (k : ℕ) → IsSet I.items → IsSet R.items →
-    AllByRecursion (λ M. length M ≤ part_bound I R) (talk S I R k)
+    AllByRecursion (λ M. length M ≤ part_bound S I R) (talk S I R k)
 
 -- the fingerprint of a set is the set, and none are taken for equal
 abbrev pub wary : Summary (List Item)
-wary = record { of = λ A. A; same = λ f g. false }
+wary = record { of = λ A. A; same = λ f g. false; may_cut = false }

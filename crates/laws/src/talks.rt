@@ -15,6 +15,7 @@ ghost use Rattle.definitions.specs.Theorems.{KnowledgeIsSound, PartsAreFew, Head
 ghost use Rattle.definitions.specs.Theorems.{AbsorbClaim, SessionsEnd};
 ghost use Rattle.laws.specs.Cutting.{CutsAreExact, CutsHaveRanges, CutsArePieces, SeparatorsAreShortest};
 ghost use Rattle.laws.specs.Cutting.{TalksHaveRanges};
+ghost use Rattle.laws.specs.Opening.{OpeningsAreExact, OpeningsHaveCounts, OpeningsAreLower};
 ghost use Rattle.laws.specs.Growing.{TalksGrow, KnowledgeGrows};
 ghost use Rattle.laws.specs.Turns.{TalksBegin, TalksGoOn, EndsHear, EndsTalk};
 ghost use Rattle.laws.specs.Saying.{EndsSay};
@@ -57,6 +58,28 @@ pub fn counts_tell_sizes()
 /// docs/LAWS.md: *Ranges and cuts*.
 pub fn whole_has_all()
     ensures { (A : List Item) → items_in A whole ≡ A }
+{}
+
+// ---- what a session opens with
+
+/// What an initiator opens with is a first message, honest, and its parts make up everything.
+/// docs/LAWS.md: *What a session opens with*.
+pub fn openings_are_exact<F>()
+    ensures { (S : Summary F) → OpeningsAreExact S }
+{}
+
+/// How many own items are in its ranges is told by the table and the number of all items.
+/// docs/LAWS.md: *What a session opens with*.
+#[tactic(auto, using(crate::proofs::Openings::openings_have_counts))]
+pub fn openings_have_counts<F>()
+    ensures { (S : Summary F) → OpeningsHaveCounts S }
+{}
+
+/// One Sum has the rank of the whole set, and the parts of a cut have lower ones.
+/// docs/LAWS.md: *What a session opens with*.
+#[tactic(auto, using(crate::proofs::Openings::openings_are_lower))]
+pub fn openings_are_lower<F>()
+    ensures { (S : Summary F) → OpeningsAreLower S }
 {}
 
 // ---- replies

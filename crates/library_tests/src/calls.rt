@@ -63,7 +63,7 @@ fn bound_with(
     match check_with(strategy(rt, alloc, table), ranks) {
         Ok(accepted) => {
             assert!(rt; 8 <= accepted.cap());
-            Ok(accepted.bound_as_initiator(8))
+            Ok(accepted.bound_as_initiator(8, false))
         }
         Err(refused) => {
             let (_table, _ranks, fault) = refused;

@@ -68,11 +68,18 @@ module _ {F : Type 0} (S : Summary F) (W : Profile F) where
       (record { bytes = x.bytes; read = read; bears = x.bears }, alike)
 
   first-all : (front : List ℕ) (unread mid left : Option (List ℕ)) → length front ≡ 4 → Consumes unread mid front →
-      CameFirst W (After front mid) left →
-      (x : CameFirst W (Reader unread) left) × (is_counted x.bytes ≡ is_counted front)
+      CameFirst S W (After front mid) left →
+      (x : CameFirst S W (Reader unread) left) × (is_counted x.bytes ≡ is_counted front)
   first-all front unread mid left four first x =
       let (read, alike) = read-all front x.bytes unread mid left four first x.read in (
-        record { bytes = x.bytes; read = read; part = x.part; first = x.first; later = x.later; messages = x.messages },
+        record {
+          bytes = x.bytes;
+          read = read;
+          message = x.message;
+          first = x.first;
+          later = x.later;
+          messages = x.messages;
+        },
         alike,
       )
 
@@ -95,9 +102,9 @@ module _ {F : Type 0} (S : Summary F) (W : Profile F) where
 
   why-short : Laws S W → (P : Peer) (o : SenderState) (bytes : List ℕ) (unread left held : Option (List ℕ)) (r : Seen)
       (broken : Bool) (stop : Stop) → o ≡ sender_state false 0 → NoHello r bytes stop →
-      WhyStopped S W IsNone (responding P) o (traffic unread left held held) r broken bytes stop
+      WhyStopped S W IsNone (responding S P) o (traffic unread left held held) r broken bytes stop
   why-short laws P o bytes unread left held r broken stop new x =
-      why-unheard S W IsNone laws (responding P) (first_held S P []) o (traffic unread left held held) r broken stop
+      why-unheard S W IsNone laws (responding S P) (first_held S P []) o (traffic unread left held held) r broken stop
       bytes [] refl (ap (λ y. y.sent) new) (λ rest all. inr
       (record { greeted = ap (λ y. y.greeted) new; none = ap (λ y. y.sent) new; written = Appends-nil held })) refl
       (unheard-stops r bytes stop x)
@@ -125,22 +132,24 @@ chooses-two-lanes bytes four other =
 pub counted-speaks : (fits : Type 0) (p : Peer) (version bound limit : ℕ) (front : List ℕ)
     (unread mid left held holds : Option (List ℕ)) (r w : Seen) (o : Outcome) → length front ≡ 4 →
     Consumes unread mid front → is_counted front ≡ true →
-    Speaks counted_lanes counted_profile fits (responding p) version bound limit
+    Speaks counted_lanes counted_profile fits (responding counted_lanes p) version bound limit
     (traffic_after front mid left held holds) r w o →
     ChosenSpeaks fits p version bound limit (traffic unread left held holds) r w o
 counted-speaks fits p version bound limit front unread mid left held holds r w o four first is x =
-    let all = speaks-all counted_lanes counted_profile fits (responding p) version bound limit front unread mid left
+    let all = speaks-all counted_lanes counted_profile fits (responding counted_lanes p) version bound limit front
+    unread mid left
     held holds r w o four first x in
     inl (all.0, all.1 ∙ is)
 
 pub two-lanes-speak : (fits : Type 0) (p : Peer) (version bound limit : ℕ) (front : List ℕ)
     (unread mid left held holds : Option (List ℕ)) (r w : Seen) (o : Outcome) → length front ≡ 4 →
     Consumes unread mid front → is_counted front ≡ false →
-    Speaks two_lanes two_lane_profile fits (responding p) version bound limit
+    Speaks two_lanes two_lane_profile fits (responding two_lanes p) version bound limit
     (traffic_after front mid left held holds) r w o →
     ChosenSpeaks fits p version bound limit (traffic unread left held holds) r w o
 two-lanes-speak fits p version bound limit front unread mid left held holds r w o four first is x =
-    let all = speaks-all two_lanes two_lane_profile fits (responding p) version bound limit front unread mid left
+    let all = speaks-all two_lanes two_lane_profile fits (responding two_lanes p) version bound limit front unread mid
+    left
     held holds r w o four first x in
     inr (all.0, all.1 ∙ is)
 
@@ -151,7 +160,8 @@ pub counted-unopened : (front : List ℕ) (unread mid left held holds : Option (
 counted-unopened front unread mid left held holds r w o four first is x = record {
   none = x.none;
   anyone = λ p version.
-      let all = speaks-unopened-all counted_lanes counted_profile (responding p) version front unread mid left held
+      let all = speaks-unopened-all counted_lanes counted_profile (responding counted_lanes p) version front unread mid
+      left held
       holds r w o four first (x.anyone p version) in
       inl (all.0, all.1 ∙ is);
 }
@@ -163,19 +173,20 @@ pub two-lanes-unopened : (front : List ℕ) (unread mid left held holds : Option
 two-lanes-unopened front unread mid left held holds r w o four first is x = record {
   none = x.none;
   anyone = λ p version.
-      let all = speaks-unopened-all two_lanes two_lane_profile (responding p) version front unread mid left held
+      let all = speaks-unopened-all two_lanes two_lane_profile (responding two_lanes p) version front unread mid left
+      held
       holds r w o four first (x.anyone p version) in
       inr (all.0, all.1 ∙ is);
 }
 
 pub counted-first : (front : List ℕ) (unread mid left : Option (List ℕ)) → length front ≡ 4 →
-    Consumes unread mid front → is_counted front ≡ true → CameFirst counted_profile (After front mid) left →
-    ChosenFirst (Reader unread) left
+    Consumes unread mid front → is_counted front ≡ true →
+    CameFirst counted_lanes counted_profile (After front mid) left → ChosenFirst (Reader unread) left
 counted-first front unread mid left four first is x =
     let all = first-all counted_lanes counted_profile front unread mid left four first x in inl (all.0, all.1 ∙ is)
 
 pub two-lanes-first : (front : List ℕ) (unread mid left : Option (List ℕ)) → length front ≡ 4 →
-    Consumes unread mid front → is_counted front ≡ false → CameFirst two_lane_profile (After front mid) left →
+    Consumes unread mid front → is_counted front ≡ false → CameFirst two_lanes two_lane_profile (After front mid) left →
     ChosenFirst (Reader unread) left
 two-lanes-first front unread mid left four first is x =
     let all = first-all two_lanes two_lane_profile front unread mid left four first x in inr (all.0, all.1 ∙ is)
@@ -186,18 +197,20 @@ pub short-speaks : Laws two_lanes two_lane_profile → (fits : Type 0) (p : Peer
     (x : SenderState) (bytes : List ℕ) (unread left held holds : Option (List ℕ)) (r w : Seen) (broken : Bool)
     (stop : Stop) (o : Outcome) → x ≡ sender_state false 0 → NoHello r bytes stop → Consumes unread left bytes →
     Leaves two_lane_profile x held holds broken w.failed stop → o ≡ outcome_of x.sent stop →
-    (IsBytes bytes → fits → KeepsBounds two_lanes two_lane_profile (responding p) bytes bound limit) →
+    (IsBytes bytes → fits → KeepsBounds two_lanes two_lane_profile (responding two_lanes p) bytes bound limit) →
     ChosenSpeaks fits p version bound limit (traffic unread left held holds) r w o
 short-speaks laws fits p version bound limit x bytes unread left held holds r w broken stop o new none read leaves is
     bounded =
-    let why = anyhow two_lanes two_lane_profile (responding p) x (traffic unread left held held) r broken bytes stop
+    let why = anyhow two_lanes two_lane_profile (responding two_lanes p) x (traffic unread left held held) r broken
+    bytes stop
     (why-short two_lanes two_lane_profile laws p x bytes unread left held r broken stop new none) in
     let sent : (s : Stop) → sent_in (outcome_of x.sent s) ≤ bound = few in
     subst (λ y. ChosenSpeaks fits p version bound limit (traffic unread left held holds) r w y) (sym is) (inr (
       record {
         bytes = bytes;
         read = read;
-        bears = bears two_lanes two_lane_profile (responding p) version x (traffic unread left held held) holds r w
+        bears = bears two_lanes two_lane_profile (responding two_lanes p) version x (traffic unread left held held)
+            holds r w
             broken bytes stop why leaves;
         sent = sent stop;
         bounded = bounded none.fits;
@@ -224,7 +237,8 @@ short-unopened laws x bytes unread left held holds r w broken stop o new none re
         record {
           bytes = bytes;
           read = read;
-          bears = bears-unopened two_lanes two_lane_profile (responding p) version x (traffic unread left held held)
+          bears = bears-unopened two_lanes two_lane_profile (responding two_lanes p) version x (traffic unread left held
+              held)
               holds r w broken bytes stop
               (why-short two_lanes two_lane_profile laws p x bytes unread left held r broken stop new none) leaves;
         },

@@ -12,8 +12,9 @@ use Rattle.definitions.specs.Refusals.{table_full, serials_spent}
 use Rattle.definitions.specs.Fingerprints.{Summary}
 use Rattle.definitions.specs.Histories.{History, content}
 use Rattle.definitions.specs.Items.{Item, IsBytes}
-use Rattle.definitions.specs.Messages.{Message, opening}
-use Rattle.definitions.specs.Ranks.{rank_by}
+use Rattle.definitions.specs.Messages.{Message}
+use Rattle.definitions.specs.Replies.{opening}
+use Rattle.definitions.specs.Worlds.{opened_of}
 use Rattle.definitions.specs.Replies.{Peer}
 use Rattle.definitions.specs.Ends.{initiator}
 use Rattle.definitions.specs.Engines.{Speaker, initiating}
@@ -56,7 +57,7 @@ module _ {F : Type 0} (S : Summary F) (W : Profile F) where
   -- the first message too
   pub begun-first : (p : Peer) (h : EndState F) (steps : List ℕ) (b : InboxState) (o q r : SenderState)
       (unread held holds more : Option (List ℕ)) (first : Message F) →
-      h ≡ fresh steps (initiator S p) → first ≡ opening S p.items → HasRead W b [] [] →
+      h ≡ fresh steps (initiator S p) → first ≡ opening S p → HasRead W b [] [] →
       o ≡ sender_state false 0 → Appends held holds (hello_due W o) → q ≡ sender_state true o.sent →
       Adds W q r holds more (first ∷ []) →
       Underway S W (initiating S p) h b r (traffic unread unread held more)
@@ -103,7 +104,7 @@ module _ {F : Type 0} (S : Summary F) (W : Profile F) where
   -- the first message was not said
   pub stops-first : (p : Peer) (o q r : SenderState) (unread held holds more : Option (List ℕ)) (input : Seen)
       (broken : Bool) (first : Message F) (stop : Stop) →
-      first ≡ opening S p.items →
+      first ≡ opening S p →
       o ≡ sender_state false 0 → Appends held holds (hello_due W o) → q ≡ sender_state true o.sent →
       Unsaid W q r holds more broken (first ∷ []) stop →
       Stopped S W (IsTimely r.sent) (initiating S p) r (traffic unread unread held more) input broken stop
@@ -116,12 +117,12 @@ module _ {F : Type 0} (S : Summary F) (W : Profile F) where
         hello = greets o q held holds new whole greeted
 
         none : Adds W q r holds more [] → WroteFirst S W (initiating S p) r t []
-        none added = wrote-first S W (initiating S p) r t [] [] (opening S p.items ∷ []) refl
+        none added = wrote-first S W (initiating S p) r t [] [] (opening S p ∷ []) refl
             (adds-nothing S W q r held holds more [] hello added)
 
         some : Adds W q r holds more (first ∷ []) → WroteFirst S W (initiating S p) r t []
         some added =
-            wrote-first S W (initiating S p) r t [] (opening S p.items ∷ []) [] refl
+            wrote-first S W (initiating S p) r t [] (opening S p ∷ []) [] refl
             (subst (λ (M : Message F). HasWritten W r held more (M ∷ [])) opens
             (adds S W q r held holds more [] (first ∷ []) hello added))
 
@@ -174,24 +175,24 @@ module _ {F : Type 0} (S : Summary F) (W : Profile F) where
 
   -- a session over any set, by what its two ends come to
   pub speaks-over : (a b : Checked) (A : List Item) (v : ℕ) (t : Traffic) (r x : Seen) (o : Outcome) → b ≡ a →
-      Spoke S W (initiating S (peer_of b A)) v (rank_by b.steps (length A) + 2) t r x o →
+      Spoke S W (initiating S (peer_of b A)) v (opened_of S b.steps (peer_of b A) + 2) t r x o →
       ((bytes : List ℕ) → IsBytes bytes → ⊤ →
-      KeepsBounds S W (initiating S (peer_of a A)) bytes (rank_by a.steps (length A) + 2) a.table.limit) →
-      Speaks S W ⊤ (initiating S (peer_of a A)) v (rank_by a.steps (length A) + 2) a.table.limit t r x o
+      KeepsBounds S W (initiating S (peer_of a A)) bytes (opened_of S a.steps (peer_of a A) + 2) a.table.limit) →
+      Speaks S W ⊤ (initiating S (peer_of a A)) v (opened_of S a.steps (peer_of a A) + 2) a.table.limit t r x o
   speaks-over a b A v t r x o same spoke bounded =
-      speaks S W ⊤ (initiating S (peer_of a A)) v (rank_by a.steps (length A) + 2) a.table.limit t r x o
-      (subst (λ (d : Checked). Spoke S W (initiating S (peer_of d A)) v (rank_by d.steps (length A) + 2) t r x o)
+      speaks S W ⊤ (initiating S (peer_of a A)) v (opened_of S a.steps (peer_of a A) + 2) a.table.limit t r x o
+      (subst (λ (d : Checked). Spoke S W (initiating S (peer_of d A)) v (opened_of S d.steps (peer_of d A) + 2) t r x o)
       same spoke) bounded
 
   -- the same over a pin of the history that was found
   pub speaks-pinned : (a : Checked) (w : View) (pin : PinState) (t : Traffic) (r x : Seen) (o : Outcome) →
       IsPinOf pin w →
-      Speaks S W ⊤ (initiating S (peer_of a pin.items)) pin.version (rank_by a.steps (length pin.items) + 2)
+      Speaks S W ⊤ (initiating S (peer_of a pin.items)) pin.version (opened_of S a.steps (peer_of a pin.items) + 2)
       a.table.limit t r x o →
-      Speaks S W ⊤ (initiating S (peer_at a w)) (length w.base) (rank_by a.steps (length (peer_at a w).items) + 2)
+      Speaks S W ⊤ (initiating S (peer_at a w)) (length w.base) (opened_of S a.steps (peer_at a w) + 2)
       a.table.limit t r x o
   speaks-pinned a w pin t r x o is spoke =
       let of_set = subst (λ (A : List Item). Speaks S W ⊤ (initiating S (peer_of a A)) pin.version
-      (rank_by a.steps (length A) + 2) a.table.limit t r x o) is.items_are spoke in
-      subst (λ (v : ℕ). Speaks S W ⊤ (initiating S (peer_at a w)) v (rank_by a.steps (length (content w.base)) + 2)
+      (opened_of S a.steps (peer_of a A) + 2) a.table.limit t r x o) is.items_are spoke in
+      subst (λ (v : ℕ). Speaks S W ⊤ (initiating S (peer_at a w)) v (opened_of S a.steps (peer_at a w) + 2)
       a.table.limit t r x o) is.version_is of_set

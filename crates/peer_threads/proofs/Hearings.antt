@@ -14,6 +14,7 @@ use Rattle.definitions.specs.Engines.{replied, fault_of}
 use Rattle.definitions.specs.Taking.{Taken, taken, ended}
 use Rattle.definitions.specs.Hearing.{Hearing, Goes_on, Over_at, Peer_refused, Refused_for, goes_unless, ended_by}
 use Rattle.definitions.specs.Hearing.{hear_now, hear}
+use Rattle.definitions.specs.Worlds.{Side, Initiator, Responder}
 use Rattle.laws.specs.Hearing.{has_stopped}
 use Rattle.laws.proofs.GoingOn.{stays}
 use Rattle.ends_core.specs.EndStates.{EndState}
@@ -73,10 +74,12 @@ module _ {F : Type 0} (S : Summary F) (W : Profile F) where
 
   -- ---- how much it may send, and has sent
 
-  pub most-kept : (most : ℕ) (h g : EndState F) (turn : Turn F) → g ≡ after_end h (answer_of turn) →
-      most_sent most g ≡ most_sent most h
-  most-kept most h g (turns.Reply N) is = ap (most_sent most) is
-  most-kept most h g turns.Over is = ap (most_sent most) is
+  pub most-kept : (side : Side) (h g : EndState F) (turn : Turn F) → g ≡ after_end h (answer_of turn) →
+      most_sent S side g ≡ most_sent S side h
+  most-kept Initiator h g (turns.Reply N) is = ap (most_sent S Initiator) is
+  most-kept Initiator h g turns.Over is = ap (most_sent S Initiator) is
+  most-kept Responder h g (turns.Reply N) is = ap (most_sent S Responder) is
+  most-kept Responder h g turns.Over is = ap (most_sent S Responder) is
 
   pub sent-after : (h g : EndState F) (turn : Turn F) → g ≡ after_end h (answer_of turn) →
       g.end.sent ≡ h.end.sent + messages_in turn

@@ -251,3 +251,17 @@ module _ {F : Type 0} (W : Profile F) (real : IsProfile W) where
         Consumes-trans unread mid left one.0 two.0 one.2 two.2,
         subst (λ (bytes : List ℕ). Q bytes es) (append_assoc before one.0 two.0) two.3,
       )
+
+  -- events were handed out, and then more is read
+  pub reads_then : (unread mid left : Option (List ℕ)) (b c : InboxState) (so_far : Events → Events) (Q : Claim) →
+      Reads W unread mid b (λ bytes es. HasRead W c bytes (so_far es)) → Reads W mid left c Q →
+      Reads W unread left b (λ bytes es. Q bytes (so_far es))
+  reads_then unread mid left b c so_far Q first second before es fits has =
+      let one = first before es fits has in
+      let both = IsBytes-both before one.0 fits one.1 in
+      let two = second (before ++ one.0) (so_far es) both one.3 in (
+        one.0 ++ two.0,
+        IsBytes-both one.0 two.0 one.1 two.1,
+        Consumes-trans unread mid left one.0 two.0 one.2 two.2,
+        subst (λ (bytes : List ℕ). Q bytes (so_far es)) (append_assoc before one.0 two.0) two.3,
+      )

@@ -1,32 +1,34 @@
 -- The side that is spoken to first, before and after its pin.
 --
--- Before the pin no end is there: what may come is said of the end that any peer would have. Of the first message only
--- one part and its end are handed out, and the end that the pin makes hears both, so its session is then underway as
--- any other.
+-- Before the pin no end is there: what may come is said of the end that any peer would have. The parts of the first
+-- message and its end are handed out, and the end that the pin makes hears all of them, so its session is then underway
+-- as any other.
 use Rattle.std.proofs.Common.{◌≡◌, ℕ, ◌+◌, ◌<◌, ◌≤◌, Bool, true, false, List, [], ◌∷◌, ◌++◌, length, Option, Some}
-use Rattle.std.proofs.Common.{None, Result, Ok, Err, IfOk, IfErr, OnOk, inl, inr, refl, sym, ap, ◌∙◌, subst, append-nil}
-use Rattle.std.proofs.Common.{IsTrue, ◌⊎◌, arith}
-use Rattle.std.specs.Prelude.{if◌then◌else◌}
+use Rattle.std.proofs.Common.{None, Result, Ok, Err, IfErr, inl, inr, refl, sym, ap, ◌∙◌, subst, append-nil}
+use Rattle.std.proofs.Common.{append_assoc, map, take, drop, get_or, IsTrue, ◌⊎◌, arith}
+use Rattle.std.specs.Prelude.{fold}
+use Rattle.std.proofs.lemmas.List.{take_more, drop_more, take-append-drop, map-append}
 use Rattle.std.proofs.KnownBytes.{Appends-nil}
 use Rattle.std.specs.Io.KnownBytes.{Appends, Consumes}
-use Rattle.definitions.proofs.Lemmas.{All-append}
+use Rattle.definitions.proofs.Lemmas.{All-append, fold-append}
 use Rattle.definitions.specs.Accounts.{Seen}
 use Rattle.definitions.specs.Fingerprints.{Summary}
 use Rattle.definitions.specs.Histories.{History, content}
-use Rattle.definitions.specs.Items.{IsBytes, Item, whole, same_range}
-use Rattle.definitions.specs.Messages.{Part, Sum, Listing, Answer, Message}
-use Rattle.definitions.specs.Placing.{First, Refused, next, placed, refusal}
+use Rattle.definitions.specs.Items.{IsBytes, Item}
+use Rattle.definitions.specs.Messages.{Part, Message}
+use Rattle.definitions.specs.Placing.{Place, First, After, Refused, next, refusal, finish, opening_fault}
 use Rattle.definitions.specs.Ranks.{rank_by}
 use Rattle.definitions.specs.Replies.{Peer}
 use Rattle.definitions.specs.Strategies.{Table}
-use Rattle.definitions.specs.Refusals.{misplaced, table_full, serials_spent}
+use Rattle.definitions.specs.Refusals.{table_full, serials_spent}
 use Rattle.definitions.specs.Streams.{Before_hello, feed, messages_of}
 use Rattle.laws.specs.Parts.{FeedsJoin}
 use Rattle.definitions.specs.Wire.{Profile, IsProfile, Event, Came, Ended}
-use Rattle.definitions.specs.Ends.{responder, is_over}
+use Rattle.definitions.specs.Ends.{End, responder, is_over}
 use Rattle.definitions.specs.Engines.{responding, says}
-use Rattle.definitions.specs.Taking.{taken}
-use Rattle.definitions.specs.Hearing.{Goes_on, Refused_for, goes_unless, hear_now, hears}
+use Rattle.definitions.specs.Taking.{Taken, taken, nothing_taken, ended_unless}
+use Rattle.definitions.specs.Hearing.{Hearing, Goes_on, goes_unless, ended_by, hear_now, hear, hears}
+use Rattle.definitions.specs.Theorems.{OpeningIsExact}
 use Rattle.ends_core.specs.EndStates.{EndState}
 use Rattle.ends_core.specs.Turns.{fresh}
 use Rattle.strategy_check.specs.Checked.{Checked}
@@ -46,12 +48,13 @@ use Rattle.session_table.specs.Sent.{sent_in}
 use Rattle.peer_threads.specs.Inboxes.{InboxState, HasRead, StopsAt, ReadOn, Reads}
 use Rattle.peer_threads.specs.Senders.{SenderState, sender_state, hello_due, HasWritten, Adds, BreaksIn}
 use Rattle.peer_threads.specs.Stops.{outcome_of}
-use Rattle.peer_threads.specs.Underway.{heard_as, most_sent, said_by, first_held, Underway, Exchanged, StopsFirst}
-use Rattle.peer_threads.specs.Underway.{FirstCame, EndCame, IsFirstPart, Refuses, IsNone, WroteUpTo}
+use Rattle.peer_threads.specs.Underway.{heard_as, said_by, first_held, first_place, MayBegin, message_came, FirstWent}
+use Rattle.peer_threads.specs.Underway.{StopsAmong, StopsBegun, Underway, Exchanged, StopsFirst, Refuses, IsNone}
+use Rattle.peer_threads.specs.Underway.{WroteUpTo}
 use Rattle.peer_threads.specs.Underway.{WhyStopped, Stopped, Leaves, Spoke}
 use Rattle.peer_threads.proofs.Origins.{takes-on, takes-front}
 use Rattle.peer_threads.proofs.Hearings.{adds-none, heard-goes}
-use Rattle.peer_threads.proofs.InboxSteps.{reads_so}
+use Rattle.peer_threads.proofs.InboxSteps.{reads_nothing, reads_so, reads_then}
 use Rattle.peer_threads.proofs.Breaks.{breaks-in-hello, cut-in-hello}
 use Rattle.peer_threads.specs.Laws.{Laws}
 use Rattle.peer_threads.proofs.Exchanges.{More, At, all-events, wrote-first, goes-on, stops-refusing}
@@ -88,9 +91,9 @@ module _ {F : Type 0} (S : Summary F) (W : Profile F) where
   pub stops-ungreeted : Laws S W →
       (P : Peer) (o : SenderState) (front : List ℕ) (unread held : Option (List ℕ)) (r : Seen) (broken : Bool)
       (stop : Stop) → o ≡ sender_state false 0 → IsBytes front → StopsAt W r front [] stop →
-      Stopped S W IsNone (responding P) o (traffic_after front unread unread held held) r broken stop
+      Stopped S W IsNone (responding S P) o (traffic_after front unread unread held held) r broken stop
   stops-ungreeted laws P o front unread held r broken stop new fits stopped =
-      stops-unheard-by S W IsNone laws (responding P) (first_held S P []) o
+      stops-unheard-by S W IsNone laws (responding S P) (first_held S P []) o
       (traffic_after front unread unread held held) r broken stop front [] refl fits (takes-front front unread)
       (ap (λ x. x.sent) new) (λ rest all. inr
       (record { greeted = ap (λ x. x.greeted) new; none = ap (λ x. x.sent) new; written = Appends-nil held })) refl
@@ -110,90 +113,161 @@ module _ {F : Type 0} (S : Summary F) (W : Profile F) where
     written = x.written;
   }
 
-  -- a part came after the hello, and may stand first
-  pub began : (front : List ℕ) (unread left w x : Option (List ℕ)) (b c : InboxState) (o p : SenderState) (q : Part F) →
-      o ≡ sender_state false 0 → p ≡ sender_state true o.sent → Appends w x (hello_due W o) →
-      IsBytes front → HasRead W b front [] →
-      Reads W unread left b (λ bytes es. IsFirstPart q × HasRead W c bytes (es ++ Came q ∷ [])) →
-      IsFirstPart q × Exchanged W c p (traffic_after front unread left w x) (Came q ∷ [])
-  began front unread left w x b c o p q new now written fits came read =
-      let hello = greeted front unread w x b o p new now written fits came in
-      let one = read hello.bytes [] hello.are_bytes hello.came in (
-        one.3.0,
-        reads-on (traffic_after front unread unread w x) left b c p [] (Came q ∷ []) hello
-            (one.0, one.1, one.2, one.3.1),
-      )
+  -- whoever would answer has a place that the parts alone tell
+  place-held : (e : End F) (t : Taken F) (M : Message F) → (fold (taken S e) t M).place ≡ fold next t.place M
+  place-held e t [] = refl
+  place-held e t (p ∷ M) = place-held e (taken S e t p) M
 
-  -- whoever would answer has heard the part that may stand first
-  part-heard : (P : Peer) (p : Part F) → IsFirstPart p →
-      hears S (responding P) (Came p ∷ []) ≡ Goes_on (first_held S P (p ∷ [])).end (first_held S P (p ∷ [])).taken
-  part-heard P p fits = ap (λ o. goes_unless o (Goes_on (first_held S P (p ∷ [])).end (first_held S P (p ∷ [])).taken))
-      fits
+  pub place-first : (P : Peer) (M : Message F) → (first_held S P M).taken.place ≡ first_place S M
+  place-first P M = place-held (responder S P) (nothing_taken (responder S P)) M
 
-  -- no part may stand after it
-  second-misplaced : (p q : Part F) → IsFirstPart p → refusal (next (next First p) q) ≡ Some misplaced
-  second-misplaced (Sum Y f) q fits = by (same_range Y whole) fits where
-    by : (b : Bool) → refusal {F = F} (if b then placed {F = F} [] else Refused misplaced) ≡ None →
-        refusal {F = F} (next {F = F} (if b then placed {F = F} [] else Refused misplaced) q) ≡ Some misplaced
-    by true is = refl
-    by false is = absurd cc
-  second-misplaced (Listing Y items) q fits = absurd cc
-  second-misplaced (Answer Y marks items) q fits = absurd cc
+  -- a part that may not come next, and an end that may not
+  pub part-refused : (P : Peer) (M : Message F) (p : Part F) (code : ℕ) →
+      Some code ≡ refusal (next (first_place S M) p) → Refuses S (first_held S P M) (Came p) (stops.Refused code)
+  part-refused P M p code is =
+      let h = first_held S P M in
+      ap (λ x. goes_unless (refusal (next x p)) (Goes_on h.end (taken S h.end h.taken p))) (place-first P M)
+      ∙ ap (λ o. goes_unless o (Goes_on h.end (taken S h.end h.taken p))) (sym is)
 
-  pub second-refused : (P : Peer) (p q : Part F) → IsFirstPart p →
-      hear_now S (first_held S P (p ∷ [])).end (first_held S P (p ∷ [])).taken (Came q) ≡ Refused_for misplaced
-  second-refused P p q fits =
-      let h = first_held S P (p ∷ []) in
-      ap (λ o. goes_unless o (Goes_on h.end (taken S h.end h.taken q))) (second-misplaced p q fits)
+  pub end-refused : (P : Peer) (M : Message F) (code : ℕ) → Some code ≡ finish (first_place S M) →
+      Refuses S (first_held S P M) Ended (stops.Refused code)
+  end-refused P M code is =
+      let h = first_held S P M in
+      ap (λ x. ended_by h.end h.taken (ended_unless h.taken (finish x))) (place-first P M)
+      ∙ ap (λ o. ended_by h.end h.taken (ended_unless h.taken o)) (sym is)
 
-  pub part-stops : IsProfile W → (input : Seen) (unread left : Option (List ℕ)) (b c : InboxState)
-      (r : Result (Part F) Stop) (stop : Stop) → r ≡ Err stop →
-      Reads W unread left b (λ bytes es. StopsAt W input bytes es stop) →
-      Reads W unread left b (λ bytes es. FirstCame S W input c bytes es r)
-  part-stops real input unread left b c r stop is read =
-      reads_so W real unread left b (λ bytes es. StopsAt W input bytes es stop)
-      (λ bytes es. FirstCame S W input c bytes es r)
-      (λ bytes es fits stopped. subst (FirstCame S W input c bytes es) (sym is) (inl stopped)) read
+  -- and those that may
+  pub place-next : (M N : Message F) (p : Part F) (x : Place F) → N ≡ M ++ p ∷ [] → x ≡ next (first_place S M) p →
+      x ≡ first_place S N
+  place-next M N p x new at =
+      at ∙ sym (ap (first_place S) new ∙ fold-append next (First S.may_cut) M (p ∷ []))
 
-  pub part-came : (input : Seen) (b : InboxState) (bytes : List ℕ) (es : List (Event F)) (e : Event F)
-      (r : Result (Part F) Stop) →
-      IfOk r (λ p. (e ≡ Came p) × IsFirstPart p) →
-      IfErr r (λ stop. (P : Peer) → Refuses S (first_held S P []) e stop) → HasRead W b bytes (es ++ e ∷ []) →
-      FirstCame S W input b bytes es r
-  part-came input b bytes es e (Ok p) came refused has = (
-    came.1,
-    subst (λ x. HasRead W b bytes (es ++ x ∷ [])) came.0
-        has,
-  )
-  part-came input b bytes es e (Err stop) came refused has = inr (record { event = e; came = has; refuses = refused })
+  pub went-part : (M N : Message F) (p : Part F) (e : Event F) (x : Place F) → e ≡ Came p → N ≡ M ++ p ∷ [] →
+      x ≡ next (first_place S M) p → None ≡ refusal x → FirstWent S M N e false
+  went-part M N p e x is new at fine = (p, is, new, ap refusal (sym (place-next M N p x new at)) ∙ sym fine)
 
-  pub end-stops-first : IsProfile W → (input : Seen) (unread left : Option (List ℕ)) (b c : InboxState)
-      (r : Result (Unit {0}) Stop) (stop : Stop) → r ≡ Err stop →
-      Reads W unread left b (λ bytes es. StopsAt W input bytes es stop) →
-      (p : Part F) → Reads W unread left b (λ bytes es. EndCame S W p input c bytes es r)
-  end-stops-first real input unread left b c r stop is read p =
-      reads_so W real unread left b (λ bytes es. StopsAt W input bytes es stop)
-      (λ bytes es. EndCame S W p input c bytes es r)
-      (λ bytes es fits stopped. subst (EndCame S W p input c bytes es) (sym is) (inl stopped)) read
+  pub went-end : (M N : Message F) (e : Event F) → e ≡ Ended → N ≡ M → None ≡ finish (first_place S M) →
+      FirstWent S M N e true
+  went-end M N e is same fine = (is, same, ap (opening_fault S.may_cut) same ∙ sym fine)
 
-  pub end-came : (p : Part F) (input : Seen) (b : InboxState) (bytes : List ℕ) (es : List (Event F))
-      (e : Event F) (r : Result (Unit {0}) Stop) →
-      IsFirstPart p → OnOk r (e ≡ Ended) →
-      IfErr r (λ stop. (P : Peer) (q : Part F) → IsFirstPart q → Refuses S (first_held S P (q ∷ [])) e stop) →
-      HasRead W b bytes (es ++ e ∷ []) → EndCame S W p input b bytes es r
-  end-came p input b bytes es e (Ok x) fits came refused has = subst (λ y. HasRead W b bytes (es ++ y ∷ [])) came has
-  end-came p input b bytes es e (Err stop) fits came refused has =
-      inr (record { event = e; came = has; refuses = λ P. refused P p fits })
+  -- a refusal stays
+  stays-refused : (code : ℕ) (M : Message F) → fold next (Refused code) M ≡ Refused code
+  stays-refused code [] = refl
+  stays-refused code (p ∷ M) = stays-refused code M
+
+  -- whoever would answer has heard the parts that may stand first
+  heard-parts : (e : End F) (t : Taken F) (M : Message F) → refusal (fold next t.place M) ≡ None →
+      fold (hear S) (Goes_on e t) (map Came M) ≡ Goes_on e (fold (taken S e) t M)
+  heard-parts e t [] fits = refl
+  heard-parts e t (p ∷ M) fits =
+      ap (λ h. fold (hear S) h (map Came M)) (by (next t.place p) refl) ∙ heard-parts e (taken S e t p) M fits where
+        by : (x : Place F) → next t.place p ≡ x →
+            goes_unless (refusal (next t.place p)) (Goes_on e (taken S e t p)) ≡ Goes_on e (taken S e t p)
+        by (First cut) is = ap (λ y. goes_unless (refusal y) (Goes_on e (taken S e t p))) is
+        by (After left inside) is = ap (λ y. goes_unless (refusal y) (Goes_on e (taken S e t p))) is
+        by (Refused code) is =
+            let wrong : Some code ≡ None =
+            sym (ap (λ x. refusal (fold next x M)) is ∙ ap refusal (stays-refused code M)) ∙ fits in
+            absurd cc
+
+  pub parts-heard : (P : Peer) (M : Message F) → MayBegin S M →
+      hears S (responding S P) (map Came M) ≡ Goes_on (first_held S P M).end (first_held S P M).taken
+  parts-heard P M fits = heard-parts (responder S P) (nothing_taken (responder S P)) M fits
+
+  -- parts alone are no message, so nothing is said to them
+  pub none-whole : (acc M : Message F) → messages_of acc (map Came M) ≡ []
+  none-whole acc [] = refl
+  none-whole acc (p ∷ M) = none-whole (acc ++ p ∷ []) M
+
+  pub unsaid : (P : Peer) (M : Message F) → says S (responding S P) (messages_of [] (map Came M)) ≡ []
+  unsaid P M = ap (says S (responding S P)) (none-whole [] M)
+
+  -- the message that its events are
+  message-begins : (acc M : Message F) (more : List (Event F)) →
+      messages_of acc (message_came M ++ more) ≡ (acc ++ M) ∷ messages_of [] more
+  message-begins acc [] more = ap (λ N. N ∷ messages_of [] more) (sym (append-nil acc))
+  message-begins acc (p ∷ M) more =
+      message-begins (acc ++ p ∷ []) M more
+      ∙ ap (λ N. N ∷ messages_of [] more) (append_assoc acc (p ∷ []) M)
+
+  -- one event more of those of a message
+  part-after : (es : List (Event F)) (M N : Message F) (e : Event F) (p : Part F) → e ≡ Came p → N ≡ M ++ p ∷ [] →
+      (es ++ map Came M) ++ e ∷ [] ≡ es ++ map Came N
+  part-after es M N e p is new =
+      ap (λ x. (es ++ map Came M) ++ x ∷ []) is ∙ append_assoc es (map Came M) (Came p ∷ [])
+      ∙ ap (λ l. es ++ l) (sym (ap (map Came) new ∙ map-append Came M (p ∷ [])))
+
+  end-after : (es : List (Event F)) (M N : Message F) (e : Event F) → e ≡ Ended → N ≡ M →
+      (es ++ map Came M) ++ e ∷ [] ≡ es ++ message_came N
+  end-after es M N e is same =
+      ap (λ x. (es ++ map Came M) ++ x ∷ []) is ∙ append_assoc es (map Came M) (Ended ∷ [])
+      ∙ ap (λ L. es ++ message_came L) (sym same)
+
+  -- what the events of a first message make of all that was read
+  abbrev pub HasParts : InboxState → Message F → List ℕ → List (Event F) → Type 0
+  HasParts b M bytes es = HasRead W b bytes (es ++ map Came M)
+
+  pub parts-fit : (M : Message F) → M ≡ [] → MayBegin S M
+  parts-fit M none = ap (λ N. refusal (first_place S N)) none
+
+  pub parts-none : IsProfile W → (unread : Option (List ℕ)) (b : InboxState) (M : Message F) → M ≡ [] →
+      Reads W unread unread b (HasParts b M)
+  parts-none real unread b M none = reads_nothing W real unread b (HasParts b M)
+      (λ bytes es fits has. subst (HasRead W b bytes) (sym (ap (λ N. es ++ map Came N) none ∙ append-nil es)) has)
+
+  pub parts-more : IsProfile W → (unread mid left : Option (List ℕ)) (b c d : InboxState) (M N : Message F)
+      (e : Event F) → FirstWent S M N e false → Reads W unread mid b (HasParts c M) →
+      Reads W mid left c (λ bytes es. HasRead W d bytes (es ++ e ∷ [])) → Reads W unread left b (HasParts d N)
+  parts-more real unread mid left b c d M N e went first second =
+      reads_so W real unread left b (λ bytes es. HasRead W d bytes ((es ++ map Came M) ++ e ∷ [])) (HasParts d N)
+      (λ bytes es fits has. subst (HasRead W d bytes) (part-after es M N e went.0 went.1 went.2) has)
+      (reads_then W real unread mid left b c (λ es. es ++ map Came M)
+      (λ bytes es. HasRead W d bytes (es ++ e ∷ [])) first second)
+
+  pub parts-ended : IsProfile W → (unread mid left : Option (List ℕ)) (b c d : InboxState) (M N : Message F)
+      (e : Event F) → FirstWent S M N e true → Reads W unread mid b (HasParts c M) →
+      Reads W mid left c (λ bytes es. HasRead W d bytes (es ++ e ∷ [])) →
+      Reads W unread left b (λ bytes es. HasRead W d bytes (es ++ message_came N))
+  parts-ended real unread mid left b c d M N e went first second =
+      reads_so W real unread left b (λ bytes es. HasRead W d bytes ((es ++ map Came M) ++ e ∷ []))
+      (λ bytes es. HasRead W d bytes (es ++ message_came N))
+      (λ bytes es fits has. subst (HasRead W d bytes) (end-after es M N e went.0 went.1) has)
+      (reads_then W real unread mid left b c (λ es. es ++ map Came M)
+      (λ bytes es. HasRead W d bytes (es ++ e ∷ [])) first second)
+
+  -- the stream itself stops it
+  pub parts-stopped : IsProfile W → (input : Seen) (unread mid left : Option (List ℕ)) (b c d : InboxState)
+      (M : Message F) (stop : Stop) → MayBegin S M → Reads W unread mid b (HasParts c M) →
+      Reads W mid left c (λ bytes es. StopsAt W input bytes es stop) →
+      Reads W unread left b (λ bytes es. StopsBegun S W input d bytes es stop)
+  parts-stopped real input unread mid left b c d M stop fits first second =
+      reads_so W real unread left b (λ bytes es. StopsAt W input bytes (es ++ map Came M) stop)
+      (λ bytes es. StopsBegun S W input d bytes es stop) (λ bytes es are stopped. (M, fits, inl stopped))
+      (reads_then W real unread mid left b c (λ es. es ++ map Came M) (λ bytes es. StopsAt W input bytes es stop) first
+      second)
+
+  -- an event that may not come next does
+  pub parts-refused : IsProfile W → (input : Seen) (unread mid left : Option (List ℕ)) (b c d : InboxState)
+      (M : Message F) (e : Event F) (stop : Stop) → MayBegin S M →
+      ((P : Peer) → Refuses S (first_held S P M) e stop) → Reads W unread mid b (HasParts c M) →
+      Reads W mid left c (λ bytes es. HasRead W d bytes (es ++ e ∷ [])) →
+      Reads W unread left b (λ bytes es. StopsBegun S W input d bytes es stop)
+  parts-refused real input unread mid left b c d M e stop fits refuses first second =
+      reads_so W real unread left b (λ bytes es. HasRead W d bytes ((es ++ map Came M) ++ e ∷ []))
+      (λ bytes es. StopsBegun S W input d bytes es stop)
+      (λ bytes es are has. (M, fits, inr (record { event = e; came = has; refuses = refuses })))
+      (reads_then W real unread mid left b c (λ es. es ++ map Came M)
+      (λ bytes es. HasRead W d bytes (es ++ e ∷ [])) first second)
 
   stops-there : Laws S W →
       (P : Peer) (M : Message F) (b c : InboxState) (o : SenderState) (t : Traffic) (left : Option (List ℕ))
       (r : Seen) (broken : Bool) (stop : Stop) (es : List (Event F)) →
-      says S (responding P) (messages_of [] es) ≡ [] →
-      hears S (responding P) es ≡ Goes_on (first_held S P M).end (first_held S P M).taken →
-      (x : Exchanged W b o t es) →
+      says S (responding S P) (messages_of [] es) ≡ [] →
+      hears S (responding S P) es ≡ Goes_on (first_held S P M).end (first_held S P M).taken →
+      (x : Exchanged W b o t []) →
       ((bytes : List ℕ) × IsBytes bytes × Consumes t.left left bytes × StopsFirst S W M r c (x.bytes ++ bytes) es
       stop) →
-      Stopped S W IsNone (responding P) o (traffic_of t.unread left t.held t.holds) r broken stop
+      Stopped S W IsNone (responding S P) o (traffic_of t.unread left t.held t.holds) r broken stop
   stops-there laws P M b c o t left r broken stop es quiet heard x more = by more.3 where
     bytes : List ℕ
     bytes = x.bytes ++ more.0
@@ -204,16 +278,16 @@ module _ {F : Type 0} (S : Summary F) (W : Profile F) where
     read : Takes t.unread left bytes
     read = takes-on t.unread t.left left x.bytes more.0 x.read more.2
 
-    wrote : HasWritten W o t.held t.holds (says S (responding P) (messages_of [] es))
+    wrote : HasWritten W o t.held t.holds (says S (responding S P) (messages_of [] es))
     wrote = subst (HasWritten W o t.held t.holds) (sym quiet) x.written
 
     by : StopsFirst S W M r c bytes es stop →
-        Stopped S W IsNone (responding P) o (traffic_of t.unread left t.held t.holds) r broken stop
-    by (inl stopped) = stops-unheard S W IsNone laws (responding P) (first_held S P M) o
+        Stopped S W IsNone (responding S P) o (traffic_of t.unread left t.held t.holds) r broken stop
+    by (inl stopped) = stops-unheard S W IsNone laws (responding S P) (first_held S P M) o
         (traffic_of t.unread left t.held t.holds) r broken stop bytes es refl are read wrote heard stopped
     by (inr there) =
         let after = all-events S W c bytes (es ++ there.event ∷ []) there.came in
-        stops-refusing S W IsNone laws (responding P) (first_held S P M) o o
+        stops-refusing S W IsNone laws (responding S P) (first_held S P M) o o
         (traffic_of t.unread left t.held t.holds) t.holds r broken there.event stop refl
         (record {
           bytes = bytes;
@@ -226,104 +300,133 @@ module _ {F : Type 0} (S : Summary F) (W : Profile F) where
           heard = heard;
         }) (there.refuses P) (adds-none S W o t.holds)
 
-  -- its first part does not come, or may not
-  pub stops-partless : Laws S W →
+  -- it goes on no more, after some parts that may stand first
+  pub stops-begun : Laws S W →
       (P : Peer) (b c : InboxState) (o : SenderState) (t : Traffic) (left : Option (List ℕ)) (r : Seen) (broken : Bool)
       (stop : Stop) (x : Exchanged W b o t []) →
-      ((bytes : List ℕ) × IsBytes bytes × Consumes t.left left bytes × StopsFirst S W [] r c (x.bytes ++ bytes) []
-      stop) →
-      Stopped S W IsNone (responding P) o (traffic_of t.unread left t.held t.holds) r broken stop
-  stops-partless laws P b c o t left r broken stop x more =
-      stops-there laws P [] b c o t left r broken stop [] refl refl x more
-
-  -- its end does not come
-  pub stops-endless : Laws S W →
-      (P : Peer) (p : Part F) (b c : InboxState) (o : SenderState) (t : Traffic) (left : Option (List ℕ))
-      (r : Seen) (broken : Bool) (stop : Stop) →
-      IsFirstPart p → (x : Exchanged W b o t (Came p ∷ [])) →
-      ((bytes : List ℕ) × IsBytes bytes × Consumes t.left left bytes
-      × StopsFirst S W (p ∷ []) r c (x.bytes ++ bytes)
-      (Came p ∷ []) stop) → Stopped S W IsNone (responding P) o (traffic_of t.unread left t.held t.holds) r broken stop
-  stops-endless laws P p b c o t left r broken stop fits x more =
-      stops-there laws P (p ∷ []) b c o t left r broken stop (Came p ∷ []) refl (part-heard P p fits) x more
+      ((bytes : List ℕ) × IsBytes bytes × Consumes t.left left bytes × StopsBegun S W r c (x.bytes ++ bytes) [] stop) →
+      Stopped S W IsNone (responding S P) o (traffic_of t.unread left t.held t.holds) r broken stop
+  stops-begun laws P b c o t left r broken stop x (bytes, are, read, (M, fits, stopped)) =
+      stops-there laws P M b c o t left r broken stop (map Came M) (unsaid P M) (parts-heard P M fits) x
+      (bytes, are, read, stopped)
 
   -- ---- after the pin
 
   -- the hello was written, and no more: memory runs out, or the table of sessions refuses
   stops-after : (T : ℕ → ℕ → Type 0) (P : Peer) (b : InboxState) (o : SenderState) (t : Traffic) (r : Seen)
       (broken : Bool) (es : List (Event F)) (stop : Stop) (x : Exchanged W b o t es) →
-      (WroteUpTo S W (responding P) o t x.bytes → WhyStopped S W T (responding P) o t r broken x.bytes stop) →
-      Stopped S W T (responding P) o t r broken stop
+      (WroteUpTo S W (responding S P) o t x.bytes → WhyStopped S W T (responding S P) o t r broken x.bytes stop) →
+      Stopped S W T (responding S P) o t r broken stop
   stops-after T P b o t r broken es stop x why = record {
     bytes = x.bytes;
     are_bytes = x.are_bytes;
     read = x.read;
-    why = why (inl (wrote-first S W (responding P) o t x.bytes [] _ refl x.written));
+    why = why (inl (wrote-first S W (responding S P) o t x.bytes [] _ refl x.written));
   }
 
   pub stops-poor : (P : Peer) (b : InboxState) (o : SenderState) (t : Traffic) (r : Seen) (broken : Bool)
       (es : List (Event F)) →
-      Exchanged W b o t es → Stopped S W (IsTimely o.sent) (responding P) o t r broken stops.Memory
+      Exchanged W b o t es → Stopped S W (IsTimely o.sent) (responding S P) o t r broken stops.Memory
   stops-poor P b o t r broken es x = stops-after (IsTimely o.sent) P b o t r broken es stops.Memory x (λ wrote. wrote)
 
   pub stops-unlisted : (P : Peer) (b : InboxState) (o : SenderState) (t : Traffic) (r : Seen) (broken : Bool)
       (es : List (Event F))
       (code : ℕ) →
       Exchanged W b o t es → (code ≡ table_full) ⊎ (code ≡ serials_spent) → o.sent ≡ 0 →
-      Stopped S W (IsTimely o.sent) (responding P) o t r broken (stops.Refused code)
+      Stopped S W (IsTimely o.sent) (responding S P) o t r broken (stops.Refused code)
   stops-unlisted P b o t r broken es code x table none =
       stops-after (IsTimely o.sent) P b o t r broken es (stops.Refused code) x
       (λ wrote. (wrote, inr (inl (table, none))))
 
-  -- the part waits for the end that was made
+  -- the events in front of a part, and those after it
+  pub parts-split : (front back : Message F) (p : Part F) (more : List (Event F)) →
+      message_came (front ++ p ∷ back) ++ more ≡ (map Came front ++ Came p ∷ []) ++ (map Came back ++ Ended ∷ more)
+  parts-split [] back p more = ap (λ l. Came p ∷ l) (append_assoc (map Came back) (Ended ∷ []) more)
+  parts-split (q ∷ front) back p more = ap (λ l. Came q ∷ l) (parts-split front back p more)
+
+  -- a part waits for the end that was made, which has heard those in front of it
   abbrev pub at-part : (P : Peer) (steps : List ℕ) (h : EndState F) (b : InboxState) (o : SenderState) (t : Traffic)
-      (p : Part F) →
-      h ≡ fresh steps (responder P) →
-      Exchanged W b o t (Came p ∷ Ended ∷ []) → At S W (responding P) h o t (Came p)
-  at-part P steps h b o t p new x =
-      let after = all-events S W b x.bytes (Came p ∷ Ended ∷ []) x.came in
+      (M : Message F) (stop : Stop) →
+      h ≡ fresh steps (responder S P) → (x : StopsAmong S h M stop) →
+      Exchanged W b o t (message_came M) → At S W (responding S P) x.at o t (Came x.part)
+  at-part P steps h b o t M stop new x y =
+      let after = all-events S W b y.bytes (message_came M) y.came in
       record {
-        bytes = x.bytes;
-        are_bytes = x.are_bytes;
-        read = x.read;
-        es = [];
-        rest = Ended ∷ after.0;
-        all = after.1;
-        written = x.written;
-        heard = sym (ap (λ y. Goes_on y.end y.taken) new);
+        bytes = y.bytes;
+        are_bytes = y.are_bytes;
+        read = y.read;
+        es = map Came x.front;
+        rest = map Came x.back ++ Ended ∷ after.0;
+        all = after.1 ∙ ap (λ N. message_came N ++ after.0) x.all ∙ parts-split x.front x.back x.part after.0;
+        written = subst (HasWritten W o t.held t.holds) (sym (unsaid P x.front)) y.written;
+        heard = ap (λ z. fold (hear S) (Goes_on z.end z.taken) (map Came x.front)) (sym new) ∙ x.heard;
       }
 
-  -- it was heard, and the end of the message waits
+  -- they were heard, and the end of the message waits
   abbrev pub at-end : (P : Peer) (steps : List ℕ) (h g : EndState F) (b : InboxState) (o : SenderState) (t : Traffic)
-      (p : Part F) →
-      h ≡ fresh steps (responder P) →
-      heard_as g ≡ hear_now S h.end h.taken (Came p) → g.end ≡ h.end → Exchanged W b o t (Came p ∷ Ended ∷ []) →
-      At S W (responding P) g o t Ended
-  at-end P steps h g b o t p new now same x =
-      let after = all-events S W b x.bytes (Came p ∷ Ended ∷ []) x.came in
+      (M : Message F) →
+      h ≡ fresh steps (responder S P) →
+      heard_as g ≡ fold (hear S) (Goes_on h.end h.taken) (map Came M) → g.end ≡ h.end →
+      Exchanged W b o t (message_came M) → At S W (responding S P) g o t Ended
+  at-end P steps h g b o t M new now same x =
+      let after = all-events S W b x.bytes (message_came M) x.came in
       let live : is_over g.end.stage ≡ false = ap (λ e. is_over e.stage) same ∙ ap (λ y. is_over y.end.stage) new in
       record {
         bytes = x.bytes;
         are_bytes = x.are_bytes;
         read = x.read;
-        es = Came p ∷ [];
+        es = map Came M;
         rest = after.0;
         all = after.1;
-        written = x.written;
-        heard = sym (ap (λ y. hear_now S y.end y.taken (Came p)) new) ∙ sym now ∙ heard-goes S W g live;
+        written = subst (HasWritten W o t.held t.holds) (sym (unsaid P M)) x.written;
+        heard = ap (λ y. fold (hear S) (Goes_on y.end y.taken) (map Came M)) (sym new) ∙ sym now ∙ heard-goes S W g
+            live;
       }
 
   pub answers-first : Laws S W →
       (P : Peer) (steps : List ℕ) (h g k : EndState F) (b : InboxState) (o q : SenderState) (t : Traffic)
-      (holds : Option (List ℕ)) (p : Part F) →
-      h ≡ fresh steps (responder P) →
-      heard_as g ≡ hear_now S h.end h.taken (Came p) → g.end ≡ h.end →
-      (x : Exchanged W b o t (Came p ∷ Ended ∷ [])) →
+      (holds : Option (List ℕ)) (M : Message F) →
+      h ≡ fresh steps (responder S P) →
+      heard_as g ≡ fold (hear S) (Goes_on h.end h.taken) (map Came M) → g.end ≡ h.end →
+      (x : Exchanged W b o t (message_came M)) →
       heard_as k ≡ hear_now S g.end g.taken Ended → Adds W o q t.holds holds (said_by g Ended) →
-      Underway S W (responding P) k b q (traffic_of t.unread t.left t.held holds)
-  answers-first laws P steps h g k b o q t holds p new now same x next added =
-      goes-on S W laws (responding P) g k b o q t holds Ended refl
-      (at-end P steps h g b o t p new now same x) x.came next added
+      Underway S W (responding S P) k b q (traffic_of t.unread t.left t.held holds)
+  answers-first laws P steps h g k b o q t holds M new now same x next added =
+      goes-on S W laws (responding S P) g k b o q t holds Ended refl
+      (at-end P steps h g b o t M new now same x) x.came next added
+
+  -- ---- one part after another
+
+  -- those in front of one part more
+  pub taken-more : (h g k : EndState F) (M : Message F) (i : ℕ) (p : Part F) → i < length M → p ≡ get_or M i p →
+      is_over g.end.stage ≡ false →
+      heard_as g ≡ fold (hear S) (Goes_on h.end h.taken) (map Came (take i M)) →
+      heard_as k ≡ hear_now S g.end g.taken (Came p) →
+      heard_as k ≡ fold (hear S) (Goes_on h.end h.taken) (map Came (take (i + 1) M))
+  taken-more h g k M i p here is live before now =
+      let begun : Hearing F = Goes_on h.end h.taken in
+      now
+      ∙ ap (λ x. hear S x (Came p)) (sym (heard-goes S W g live) ∙ before)
+      ∙ sym (fold-append (hear S) begun (map Came (take i M)) (Came p ∷ []))
+      ∙ ap (fold (hear S) begun) (sym (map-append Came (take i M) (p ∷ [])))
+      ∙ ap (λ N. fold (hear S) begun (map Came N))
+      (ap (λ x. take i M ++ x ∷ []) is ∙ sym (take_more M i p here))
+
+  pub stops-among : (h g : EndState F) (M : Message F) (i : ℕ) (p : Part F) (stop : Stop) → i < length M →
+      p ≡ get_or M i p → is_over g.end.stage ≡ false →
+      heard_as g ≡ fold (hear S) (Goes_on h.end h.taken) (map Came (take i M)) → Refuses S g (Came p) stop →
+      StopsAmong S h M stop
+  stops-among h g M i p stop here is live before refuses = record {
+    front = take i M;
+    part = p;
+    back = drop (i + 1) M;
+    all =
+        sym (take-append-drop i M)
+        ∙ ap (λ l. take i M ++ l) (drop_more M i p here ∙ ap (λ x. x ∷ drop (i + 1) M) (sym is));
+    at = g;
+    heard = sym before ∙ heard-goes S W g live;
+    refuses = refuses;
+  }
 
   -- ---- all that is said of it
 
@@ -331,7 +434,7 @@ module _ {F : Type 0} (S : Summary F) (W : Profile F) where
   pub stops-broken-after : (T : ℕ → ℕ → Type 0) (P : Peer) (o p : SenderState) (front : List ℕ)
       (unread held holds : Option (List ℕ)) (r : Seen) (broken : Bool) →
       o ≡ sender_state false 0 → p ≡ o → IsTrue broken → BreaksIn held holds (hello_due W o) → IsBytes front →
-      Stopped S W T (responding P) p (traffic_after front unread unread held holds) r broken
+      Stopped S W T (responding S P) p (traffic_after front unread unread held holds) r broken
       (stops.Io directions.Write)
   stops-broken-after T P o p front unread held holds r broken new same failed begins fits = record {
     bytes = front;
@@ -341,9 +444,9 @@ module _ {F : Type 0} (S : Summary F) (W : Profile F) where
         let t = traffic_after front unread unread held holds in
         let part = subst (λ x. BreaksIn held holds (hello_due W x)) new begins in
         let none = ap (λ x. x.sent) (same ∙ new) in (
-          breaks-in-hello S W (responding P) p t front none part,
+          breaks-in-hello S W (responding S P) p t front none part,
           failed,
-          cut-in-hello S W (responding P) p t front none part,
+          cut-in-hello S W (responding S P) p t front none part,
         );
   }
 
@@ -351,25 +454,27 @@ module _ {F : Type 0} (S : Summary F) (W : Profile F) where
   pub speaks-stopped : (P : Peer) (version bound : ℕ) (x : SenderState) (t : Traffic) (holds : Option (List ℕ))
       (r w : Seen) (broken : Bool) (stop : Stop) (o : Outcome) →
       x.sent ≡ 0 →
-      Stopped S W (IsTimely x.sent) (responding P) x t r broken stop → Leaves W x t.holds holds broken w.failed stop →
-      o ≡ outcome_of x.sent stop → Spoke S W (responding P) version bound (traffic_of t.unread t.left t.held holds) r w
+      Stopped S W (IsTimely x.sent) (responding S P) x t r broken stop → Leaves W x t.holds holds broken w.failed stop →
+      o ≡ outcome_of x.sent stop → Spoke S W (responding S P) version bound (traffic_of t.unread t.left t.held holds) r
+      w
       o
   speaks-stopped P version bound x t holds r w broken stop o none stopped leaves is =
       let few : x.sent ≤ bound = omega (arith, none) in
-      subst (λ y. Spoke S W (responding P) version bound (traffic_of t.unread t.left t.held holds) r w y) (sym is)
-      (stopped-speaks S W (responding P) version bound x t holds r w broken stop stopped leaves few)
+      subst (λ y. Spoke S W (responding S P) version bound (traffic_of t.unread t.left t.held holds) r w y) (sym is)
+      (stopped-speaks S W (responding S P) version bound x t holds r w broken stop stopped leaves few)
 
   -- it was not opened
   pub unopened : (x : SenderState) (t : Traffic) (holds : Option (List ℕ)) (r w : Seen) (broken : Bool) (stop : Stop)
       (o : Outcome) →
       x.sent ≡ 0 →
-      ((P : Peer) → Stopped S W IsNone (responding P) x t r broken stop) →
+      ((P : Peer) → Stopped S W IsNone (responding S P) x t r broken stop) →
       Leaves W x t.holds holds broken w.failed stop →
       o ≡ outcome_of x.sent stop → Unopened S W (traffic_of t.unread t.left t.held holds) r w o
   unopened x t holds r w broken stop o none stopped leaves is =
       subst (λ y. Unopened S W (traffic_of t.unread t.left t.held holds) r w y) (sym is) (record {
         none = by stop;
-        anyone = λ P version. stopped-unopened S W (responding P) version x t holds r w broken stop (stopped P) leaves;
+        anyone = λ P version. stopped-unopened S W (responding S P) version x t holds r w broken stop (stopped P)
+            leaves;
       }) where
         by : (stop : Stop) → sent_in (outcome_of x.sent stop) ≡ 0
         by (stops.Refused code) = none
@@ -380,35 +485,37 @@ module _ {F : Type 0} (S : Summary F) (W : Profile F) where
   -- what the side that is spoken to first keeps to
   abbrev pub SecondIsModest : Checked → Type 0
   SecondIsModest a = (h : History) (bytes : List ℕ) → IsBytes bytes → length (content h) ≤ a.table.cap →
-      KeepsBounds S W (responding (peer_of a (content h))) bytes
+      KeepsBounds S W (responding S (peer_of a (content h))) bytes
       (rank_by a.steps (length (content h)) + 1) a.table.limit
 
   pub serves : (a b : Checked) (w : View) (pin : PinState) (t : Traffic) (r x : Seen) (o : Outcome) → IsPinOf pin w →
       b ≡ a →
-      Spoke S W (responding (peer_of b pin.items)) pin.version (rank_by b.steps (length pin.items) + 1) t r x o →
+      Spoke S W (responding S (peer_of b pin.items)) pin.version (rank_by b.steps (length pin.items) + 1) t r x o →
       SecondIsModest a →
-      Speaks S W (length (content w.base) ≤ a.table.cap) (responding (peer_at a w)) (length w.base)
+      Speaks S W (length (content w.base) ≤ a.table.cap) (responding S (peer_at a w)) (length w.base)
       (rank_by a.steps (length (peer_at a w).items) + 1) a.table.limit t r x o
   serves a b w pin t r x o is same spoke bounded =
-      of-pin S W (length (content w.base) ≤ a.table.cap) (λ p. responding p) 1 a b w pin t r x o is same spoke
+      of-pin S W (length (content w.base) ≤ a.table.cap) (λ p. responding S p) 1 a b w pin t r x o is same spoke
       (bounded w.base)
 
   -- a first message was handed out, and more was read or not
-  pub came-first : FeedsJoin W →
-      (b : InboxState) (o : SenderState) (unread : Origin) (left last held holds : Option (List ℕ)) (p : Part F) →
-      IsFirstPart p → Exchanged W b o (traffic_of unread left held holds) (Came p ∷ Ended ∷ []) → ReadOn left last →
-      CameFirst W unread last
-  came-first join b o unread left last held holds p fits x on =
-      let after = all-events S W b x.bytes (Came p ∷ Ended ∷ []) x.came in
+  pub came-first : FeedsJoin W → OpeningIsExact F →
+      (b : InboxState) (o : SenderState) (unread : Origin) (left last held holds : Option (List ℕ)) (M : Message F) →
+      opening_fault S.may_cut M ≡ None → Exchanged W b o (traffic_of unread left held holds) (message_came M) →
+      ReadOn left last → CameFirst S W unread last
+  came-first join exact b o unread left last held holds M fits x on =
+      let after = all-events S W b x.bytes (message_came M) x.came in
       let first = feed W Before_hello x.bytes in
       let rest = feed W first.to (first.kept ++ on.0) in
       record {
         bytes = x.bytes ++ on.0;
         read = takes-on unread left last x.bytes on.0 x.read on.2;
-        part = p;
-        first = fits;
+        message = M;
+        first = (exact S.may_cut M).0 fits;
         later = messages_of [] (after.0 ++ rest.events);
         messages =
             ap (λ f. messages_of [] f.events) (join Before_hello x.bytes on.0 x.are_bytes on.1)
-            ∙ ap (λ es. messages_of [] (es ++ rest.events)) after.1;
+            ∙ ap (λ es. messages_of [] (es ++ rest.events)) after.1
+            ∙ ap (messages_of []) (append_assoc (message_came M) after.0 rest.events)
+            ∙ message-begins [] M (after.0 ++ rest.events);
       }

@@ -26,19 +26,20 @@ Chosen {A} {B} bytes_of others_of =
 -- the side that answers, in the profile that the bytes choose
 abbrev pub ChosenSpeaks : Type 0 → Peer → ℕ → ℕ → ℕ → Traffic → Seen → Seen → Outcome → Type 0
 ChosenSpeaks fits p version bound limit t r w o = Chosen
-    {A = Speaks counted_lanes counted_profile fits (responding p) version bound limit t r w o}
-    {B = Speaks two_lanes two_lane_profile fits (responding p) version bound limit t r w o} (λ x. x.bytes)
+    {A = Speaks counted_lanes counted_profile fits (responding counted_lanes p) version bound limit t r w o}
+    {B = Speaks two_lanes two_lane_profile fits (responding two_lanes p) version bound limit t r w o} (λ x. x.bytes)
     (λ x. x.bytes)
 
 -- no message was said, and what the outcome says holds of whoever would have answered
 pub record ChosenUnopened (t : Traffic) (r w : Seen) (o : Outcome) : Type 0 where
   pub none : sent_in o ≡ 0
   pub anyone : (p : Peer) (version : ℕ) → Chosen
-      {A = SpeaksUnopened counted_lanes counted_profile (responding p) version t r w o}
-      {B = SpeaksUnopened two_lanes two_lane_profile (responding p) version t r w o} (λ x. x.bytes) (λ x. x.bytes)
+      {A = SpeaksUnopened counted_lanes counted_profile (responding counted_lanes p) version t r w o}
+      {B = SpeaksUnopened two_lanes two_lane_profile (responding two_lanes p) version t r w o}
+      (λ x. x.bytes) (λ x. x.bytes)
 
--- what was read begins with a message of one part, which may stand first
+-- what was read begins with a message that may stand first
 abbrev pub ChosenFirst : Origin → Option (List ℕ) → Type 0
 ChosenFirst unread left = Chosen
-    {A = CameFirst counted_profile unread left} {B = CameFirst two_lane_profile unread left} (λ x. x.bytes)
-    (λ x. x.bytes)
+    {A = CameFirst counted_lanes counted_profile unread left}
+    {B = CameFirst two_lanes two_lane_profile unread left} (λ x. x.bytes) (λ x. x.bytes)

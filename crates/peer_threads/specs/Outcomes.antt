@@ -18,8 +18,8 @@
 use Rattle.std.specs.Prelude.{◌≡◌, ℕ, ◌≤◌, ◌<◌, ◌⊎◌, Bool, List, [], ◌∷◌, ◌++◌, Option, Some, None, length, ⊤}
 use Rattle.std.specs.Io.KnownBytes.{Appends, Consumes}
 use Rattle.definitions.specs.Fingerprints.{Summary}
-use Rattle.definitions.specs.Messages.{Part, Message}
-use Rattle.definitions.specs.Placing.{First, next, refusal}
+use Rattle.definitions.specs.Messages.{Message}
+use Rattle.definitions.specs.Placing.{IsOpening}
 use Rattle.definitions.specs.Replies.{Peer}
 use Rattle.definitions.specs.Histories.{content}
 use Rattle.definitions.specs.Refusals.{table_full, unknown, over_bound, serials_spent, gate_closed}
@@ -161,14 +161,13 @@ module _ {F : Type 0} (S : Summary F) (W : Profile F) where
   -- no message was said, and what the outcome says holds of whoever would have answered
   pub record Unopened (t : Traffic) (r w : Seen) (o : Outcome) : Type 0 where
     pub none : sent_in o ≡ 0
-    pub anyone : (p : Peer) (version : ℕ) → SpeaksUnopened (responding p) version t r w o
+    pub anyone : (p : Peer) (version : ℕ) → SpeaksUnopened (responding S p) version t r w o
 
-module _ {F : Type 0} (W : Profile F) where
-  -- what was read begins with a message of one part, which may stand first
+  -- what was read begins with a message that may stand first
   pub record CameFirst (unread : Origin) (left : Option (List ℕ)) : Type 0 where
     pub bytes : List ℕ
     pub read : Takes unread left bytes
-    pub part : Part F
-    pub first : refusal (next First part) ≡ None
+    pub message : Message F
+    pub first : IsOpening S.may_cut message
     pub later : List (Message F)
-    pub messages : messages_in W bytes ≡ (part ∷ []) ∷ later
+    pub messages : messages_in W bytes ≡ message ∷ later

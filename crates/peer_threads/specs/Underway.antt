@@ -1,10 +1,15 @@
 -- A session between two frames, and how it stops.
---     most_sent most h               the greatest number of messages that an end sends
+--     most_sent S side h             the greatest number of messages that an end sends
 --     heard_as h                     where the end h stands, as a stream is heard
 --     Underway s h b o t             the end h is the side's after the events handed out, and what it says was written
---     first_held P M                 the end of a responder P that took these parts of a first message
+--     first_held S P M               the end of a responder P that took these parts of a first message
+--     MayBegin S M                   these parts may stand first
+--     message_came M                 the events of a message
+--     FirstWent S M N e ended        what an event makes of the parts of a first message
+--     StopsAmong S h M stop          why this side stops at one of these parts
 --     Exchanged b o t es             these events were handed out of the bytes read, and the hello alone was written
 --     StopsFirst M r b bytes es stop    why a first message goes on no more after its parts M, whoever would answer
+--     StopsBegun r b bytes es stop   the same after some parts that may stand first
 --     Refuses h e stop               the event itself stops the session
 --     BreaksSaying o p held holds Ms   a part of the one message was written
 --     StopsBy h e o p held holds broken stop      why this side stops at an event; `broken`: whether the writer failed
@@ -14,15 +19,14 @@
 --     Talked s e o t r broken result     what a call leaves that goes on to the end
 --     Leaves o held holds broken failed stop      what a stop writes after all else
 --     Spoke s version bound t r w o  what an outcome says, of the bytes that were read
-use Rattle.std.specs.Prelude.{◌≡◌, ℕ, ◌+◌, ◌≤◌, ◌<◌, ◌^◌, ◌⊎◌, Bool, false, List, [], ◌∷◌, ◌++◌, length, Option, Some}
-use Rattle.std.specs.Prelude.{None}
+use Rattle.std.specs.Prelude.{◌≡◌, ℕ, ◌+◌, ◌≤◌, ◌<◌, ◌^◌, ◌⊎◌, Bool, true, false, List, [], ◌∷◌, ◌++◌, length, map}
+use Rattle.std.specs.Prelude.{fold, Option, Some, None}
 use Rattle.std.specs.Prelude.{Result, Ok, Err, IsTrue, IsFalse, if◌then◌else◌, slice_get, ⊤}
 use Rattle.std.specs.Io.KnownBytes.{Appends, Keeps}
 use Rattle.definitions.specs.Fingerprints.{Summary}
 use Rattle.definitions.specs.Items.{IsBytes}
 use Rattle.definitions.specs.Messages.{Part, Message}
-use Rattle.definitions.specs.Placing.{First, next, refusal}
-use Rattle.definitions.specs.Ranks.{rank_by}
+use Rattle.definitions.specs.Placing.{Place, First, next, refusal, opening_fault}
 use Rattle.definitions.specs.Refusals.{no_memory, too_many_parts, unknown, over_bound, gate_closed}
 use Rattle.definitions.specs.Wire.{Profile, message_text, session_text, Event, Came, Ended, Failed}
 use Rattle.definitions.specs.Streams.{messages_of}
@@ -30,10 +34,13 @@ use Rattle.definitions.specs.Replies.{Peer}
 use Rattle.definitions.specs.Ends.{End, responder, is_over, is_sendable}
 use Rattle.definitions.specs.Engines.{Speaker, says, fault_frame, replied, text}
 use Rattle.definitions.specs.Taking.{ended}
-use Rattle.definitions.specs.Hearing.{Hearing, Goes_on, Over_at, Peer_refused, Refused_for, hear_now, hears, hearing_to}
+use Rattle.definitions.specs.Hearing.{Hearing, Goes_on, Over_at, Peer_refused, Refused_for, hear_now, hear, hears}
+use Rattle.definitions.specs.Hearing.{hearing_to}
 use Rattle.definitions.specs.Accounts.{Seen, BrokeOff}
 use Rattle.laws.specs.Hearing.{adds}
+use Rattle.definitions.specs.Worlds.{Side}
 use Rattle.ends_core.specs.EndStates.{EndState}
+use Rattle.ends_core.specs.Roles.{bound_of}
 use Rattle.ends_core.specs.Turns.{fresh, after_parts}
 use Rattle.session_table.specs.declared.outcome.Outcome.{Outcome}
 use Rattle.session_table.specs.declared.outcome.Direction.{Direction}
@@ -46,8 +53,8 @@ use Rattle.ends_core.specs.Sides.{called_by, said_to, session_at}
 use Rattle.peer_threads.specs.Inboxes.{InboxState, HasRead, StopsAt}
 use Rattle.peer_threads.specs.Senders.{SenderState, HasWritten, Adds, BreaksIn, WroteSo, refusal_text}
 
-abbrev pub most_sent : {F : Type 0} → ℕ → EndState F → ℕ
-most_sent most h = rank_by h.steps (length h.end.peer.items) + most
+abbrev pub most_sent : {F : Type 0} → Summary F → Side → EndState F → ℕ
+most_sent S side h = bound_of side S.may_cut h.end.peer.table h.steps (length h.end.peer.items)
 
 abbrev pub heard_as : {F : Type 0} → EndState F → Hearing F
 heard_as h = if is_over h.end.stage then Over_at h.end else Goes_on h.end h.taken
@@ -91,11 +98,32 @@ module _ {F : Type 0} (W : Profile F) where
 -- ---- before a session is opened
 
 abbrev pub first_held : {F : Type 0} → Summary F → Peer → Message F → EndState F
-first_held S P M = after_parts S (fresh [] (responder P)) M
+first_held S P M = after_parts S (fresh [] (responder S P)) M
 
--- a part that may stand first
-abbrev pub IsFirstPart : {F : Type 0} → Part F → Type 0
-IsFirstPart p = refusal (next First p) ≡ None
+-- where a first message stands after these parts
+abbrev pub first_place : {F : Type 0} → Summary F → Message F → Place F
+first_place S M = fold next (First S.may_cut) M
+
+abbrev pub MayBegin : {F : Type 0} → Summary F → Message F → Type 0
+MayBegin S M = refusal (first_place S M) ≡ None
+
+abbrev pub message_came : {F : Type 0} → Message F → List (Event F)
+message_came M = map Came M ++ Ended ∷ []
+
+-- one part more, which may come next, or the end of a whole message
+abbrev pub FirstWent : {F : Type 0} → Summary F → Message F → Message F → Event F → Bool → Type 0
+FirstWent {F} S M N e false = (p : Part F) × (e ≡ Came p) × (N ≡ M ++ p ∷ []) × MayBegin S N
+FirstWent S M N e true = (e ≡ Ended) × (N ≡ M) × (opening_fault S.may_cut N ≡ None)
+
+-- the parts in front of it were heard
+pub record StopsAmong {F : Type 0} (S : Summary F) (h : EndState F) (M : Message F) (stop : Stop) : Type 0 where
+  pub front : Message F
+  pub part : Part F
+  pub back : Message F
+  pub all : M ≡ front ++ part ∷ back
+  pub at : EndState F
+  pub heard : fold (hear S) (Goes_on h.end h.taken) (map Came front) ≡ Goes_on at.end at.taken
+  pub refuses : Refuses S at (Came part) stop
 
 module _ {F : Type 0} (W : Profile F) where
   pub record Exchanged (b : InboxState) (o : SenderState) (t : Traffic) (es : List (Event F)) : Type 0 where
@@ -169,13 +197,8 @@ module _ {F : Type 0} (S : Summary F) (W : Profile F) where
   abbrev pub StopsFirst : Message F → Seen → InboxState → List ℕ → List (Event F) → Stop → Type 0
   StopsFirst M r b bytes es stop = StopsAt W r bytes es stop ⊎ StopsThere M b bytes es stop
 
-  abbrev pub FirstCame : Seen → InboxState → List ℕ → List (Event F) → Result (Part F) Stop → Type 0
-  FirstCame r b bytes es (Ok p) = IsFirstPart p × HasRead W b bytes (es ++ Came p ∷ [])
-  FirstCame r b bytes es (Err stop) = StopsFirst [] r b bytes es stop
-
-  abbrev pub EndCame : Part F → Seen → InboxState → List ℕ → List (Event F) → Result (Unit {0}) Stop → Type 0
-  EndCame p r b bytes es (Ok x) = HasRead W b bytes (es ++ Ended ∷ [])
-  EndCame p r b bytes es (Err stop) = StopsFirst (p ∷ []) r b bytes es stop
+  abbrev pub StopsBegun : Seen → InboxState → List ℕ → List (Event F) → Stop → Type 0
+  StopsBegun r b bytes es stop = (M : Message F) × MayBegin S M × StopsFirst M r b bytes (es ++ map Came M) stop
 
   -- ---- the end of a session
 

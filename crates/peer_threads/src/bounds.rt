@@ -7,6 +7,7 @@ ghost use Rattle.definitions.specs.Sets.{IsSet};
 ghost use Rattle.definitions.specs.Histories.{History, content};
 ghost use Rattle.definitions.specs.Ranks.{rank_by};
 ghost use Rattle.definitions.specs.Engines.{initiating, responding};
+ghost use Rattle.definitions.specs.Worlds.{opened_of};
 ghost use Rattle.ends_core.specs.Sides.{KeepsBounds, peer_of};
 
 use digest_core::Summary;
@@ -19,10 +20,11 @@ pub(crate) fn sides_keep_bounds<F: Summary>(accepted: &Arc<Accepted>)
     ensures initiator { (A : List Item) (bytes : List ℕ) → IsBytes bytes → IsSet A →
         length A ≤ (arc_value accepted.now).table.cap →
         KeepsBounds F.summary F.profile (initiating F.summary (peer_of (arc_value accepted.now) A)) bytes
-        (rank_by (arc_value accepted.now).steps (length A) + 2) (arc_value accepted.now).table.limit }
+        (opened_of F.summary (arc_value accepted.now).steps (peer_of (arc_value accepted.now) A) + 2)
+        (arc_value accepted.now).table.limit }
     ensures responder { (h : History) (bytes : List ℕ) → IsBytes bytes →
         length (content h) ≤ (arc_value accepted.now).table.cap →
-        KeepsBounds F.summary F.profile (responding (peer_of (arc_value accepted.now) (content h))) bytes
+        KeepsBounds F.summary F.profile (responding F.summary (peer_of (arc_value accepted.now) (content h))) bytes
         (rank_by (arc_value accepted.now).steps (length (content h)) + 1) (arc_value accepted.now).table.limit }
 {
     ends_core::sides_keep_bounds::<F>(accepted);

@@ -3,7 +3,7 @@
 ghost use Rattle.std.specs.Prelude.{◌≡◌, ◌≤◌, ◌+◌, ◌^◌, ⊤, false, length};
 ghost use Rattle.std.specs.Arc.{arc_value};
 ghost use Rattle.definitions.specs.Sets.{IsSet};
-ghost use Rattle.definitions.specs.Ranks.{rank_by};
+ghost use Rattle.definitions.specs.Worlds.{opened_of};
 ghost use Rattle.definitions.specs.Engines.{initiating};
 ghost use Rattle.ends_core.specs.Sides.{peer_of};
 ghost use Rattle.version_lock.specs.Calls.{Looked};
@@ -41,7 +41,8 @@ pub fn dial_pinned<T: Wait, S: RangeStore, G: Gate, R: Read, W: Write, F: Summar
         × (connection.old.writer.failed ≡ false) }
     ensures bytes { Speaks F.summary F.profile ⊤
         (initiating F.summary (peer_of (arc_value shared.now.accepted.now) pin.items)) pin.version
-        (rank_by (arc_value shared.now.accepted.now).steps (length pin.items) + 2)
+        (opened_of F.summary (arc_value shared.now.accepted.now).steps
+        (peer_of (arc_value shared.now.accepted.now) pin.items) + 2)
         (arc_value shared.now.accepted.now).table.limit
         (traffic (R.remaining connection.old.reader.inner) (R.remaining connection.new.reader.inner)
         (W.contents connection.old.writer.inner)
@@ -74,8 +75,8 @@ pub fn dial_one<T: Wait, S: RangeStore, G: Gate, R: Read, W: Write, F: Summary>(
     ensures bytes { Speaks F.summary F.profile ⊤
         (initiating F.summary (peer_at (arc_value shared.now.accepted.now) seat.new.view))
         (length seat.new.view.base)
-        (rank_by (arc_value shared.now.accepted.now).steps
-        (length (peer_at (arc_value shared.now.accepted.now) seat.new.view).items) + 2)
+        (opened_of F.summary (arc_value shared.now.accepted.now).steps
+        (peer_at (arc_value shared.now.accepted.now) seat.new.view) + 2)
         (arc_value shared.now.accepted.now).table.limit
         (traffic (R.remaining connection.old.reader.inner) (R.remaining connection.new.reader.inner)
         (W.contents connection.old.writer.inner)

@@ -1,22 +1,22 @@
 //! One session over a reader and a writer.
 
-ghost use Rattle.std.specs.Prelude.{◌≡◌, ◌≤◌, ◌+◌, ◌^◌, ◌⊎◌, ⊤, ℕ, false, [], ◌∷◌, List, Option, length};
+ghost use Rattle.std.specs.Prelude.{◌≡◌, ◌≤◌, ◌+◌, ◌^◌, ◌⊎◌, ◌++◌, ℕ, false, List, Option, None, length, map, fold};
 ghost use Rattle.std.specs.Prelude.{IfOk, IfErr, OnOk};
 ghost use Rattle.std.specs.Arc.{arc_value};
-ghost use Rattle.definitions.specs.Messages as messages;
-ghost use Rattle.definitions.specs.Messages.{opening};
+ghost use Rattle.definitions.specs.Placing.{opening_fault};
 ghost use Rattle.definitions.specs.Ranks.{rank_by};
 ghost use Rattle.definitions.specs.Histories.{content};
-ghost use Rattle.definitions.specs.Replies.{Peer};
-ghost use Rattle.definitions.specs.Wire.{Came, Ended};
+ghost use Rattle.definitions.specs.Replies.{Peer, opening};
+ghost use Rattle.definitions.specs.Wire.{Came};
 ghost use Rattle.definitions.specs.Ends as ends;
 ghost use Rattle.definitions.specs.Ends.{is_over};
 ghost use Rattle.definitions.specs.Engines.{initiating, responding};
+ghost use Rattle.definitions.specs.Hearing.{Goes_on, hear};
+ghost use Rattle.definitions.specs.Worlds.{opened_of};
 ghost use Rattle.wire_core.specs.Events.{event_value};
-ghost use Rattle.ends_core.specs.Roles.{most_of};
 ghost use Rattle.ends_core.specs.Turns.{fresh};
 ghost use Rattle.version_lock.specs.Calls.{Looked};
-ghost use Rattle.peer_threads.specs.Inboxes.{Counts, Reads, ReadOn};
+ghost use Rattle.peer_threads.specs.Inboxes.{Counts, HasRead, Reads, ReadOn};
 ghost use Rattle.peer_threads.specs.Listening.{InStep, Fares, FaresOn, StepsOn, HasFared, IsNoBreak};
 ghost use Rattle.peer_threads.specs.Choices.{ChosenSpeaks, ChosenUnopened, ChosenFirst};
 ghost use Rattle.peer_threads.specs.Hellos.{IsHello};
@@ -24,8 +24,9 @@ ghost use Rattle.peer_threads.specs.Outcomes.{Origin, Reader, After, traffic, tr
 ghost use Rattle.peer_threads.specs.Outcomes.{Speaks, Unopened, CameFirst, HasVersion, peer_at};
 ghost use Rattle.ends_core.specs.Sides.{peer_of};
 ghost use Rattle.peer_threads.specs.Senders.{sender_state};
-ghost use Rattle.peer_threads.specs.Underway.{Exchanged, FirstCame, EndCame, IsFirstPart, first_held, most_sent};
-ghost use Rattle.peer_threads.specs.Underway.{IsNone, Refuses, Stopped, Talked, Spoke};
+ghost use Rattle.peer_threads.specs.Underway.{Exchanged, FirstWent, StopsAmong, StopsBegun, first_held, first_place};
+ghost use Rattle.peer_threads.specs.Underway.{heard_as, message_came, most_sent, IsNone, Refuses, Stopped, Talked};
+ghost use Rattle.peer_threads.specs.Underway.{Spoke};
 
 use crate::booking::{Booking, Host};
 use crate::bounds::sides_keep_bounds;
@@ -42,7 +43,7 @@ use crate::talk::{end, exchange_laws, say, take, talk};
 use digest_core::{Counted, Fingerprint, Summary};
 use ends_core::{Role, SessionEnd};
 use io_core::Watched;
-use place_core::{Place, PlaceFault};
+use place_core::Place;
 use session_table::Outcome;
 use std::alloc::{AllocError, Global};
 use std::io::{Read, Write};
@@ -51,86 +52,76 @@ use store_core::RangeStore;
 use version_lock::{Pin, Seat};
 use wire_core::{Event, Message, Part};
 
-/// What has come of a session before it is opened: the one part of the peer's first message, and what was read after
-/// its end.
+/// What has come of a session before it is opened: the parts of the peer's first message, and what was read after its
+/// end.
 #[derive(Drop)]
 struct Begun<F: Summary> {
     inbox: Inbox<F>,
-    first: Part<F>,
+    first: Vec<Part<F>>,
 }
 
-/// The part that an event is, which has to be one that may stand first. Else 20.
-fn part_of<F: Summary>(alloc: Global, event: Event<F>) -> Result<Part<F>, Stop>
-    ensures part { IfOk result (λ p. (event_value event ≡ Came p) × IsFirstPart p) }
+/// Puts an event of a first message to its parts: whether it ends the message. Else 20 or 22, by the first event that
+/// may not come.
+fn put_first<F: Summary>(
+    place: &mut Place<F>,
+    parts: &mut Vec<Part<F>>,
+    event: Event<F>,
+) -> Result<bool, Stop>
+    requires place { place.old.now ≡ first_place F.summary parts.old.items }
+    ensures place { OnOk result (place.new.now ≡ first_place F.summary parts.new.items) }
+    ensures went { IfOk result
+        (λ ended. FirstWent F.summary parts.old.items parts.new.items (event_value event) ended) }
     ensures stopped { IfErr result (λ stop. (P : Peer) →
-        Refuses F.summary (first_held F.summary P []) (event_value event) stop) }
+        Refuses F.summary (first_held F.summary P parts.old.items) (event_value event) stop) }
     ensures quiet { IfErr result IsNoBreak }
 {
     match event {
         Event::Part(part) => {
-            Place::opening(alloc).next(&part)?;
-            Ok(part)
+            place.next(&part)?;
+            parts.push(part)?;
+            Ok(false)
         }
-        Event::End => Err(Stop::from(PlaceFault::Misplaced)),
+        Event::End => {
+            place.finish()?;
+            Ok(true)
+        }
         Event::Fault(code) => Err(Stop::PeerRefused(code)),
     }
 }
 
-/// Whether an event ends the first message, which has no second part. Else 20.
-fn end_of<F: Summary>(event: Event<F>) -> Result<(), Stop>
-    ensures end { OnOk result (event_value event ≡ Ended) }
-    ensures stopped { IfErr result (λ stop. (P : Peer) (p : messages.Part F) → IsFirstPart p →
-        Refuses F.summary (first_held F.summary P (p ∷ [])) (event_value event) stop) }
-    ensures quiet { IfErr result IsNoBreak }
-{
-    match event {
-        Event::Part(_) => Err(Stop::from(PlaceFault::Misplaced)),
-        Event::End => Ok(()),
-        Event::Fault(code) => Err(Stop::PeerRefused(code)),
-    }
-}
-
-/// Waits for the first part of the peer's first message.
-fn first_part<R: Read, F: Summary>(
+/// Waits for the peer's first message: the parts of it.
+fn first_parts<R: Read, F: Summary>(
     alloc: Global,
     inbox: &mut Inbox<F>,
     reader: &mut Watched<R>,
-) -> Result<Part<F>, Stop>
+) -> Result<Vec<Part<F>>, Stop>
     requires listens { reader.old.failed ≡ false }
-    ensures read { Reads F.profile (R.remaining reader.old.inner) (R.remaining reader.new.inner) inbox.old
-        (λ bytes es. FirstCame F.summary F.profile (seen reader.new.failed reader.new.ended) inbox.new bytes es
-        result) }
+    ensures first { IfOk result (λ parts. opening_fault F.summary.may_cut parts.items ≡ None) }
+    ensures came { IfOk result
+        (λ parts. Reads F.profile (R.remaining reader.old.inner) (R.remaining reader.new.inner) inbox.old
+        (λ bytes es. HasRead F.profile inbox.new bytes (es ++ message_came parts.items))) }
+    ensures stopped { IfErr result
+        (λ stop. Reads F.profile (R.remaining reader.old.inner) (R.remaining reader.new.inner) inbox.old
+        (λ bytes es. StopsBegun F.summary F.profile (seen reader.new.failed reader.new.ended) inbox.new bytes es
+        stop)) }
     ensures reads { Counts reader.old.reads reader.new.reads inbox.old inbox.new }
     ensures listens { OnOk result (reader.new.failed ≡ false) }
     ensures fared { FaresOn reader.old.reads inbox.old.reads reader.new.failed reader.new.reads result }
     ensures step { StepsOn reader.old.reads inbox.old.reads reader.new.reads inbox.new.reads result }
 {
-    let event = inbox.next(alloc, reader)?;
-    part_of(alloc, event)
+    let mut place = Place::opening(alloc);
+    let mut parts = Vec::new(alloc);
+    'parts: loop {
+        let event = inbox.next(alloc, reader)?;
+        let is_whole = put_first(&mut place, &mut parts, event)?;
+        if is_whole {
+            return Ok(parts);
+        }
+    }
 }
 
-/// Waits for the end of the peer's first message.
-fn first_end<R: Read, F: Summary>(
-    alloc: Global,
-    inbox: &mut Inbox<F>,
-    reader: &mut Watched<R>,
-) -> Result<(), Stop>
-    requires listens { reader.old.failed ≡ false }
-    ensures read { (p : messages.Part F) → IsFirstPart p →
-        Reads F.profile (R.remaining reader.old.inner) (R.remaining reader.new.inner) inbox.old
-        (λ bytes es. EndCame F.summary F.profile p (seen reader.new.failed reader.new.ended) inbox.new bytes es
-        result) }
-    ensures reads { Counts reader.old.reads reader.new.reads inbox.old inbox.new }
-    ensures listens { OnOk result (reader.new.failed ≡ false) }
-    ensures fared { FaresOn reader.old.reads inbox.old.reads reader.new.failed reader.new.reads result }
-    ensures step { StepsOn reader.old.reads inbox.old.reads reader.new.reads inbox.new.reads result }
-{
-    let event = inbox.next(alloc, reader)?;
-    end_of(event)
-}
-
-/// Answers the peer's hello with the own one, and waits for the first message, which is one Sum. Refused 1 where the
-/// hello is not that of the profile.
+/// Answers the peer's hello with the own one, and waits for the first message. Refused 1 where the hello is not that of
+/// the profile.
 fn first_message<R: Read, W: Write, F: Summary>(
     alloc: Global,
     hello: Hello,
@@ -141,13 +132,15 @@ fn first_message<R: Read, W: Write, F: Summary>(
     requires fine { connection.old.writer.failed ≡ false }
     requires listens { connection.old.reader.failed ≡ false }
     requires new { sender.old ≡ sender_state false 0 }
-    ensures met { IfOk result (λ o. IsFirstPart o.first × Exchanged F.profile o.inbox sender.new
+    ensures first { IfOk result (λ o. opening_fault F.summary.may_cut o.first.items ≡ None) }
+    ensures met { IfOk result (λ o. Exchanged F.profile o.inbox sender.new
         (traffic_after hello.bytes (R.remaining connection.old.reader.inner) (R.remaining connection.new.reader.inner)
         (W.contents connection.old.writer.inner) (W.contents connection.new.writer.inner))
-        (Came o.first ∷ Ended ∷ [])) }
+        (message_came o.first.items)) }
     ensures fine { IfOk result (λ _. connection.new.writer.failed ≡ false) }
-    ensures stopped { IfErr result (λ stop. (P : Peer) → Stopped F.summary F.profile IsNone (responding P) sender.new
-        (traffic_after hello.bytes (R.remaining connection.old.reader.inner) (R.remaining connection.new.reader.inner)
+    ensures stopped { IfErr result (λ stop. (P : Peer) → Stopped F.summary F.profile IsNone
+        (responding F.summary P) sender.new (traffic_after hello.bytes (R.remaining connection.old.reader.inner)
+        (R.remaining connection.new.reader.inner)
         (W.contents connection.old.writer.inner) (W.contents connection.new.writer.inner))
         (seen connection.new.reader.failed connection.new.reader.ended)
         connection.new.writer.failed stop) }
@@ -166,9 +159,27 @@ fn first_message<R: Read, W: Write, F: Summary>(
     exchange_laws::<F>();
     let mut inbox = Inbox::<F>::after(alloc, hello)?;
     sender.greet(&mut connection.writer)?;
-    let first = first_part(alloc, &mut inbox, &mut connection.reader)?;
-    first_end(alloc, &mut inbox, &mut connection.reader)?;
+    let first = first_parts(alloc, &mut inbox, &mut connection.reader)?;
     Ok(Begun { inbox, first })
+}
+
+/// Takes the parts of the first message.
+fn take_all<T: Wait, G: Gate, P: Role, S: RangeStore, F: Summary>(
+    booking: &Booking<'_, T, G>,
+    party: &mut SessionEnd<P, S, F>,
+    parts: &[Part<F>],
+) -> Result<(), Stop>
+    requires { is_over party.old.end.stage ≡ false }
+    ensures heard { OnOk result (heard_as party.new
+        ≡ fold (hear F.summary) (Goes_on party.old.end party.old.taken) (map Came parts.now)) }
+    ensures end { OnOk result (party.new.end ≡ party.old.end) }
+    ensures most { OnOk result (most_sent F.summary P.side party.new ≡ most_sent F.summary P.side party.old) }
+    ensures stopped { IfErr result (λ stop. StopsAmong F.summary party.old parts.now stop) }
+{
+    for part in parts {
+        take(booking, party, part)?;
+    }
+    Ok(())
 }
 
 /// Answers the first message, and each one after it.
@@ -181,22 +192,22 @@ fn answer<T: Wait, G: Gate, P: Role, S: RangeStore, R: Read, W: Write, F: Summar
 ) -> Result<(), Stop>
     requires fine { connection.old.writer.failed ≡ false }
     requires listens { connection.old.reader.failed ≡ false }
-    requires booked { booking.now.booked.bound ≡ most_sent (most_of P.side) party.old }
+    requires booked { booking.now.booked.bound ≡ most_sent F.summary P.side party.old }
     requires count { sender.old.sent ≡ party.old.end.sent }
     requires goes { is_over party.old.end.stage ≡ false }
     ensures talked { (p : Peer) (steps : List ℕ) (unread : Origin) (held : Option (List ℕ)) →
-        party.old ≡ fresh steps (ends.responder p) →
+        party.old ≡ fresh steps (ends.responder F.summary p) →
         Exchanged F.profile begun.inbox sender.old (traffic_of unread (R.remaining connection.old.reader.inner) held
-        (W.contents connection.old.writer.inner)) (Came begun.first ∷ Ended ∷ []) →
-        Talked F.summary F.profile (responding p) party.new.end sender.new
+        (W.contents connection.old.writer.inner)) (message_came begun.first.items) →
+        Talked F.summary F.profile (responding F.summary p) party.new.end sender.new
         (traffic_of unread (R.remaining connection.new.reader.inner) held (W.contents connection.new.writer.inner))
         (seen connection.new.reader.failed connection.new.reader.ended) connection.new.writer.failed result }
     ensures on { (p : Peer) (steps : List ℕ) (unread : Origin) (held : Option (List ℕ)) →
-        party.old ≡ fresh steps (ends.responder p) →
+        party.old ≡ fresh steps (ends.responder F.summary p) →
         Exchanged F.profile begun.inbox sender.old (traffic_of unread (R.remaining connection.old.reader.inner) held
-        (W.contents connection.old.writer.inner)) (Came begun.first ∷ Ended ∷ []) →
+        (W.contents connection.old.writer.inner)) (message_came begun.first.items) →
         ReadOn (R.remaining connection.old.reader.inner) (R.remaining connection.new.reader.inner) }
-    ensures few { sender.new.sent ≤ most_sent (most_of P.side) party.old }
+    ensures few { sender.new.sent ≤ most_sent F.summary P.side party.old }
     ensures reads { begun.inbox.reads ≤ 2 ^ 32 →
         connection.new.reader.reads + begun.inbox.reads ≤ connection.old.reader.reads + 2 ^ 32 }
     ensures fared { FaresOn connection.old.reader.reads begun.inbox.reads connection.new.reader.failed
@@ -205,7 +216,7 @@ fn answer<T: Wait, G: Gate, P: Role, S: RangeStore, R: Read, W: Write, F: Summar
     exchange_laws::<F>();
     let Begun { mut inbox, first } = begun;
     let _ = party.sent(); // proof only: no more messages than the bound
-    take(booking, party, &first)?;
+    take_all(booking, party, &first)?;
     end(booking, party, sender, &mut connection.writer)?;
     talk(booking, party, &mut inbox, sender, connection)
 }
@@ -224,15 +235,16 @@ fn respond<T: Wait, S: RangeStore, G: Gate, R: Read, W: Write, F: Summary>(
     requires none { sender.sent ≡ 0 }
     ensures bytes { (unread : Origin) (held : Option (List ℕ)) →
         Exchanged F.profile begun.inbox sender (traffic_of unread (R.remaining connection.old.reader.inner) held
-        (W.contents connection.old.writer.inner)) (Came begun.first ∷ Ended ∷ []) →
-        Spoke F.summary F.profile (responding (peer_of (arc_value host.now.accepted.now) pin.items)) pin.version
+        (W.contents connection.old.writer.inner)) (message_came begun.first.items) →
+        Spoke F.summary F.profile
+        (responding F.summary (peer_of (arc_value host.now.accepted.now) pin.items)) pin.version
         (rank_by (arc_value host.now.accepted.now).steps (length pin.items) + 1)
         (traffic_of unread (R.remaining connection.new.reader.inner) held (W.contents connection.new.writer.inner))
         (seen connection.new.reader.failed connection.new.reader.ended)
         (seen connection.new.writer.failed connection.new.writer.ended) result }
     ensures on { (unread : Origin) (held : Option (List ℕ)) →
         Exchanged F.profile begun.inbox sender (traffic_of unread (R.remaining connection.old.reader.inner) held
-        (W.contents connection.old.writer.inner)) (Came begun.first ∷ Ended ∷ []) →
+        (W.contents connection.old.writer.inner)) (message_came begun.first.items) →
         ReadOn (R.remaining connection.old.reader.inner) (R.remaining connection.new.reader.inner) }
     ensures version { HasVersion result pin.version }
     ensures reads { begun.inbox.reads ≤ 2 ^ 32 →
@@ -265,17 +277,17 @@ fn speak<T: Wait, G: Gate, P: Role, S: RangeStore, R: Read, W: Write, F: Summary
 ) -> Result<(), Stop>
     requires fine { connection.old.writer.failed ≡ false }
     requires listens { connection.old.reader.failed ≡ false }
-    requires booked { booking.now.booked.bound ≡ most_sent (most_of P.side) party.old }
+    requires booked { booking.now.booked.bound ≡ most_sent F.summary P.side party.old }
     requires new { sender.old ≡ sender_state false 0 }
     requires one { party.old.end.sent ≡ 1 }
     ensures talked { (p : Peer) (steps : List ℕ) → party.old ≡ fresh steps (ends.initiator F.summary p) →
-        first.now ≡ opening F.summary p.items →
+        first.now ≡ opening F.summary p →
         Talked F.summary F.profile (initiating F.summary p) party.new.end sender.new
         (traffic (R.remaining connection.old.reader.inner) (R.remaining connection.new.reader.inner)
         (W.contents connection.old.writer.inner)
         (W.contents connection.new.writer.inner))
         (seen connection.new.reader.failed connection.new.reader.ended) connection.new.writer.failed result }
-    ensures few { sender.new.sent ≤ most_sent (most_of P.side) party.old }
+    ensures few { sender.new.sent ≤ most_sent F.summary P.side party.old }
     ensures reads { connection.new.reader.reads ≤ connection.old.reader.reads + 2 ^ 32 }
     ensures fared { Fares connection.old.reader.reads connection.new.reader.failed connection.new.reader.reads result }
 {
@@ -297,7 +309,8 @@ pub(crate) fn initiate<T: Wait, S: RangeStore, G: Gate, R: Read, W: Write, F: Su
     requires listens { connection.old.reader.failed ≡ false }
     ensures bytes { Spoke F.summary F.profile
         (initiating F.summary (peer_of (arc_value host.now.accepted.now) pin.items)) pin.version
-        (rank_by (arc_value host.now.accepted.now).steps (length pin.items) + 2)
+        (opened_of F.summary (arc_value host.now.accepted.now).steps
+        (peer_of (arc_value host.now.accepted.now) pin.items) + 2)
         (traffic (R.remaining connection.old.reader.inner) (R.remaining connection.new.reader.inner)
         (W.contents connection.old.writer.inner)
         (W.contents connection.new.writer.inner)) (seen connection.new.reader.failed connection.new.reader.ended)
@@ -346,11 +359,11 @@ fn serve_after<T: Wait, S: RangeStore, G: Gate, R: Read, W: Write, F: Summary>(
         (W.contents connection.new.writer.inner))
         (seen connection.new.reader.failed connection.new.reader.ended)
         (seen connection.new.writer.failed connection.new.writer.ended) result) }
-    ensures opened { (seat.new.view ≡ seat.old.view) ⊎ CameFirst F.profile
+    ensures opened { (seat.new.view ≡ seat.old.view) ⊎ CameFirst F.summary F.profile
         (After hello.bytes (R.remaining connection.old.reader.inner)) (R.remaining connection.new.reader.inner) }
     ensures bytes { Speaks F.summary F.profile
         (length (content seat.new.view.base) ≤ (arc_value shared.now.accepted.now).table.cap)
-        (responding (peer_at (arc_value shared.now.accepted.now) seat.new.view)) (length seat.new.view.base)
+        (responding F.summary (peer_at (arc_value shared.now.accepted.now) seat.new.view)) (length seat.new.view.base)
         (rank_by (arc_value shared.now.accepted.now).steps
         (length (peer_at (arc_value shared.now.accepted.now) seat.new.view).items) + 1)
         (arc_value shared.now.accepted.now).table.limit (traffic_after hello.bytes
@@ -365,6 +378,7 @@ fn serve_after<T: Wait, S: RangeStore, G: Gate, R: Read, W: Write, F: Summary>(
         HasFared start connection.new.reader.failed connection.new.reader.reads result }
 {
     laws::codec::feeds_join::<F>();
+    laws::talks::opening_is_exact::<F>();
     sides_keep_bounds::<F>(shared.accepted);
     let host = Host::of(rt, alloc, shared);
     let mut sender = Sender::<F>::new();
@@ -380,7 +394,7 @@ fn serve_after<T: Wait, S: RangeStore, G: Gate, R: Read, W: Write, F: Summary>(
 
 /// Answers the peer on this connection, which speaks first, until the session ends, in the profile whose hello the peer
 /// says: that of the counted fingerprint, or else that of two lanes. The seat is used for one `pin`, once the peer's
-/// first message has come whole: one Sum over everything, and its end.
+/// first message has come whole: in both of these profiles one Sum over everything, and its end.
 pub fn serve_one<T: Wait, S: RangeStore, G: Gate, R: Read, W: Write>(
     rt: &T,
     alloc: Global,

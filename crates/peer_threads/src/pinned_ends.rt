@@ -2,7 +2,7 @@
 
 ghost use Rattle.std.specs.Prelude.{◌≡◌, ◌≤◌, length, IfOk};
 ghost use Rattle.std.specs.Arc.{arc_value};
-ghost use Rattle.definitions.specs.Messages.{opening};
+ghost use Rattle.definitions.specs.Replies.{opening};
 ghost use Rattle.definitions.specs.Ends as ends;
 ghost use Rattle.ends_core.specs.Turns.{fresh};
 ghost use Rattle.ends_core.specs.Sides.{peer_of};
@@ -23,7 +23,7 @@ pub(crate) fn new_responder<T, S: RangeStore, G, F: Summary>(
 ) -> Result<Responder<S, F>, AllocError>
     requires { length pin.items ≤ (arc_value host.now.accepted.now).table.cap }
     ensures { IfOk result (λ end. end ≡ fresh (arc_value host.now.accepted.now).steps
-        (ends.responder (peer_of (arc_value host.now.accepted.now) pin.items))) }
+        (ends.responder F.summary (peer_of (arc_value host.now.accepted.now) pin.items))) }
 {
     let accepted = Arc::try_clone(host.accepted)?;
     Ok(Responder::new(host.alloc, accepted, pin.into_store()))
@@ -37,7 +37,8 @@ pub(crate) fn new_initiator<T, S: RangeStore, G, F: Summary>(
     requires { length pin.items ≤ (arc_value host.now.accepted.now).table.cap }
     ensures end { IfOk result (λ r. r.0 ≡ fresh (arc_value host.now.accepted.now).steps
         (ends.initiator F.summary (peer_of (arc_value host.now.accepted.now) pin.items))) }
-    ensures message { IfOk result (λ r. r.1 ≡ opening F.summary pin.items) }
+    ensures message { IfOk result (λ r. r.1 ≡ opening F.summary
+        (peer_of (arc_value host.now.accepted.now) pin.items)) }
 {
     let accepted = Arc::try_clone(host.accepted)?;
     match Initiator::start(host.alloc, accepted, pin.into_store()) {

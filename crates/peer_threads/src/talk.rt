@@ -5,7 +5,6 @@ ghost use Rattle.definitions.specs.Wire.{Came, Ended};
 ghost use Rattle.definitions.specs.Ends.{is_live, is_over};
 ghost use Rattle.definitions.specs.Engines.{Speaker, replied};
 ghost use Rattle.definitions.specs.Hearing.{hear_now};
-ghost use Rattle.ends_core.specs.Roles.{most_of};
 ghost use Rattle.ends_core.specs.Turns.{answer_of, messages_in};
 ghost use Rattle.wire_core.specs.Events.{event_value};
 ghost use Rattle.peer_threads.specs.Inboxes.{Counts, ReadOn};
@@ -97,7 +96,7 @@ pub(crate) fn take<T: Wait, G: Gate, P: Role, S: RangeStore, F: Summary>(
     ensures heard { OnOk result (heard_as party.new
         ≡ hear_now F.summary party.old.end party.old.taken (Came part.now)) }
     ensures end { OnOk result (party.new.end ≡ party.old.end) }
-    ensures most { OnOk result (most_sent (most_of P.side) party.new ≡ most_sent (most_of P.side) party.old) }
+    ensures most { OnOk result (most_sent F.summary P.side party.new ≡ most_sent F.summary P.side party.old) }
     ensures stopped { IfErr result (λ stop. Refuses F.summary party.old (Came part.now) stop) }
 {
     Ok(party.take(booking.alloc(), part)?)
@@ -118,10 +117,10 @@ pub(crate) fn end<T: Wait, G: Gate, P: Role, S: RangeStore, W: Write, F: Summary
         (W.contents writer.new.inner) (said_by party.old Ended)) }
     ensures fine { OnOk result (writer.new.failed ≡ false) }
     ensures count { OnOk result (sender.new.sent ≡ party.new.end.sent) }
-    ensures most { OnOk result (most_sent (most_of P.side) party.new ≡ most_sent (most_of P.side) party.old) }
+    ensures most { OnOk result (most_sent F.summary P.side party.new ≡ most_sent F.summary P.side party.old) }
     ensures stopped { IfErr result (λ stop. StopsBy F.summary F.profile party.old Ended sender.old sender.new
         (W.contents writer.old.inner) (W.contents writer.new.inner) writer.new.failed stop) }
-    ensures few { sender.new.sent ≤ most_sent (most_of P.side) party.old }
+    ensures few { sender.new.sent ≤ most_sent F.summary P.side party.old }
 {
     let _ = party.sent(); // proof only: no more messages than the bound
     let turn = party.end(booking.alloc())?;
@@ -146,10 +145,10 @@ fn hear<T: Wait, G: Gate, P: Role, S: RangeStore, W: Write, F: Summary>(
         (W.contents writer.new.inner) (said_by party.old (event_value event))) }
     ensures fine { OnOk result (writer.new.failed ≡ false) }
     ensures count { OnOk result (sender.new.sent ≡ party.new.end.sent) }
-    ensures most { OnOk result (most_sent (most_of P.side) party.new ≡ most_sent (most_of P.side) party.old) }
+    ensures most { OnOk result (most_sent F.summary P.side party.new ≡ most_sent F.summary P.side party.old) }
     ensures stopped { IfErr result (λ stop. StopsBy F.summary F.profile party.old (event_value event) sender.old
         sender.new (W.contents writer.old.inner) (W.contents writer.new.inner) writer.new.failed stop) }
-    ensures few { sender.new.sent ≤ most_sent (most_of P.side) party.old }
+    ensures few { sender.new.sent ≤ most_sent F.summary P.side party.old }
 {
     let _ = party.sent(); // proof only: no more messages than the bound
     match event {
@@ -180,7 +179,7 @@ pub(crate) fn talk<T: Wait, G: Gate, P: Role, S: RangeStore, R: Read, W: Write, 
         Underway F.summary F.profile s party.old inbox.old sender.old
         (traffic_of unread (R.remaining connection.old.reader.inner) held (W.contents connection.old.writer.inner)) →
         ReadOn (R.remaining connection.old.reader.inner) (R.remaining connection.new.reader.inner) }
-    ensures few { sender.new.sent ≤ most_sent (most_of P.side) party.old }
+    ensures few { sender.new.sent ≤ most_sent F.summary P.side party.old }
     ensures reads { inbox.old.reads ≤ 2 ^ 32 →
         Counts connection.old.reader.reads connection.new.reader.reads inbox.old inbox.new }
     ensures fared { FaresOn connection.old.reader.reads inbox.old.reads connection.new.reader.failed

@@ -8,6 +8,6 @@ use Rattle.place_core.specs.declared.cursor.Cursor.{Cursor}
 use Rattle.place_core.specs.declared.cursor.Cursor.TheVariants as cursors
 
 abbrev pub place_at : {F : Type 0} → Message F → Cursor → Place F
-place_at sent cursors.First = First
+place_at sent (cursors.First cut) = First cut
 place_at sent (cursors.After at inside) = After (open_parts (drop at sent)) inside
 place_at sent (cursors.Refused f) = Refused (place_fault_number f)

@@ -12,11 +12,13 @@ use Rattle.place_core.specs.declared.cursor.Cursor.TheVariants as cursors
 pub record Placement (F : Type 0) : Type 0 where
   -- it is the first message of all, which answers none
   pub first : Bool
+  -- the first message of all may cut
+  pub cut : Bool
   pub own : Message F
   pub now : Place F
 
 abbrev pub start_of : {F : Type 0} → Placement F → Place F
-start_of p = if p.first then First else place_after p.own
+start_of p = if p.first then First p.cut else place_after p.own
 
 -- the items of the first List
 abbrev pub first_list : {F : Type 0} → Message F → List Item
@@ -26,6 +28,6 @@ first_list (Listing X items ∷ ps) = items
 first_list (Answer X marks items ∷ ps) = first_list ps
 
 abbrev pub due : {F : Type 0} → Message F → Cursor → List Item
-due own cursors.First = []
+due own (cursors.First cut) = []
 due own (cursors.After at inside) = first_list (drop at own)
 due own (cursors.Refused f) = []

@@ -19,8 +19,8 @@ use wire_core::{Part, PartKind};
 /// message, so that a cursor can be kept beside it. No call takes memory.
 #[derive(Clone, Copy, Debug, PartialEq, Eq)]
 pub enum Cursor {
-    /// Nothing has come of the first message of all, which answers none.
-    First,
+    /// Nothing has come of the first message of all, which answers none, and which may cut or not.
+    First(bool),
     /// The own parts before a place are done, and inside a partition this of its range is still to come.
     After(usize, Option<Range>),
     /// The message is refused.
@@ -41,7 +41,7 @@ impl Cursor {
         ensures fault { fault_in result ≡ placing.refusal (place_at sent.now self.new) }
     {
         *self = match *self {
-            Cursor::First => next_first(sent, part),
+            Cursor::First(cut) => next_first(cut, sent, part),
             Cursor::After(at, None) => next_outside(sent, at, part),
             Cursor::After(at, Some(rest)) => next_inside(at, &rest, part),
             Cursor::Refused(fault) => Cursor::Refused(fault),
@@ -74,7 +74,7 @@ impl Cursor {
         ensures { fault_in result ≡ placing.finish (place_at sent.now self.now) }
     {
         match self {
-            Cursor::First => Err(PlaceFault::Misplaced),
+            Cursor::First(_) => Err(PlaceFault::Misplaced),
             Cursor::After(_, Some(_)) => Err(PlaceFault::Gap),
             Cursor::After(at, None) => finish_outside(rest_of(sent, *at)),
             Cursor::Refused(fault) => Err(*fault),
@@ -120,14 +120,24 @@ fn finish_outside<F: Summary>(left: &[Part<F>]) -> Result<(), PlaceFault>
     Ok(())
 }
 
-/// The first part of all: a Sum over everything, after which nothing may come.
-fn next_first<F: Summary>(sent: &[Part<F>], part: &Part<F>) -> Cursor
-    ensures { place_at sent.now result ≡ placing.next_first part.now }
+/// The first part of all: a Sum over everything, after which nothing may come, or one that begins a cut of it.
+fn next_first<F: Summary>(cut: bool, sent: &[Part<F>], part: &Part<F>) -> Cursor
+    ensures { place_at sent.now result ≡ placing.next_first cut part.now }
 {
-    if part.kind() == PartKind::Sum && *part.range() == Range::whole() {
-        Cursor::After(sent.len(), None)
-    } else {
-        Cursor::Refused(PlaceFault::Misplaced)
+    if part.kind() != PartKind::Sum {
+        return Cursor::Refused(PlaceFault::Misplaced);
+    }
+    let whole = Range::whole();
+    let range = part.range();
+    if *range == whole {
+        return Cursor::After(sent.len(), None);
+    }
+    match rest_after(range, &whole) {
+        Some(inside) if cut && range.lower() == whole.lower() => Cursor::After(
+            sent.len(),
+            Some(inside),
+        ),
+        _ => Cursor::Refused(PlaceFault::Misplaced),
     }
 }
 

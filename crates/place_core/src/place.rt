@@ -30,7 +30,12 @@ impl<F: Summary> Model for Place<F> {
 
     ghost Value = { Placement F };
 
-    ghost view = { λ a. record { first = a.first; own = a.own.items; now = place_at a.own.items a.cursor } };
+    ghost view = { λ a. record {
+      first = a.first;
+      cut = F.summary.may_cut;
+      own = a.own.items;
+      now = place_at a.own.items a.cursor;
+    } };
 
     ghost invariant = { λ a. a.first ≡ true → a.own.items ≡ [] };
 }
@@ -64,12 +69,17 @@ fn open_of<F: Summary>(alloc: Global, parts: &[Part<F>]) -> Result<Vec<Part<F>>,
 impl<F: Summary> Place<F> {
     /// Before the first message of all, which answers none.
     pub fn opening(alloc: Global) -> Place<F>
-        ensures { result ≡ record { first = true; own = []; now = placing.First } }
+        ensures { result ≡ record {
+          first = true;
+          cut = F.summary.may_cut;
+          own = [];
+          now = placing.First F.summary.may_cut;
+        } }
     {
         Place {
             first: true,
             own: Vec::new(alloc),
-            cursor: Cursor::First,
+            cursor: Cursor::First(F::may_cut()),
         }
     }
 
@@ -77,6 +87,7 @@ impl<F: Summary> Place<F> {
     pub fn after(alloc: Global, sent: &[Part<F>]) -> Result<Place<F>, AllocError>
         ensures { IfOk result (λ p. p ≡ record {
           first = false;
+          cut = F.summary.may_cut;
           own = open_parts sent.now;
           now = placing.place_after (open_parts sent.now);
         }) }
@@ -108,7 +119,7 @@ impl<F: Summary> Place<F> {
         ensures { self.new ≡ record self.old { now = start_of self.old } }
     {
         self.cursor = if self.first {
-            Cursor::First
+            Cursor::First(F::may_cut())
         } else {
             Cursor::start::<F>()
         };

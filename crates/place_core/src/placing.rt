@@ -2,7 +2,7 @@
 
 ghost use Rattle.std.specs.Prelude.{◌≡◌, ◌↔◌, IsOk, fold};
 ghost use Rattle.definitions.specs.Items.{Apart};
-ghost use Rattle.definitions.specs.Messages.{IsOpening, open_ranges};
+ghost use Rattle.definitions.specs.Messages.{open_ranges};
 ghost use Rattle.definitions.specs.Placing as placing;
 ghost use Rattle.place_core.specs.Cursors.{place_at};
 ghost use Rattle.place_core.specs.PlaceFaults.{fault_in};
@@ -37,17 +37,18 @@ pub fn place_message<F: Summary>(sent: &Message<F>, message: &Message<F>) -> Res
     cursor.finish(own)
 }
 
-/// Whether the message may be the first of all: one Sum over everything.
+/// Whether the message may be the first of all: one Sum over everything, or Sums that partition it where the first
+/// message may cut.
 ///
-/// Refused 20 else.
+/// Refused 20 or 22 else.
 pub fn place_opening<F: Summary>(message: &Message<F>) -> Result<(), PlaceFault>
-    ensures fault { fault_in result ≡ placing.opening_fault message.now }
-    ensures opening { IsOk result ↔ IsOpening message.now }
+    ensures fault { fault_in result ≡ placing.opening_fault F.summary.may_cut message.now }
+    ensures opening { IsOk result ↔ placing.IsOpening F.summary.may_cut message.now }
 {
     laws::talks::opening_is_exact::<F>();
     let received = message.parts();
     let none = &received[..0];
-    let mut cursor = Cursor::First;
+    let mut cursor = Cursor::First(F::may_cut());
     place_parts(&mut cursor, none, received);
     cursor.finish(none)
 }

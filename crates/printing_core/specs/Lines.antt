@@ -10,7 +10,7 @@ use Rattle.session_table.specs.Names.{session_refusal_name}
 use Rattle.strategy_core.specs.Texts.{key_of}
 use Rattle.strategy_core.specs.declared.fault.StrategyFault.{StrategyFault}
 use Rattle.strategy_core.specs.declared.fault.StrategyFault.TheVariants.{Missing, BadNumber, RowOrder}
-use Rattle.strategy_core.specs.declared.fault.StrategyFault.TheVariants.{RowAction, CapMismatch, BadBounds}
+use Rattle.strategy_core.specs.declared.fault.StrategyFault.TheVariants.{RowAction, CapMismatch, BadBounds, BadOpening}
 use Rattle.strategy_check.specs.declared.fault.CheckFault.{CheckFault}
 use Rattle.strategy_check.specs.declared.fault.CheckFault.TheVariants.{NoDescent, ListTooLong, TooDeep, BadCertificate}
 use Rattle.printing_core.specs.declared.fault.Fault.{Fault}
@@ -27,6 +27,7 @@ strategy_line RowOrder = codes "refused 33 RowOrder"
 strategy_line RowAction = codes "refused 34 RowAction"
 strategy_line CapMismatch = codes "refused 35 CapMismatch"
 strategy_line BadBounds = codes "refused 29 BadBounds"
+strategy_line BadOpening = codes "refused 28 BadOpening"
 
 abbrev pub check_line : CheckFault → List ℕ
 check_line (NoDescent count) = codes "refused 36 NoDescent " ++ decimal count

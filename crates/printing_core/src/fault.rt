@@ -102,6 +102,7 @@ impl fmt::Display for StrategyLine {
             StrategyFault::RowAction => write!(f, "refused 34 RowAction"),
             StrategyFault::CapMismatch => write!(f, "refused 35 CapMismatch"),
             StrategyFault::BadBounds => write!(f, "refused 29 BadBounds"),
+            StrategyFault::BadOpening => write!(f, "refused 28 BadOpening"),
         }
     }
 }

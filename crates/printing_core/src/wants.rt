@@ -78,6 +78,10 @@ impl fmt::Display for FlawWant {
                 write!(f, "bounds stands above the rows, and in none")
             }
             StrategyFault::BadBounds => write!(f, "bounds is not the word items or short"),
+            StrategyFault::BadOpening if self.0.row.is_some() => {
+                write!(f, "opening stands above the rows, and in none")
+            }
+            StrategyFault::BadOpening => write!(f, "opening is not the word sum or split"),
         }
     }
 }

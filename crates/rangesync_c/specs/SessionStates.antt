@@ -88,11 +88,11 @@ abbrev pub Opens : VersionState → Side → WireProfile → AnySession → Type
 Opens v sides.Initiator profiles.One s = IsFirst s (λ c.
     Begins two_lanes two_lane_profile v.accepted (initiating two_lanes (peer_of v.accepted v.items)) c)
 Opens v sides.Responder profiles.One s = IsSecond s (λ c.
-    Begins two_lanes two_lane_profile v.accepted (responding (peer_of v.accepted v.items)) c)
+    Begins two_lanes two_lane_profile v.accepted (responding two_lanes (peer_of v.accepted v.items)) c)
 Opens v sides.Initiator profiles.Two s = IsFirstCounted s (λ c.
     Begins counted_lanes counted_profile v.accepted (initiating counted_lanes (peer_of v.accepted v.items)) c)
 Opens v sides.Responder profiles.Two s = IsSecondCounted s (λ c.
-    Begins counted_lanes counted_profile v.accepted (responding (peer_of v.accepted v.items)) c)
+    Begins counted_lanes counted_profile v.accepted (responding counted_lanes (peer_of v.accepted v.items)) c)
 
 abbrev pub ready_of : AnySession → List ℕ
 ready_of (any.First c) = c.talk.outbox.ready

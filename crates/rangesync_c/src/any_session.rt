@@ -51,7 +51,7 @@ fn second<F: Summary>(
     version: Version,
 ) -> Result<Session<Responding, Tree, F>, AllocError>
     ensures { IfOk result (λ c. Begins F.summary F.profile version.accepted
-        (responding (peer_of version.accepted version.items)) c) }
+        (responding F.summary (peer_of version.accepted version.items)) c) }
 {
     let (accepted, store) = version.parts();
     match Session::respond(alloc, accepted, store) {

@@ -17,7 +17,7 @@ use version_log::LogFault;
 pub enum EmbeddedFault {
     /// A text is no TOML: 30.
     NotToml,
-    /// A table is no strategy: 29, or 31 to 35.
+    /// A table is no strategy: 28, 29, or 31 to 35.
     Strategy(StrategyFlaw),
     /// A strategy is not to be accepted: 36 to 39.
     Check(CheckFault),

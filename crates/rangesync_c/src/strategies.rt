@@ -31,7 +31,7 @@ fn strategy_out(
     }
 }
 
-/// Reads the strategy of a TOML text, and checks it. 29 to 35 where it is no strategy, 37, 36 or 38 where it is not
+/// Reads the strategy of a TOML text, and checks it. 28 to 35 where it is no strategy, 37, 36 or 38 where it is not
 /// accepted, 90.
 #[unsafe(no_mangle)]
 pub extern "C" fn rs_strategy_read(alloc: Global, text: &[u8], out: &mut Slot) -> u32

@@ -24,7 +24,7 @@ fn accepted(alloc: Global, text: &[u8]) -> Result<Accepted, EmbeddedFault>
 
 /// The strategy of a TOML text, which many may share.
 ///
-/// Fails with 29 to 35 where the text is no strategy, and then with 37, 36 or 38 where it is not accepted, and with 90.
+/// Fails with 28 to 35 where the text is no strategy, and then with 37, 36 or 38 where it is not accepted, and with 90.
 pub fn read_strategy(alloc: Global, text: &[u8]) -> Result<Arc<Accepted>, EmbeddedFault>
     ensures { IsStrategy arc_value text.now result }
 {

@@ -12,7 +12,9 @@ use Rattle.definitions.specs.Wire.{Profile, session_text}
 use Rattle.definitions.specs.Ends.{End}
 use Rattle.definitions.specs.Engines.{Speaker, initiating, responding}
 use Rattle.definitions.specs.Hearing.{Goes_on, Over_at, Peer_refused, Refused_for, first_fault}
-use Rattle.definitions.specs.Worlds.{message_bound}
+use Rattle.definitions.specs.Theorems.{opened}
+use Rattle.definitions.specs.Worlds.{message_bound, opened_of}
+use Rattle.laws.proofs.Openings.{opened_is}
 use Rattle.laws.specs.Meeting.{AreSpelled, IsPeer, HaveMet, TwoSessionsMeet, refusal_text, written_to}
 use Rattle.strategy_check.specs.Checked.{Checked, IsChecked}
 use Rattle.ends_core.specs.EndStates.{EndState}
@@ -68,19 +70,19 @@ module _ {F : Type 0} (S : Summary F) (W : Profile F) where
       let R : Peer = peer_of b theirs in
       let f : List ℕ = ranks_by a.steps a.table.cap in
       let g : List ℕ = ranks_by b.steps b.table.cap in
-      let i_is = read a.steps a.table.cap (length ours) i.room in
+      let i_is : opened S f I ≡ opened_of S a.steps I = opened_is S a.steps I (is-peer a ours first i).ready in
       let r_is = read b.steps b.table.cap (length theirs) r.room in
-      let ends : message_bound (slice_index f (length ours)) (slice_index g (length theirs)) < k =
+      let ends : message_bound (opened S f I) (slice_index g (length theirs)) < k =
       subst (λ m. m < k) (λ t. message_bound (sym i_is t) (sym r_is t)) enough in
       let met = law spelled I R f g c.over d.over asked answered k (is-peer a ours first i) (is-peer b theirs second r)
       joined.responder.are_bytes joined.initiator.are_bytes
       (written (initiating S I) c answered asked joined.initiator.tells joined.none_due.0)
-      (written (responding R) d asked answered joined.responder.tells joined.none_due.1) ends in
+      (written (responding S R) d asked answered joined.responder.tells joined.none_due.1) ends in
       record {
         initiator = has-ended (initiating S I) c answered (sym joined.initiator.tells.heard ∙ met.initiator.ended);
-        responder = has-ended (responding R) d asked (sym joined.responder.tells.heard ∙ met.responder.ended);
+        responder = has-ended (responding S R) d asked (sym joined.responder.tells.heard ∙ met.responder.ended);
         met = subst (λ n. HaveMet S W I R n (rank_by b.steps (length theirs)) c.over d.over asked answered
             (talk S I R k))
-            i_is (subst (λ n. HaveMet S W I R (slice_index f (length ours)) n c.over d.over asked answered
+            i_is (subst (λ n. HaveMet S W I R (opened S f I) n c.over d.over asked answered
             (talk S I R k)) r_is met);
       }

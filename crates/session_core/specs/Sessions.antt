@@ -236,4 +236,4 @@ module _ {F : Type 0} (S : Summary F) (W : Profile F) where
 
 abbrev pub speaker_of : {F : Type 0} → Summary F → Side → Peer → Speaker F
 speaker_of S worlds.Initiator P = initiating S P
-speaker_of S worlds.Responder P = responding P
+speaker_of S worlds.Responder P = responding S P

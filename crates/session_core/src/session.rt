@@ -5,13 +5,12 @@ ghost use Rattle.std.specs.Prelude.{Ok, Some, IfOk, IfErr, OnOk, OnErr, IfSome, 
 ghost use Rattle.std.specs.List.{IsDistinct};
 ghost use Rattle.std.specs.Arc.{arc_value};
 ghost use Rattle.definitions.specs.Items.{same_item, IsBytes};
-ghost use Rattle.definitions.specs.Ranks.{rank_by};
 ghost use Rattle.definitions.specs.Replies.{Peer};
 ghost use Rattle.definitions.specs.Engines.{Speaker, initiating, responding};
 ghost use Rattle.definitions.specs.Ends.{is_live, own_of};
 ghost use Rattle.wire_core.specs.Refused.{fault_number};
 ghost use Rattle.wire_core.specs.Feeds.{fed_into, fault_at};
-ghost use Rattle.ends_core.specs.Roles.{most_of};
+ghost use Rattle.ends_core.specs.Roles.{bound_of};
 ghost use Rattle.session_core.specs.Kept.{kept_by};
 ghost use Rattle.session_core.specs.Laws.{Laws};
 ghost use Rattle.session_core.specs.Outboxes.{less, unwritten};
@@ -120,7 +119,7 @@ impl<S: RangeStore, F: Summary> Session<Responding, S, F> {
     ) -> Result<Session<Responding, S, F>, S>
         requires { length (S.content store) ≤ (arc_value accepted).table.cap }
         ensures begins { IfOk result (λ c. Begins F.summary F.profile (arc_value accepted)
-            (responding (peer_of (arc_value accepted) (S.content store))) c) }
+            (responding F.summary (peer_of (arc_value accepted) (S.content store))) c) }
         ensures memory { IfErr result (λ s. s ≡ store) }
     {
         let Ok(made) = hello_text::<F>(alloc) else {
@@ -350,8 +349,8 @@ impl<R: Role, S: RangeStore, F: Summary> Session<R, S, F> {
 
     /// The greatest number of messages that it says, whatever its peer sends.
     pub fn bound(&self) -> u32
-        ensures { result ≡ rank_by self.now.talk.held.steps (length self.now.talk.held.end.peer.items)
-            + most_of R.side }
+        ensures { result ≡ bound_of R.side F.summary.may_cut self.now.talk.held.end.peer.table self.now.talk.held.steps
+            (length self.now.talk.held.end.peer.items) }
     {
         self.talk.end().bound()
     }
@@ -359,8 +358,8 @@ impl<R: Role, S: RangeStore, F: Summary> Session<R, S, F> {
     /// How many messages it has said, which is never more than `bound()`.
     pub fn sent(&self) -> u32
         ensures sent { result ≡ self.now.talk.held.end.sent }
-        ensures few { result ≤ rank_by self.now.talk.held.steps (length self.now.talk.held.end.peer.items)
-            + most_of R.side }
+        ensures few { result ≤ bound_of R.side F.summary.may_cut self.now.talk.held.end.peer.table
+            self.now.talk.held.steps (length self.now.talk.held.end.peer.items) }
     {
         self.talk.end().sent()
     }

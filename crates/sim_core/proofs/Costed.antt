@@ -8,6 +8,7 @@ use Rattle.definitions.specs.Items.{Item}
 use Rattle.definitions.specs.Ranks.{rank_by}
 use Rattle.definitions.specs.Sets.{IsSet}
 use Rattle.definitions.specs.Wire.{Profile}
+use Rattle.definitions.specs.Worlds.{opened_of}
 use Rattle.range_tree.specs.Trees.{tree_items}
 use Rattle.range_tree.specs.declared.tree.Tree.{Tree}
 use Rattle.session_core.specs.Sessions.{SessionState, Begins, due}
@@ -26,13 +27,13 @@ served a t room = record { set = t.rises; each = t.are_items; room = room }
 module _ {F : Type 0} (S : Summary F) (W : Profile F) where
   -- two sides that had said nothing have nothing more to say
   pub are-joined : (a : Checked) (theirs ours : List Item) (c d e f : SessionState F) (turns : List ℕ) →
-      Begins S W a (initiating S (peer_of a ours)) c → Begins S W a (responding (peer_of a theirs)) d →
+      Begins S W a (initiating S (peer_of a ours)) c → Begins S W a (responding S (peer_of a theirs)) d →
       (spoken : HaveSpoken S W c d e f turns) → (due W e.talk ≡ []) × (due W f.talk ≡ []) →
       AreJoined S W (peer_of a ours) (peer_of a theirs) e f (asked_by W spoken.rounds) (answered_by W spoken.rounds)
   are-joined a theirs ours c d e f turns begins begins2 spoken dues = record {
     initiator = first-trades S W c d e f spoken.rounds spoken.talks (initiating S (peer_of a ours)) [] [] refl
         begins.knows;
-    responder = second-trades S W c d e f spoken.rounds spoken.talks (responding (peer_of a theirs)) [] [] refl
+    responder = second-trades S W c d e f spoken.rounds spoken.talks (responding S (peer_of a theirs)) [] [] refl
         begins2.knows;
     none_due = dues;
   }
@@ -40,9 +41,9 @@ module _ {F : Type 0} (S : Summary F) (W : Profile F) where
   -- so they have ended
   pub costs-of : (a : Checked) (theirs ours : List Item) (c d e f : SessionState F) (turns : List ℕ) (messages : ℕ) →
       SessionsMeet S W a a → IsServed a ours → IsServed a theirs → Begins S W a (initiating S (peer_of a ours)) c →
-      Begins S W a (responding (peer_of a theirs)) d → HaveSpoken S W c d e f turns →
+      Begins S W a (responding S (peer_of a theirs)) d → HaveSpoken S W c d e f turns →
       (due W e.talk ≡ []) × (due W f.talk ≡ []) → messages ≡ e.talk.held.end.sent + f.talk.held.end.sent →
-      messages ≤ (rank_by e.talk.held.steps (length e.talk.held.end.peer.items) + 2)
+      messages ≤ (opened_of S e.talk.held.steps e.talk.held.end.peer + 2)
       + (rank_by f.talk.held.steps (length f.talk.held.end.peer.items) + 1) →
       Costs S W a theirs ours turns messages
   costs-of a theirs ours c d e f turns messages meet i r begins begins2 spoken dues said few =
@@ -62,11 +63,11 @@ module _ {F : Type 0} (S : Summary F) (W : Profile F) where
       }
 
   pub costs-from : (a : Checked) (theirs : List Item) (c d e f : SessionState F) (r : Result Cost AllocError) →
-      SessionsMeet S W a a → IsServed a theirs → Begins S W a (responding (peer_of a theirs)) d →
+      SessionsMeet S W a a → IsServed a theirs → Begins S W a (responding S (peer_of a theirs)) d →
       IfOk r (λ cost. HaveSpoken S W c d e f cost.turns.items) →
       OnOk r ((due W e.talk ≡ []) × (due W f.talk ≡ [])) →
       IfOk r (λ cost. cost.messages ≡ e.talk.held.end.sent + f.talk.held.end.sent) →
-      IfOk r (λ cost. cost.messages ≤ (rank_by e.talk.held.steps (length e.talk.held.end.peer.items) + 2)
+      IfOk r (λ cost. cost.messages ≤ (opened_of S e.talk.held.steps e.talk.held.end.peer + 2)
       + (rank_by f.talk.held.steps (length f.talk.held.end.peer.items) + 1)) →
       IfOk r (λ cost. CostsFrom S W a theirs c cost.turns.items cost.messages)
   costs-from a theirs c d e f (Err error) meet served begins2 spoken dues said few = tt

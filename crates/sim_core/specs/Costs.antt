@@ -18,7 +18,7 @@ use Rattle.definitions.specs.Ranks.{rank_by}
 use Rattle.definitions.specs.Engines.{initiating, responding}
 use Rattle.definitions.specs.Wire.{Profile}
 use Rattle.definitions.specs.Talks.{talk}
-use Rattle.definitions.specs.Worlds.{message_bound}
+use Rattle.definitions.specs.Worlds.{message_bound, opened_of}
 use Rattle.strategy_check.specs.Checked.{Checked}
 use Rattle.ends_core.specs.Sides.{peer_of}
 use Rattle.session_core.specs.Sessions.{SessionState, Begins, Pushes, Takes, due}
@@ -69,16 +69,17 @@ module _ {F : Type 0} (S : Summary F) (W : Profile F) where
     pub last : SessionState F
     pub end : SessionState F
     pub begins : Begins S W a (initiating S (peer_of a ours)) first
-        × Begins S W a (responding (peer_of a theirs)) second
+        × Begins S W a (responding S (peer_of a theirs)) second
     pub spoken : HaveSpoken first second last end turns
     pub joined : AreJoined S W (peer_of a ours) (peer_of a theirs) last end (asked_by W spoken.rounds)
         (answered_by W spoken.rounds)
-    pub talked : (k : ℕ) → message_bound (rank_by a.steps (length ours)) (rank_by a.steps (length theirs)) < k →
-        HaveTalked S W (peer_of a ours) (peer_of a theirs) (rank_by a.steps (length ours))
+    pub talked : (k : ℕ) →
+        message_bound (opened_of S a.steps (peer_of a ours)) (rank_by a.steps (length theirs)) < k →
+        HaveTalked S W (peer_of a ours) (peer_of a theirs) (opened_of S a.steps (peer_of a ours))
         (rank_by a.steps (length theirs)) last end (asked_by W spoken.rounds) (answered_by W spoken.rounds)
         (talk S (peer_of a ours) (peer_of a theirs) k)
     pub said : messages ≡ last.talk.held.end.sent + end.talk.held.end.sent
-    pub few : messages ≤ (rank_by last.talk.held.steps (length last.talk.held.end.peer.items) + 2)
+    pub few : messages ≤ (opened_of S last.talk.held.steps last.talk.held.end.peer + 2)
         + (rank_by end.talk.held.steps (length end.talk.held.end.peer.items) + 1)
 
   abbrev pub CostsFrom : Checked → List Item → SessionState F → List ℕ → ℕ → Type 0

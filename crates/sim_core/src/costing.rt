@@ -7,6 +7,7 @@ ghost use Rattle.definitions.specs.Fingerprints.{two_lanes};
 ghost use Rattle.definitions.specs.Ranks.{rank_by};
 ghost use Rattle.definitions.specs.Sets.{IsSet};
 ghost use Rattle.definitions.specs.Wire.{two_lane_profile};
+ghost use Rattle.definitions.specs.Worlds.{opened_of};
 ghost use Rattle.ends_core.specs.Sides.{peer_of};
 ghost use Rattle.range_tree.specs.Trees.{tree_items};
 ghost use Rattle.session_core.specs.Pairs.{SessionsMeet};
@@ -137,7 +138,7 @@ fn second_side<F: Summary>(
 ) -> Result<Session<Responding, Tree, F>, AllocError>
     requires { length (tree_items theirs) ≤ (arc_value accepted.now).table.cap }
     ensures begins { IfOk result (λ c. Begins F.summary F.profile (arc_value accepted.now)
-        (responding (peer_of (arc_value accepted.now) (tree_items theirs))) c) }
+        (responding F.summary (peer_of (arc_value accepted.now) (tree_items theirs))) c) }
     ensures listens { IfOk result (λ c. c.over ≡ false) }
 {
     match Session::respond(alloc, Arc::try_clone(accepted)?, theirs) {
@@ -159,7 +160,7 @@ fn messages_of<F: Summary>(
     second: &Session<Responding, Tree, F>,
 ) -> u64
     ensures said { result ≡ first.now.talk.held.end.sent + second.now.talk.held.end.sent }
-    ensures few { result ≤ (rank_by first.now.talk.held.steps (length first.now.talk.held.end.peer.items) + 2)
+    ensures few { result ≤ (opened_of F.summary first.now.talk.held.steps first.now.talk.held.end.peer + 2)
         + (rank_by second.now.talk.held.steps (length second.now.talk.held.end.peer.items) + 1) }
 {
     u64::from(first.sent()) + u64::from(second.sent())
@@ -179,7 +180,7 @@ fn spoken_cost<F: Summary>(
     ensures said { IfOk result (λ cost. cost.messages
         ≡ first.new.talk.held.end.sent + second.new.talk.held.end.sent) }
     ensures few { IfOk result (λ cost. cost.messages
-        ≤ (rank_by first.new.talk.held.steps (length first.new.talk.held.end.peer.items) + 2)
+        ≤ (opened_of F.summary first.new.talk.held.steps first.new.talk.held.end.peer + 2)
         + (rank_by second.new.talk.held.steps (length second.new.talk.held.end.peer.items) + 1)) }
     ensures bytes { IfOk result (λ cost. cost.bytes ≡ sum cost.turns.items) }
 {

@@ -1,11 +1,11 @@
 ghost use Rattle.std.specs.Prelude.{◌≡◌, ◌≤◌, ◌+◌};
-ghost use Rattle.definitions.specs.Strategies.{width};
-ghost use Rattle.definitions.specs.Ranks.{rank_by};
+ghost use Rattle.definitions.specs.Strategies.{opening_counts, width};
+ghost use Rattle.definitions.specs.Ranks.{greatest, rank_by};
 ghost use Rattle.strategy_check.specs.Checked.{IsChecked};
 
 use crate::ranks::Ranks;
 use std::marker::Model;
-use strategy_core::Strategy;
+use strategy_core::{Act, Strategy};
 
 /// A strategy that was accepted, with its ranks.
 #[derive(Drop)]
@@ -61,12 +61,27 @@ impl Accepted {
         self.ranks.steps()
     }
 
-    /// The greatest number of messages that an initiator with n items sends: its rank and 2.
-    pub fn bound_as_initiator(&self, n: u32) -> u32
+    /// The greatest rank of a part of the first message of an initiator with n items: its rank, or that of the greatest
+    /// share where the message may cut and the strategy does.
+    pub fn opened(&self, n: u32, may_cut: bool) -> u32
         requires { n ≤ self.now.table.cap }
-        ensures { result ≡ rank_by self.now.steps n + 2 }
+        ensures rank { result ≡ greatest (rank_by self.now.steps) (opening_counts may_cut self.now.table n) }
+        ensures small { result ≤ n }
     {
-        self.ranks.of(n) + 2
+        laws::ranks::shares_are_parts();
+        if may_cut && self.strategy.opening().is_cut() && self.strategy.act(n) == Act::Split {
+            return self.ranks.of(self.strategy.cutting(n).greatest);
+        }
+        self.ranks.of(n)
+    }
+
+    /// The greatest number of messages that an initiator with n items sends: the greatest rank that it opens, and 2.
+    pub fn bound_as_initiator(&self, n: u32, may_cut: bool) -> u32
+        requires { n ≤ self.now.table.cap }
+        ensures { result ≡ greatest (rank_by self.now.steps) (opening_counts may_cut self.now.table n) + 2 }
+    {
+        let _ = self.cap(); // proof only: a cap is below 2^17
+        self.opened(n, may_cut) + 2
     }
 
     /// The greatest number of messages that a responder with n items sends: its rank and 1.

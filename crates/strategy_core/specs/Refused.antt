@@ -13,7 +13,7 @@ use Rattle.definitions.specs.Refusals as codes
 use Rattle.strategy_core.specs.Texts.{IsDocument, IsText, IsTextOf, whole}
 use Rattle.strategy_core.specs.declared.fault.StrategyFault.{StrategyFault}
 use Rattle.strategy_core.specs.declared.fault.StrategyFault.TheVariants.{Missing, BadNumber, RowOrder, RowAction}
-use Rattle.strategy_core.specs.declared.fault.StrategyFault.TheVariants.{CapMismatch, BadBounds}
+use Rattle.strategy_core.specs.declared.fault.StrategyFault.TheVariants.{CapMismatch, BadBounds, BadOpening}
 use Rattle.strategy_core.specs.declared.fault.StrategyFlaw.{StrategyFlaw}
 use Rattle.strategy_core.specs.declared.fault.StrategyError.{StrategyError}
 use Rattle.strategy_core.specs.declared.fault.StrategyError.TheVariants as errors
@@ -25,6 +25,7 @@ fault_number RowOrder = codes.row_order
 fault_number RowAction = codes.row_action
 fault_number CapMismatch = codes.cap_mismatch
 fault_number BadBounds = codes.bad_bounds
+fault_number BadOpening = codes.bad_opening
 
 abbrev pub error_in_row : ℕ → StrategyError → StrategyError
 error_in_row n (errors.Fault flaw) = errors.Fault (record { fault = flaw.fault; row = Some n })

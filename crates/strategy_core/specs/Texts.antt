@@ -12,9 +12,10 @@ use Rattle.toml.specs.Parse.{parse_document}
 use Rattle.toml.specs.Data.{Data, Items, no_items, item, Members, get_member, as_integer, as_bool, as_str, as_array}
 use Rattle.toml.specs.Data.{as_table}
 use Rattle.definitions.specs.Strategies.{Table, Row, Act, List_items, Split, Peel, Bounds, At_items, Short}
+use Rattle.definitions.specs.Strategies.{Opening, Open_sum, Open_split}
 use Rattle.strategy_core.specs.declared.fault.StrategyFault.{StrategyFault}
 use Rattle.strategy_core.specs.declared.fault.StrategyFault.TheVariants.{Missing, BadNumber, RowOrder, RowAction}
-use Rattle.strategy_core.specs.declared.fault.StrategyFault.TheVariants.{CapMismatch, BadBounds}
+use Rattle.strategy_core.specs.declared.fault.StrategyFault.TheVariants.{CapMismatch, BadBounds, BadOpening}
 use Rattle.strategy_core.specs.declared.fault.StrategyFlaw.{StrategyFlaw}
 use Rattle.strategy_core.specs.declared.field.Field.{Field}
 use Rattle.strategy_core.specs.declared.field.Field.TheVariants as fields
@@ -161,20 +162,42 @@ bounds_under (Some d) = bounds_in d
 abbrev pub bounds_at : Members → Result Bounds StrategyFlaw
 bounds_at ms = bounds_under (get_member (codes "bounds") ms)
 
--- a row that has a key bounds, which says nothing there
-abbrev pub row_says_bounds : Option Members → Bool
-row_says_bounds None = false
-row_says_bounds (Some ms) = is_some (get_member (codes "bounds") ms)
+-- ---- opening
+
+-- the word sum or split
+abbrev pub opening_named : List ℕ → Result Opening StrategyFlaw
+opening_named word =
+    if bytes_eq word (codes "sum") then Ok Open_sum
+    else if bytes_eq word (codes "split") then Ok Open_split
+    else Err (whole BadOpening)
+
+abbrev pub opening_in : Data → Result Opening StrategyFlaw
+opening_in d = present BadOpening (as_str d) >>= opening_named
+
+-- one Sum of everything where nothing is said
+abbrev pub opening_under : Option Data → Result Opening StrategyFlaw
+opening_under None = Ok Open_sum
+opening_under (Some d) = opening_in d
+
+abbrev pub opening_at : Members → Result Opening StrategyFlaw
+opening_at ms = opening_under (get_member (codes "opening") ms)
+
+-- ---- what belongs above the rows
+
+-- a row that has this key, which says nothing there
+abbrev pub row_says : List ℕ → Option Members → Bool
+row_says key None = false
+row_says key (Some ms) = is_some (get_member key ms)
 
 -- the first of these rows that has it, of which the first has the number n
-abbrev pub bounds_row : ℕ → Items → Option ℕ
-bounds_row n no_items = None
-bounds_row n (item d ds) = if row_says_bounds (as_table d) then Some n else bounds_row (n + 1) ds
+abbrev pub row_with : List ℕ → ℕ → Items → Option ℕ
+row_with key n no_items = None
+row_with key n (item d ds) = if row_says key (as_table d) then Some n else row_with key (n + 1) ds
 
--- these bounds, if no row has the key
-abbrev pub apart_from : Option ℕ → Bounds → Result Bounds StrategyFlaw
-apart_from None bounds = Ok bounds
-apart_from (Some n) bounds = in_row n (Err (whole BadBounds))
+-- this value, if no row has the key, else this fault
+abbrev pub apart_from : {A : Type 0} → Option ℕ → StrategyFault → A → Result A StrategyFlaw
+apart_from None fault x = Ok x
+apart_from (Some n) fault x = in_row n (Err (whole fault))
 
 -- ---- a strategy
 
@@ -195,8 +218,10 @@ table_in ms = do
   rows ← rows_in cap None 1 entries
   reached ← provided (nat_eq (last_upto rows) cap) CapMismatch rows
   bounds ← bounds_at ms
-  apart ← apart_from (bounds_row 1 entries) bounds
-  Ok (record { cap = cap; limit = limit; rounds = rounds; rows = reached; bounds = apart })
+  apart ← apart_from (row_with (codes "bounds") 1 entries) BadBounds bounds
+  opening ← opening_at ms
+  first ← apart_from (row_with (codes "opening") 1 entries) BadOpening opening
+  Ok (record { cap = cap; limit = limit; rounds = rounds; rows = reached; bounds = apart; opening = first })
 
 -- UTF-8 in which TOML has this table
 abbrev pub IsDocument : List ℕ → Members → Type 0

@@ -28,10 +28,12 @@ pub enum StrategyFault {
     CapMismatch,
     /// What is under `bounds` is neither `"items"` nor `"short"`, or it stands in a row.
     BadBounds,
+    /// What is under `opening` is neither `"sum"` nor `"split"`, or it stands in a row.
+    BadOpening,
 }
 
 impl StrategyFault {
-    /// The number of the refusal, 29 or 31 to 35.
+    /// The number of the refusal, 28, 29 or 31 to 35.
     pub fn number(self) -> u8
         ensures { result ≡ fault_number self }
     {
@@ -42,6 +44,7 @@ impl StrategyFault {
             StrategyFault::RowAction => 34,
             StrategyFault::CapMismatch => 35,
             StrategyFault::BadBounds => 29,
+            StrategyFault::BadOpening => 28,
         }
     }
 }

@@ -6,13 +6,14 @@ ghost use Rattle.toml.specs.Data.{get_member, as_table};
 ghost use Rattle.strategy_core.specs.Texts.{IsDocument, IsText, key_of, member_at, number_in, number_at, weights_in};
 ghost use Rattle.strategy_core.specs.Texts.{array_in, few_in, split_in, list_in, peel_in, act_at, row_in, upto_in};
 ghost use Rattle.strategy_core.specs.Texts.{rows_in, entries_at, last_upto, bounds_in, bounds_at, rows_at, table_in};
-ghost use Rattle.strategy_core.specs.Texts.{row_says_bounds, bounds_row};
+ghost use Rattle.strategy_core.specs.Texts.{opening_in, opening_at, row_says, row_with};
 ghost use Rattle.strategy_core.specs.Refused.{Gives, GivesField, Opens};
-ghost use Rattle.strategy_core.specs.Rules.{act_of, bounds_of};
+ghost use Rattle.strategy_core.specs.Rules.{act_of, bounds_of, opening_of};
 
 use crate::bounds::Bounds;
 use crate::fault::{StrategyError, StrategyFault};
 use crate::field::Field;
+use crate::opening::Opening;
 use crate::row::{Row, Rule};
 use crate::strategy::Strategy;
 use crate::weights::Weights;
@@ -242,24 +243,45 @@ fn bounds(table: &Table) -> Result<Bounds, StrategyFault>
     }
 }
 
-/// Whether this row has a key `bounds`, which belongs above the rows.
-fn says_bounds(entry: &Value) -> bool
-    ensures { result ≡ row_says_bounds (as_table (view entry.now)) }
+/// The opening of this name.
+fn opening_of(value: &Value) -> Result<Opening, StrategyFault>
+    ensures { GivesField opening_of result (opening_in (view value.now)) }
+{
+    match value.as_str() {
+        Some("sum") => Ok(Opening::Sum),
+        Some("split") => Ok(Opening::Split),
+        _ => Err(StrategyFault::BadOpening),
+    }
+}
+
+/// The opening of a table: one fingerprint of everything where nothing is said.
+fn opening(table: &Table) -> Result<Opening, StrategyFault>
+    ensures { GivesField opening_of result (opening_at (table_view table.now)) }
+{
+    match member(table, "opening") {
+        Some(value) => opening_of(value),
+        None => Ok(Opening::Sum),
+    }
+}
+
+/// Whether this row has such a key, which belongs above the rows.
+fn row_says(entry: &Value, key: &str) -> bool
+    ensures { result ≡ row_says key.now (as_table (view entry.now)) }
 {
     match entry.as_table() {
-        Some(row) => member(row, "bounds").is_some(),
+        Some(row) => member(row, key).is_some(),
         None => false,
     }
 }
 
-/// The number of the first row, from 1, that has a key `bounds`.
-fn bounds_row(entries: &Array) -> Option<usize>
-    ensures { result ≡ bounds_row 1 (array_view entries.now) }
+/// The number of the first row, from 1, that has such a key.
+fn row_with(entries: &Array, key: &str) -> Option<usize>
+    ensures { result ≡ row_with key.now 1 (array_view entries.now) }
 {
     let mut number = 0;
     for entry in entries {
         number += 1;
-        if says_bounds(entry) {
+        if row_says(entry, key) {
             return Some(number);
         }
     }
@@ -280,8 +302,12 @@ pub fn strategy_of(alloc: Global, table: &Table) -> Result<Strategy, StrategyErr
         return Err(StrategyFault::CapMismatch.into());
     }
     let bounds = bounds(table)?;
-    if let Some(row) = bounds_row(array) {
+    if let Some(row) = row_with(array, "bounds") {
         return Err(StrategyError::from(StrategyFault::BadBounds).in_row(row));
+    }
+    let opening = opening(table)?;
+    if let Some(row) = row_with(array, "opening") {
+        return Err(StrategyError::from(StrategyFault::BadOpening).in_row(row));
     }
     Ok(Strategy {
         cap,
@@ -289,5 +315,6 @@ pub fn strategy_of(alloc: Global, table: &Table) -> Result<Strategy, StrategyErr
         rounds,
         rows,
         bounds,
+        opening,
     })
 }

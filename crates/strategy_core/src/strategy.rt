@@ -3,12 +3,13 @@ ghost use Rattle.toml.specs.View.{table_view};
 ghost use Rattle.definitions.specs.Strategies.{IsTable, act, shares, width};
 ghost use Rattle.strategy_core.specs.Acts.{kind_of, greatest, outline};
 ghost use Rattle.strategy_core.specs.Refused.{Gives, Reads};
-ghost use Rattle.strategy_core.specs.Rules.{bounds_of};
+ghost use Rattle.strategy_core.specs.Rules.{bounds_of, opening_of};
 ghost use Rattle.strategy_core.specs.Texts.{rows_at, table_in};
 
 use crate::act::{Act, Cutting};
 use crate::bounds::Bounds;
 use crate::fault::{StrategyError, StrategyFault};
+use crate::opening::Opening;
 use crate::reading::{document, strategy_of};
 use crate::row::{Row, place};
 use std::alloc::Global;
@@ -23,11 +24,12 @@ pub struct Strategy {
     pub(crate) rounds: u32,
     pub(crate) rows: Vec<Row>,
     pub(crate) bounds: Bounds,
+    pub(crate) opening: Opening,
 }
 
 impl Model for Strategy {
     ghost use Rattle.definitions.specs.Strategies as strategies;
-    ghost use Rattle.strategy_core.specs.Rules.{bounds_of};
+    ghost use Rattle.strategy_core.specs.Rules.{bounds_of, opening_of};
 
     ghost Value = { strategies.Table };
 
@@ -37,6 +39,7 @@ impl Model for Strategy {
       rounds = a.rounds;
       rows = a.rows.items;
       bounds = bounds_of a.bounds;
+      opening = opening_of a.opening;
     } };
 
     ghost invariant = { λ a. strategies.IsTable (record {
@@ -45,14 +48,15 @@ impl Model for Strategy {
       rounds = a.rounds;
       rows = a.rows.items;
       bounds = bounds_of a.bounds;
+      opening = opening_of a.opening;
     }) };
 }
 
 impl Strategy {
     /// The strategy of a TOML text.
     ///
-    /// Else 30 where the bytes are no TOML, or the fault of its table, 29 or 31 to 35; memory may run out before any of
-    /// these, if the bytes are UTF-8.
+    /// Else 30 where the bytes are no TOML, or the fault of its table, 28, 29 or 31 to 35; memory may run out before
+    /// any of these, if the bytes are UTF-8.
     pub fn read(alloc: Global, text: &[u8]) -> Result<Strategy, StrategyError>
         ensures { Reads result text.now }
     {
@@ -62,8 +66,8 @@ impl Strategy {
 
     /// The strategy of a TOML table. Keys other than the strategy's own are ignored.
     ///
-    /// Else the first fault, 29 or 31 to 35; memory may run out before one that is in the rows, or that is found after
-    /// them.
+    /// Else the first fault, 28, 29 or 31 to 35; memory may run out before one that is in the rows, or that is found
+    /// after them.
     pub fn from_table(alloc: Global, table: &Table) -> Result<Strategy, StrategyError>
         ensures table { Gives (λ strategy. strategy) result (table_in (table_view table.now)) }
         ensures memory { result ≡ Err StrategyError.Memory → IsOk (rows_at (table_view table.now)) }
@@ -98,6 +102,13 @@ impl Strategy {
         ensures { bounds_of result ≡ self.now.bounds }
     {
         self.bounds
+    }
+
+    /// What a session that this side begins has first.
+    pub fn opening(&self) -> Opening
+        ensures { opening_of result ≡ self.now.opening }
+    {
+        self.opening
     }
 
     /// The greatest number of parts that a range is cut into, at least 1.

@@ -44,32 +44,33 @@ module _ {F : Type 0} (S : Summary F) where
   -- ==== The session after a delivery
 
   from_same : (node : Node) (o : Option (EndState F)) →
-      (responder_from node o).end ≡ unwrap_or (option_map (λ h. h.end) o) (responder (newest node))
+      (responder_from S node o).end ≡ unwrap_or (option_map (λ h. h.end) o) (responder S (newest node))
   from_same node None = refl
   from_same node (Some h) = refl
 
   from_steps : (node : Node) (o : Option (EndState F)) → IfSome o (λ h. h.steps ≡ node.steps) →
-      (responder_from node o).steps ≡ node.steps
+      (responder_from S node o).steps ≡ node.steps
   from_steps node None h = refl
   from_steps node (Some x) h = h
 
-  from_none : (node : Node) (o : Option (EndState F)) → IfSome o HasNone → HasNone (responder_from node o)
+  from_none : (node : Node) (o : Option (EndState F)) → IfSome o HasNone → HasNone (responder_from S node o)
   from_none node None h = refl
   from_none node (Some x) h = h
 
   -- its parts, where the responder hears and where the initiator does
   pub record IsHeard (w : World) (l : RunSession F) (node : Node) : Type 0 where
-    pub hears : (hearer l node).end ≡ hearer_now w (session_of l) (kept_of l)
+    pub hears : (hearer S l node).end ≡ hearer_now S w (session_of l) (kept_of l)
     pub session : session_of (heard_by S l node) ≡ after_delivery w (session_of l)
     pub kept : kept_of (heard_by S l node) ≡ kept_after (session_of l) (kept_of l)
-        (after S (hearer_now w (session_of l) (kept_of l)) l.last)
-        (last_by l.last (answer S (hearer l node).end l.last)) (parts_by l.parts (answer S (hearer l node).end l.last))
+        (after S (hearer_now S w (session_of l) (kept_of l)) l.last)
+        (last_by l.last (answer S (hearer S l node).end l.last)) (parts_by l.parts (answer S (hearer S l node).end
+        l.last))
     pub first : (heard_by S l node).first.steps ≡ l.first.steps
     pub second : IfSome l.second (λ h. h.steps ≡ node.steps) →
         IfSome (heard_by S l node).second (λ h. h.steps ≡ node.steps)
     pub first_none : HasNone l.first → HasNone (heard_by S l node).first
     pub second_none : IfSome l.second HasNone → IfSome (heard_by S l node).second HasNone
-    pub hearer_none : HasNone l.first → IfSome l.second HasNone → HasNone (hearer l node)
+    pub hearer_none : HasNone l.first → IfSome l.second HasNone → HasNone (hearer S l node)
     pub responder : (heard_by S l node).responder_node ≡ l.responder_node
     pub initiator : (heard_by S l node).initiator_node ≡ l.initiator_node
 
@@ -110,11 +111,11 @@ module _ {F : Type 0} (S : Summary F) where
   pub record Goes (w : World) (s : worlds.Session) (k : Kept F) (a : Answer F) : Type 0 where
     pub taken : IsTaken a
     pub keeps : Keeps S w (after_delivery w s)
-        (kept_after s k (after S (hearer_now w s k) k.last) (last_by k.last a) (parts_by k.parts a))
+        (kept_after s k (after S (hearer_now S w s k) k.last) (last_by k.last a) (parts_by k.parts a))
     pub did : did_by a ≡ (if has_ended S w (after_delivery w s) then worlds.Over else worlds.Sent)
 
   goes : (w : World) (s : worlds.Session) (k : Kept F) (a : Answer F) → GoesOnBy S w s k →
-      answer S (hearer_now w s k) k.last ≡ a → Goes w s k a
+      answer S (hearer_now S w s k) k.last ≡ a → Goes w s k a
   goes w s k (Replies N) g e =
       let on = g.replied N e in
       record {
@@ -132,7 +133,7 @@ module _ {F : Type 0} (S : Summary F) where
             (cond-true (has_ended S w (after_delivery w s)) worlds.Over worlds.Sent on.1);
       }
   goes w s k (Refuses code) g e =
-      absurd (refused_if (has_open k.last) (reply S (hearer_now w s k).peer k.last) code (sym e ∙ g.taken))
+      absurd (refused_if (has_open k.last) (reply S (hearer_now S w s k).peer k.last) code (sym e ∙ g.taken))
 
   -- ==== A session of a world that runs
 
@@ -169,7 +170,7 @@ module _ {F : Type 0} (S : Summary F) where
 
   goes_at : DeliveryLaws S → (nodes : List Node) (lives : List (RunSession F)) (k : ℕ) (l : RunSession F)
       (node : Node) → IsAt nodes lives k l node →
-      Goes (world_of nodes lives) (session_of l) (kept_of l) (answer S (hearer l node).end l.last)
+      Goes (world_of nodes lives) (session_of l) (kept_of l) (answer S (hearer S l node).end l.last)
       × IsHeard (world_of nodes lives) l node
   goes_at laws nodes lives k l node at =
       let w : World = world_of nodes lives in
@@ -178,18 +179,18 @@ module _ {F : Type 0} (S : Summary F) where
       let g = laws.go_on laws.look.exact w (session_of l) (kept_of l) at.runs.ready
       (kept_at nodes lives k l at.runs at.here).keeps going in
       let is : IsHeard w l node = subst (IsHeard w l) at.it (heard w l (is_even l.delivered) refl) in (
-        goes w (session_of l) (kept_of l) (answer S (hearer l node).end l.last) g
+        goes w (session_of l) (kept_of l) (answer S (hearer S l node).end l.last) g
             (ap (λ e. answer S e l.last) (sym is.hears)),
         is,
       )
 
   pub deliver_taken : DeliveryLaws S → (nodes : List Node) (lives : List (RunSession F)) (k : ℕ) (l : RunSession F)
       (node : Node) → IsAt nodes lives k l node →
-      IsTaken (answer S (hearer l node).end l.last)
+      IsTaken (answer S (hearer S l node).end l.last)
   deliver_taken laws nodes lives k l node at = (goes_at laws nodes lives k l node at).0.taken
 
   pub deliver_none : (nodes : List Node) (lives : List (RunSession F)) (k : ℕ) (l : RunSession F) (node : Node) →
-      IsAt nodes lives k l node → HasNone (hearer l node)
+      IsAt nodes lives k l node → HasNone (hearer S l node)
   deliver_none nodes lives k l node at =
       let kept = kept_at nodes lives k l at.runs at.here in
       (subst (IsHeard (world_of nodes lives) l) at.it
@@ -216,7 +217,7 @@ module _ {F : Type 0} (S : Summary F) where
   both_made : DeliveryLaws S → (nodes : List Node) (lives : List (RunSession F)) (k : ℕ) (l : RunSession F)
       (node : Node) → IsAt nodes lives k l node →
       deliver_at S (world_of nodes lives) k (slice_get (world_of nodes lives).sessions k)
-      ≡ (world_of nodes (set lives k (heard_by S l node)), did_by (answer S (hearer l node).end l.last))
+      ≡ (world_of nodes (set lives k (heard_by S l node)), did_by (answer S (hearer S l node).end l.last))
   both_made laws nodes lives k l node at =
       let w : World = world_of nodes lives in
       let both = goes_at laws nodes lives k l node at in
@@ -227,7 +228,7 @@ module _ {F : Type 0} (S : Summary F) where
       map-set session_of lives k (heard_by S l node) ∙ ap (set (map session_of lives) k) both.1.session in
       deliver_some w k (session_of l) (found_at nodes lives k l at.here) going
       ∙ ap (λ d. (delivered_to w k (session_of l), d)) (sym both.0.did)
-      ∙ ap (λ ss. (with_sessions nodes ss, did_by (answer S (hearer l node).end l.last))) (sym same)
+      ∙ ap (λ ss. (with_sessions nodes ss, did_by (answer S (hearer S l node).end l.last))) (sym same)
 
   heard_runs : DeliveryLaws S → (nodes : List Node) (lives : List (RunSession F)) (k : ℕ) (l : RunSession F)
       (node : Node) → IsAt nodes lives k l node →
@@ -280,7 +281,7 @@ module _ {F : Type 0} (S : Summary F) where
       (w : World) (nodes : List Node) (lives : List (RunSession F)) (k : ℕ) (l : RunSession F) (node : Node) →
       world_of nodes lives ≡ w →
       IsAt nodes lives k l node →
-      IfOk r (λ d. f d ≡ did_by (answer S (hearer l node).end l.last)) →
+      IfOk r (λ d. f d ≡ did_by (answer S (hearer S l node).end l.last)) →
       IfOk r (λ d. f d ≡ (deliver_at S w k (slice_get w.sessions k)).1)
   deliver_did f (Ok d) laws w nodes lives k l node v at ok =
       subst (λ u. f d ≡ (deliver_at S u k (slice_get u.sessions k)).1) v

@@ -7,7 +7,7 @@ use Rattle.std.proofs.lemmas.List.{set-get_or}
 use Rattle.std.proofs.lemmas.Option.{slice_get-map, slice_get_read}
 use Rattle.std.proofs.lemmas.Bool.{ne_eqb}
 use Rattle.definitions.proofs.Words.{World, Node, Item, End, node_at, no_node, has_ended, initiator_of, responder_of}
-use Rattle.definitions.proofs.Words.{absorb_at, absorb_side, set_of, message_bound, rank_of, responder_at}
+use Rattle.definitions.proofs.Words.{absorb_at, absorb_side, set_of, message_bound, opened_of, rank_of, responder_at}
 use Rattle.definitions.proofs.Lemmas.{cond-true, cond-false, eq-eqb}
 use Rattle.definitions.specs.Ranks.{rank_by}
 use Rattle.definitions.specs.Talks.{Knowledge}
@@ -19,7 +19,7 @@ use Rattle.ends_core.specs.EndStates.{EndState}
 use Rattle.world_core.specs.declared.session.RunSession.{RunSession}
 use Rattle.world_core.specs.Live.{session_of, kept_of, made, IsKept, world_of, IsRunning}
 use Rattle.world_core.specs.Steps.{absorbing, absorbed_at, theirs_of, AbsorbsSome}
-use Rattle.world_core.specs.Shown.{learned_by, bound_by, rank_held, shown}
+use Rattle.world_core.specs.Shown.{learned_by, bound_by, opened_held, rank_held, shown}
 use Rattle.world_core.specs.Laws.{Laws}
 use Rattle.world_core.proofs.Delivering.{kept_at, tells_at, ended_at, few_at}
 
@@ -177,25 +177,25 @@ module _ {F : Type 0} (S : Summary F) where
       }
 
   shown_is : (w : World) (l : RunSession F) → IsKept S w l → Tells S w (session_of l) (kept_of l) →
-      shown l ≡ worlds.report_of S w (session_of l)
+      shown S l ≡ worlds.report_of S w (session_of l)
   shown_is w l k t =
       let s : worlds.Session = session_of l in
-      let first : rank_held l.first ≡ rank_of (node_at w l.initiator_node).steps (initiator_of w s) =
-      ap (λ steps. rank_by steps (length l.first.end.peer.items)) k.first
-      ∙ ap (λ p. rank_by (node_at w l.initiator_node).steps (length p.items)) t.initiator in
-      let bound : bound_by l ≡ (worlds.report_of S w s).bound =
-      bounds_same w s (rank_held l.first) l.second l.responder_version
+      let first : opened_held S l.first ≡ opened_of S (node_at w l.initiator_node).steps (initiator_of w s) =
+      ap (λ steps. opened_of S steps l.first.end.peer) k.first
+      ∙ ap (opened_of S (node_at w l.initiator_node).steps) t.initiator in
+      let bound : bound_by S l ≡ (worlds.report_of S w s).bound =
+      bounds_same w s (opened_held S l.first) l.second l.responder_version
       (λ v. responder_at S (initiator_of w s) (responder_of w s) s.delivered) k.keeps.responder k.second t.responder
       ∙ ap (λ i. option_map (λ v. message_bound i
       (rank_of (node_at w l.responder_node).steps (responder_of w s))) l.responder_version) first in
-      same_report (shown l) (worlds.report_of S w s) refl refl t.count bound k.keeps.parts
+      same_report (shown S l) (worlds.report_of S w s) refl refl t.count bound k.keeps.parts
       (ap (λ n. n == l.delivered) t.count) t.initiator_learned t.responder_learned
 
   pub report_is : Laws S → (w : World) (nodes : List Node) (lives : List (RunSession F)) (k : ℕ) (l : RunSession F) →
       world_of nodes lives ≡ w → IsRunning S nodes lives → slice_get lives k ≡ Some l →
-      Some (shown l) ≡ worlds.report S w k
+      Some (shown S l) ≡ worlds.report S w k
   report_is laws w nodes lives k l e runs here =
-      subst (λ t. Some (shown l) ≡ worlds.report S t k) e
+      subst (λ t. Some (shown S l) ≡ worlds.report S t k) e
       (ap Some (shown_is (world_of nodes lives) l (kept_at S nodes lives k l runs here)
       (tells_at S laws nodes lives k l runs here))
       ∙ sym (ap (option_map (worlds.report_of S (world_of nodes lives))) (found_in nodes lives k l here)))

@@ -7,7 +7,8 @@ use Rattle.std.specs.Prelude.{◌≡◌, ℕ, ◌+◌, List, length, max, map, O
 use Rattle.std.specs.Prelude.{if◌then◌else◌, ⊤}
 use Rattle.std.specs.List.{AllByRecursion}
 use Rattle.definitions.specs.Fingerprints.{Summary}
-use Rattle.definitions.specs.Messages.{Message, opening}
+use Rattle.definitions.specs.Messages.{Message}
+use Rattle.definitions.specs.Replies.{opening}
 use Rattle.definitions.specs.Ends.{Answer, Replies, Ends, Refuses, answer, initiator, responder}
 use Rattle.definitions.specs.Theorems.{IsNode}
 use Rattle.definitions.specs.Worlds as worlds
@@ -67,18 +68,18 @@ beginning S i r node = record {
   delivered = 0;
   first = fresh node.steps (initiator S (newest node));
   second = None;
-  last = opening S (newest node).items;
-  parts = 1;
+  last = opening S (newest node);
+  parts = length (opening S (newest node));
 }
 
 -- the responder; where there is none it begins at its node
-abbrev pub responder_from : {F : Type 0} → Node → Option (EndState F) → EndState F
-responder_from node (Some h) = h
-responder_from node None = fresh node.steps (responder (newest node))
+abbrev pub responder_from : {F : Type 0} → Summary F → Node → Option (EndState F) → EndState F
+responder_from S node (Some h) = h
+responder_from S node None = fresh node.steps (responder S (newest node))
 
 -- who hears the message made last
-abbrev pub hearer : {F : Type 0} → RunSession F → Node → EndState F
-hearer l node = if is_even l.delivered then responder_from node l.second else l.first
+abbrev pub hearer : {F : Type 0} → Summary F → RunSession F → Node → EndState F
+hearer S l node = if is_even l.delivered then responder_from S node l.second else l.first
 
 -- no message is refused
 abbrev pub IsTaken : {F : Type 0} → Answer F → Type 0
@@ -113,7 +114,7 @@ advanced l newest a = record l {
 }
 
 abbrev pub heard_by_responder : {F : Type 0} → Summary F → RunSession F → Node → RunSession F
-heard_by_responder S l node = record l { second = Some (end_after S (responder_from node l.second) l.last) }
+heard_by_responder S l node = record l { second = Some (end_after S (responder_from S node l.second) l.last) }
 
 abbrev pub heard_by_initiator : {F : Type 0} → Summary F → RunSession F → RunSession F
 heard_by_initiator S l = record l { first = end_after S l.first l.last }
@@ -122,4 +123,4 @@ heard_by_initiator S l = record l { first = end_after S l.first l.last }
 abbrev pub heard_by : {F : Type 0} → Summary F → RunSession F → Node → RunSession F
 heard_by S l node =
     advanced (if is_even l.delivered then heard_by_responder S l node else heard_by_initiator S l) (length node.history)
-    (answer S (hearer l node).end l.last)
+    (answer S (hearer S l node).end l.last)

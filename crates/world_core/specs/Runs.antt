@@ -16,8 +16,8 @@ use Rattle.definitions.specs.Fingerprints.{Summary}
 use Rattle.definitions.specs.Histories.{content, items_of}
 use Rattle.definitions.specs.Ranks.{IsRankTable}
 use Rattle.definitions.specs.Talks.{IsClear}
-use Rattle.definitions.specs.Theorems.{rank, CostsLittle, KeepLimits, KnowsDifference, KnowsNothingWrong, IsNode}
-use Rattle.definitions.specs.Theorems.{inserts, node_of, deliveries}
+use Rattle.definitions.specs.Theorems.{rank, opened, CostsLittle, KeepLimits, KnowsDifference, KnowsNothingWrong}
+use Rattle.definitions.specs.Theorems.{IsNode, inserts, node_of, deliveries}
 use Rattle.laws.specs.Spreading.{Reaches}
 use Rattle.definitions.specs.Worlds as worlds
 use Rattle.definitions.specs.Worlds.{World, Node, Session, node_at, messages, has_ended, initiator_of, responder_of}
@@ -34,7 +34,7 @@ pub record Came {F : Type 0} (S : Summary F) (w : World) : Type 0 where
 abbrev pub HasFewMessages : {F : Type 0} → Summary F → World → Session → Type 0
 HasFewMessages S w s =
     (f g : List ℕ) → IsRankTable (initiator_of w s).table f → IsRankTable (responder_of w s).table g →
-    length (messages S w s) ≤ message_bound (rank f (initiator_of w s)) (rank g (responder_of w s))
+    length (messages S w s) ≤ message_bound (opened S f (initiator_of w s)) (rank g (responder_of w s))
 
 -- the bound that is shown is one
 abbrev pub IsWithinBound : {F : Type 0} → Summary F → World → Session → Type 0
@@ -57,7 +57,9 @@ LearnsNothingWrong S w s =
     KnowsNothingWrong (initiator_knowledge S w s) (initiator_of w s).items (responder_of w s).items
     × KnowsNothingWrong (responder_knowledge S w s) (responder_of w s).items (initiator_of w s).items
 
--- each message has at most max 1 (d w) parts, and no more are shown, whether or not fingerprints clash
+-- each message has at most max w0 (d w) parts, where the first has w0, and no more are shown, whether or not
+-- fingerprints
+-- clash
 abbrev pub HasFewParts : {F : Type 0} → Summary F → World → Session → Type 0
 HasFewParts S w s = CostsLittle S w s
 

@@ -3,7 +3,7 @@
 ghost use Rattle.std.specs.Prelude.{◌≡◌, length, IfOk, OnOk, OnErr};
 ghost use Rattle.std.specs.Arc.{arc_value};
 ghost use Rattle.definitions.specs.Histories.{insertion, history_after};
-ghost use Rattle.definitions.specs.Messages.{opening};
+ghost use Rattle.definitions.specs.Replies.{opening};
 ghost use Rattle.definitions.specs.Worlds.{told};
 ghost use Rattle.definitions.specs.Ends as ends;
 ghost use Rattle.ends_core.specs.Turns.{fresh};
@@ -94,7 +94,7 @@ impl Node {
     ) -> Result<(Initiator<Tree, F>, Message<F>), AllocError>
         ensures end { IfOk result
             (λ r. r.0 ≡ fresh self.now.steps (ends.initiator F.summary (newest self.now))) }
-        ensures message { IfOk result (λ r. r.1 ≡ opening F.summary (newest self.now).items) }
+        ensures message { IfOk result (λ r. r.1 ≡ opening F.summary (newest self.now)) }
     {
         let _ = self.log.cap(); // proof only: the log is within its cap
         let _ = self.log.count(); // proof only: the log has so many items as its store
@@ -110,7 +110,7 @@ impl Node {
         &self,
         alloc: Global,
     ) -> Result<Responder<Tree, F>, AllocError>
-        ensures { IfOk result (λ r. r ≡ fresh self.now.steps (ends.responder (newest self.now))) }
+        ensures { IfOk result (λ r. r ≡ fresh self.now.steps (ends.responder F.summary (newest self.now))) }
     {
         let _ = self.log.cap(); // proof only: the log is within its cap
         let _ = self.log.count(); // proof only: the log has so many items as its store

@@ -60,8 +60,8 @@ pub struct Report<'a> {
     pub responder_node: usize,
     /// How many messages were made.
     pub messages: usize,
-    /// How many messages there may be, once the responder's version is chosen: 3 + min(2r, 2i + 1) by the ranks of
-    /// both.
+    /// How many messages there may be, once the responder's version is chosen: 3 + min(2r, 2p + 1) by the responder's
+    /// rank r and the greatest rank p of a part of the first message.
     pub bound: Option<usize>,
     /// The greatest number of parts of a message.
     pub parts: usize,

@@ -70,12 +70,12 @@ fn hear_at<F: Summary>(
     node: &Node,
     message: &Message<F>,
 ) -> Result<Turn<F>, AllocError>
-    requires none { HasNone (responder_from node.now second.old) }
-    requires taken { IsTaken (answer F.summary (responder_from node.now second.old).end message.now) }
-    ensures turn { IfOk result (λ turn. answer_of turn ≡ answer F.summary (responder_from node.now second.old).end
-        message.now) }
+    requires none { HasNone (responder_from F.summary node.now second.old) }
+    requires taken { IsTaken (answer F.summary (responder_from F.summary node.now second.old).end message.now) }
+    ensures turn { IfOk result (λ turn. answer_of turn
+        ≡ answer F.summary (responder_from F.summary node.now second.old).end message.now) }
     ensures end { OnOk result
-        (second.new ≡ Some (end_after F.summary (responder_from node.now second.old) message.now)) }
+        (second.new ≡ Some (end_after F.summary (responder_from F.summary node.now second.old) message.now)) }
     ensures memory { OnErr result (second.new ≡ second.old) }
 {
     if let Some(end) = second {
@@ -108,6 +108,7 @@ impl<F: Summary> RunSession<F> {
         ensures { IfOk result (λ l. l ≡ beginning F.summary initiator_node responder_node node.now) }
     {
         let (first, last) = node.initiator(alloc)?;
+        let parts = last.parts().len();
         Ok(RunSession {
             initiator_node,
             responder_node,
@@ -117,7 +118,7 @@ impl<F: Summary> RunSession<F> {
             first,
             second: None,
             last,
-            parts: 1,
+            parts,
         })
     }
 
@@ -155,7 +156,7 @@ impl<F: Summary> RunSession<F> {
 
     /// How many messages there may be, once the responder's version is chosen.
     fn bound(&self) -> Option<usize>
-        ensures { result ≡ bound_by self.now }
+        ensures { result ≡ bound_by F.summary self.now }
     {
         let second = self.second.as_ref()?;
         let initiator = self.first.bound() as usize - 2;
@@ -165,7 +166,7 @@ impl<F: Summary> RunSession<F> {
 
     /// What is shown of the session.
     pub(crate) fn report(&self) -> Report<'_>
-        ensures { report_of result ≡ shown self.now }
+        ensures { report_of result ≡ shown F.summary self.now }
     {
         Report {
             initiator_node: self.initiator_node,
@@ -200,13 +201,14 @@ impl<F: Summary> RunSession<F> {
     /// The message made last is delivered to the responder.
     fn deliver_to_responder(&mut self, alloc: Global, node: &Node) -> Result<Did, AllocError>
         requires few { self.old.delivered < 2 ^ 33 }
-        requires none { HasNone (responder_from node.now self.old.second) }
-        requires taken { IsTaken (answer F.summary (responder_from node.now self.old.second).end self.old.last) }
+        requires none { HasNone (responder_from F.summary node.now self.old.second) }
+        requires taken { IsTaken
+            (answer F.summary (responder_from F.summary node.now self.old.second).end self.old.last) }
         ensures session { OnOk result (self.new ≡ advanced (heard_by_responder F.summary self.old node.now)
-            (length node.now.history) (answer F.summary (responder_from node.now self.old.second).end
+            (length node.now.history) (answer F.summary (responder_from F.summary node.now self.old.second).end
             self.old.last)) }
         ensures did { IfOk result
-            (λ did. did_of did ≡ did_by (answer F.summary (responder_from node.now self.old.second).end
+            (λ did. did_of did ≡ did_by (answer F.summary (responder_from F.summary node.now self.old.second).end
             self.old.last)) }
         ensures memory { OnErr result (self.new ≡ self.old) }
     {
@@ -231,11 +233,11 @@ impl<F: Summary> RunSession<F> {
     /// The message made last is delivered; its responder is at this node.
     pub(crate) fn deliver(&mut self, alloc: Global, node: &Node) -> Result<Did, AllocError>
         requires few { self.old.delivered < 2 ^ 33 }
-        requires none { HasNone (hearer self.old node.now) }
-        requires taken { IsTaken (answer F.summary (hearer self.old node.now).end self.old.last) }
+        requires none { HasNone (hearer F.summary self.old node.now) }
+        requires taken { IsTaken (answer F.summary (hearer F.summary self.old node.now).end self.old.last) }
         ensures session { OnOk result (self.new ≡ heard_by F.summary self.old node.now) }
         ensures did { IfOk result
-            (λ did. did_of did ≡ did_by (answer F.summary (hearer self.old node.now).end self.old.last)) }
+            (λ did. did_of did ≡ did_by (answer F.summary (hearer F.summary self.old node.now).end self.old.last)) }
         ensures memory { OnErr result (self.new ≡ self.old) }
     {
         if is_even(self.delivered) {

@@ -245,8 +245,9 @@ impl<F: Summary> World<F> {
     /// The session has few messages, by the ranks of both tables and by the bound that is shown; no list in it is
     /// longer than its sender's limit; nothing wrong is learned, and once it has ended, where no unequal compared
     /// ranges share a fingerprint, both differences. No message has more parts than the widths of both tables allow for
-    /// each item that only one of the two versions has, or one, and no more are shown. Whatever nodes and steps made
-    /// this world, each item of a history was in one of the nodes, or is one that a step inserts.
+    /// each item that only one of the two versions has, or than the first one has, and no more are shown. Whatever
+    /// nodes
+    /// and steps made this world, each item of a history was in one of the nodes, or is one that a step inserts.
     pub fn report(&self, session: usize) -> Option<Report<'_>>
         ensures report { option_map report_of result ≡ worlds.report F.summary self.now session }
         ensures holds { (s : worlds.Session) → slice_get self.now.sessions session ≡ Some s →

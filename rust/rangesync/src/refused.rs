@@ -112,6 +112,7 @@ const NAMES: &[(u32, &str)] = &[
     (24, "MarkCount"),
     (25, "AnswerRepeats"),
     (26, "Spent"),
+    (28, "BadOpening"),
     (29, "BadBounds"),
     (30, "NotToml"),
     (31, "Missing"),

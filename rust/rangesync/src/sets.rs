@@ -7,7 +7,7 @@ use crate::{Error, Learned, Refused, Session};
 pub struct Strategy(pub(crate) Handle<kind::Strategy>);
 
 impl Strategy {
-    /// Reads a strategy, a text in TOML, and checks that sessions under it end. Refused 29 to 38 if not.
+    /// Reads a strategy, a text in TOML, and checks that sessions under it end. Refused 28 to 38 if not.
     pub fn read(text: &[u8]) -> Result<Strategy, Refused> {
         Handle::strategy(text).map(Strategy)
     }

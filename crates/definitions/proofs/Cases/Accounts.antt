@@ -1,21 +1,19 @@
 -- What the outcomes of sessions tell, case by case: hostile peers, and memory, readers and writers that fail.
-use Rattle.std.specs.Prelude.{◌≡◌, ℕ, zero, suc, ◌+◌, ◌≤◌, ◌<◌, Bool, true, false, List, [], ◌∷◌, ◌++◌, length, map}
-use Rattle.std.specs.Prelude.{take, drop, replicate, nat_lt, if◌then◌else◌, refl, codes}
-use Rattle.std.proofs.Common.{sym, subst, arith, inl, inr, ◌∙◌, ap}
+use Rattle.std.specs.Prelude.{◌≡◌, ℕ, ◌≤◌, ◌<◌, true, false, List, [], ◌∷◌, ◌++◌, length, map}
+use Rattle.std.specs.Prelude.{take, drop, replicate, refl}
+use Rattle.std.proofs.Common.{sym, arith, inl, inr, ap}
 use Rattle.std.specs.List.{range_with_len}
 use Rattle.std.proofs.lemmas.List.{take-append-drop, length-take-le}
 use Rattle.definitions.specs.Fingerprints.{Lanes, two_lanes}
 use Rattle.definitions.specs.Replies.{Peer}
-use Rattle.definitions.specs.Talks.{Knowledge}
 use Rattle.definitions.specs.Wire.{two_lane_profile, fault_text}
-use Rattle.definitions.specs.Ends.{is_over}
-use Rattle.definitions.specs.Hearing.{Hearing, Peer_refused, Refused_for}
-use Rattle.definitions.specs.Accounts.{Role, Initiates, Responds, speaker_of, Seen, Call, called_for, said, session_of}
-use Rattle.definitions.specs.Accounts.{heard_in, IsBeginningOf, WroteFault, WroteAll, BrokeOff, IsEnded, IsRefused}
-use Rattle.definitions.specs.Accounts.{IsMemory, IsPeerRefused, IsIo, Failing, Reading, Writing}
+use Rattle.definitions.specs.Hearing.{Hearing, Refused_for}
+use Rattle.definitions.specs.Accounts.{Role, Initiates, Responds, speaker_of, Seen, Call, called_for, said}
+use Rattle.definitions.specs.Accounts.{heard_in, IsBeginningOf, IsEnded, IsRefused}
+use Rattle.definitions.specs.Accounts.{IsMemory, IsPeerRefused, IsIo, Reading, Writing}
 use Rattle.definitions.specs.Sha256.{sha256, digest_bytes, hash_after, compress, rounds, schedule, first_words}
 use Rattle.definitions.proofs.Cases.Examples.{abc, no_items, has_abc}
-use Rattle.definitions.proofs.Cases.Spellings.{number, zeros, everything, end, opening_of_none, list_of_abc}
+use Rattle.definitions.proofs.Cases.Spellings.{number, everything, end, opening_of_none, list_of_abc}
 use Rattle.definitions.proofs.Cases.Spellings.{answer_to_abc}
 use Rattle.definitions.proofs.Cases.Streams.{hello, initiator_reads, initiator_writes}
 use Rattle.definitions.proofs.Cases.Hearings.{sum_below_b, sum_from_c, no_kind}

@@ -1,15 +1,20 @@
 -- Tables, sets and a fingerprint that the cases speak of.
-use Rattle.std.specs.Prelude.{ℕ, List, [], ◌∷◌, map, Some, None, codes}
+use Rattle.std.specs.Prelude.{ℕ, List, [], ◌∷◌, map, Some, None, codes, true, false}
 use Rattle.std.specs.Cmp.Lexicographic.{pointwise}
 use Rattle.definitions.specs.Items.{Item, Range, same_item}
 use Rattle.definitions.specs.Fingerprints.{Summary}
-use Rattle.definitions.specs.Strategies.{Table, Row, Act, List_items, Split, Peel, At_items}
+use Rattle.definitions.specs.Strategies.{Table, Row, Act, List_items, Split, Peel, At_items, Open_sum}
+use Rattle.definitions.specs.Strategies.{Open_split}
 use Rattle.definitions.specs.Replies.{Peer}
 use Rattle.definitions.specs.Talks.{Knowledge}
 
 -- the fingerprint of a set is the set: no two sets share one
 abbrev pub itself : Summary (List Item)
-itself = record { of = λ A. A; same = pointwise same_item }
+itself = record { of = λ A. A; same = pointwise same_item; may_cut = false }
+
+-- the same of sessions that may begin with a cut
+abbrev pub itself_cutting : Summary (List Item)
+itself_cutting = record itself { may_cut = true }
 
 abbrev pub row_upto : ℕ → Act → Row
 row_upto n act = record { upto = n; act = act }
@@ -20,7 +25,7 @@ halves = Split (1 ∷ 1 ∷ [])
 -- a table that cuts at items
 abbrev pub table_of : ℕ → ℕ → ℕ → List Row → Table
 table_of cap limit rounds rows =
-    record { cap = cap; limit = limit; rounds = rounds; rows = rows; bounds = At_items }
+    record { cap = cap; limit = limit; rounds = rounds; rows = rows; bounds = At_items; opening = Open_sum }
 
 abbrev pub binary : ℕ → ℕ → Table
 binary cap rounds = table_of cap 1 rounds (row_upto 1 List_items ∷ row_upto cap halves ∷ [])
@@ -43,6 +48,10 @@ knows_letters ours theirs = record { ours = letters ours; theirs = letters their
 
 abbrev pub peer : Table → List ℕ → Peer
 peer T bytes = record { table = T; items = letters bytes }
+
+-- the peer begins its sessions with a cut
+abbrev pub cutting : Peer → Peer
+cutting P = record P { table = record P.table { opening = Open_split } }
 
 -- one item of three bytes
 abbrev pub abc : List Item

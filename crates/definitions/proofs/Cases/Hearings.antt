@@ -1,23 +1,21 @@
 -- What is heard frame by frame: the refusal of the earliest frame; and a message taken part by part.
-use Rattle.std.specs.Prelude.{◌≡◌, ℕ, zero, suc, Bool, true, false, flat_map, nat_le, if◌then◌else◌, List, [], ◌∷◌}
-use Rattle.std.specs.Prelude.{◌++◌, length, map, take, replicate, Option, Some, None, refl, codes, fold}
-use Rattle.std.specs.List.{range_with_len, list_all}
+use Rattle.std.specs.Prelude.{◌≡◌, ℕ, zero, suc, true, false, flat_map, nat_le, if◌then◌else◌, List, [], ◌∷◌}
+use Rattle.std.specs.Prelude.{◌++◌, length, map, take, Some, None, refl, codes}
+use Rattle.std.specs.List.{list_all}
 use Rattle.definitions.specs.Items.{Item, Range, is_below, whole}
 use Rattle.definitions.specs.Fingerprints.{Lanes, two_lanes}
-use Rattle.definitions.specs.Messages.{Part, Sum, Listing, Answer, Message, opening}
-use Rattle.definitions.specs.Replies.{Peer, reply}
-use Rattle.definitions.specs.Wire.{two_lane_profile, part_text}
+use Rattle.definitions.specs.Messages.{Part, Sum, Listing, Answer, Message}
+use Rattle.definitions.specs.Replies.{Peer, reply, opening}
+use Rattle.definitions.specs.Wire.{two_lane_profile}
 use Rattle.definitions.specs.Streams.{In_message, Faulted, feed}
-use Rattle.definitions.specs.Ends.{End, Waits, Over, Spent, Replies, Ends, Refuses, initiator, responder, answer, after}
-use Rattle.definitions.specs.Engines.{Speaker, initiating, responding, messages_in, fault_frame}
+use Rattle.definitions.specs.Ends.{End, Over, Spent, Replies, Refuses, initiator, after}
+use Rattle.definitions.specs.Engines.{initiating, responding, messages_in, fault_frame}
 use Rattle.definitions.specs.Taking.{Taken, nothing_taken, taken_all, ended, after_ended, by_parts}
-use Rattle.definitions.specs.Hearing.{Hearing, Goes_on, Over_at, Peer_refused, Refused_for, first_fault, hearing_in}
+use Rattle.definitions.specs.Hearing.{Hearing, Refused_for, first_fault}
 use Rattle.definitions.specs.Hearing.{hearing_to}
-use Rattle.definitions.specs.Sha256.{sha256, digest_bytes, hash_after, compress, rounds, schedule, first_words}
-use Rattle.definitions.proofs.Cases.Examples.{itself, binary8, peer, abc, no_items, has_abc, letters, below, from}
-use Rattle.definitions.proofs.Cases.Spellings.{number, zeros, everything, end, opening_of_none, list_of_abc}
-use Rattle.definitions.proofs.Cases.Spellings.{answer_to_abc}
-use Rattle.definitions.proofs.Cases.Streams.{hello, initiator_reads, initiator_writes}
+use Rattle.definitions.proofs.Cases.Examples.{itself, binary8, peer, no_items, has_abc, letters, below, from}
+use Rattle.definitions.proofs.Cases.Spellings.{number, zeros, everything, list_of_abc}
+use Rattle.definitions.proofs.Cases.Streams.{hello, initiator_reads}
 use Rattle.definitions.proofs.Cases.Talks.{first, sum, list, cd}
 
 -- an initiator without items, and a responder with one
@@ -25,7 +23,7 @@ abbrev pub dials : List ℕ → Hearing Lanes
 dials bytes = hearing_to two_lanes two_lane_profile (initiating two_lanes no_items) false bytes
 
 abbrev pub serves : List ℕ → Hearing Lanes
-serves bytes = hearing_to two_lanes two_lane_profile (responding has_abc) false bytes
+serves bytes = hearing_to two_lanes two_lane_profile (responding two_lanes has_abc) false bytes
 
 abbrev pub sum_below_b : List ℕ
 sum_below_b = number 0x24 ++ 1 ∷ 0 ∷ 1 ∷ 0x62 ∷ zeros 32
@@ -144,7 +142,7 @@ abbrev eight : Peer
 eight = peer binary8 (codes "abcdefgh")
 
 abbrev end_after : ℕ → End (List Item) × Message (List Item)
-end_after k = against k (initiator itself eight, opening itself eight.items)
+end_after k = against k (initiator itself eight, opening itself eight)
 
 -- it sends as many messages as its bound allows, and is over then
 pub five_messages : map (λ k. (end_after k).0.sent) (0 ∷ 1 ∷ 2 ∷ 3 ∷ 4 ∷ 5 ∷ []) ≡ 1 ∷ 2 ∷ 3 ∷ 4 ∷ 5 ∷ 5 ∷ []

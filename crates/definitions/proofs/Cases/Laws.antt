@@ -67,7 +67,7 @@ seven = peer binary8 (codes "abcdefg")
 pub parts_are_few : map (λ M. length M) (talk itself eight seven 9) ≡ 1 ∷ 2 ∷ 2 ∷ 2 ∷ 2 ∷ 1 ∷ 1 ∷ []
 parts_are_few = refl
 
-pub two_are_allowed : part_bound eight seven ≡ 2
+pub two_are_allowed : part_bound itself eight seven ≡ 2
 two_are_allowed = refl
 
 -- ---- knowledge is exact
@@ -80,7 +80,7 @@ right_knows = refl
 
 -- the fingerprint of a set is its size
 abbrev counting : Summary ℕ
-counting = record { of = length; same = λ m n. m == n }
+counting = record { of = length; same = λ m n. m == n; may_cut = false }
 
 -- two sets of one item each have one fingerprint, so nothing is learned, and the talk is not clear
 pub nothing_is_learned : initiator_knows (letters (codes "a"))

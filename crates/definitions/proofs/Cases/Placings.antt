@@ -1,5 +1,5 @@
 -- Which messages are placed, and the refusals of others. The fingerprints play no part.
-use Rattle.std.specs.Prelude.{◌≡◌, true, false, List, [], ◌∷◌, Some, None, refl, codes}
+use Rattle.std.specs.Prelude.{◌≡◌, ℕ, true, false, List, [], ◌∷◌, Option, Some, None, refl, codes}
 use Rattle.definitions.specs.Items.{Range, Item, whole}
 use Rattle.definitions.specs.Messages.{Part, Sum, Listing, Answer, Message}
 use Rattle.definitions.specs.Placing.{Refused, next, place_after, place_fault, opening_fault}
@@ -37,20 +37,59 @@ an_equal_range = refl
 
 -- a first message
 
-pub no_first_part : opening_fault {F = List Item} [] ≡ Some 20
+pub no_first_part : opening_fault {F = List Item} false [] ≡ Some 20
 no_first_part = refl
 
-pub a_list_first : opening_fault {F = List Item} (Listing whole [] ∷ []) ≡ Some 20
+pub a_list_first : opening_fault {F = List Item} false (Listing whole [] ∷ []) ≡ Some 20
 a_list_first = refl
 
-pub half_a_range_first : opening_fault (sum (below (codes "b")) ∷ []) ≡ Some 20
+pub half_a_range_first : opening_fault false (sum (below (codes "b")) ∷ []) ≡ Some 20
 half_a_range_first = refl
 
-pub two_parts_first : opening_fault (sum whole ∷ sum whole ∷ []) ≡ Some 20
+pub two_parts_first : opening_fault false (sum whole ∷ sum whole ∷ []) ≡ Some 20
 two_parts_first = refl
 
-pub one_sum_first : opening_fault first ≡ None
+pub one_sum_first : opening_fault false first ≡ None
 one_sum_first = refl
+
+-- a first message that may cut
+
+abbrev pub cut_fault : Message (List Item) → Option ℕ
+cut_fault M = opening_fault true M
+
+pub no_part_to_cut : cut_fault [] ≡ Some 20
+no_part_to_cut = refl
+
+pub not_cut : cut_fault first ≡ None
+not_cut = refl
+
+pub cut_in_two : cut_fault (sum (below (codes "b")) ∷ sum (from (codes "b")) ∷ []) ≡ None
+cut_in_two = refl
+
+pub cut_in_three : cut_fault
+    (sum (below (codes "b")) ∷ sum (from_to (codes "b") (codes "d")) ∷ sum (from (codes "d")) ∷ []) ≡ None
+cut_in_three = refl
+
+pub not_from_the_start : cut_fault (sum (from (codes "b")) ∷ []) ≡ Some 20
+not_from_the_start = refl
+
+pub gap_in_a_cut : cut_fault (sum (below (codes "b")) ∷ sum (from (codes "c")) ∷ []) ≡ Some 22
+gap_in_a_cut = refl
+
+pub overlap_in_a_cut : cut_fault (sum (below (codes "c")) ∷ sum (from (codes "b")) ∷ []) ≡ Some 22
+overlap_in_a_cut = refl
+
+pub half_a_cut : cut_fault (sum (below (codes "b")) ∷ []) ≡ Some 22
+half_a_cut = refl
+
+pub a_list_in_a_cut : cut_fault (sum (below (codes "b")) ∷ Listing (from (codes "b")) [] ∷ []) ≡ Some 22
+a_list_in_a_cut = refl
+
+pub more_than_everything : cut_fault (sum whole ∷ sum whole ∷ []) ≡ Some 20
+more_than_everything = refl
+
+pub cut_where_none_may_be : opening_fault false (sum (below (codes "b")) ∷ sum (from (codes "b")) ∷ []) ≡ Some 20
+cut_where_none_may_be = refl
 
 -- after a list of a and b
 

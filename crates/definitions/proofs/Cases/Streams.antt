@@ -102,17 +102,19 @@ pub nothing_after_the_end : (session two_lanes (initiating two_lanes no_items)
 nothing_after_the_end = refl
 
 pub empty_meets_abc_responder_writes : text two_lane_profile 1
-    (says two_lanes (responding has_abc) (messages_in two_lane_profile initiator_writes)) ≡ hello ++ list_of_abc
+    (says two_lanes (responding two_lanes has_abc) (messages_in two_lane_profile initiator_writes))
+    ≡ hello ++ list_of_abc
 unfolding sha256 digest_bytes hash_after compress rounds schedule first_words
 empty_meets_abc_responder_writes = refl
 
 pub empty_meets_abc_responder_learns :
-    (session two_lanes (responding has_abc) (messages_in two_lane_profile initiator_writes)).learned
+    (session two_lanes (responding two_lanes has_abc) (messages_in two_lane_profile initiator_writes)).learned
     ≡ record { ours = abc; theirs = [] }
 unfolding sha256 digest_bytes hash_after compress rounds schedule first_words
 empty_meets_abc_responder_learns = refl
 
 pub empty_meets_abc_responder_ends :
-    is_over (session two_lanes (responding has_abc) (messages_in two_lane_profile initiator_writes)).stage ≡ true
+    is_over (session two_lanes (responding two_lanes has_abc) (messages_in two_lane_profile initiator_writes)).stage
+    ≡ true
 unfolding sha256 digest_bytes hash_after compress rounds schedule first_words
 empty_meets_abc_responder_ends = refl

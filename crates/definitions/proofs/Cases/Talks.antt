@@ -1,17 +1,19 @@
 -- Talks of two peers, message by message, and what each side learns. The fingerprint of a set is the set.
-use Rattle.std.specs.Prelude.{◌≡◌, ℕ, true, List, [], ◌∷◌, ◌++◌, refl, codes}
+use Rattle.std.specs.Prelude.{◌≡◌, ℕ, true, false, length, map, List, [], ◌∷◌, ◌++◌, refl, codes}
 use Rattle.definitions.specs.Items.{Item, Range, whole}
 use Rattle.definitions.specs.Messages.{Part, Sum, Listing, Answer, Message}
-use Rattle.definitions.specs.Replies.{Peer}
+use Rattle.definitions.specs.Replies.{Peer, opening_ranges}
+use Rattle.definitions.specs.Sets.{items_in}
+use Rattle.definitions.specs.Strategies.{opening_counts}
 use Rattle.definitions.specs.Ranks.{least_ranks}
 use Rattle.definitions.specs.Talks.{talk, Knowledge, nothing, initiator_knows, responder_knows}
 use Rattle.definitions.specs.Refusals.{missing_answer}
 use Rattle.definitions.specs.Ends.{Over, Spent, Replies, Refuses, answer, after, initiator_at, responder_at}
 use Rattle.definitions.specs.Cost.{part_bound, most_parts}
-use Rattle.definitions.specs.Theorems.{rank}
+use Rattle.definitions.specs.Theorems.{opened, rank}
 use Rattle.definitions.specs.Worlds.{message_bound}
 use Rattle.definitions.proofs.Cases.Examples.{itself, binary, binary8, binary16, peeling, letters, knows_letters, peer}
-use Rattle.definitions.proofs.Cases.Examples.{abc, no_items, has_abc, from_to, below, from}
+use Rattle.definitions.proofs.Cases.Examples.{abc, no_items, has_abc, from_to, below, from, itself_cutting, cutting}
 
 -- the whole talk: none of these has more than 20 messages
 abbrev pub talk_of : Peer → Peer → List (Message (List Item))
@@ -39,8 +41,8 @@ sums X bytes bound later = sum X bytes ∷ sum (from bound) later ∷ []
 -- the bound of the messages by the least ranks, the bound of the parts, and the most parts that a message has
 abbrev pub counts_of : Peer → Peer → ℕ × ℕ × ℕ
 counts_of I R = (
-  message_bound (rank (least_ranks I.table) I) (rank (least_ranks R.table) R),
-  part_bound I R,
+  message_bound (opened itself (least_ranks I.table) I) (rank (least_ranks R.table) R),
+  part_bound itself I R,
   most_parts (talk_of I R),
 )
 
@@ -186,3 +188,53 @@ peeling_by_threes_counts = refl
 pub peeling_by_threes_knowledge : both_know (peeled (codes "abcdefg")) (peeled (codes "abcdef"))
     ≡ (knows_letters (codes "g") [], knows_letters [] (codes "g"))
 peeling_by_threes_knowledge = refl
+
+-- ---- a session that begins with a cut
+
+abbrev pub eight_cutting : Peer
+eight_cutting = cutting eight
+
+-- with one Sum it has seven messages, and a bound of nine
+pub one_missing_of_eight_cut : talk itself_cutting eight_cutting seven 20 ≡
+    sums (below (codes "e")) (codes "abcd") (codes "e") (codes "efgh")
+    ∷ sums (from_to (codes "e") (codes "f")) (codes "e") (codes "f") (codes "fg")
+    ∷ sums (from_to (codes "f") (codes "g")) (codes "f") (codes "g") (codes "gh")
+    ∷ (list (from (codes "g")) (codes "g") ∷ [])
+    ∷ (Answer (from (codes "g")) (false ∷ []) (letters (codes "h")) ∷ [])
+    ∷ []
+one_missing_of_eight_cut = refl
+
+abbrev pub counts_of_cut : ℕ × ℕ × ℕ
+counts_of_cut = (
+  message_bound (opened itself_cutting (least_ranks binary8) eight_cutting) (rank (least_ranks binary8) seven),
+  part_bound itself_cutting eight_cutting seven,
+  most_parts (talk itself_cutting eight_cutting seven 20),
+)
+
+pub one_missing_of_eight_cut_counts : counts_of_cut ≡ (8, 2, 2)
+one_missing_of_eight_cut_counts = refl
+
+pub parts_of_the_cut : map (λ X. length (items_in eight_cutting.items X)) (opening_ranges itself_cutting eight_cutting)
+    ≡ opening_counts true eight_cutting.table 8
+parts_of_the_cut = refl
+
+-- where the profile lets no session begin with a cut, the table's word counts for nothing
+pub no_cut_in_other_profiles : talk itself eight_cutting seven 20 ≡ talk_of eight seven
+no_cut_in_other_profiles = refl
+
+-- a set that its row lists is not cut, nor is an empty one
+pub one_item_is_not_cut : talk itself_cutting (cutting has_abc) no_items 20 ≡ talk_of has_abc no_items
+one_item_is_not_cut = refl
+
+pub nothing_is_not_cut : talk itself_cutting (cutting no_items) has_abc 20 ≡ talk_of no_items has_abc
+nothing_is_not_cut = refl
+
+-- equal sets
+pub equal_eights_cut : talk itself_cutting eight_cutting eight 20
+    ≡ sums (below (codes "e")) (codes "abcd") (codes "e") (codes "efgh") ∷ [] ∷ []
+equal_eights_cut = refl
+
+-- the responder takes it
+pub the_responder_takes_a_cut : answer itself_cutting (responder_at itself_cutting eight_cutting eight 0)
+    (sums (below (codes "e")) (codes "abcd") (codes "e") (codes "efgh")) ≡ Replies []
+the_responder_takes_a_cut = refl

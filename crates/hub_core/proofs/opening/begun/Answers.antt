@@ -14,7 +14,7 @@ returns-clause-knows g c =
     let session = c.in_ok-session.session in
     let came = c.args.greeting.now.came in
     let n = c.in_ok-taken.taken in
-    let knows = subst (λ (k : ℕ). Knows S W (responding P) session [] (take k W.hello)) c.said.ensures.said
+    let knows = subst (λ (k : ℕ). Knows S W (responding S P) session [] (take k W.hello)) c.said.ensures.said
     c.in_ok-session.ensures.knows in
     let all : n ≡ length came = search rules in
     pushed-all S W P session c.push.new.self c.finish_if.new.session _ came (take c.args.greeting.now.said W.hello) n

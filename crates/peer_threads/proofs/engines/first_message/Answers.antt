@@ -1,14 +1,12 @@
-use Rattle.std.proofs.Common.{rules, ◌≡◌, [], ◌∷◌, Err, sym, ap, ◌∙◌, subst}
+use Rattle.std.proofs.Common.{rules, ◌≡◌, [], Err, sym, ap, ◌∙◌, subst}
 use Rattle.std.proofs.lemmas.Result.{err_from_is_err_and}
-use Rattle.definitions.specs.Wire.{Came, Ended}
 use Rattle.peer_threads.specs.declared.stop.Stop.TheVariants as stops
 use Rattle.session_table.specs.declared.outcome.Direction.TheVariants as directions
 use Rattle.peer_threads.specs.Outcomes.{seen}
 use Rattle.peer_threads.specs.Listening.{InStep}
-use Rattle.peer_threads.specs.Underway.{IsNone}
+use Rattle.peer_threads.specs.Underway.{IsNone, message_came}
 use Rattle.peer_threads.proofs.Listenings.{fares-by, unbroken}
-use Rattle.peer_threads.proofs.Serving.{began, greeted, reads-on, stops-ungreeted, stops-broken-after}
-use Rattle.peer_threads.proofs.Serving.{stops-partless, stops-endless, told}
+use Rattle.peer_threads.proofs.Serving.{greeted, reads-on, stops-ungreeted, stops-broken-after, stops-begun, told}
 use Rattle.peer_threads.proofs.engines.first_message.Goals as goal
 
 pub returns-in_err-inbox-clause-stopped : goal.returns-in_err-inbox-clause-stopped
@@ -41,32 +39,18 @@ returns-in_err-first-clause-stopped g c =
     let x = greeted g.F.Summary.summary g.F.Summary.profile _ _ _ _ _ _ _ c.requires.new c.in_ok-greet.ensures.greeted
     c.in_ok-greet.ensures.whole
     c.requires.hello.fits c.in_ok-inbox.ensures.read in
-    let stopped = stops-partless g.F.Summary.summary g.F.Summary.profile c.exchange_laws.ensures P _ _ _ _ _ _
+    let stopped = stops-begun g.F.Summary.summary g.F.Summary.profile c.exchange_laws.ensures P _ _ _ _ _ _
     c.greet.new.writer.failed c.in_err-first.field-0.0 x
-    (c.in_err-first.ensures.read x.bytes [] x.are_bytes x.came) in
-    search (rules, stopped))
-
-pub returns-in_err-first_end-clause-stopped : goal.returns-in_err-first_end-clause-stopped
-returns-in_err-first_end-clause-stopped g c =
-    let is = err_from_is_err_and c.from_residual-in_err-first_end.result c.from_residual-in_err-first_end.ensures.1 in
-    told c.from_residual-in_err-first_end.result c.in_err-first_end.field-0.0 _ (is.1 ∙ ap Err is.2) (λ P.
-    let p = c.in_ok-first.first in
-    let (first, y) = began g.F.Summary.summary g.F.Summary.profile _ _ _ _ _ _ _ _ _ p c.requires.new
-    c.in_ok-greet.ensures.greeted c.in_ok-greet.ensures.whole c.requires.hello.fits c.in_ok-inbox.ensures.read
-    c.in_ok-first.ensures.read in
-    let stopped = stops-endless g.F.Summary.summary g.F.Summary.profile c.exchange_laws.ensures P p _ _ _ _ _ _
-    c.greet.new.writer.failed c.in_err-first_end.field-0.0 first y
-    (c.in_err-first_end.ensures.read p first y.bytes (Came p ∷ []) y.are_bytes y.came) in
+    (c.in_err-first.ensures.stopped x.bytes [] x.are_bytes x.came) in
     search (rules, stopped))
 
 pub returns-clause-met : goal.returns-clause-met
 returns-clause-met g c =
-    let p = c.in_ok-first.first in
-    let (first, y) = began g.F.Summary.summary g.F.Summary.profile _ _ _ _ _ _ _ _ _ p c.requires.new
-    c.in_ok-greet.ensures.greeted c.in_ok-greet.ensures.whole c.requires.hello.fits c.in_ok-inbox.ensures.read
-    c.in_ok-first.ensures.read in
-    let two = c.in_ok-first_end.ensures.read p first y.bytes (Came p ∷ []) y.are_bytes y.came in
-    (first, reads-on g.F.Summary.summary g.F.Summary.profile _ _ _ _ _ (Came p ∷ []) (Came p ∷ Ended ∷ []) y two)
+    let x = greeted g.F.Summary.summary g.F.Summary.profile _ _ _ _ _ _ _ c.requires.new c.in_ok-greet.ensures.greeted
+    c.in_ok-greet.ensures.whole
+    c.requires.hello.fits c.in_ok-inbox.ensures.read in
+    reads-on g.F.Summary.summary g.F.Summary.profile _ _ _ _ _ [] (message_came c.in_ok-first.first.items) x
+    (c.in_ok-first.ensures.came x.bytes [] x.are_bytes x.came)
 
 pub returns-in_err-inbox-clause-fared : goal.returns-in_err-inbox-clause-fared
 returns-in_err-inbox-clause-fared g c = λ start step.
@@ -75,15 +59,14 @@ returns-in_err-inbox-clause-fared g c = λ start step.
     fares-by start reader.reads reader.failed c.from_residual.result c.in_err-inbox.field-0.0 is
     (unbroken start reader.reads reader.failed c.in_err-inbox.field-0.0 c.in_err-inbox.ensures.quiet c.requires.listens)
 
-pub returns-in_err-first_end-clause-fared : goal.returns-in_err-first_end-clause-fared
-returns-in_err-first_end-clause-fared g c = λ start step.
+pub returns-in_err-first-clause-fared : goal.returns-in_err-first-clause-fared
+returns-in_err-first-clause-fared g c = λ start step.
     let begun = subst (InStep start c.args.connection.now.reader.reads) (sym c.in_ok-inbox.ensures.reads) step in
-    let is = err_from_is_err_and c.from_residual-in_err-first_end.result c.from_residual-in_err-first_end.ensures.1 in
-    fares-by start c.first_end.new.reader.reads c.first_end.new.reader.failed c.from_residual-in_err-first_end.result
-    c.in_err-first_end.field-0.0 (is.1 ∙ ap Err is.2)
-    (c.in_err-first_end.ensures.fared start (c.in_ok-first.ensures.step start begun))
+    let is = err_from_is_err_and c.from_residual-in_err-first.result c.from_residual-in_err-first.ensures.1 in
+    fares-by start c.first_parts.new.reader.reads c.first_parts.new.reader.failed c.from_residual-in_err-first.result
+    c.in_err-first.field-0.0 (is.1 ∙ ap Err is.2) (c.in_err-first.ensures.fared start begun)
 
 pub returns-clause-step : goal.returns-clause-step
 returns-clause-step g c = λ start step.
     let begun = subst (InStep start c.args.connection.now.reader.reads) (sym c.in_ok-inbox.ensures.reads) step in
-    c.in_ok-first_end.ensures.step start (c.in_ok-first.ensures.step start begun)
+    c.in_ok-first.ensures.step start begun

@@ -1,7 +1,7 @@
 use Rattle.std.proofs.Common.{◌≤◌, ◌+◌, length, ap, subst, ◌∙◌}
 use Rattle.std.specs.Arc.{arc_value}
-use Rattle.definitions.specs.Ranks.{rank_by}
 use Rattle.definitions.specs.Engines.{initiating}
+use Rattle.definitions.specs.Worlds.{Initiator, opened_of}
 use Rattle.session_table.specs.Faults.{table_fault_number}
 use Rattle.peer_threads.specs.declared.stop.Stop.TheVariants as stops
 use Rattle.peer_threads.specs.Outcomes.{Reader, IsTimely, traffic, seen}
@@ -56,7 +56,7 @@ returns-clause-bytes g c =
     let is = c.in-Ok.ensures.end in
     let opens = c.in-Ok.ensures.message in
     let s = initiating g.F.Summary.summary (peer_of a items) in
-    let bound = rank_by a.steps (length items) + 2 in
+    let bound = opened_of g.F.Summary.summary a.steps (peer_of a items) + 2 in
     let unread = g.R.Read.remaining c.args.connection.now.reader.inner in
     let left = g.R.Read.remaining c.speak-talked.new.connection.reader.inner in
     let held = g.W.Write.contents c.args.connection.now.writer.inner in
@@ -67,7 +67,8 @@ returns-clause-bytes g c =
     (traffic unread left held holds) r w c.concluded-outcome.result) c.version-version.ensures
     (c.concluded-outcome.ensures.bytes s bound (Reader unread) left held r
     (c.speak-talked.ensures.talked (peer_of a items) a.steps is opens)
-    (subst (λ x. c.speak-talked.new.sender.sent ≤ most_sent 2 x) is c.speak-talked.ensures.few))
+    (subst (λ x. c.speak-talked.new.sender.sent ≤ most_sent g.F.Summary.summary Initiator x) is
+    c.speak-talked.ensures.few))
 
 pub returns-clause-fared : goal.returns-clause-fared
 returns-clause-fared g c =

@@ -1,6 +1,7 @@
 use Rattle.std.proofs.Common.{◌≤◌, ◌+◌, length, subst, ap, ◌∙◌}
 use Rattle.std.specs.Arc.{arc_value}
 use Rattle.definitions.specs.Engines.{responding}
+use Rattle.definitions.specs.Worlds.{Responder}
 use Rattle.definitions.specs.Ranks.{rank_by}
 use Rattle.session_table.specs.Faults.{table_fault_number}
 use Rattle.peer_threads.specs.declared.stop.Stop.TheVariants as stops
@@ -59,11 +60,12 @@ returns-clause-bytes g c = λ unread held x.
     let holds = g.W.Write.contents c.concluded-outcome.new.writer.inner in
     let r = seen c.answer-talked.new.connection.reader.failed c.answer-talked.new.connection.reader.ended in
     let w = seen c.concluded-outcome.new.writer.failed c.concluded-outcome.new.writer.ended in
-    subst (λ v. Spoke g.F.Summary.summary g.F.Summary.profile (responding p) v bound
+    subst (λ v. Spoke g.F.Summary.summary g.F.Summary.profile (responding g.F.Summary.summary p) v bound
     (traffic_of unread left held holds) r w c.concluded-outcome.result) c.version-version.ensures
-    (c.concluded-outcome.ensures.bytes (responding p) bound unread left held r
+    (c.concluded-outcome.ensures.bytes (responding g.F.Summary.summary p) bound unread left held r
     (c.answer-talked.ensures.talked p a.steps unread held is x)
-    (subst (λ h. c.answer-talked.new.sender.sent ≤ most_sent 1 h) is c.answer-talked.ensures.few))
+    (subst (λ h. c.answer-talked.new.sender.sent ≤ most_sent g.F.Summary.summary Responder h) is
+    c.answer-talked.ensures.few))
 
 pub returns-in-Err-open-clause-on : goal.returns-in-Err-open-clause-on
 returns-in-Err-open-clause-on g c = λ unread held x. on-nothing _

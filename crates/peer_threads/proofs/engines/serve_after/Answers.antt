@@ -29,10 +29,11 @@ returns-in-Err-clause-bytes g c =
     let p = peer_at (arc_value c.args.shared.now.accepted.now) v in
     let r = seen c.first_message.new.connection.reader.failed c.first_message.new.connection.reader.ended in
     let w = seen c.stopped.new.writer.failed c.stopped.new.writer.ended in
-    let why = stopped-anyhow g.F.Summary.summary g.F.Summary.profile (responding p) c.first_message.new.sender _ r
+    let why = stopped-anyhow g.F.Summary.summary g.F.Summary.profile (responding g.F.Summary.summary p)
+    c.first_message.new.sender _ r
     c.first_message.new.connection.writer.failed c.in-Err.stop
     (untold c.first_message.result c.in-Err.stop _ c.in-Err.is c.first_message.ensures.stopped p) in
-    speaks g.F.Summary.summary g.F.Summary.profile _ (responding p) _ _ _ _ r w c.stopped.result
+    speaks g.F.Summary.summary g.F.Summary.profile _ (responding g.F.Summary.summary p) _ _ _ _ r w c.stopped.result
     (speaks-stopped g.F.Summary.summary g.F.Summary.profile p _ _ c.first_message.new.sender _
     (g.W.Write.contents c.stopped.new.writer.inner) r w c.first_message.new.connection.writer.failed c.in-Err.stop
     c.stopped.result
@@ -47,7 +48,7 @@ returns-in-Ok-pin-clause-bytes g c =
     _ _ _ c.respond.result
     c.in-Ok-pin.ensures.pin c.of-host.ensures
     (c.respond.ensures.bytes (After c.args.hello.bytes (g.R.Read.remaining c.args.connection.now.reader.inner))
-    (g.W.Write.contents c.args.connection.now.writer.inner) met.1) c.sides_keep_bounds.ensures.responder
+    (g.W.Write.contents c.args.connection.now.writer.inner) met) c.sides_keep_bounds.ensures.responder
 
 pub returns-in-Err-pin-clause-bytes : goal.returns-in-Err-pin-clause-bytes
 returns-in-Err-pin-clause-bytes g c =
@@ -55,14 +56,15 @@ returns-in-Err-pin-clause-bytes g c =
     let p = peer_at (arc_value c.args.shared.now.accepted.now) found in
     let r = seen c.first_message.new.connection.reader.failed c.first_message.new.connection.reader.ended in
     let w = seen c.stopped-in-Err-pin.new.writer.failed c.stopped-in-Err-pin.new.writer.ended in
-    speaks g.F.Summary.summary g.F.Summary.profile _ (responding p) _ _ _ _ r w c.stopped-in-Err-pin.result
+    speaks g.F.Summary.summary g.F.Summary.profile _ (responding g.F.Summary.summary p) _ _ _ _ r w
+    c.stopped-in-Err-pin.result
     (speaks-stopped g.F.Summary.summary g.F.Summary.profile p _ _ c.first_message.new.sender _
     (g.W.Write.contents c.stopped-in-Err-pin.new.writer.inner) r w c.first_message.new.connection.writer.failed
     stops.Memory
     c.stopped-in-Err-pin.result c.first_message.ensures.none
     (stops-poor g.F.Summary.summary g.F.Summary.profile p _ c.first_message.new.sender _ r
     c.first_message.new.connection.writer.failed _
-    c.in-Ok.ensures.met.1)
+    c.in-Ok.ensures.met)
     c.stopped-in-Err-pin.ensures.leaves c.stopped-in-Err-pin.ensures.outcome)
     (c.sides_keep_bounds.ensures.responder found.base)
 
@@ -70,11 +72,12 @@ pub returns-in-Ok-pin-clause-opened : goal.returns-in-Ok-pin-clause-opened
 returns-in-Ok-pin-clause-opened g c =
     let met = c.in-Ok.ensures.met in
     let join = c.feeds_join.ensures g.F.Summary.profile g.met.F.Summary.real in
-    inr (came-first g.F.Summary.summary g.F.Summary.profile join _ _ _ _ _ _ _ _ met.0 met.1
-    (c.respond.ensures.on _ (g.W.Write.contents c.args.connection.now.writer.inner) met.1))
+    inr (came-first g.F.Summary.summary g.F.Summary.profile join c.opening_is_exact.ensures _ _ _ _ _ _ _ _
+    c.in-Ok.ensures.first met (c.respond.ensures.on _ (g.W.Write.contents c.args.connection.now.writer.inner) met))
 
 pub returns-in-Err-pin-clause-opened : goal.returns-in-Err-pin-clause-opened
 returns-in-Err-pin-clause-opened g c =
     let met = c.in-Ok.ensures.met in
     let join = c.feeds_join.ensures g.F.Summary.profile g.met.F.Summary.real in
-    inr (came-first g.F.Summary.summary g.F.Summary.profile join _ _ _ _ _ _ _ _ met.0 met.1 (on-nothing _))
+    inr (came-first g.F.Summary.summary g.F.Summary.profile join c.opening_is_exact.ensures _ _ _ _ _ _ _ _
+    c.in-Ok.ensures.first met (on-nothing _))

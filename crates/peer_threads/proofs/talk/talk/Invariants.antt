@@ -1,7 +1,6 @@
 use Rattle.std.proofs.Common.{◌≡◌, ℕ, ◌≤◌, ◌^◌, true, false, List, Option}
 use Rattle.definitions.specs.Ends.{is_live}
 use Rattle.definitions.specs.Engines.{Speaker}
-use Rattle.ends_core.specs.Roles.{most_of}
 use Rattle.peer_threads.specs.Inboxes.{Counts, ReadOn}
 use Rattle.peer_threads.specs.Outcomes.{Origin, traffic_of}
 use Rattle.peer_threads.specs.Listening.{InStep, rest_of}
@@ -15,8 +14,8 @@ invariant-turns g l = record {
   step : (start : ℕ) → InStep start l.fn.connection.reader.reads l.fn.inbox.reads →
       InStep start l.connection.reader.reads l.inbox.reads;
   count : l.sender.sent ≡ l.party.end.sent;
-  most : most_sent (most_of g.P.Role.side) l.party ≡ most_sent (most_of g.P.Role.side) l.fn.party;
-  few : l.sender.sent ≤ most_sent (most_of g.P.Role.side) l.fn.party;
+  most : most_sent g.F.Summary.summary g.P.Role.side l.party ≡ most_sent g.F.Summary.summary g.P.Role.side l.fn.party;
+  few : l.sender.sent ≤ most_sent g.F.Summary.summary g.P.Role.side l.fn.party;
   reads : l.fn.inbox.reads ≤ 2 ^ 32 →
       Counts l.fn.connection.reader.reads l.connection.reader.reads l.fn.inbox l.inbox;
   goes : (s : Speaker g.row.F.Denot) (unread : Origin) (held : Option (List ℕ)) → is_live s.start.stage ≡ true →

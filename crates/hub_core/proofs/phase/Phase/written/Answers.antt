@@ -1,5 +1,6 @@
 use Rattle.std.proofs.Common.{rules, ◌≡◌}
 use Rattle.definitions.specs.Engines.{responding}
+use Rattle.definitions.specs.Fingerprints.{two_lanes, counted_lanes}
 use Rattle.hub_core.specs.declared.phase.Phase.TheVariants as phases
 use Rattle.hub_core.proofs.Peering.{plain-writes, counted-writes}
 use Rattle.hub_core.proofs.phase.Phase.written.Goals as goal
@@ -9,11 +10,11 @@ returns-in-Plain-clause-whole c =
     let is : c.args.self.now ≡ phases.Plain c.in-Plain.session = search rules in
     let same : c.deref.result.now ≡ c.in-Plain.session.value = search rules in
     plain-writes c.written.result c.args.self.now c.in-Plain.session c.deref.result.now is same
-    (λ P pushed taken k. c.written.ensures.whole (responding P) pushed taken k)
+    (λ P pushed taken k. c.written.ensures.whole (responding two_lanes P) pushed taken k)
 
 pub returns-in-Counted-clause-whole : goal.returns-in-Counted-clause-whole
 returns-in-Counted-clause-whole c =
     let is : c.args.self.now ≡ phases.Counted c.in-Counted.session = search rules in
     let same : c.deref-in-Counted.result.now ≡ c.in-Counted.session.value = search rules in
     counted-writes c.written-in-Counted.result c.args.self.now c.in-Counted.session c.deref-in-Counted.result.now is
-    same (λ P pushed taken k. c.written-in-Counted.ensures.whole (responding P) pushed taken k)
+    same (λ P pushed taken k. c.written-in-Counted.ensures.whole (responding counted_lanes P) pushed taken k)

@@ -1,12 +1,12 @@
 use Rattle.std.proofs.Common.{◌≡◌, ◌+◌, drop}
 use Rattle.toml.specs.View.{items_view}
-use Rattle.strategy_core.specs.Texts.{bounds_row}
-use Rattle.strategy_core.proofs.reading.bounds_row.Given as goal
+use Rattle.strategy_core.specs.Texts.{row_with}
+use Rattle.strategy_core.proofs.reading.row_with.Given as goal
 
 -- the first of the rows still to be read is the first of all: none before them has the key
 abbrev pub invariant-loop-entry : goal.invariant-loop-entry
 invariant-loop-entry l = record {
   count : l.number ≡ l.entry-index;
-  all : bounds_row (l.number + 1) (items_view (drop l.entry-index l.entries.items))
-      ≡ bounds_row 1 (items_view l.entries.items);
+  all : row_with l.key (l.number + 1) (items_view (drop l.entry-index l.entries.items))
+      ≡ row_with l.key 1 (items_view l.entries.items);
 }
