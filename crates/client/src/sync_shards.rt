@@ -1,6 +1,7 @@
 //! A session with who listens for each shard that differs.
 
-ghost use Rattle.std.specs.Prelude.{◌≡◌, ◌≤◌, ◌<◌, ◌^◌, ℕ, List, length, IfOk, flat_map, string_bytes};
+ghost use Rattle.std.specs.Prelude.{◌≡◌, ◌≤◌, ◌<◌, ◌^◌, ◌-◌, min, ℕ, List, ◌++◌, length, map, count_by, IfOk, OnOk};
+ghost use Rattle.std.specs.Prelude.{flat_map, string_bytes};
 ghost use Rattle.std.specs.Arc.{arc_value};
 ghost use Rattle.definitions.specs.Items.{Item as Bytes};
 ghost use Rattle.definitions.specs.Sets.{IsSet, set_of, difference};
@@ -9,6 +10,7 @@ ghost use Rattle.shard_core.specs.Choices.{AreBelow};
 ghost use Rattle.shard_core.specs.Parts.{ours_of, theirs_of, asked_of, KnowsShards, NoClash, Covers};
 ghost use Rattle.printing_core.specs.ShardTexts.{merged_text};
 ghost use Rattle.loading.specs.Sharded.{HaveCap};
+ghost use Rattle.client.specs.Asking.{server_of, address_of, task, task_at, tasks_of, is_unequal};
 
 use crate::asked::Asking;
 use crate::costs::Costs;
@@ -83,12 +85,23 @@ fn addresses_of<'a>(alloc: Global, word: &'a str) -> Result<Vec<&'a str>, AllocE
     Ok(addresses)
 }
 
+/// The place of the server that is asked for the shard of this number, if it is asked for.
+fn server_of(asked: &[Asked], number: u16) -> Option<usize>
+    ensures { result ≡ server_of asked.now number }
+{
+    for one in asked {
+        if one.shard == number {
+            return Some(one.server);
+        }
+    }
+    None
+}
+
 /// The address of the server that is asked for the shard of this number, if it is asked for.
 fn address_of<'a>(asked: &[Asked], addresses: &[&'a str], number: u16) -> Option<&'a str>
-    requires { AreBelow (length addresses.now) asked.now }
+    ensures { result ≡ address_of asked.now addresses.now number }
 {
-    let place = asked.binary_search_by(|one| one.shard.cmp(&number)).ok()?;
-    Some(addresses[asked[place].server])
+    addresses.get(server_of(asked, number)?).copied()
 }
 
 /// Appends the work on the shard of this number, if it is asked for; its log is let go if it is not.
@@ -100,6 +113,8 @@ fn push_work<'a>(
     log: Log<Tree>,
 ) -> Result<(), AllocError>
     requires { log.cap ≤ (arc_value accepted.now).table.cap }
+    ensures { OnOk result (map (λ w. task w.number w.address w.log) works.new.items
+        ≡ map (λ w. task w.number w.address w.log) works.old.items ++ task_at address.entry number log) }
 {
     let Some(address) = address else {
         return Ok(());
@@ -124,6 +139,8 @@ fn works_of<'a>(
 ) -> Result<Vec<Work<'a>>, AllocError>
     requires logs { HaveCap (arc_value accepted.now).table.cap logs.items }
     requires servers { AreBelow (length addresses.now) asked.now }
+    ensures { IfOk result (λ v. map (λ w. task w.number w.address w.log) v.items
+        ≡ tasks_of asked.now addresses.now first logs.items) }
 {
     let mut works = Vec::new(alloc);
     let mut number = first;
@@ -184,7 +201,9 @@ where
 }
 
 /// How many shards have an item that one side lacks, by what their sessions learned.
-fn count_unequal(parts: &[ShardPart]) -> usize {
+fn count_unequal(parts: &[ShardPart]) -> usize
+    ensures { result ≡ count_by is_unequal parts.now }
+{
     parts
         .iter()
         .filter(|part| !part.ours.is_empty() || !part.theirs.is_empty())
@@ -192,7 +211,10 @@ fn count_unequal(parts: &[ShardPart]) -> usize {
 }
 
 /// How many shards differ, of so many that were asked for: of a whole set it is known only then.
-fn count_differing(bits: u8, asked: usize, parts: &[ShardPart]) -> u32 {
+fn count_differing(bits: u8, asked: usize, parts: &[ShardPart]) -> u32
+    ensures whole { bits ≡ 0 → result ≡ min (count_by is_unequal parts.now) (2 ^ 32 - 1) }
+    ensures cut { 0 < bits → result ≡ min asked (2 ^ 32 - 1) }
+{
     let differ = if bits == 0 {
         count_unequal(parts)
     } else {

@@ -1,4 +1,5 @@
 mod OpenedLogs
 mod Appending
+mod CutSets
 mod Rewritten
 mod Room

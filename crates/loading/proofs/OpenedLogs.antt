@@ -105,7 +105,7 @@ content_after h [] = refl
 content_after h (x ∷ xs) =
     content_after (with_item h x) xs ∙ ap (λ A. union A xs) (content_by h x (has (items_of h) x) refl)
 
-content_opened : (A : List Item) → IsSet A → content (opening_history A) ≡ A
+pub content_opened : (A : List Item) → IsSet A → content (opening_history A) ≡ A
 content_opened A set = content_after [] A ∙ same_set (set_of A) A (set_of_is_set A) set (has_set_of A)
 
 pub contents_opened : (cap : ℕ) (Xs : Sets) → AreSets cap Xs → contents (opened_all cap Xs) ≡ Xs

@@ -1,4 +1,6 @@
 pub use Rattle.version_log.specs.Logs
+pub mod Cutting
 pub mod Sharded
 pub mod Folders
+pub mod Forgetting
 pub mod Rewriting

@@ -1,10 +1,12 @@
 //! Which items a set still keeps that forgets old ones.
 
-ghost use Rattle.std.specs.Prelude.{◌≡◌, ◌-◌, ◌*◌, ◌/◌, None, false, max, option_map};
+ghost use Rattle.std.specs.Prelude.{◌≡◌, ◌⊎◌, ◌%◌, ◌/◌, ◌+◌, ◌^◌, None, [], false, option_map};
 ghost use Rattle.definitions.specs.Items.{comes_before};
+ghost use Rattle.loading.specs.Forgetting.{oldest, two_digits, iso_text, IsClockAt, Begins, IsFloorAt};
 
 use item_core::Lower;
 use jiff::Timestamp;
+use jiff::civil::DateTime;
 use jiff::tz::Offset;
 use settings_core::{FloorRule, Newest};
 use shard_core::{Floor, TimeForm};
@@ -18,42 +20,49 @@ pub fn seconds_now<R: Clock>(rt: &R) -> u64 {
 /// The time before which items are too old, in seconds since 1970: it moves by a sixtieth of what is kept, so that
 /// servers agree on it for most of the time.
 fn oldest(newest: Newest, seconds: u64) -> u64
-    ensures { result ≡ (seconds - newest.seconds) / max 1 (newest.seconds / 60) * max 1 (newest.seconds / 60) }
+    ensures { result ≡ oldest newest seconds }
 {
     let step = u64::from(newest.seconds / 60).max(1);
     seconds.saturating_sub(u64::from(newest.seconds)) / step * step
 }
 
 /// The last two decimal digits of a number.
-fn two_digits(number: u64) -> [u8; 2] {
+fn two_digits(number: u64) -> [u8; 2]
+    ensures { result ≡ two_digits number [] }
+{
     let number = (number % 100) as u8;
     [b'0' + number / 10, b'0' + number % 10]
 }
 
-/// A number of the calendar, which is not negative.
-fn part(number: impl Into<i64>) -> u64 {
-    number.into().unsigned_abs()
+/// What a clock in UTC shows at this time. A time that no calendar has is the last one.
+fn clock_at(seconds: u64) -> DateTime
+    ensures { IsClockAt seconds result }
+{
+    let second = i64::try_from(seconds).unwrap_or(i64::MAX);
+    Offset::UTC.to_datetime(Timestamp::from_second(second).unwrap_or(Timestamp::MAX))
 }
 
-/// The text of a time in UTC, as `2026-11-28T09:30:00`. A time that no calendar has is the last one.
-fn iso_text(seconds: u64) -> [u8; 19] {
-    let second = i64::try_from(seconds).unwrap_or(i64::MAX);
-    let time = Offset::UTC.to_datetime(Timestamp::from_second(second).unwrap_or(Timestamp::MAX));
-    let year = part(time.year());
+/// The text of a date and a time, as `2026-11-28T09:30:00`.
+fn iso_text(time: DateTime) -> [u8; 19]
+    ensures { result ≡ iso_text time }
+{
+    let year = u64::from(time.year().unsigned_abs());
     let [a, b] = two_digits(year / 100);
     let [c, d] = two_digits(year);
-    let [e, f] = two_digits(part(time.month()));
-    let [g, h] = two_digits(part(time.day()));
-    let [i, j] = two_digits(part(time.hour()));
-    let [k, l] = two_digits(part(time.minute()));
-    let [m, n] = two_digits(part(time.second()));
+    let [e, f] = two_digits(u64::from(time.month().unsigned_abs()));
+    let [g, h] = two_digits(u64::from(time.day().unsigned_abs()));
+    let [i, j] = two_digits(u64::from(time.hour().unsigned_abs()));
+    let [k, l] = two_digits(u64::from(time.minute().unsigned_abs()));
+    let [m, n] = two_digits(u64::from(time.second().unsigned_abs()));
     [
         a, b, c, d, b'-', e, f, b'-', g, h, b'T', i, j, b':', k, l, b':', m, n,
     ]
 }
 
 /// The bound below which items are too old at this time.
-fn bound_at(newest: Newest, seconds: u64) -> Lower {
+fn bound_at(newest: Newest, seconds: u64) -> Lower
+    ensures { Begins newest.time (oldest newest seconds) result }
+{
     let oldest = oldest(newest, seconds);
     match newest.time {
         TimeForm::Unix32 => {
@@ -61,7 +70,7 @@ fn bound_at(newest: Newest, seconds: u64) -> Lower {
             Lower::of(&oldest.to_be_bytes())
         }
         TimeForm::Unix64 => Lower::of(&oldest.to_be_bytes()),
-        TimeForm::Iso => Lower::of(&iso_text(oldest)),
+        TimeForm::Iso => Lower::of(&iso_text(clock_at(oldest))),
     }
 }
 
@@ -69,6 +78,7 @@ fn bound_at(newest: Newest, seconds: u64) -> Lower {
 pub fn higher(one: Lower, other: Lower) -> Lower
     ensures one { comes_before result one ≡ false }
     ensures other { comes_before result other ≡ false }
+    ensures either { (result ≡ one) ⊎ (result ≡ other) }
 {
     if one.bytes().cmp(other.bytes()).is_lt() {
         other
@@ -81,6 +91,7 @@ pub fn higher(one: Lower, other: Lower) -> Lower
 pub fn floor_at(rule: FloorRule, seconds: u64) -> Floor
     ensures time { result.time ≡ option_map (λ n. n.time) rule.newest }
     ensures bound { comes_before result.range.lower rule.not_below ≡ false }
+    ensures old { IsFloorAt rule seconds result.range.lower }
     ensures end { result.range.upper ≡ None }
 {
     let oldest = match rule.newest {

@@ -1,9 +1,13 @@
 //! What a side of sessions begins with.
 
-ghost use Rattle.std.specs.Prelude.{◌≡◌, ◌<◌, ◌≤◌, ◌++◌, Some, None, length, IfOk, OnErr};
+ghost use Rattle.std.specs.Prelude.{◌≡◌, ◌<◌, ◌≤◌, ◌||◌, not, ◌++◌, List, [], ◌∷◌, Some, None, is_some, length, IfOk};
+ghost use Rattle.std.specs.Prelude.{OnErr};
+ghost use Rattle.definitions.specs.Items.{Item as Bytes};
 ghost use Rattle.definitions.specs.Sets.{IsSet, set_of};
 ghost use Rattle.shard_core.specs.Floors.{kept_by};
 ghost use Rattle.range_tree.specs.Trees.{tree_items};
+ghost use Rattle.loading.specs.Cutting.{IsCutTo};
+ghost use Rattle.loading.specs.Sharded.{contents};
 
 use crate::disk::{Kept, Opened, item_file, open_lines};
 use crate::sharded_set::ShardedSet;
@@ -138,6 +142,8 @@ impl<'a> Sources<'a> {
     ) -> Sources<'a>
         ensures files { (result.table.path ≡ words.entry.table) × (result.items ≡ words.entry.items)
             × (result.keep ≡ words.entry.keep) × (result.form ≡ words.entry.form) }
+        ensures learns { result.learns ≡ is_some words.entry.keep || is_some words.entry.learned }
+        ensures cut { result.may_cut ≡ not words.entry.stdio }
         ensures kept { result.kept ≡ kept.entry }
         ensures told { (result.table.explains ≡ explains) × (result.shows ≡ shows) }
     {
@@ -166,6 +172,8 @@ impl<'a> Sources<'a> {
     ) -> Sources<'a>
         ensures files { (result.table.path ≡ words.entry.table) × (result.items ≡ Some words.entry.items)
             × (result.keep ≡ None) × (result.form ≡ words.entry.form) }
+        ensures learns { result.learns ≡ is_some words.entry.keep }
+        ensures cut { result.may_cut ≡ not words.entry.stdio }
         ensures kept { result.kept ≡ kept.entry }
         ensures told { (result.table.explains ≡ explains) × (result.shows ≡ shows) }
     {
@@ -263,7 +271,8 @@ fn first_set<'a, R: Files + AllocGlobal, I: Read + Drop, E: Write>(
     cap: usize,
     err: &mut E,
 ) -> Result<Vec<Item>, Refusal<'a>>
-    ensures { IfOk result (λ v. length v.items ≤ cap) }
+    ensures cut { IfOk result (λ v. IsCutTo sources.entry.kept.now v.items) }
+    ensures few { IfOk result (λ v. length v.items ≤ cap) }
 {
     let alloc = rt.alloc();
     let Some(path) = sources.items else {
@@ -274,7 +283,8 @@ fn first_set<'a, R: Files + AllocGlobal, I: Read + Drop, E: Write>(
         Err(fault) => return Err(sources.items_refusal(alloc, path, fault)),
     };
     tell_untimed(alloc, sources, &items, err);
-    match kept_of(items, sources.kept, cap) {
+    let first = kept_of(items, sources.kept, cap);
+    match first {
         Ok(items) => Ok(items),
         Err(fault) => Err(sources.items_refusal(alloc, path, fault)),
     }
@@ -315,7 +325,9 @@ fn kept_set<'a, E: Write>(
     opened: &mut Option<Opened>,
     cap: usize,
     err: &mut E,
-) -> Result<Vec<Item>, Refusal<'a>> {
+) -> Result<Vec<Item>, Refusal<'a>>
+    ensures { IfOk result (λ v. IsCutTo sources.entry.kept.now v.items) }
+{
     let Some(opened) = opened else {
         return Ok(Vec::new(alloc));
     };
@@ -324,7 +336,8 @@ fn kept_set<'a, E: Write>(
         Err(fault) => return Err(sources.kept_refusal(alloc, fault)),
     };
     tell_untimed(alloc, sources, &items, err);
-    match kept_of(items, sources.kept, cap) {
+    let more = kept_of(items, sources.kept, cap);
+    match more {
         Ok(items) => Ok(items),
         Err(fault) => Err(sources.kept_refusal(alloc, fault)),
     }
@@ -384,7 +397,9 @@ pub fn load<'a, R: Files<File = File> + AllocGlobal + Threads + Sync, I: Read + 
     reader: I,
     err: &mut E,
 ) -> Result<Loaded, Refusal<'a>>
-    ensures { IfOk result (λ o. o.set.cap ≡ o.accepted.table.cap) }
+    ensures cap { IfOk result (λ o. o.set.cap ≡ o.accepted.table.cap) }
+    ensures cut { IfOk result (λ o. (X : List Bytes) × IsCutTo sources.entry.kept.now X
+        × (contents o.set.logs ≡ X ∷ [])) }
 {
     let alloc = rt.alloc();
     let accepted = strategy_of(rt, sources.table, err)?;

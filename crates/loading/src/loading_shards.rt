@@ -4,6 +4,8 @@ ghost use Rattle.std.specs.Prelude.{◌≡◌, ◌<◌, ◌≤◌, ◌^◌, ◌-
 ghost use Rattle.shard_core.specs.Shards.{max_bits};
 ghost use Rattle.shard_core.specs.Splits.{held, HasRoom};
 ghost use Rattle.shard_core.specs.Spans.{AreKept};
+ghost use Rattle.loading.specs.Cutting.{AreCutBy, AreCutTo};
+ghost use Rattle.loading.specs.Sharded.{contents};
 
 use crate::disk::Opened;
 use crate::loading::{Loaded, Sources, open_kept, strategy_of};
@@ -58,8 +60,9 @@ impl Keeping {
     fn kept_of(&self, shards: Vec<Vec<Item>>) -> Result<Vec<Vec<Item>>, LoadFault>
         requires { AreKept self.now.options.bits self.now.options.first self.now.options.last (2 ^ 64 - 1)
             (held shards.items) }
-        ensures { IfOk result (λ v. AreKept self.now.options.bits self.now.options.first self.now.options.last
+        ensures kept { IfOk result (λ v. AreKept self.now.options.bits self.now.options.first self.now.options.last
             self.now.options.cap (held v.items)) }
+        ensures cut { IfOk result (λ v. AreCutBy self.now.floor self.now.options (held v.items)) }
     {
         let kept = shards_within(shards, &self.floor);
         match full_place(&kept, self.options.cap) {
@@ -137,8 +140,9 @@ fn kept_shards<
     requires low { keeping.now.options.bits ≤ max_bits }
     requires span { (keeping.now.options.first ≤ keeping.now.options.last)
         × (keeping.now.options.last < 2 ^ keeping.now.options.bits) }
-    ensures { IfOk result (λ v. AreKept keeping.now.options.bits keeping.now.options.first keeping.now.options.last
-        keeping.now.options.cap (held v.items)) }
+    ensures kept { IfOk result (λ v. AreKept keeping.now.options.bits keeping.now.options.first
+        keeping.now.options.last keeping.now.options.cap (held v.items)) }
+    ensures cut { IfOk result (λ v. AreCutBy keeping.now.floor keeping.now.options (held v.items)) }
 {
     let options = keeping.reading();
     let shards = match items {
@@ -164,11 +168,11 @@ fn item_shards<
     requires low { keeping.now.options.bits ≤ max_bits }
     requires span { (keeping.now.options.first ≤ keeping.now.options.last)
         × (keeping.now.options.last < 2 ^ keeping.now.options.bits) }
-    ensures { IfOk result (λ v. AreKept keeping.now.options.bits keeping.now.options.first keeping.now.options.last
-        keeping.now.options.cap (held v.items)) }
+    ensures kept { IfOk result (λ v. AreKept keeping.now.options.bits keeping.now.options.first
+        keeping.now.options.last keeping.now.options.cap (held v.items)) }
+    ensures cut { IfOk result (λ v. AreCutBy keeping.now.floor keeping.now.options (held v.items)) }
 {
     let alloc = screen.rt().alloc();
-    let cap = keeping.options.cap;
     match kept_shards(items, reader, keeping, screen) {
         Ok(shards) => Ok(shards),
         Err(fault) => {
@@ -176,7 +180,7 @@ fn item_shards<
                 Some("-") | None => STANDARD_INPUT,
                 Some(path) => path,
             };
-            Err(Refusal::of_shards_file(alloc, file, cap, fault))
+            Err(Refusal::of_shards_file(alloc, file, keeping.options.cap, fault))
         }
     }
 }
@@ -214,8 +218,10 @@ fn joined_shards<R: Clock + AllocGlobal + Threads + Sync, E: Write>(
         × (keeping.now.options.last < 2 ^ keeping.now.options.bits) }
     requires own { AreKept keeping.now.options.bits keeping.now.options.first keeping.now.options.last
         keeping.now.options.cap (held shards.items) }
-    ensures { IfOk result (λ v. AreKept keeping.now.options.bits keeping.now.options.first keeping.now.options.last
-        keeping.now.options.cap (held v.items)) }
+    ensures kept { IfOk result (λ v. AreKept keeping.now.options.bits keeping.now.options.first
+        keeping.now.options.last keeping.now.options.cap (held v.items)) }
+    ensures cut { AreCutBy keeping.now.floor keeping.now.options (held shards.items) →
+        IfOk result (λ v. AreCutBy keeping.now.floor keeping.now.options (held v.items)) }
 {
     let read = reread_shards(opened, keeping.reading(), screen)?;
     let more = keeping.kept_of(read)?;
@@ -235,17 +241,18 @@ fn with_kept<'a, R: Clock + AllocGlobal + Threads + Sync, E: Write>(
         × (keeping.now.options.last < 2 ^ keeping.now.options.bits) }
     requires own { AreKept keeping.now.options.bits keeping.now.options.first keeping.now.options.last
         keeping.now.options.cap (held shards.items) }
-    ensures { IfOk result (λ v. AreKept keeping.now.options.bits keeping.now.options.first keeping.now.options.last
-        keeping.now.options.cap (held v.items)) }
+    ensures kept { IfOk result (λ v. AreKept keeping.now.options.bits keeping.now.options.first
+        keeping.now.options.last keeping.now.options.cap (held v.items)) }
+    ensures cut { AreCutBy keeping.now.floor keeping.now.options (held shards.items) →
+        IfOk result (λ v. AreCutBy keeping.now.floor keeping.now.options (held v.items)) }
 {
     let Some(opened) = opened else {
         return Ok(shards);
     };
     let alloc = screen.rt().alloc();
-    let cap = keeping.options.cap;
     match joined_shards(shards, opened, keeping, screen) {
         Ok(shards) => Ok(shards),
-        Err(fault) => Err(kept_refusal(alloc, keep, cap, fault)),
+        Err(fault) => Err(kept_refusal(alloc, keep, keeping.options.cap, fault)),
     }
 }
 
@@ -296,6 +303,7 @@ where
     requires places { 2 ^ options.bits ≤ accepted.table.cap }
     ensures places { IfOk result (λ o. 2 ^ o.set.bits ≤ o.accepted.table.cap) }
     ensures cap { IfOk result (λ o. o.set.cap ≡ o.accepted.table.cap) }
+    ensures cut { IfOk result (λ o. AreCutBy sources.entry.kept.now options (contents o.set.logs)) }
 {
     let rt = screen.rt();
     let keeping = Keeping {
@@ -336,6 +344,8 @@ pub fn load_shards<
 ) -> Result<Loaded, Refusal<'a>>
     ensures places { IfOk result (λ o. 2 ^ o.set.bits ≤ o.accepted.table.cap) }
     ensures cap { IfOk result (λ o. o.set.cap ≡ o.accepted.table.cap) }
+    ensures cut { IfOk result (λ o. AreCutTo sources.entry.kept.now sharding.bits sharding.first sharding.last
+        (contents o.set.logs)) }
 {
     let accepted = strategy_of(rt, sources.table, err)?;
     let Sharding { bits, first, last } = sharding;

@@ -4,7 +4,7 @@
 -- item more is put in after the others (`puts_on`).
 use Rattle.std.proofs.Common.{◌≡◌, ℕ, List, [], ◌∷◌, ◌++◌, true, inl, inr, Ok, Err, Result, Option, Some, refl, sym, subst}
 use Rattle.std.proofs.Common.{ap, ◌∙◌, map, suc, ◌+◌, ◌<◌, length, take, get_or, arith}
-use Rattle.std.specs.Prelude.{slice_set, option_map}
+use Rattle.std.specs.Prelude.{slice_set, option_map, IfSome, false}
 use Rattle.std.specs.List.{slice_get}
 use Rattle.std.proofs.lemmas.Option.{slice_get-map, get_or_from_slice_get}
 use Rattle.std.proofs.lemmas.List.{map-set}
@@ -18,7 +18,7 @@ use Rattle.version_lock.specs.declared.view.View.{View}
 use Rattle.shard_core.specs.declared.shard.OneShard.{OneShard}
 use Rattle.peer_threads.specs.Workers.{are_own, is_own}
 use Rattle.peer_threads.proofs.Puttings.{all_own}
-use Rattle.peer_loops.specs.Hands.{Adds, Held, PutsAt, PutsEach, entered_by, entries}
+use Rattle.peer_loops.specs.Hands.{Adds, Held, IsElsewhere, PutsAt, PutsEach, entered_by, entries, place_in}
 use Rattle.peer_loops.specs.declared.hand.HandFault.{HandFault}
 use Rattle.peer_loops.specs.declared.hand.HandFault.TheVariants.{Elsewhere, Log}
 
@@ -46,6 +46,17 @@ pub nothing_by : (hs : List Held) (k : ℕ) (h g : Held) → slice_get hs k ≡ 
 nothing_by hs k h g at same =
     map-set_same (λ (u : Held). u.seat.entered) hs k g h
     (same ∙ ap (λ (u : Held). u.seat.entered) (sym (get_or_from_slice_get hs k h h at)))
+
+-- an item that the part at its place may not have is elsewhere
+pub elsewhere_in : {D : Type 0} (f : D → Held) (hs : List Held) (xs : List D) (k : ℕ) (d : D) (x : Item) (w : View)
+    (r : Result Added HandFault) → hs ≡ map f xs → slice_get xs k ≡ Some d → place_in hs x ≡ Some k →
+    Adds (f d).own x (f d).seat w r → r ≡ Err Elsewhere → IsElsewhere hs x
+elsewhere_in f hs xs k d x w r is at place adds refused =
+    let there : slice_get hs k ≡ Some (f d) =
+    ap (λ (us : List Held). slice_get us k) is ∙ slice_get-map f xs k ∙ ap (option_map f) at in
+    let own = subst (λ (a : Result Added HandFault). Adds (f d).own x (f d).seat w a) refused adds in
+    subst (λ (o : Option ℕ). IfSome o (λ j. IfSome (slice_get hs j) (λ h. is_own h.own x ≡ false))) (sym place)
+    (subst (λ (o : Option Held). IfSome o (λ h. is_own h.own x ≡ false)) (sym there) own.0)
 
 -- an item that is not put in
 pub nothing_at : (hs : List Held) (x : Item) (fault : HandFault) (ks : List Held) → PutsAt hs x (Err fault) ks →

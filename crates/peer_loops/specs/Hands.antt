@@ -2,15 +2,18 @@
 --     Adds own x v w r             of an item by the seat of a part: it is entered or was there, or not and why
 --     Held, held own v             a part, and the view of the seat at it
 --     entries hs                   what each seat has entered so far
+--     place_in hs x                the place of the part that may have the item; the first part says how the set is cut
+--     IsElsewhere hs x             there is no part there, or the item is not of it
 --     PutsAt hs x r ks             of an item by one of the seats, if its part is kept here; the others stay
 --     PutsEach hs xs news ks       items, one after the other: each is entered or was there, and these were entered
 --     PutsUntil hs xs news e ks    the same of all; where there is a fault, of those before the first that was not put in
 --     PutsSome hs xs ks            the first few of them, and nothing else
 use Rattle.std.specs.Prelude.{◌≡◌, ◌⊎◌, ℕ, true, false, List, [], ◌∷◌, map, take, slice_set, Option, Some, None}
-use Rattle.std.specs.Prelude.{Result, Ok, Err}
+use Rattle.std.specs.Prelude.{Result, Ok, Err, IfSome, ◌-◌, nat_lt, if◌then◌else◌}
 use Rattle.std.specs.List.{slice_get}
 use Rattle.definitions.specs.Items.{Item}
 use Rattle.definitions.specs.Histories.{History}
+use Rattle.shard_core.specs.Shards.{shard_number}
 use Rattle.shard_core.specs.declared.shard.OneShard.{OneShard}
 use Rattle.version_log.specs.declared.answer.Added.{Added}
 use Rattle.version_log.specs.declared.answer.Added.TheVariants.{New, Already}
@@ -34,6 +37,18 @@ held own v = record { own = own; seat = v }
 
 abbrev pub entries : List Held → List History
 entries hs = map (λ h. h.seat.entered) hs
+
+abbrev pub place_by : Option OneShard → Item → Option ℕ
+place_by None x = Some 0
+place_by (Some one) x =
+    if nat_lt (shard_number one.bits x) one.number then None else Some (shard_number one.bits x - one.number)
+
+abbrev pub place_in : List Held → Item → Option ℕ
+place_in [] x = None
+place_in (h ∷ hs) x = place_by h.own x
+
+abbrev pub IsElsewhere : List Held → Item → Type 0
+IsElsewhere hs x = IfSome (place_in hs x) (λ k. IfSome (slice_get hs k) (λ h. is_own h.own x ≡ false))
 
 -- one seat adds it
 abbrev pub PutsBy : List Held → Item → Result Added HandFault → List Held → Type 0

@@ -1,9 +1,11 @@
 //! Peers who come to a loop: connections that it accepts, and peers that another loop hands over.
 
 ghost use Rattle.std.specs.Prelude.{◌≡◌, true};
+ghost use Rattle.hub_core.specs.Peers.{IsFresh};
 ghost use Rattle.peer_loops.specs.Notes.{id_of};
 
-use crate::chosen::reader_of;
+use crate::chosen::{Reader, reader_of};
+use crate::crowd::PeerLimits;
 use crate::desks::Desks;
 use crate::ending::Parting;
 use crate::looping::{Kind, Loop, PAUSE};
@@ -15,6 +17,7 @@ use mio::unix::SourceFd;
 use mio::{Interest, Token};
 use session_core::LinkFault;
 use session_table::{SessionId, SourceFault};
+use std::alloc::Global;
 use std::os::fd::{AsRawFd, RawFd};
 use std::sync::Wait;
 use tcp_front::{Arrival, Half};
@@ -75,6 +78,27 @@ impl Accepting {
             Accepting::Waits | Accepting::More | Accepting::Done => false,
         }
     }
+}
+
+/// A peer that has just come, and of which no more bytes are read than the limits say.
+fn peer_of(
+    alloc: Global,
+    limits: &PeerLimits,
+    reader: Reader,
+    writer: Half,
+    serial: u64,
+    now: u64,
+) -> Peer<Reader, Half>
+    ensures { IsFresh reader writer limits.now.most_bytes serial now result }
+{
+    Peer::new(
+        alloc,
+        reader,
+        writer,
+        u64::from(limits.most_bytes),
+        serial,
+        now,
+    )
 }
 
 impl Loop {
@@ -227,11 +251,11 @@ impl Loop {
         if site.crowd.is_crowded() {
             self.make_room(site, desks, 0);
         }
-        let most_bytes = u64::from(site.crowd.limits.most_bytes);
         let serial = self.serial;
         self.serial = serial.saturating_add(1);
         let reader = reader_of(site.crowd.front, reader);
-        let peer = Peer::new(site.alloc, reader, writer, most_bytes, serial, self.now);
+        let limits = &site.crowd.limits;
+        let peer = peer_of(site.alloc, limits, reader, writer, serial, self.now);
         let peer = peer.from_origin(origin);
         self.admit(site, desks, Guest { peer, id: None });
     }
@@ -268,14 +292,16 @@ impl Loop {
         let key = self.hub.next_key();
         let fd = guest.peer.reader().inner().as_raw_fd();
         if !self.register(key, fd, guest.id) {
-            self.part_with(site, desks, guest, no_memory);
+            let _given = self.part_with(site, desks, guest, no_memory);
             return;
         }
         let Guest { peer, id } = guest;
         match self.hub.admit(peer) {
             // the system reports at once that it can be written to
             Ok(_key) => {}
-            Err(peer) => self.part_with(site, desks, Guest { peer, id }, no_memory),
+            Err(peer) => {
+                let _given = self.part_with(site, desks, Guest { peer, id }, no_memory);
+            }
         }
     }
 }

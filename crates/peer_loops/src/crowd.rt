@@ -1,6 +1,6 @@
 //! What all loops share beside the parts.
 
-ghost use Rattle.std.specs.Prelude.{◌≤◌};
+ghost use Rattle.std.specs.Prelude.{◌≡◌, ◌≤◌, []};
 
 use crate::board::{Board, Load};
 use crate::chosen::Front;
@@ -54,6 +54,12 @@ pub(crate) struct Inlet {
     waker: OnceLock<Waker>,
 }
 
+/// Says that the place of a session was given back. `Crowd::give_place_back` alone makes one.
+#[derive(Clone, Copy, Debug, PartialEq, Eq)]
+pub(crate) struct GivenBack {
+    is_given: bool,
+}
+
 /// What all loops share beside the parts.
 #[derive(Drop)]
 pub(crate) struct Crowd<'a> {
@@ -89,6 +95,14 @@ fn polls<R: Net>(rt: &R, alloc: Global, count: usize) -> Result<Vec<Poll>, Alloc
         polls.push(poll)?;
     }
     Ok(polls)
+}
+
+/// Takes all who wait.
+fn take_all(guests: &mut Vec<Guest>, alloc: Global) -> Vec<Guest>
+    ensures all { result.items ≡ guests.old.items }
+    ensures none { guests.new.items ≡ [] }
+{
+    std::mem::replace(guests, Vec::new(alloc))
 }
 
 /// So many inlets.
@@ -202,12 +216,13 @@ impl<'a> Crowd<'a> {
     }
 
     /// Gives a place back.
-    pub(crate) fn give_place_back(&self) {
+    pub(crate) fn give_place_back(&self) -> GivenBack {
         let _ = self
             .places
             .fetch_update(Ordering::SeqCst, Ordering::SeqCst, |left| {
                 left.checked_add(1)
             });
+        GivenBack { is_given: true }
     }
 
     /// A loop that accepts is done. The last wakes those that take peers from others.
@@ -309,11 +324,10 @@ impl<'a> Crowd<'a> {
 
     /// Takes all who wait for the loop of this number.
     pub(crate) fn guests<T: Wait>(&self, rt: &T, alloc: Global, index: usize) -> Vec<Guest> {
-        let mut taken = Vec::new(alloc);
-        if let Some(inlet) = self.inlets.get(index) {
-            std::mem::swap(&mut taken, &mut *inlet.guests.lock(rt));
+        match self.inlets.get(index) {
+            Some(inlet) => take_all(&mut inlet.guests.lock(rt), alloc),
+            None => Vec::new(alloc),
         }
-        taken
     }
 
     /// The source failed so.

@@ -1,6 +1,6 @@
 //! A loop's seat at the log of one part.
 
-ghost use Rattle.std.specs.Prelude.{◌≡◌, ◌≤◌, length, [], true, IsSome, IfOk, IfSome, OnErr, OnOk, Some};
+ghost use Rattle.std.specs.Prelude.{◌≡◌, ◌≤◌, length, [], true, false, IsSome, IfOk, IfSome, OnErr, OnOk, Some};
 ghost use Rattle.std.specs.Arc.{arc_value};
 ghost use Rattle.slab.specs.Slab.{get};
 ghost use Rattle.definitions.specs.Histories.{content};
@@ -235,6 +235,7 @@ impl Desk {
         ensures part { self.new.part ≡ self.old.part }
         ensures put { PutsInOf id (says (G.lets_in common.now.gate.now) (G.floors common.now.gate.now))
             (arc_value self.old.part).own outcome.now self.old.seat.view self.new.seat.view }
+        ensures news { result ≡ false → self.new.seat.view.entered ≡ self.old.seat.view.entered }
     {
         let Some(id) = id else {
             return false;

@@ -1,6 +1,6 @@
 //! The seats of a loop, one for each part.
 
-ghost use Rattle.std.specs.Prelude.{◌≡◌, ℕ, length, Some, OnOk};
+ghost use Rattle.std.specs.Prelude.{◌≡◌, ℕ, false, length, map, Some, OnOk};
 ghost use Rattle.std.specs.Arc.{arc_value};
 ghost use Rattle.slab.specs.Slab.{get};
 ghost use Rattle.definitions.specs.Histories.{content};
@@ -179,6 +179,8 @@ impl Desks {
             (λ d e. (e.part ≡ d.part) × PutsInOf over.now.id
             (says (G.lets_in common.now.gate.now) (G.floors common.now.gate.now)) (arc_value d.part).own outcome.now d.seat.view
             e.seat.view) }
+        ensures news { result ≡ false →
+            map (λ d. d.seat.view.entered) self.new.list.items ≡ map (λ d. d.seat.view.entered) self.old.list.items }
     {
         let Some(place) = self.place_of(over.part) else {
             return false;

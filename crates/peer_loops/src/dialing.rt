@@ -86,6 +86,7 @@ impl Desk {
         ensures part { self.new.part ≡ self.old.part }
         ensures put { PutsInBy (says (G.lets_in common.now.gate.now) (G.floors common.now.gate.now)) serial
             (arc_value self.old.part).own outcome.now self.old.seat.view self.new.seat.view }
+        ensures news { result ≡ false → self.new.seat.view.entered ≡ self.old.seat.view.entered }
     {
         match outcome {
             Outcome::Ended { learned, .. } => {

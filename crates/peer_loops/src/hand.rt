@@ -1,7 +1,7 @@
 //! Seats at all parts for one who is no loop: it puts items in, and looks at versions.
 
-ghost use Rattle.std.specs.Prelude.{◌≡◌, ◌<◌, ◌≤◌, ◌+◌, [], ◌++◌, IfOk, OnErr, vec_len, vec_capacity};
-ghost use Rattle.peer_loops.specs.Hands.{PutsAt, PutsUntil, entered_by, entries};
+ghost use Rattle.std.specs.Prelude.{◌≡◌, ◌<◌, ◌≤◌, ◌+◌, [], ◌++◌, Err, IfOk, OnErr, vec_len, vec_capacity};
+ghost use Rattle.peer_loops.specs.Hands.{IsElsewhere, PutsAt, PutsUntil, entered_by, entries, place_in};
 
 use crate::common::Common;
 use crate::desks::Desks;
@@ -95,21 +95,24 @@ impl<'a> Hand<'a> {
     }
 
     /// The place of the part that may have the item. There may be no part there.
-    pub fn place_of(&self, item: &Item) -> Option<usize> {
+    pub fn place_of(&self, item: &Item) -> Option<usize>
+        ensures { result ≡ place_in self.now item.now }
+    {
         let desk = self.desks.list.first()?;
         let Some(one) = desk.part.own else {
             return Some(0);
         };
         let number = shard_of(item, one.bits);
-        if number < self.desks.first {
+        if number < one.number {
             return None;
         }
-        Some(usize::from(number - self.desks.first))
+        Some(usize::from(number - one.number))
     }
 
     /// Puts an item into its part, if that is kept here and lacks it.
     fn put<T: Wait>(&mut self, rt: &T, alloc: Global, item: &Item) -> Result<Added, HandFault>
         ensures put { PutsAt self.old item.now result self.new }
+        ensures elsewhere { result ≡ Err HandFault.Elsewhere → IsElsewhere self.old item.now }
     {
         let Some(place) = self.place_of(item) else {
             return Err(HandFault::Elsewhere);

@@ -1,6 +1,7 @@
 //! The parts of a set that loops serve, each behind a lock.
 
-ghost use Rattle.std.specs.Prelude.{◌≡◌, ◌≤◌, ◌↔◌, length, [], None, IfOk, IfSome, OnErr, IsTrue};
+ghost use Rattle.std.specs.Prelude.{◌≡◌, ◌≢◌, ◌≤◌, ◌<◌, ◌+◌, ◌%◌, ◌^◌, ◌↔◌, length, [], ◌∷◌, ◌++◌, None, Some};
+ghost use Rattle.std.specs.Prelude.{IfOk, IfSome, IsSomeAnd, OnOk, OnErr, IsTrue};
 ghost use Rattle.std.specs.Arc.{arc_value};
 ghost use Rattle.definitions.specs.Histories.{content};
 ghost use Rattle.definitions.specs.Sets.{items_in};
@@ -115,6 +116,8 @@ impl Root {
             × Forgets kept.now (arc_value (arc_value self.old.part).accepted).table.cap between
             self.new.seat.view count) }
         ensures memory { OnErr result (self.new.part ≡ self.old.part) }
+        ensures turn { IfOk result (λ count. 0 < count →
+            (arc_value self.new.part).turn ≡ ((arc_value self.old.part).turn + 1) % 2 ^ 64) }
     {
         let pin = self.pin(rt, alloc)?;
         let (all, count) = (pin.store().len(), pin.store().count(kept));
@@ -131,6 +134,10 @@ impl Root {
     /// A seat at it, if it is not of this turn. None where memory runs out, or no writer number is left.
     pub(crate) fn seat_after<T: Wait>(&mut self, rt: &T, turn: u64) -> Option<Option<Desk>>
         ensures kept { self.new.part ≡ self.old.part }
+        ensures same { (arc_value self.old.part).turn ≡ turn → result ≡ Some None }
+        ensures newer { (arc_value self.old.part).turn ≢ turn →
+            IfSome result (λ seat. IsSomeAnd seat (λ d. (arc_value d.part ≡ arc_value self.old.part)
+            × (d.seat.view.entered ≡ []))) }
     {
         if self.part.turn == turn {
             return Some(None);
@@ -149,7 +156,9 @@ pub struct Parts {
 
 impl Parts {
     /// No parts so far. The first one has this number.
-    pub fn new(alloc: Global, first: u16) -> Parts {
+    pub fn new(alloc: Global, first: u16) -> Parts
+        ensures { (result.first ≡ first) × (result.roots.items ≡ []) }
+    {
         Parts {
             first,
             roots: Vec::new(alloc),
@@ -165,6 +174,9 @@ impl Parts {
         log: Log<Tree>,
     ) -> Result<(), AllocError>
         requires { log.cap ≤ (arc_value accepted.now).table.cap }
+        ensures first { self.new.first ≡ self.old.first }
+        ensures added { OnOk result ((r : _) × (self.new.roots.items ≡ self.old.roots.items ++ r ∷ [])
+            × ((arc_value r.part).own ≡ own) × (r.seat.view ≡ first_view log)) }
     {
         self.roots.push(Root::new(alloc, accepted, own, log, 0)?)?;
         Ok(())

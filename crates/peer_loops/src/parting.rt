@@ -1,6 +1,6 @@
 //! How a loop lets a peer go.
 
-ghost use Rattle.std.specs.Prelude.{◌≡◌, Some, None, IfSome, IfNone, option_map};
+ghost use Rattle.std.specs.Prelude.{◌≡◌, ◌↔◌, Some, None, IsSome, IfSome, IfNone, option_map};
 ghost use Rattle.std.specs.Arc.{arc_value};
 ghost use Rattle.slab.specs.Slab.{get};
 ghost use Rattle.hub_core.specs.Hubs.{OthersStay};
@@ -14,6 +14,7 @@ ghost use Rattle.peer_loops.specs.Partings.{PutsInOf, Tells, shown_in};
 ghost use Rattle.peer_loops.specs.ShardSpans.{place_for};
 
 use crate::chosen::{Chosen, Front, Reader, part_of, tell_refusal};
+use crate::crowd::GivenBack;
 use crate::desks::{Desks, Over};
 use crate::ending::{Parting, outcome_of};
 use crate::looping::Loop;
@@ -41,29 +42,34 @@ fn close_session<R: Wait, G: PartGate>(
     id: SessionId,
     said: u32,
     outcome: &Outcome,
-) {
+) -> GivenBack {
     let mut sessions = site.common.sessions.lock(site.rt);
     for _message in 0..said {
         let _counted = sessions.note_sent(id);
     }
     let _closed = sessions.close(id, kind_of(outcome));
     drop(sessions);
-    site.crowd.give_place_back();
+    site.crowd.give_place_back()
 }
 
-/// Ends the session in the table, and tells the gate how it ended. Where the session never came into the table, nobody
-/// is told.
-fn tell_end<R: Wait, G: PartGate>(site: &Site<'_, R, G>, over: &Over, outcome: &Outcome) {
-    let Some(id) = over.id else {
-        return;
-    };
-    close_session(site, id, over.said, outcome);
+/// Ends the session in the table, gives its place back, and tells the gate how it ended. Where the session never came
+/// into the table, nobody is told.
+fn tell_end<R: Wait, G: PartGate>(
+    site: &Site<'_, R, G>,
+    over: &Over,
+    outcome: &Outcome,
+) -> Option<GivenBack>
+    ensures { IsSome result ↔ IsSome over.now.id }
+{
+    let id = over.id?;
+    let given = close_session(site, id, over.said, outcome);
     if let Some(which) = over.part {
         let part = site.crowd.front.told(which);
         site.common
             .gate
             .ended_in(id.serial(), part, &over.range, outcome);
     }
+    Some(given)
 }
 
 /// The same, and then puts in what was learned. If something was put in, that is news.
@@ -72,16 +78,18 @@ fn conclude<R: Wait, G: PartGate>(
     desks: &mut Desks,
     over: &Over,
     outcome: &Outcome,
-)
+) -> Option<GivenBack>
+    ensures given { IsSome result ↔ IsSome over.now.id }
     ensures put { ChangesAt (place_for desks.old.first over.now.part) desks.old.list.items desks.new.list.items
         (λ d e. (e.part ≡ d.part) × PutsInOf over.now.id
         (says (G.lets_in site.now.common.now.gate.now) (G.floors site.now.common.now.gate.now)) (arc_value d.part).own
         outcome.now d.seat.view e.seat.view) }
 {
-    tell_end(site, over, outcome);
+    let given = tell_end(site, over, outcome);
     if desks.put_in(site.rt, site.alloc, site.common, over, outcome) {
         site.common.news.tell(site.rt);
     }
+    given
 }
 
 /// The part of which a peer speaks, if it has said so, and the range of its items.
@@ -179,6 +187,7 @@ impl Loop {
         ensures own { IfSome result (λ guest. (get self.old.hub.peers key ≡ Some guest.peer)
             × (guest.id ≡ id_of self.old.notes.list.items key)) }
         ensures none { IfNone result (get self.old.hub.peers key ≡ None) }
+        ensures gone { get self.new.hub.peers key ≡ None }
         ensures others { OthersStay self.old.hub.peers self.new.hub.peers key }
     {
         let id = self.notes.id(key);
@@ -193,9 +202,12 @@ impl Loop {
         desks: &mut Desks,
         key: usize,
         parting: Parting,
-    ) {
+    )
+        ensures gone { get self.new.hub.peers key ≡ None }
+        ensures others { OthersStay self.old.hub.peers self.new.hub.peers key }
+    {
         if let Some(guest) = self.take_out(key) {
-            self.part_with(site, desks, guest, parting);
+            let _given = self.part_with(site, desks, guest, parting);
         }
     }
 
@@ -206,7 +218,10 @@ impl Loop {
         desks: &mut Desks,
         guest: Guest,
         parting: Parting,
-    ) {
+    ) -> Option<GivenBack>
+        ensures given { IsSome result ↔ IsSome guest.id }
+        ensures hub { self.new.hub ≡ self.old.hub }
+    {
         let Guest { peer, id } = guest;
         desks.follow(site.rt, site.alloc, site.common, site.seats);
         let (part, range) = meant_by(site.crowd.front, peer.reader());
@@ -216,7 +231,7 @@ impl Loop {
             range,
             said: peer.sent(),
         };
-        self.part(site, desks, peer, over, parting);
+        self.part(site, desks, peer, over, parting)
     }
 
     /// Lets a peer go that is not in the hub, and whose session was this. Its connection is read on for a while.
@@ -227,16 +242,18 @@ impl Loop {
         peer: Peer<Reader, Half>,
         over: Over,
         parting: Parting,
-    )
+    ) -> Option<GivenBack>
+        ensures given { IsSome result ↔ IsSome over.id }
         ensures put { (o : outcomes.Outcome) × Tells parting peer.phase peer.version o
             × ChangesAt (place_for desks.old.first over.part) desks.old.list.items desks.new.list.items
             (λ d e. (e.part ≡ d.part) × PutsInOf over.id
             (says (G.lets_in site.now.common.now.gate.now) (G.floors site.now.common.now.gate.now)) (arc_value d.part).own o
             d.seat.view e.seat.view) }
+        ensures hub { self.new.hub ≡ self.old.hub }
     {
         site.crowd.count_one_less(site.rt, peer.origin());
         let gone = parted(peer, &over, parting, self.now);
-        conclude(site, desks, &over, &gone.outcome);
+        let given = conclude(site, desks, &over, &gone.outcome);
         let front = site.crowd.front;
         let leaver = Leaver {
             which: over.part.and_then(|which| front.told(which)),
@@ -248,10 +265,13 @@ impl Loop {
             ..gone
         };
         self.see_off(site, gone);
+        given
     }
 
     /// Tells the board of a peer that is gone, and reads its connection on for a while.
-    fn see_off<R: Wait, G>(&mut self, site: &Site<'_, R, G>, gone: Gone) {
+    fn see_off<R: Wait, G>(&mut self, site: &Site<'_, R, G>, gone: Gone)
+        ensures { self.new.hub ≡ self.old.hub }
+    {
         let Gone {
             outcome,
             leaver,

@@ -1,16 +1,24 @@
 //! One peer's session, from its first message to its end.
 
-use crate::chosen::refusal_of;
+ghost use Rattle.std.specs.Prelude.{◌≡◌, ◌<◌, ◌≤◌, ◌⊎◌, IfSome, IfNone, IsSome};
+ghost use Rattle.session_table.specs.Faults.{opening_fault};
+ghost use Rattle.session_table.specs.Tables.{Opened};
+ghost use Rattle.hub_core.specs.Hubs.{held_by};
+ghost use Rattle.hub_core.specs.Peers.{bound_in, sent_in};
+
+use crate::chosen::{Reader, refusal_of};
 use crate::desks::Desks;
 use crate::ending::Parting;
 use crate::looping::{Kind, Loop};
 use crate::part_gate::PartGate;
 use crate::site::Site;
+use hub_core::Peer;
 use mio::unix::SourceFd;
-use session_core::{LinkFault, Pause};
-use session_table::SessionId;
+use session_core::{LinkFault, Pause, Pumped};
+use session_table::{SessionId, SessionTable};
 use std::os::fd::AsRawFd;
 use std::sync::Wait;
+use tcp_front::Half;
 
 /// What a peer waits for that is listed.
 #[derive(Clone, Copy, Debug, PartialEq, Eq)]
@@ -21,6 +29,19 @@ pub(crate) enum Until {
     Place,
 }
 
+/// Opens the session of this peer in the table, if its first message was answered.
+fn open_in(sessions: &mut SessionTable, peer: &Peer<Reader, Half>) -> Option<SessionId>
+    ensures opened { IfSome result (λ id. (0 < sent_in peer.now.phase)
+        × Opened sessions.old sessions.new id (bound_in peer.now.phase)) }
+    ensures none { IfNone result ((sessions.new ≡ sessions.old)
+        × ((sent_in peer.now.phase ≡ 0) ⊎ IsSome (opening_fault sessions.old))) }
+{
+    if peer.sent() == 0 {
+        return None;
+    }
+    sessions.open(peer.phase().bound()).ok()
+}
+
 impl Loop {
     /// Goes on with this peer, as far as its stream goes without waiting; then lets those go that keep more than all
     /// may. One that speaks of no set that is here is let go.
@@ -29,18 +50,30 @@ impl Loop {
         site: &Site<'_, R, G>,
         desks: &mut Desks,
         key: usize,
-    ) {
+    )
+        ensures { held_by self.new.hub.peers ≤ self.new.hub.limits.memory }
+    {
         let did = self.hub.pump(site.alloc, key, &mut self.room, self.now);
-        if let Some(code) = self.refusal(site, desks, key) {
-            self.let_go(site, desks, key, Parting::Refuses(code));
-            return;
+        match self.refusal(site, desks, key) {
+            Some(code) => self.let_go(site, desks, key, Parting::Refuses(code)),
+            None => self.act(site, desks, key, did),
         }
+        self.keep_within(site, desks);
+    }
+
+    /// Goes on with this peer after a step of it, or lets it go where that failed.
+    fn act<R: Wait, G: PartGate>(
+        &mut self,
+        site: &Site<'_, R, G>,
+        desks: &mut Desks,
+        key: usize,
+        did: Option<Result<Pumped, LinkFault>>,
+    ) {
         match did {
             Some(Ok(step)) => self.follow(site, desks, key, step.pause),
             Some(Err(fault)) => self.let_go(site, desks, key, Parting::Failed(fault)),
             None => {}
         }
-        self.keep_within(site, desks);
     }
 
     /// Does what a step of this peer asks for.
@@ -114,18 +147,16 @@ impl Loop {
     fn enter<R: Wait, G>(&mut self, site: &Site<'_, R, G>, key: usize) {
         match self.entered(site, key) {
             Some(id) => self.notes.book(key, id),
-            None => site.crowd.give_place_back(),
+            None => {
+                let _given = site.crowd.give_place_back();
+            }
         }
     }
 
     /// The session of this peer in the table, where it is now, if its first message was answered.
     fn entered<R: Wait, G>(&self, site: &Site<'_, R, G>, key: usize) -> Option<SessionId> {
         let peer = self.hub.get(key)?;
-        if peer.sent() == 0 {
-            return None;
-        }
-        let bound = peer.phase().bound();
-        site.common.sessions.lock(site.rt).open(bound).ok()
+        open_in(&mut site.common.sessions.lock(site.rt), peer)
     }
 
     /// Hands this peer to the loop of this number, for those whose messages are long.
@@ -142,12 +173,14 @@ impl Loop {
         let fd = guest.peer.reader().inner().as_raw_fd();
         let _gone = self.poll.registry().deregister(&mut SourceFd(&fd));
         if let Err(guest) = site.crowd.hand_over(site.rt, index, guest) {
-            self.part_with(site, desks, guest, Parting::Failed(LinkFault::Memory));
+            let _given = self.part_with(site, desks, guest, Parting::Failed(LinkFault::Memory));
         }
     }
 
     /// Lets the peers go of which most is kept, until all keep no more than they may.
-    fn keep_within<R: Wait, G: PartGate>(&mut self, site: &Site<'_, R, G>, desks: &mut Desks) {
+    fn keep_within<R: Wait, G: PartGate>(&mut self, site: &Site<'_, R, G>, desks: &mut Desks)
+        ensures { held_by self.new.hub.peers ≤ self.new.hub.limits.memory }
+    {
         for _peer in 0..self.hub.len() {
             let Some(key) = self.hub.over_budget() else {
                 return;

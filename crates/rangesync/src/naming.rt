@@ -1,6 +1,8 @@
 //! The name of the set that a command speaks of.
 
-ghost use Rattle.std.specs.Prelude.{◌≡◌, [], None, false, IfOk, IfSome, IfNone, IsSome, option_map, unwrap_or};
+ghost use Rattle.std.specs.Prelude.{◌≡◌, ◌⊎◌, ◌<◌, [], length, None, false, IfOk, IfSome, IfNone, IsSome, OnErr};
+ghost use Rattle.std.specs.Prelude.{option_map, unwrap_or};
+ghost use Rattle.shard_core.specs.Shards.{max_bits};
 ghost use Rattle.rangesync.specs.Names as names;
 ghost use Rattle.rangesync.specs.Names.{name_in, name_told};
 
@@ -52,6 +54,7 @@ pub fn told_of(alloc: Global, command: Command<'_>) -> Result<Vec<u8>, AllocErro
 fn set_cut(told: &[u8], bits: u8) -> Result<Option<SetName<'_>>, BadName>
     ensures set { IfOk result (λ set. IfSome set (λ s. (s.name.now ≡ told.now) × (s.bits ≡ bits))) }
     ensures some { IfOk result (λ set. IsSome set) }
+    ensures bad { OnErr result ((64 < length told.now) ⊎ (max_bits < bits)) }
 {
     match SetName::new(told, bits) {
         Some(set) => Ok(Some(set)),
@@ -64,6 +67,8 @@ fn set_cut(told: &[u8], bits: u8) -> Result<Option<SetName<'_>>, BadName>
 pub fn set_of(told: &[u8], bits: Option<u8>, is_part: bool) -> Result<Option<SetName<'_>>, BadName>
     ensures set { IfOk result (λ set. IfSome set (λ s. (s.name.now ≡ told.now) × (s.bits ≡ unwrap_or bits 0))) }
     ensures none { IfOk result (λ set. IfNone set ((told.now ≡ []) × (bits ≡ None) × (is_part ≡ false))) }
+    ensures unsaid { told.now ≡ [] → bits ≡ None → is_part ≡ false → result ≡ Ok None }
+    ensures bad { OnErr result ((length told.now ≡ 1) ⊎ ((64 < length told.now) ⊎ (max_bits < unwrap_or bits 0))) }
 {
     match told.len() {
         1 => Err(BadName),

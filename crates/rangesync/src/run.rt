@@ -1,11 +1,12 @@
 //! The program over any runtime, reader and writers.
 
-ghost use Rattle.std.specs.Prelude.{◌≡◌, ◌≤◌, ◌⊎◌, IfOk, IfSome, map};
+ghost use Rattle.std.specs.Prelude.{◌≡◌, ◌≤◌, ◌⊎◌, IfOk, IfSome, IfNone, None, map};
 ghost use Rattle.settings_core.specs.Calls.{WordsAskFor};
 ghost use Rattle.settings_core.specs.Spans.{AreInSpan};
 ghost use Rattle.settings_core.specs.declared.commands.Call.{Call as Asked};
 ghost use Rattle.printing_core.specs.FaultsOf.{status_of};
 ghost use Rattle.rangesync.specs.Done.{IsChecking, IsDone};
+ghost use Rattle.rangesync.specs.Ranges.{IsFloorNow};
 
 use crate::addresses::{Addresses, addresses_of, at_addresses, lacks_door};
 use crate::answering::answer_for;
@@ -138,7 +139,8 @@ fn places_of(
 
 /// Which items are meant: those of a range, if one is given, else those that are not forgotten now.
 fn kept_of<R: Clock>(rt: &R, part: Option<Range>, forgets: FloorRule) -> Floor
-    ensures part { IfSome part (λ range. result.range ≡ range) }
+    ensures part { IfSome part (λ range. (result.range ≡ range) × (result.time ≡ None)) }
+    ensures forgets { IfNone part (IsFloorNow forgets result) }
 {
     match part {
         Some(range) => Floor::within(range),

@@ -1,11 +1,11 @@
 //! A file of lines that a server writes to, and what standard error is told of it.
 
-ghost use Rattle.std.specs.Prelude.{◌≡◌, ◌++◌, ℕ, List, true, IfOk, IfErr, IsErr, OnOk, OnErr, string_bytes};
+ghost use Rattle.std.specs.Prelude.{◌≡◌, ◌<◌, ◌++◌, ℕ, List, [], true, IfOk, IfErr, IsErr, OnOk, OnErr, string_bytes};
 ghost use Rattle.io_core.specs.Devices.{Holds};
 ghost use Rattle.io_core.specs.Keeping.{IsKept};
 ghost use Rattle.printing_core.specs.ItemTexts.{item_line};
 ghost use Rattle.loading.specs.Rewriting.{lines_of};
-ghost use Rattle.server.specs.Keeping.{IsStored};
+ghost use Rattle.server.specs.Keeping.{IsPut, IsStored};
 
 use crate::following::Followed;
 use io_core::{Device, LineFile, Unwritten, torn_length};
@@ -138,6 +138,7 @@ impl<'a, D: Device> Book<'a, D> {
             → IsKept D.held base (told ++ string_bytes t) self.new.lines)) }
         ensures read { IfErr text.now (λ _. IsErr result) }
         ensures same { OnErr result (self.new.lines ≡ self.old.lines) }
+        ensures others { self.new ≡ record self.old { lines = self.new.lines } }
     {
         let Ok(text) = text else {
             return Err(AllocError);
@@ -165,12 +166,25 @@ impl<'a, D: Device> Book<'a, D> {
         }
     }
 
-    /// Puts a text of whole lines after those that wait, and writes them all. Where that failed before, it is tried
-    /// once more, and after that only by `write`.
-    pub fn put<E: Write>(&mut self, err: &mut E, text: &Result<String, AllocError>) {
+    /// Puts a text of whole lines after those that wait, or counts it as left out.
+    fn tell_or_count(&mut self, text: &Result<String, AllocError>)
+        ensures told { (base told : List ℕ) → IsKept D.held base told self.old.lines →
+            IsPut D.held base told text.now self.old.left_out self.new.left_out self.new.lines }
+        ensures failures { self.new.failures ≡ self.old.failures }
+    {
         if self.tell(text).is_err() {
             self.left_out = self.left_out.saturating_add(1);
         }
+    }
+
+    /// Puts a text of whole lines after those that wait, and writes them all. Where that failed before, it is tried
+    /// once more, and after that only by `write`.
+    pub fn put<E: Write>(&mut self, err: &mut E, text: &Result<String, AllocError>)
+        ensures told { (base told : List ℕ) → IsKept D.held base told self.old.lines →
+            IsPut D.held base told text.now self.old.left_out self.new.left_out self.new.lines }
+        ensures written { self.old.failures < 2 → self.new.failures ≡ 0 → self.new.lines.waiting ≡ [] }
+    {
+        self.tell_or_count(text);
         if self.failures < MOST_FAILURES {
             let _written = self.write(err);
         }
@@ -183,6 +197,8 @@ impl<'a, D: Device> Book<'a, D> {
             → IsKept D.held base told self.new.lines }
         ensures whole { result ≡ true → (base told : List ℕ) → IsKept D.held base told self.old.lines
             → Holds (D.held self.new.lines.device) (base ++ told) }
+        ensures done { self.new.failures ≡ 0 → self.new.lines.waiting ≡ [] }
+        ensures counted { self.new.left_out ≡ self.old.left_out }
     {
         let waiting = self.lines.waiting_lines();
         match self.lines.write() {
@@ -205,6 +221,8 @@ impl<'a, D: Device> Book<'a, D> {
     /// Counts a failure, and tells why lines wait if it is the first in a row.
     fn fail<E: Write>(&mut self, err: &mut E, cause: Cause)
         ensures same { self.new.lines ≡ self.old.lines }
+        ensures fails { 0 < self.new.failures }
+        ensures counted { self.new.left_out ≡ self.old.left_out }
     {
         if self.failures == 0 {
             let lines = self.lines.waiting_lines();

@@ -60,6 +60,25 @@ fn raised(highest: &mut Lower, floor: Floor) -> Floor
     Floor::at(lower, floor.time)
 }
 
+/// The items whose lines are to be kept: those that were entered, where the lines of the others are told; else all that
+/// were given.
+fn wanted_of<'i>(
+    rules: Rules<'_>,
+    are_told: bool,
+    entered: &'i Vec<Item>,
+    given: &'i Vec<Item>,
+) -> Wanted<'i>
+    ensures entered { are_told ≡ true → result.items.now.items ≡ entered.now.items }
+    ensures given { are_told ≡ false → result.items.now.items ≡ given.now.items }
+    ensures rules { (result.form ≡ rules.entry.reporting.form) × (result.is_durable ≡ rules.entry.is_durable) }
+{
+    Wanted {
+        form: rules.reporting.form,
+        items: if are_told { entered } else { given },
+        is_durable: rules.is_durable,
+    }
+}
+
 /// The gate of a server: it writes to the files of a disk.
 pub type DiskReporter<'r, 'a, R, E> = Reporter<'r, 'a, R, Disk<File>, E>;
 
@@ -217,11 +236,7 @@ impl<R: Wait + Clock, D: Device + Drop, E: Write + Drop> Reporter<'_, '_, R, D, 
         self.looking.ask(self.rt);
         let mut ledger = self.ledger.lock(self.rt);
         let are_told = self.adding.load(Ordering::SeqCst) == 0 && !ledger.books.is_doubtful();
-        let wanted = Wanted {
-            form: self.rules.reporting.form,
-            items: if are_told { entered } else { given },
-            is_durable: self.rules.is_durable,
-        };
+        let wanted = wanted_of(self.rules, are_told, entered, given);
         let kept = ledger.keep(self.alloc, entered, wanted);
         drop(ledger);
         self.looking.forget(self.rt);

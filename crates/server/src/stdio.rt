@@ -8,6 +8,8 @@ ghost use Rattle.version_lock.specs.declared.view.View.{View};
 ghost use Rattle.peer_threads.specs.Choices.{ChosenSpeaks};
 ghost use Rattle.peer_threads.specs.Outcomes.{traffic, seen, peer_at};
 ghost use Rattle.peer_threads.specs.Workers.{LookedOrNot, PutsInLearned, says};
+ghost use Rattle.shard_core.specs.Selectors.{says_part, selecting};
+ghost use Rattle.server.specs.Wholes.{refusal_of_all};
 
 use crate::asked::Serving;
 use crate::books::open_books;
@@ -143,7 +145,9 @@ fn refused<O: Write + Drop>(writer: O, hello: &[u8], received: Tally, code: u8) 
 
 /// The number of the refusal of a peer that speaks of another set, of none, or of a part of its items: over standard
 /// input and output all of a set is spoken of.
-fn refusal_of(set: SetName<'_>, came: &[u8]) -> Option<u8> {
+fn refusal_of(set: SetName<'_>, came: &[u8]) -> Option<u8>
+    ensures { result ≡ refusal_of_all (says_part came.now) (selecting set.entry.name.now set.entry.bits came.now) }
+{
     let is_said = matches!(set.read(came), Selecting::Selected(..));
     if is_said && says_part(came) {
         return Some(WRONG_SET);

@@ -1,0 +1,9 @@
+-- No file, no items.
+use Rattle.std.proofs.Common.{subst, sym}
+use Rattle.loading.specs.Cutting.{IsCutTo}
+use Rattle.loading.proofs.CutSets.{cut_none}
+use Rattle.loading.proofs.loading.first_set.Goals as goal
+
+pub returns-in_default-clause-cut : goal.returns-in_default-clause-cut
+returns-in_default-clause-cut g c =
+    subst (IsCutTo c.args.sources.kept.now) (sym c.new.ensures.items) (cut_none c.args.sources.kept.now)
