@@ -8,14 +8,15 @@
 --                                what calls make of a session
 --     ready_of, due_of, state_in, bound_of, sent_by, learned_in
 --                                what is told of it
-use Rattle.std.specs.Prelude.{◌≡◌, ℕ, ◌+◌, true, false, List, [], length, take}
+use Rattle.std.specs.Prelude.{◌≡◌, ℕ, true, false, List, [], length, take}
 use Rattle.definitions.specs.Fingerprints.{Summary, Lanes, Counted, two_lanes, counted_lanes}
-use Rattle.definitions.specs.Ranks.{rank_by}
 use Rattle.definitions.specs.Talks.{Knowledge}
 use Rattle.definitions.specs.Ends.{is_live}
 use Rattle.definitions.specs.Engines.{Speaker, initiating, responding}
 use Rattle.definitions.specs.Wire.{Profile, two_lane_profile, counted_profile}
 use Rattle.session_core.specs.Sessions.{SessionState, Begins, Pushes, Takes, Knows, due, finished}
+use Rattle.definitions.specs.Worlds as worlds
+use Rattle.ends_core.specs.Roles as roles
 use Rattle.ends_core.specs.Sides.{peer_of}
 use Rattle.session_core.specs.declared.state.State.{State}
 use Rattle.rangesync_c.specs.SetStates.{VersionState}
@@ -113,11 +114,15 @@ state_in (any.Second c) = c.talk.state
 state_in (any.FirstCounted c) = c.talk.state
 state_in (any.SecondCounted c) = c.talk.state
 
+abbrev most_of : {F : Type 0} → worlds.Side → Summary F → SessionState F → ℕ
+most_of side S c = roles.bound_of side S.may_cut c.talk.held.end.peer.table c.talk.held.steps
+    (length c.talk.held.end.peer.items)
+
 abbrev pub bound_of : AnySession → ℕ
-bound_of (any.First c) = rank_by c.talk.held.steps (length c.talk.held.end.peer.items) + 2
-bound_of (any.Second c) = rank_by c.talk.held.steps (length c.talk.held.end.peer.items) + 1
-bound_of (any.FirstCounted c) = rank_by c.talk.held.steps (length c.talk.held.end.peer.items) + 2
-bound_of (any.SecondCounted c) = rank_by c.talk.held.steps (length c.talk.held.end.peer.items) + 1
+bound_of (any.First c) = most_of worlds.Initiator two_lanes c
+bound_of (any.Second c) = most_of worlds.Responder two_lanes c
+bound_of (any.FirstCounted c) = most_of worlds.Initiator counted_lanes c
+bound_of (any.SecondCounted c) = most_of worlds.Responder counted_lanes c
 
 abbrev pub sent_by : AnySession → ℕ
 sent_by (any.First c) = c.talk.held.end.sent
