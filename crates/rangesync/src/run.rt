@@ -1,12 +1,12 @@
 //! The program over any runtime, reader and writers.
 
-ghost use Rattle.std.specs.Prelude.{◌≡◌, ◌≤◌, ◌⊎◌, IfOk, IfSome, IfNone, None, map};
+ghost use Rattle.std.specs.Prelude.{◌≡◌, ◌≤◌, ◌⊎◌, Ok, IfOk, IfErr, IfSome, IfNone, None, map};
 ghost use Rattle.settings_core.specs.Calls.{WordsAskFor};
 ghost use Rattle.settings_core.specs.Spans.{AreInSpan};
 ghost use Rattle.settings_core.specs.declared.commands.Call.{Call as Asked};
 ghost use Rattle.printing_core.specs.FaultsOf.{status_of};
 ghost use Rattle.rangesync.specs.Done.{IsChecking, IsDone};
-ghost use Rattle.rangesync.specs.Ranges.{IsFloorNow};
+ghost use Rattle.rangesync.specs.Ranges.{IsFloorNow, forgotten_asked, range_asked};
 
 use crate::addresses::{Addresses, addresses_of, at_addresses, lacks_door};
 use crate::answering::answer_for;
@@ -24,7 +24,7 @@ use printing_core::{
     tell_part_flaw, tell_shard_flaw, tell_stdio_flaw, tell_why, tell_words,
 };
 use server::{Loops, Outputs, serve_as_asked};
-use settings_core::{Call, Command, FloorRule, read_words};
+use settings_core::{Call, Command, FloorRule, Sharding, read_words};
 use shard_core::Floor;
 use std::alloc::{AllocError, Global};
 use std::convert::AsStr;
@@ -148,6 +148,40 @@ fn kept_of<R: Clock>(rt: &R, part: Option<Range>, forgets: FloorRule) -> Floor
     }
 }
 
+/// Of what a command speaks.
+#[derive(Clone, Copy)]
+struct Meant {
+    sharding: Option<Sharding>,
+    part: Option<Range>,
+    forgets: FloorRule,
+}
+
+/// Of which shards a command speaks, of which part of their items, and what it forgets. Else the status, once it is told
+/// which words are not fit.
+fn meant_by<E: Write>(err: &mut E, command: Command<'_>) -> Result<Meant, u8>
+    requires { AreInSpan command }
+    ensures part { IfOk result (λ meant. range_asked command.entry ≡ Ok meant.part) }
+    ensures forgets { IfOk result (λ meant. forgotten_asked command.entry ≡ Ok meant.forgets) }
+    ensures status { IfErr result (λ status. status ≡ 2) }
+{
+    let sharding = match shards_of(command) {
+        Ok(sharding) => sharding,
+        Err(flaw) => return Err(tell_shard_flaw(&mut *err, flaw)),
+    };
+    let part = match range_of(command) {
+        Ok(part) => part,
+        Err(flaw) => return Err(tell_part_flaw(&mut *err, flaw)),
+    };
+    match forgets_of(command) {
+        Ok(forgets) => Ok(Meant {
+            sharding,
+            part,
+            forgets,
+        }),
+        Err(flaw) => Err(tell_floor_flaw(&mut *err, flaw)),
+    }
+}
+
 /// Does what the words ask for, which can be done together, and gives the status.
 fn run_at<'a, R, I: Read + Drop, O: Write + Drop, E: Write + Drop + Send>(
     rt: &'a R,
@@ -200,18 +234,15 @@ where
     if let Some(status) = tell_flaw(&mut err, command, input.is_terminal) {
         return status;
     }
-    let sharding = match shards_of(command) {
-        Ok(sharding) => sharding,
-        Err(flaw) => return tell_shard_flaw(err, flaw),
+    let meant = match meant_by(&mut err, command) {
+        Ok(meant) => meant,
+        Err(status) => return status,
     };
-    let part = match range_of(command) {
-        Ok(part) => part,
-        Err(flaw) => return tell_part_flaw(err, flaw),
-    };
-    let forgets = match forgets_of(command) {
-        Ok(forgets) => forgets,
-        Err(flaw) => return tell_floor_flaw(err, flaw),
-    };
+    let Meant {
+        sharding,
+        part,
+        forgets,
+    } = meant;
     let places = match places_of(rt.alloc(), command, usual) {
         Ok(places) => places,
         Err(refused) => return tell(err, Fault::from(refused)),

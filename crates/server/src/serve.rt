@@ -1,6 +1,6 @@
 //! Sessions with those who connect.
 
-ghost use Rattle.std.specs.Prelude.{◌≡◌};
+ghost use Rattle.std.specs.Prelude.{◌≡◌, IfOk};
 ghost use Rattle.std.specs.Arc.{arc_value};
 ghost use Rattle.settings_core.specs.Spans.{IsWorkerCount};
 ghost use Rattle.loading.specs.Sharded.{HaveCap};
@@ -405,6 +405,46 @@ fn serve_over<'b, R: Files<File = File> + Loops, E: Write + Drop + Send, L: Writ
     work_tended(rt, &common, team, doors, service, log, answered, tend)
 }
 
+/// What the threads of a server share, before they begin.
+fn state_of<'p, R: Loops>(
+    rt: &R,
+    accepted: Accepted,
+    serving: Serving<'p>,
+) -> Result<State<'p>, AllocError>
+    ensures { IfOk result (λ state. arc_value state.accepted ≡ accepted) }
+{
+    let alloc = rt.alloc();
+    let accepted = Arc::new(alloc, accepted)?;
+    let partners = partners_of(rt, alloc, serving.calling)?;
+    let places = capacity(serving.limits.peers, partners.threads());
+    Ok(State {
+        accepted,
+        sessions: Mutex::new(SessionTable::new(alloc, places)?),
+        news: News::new(),
+        board: Board::new(alloc)?,
+        partners,
+    })
+}
+
+/// Prints what was counted. Then the file of the door is removed: who stopped the server sees by this that all is
+/// written. Else 90 or `io write`.
+fn print_served<R: Files + Loops, O: Write + Drop>(
+    rt: &R,
+    sessions: Mutex<SessionTable>,
+    items: usize,
+    out: O,
+    door: Option<&Door<'_, R>>,
+) -> Result<(), Fault> {
+    let totals = sessions.into_inner().totals();
+    let text = served_text(rt.alloc(), totals, items)?;
+    let printed = write_output(&mut Watched::new(out), text.as_bytes());
+    if let Some(door) = door {
+        door.remove_file(rt);
+    }
+    printed?;
+    Ok(())
+}
+
 /// Serves sessions until there are no more connections, and prints what was counted. What is asked for of each session
 /// goes to its files; what cannot be written waits, and is tried again at the next line and each second. Standard error
 /// is told when that begins and when it goes on, and at the end how many learned items were dropped, if any were.
@@ -434,21 +474,16 @@ pub fn serve<'a, R: Files<File = File> + Loops, O: Write + Drop, E: Write + Drop
     } = loaded;
     let cap = accepted.cap() as usize;
     let beginning = Beginning::now(rt, &serving, &set);
-    let accepted = Arc::new(alloc, accepted)?;
+    let state = state_of(rt, accepted, serving)?;
     let first = set.first();
-    let parts = parts_of(alloc, &accepted, serving.front, first, set.into_logs())?;
+    let parts = parts_of(
+        alloc,
+        &state.accepted,
+        serving.front,
+        first,
+        set.into_logs(),
+    )?;
     let seats = parts.shared();
-    let partners = partners_of(rt, alloc, serving.calling)?;
-    let state = State {
-        accepted,
-        sessions: Mutex::new(SessionTable::new(
-            alloc,
-            capacity(serving.limits.peers, partners.threads()),
-        )?),
-        news: News::new(),
-        board: Board::new(alloc)?,
-        partners,
-    };
     let books = open_books(rt, serving.paths, kept, err)?;
     let doors = open_doors(rt, serving, beginning, &mut out, err)?;
     let door = open_announced(rt, serving, &doors, &mut out, err)?;
@@ -475,14 +510,7 @@ pub fn serve<'a, R: Files<File = File> + Loops, O: Write + Drop, E: Write + Drop
     let closed = reporter.close();
     tell_dropped(err, closed.dropped);
     let State { sessions, .. } = state;
-    let totals = sessions.into_inner().totals();
-    let text = served_text(alloc, totals, items)?;
-    let printed = write_output(&mut Watched::new(out), text.as_bytes());
-    // Who stopped the server sees by this that all is written.
-    if let Some(door) = &door {
-        door.remove_file(rt);
-    }
-    printed?;
+    print_served(rt, sessions, items, out, door.as_ref())?;
     match ending(report, closed) {
         Ok(()) => Ok(()),
         Err(fault) => Err(Refusal::of_serving(fault)),
