@@ -4,7 +4,7 @@ ghost use Rattle.std.specs.Prelude.{◌≡◌, ◌<◌, ◌≤◌, ◌^◌, ◌-
 ghost use Rattle.shard_core.specs.Shards.{max_bits};
 ghost use Rattle.shard_core.specs.Splits.{held, HasRoom};
 ghost use Rattle.shard_core.specs.Spans.{AreKept};
-ghost use Rattle.loading.specs.Cutting.{AreCutBy, AreCutTo};
+ghost use Rattle.loading.specs.Cutting.{AreCutBy, AreCutTo, AreKeptBy};
 ghost use Rattle.loading.specs.Sharded.{contents};
 
 use crate::disk::Opened;
@@ -60,8 +60,7 @@ impl Keeping {
     fn kept_of(&self, shards: Vec<Vec<Item>>) -> Result<Vec<Vec<Item>>, LoadFault>
         requires { AreKept self.now.options.bits self.now.options.first self.now.options.last (2 ^ 64 - 1)
             (held shards.items) }
-        ensures kept { IfOk result (λ v. AreKept self.now.options.bits self.now.options.first self.now.options.last
-            self.now.options.cap (held v.items)) }
+        ensures kept { IfOk result (λ v. AreKeptBy self.now.options (held v.items)) }
         ensures cut { IfOk result (λ v. AreCutBy self.now.floor self.now.options (held v.items)) }
     {
         let kept = shards_within(shards, &self.floor);
@@ -98,7 +97,7 @@ fn file_shards<R: Files<File = File> + Clock + AllocGlobal + Threads + Sync, E: 
 ) -> Result<Vec<Vec<Item>>, LoadFault>
     requires low { options.bits ≤ max_bits }
     requires span { (options.first ≤ options.last) × (options.last < 2 ^ options.bits) }
-    ensures { IfOk result (λ v. AreKept options.bits options.first options.last options.cap (held v.items)) }
+    ensures { IfOk result (λ v. AreKeptBy options (held v.items)) }
 {
     let rt = screen.rt();
     match fs::open(rt, path) {
@@ -119,7 +118,7 @@ fn input_shards<R: Clock + AllocGlobal + Threads + Sync, I: Read + Drop, E: Writ
 ) -> Result<Vec<Vec<Item>>, LoadFault>
     requires low { options.bits ≤ max_bits }
     requires span { (options.first ≤ options.last) × (options.last < 2 ^ options.bits) }
-    ensures { IfOk result (λ v. AreKept options.bits options.first options.last options.cap (held v.items)) }
+    ensures { IfOk result (λ v. AreKeptBy options (held v.items)) }
 {
     let rt = screen.rt();
     let reader = Shown::new(screen, reader, None);
@@ -140,8 +139,7 @@ fn kept_shards<
     requires low { keeping.now.options.bits ≤ max_bits }
     requires span { (keeping.now.options.first ≤ keeping.now.options.last)
         × (keeping.now.options.last < 2 ^ keeping.now.options.bits) }
-    ensures kept { IfOk result (λ v. AreKept keeping.now.options.bits keeping.now.options.first
-        keeping.now.options.last keeping.now.options.cap (held v.items)) }
+    ensures kept { IfOk result (λ v. AreKeptBy keeping.now.options (held v.items)) }
     ensures cut { IfOk result (λ v. AreCutBy keeping.now.floor keeping.now.options (held v.items)) }
 {
     let options = keeping.reading();
@@ -168,8 +166,7 @@ fn item_shards<
     requires low { keeping.now.options.bits ≤ max_bits }
     requires span { (keeping.now.options.first ≤ keeping.now.options.last)
         × (keeping.now.options.last < 2 ^ keeping.now.options.bits) }
-    ensures kept { IfOk result (λ v. AreKept keeping.now.options.bits keeping.now.options.first
-        keeping.now.options.last keeping.now.options.cap (held v.items)) }
+    ensures kept { IfOk result (λ v. AreKeptBy keeping.now.options (held v.items)) }
     ensures cut { IfOk result (λ v. AreCutBy keeping.now.floor keeping.now.options (held v.items)) }
 {
     let alloc = screen.rt().alloc();
@@ -193,7 +190,7 @@ fn reread_shards<R: Clock + AllocGlobal + Threads + Sync, E: Write>(
 ) -> Result<Vec<Vec<Item>>, LoadFault>
     requires low { options.bits ≤ max_bits }
     requires span { (options.first ≤ options.last) × (options.last < 2 ^ options.bits) }
-    ensures { IfOk result (λ v. AreKept options.bits options.first options.last options.cap (held v.items)) }
+    ensures { IfOk result (λ v. AreKeptBy options (held v.items)) }
 {
     let rt = screen.rt();
     match opened.reader() {
@@ -216,10 +213,8 @@ fn joined_shards<R: Clock + AllocGlobal + Threads + Sync, E: Write>(
     requires low { keeping.now.options.bits ≤ max_bits }
     requires span { (keeping.now.options.first ≤ keeping.now.options.last)
         × (keeping.now.options.last < 2 ^ keeping.now.options.bits) }
-    requires own { AreKept keeping.now.options.bits keeping.now.options.first keeping.now.options.last
-        keeping.now.options.cap (held shards.items) }
-    ensures kept { IfOk result (λ v. AreKept keeping.now.options.bits keeping.now.options.first
-        keeping.now.options.last keeping.now.options.cap (held v.items)) }
+    requires own { AreKeptBy keeping.now.options (held shards.items) }
+    ensures kept { IfOk result (λ v. AreKeptBy keeping.now.options (held v.items)) }
     ensures cut { AreCutBy keeping.now.floor keeping.now.options (held shards.items) →
         IfOk result (λ v. AreCutBy keeping.now.floor keeping.now.options (held v.items)) }
 {
@@ -239,10 +234,8 @@ fn with_kept<'a, R: Clock + AllocGlobal + Threads + Sync, E: Write>(
     requires low { keeping.now.options.bits ≤ max_bits }
     requires span { (keeping.now.options.first ≤ keeping.now.options.last)
         × (keeping.now.options.last < 2 ^ keeping.now.options.bits) }
-    requires own { AreKept keeping.now.options.bits keeping.now.options.first keeping.now.options.last
-        keeping.now.options.cap (held shards.items) }
-    ensures kept { IfOk result (λ v. AreKept keeping.now.options.bits keeping.now.options.first
-        keeping.now.options.last keeping.now.options.cap (held v.items)) }
+    requires own { AreKeptBy keeping.now.options (held shards.items) }
+    ensures kept { IfOk result (λ v. AreKeptBy keeping.now.options (held v.items)) }
     ensures cut { AreCutBy keeping.now.floor keeping.now.options (held shards.items) →
         IfOk result (λ v. AreCutBy keeping.now.floor keeping.now.options (held v.items)) }
 {
