@@ -14,7 +14,7 @@ use store_core::{FlatStore, Insertion, RangeStore, Span};
 use strategy_check::{CheckFault, Ranks, check, check_with};
 use version_log::Log;
 use wire_core::{Event, Feed, Marks, Message, Part};
-use world_core::{Setup, Step, World, run};
+use world_core::{Setup, SetupFault, Step, World, run};
 
 /// The calls of a store, through the trait alone: b goes in beside c and a.
 fn calls_of_a_store<S: RangeStore>(rt: &impl Abort, alloc: Global) -> Result<(), Fail> {
@@ -139,6 +139,20 @@ fn add(rt: &impl Abort, alloc: Global, setup: &mut Setup, bytes: &[u8]) {
     let accepted = check(alloc, strategy(rt, alloc, HALVES));
     let accepted = accepted.ok().expect(rt, "accepted");
     assert!(rt; setup.add_node(alloc, accepted, &[item(rt, bytes)]).is_ok());
+}
+
+#[test]
+fn of_a_node_with_too_many_items(rt: HostRuntime) -> Result<(), Fail> {
+    let alloc = rt.alloc();
+    let accepted = check(alloc, strategy(&rt, alloc, HALVES));
+    let accepted = accepted.ok().expect(&rt, "accepted");
+    let mut setup = Setup::new(alloc);
+    let refused = setup.add_node(alloc, accepted, &letters(&rt, alloc, b"abcdefghi")?);
+    let Err((_, fault)) = refused else {
+        panic!(rt; "nine items where eight may be");
+    };
+    assert!(rt; fault == SetupFault::Full);
+    Ok(())
 }
 
 #[test]

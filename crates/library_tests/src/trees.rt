@@ -105,3 +105,28 @@ fn parts_of_a_tree(rt: HostRuntime) -> Result<(), Fail> {
     }
     Ok(())
 }
+
+/// How many comparisons the fingerprint of the items between two bounds takes.
+fn comparisons(rt: &impl Abort, tree: &Tree, lower: Lower, upper: Upper) -> usize {
+    let range = Range::new(lower, upper).ok().expect(rt, "a range");
+    let (sum, compared) = tree.sum_counted(&range);
+    assert!(rt; sum == tree.sum(&range));
+    assert!(rt; compared == tree.count_and_sum_counted(&range).2);
+    compared
+}
+
+// Those of both bounds together. A start and an end of everything take none.
+#[test]
+fn comparisons_of_both_bounds_count(rt: HostRuntime) -> Result<(), Fail> {
+    let alloc = rt.alloc();
+    let tree = Tree::from_items(alloc, first(&rt, alloc, 2_000)?)?;
+    let (from, to) = (item(&rt, 300), item(&rt, 1_500));
+    let whole = Range::whole();
+    let lower = comparisons(&rt, &tree, Lower::from(from), *whole.upper());
+    let upper = comparisons(&rt, &tree, *whole.lower(), Upper::Before(to));
+    let both = comparisons(&rt, &tree, Lower::from(from), Upper::Before(to));
+    assert!(rt; lower > 0 && upper > 0);
+    assert!(rt; both == lower + upper);
+    assert!(rt; comparisons(&rt, &tree, *whole.lower(), *whole.upper()) == 0);
+    Ok(())
+}

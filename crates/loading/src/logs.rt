@@ -77,6 +77,7 @@ pub fn logs_by<R: Threads + Sync>(
     halvings: u32,
 ) -> Result<Vec<Log<Tree>>, AllocError>
     requires sets { AreSets opening.cap (held lists.items) }
+    requires few { halvings ≤ 2 }
     ensures { IfOk result (λ v. v.items ≡ opened_all opening.cap (held lists.items)) }
 {
     if halvings == 0 || lists.len() < 2 {
@@ -87,11 +88,11 @@ pub fn logs_by<R: Threads + Sync>(
     let (low, high) = join(
         rt,
         move || -> Result<Vec<Log<Tree>>, AllocError>
-            requires { IsSync R.row × AreSets opening.cap (held front.items) }
+            requires { IsSync R.row × AreSets opening.cap (held front.items) × (less ≤ 2) }
             ensures { IfOk result (λ v. v.items ≡ opened_all opening.cap (held front.items)) }
         { logs_by(rt, alloc, opening, front, less) },
         move || -> Result<Vec<Log<Tree>>, AllocError>
-            requires { IsSync R.row × AreSets opening.cap (held back.items) }
+            requires { IsSync R.row × AreSets opening.cap (held back.items) × (less ≤ 2) }
             ensures { IfOk result (λ v. v.items ≡ opened_all opening.cap (held back.items)) }
         { logs_by(rt, alloc, opening, back, less) },
     );

@@ -1,9 +1,13 @@
 //! Counting what goes over a connection: bytes, and by their frames the messages and parts.
 
+ghost use Rattle.std.specs.Io.{ReadsAtMost, WritesAtMost};
+ghost use Rattle.std.specs.Io.KnownBytes.{ReadConsumes, WriteAppends, Keeps};
+
 use digest_core::{Counted, Fingerprint, Summary};
 use printing_core::Tally;
 use std::io;
 use std::io::{Read, Write};
+use std::marker::Model;
 
 /// Where in the bytes of one side a byte stands.
 #[derive(Clone, Copy, Debug, PartialEq, Eq)]
@@ -108,6 +112,12 @@ pub struct Metered<T> {
     meter: Meter,
 }
 
+impl<T> Model for Metered<T> {
+    ghost Value = { T };
+
+    ghost view = { λ m. m.inner };
+}
+
 impl<T> Metered<T> {
     /// Nothing went through so far.
     pub fn new(inner: T) -> Metered<T> {
@@ -136,21 +146,37 @@ impl<T> Metered<T> {
 }
 
 impl<R: Read> Read for Metered<R> {
-    fn read(&mut self, buf: &mut [u8]) -> io::Result<usize> {
-        let count = self.inner.read(buf)?;
-        self.meter.see(&buf[..count]);
-        Ok(count)
+    ghost remaining = { λ inner. R.remaining inner };
+
+    fn read(&mut self, buf: &mut [u8]) -> io::Result<usize>
+        ensures bound { ReadsAtMost result buf.new }
+        ensures bytes { ReadConsumes (R.remaining self.old) (R.remaining self.new) result buf.new }
+    {
+        let result = self.inner.read(buf);
+        if let Ok(count) = &result {
+            self.meter.see(&buf[..*count]);
+        }
+        result
     }
 }
 
 impl<W: Write> Write for Metered<W> {
-    fn write(&mut self, buf: &[u8]) -> io::Result<usize> {
-        let count = self.inner.write(buf)?;
-        self.meter.see(&buf[..count]);
-        Ok(count)
+    ghost contents = { λ inner. W.contents inner };
+
+    fn write(&mut self, buf: &[u8]) -> io::Result<usize>
+        ensures bound { WritesAtMost result buf.now }
+        ensures bytes { WriteAppends (W.contents self.old) (W.contents self.new) result buf.now }
+    {
+        let result = self.inner.write(buf);
+        if let Ok(count) = &result {
+            self.meter.see(&buf[..*count]);
+        }
+        result
     }
 
-    fn flush(&mut self) -> io::Result<()> {
+    fn flush(&mut self) -> io::Result<()>
+        ensures bytes { Keeps (W.contents self.old) (W.contents self.new) }
+    {
         self.inner.flush()
     }
 }
