@@ -31,6 +31,8 @@ export interface Table {
     rounds: number;
     /** `items` if it is left out. */
     bounds?: "items" | "short";
+    /** `sum` if it is left out. */
+    opening?: "sum" | "split";
     row: Row[];
 }
 
@@ -39,9 +41,9 @@ export type ShippedName = "all-round" | "few-bytes" | "few-rounds" | "newest-las
 /** An accepted strategy. */
 export class Strategy {
     private constructor();
-    /** The strategy of a text in TOML. Throws Refused 29 to 38. */
+    /** The strategy of a text in TOML. Throws Refused 28 to 38. */
     static parse(text: string | Uint8Array): Strategy;
-    /** The strategy of an object. Throws Refused 29 and 31 to 38, and TypeError where it is no object. */
+    /** The strategy of an object. Throws Refused 28, 29 and 31 to 38, and TypeError where it is no object. */
     static from(table: Table): Strategy;
     /** A shipped strategy, `all-round` if none is named. Throws RangeError for another name. */
     static named(name?: ShippedName): Strategy;
