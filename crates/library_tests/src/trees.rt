@@ -126,7 +126,7 @@ fn comparisons_of_both_bounds_count(rt: HostRuntime) -> Result<(), Fail> {
     let upper = comparisons(&rt, &tree, *whole.lower(), Upper::Before(to));
     let both = comparisons(&rt, &tree, Lower::from(from), Upper::Before(to));
     assert!(rt; lower > 0 && upper > 0);
-    assert!(rt; both == lower + upper);
+    assert!(rt; lower.checked_add(upper) == Some(both));
     assert!(rt; comparisons(&rt, &tree, *whole.lower(), *whole.upper()) == 0);
     Ok(())
 }
