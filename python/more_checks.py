@@ -228,7 +228,7 @@ class Refusals(unittest.TestCase):
     def test_causes(self) -> None:
         """Each number that has a name has a cause, which is one sentence."""
         numbers = [number for number in range(256) if Refused(number).name]
-        self.assertEqual(len(numbers), 55)
+        self.assertEqual(len(numbers), 56)
         for number in numbers:
             self.assertRegex(Refused(number).cause, r"^[a-zT][^.]*[^.]$")
         self.assertEqual((Refused(200).name, Refused(200, True).cause), ("", ""))
