@@ -3,7 +3,7 @@
 ghost use Rattle.std.specs.Prelude.{◌≡◌, ◌≤◌};
 ghost use Rattle.std.specs.Arc.{arc_value};
 
-use digest_core::{Counted, Fingerprint, Summary};
+use digest_core::{Counted, Fingerprint, WireSummary};
 use io_core::{Watched, write_output};
 use item_core::Range;
 use item_files::WireProfile;
@@ -45,7 +45,7 @@ pub struct Talk<'a> {
 }
 
 /// Speaks first in the profile of the summary, over this reader and this writer. What comes of it, and what it cost.
-fn dial<R: Wait + Clock, I: Read + Drop, O: Write + Drop, F: Summary>(
+fn dial<R: Wait + Clock, I: Read + Drop, O: Write + Drop, F: WireSummary>(
     rt: &R,
     alloc: Global,
     shared: &Shared<'_, Tree, OpenGate>,

@@ -10,3 +10,4 @@ mod Runs
 mod Parts
 mod Hearings
 mod Accounts
+mod Compact

@@ -13,7 +13,8 @@ pub use Rattle.definitions.specs.Faults.{FaultyFrame, FaultyItem, FaultyItems, F
 pub use Rattle.definitions.specs.Faults.{FaultyRange, FaultyUpper, IsBodyLength, IsCount, IsItemLength, IsPadded}
 pub use Rattle.definitions.specs.Faults.{IsPartial, NoItem, NoLower, NoUpper, Stands, Stops, Trails, body_fault}
 pub use Rattle.definitions.specs.Faults.{items_fault, rises_from}
-pub use Rattle.definitions.specs.Fingerprints.{IsExact, Lanes, Summary, counted_lanes, same_lanes, two_lanes}
+pub use Rattle.definitions.specs.Fingerprints.{IsExact, Lanes, Summary, compact_prints, counted_lanes, same_lanes}
+pub use Rattle.definitions.specs.Fingerprints.{two_lanes}
 pub use Rattle.definitions.specs.Histories.{Already, Full, History, Insertion, New, content, history_after, insertion}
 pub use Rattle.definitions.specs.Histories.{items_of, version}
 pub use Rattle.definitions.specs.Items.{Apart, IsBytes, IsItem, IsLower, IsRange, IsUpper, Item, Range, Rises}
@@ -62,7 +63,7 @@ pub use Rattle.definitions.specs.Theorems.{ResponderLearns, ResponderStops, Sess
 pub use Rattle.definitions.specs.Theorems.{deliveries, inserts, lies_open, opened, rank}
 pub use Rattle.definitions.specs.Wire.{AreItemsOf, Came, Counts, Ended, Event, Failed, Input, IsMessage, IsPart}
 pub use Rattle.definitions.specs.Wire.{IsProfile, One_message, Profile, Says, Spells, Stream, body, count_text}
-pub use Rattle.definitions.specs.Wire.{counted_profile, cutting_profile, end_text, event_text, fault_text, frame}
+pub use Rattle.definitions.specs.Wire.{compact_profile, counted_profile, end_text, event_text, fault_text, frame}
 pub use Rattle.definitions.specs.Wire.{greatest_kind}
 pub use Rattle.definitions.specs.Wire.{items_text, lanes_read, lanes_text, mark_byte, mark_bytes, mark_bytes_for}
 pub use Rattle.definitions.specs.Wire.{marks_text, max_body, max_parts, message_text, part_text, range_text}

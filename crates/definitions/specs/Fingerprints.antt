@@ -4,10 +4,11 @@
 --     Lanes, IsLanes f, two_lanes    the two-lane sum over SHA-256
 --     join_lanes f g             the fingerprint of two sets together
 --     Counted, counted_lanes     the same, with the count of items beside it
---     cutting_lanes              the same, of sessions whose first message may cut
+--     lanes_text f, counted_text f   the bytes of either, 32 and 36
+--     Print, print_of f, compact_prints   the first 12 bytes of the digest of those 36
 use Rattle.std.specs.Prelude.{◌≡◌, ℕ, ◌+◌, ◌%◌, ◌<◌, ◌^◌, Bool, true, false, ◌&&◌, ◌==◌, ◌↔◌, List, length, take, drop}
-use Rattle.std.specs.Prelude.{IsTrue, sum_by}
-use Rattle.std.specs.Int.{w128, from_be_bytes}
+use Rattle.std.specs.Prelude.{◌++◌, IsTrue, bytes_eq, sum_by}
+use Rattle.std.specs.Int.{w32, w128, from_be_bytes, to_be_bytes}
 use Rattle.sha2.specs.Sha256.{sha256}
 use Rattle.definitions.specs.Items.{Item}
 
@@ -65,6 +66,22 @@ counted_lanes = record {
   may_cut = false;
 }
 
--- the same, of sessions whose first message may cut: that of profile 4
-abbrev pub cutting_lanes : Summary Counted
-cutting_lanes = record counted_lanes { may_cut = true }
+-- the 32 bytes of two lanes, each with its highest byte first
+abbrev pub lanes_text : Lanes → List ℕ
+lanes_text f = to_be_bytes w128 f.first ++ to_be_bytes w128 f.second
+
+-- the 36 bytes of a count and two lanes
+abbrev pub counted_text : Counted → List ℕ
+counted_text f = to_be_bytes w32 f.count ++ lanes_text f.lanes
+
+-- the fingerprint of the compact profile: 12 bytes
+abbrev pub Print : Type 0
+Print = List ℕ
+
+-- the first 12 bytes of the digest of the 36
+abbrev pub print_of : Counted → Print
+print_of f = take 12 (sha256 (counted_text f))
+
+-- two are equal if their bytes are; the first message of a session may cut
+abbrev pub compact_prints : Summary Print
+compact_prints = record { of = λ A. print_of (counted_lanes.of A); same = bytes_eq; may_cut = true }

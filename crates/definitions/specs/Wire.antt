@@ -1,5 +1,5 @@
 -- How messages are spelled in bytes.
---     Profile F, two_lane_profile, counted_profile, cutting_profile      what differs between profiles
+--     Profile F, two_lane_profile, counted_profile, compact_profile      what differs between profiles
 --     part_text P p, message_text P M, session_text P Ms, fault_text code      the one spelling
 --     IsPart P p, IsMessage P M, Spells P M bytes       what has a spelling
 --     Event F, event_text P e                           what a frame's body says: a part, the end of a message or a
@@ -14,7 +14,8 @@ use Rattle.std.specs.List.{AllByRecursion, range_with_len}
 use Rattle.std.specs.Int.{w32, w128, to_be_bytes, from_be_bytes}
 use Rattle.definitions.specs.Items.{IsBytes, Item, IsItem, Range, IsRange, contains}
 use Rattle.definitions.specs.Sets.{IsSet}
-use Rattle.definitions.specs.Fingerprints.{Lanes, Counted}
+use Rattle.definitions.specs.Fingerprints.{Lanes, Counted, Print, counted_text}
+pub use Rattle.definitions.specs.Fingerprints.{lanes_text}
 use Rattle.definitions.specs.Messages.{Part, Sum, Listing, Answer, Message}
 
 -- the first four bytes of each side, and how a fingerprint is spelled
@@ -34,9 +35,6 @@ pub record IsProfile {F : Type 0} (P : Profile F) : Type 0 where
   pub small : P.size ≤ 1024
   pub back : (bytes : List ℕ) → IsBytes bytes → length bytes ≡ P.size → P.text (P.read bytes) ≡ bytes
 
-abbrev pub lanes_text : Lanes → List ℕ
-lanes_text f = to_be_bytes w128 f.first ++ to_be_bytes w128 f.second
-
 abbrev pub lanes_read : List ℕ → Lanes
 lanes_read bytes = record { first = from_be_bytes w128 (take 16 bytes); second = from_be_bytes w128 (drop 16 bytes) }
 
@@ -49,13 +47,13 @@ abbrev pub counted_profile : Profile Counted
 counted_profile = record {
   hello = 0x52 ∷ 0x52 ∷ 0x53 ∷ 0x32 ∷ [];
   size = 36;
-  text = λ f. to_be_bytes w32 f.count ++ lanes_text f.lanes;
+  text = counted_text;
   read = λ bytes. record { count = from_be_bytes w32 (take 4 bytes); lanes = lanes_read (drop 4 bytes) };
 }
 
--- profile 4, whose sessions may begin with a cut: the frames of profile 2
-abbrev pub cutting_profile : Profile Counted
-cutting_profile = record counted_profile { hello = 0x52 ∷ 0x52 ∷ 0x53 ∷ 0x34 ∷ [] }
+-- the compact profile
+abbrev pub compact_profile : Profile Print
+compact_profile = record { hello = 0x52 ∷ 0x52 ∷ 0x53 ∷ 0x34 ∷ []; size = 12; text = λ f. f; read = λ bytes. bytes }
 
 -- ---- fields
 

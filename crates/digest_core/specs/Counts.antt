@@ -6,8 +6,8 @@ use Rattle.std.proofs.lemmas.List.{length-append}
 use Rattle.std.proofs.lemmas.Bool.{eqb-true, eq-eqb, and_parts, and_from}
 use Rattle.definitions.specs.Items.{Item}
 use Rattle.definitions.specs.Fingerprints.{IsLanes, IsExact, Counted, join_lanes, same_lanes, counted_lanes}
-use Rattle.definitions.specs.Wire.{IsProfile, IsFingerprint, counted_profile, cutting_profile}
-use Rattle.laws.proofs.Made.{counted_real, cutting_real}
+use Rattle.definitions.specs.Wire.{IsProfile, IsFingerprint, counted_profile}
+use Rattle.laws.proofs.Made.{counted_real}
 use Rattle.digest_core.specs.Laws as lanes
 
 pub record IsCounted (f : Counted) : Type 0 where
@@ -64,21 +64,11 @@ exact f g = (same-eq f g, eq-same f g)
 pub real : IsProfile counted_profile
 real = counted_real
 
-pub real_cutting : IsProfile cutting_profile
-real_cutting = cutting_real
-
-pub fixed : (f : Counted) → length (counted_profile.text f) ≡ 36
-fixed f = search rules
+pub fixed : (f : Counted) → IsCounted f → length (counted_profile.text f) ≡ 36
+fixed f value = search rules
 
 pub spelled : (f : Counted) → IsCounted f → IsFingerprint counted_profile f
 spelled f value =
-    let fits = value.count_fits in
-    let first = value.lanes_fit.first_fits in
-    let second = value.lanes_fit.second_fits in
-    search (rules, fits, first, second)
-
-pub spelled_cutting : (f : Counted) → IsCounted f → IsFingerprint cutting_profile f
-spelled_cutting f value =
     let fits = value.count_fits in
     let first = value.lanes_fit.first_fits in
     let second = value.lanes_fit.second_fits in

@@ -48,8 +48,8 @@ exact f g = search rules
 pub real : IsProfile two_lane_profile
 real = two_lanes_real
 
-pub fixed : (f : Lanes) → length (two_lane_profile.text f) ≡ 32
-fixed f = search rules
+pub fixed : (f : Lanes) → IsLanes f → length (two_lane_profile.text f) ≡ 32
+fixed f value = search rules
 
 pub spelled : (f : Lanes) → IsLanes f → IsFingerprint two_lane_profile f
 spelled f value =

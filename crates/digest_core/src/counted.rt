@@ -1,9 +1,9 @@
 ghost use Rattle.std.specs.Prelude.{◌≡◌, length};
 ghost use Rattle.std.specs.Int.{w32, from_be_bytes};
-ghost use Rattle.definitions.specs.Wire.{counted_profile};
+ghost use Rattle.definitions.specs.Fingerprints.{counted_text};
 
 use crate::fingerprint::Fingerprint;
-use crate::summary::Summary;
+use crate::summary::{Summary, WireSummary};
 use item_core::Item;
 use std::alloc::AllocError;
 use std::marker::Model;
@@ -38,8 +38,8 @@ fn number(bytes: &[u8]) -> u32
 
 impl Counted {
     /// The 36 bytes that spell it: the count before the lanes.
-    fn to_bytes(self) -> [u8; 36]
-        ensures { result ≡ counted_profile.text self }
+    pub(crate) fn to_bytes(self) -> [u8; 36]
+        ensures { result ≡ counted_text self }
     {
         let mut bytes = [0u8; 36];
         bytes[..4].copy_from_slice(&self.count.to_be_bytes());
@@ -48,7 +48,7 @@ impl Counted {
     }
 }
 
-impl Summary for Counted {
+impl WireSummary for Counted {
     ghost use Rattle.definitions.specs.Fingerprints.{counted_lanes};
     ghost use Rattle.definitions.specs.Wire.{counted_profile};
     ghost use Rattle.digest_core.specs.Counts as counts;
@@ -57,21 +57,9 @@ impl Summary for Counted {
 
     ghost profile = { counted_profile };
 
-    ghost joined = { counts.join_counted };
-
     ghost is_value = { counts.IsCounted };
 
     ghost of_is_value = { counts.of_is_value };
-
-    ghost joined_is_value = { counts.joined_is_value };
-
-    ghost associates = { counts.associates };
-
-    ghost commutes = { counts.commutes };
-
-    ghost unit = { counts.unit };
-
-    ghost adds_up = { counts.adds_up };
 
     ghost exact = { counts.exact };
 
@@ -81,31 +69,10 @@ impl Summary for Counted {
 
     ghost fixed = { counts.fixed };
 
-    fn zero() -> Counted {
-        Counted {
-            count: 0,
-            lanes: Fingerprint::zero(),
-        }
-    }
-
-    fn of_item(item: &Item) -> Counted {
-        Counted {
-            count: 1,
-            lanes: Fingerprint::of_item(item),
-        }
-    }
-
     fn of_set(count: usize, lanes: Fingerprint) -> Counted {
         Counted {
             count: (count % 4_294_967_296) as u32,
             lanes,
-        }
-    }
-
-    fn join(self, other: Counted) -> Counted {
-        Counted {
-            count: self.count.wrapping_add(other.count),
-            lanes: self.lanes.join(other.lanes),
         }
     }
 
@@ -138,4 +105,41 @@ impl Summary for Counted {
     }
 
     fn known(self) {}
+}
+
+impl Summary for Counted {
+    ghost use Rattle.digest_core.specs.Counts as counts;
+
+    ghost joined = { counts.join_counted };
+
+    ghost joined_is_value = { counts.joined_is_value };
+
+    ghost associates = { counts.associates };
+
+    ghost commutes = { counts.commutes };
+
+    ghost unit = { counts.unit };
+
+    ghost adds_up = { counts.adds_up };
+
+    fn zero() -> Counted {
+        Counted {
+            count: 0,
+            lanes: Fingerprint::zero(),
+        }
+    }
+
+    fn of_item(item: &Item) -> Counted {
+        Counted {
+            count: 1,
+            lanes: Fingerprint::of_item(item),
+        }
+    }
+
+    fn join(self, other: Counted) -> Counted {
+        Counted {
+            count: self.count.wrapping_add(other.count),
+            lanes: self.lanes.join(other.lanes),
+        }
+    }
 }

@@ -5,7 +5,7 @@ ghost use Rattle.definitions.specs.Fingerprints.{join_lanes, two_lanes};
 ghost use Rattle.definitions.specs.Wire.{IsFingerprint, lanes_text, lanes_read, two_lane_profile};
 
 use crate::lane_laws::bytes_are_exact;
-use crate::summary::Summary;
+use crate::summary::{Summary, WireSummary};
 use item_core::Item;
 use sha2::{Digest, Sha256};
 use std::alloc::AllocError;
@@ -109,8 +109,8 @@ impl Fingerprint {
     }
 }
 
-impl Summary for Fingerprint {
-    ghost use Rattle.definitions.specs.Fingerprints.{IsLanes, two_lanes, join_lanes};
+impl WireSummary for Fingerprint {
+    ghost use Rattle.definitions.specs.Fingerprints.{IsLanes, two_lanes};
     ghost use Rattle.digest_core.specs.Laws as laws;
     ghost use Rattle.definitions.specs.Wire.{two_lane_profile};
 
@@ -118,21 +118,9 @@ impl Summary for Fingerprint {
 
     ghost profile = { two_lane_profile };
 
-    ghost joined = { join_lanes };
-
     ghost is_value = { IsLanes };
 
     ghost of_is_value = { laws.of_is_value };
-
-    ghost joined_is_value = { laws.joined_is_value };
-
-    ghost associates = { laws.associates };
-
-    ghost commutes = { laws.commutes };
-
-    ghost unit = { laws.unit };
-
-    ghost adds_up = { laws.adds_up };
 
     ghost exact = { laws.exact };
 
@@ -141,24 +129,6 @@ impl Summary for Fingerprint {
     ghost spelled = { laws.spelled };
 
     ghost fixed = { laws.fixed };
-
-    fn zero() -> Fingerprint {
-        Fingerprint {
-            first: 0,
-            second: 0,
-        }
-    }
-
-    fn of_item(item: &Item) -> Fingerprint {
-        Fingerprint::from_bytes(Sha256::digest(item.bytes()))
-    }
-
-    fn join(self, other: Fingerprint) -> Fingerprint {
-        Fingerprint {
-            first: self.first.wrapping_add(other.first),
-            second: self.second.wrapping_add(other.second),
-        }
-    }
 
     fn of_set(_count: usize, lanes: Fingerprint) -> Fingerprint {
         lanes
@@ -192,4 +162,39 @@ impl Summary for Fingerprint {
     }
 
     fn known(self) {}
+}
+
+impl Summary for Fingerprint {
+    ghost use Rattle.definitions.specs.Fingerprints.{join_lanes};
+    ghost use Rattle.digest_core.specs.Laws as laws;
+
+    ghost joined = { join_lanes };
+
+    ghost joined_is_value = { laws.joined_is_value };
+
+    ghost associates = { laws.associates };
+
+    ghost commutes = { laws.commutes };
+
+    ghost unit = { laws.unit };
+
+    ghost adds_up = { laws.adds_up };
+
+    fn zero() -> Fingerprint {
+        Fingerprint {
+            first: 0,
+            second: 0,
+        }
+    }
+
+    fn of_item(item: &Item) -> Fingerprint {
+        Fingerprint::from_bytes(Sha256::digest(item.bytes()))
+    }
+
+    fn join(self, other: Fingerprint) -> Fingerprint {
+        Fingerprint {
+            first: self.first.wrapping_add(other.first),
+            second: self.second.wrapping_add(other.second),
+        }
+    }
 }

@@ -2,12 +2,12 @@
 #![tactic(auto)]
 
 mod counted;
-mod cutting;
 mod fingerprint;
 pub mod lane_laws;
+mod print;
 mod summary;
 
 pub use counted::Counted;
-pub use cutting::Cutting;
 pub use fingerprint::Fingerprint;
-pub use summary::Summary;
+pub use print::Print;
+pub use summary::{Summary, WireSummary};

@@ -8,11 +8,11 @@ ghost use Rattle.definitions.specs.Strategies.{opening_counts};
 ghost use Rattle.definitions.specs.Engines.{initiating, responding};
 ghost use Rattle.ends_core.specs.Sides.{BoundLaws, KeepsBounds, peer_of};
 
-use digest_core::Summary;
+use digest_core::WireSummary;
 use strategy_check::Accepted;
 
 /// The laws by which both sides keep to their bounds.
-fn bound_laws<F: Summary>()
+fn bound_laws<F: WireSummary>()
     ensures { BoundLaws F.summary F.profile }
 {
     laws::codec::heard_are_messages::<F>();
@@ -29,7 +29,7 @@ fn bound_laws<F: Summary>()
 
 /// A side that goes by an accepted strategy sends few messages and short lists, and learns just what the messages that
 /// it takes say, whatever the bytes are that it gets.
-pub fn sides_keep_bounds<F: Summary>(accepted: &Accepted)
+pub fn sides_keep_bounds<F: WireSummary>(accepted: &Accepted)
     ensures initiator { (items : List Item) (bytes : List ℕ) → IsSet items → IsBytes bytes →
         length items ≤ accepted.now.table.cap →
         KeepsBounds F.summary F.profile (initiating F.summary (peer_of accepted.now items)) bytes

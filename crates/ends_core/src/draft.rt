@@ -18,7 +18,7 @@ use crate::replying::reply_part;
 use crate::size::known_size;
 use crate::stage::Stage;
 use crate::turn::{EndFault, Turn};
-use digest_core::Summary;
+use digest_core::WireSummary;
 use item_core::Item;
 use place_core::Place;
 use std::alloc::{AllocError, Global};
@@ -29,13 +29,13 @@ use wire_core::{Part, PartKind};
 
 /// What an end keeps of the parts of a message that has not ended, beside its place.
 #[derive(Debug, Drop)]
-pub(crate) struct Draft<F: Summary> {
+pub(crate) struct Draft<F: WireSummary> {
     opens: bool,
     reply: Reply<F>,
     learned: Learned,
 }
 
-impl<F: Summary> Model for Draft<F> {
+impl<F: WireSummary> Model for Draft<F> {
     ghost use Rattle.ends_core.specs.Drafts.{Drafted};
 
     ghost Value = { Drafted F };
@@ -44,7 +44,7 @@ impl<F: Summary> Model for Draft<F> {
 }
 
 /// Adds what was learned and goes on with a reply; or nothing, where memory runs out.
-fn add_both<F: Summary>(
+fn add_both<F: WireSummary>(
     alloc: Global,
     learned: &mut Learned,
     fresh: &Learned,
@@ -68,21 +68,24 @@ fn add_both<F: Summary>(
 }
 
 /// Whether the part wants a reply.
-pub(crate) fn is_open<F: Summary>(part: &Part<F>) -> bool
+pub(crate) fn is_open<F: WireSummary>(part: &Part<F>) -> bool
     ensures { result ≡ messages.is_open part.now }
 {
     part.kind() != PartKind::Answer
 }
 
 /// Whether another message follows one of these parts.
-fn has_open<F: Summary>(parts: &[Part<F>]) -> bool
+fn has_open<F: WireSummary>(parts: &[Part<F>]) -> bool
     ensures { result ≡ messages.has_open parts.now }
 {
     parts.iter().any(|part| is_open(part))
 }
 
 /// Where the session stands after an own message of these parts, of which the open ones are kept.
-fn stage_after_reply<F: Summary>(alloc: Global, sent: &[Part<F>]) -> Result<Stage<F>, AllocError>
+fn stage_after_reply<F: WireSummary>(
+    alloc: Global,
+    sent: &[Part<F>],
+) -> Result<Stage<F>, AllocError>
     ensures { IfOk result (λ s. (stage_of s ≡ ends.stage_after_reply sent.now)
         × (taken_of s nothing_drafted ≡ none_at (ends.stage_after_reply sent.now))) }
 {
@@ -92,7 +95,7 @@ fn stage_after_reply<F: Summary>(alloc: Global, sent: &[Part<F>]) -> Result<Stag
     Ok(Stage::Open(Place::after(alloc, sent)?))
 }
 
-impl<F: Summary> Draft<F> {
+impl<F: WireSummary> Draft<F> {
     /// Of no part.
     pub(crate) fn nothing(alloc: Global) -> Draft<F>
         ensures { result ≡ nothing_drafted }

@@ -21,7 +21,7 @@ use crate::learned::Learned;
 use crate::stage::Stage;
 use crate::taking::take_part;
 use crate::turn::{EndFault, Turn};
-use digest_core::Summary;
+use digest_core::WireSummary;
 use place_core::Place;
 use std::alloc::{AllocError, Global};
 use std::marker::Model;
@@ -33,7 +33,7 @@ use wire_core::{Message, Part};
 
 /// An end of a session: who speaks, where the session stands, what it took of a message, and what was learned.
 #[derive(Drop)]
-pub(crate) struct End<S: RangeStore, F: Summary> {
+pub(crate) struct End<S: RangeStore, F: WireSummary> {
     accepted: Arc<Accepted>,
     store: S,
     stage: Stage<F>,
@@ -42,7 +42,7 @@ pub(crate) struct End<S: RangeStore, F: Summary> {
     learned: Learned,
 }
 
-impl<S: RangeStore, F: Summary> Model for End<S, F> {
+impl<S: RangeStore, F: WireSummary> Model for End<S, F> {
     ghost use Rattle.std.specs.Arc.{arc_value};
     ghost use Rattle.definitions.specs.Ends as ends;
     ghost use Rattle.ends_core.specs.EndStates.{EndState, stage_of, taken_of};
@@ -61,7 +61,7 @@ impl<S: RangeStore, F: Summary> Model for End<S, F> {
     } };
 }
 
-impl<S: RangeStore, F: Summary> End<S, F> {
+impl<S: RangeStore, F: WireSummary> End<S, F> {
     /// An end that has received nothing, and is spoken to first.
     pub(crate) fn responding(alloc: Global, accepted: Arc<Accepted>, store: S) -> End<S, F>
         ensures { result ≡ fresh (arc_value accepted).steps (ends.responder F.summary

@@ -6,7 +6,7 @@ ghost use Rattle.definitions.specs.Items as items;
 ghost use Rattle.ends_core.specs.Learning.{told, IsAnswered};
 
 use crate::learned::Learned;
-use digest_core::Summary;
+use digest_core::WireSummary;
 use item_core::Item;
 use std::alloc::{AllocError, Global};
 use store_core::PackedItems;
@@ -35,7 +35,7 @@ fn marked_of(alloc: Global, marks: &Marks, listed: &[Item]) -> Result<PackedItem
 
 /// What a part tells. An Answer tells of this list, which it answers; a List tells what its answer does, which is the
 /// reply to it.
-pub(crate) fn learn_part<F: Summary>(
+pub(crate) fn learn_part<F: WireSummary>(
     alloc: Global,
     listed: &[Item],
     part: &Part<F>,

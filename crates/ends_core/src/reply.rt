@@ -5,21 +5,21 @@ ghost use Rattle.definitions.specs.Taking.{grown};
 ghost use Rattle.ends_core.specs.Sizes as sizes;
 
 use crate::size::with_parts;
-use digest_core::Summary;
+use digest_core::WireSummary;
 use std::alloc::{AllocError, Global};
 use std::marker::Model;
 use wire_core::{MAX_PARTS, Message, Part};
 
 /// The reply to the parts of a message that has not ended, as long as it may be sent, and what is counted for it.
 #[derive(Debug, Drop)]
-pub(crate) struct Reply<F: Summary> {
+pub(crate) struct Reply<F: WireSummary> {
     // It has too many parts, and is kept no further.
     overlong: bool,
     parts: Vec<Part<F>>,
     size: u64,
 }
 
-impl<F: Summary> Model for Reply<F> {
+impl<F: WireSummary> Model for Reply<F> {
     ghost use Rattle.std.specs.Prelude.{◌≡◌, ◌≤◌, length, Option};
     ghost use Rattle.definitions.specs.Messages.{Message};
     ghost use Rattle.definitions.specs.Wire.{max_parts};
@@ -34,7 +34,7 @@ impl<F: Summary> Model for Reply<F> {
         × (a.size ≡ reply_size (reply_kept a.overlong a.parts.items)) };
 }
 
-impl<F: Summary> Reply<F> {
+impl<F: WireSummary> Reply<F> {
     /// To no part.
     pub(crate) fn nothing(alloc: Global) -> Reply<F>
         ensures { result ≡ Some [] }

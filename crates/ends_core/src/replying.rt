@@ -16,7 +16,7 @@ ghost use Rattle.store_core.specs.Stores.{span};
 ghost use Rattle.laws.specs.Cutting.{pieces_at};
 
 use crate::cutting::{bounds_at, cut_range};
-use digest_core::{Fingerprint, Summary};
+use digest_core::{Fingerprint, WireSummary};
 use item_core::{Item, Range, is_listed};
 use std::alloc::{AllocError, Global};
 use store_core::{RangeStore, Span};
@@ -53,7 +53,7 @@ fn push_unlisted(
 }
 
 /// The answer to the list of a range.
-fn answer_to<S: RangeStore, F: Summary>(
+fn answer_to<S: RangeStore, F: WireSummary>(
     alloc: Global,
     store: &S,
     range: &Range,
@@ -74,7 +74,7 @@ fn answer_to<S: RangeStore, F: Summary>(
 }
 
 /// The list of a range whose items stand in this span.
-fn list_of<S: RangeStore, F: Summary>(
+fn list_of<S: RangeStore, F: WireSummary>(
     alloc: Global,
     store: &S,
     range: Range,
@@ -101,7 +101,7 @@ fn places_of(alloc: Global, strategy: &Strategy, n: u32) -> Result<Vec<usize>, A
 }
 
 /// The fingerprint of the items of a span.
-fn sum_at<S: RangeStore, F: Summary>(store: &S, at: Span) -> F
+fn sum_at<S: RangeStore, F: WireSummary>(store: &S, at: Span) -> F
     requires { at.to ≤ length (S.content store.now) }
     ensures { result ≡ F.summary.of (span at.from at.to (S.content store.now)) }
 {
@@ -109,7 +109,7 @@ fn sum_at<S: RangeStore, F: Summary>(store: &S, at: Span) -> F
 }
 
 /// The fingerprint of the items of a span, by those of the items before its start and before its end.
-fn sum_between<F: Summary>(at: Span, before: Fingerprint, next: Fingerprint) -> F
+fn sum_between<F: WireSummary>(at: Span, before: Fingerprint, next: Fingerprint) -> F
     ensures { (A : List items.Item) → at.from ≤ at.to → at.to ≤ length A → before ≡ two_lanes.of (take at.from A) →
         next ≡ two_lanes.of (take at.to A) → result ≡ F.summary.of (span at.from at.to A) }
 {
@@ -131,7 +131,7 @@ fn end_of(at: Span, places: &[usize], piece: usize) -> usize
 /// Appends the Sum of each range. The first has the items of the span before the first of these places, each next one
 /// those from the place where the one before it ends; the places are counted from the span's first. What stands before
 /// a place is summed once, for the piece that ends there and the one that begins there.
-fn push_sums<S: RangeStore, F: Summary>(
+fn push_sums<S: RangeStore, F: WireSummary>(
     store: &S,
     at: Span,
     places: &[usize],
@@ -170,7 +170,7 @@ fn count_at(strategy: &Strategy, at: Span) -> u32
 }
 
 /// Appends the Sums of the parts that the strategy cuts the range into, whose items stand in this span.
-fn push_cut<S: RangeStore, F: Summary>(
+fn push_cut<S: RangeStore, F: WireSummary>(
     alloc: Global,
     strategy: &Strategy,
     store: &S,
@@ -198,7 +198,7 @@ fn push_cut<S: RangeStore, F: Summary>(
 }
 
 /// Appends what is said of a range that differs, whose items stand in this span: its list, or the Sums of its parts.
-fn push_differing<S: RangeStore, F: Summary>(
+fn push_differing<S: RangeStore, F: WireSummary>(
     alloc: Global,
     strategy: &Strategy,
     store: &S,
@@ -232,7 +232,7 @@ fn span_in<S: RangeStore>(store: &S, range: &Range) -> Span
 
 /// Whether the first message of a session with n items is cut: the profile lets it, the strategy says so, and the row
 /// of n cuts.
-fn cuts_first<F: Summary>(strategy: &Strategy, n: u32) -> bool
+fn cuts_first<F: WireSummary>(strategy: &Strategy, n: u32) -> bool
     requires { n ≤ strategy.now.cap }
     ensures { result ≡ (F.summary.may_cut && is_cut strategy.now.opening && is_split (act strategy.now n)) }
 {
@@ -241,7 +241,7 @@ fn cuts_first<F: Summary>(strategy: &Strategy, n: u32) -> bool
 
 /// Appends what a session is begun with, where the items of everything stand in this span: one Sum of it, or those of
 /// the parts that the strategy cuts it into, where the profile and the strategy do.
-fn push_opening<S: RangeStore, F: Summary>(
+fn push_opening<S: RangeStore, F: WireSummary>(
     alloc: Global,
     strategy: &Strategy,
     store: &S,
@@ -265,7 +265,7 @@ fn push_opening<S: RangeStore, F: Summary>(
 }
 
 /// What a session is begun with.
-pub(crate) fn opening_parts<S: RangeStore, F: Summary>(
+pub(crate) fn opening_parts<S: RangeStore, F: WireSummary>(
     alloc: Global,
     strategy: &Strategy,
     store: &S,
@@ -282,7 +282,7 @@ pub(crate) fn opening_parts<S: RangeStore, F: Summary>(
 }
 
 /// Appends the reply to a Sum: nothing where the own fingerprint is the same.
-fn push_compared<S: RangeStore, F: Summary>(
+fn push_compared<S: RangeStore, F: WireSummary>(
     alloc: Global,
     strategy: &Strategy,
     store: &S,
@@ -303,7 +303,7 @@ fn push_compared<S: RangeStore, F: Summary>(
 }
 
 /// The reply to a part.
-pub(crate) fn reply_part<S: RangeStore, F: Summary>(
+pub(crate) fn reply_part<S: RangeStore, F: WireSummary>(
     alloc: Global,
     strategy: &Strategy,
     store: &S,

@@ -21,7 +21,7 @@ use crate::learned::Learned;
 use crate::replying::opening_parts;
 use crate::role::{Initiating, Responding, Role};
 use crate::turn::{EndFault, Turn};
-use digest_core::{Fingerprint, Summary};
+use digest_core::{Fingerprint, WireSummary};
 use place_core::Place;
 use std::alloc::{AllocError, Global};
 use std::marker::{Model, PhantomData};
@@ -33,12 +33,12 @@ use wire_core::{Message, Part};
 
 /// An end of a session: what it is, and what it has taken, said and learned.
 #[derive(Drop)]
-pub struct SessionEnd<R: Role, S: RangeStore, F: Summary = Fingerprint> {
+pub struct SessionEnd<R: Role, S: RangeStore, F: WireSummary = Fingerprint> {
     end: End<S, F>,
     role: PhantomData<R>,
 }
 
-impl<R: Role, S: RangeStore, F: Summary> Model for SessionEnd<R, S, F> {
+impl<R: Role, S: RangeStore, F: WireSummary> Model for SessionEnd<R, S, F> {
     ghost use Rattle.ends_core.specs.EndStates.{EndState};
     ghost use Rattle.ends_core.specs.Roles.{start_of};
     ghost use Rattle.ends_core.specs.Standing.{Stands};
@@ -57,7 +57,7 @@ pub type Initiator<S, F = Fingerprint> = SessionEnd<Initiating, S, F>;
 pub type Responder<S, F = Fingerprint> = SessionEnd<Responding, S, F>;
 
 /// The first message of a session: one Sum over everything, or those of the parts that it is cut into.
-fn first_message<S: RangeStore, F: Summary>(
+fn first_message<S: RangeStore, F: WireSummary>(
     alloc: Global,
     strategy: &Strategy,
     store: &S,
@@ -74,7 +74,7 @@ fn first_message<S: RangeStore, F: Summary>(
 }
 
 /// The first message, and the place after it.
-fn begin<S: RangeStore, F: Summary>(
+fn begin<S: RangeStore, F: WireSummary>(
     alloc: Global,
     strategy: &Strategy,
     store: &S,
@@ -93,7 +93,7 @@ fn begin<S: RangeStore, F: Summary>(
     Ok((place, first))
 }
 
-impl<S: RangeStore, F: Summary> SessionEnd<Initiating, S, F> {
+impl<S: RangeStore, F: WireSummary> SessionEnd<Initiating, S, F> {
     /// The end, and its first message, which is to be sent: one Sum over everything, or those of the parts that the
     /// strategy cuts it into. Where memory runs out the store is given back.
     pub fn start(
@@ -122,7 +122,7 @@ impl<S: RangeStore, F: Summary> SessionEnd<Initiating, S, F> {
     }
 }
 
-impl<S: RangeStore, F: Summary> SessionEnd<Responding, S, F> {
+impl<S: RangeStore, F: WireSummary> SessionEnd<Responding, S, F> {
     /// An end that has received nothing.
     pub fn new(alloc: Global, accepted: Arc<Accepted>, store: S) -> Responder<S, F>
         requires { length (S.content store) ≤ (arc_value accepted).table.cap }
@@ -137,7 +137,7 @@ impl<S: RangeStore, F: Summary> SessionEnd<Responding, S, F> {
     }
 }
 
-impl<R: Role, S: RangeStore, F: Summary> SessionEnd<R, S, F> {
+impl<R: Role, S: RangeStore, F: WireSummary> SessionEnd<R, S, F> {
     /// Takes the next part of a message, which may be any.
     ///
     /// Refused 20 to 25 where it is not placed: the end is spent then, and nothing is learned. Refused 26 where a

@@ -6,7 +6,7 @@ ghost use Rattle.definitions.specs.Messages.{open_parts};
 ghost use Rattle.ends_core.specs.Sizes as sizes;
 
 use crate::learned::Learned;
-use digest_core::Summary;
+use digest_core::WireSummary;
 use wire_core::{Message, Part, PartKind};
 
 /// What an item takes, whatever its length.
@@ -23,7 +23,7 @@ fn items_size(count: usize) -> u64
 }
 
 /// What is counted for a part.
-fn part_size<F: Summary>(part: &Part<F>) -> u64
+fn part_size<F: WireSummary>(part: &Part<F>) -> u64
     ensures { result ≡ sizes.part_size part.now }
 {
     let items = part.items().map_or(0, |items| items.len());
@@ -34,7 +34,7 @@ fn part_size<F: Summary>(part: &Part<F>) -> u64
 }
 
 /// The size, and that of these parts.
-pub(crate) fn with_parts<F: Summary>(size: u64, parts: &[Part<F>]) -> u64
+pub(crate) fn with_parts<F: WireSummary>(size: u64, parts: &[Part<F>]) -> u64
     ensures { result ≡ sizes.with_parts size parts.now }
 {
     let mut all = size;
@@ -45,7 +45,7 @@ pub(crate) fn with_parts<F: Summary>(size: u64, parts: &[Part<F>]) -> u64
 }
 
 /// The size, and that of the part, where it wants a reply.
-fn with_open<F: Summary>(size: u64, part: &Part<F>) -> u64
+fn with_open<F: WireSummary>(size: u64, part: &Part<F>) -> u64
     ensures { result ≡ sizes.with_parts size (if messages.is_open part.now then part.now ∷ [] else []) }
 {
     if part.kind() == PartKind::Answer {
@@ -55,7 +55,7 @@ fn with_open<F: Summary>(size: u64, part: &Part<F>) -> u64
 }
 
 /// What is counted for the open ones of these parts.
-pub fn open_size<F: Summary>(parts: &[Part<F>]) -> u64
+pub fn open_size<F: WireSummary>(parts: &[Part<F>]) -> u64
     ensures { result ≡ sizes.message_size (open_parts parts.now) }
 {
     let mut size: u64 = 0;
@@ -66,7 +66,7 @@ pub fn open_size<F: Summary>(parts: &[Part<F>]) -> u64
 }
 
 /// What is counted for messages.
-pub fn messages_size<F: Summary>(messages: &[Message<F>]) -> u64
+pub fn messages_size<F: WireSummary>(messages: &[Message<F>]) -> u64
     ensures { result ≡ sizes.messages_size messages.now }
 {
     let mut size: u64 = 0;

@@ -15,7 +15,7 @@ ghost use Rattle.place_core.specs.Placements.{due};
 
 use crate::draft::{Draft, is_open};
 use crate::turn::EndFault;
-use digest_core::Summary;
+use digest_core::WireSummary;
 use item_core::Item;
 use place_core::{Cursor, Place};
 use std::alloc::{AllocError, Global};
@@ -25,7 +25,7 @@ use wire_core::Part;
 
 /// The list that an Answer answers, which was placed from where the cursor stood. Nothing is looked for where the part
 /// is another one.
-fn answered<'a, F: Summary>(place: &'a Place<F>, before: &Cursor, part: &Part<F>) -> &'a [Item]
+fn answered<'a, F: WireSummary>(place: &'a Place<F>, before: &Cursor, part: &Part<F>) -> &'a [Item]
     ensures { messages.is_open part.now ≡ false → result.now ≡ due place.now.own before.now }
 {
     if is_open(part) {
@@ -36,7 +36,7 @@ fn answered<'a, F: Summary>(place: &'a Place<F>, before: &Cursor, part: &Part<F>
 
 /// Places a part, and adds its reply and what it tells. Where memory runs out all is as before; where the part is
 /// refused the place keeps the refusal.
-pub(crate) fn take_part<S: RangeStore, F: Summary>(
+pub(crate) fn take_part<S: RangeStore, F: WireSummary>(
     alloc: Global,
     strategy: &Strategy,
     store: &S,

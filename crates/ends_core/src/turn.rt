@@ -2,21 +2,21 @@ ghost use Rattle.std.specs.Prelude.{◌≡◌};
 ghost use Rattle.ends_core.specs.Turns.{end_fault_number, messages_in};
 ghost use Rattle.ends_core.specs.declared.turn.EndFault.TheVariants as faults;
 
-use digest_core::{Fingerprint, Summary};
+use digest_core::{Fingerprint, WireSummary};
 use place_core::PlaceFault;
 use std::alloc::AllocError;
 use wire_core::Message;
 
 /// What an end answers to a message that it takes.
 #[derive(Debug, Drop)]
-pub enum Turn<F: Summary = Fingerprint> {
+pub enum Turn<F: WireSummary = Fingerprint> {
     /// The reply, which is to be sent. Where it has no open part the session is over after it.
     Reply(Message<F>),
     /// The message received had no open part: the session is over.
     Over,
 }
 
-impl<F: Summary> Turn<F> {
+impl<F: WireSummary> Turn<F> {
     /// How many messages are sent: 1 or 0.
     pub(crate) fn messages(&self) -> u32
         ensures { result ≡ messages_in self.now }

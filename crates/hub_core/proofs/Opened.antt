@@ -67,7 +67,8 @@ module _ {F : Type 0} (S : Summary F) (W : Profile F) where
 
 pub known-counted : (P : Peer) (g : GreetingState) (b : Box (SessionState prints.Counted) Global) →
     is_counted g.came ≡ true →
-    Knows counted_lanes counted_profile (responding counted_lanes P) b.value g.came (take g.said counted_profile.hello) →
+    Knows counted_lanes counted_profile (responding counted_lanes P) b.value g.came
+    (take g.said counted_profile.hello) →
     Knowing P (phases.Counted b) g.came (told g)
 known-counted P g b is k = rw is k
 

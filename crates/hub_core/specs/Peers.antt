@@ -49,7 +49,8 @@ use Rattle.hub_core.specs.declared.phase.Phase.TheVariants as phases
 abbrev pub Knowing : Peer → Phase → List ℕ → List ℕ → Type 0
 Knowing P (phases.Greeting g) pushed taken = (pushed ≡ g.came) × (taken ≡ told g)
 Knowing P (phases.Plain c) pushed taken = Knows two_lanes two_lane_profile (responding two_lanes P) c.value pushed taken
-Knowing P (phases.Counted c) pushed taken = Knows counted_lanes counted_profile (responding counted_lanes P) c.value pushed taken
+Knowing P (phases.Counted c) pushed taken =
+    Knows counted_lanes counted_profile (responding counted_lanes P) c.value pushed taken
 
 pub record Goes (old new : Phase) (unread left held holds : Option (List ℕ)) (read said lost : List ℕ) : Type 0 where
   pub consumed : Consumes unread left (read ++ lost)

@@ -5,7 +5,7 @@ ghost use Rattle.std.specs.Int.{w32, from_be_bytes};
 ghost use Rattle.hub_core.specs.Firsts as firsts;
 ghost use Rattle.hub_core.specs.Greetings as greetings;
 
-use digest_core::{Counted, Fingerprint, Summary};
+use digest_core::{Counted, Fingerprint, WireSummary};
 
 /// The length of a hello.
 pub const HELLO: usize = 4;

@@ -9,7 +9,7 @@ ghost use Rattle.hub_core.specs.Greetings.{Greets, own_hello};
 ghost use Rattle.hub_core.specs.Steps.{EndsGreeting, GreetsSo, LeavesGreeting, RestsGreeting, is_ready};
 
 use crate::due::{HELLO, is_counted, is_due, rest_of};
-use digest_core::{Counted, Fingerprint, Summary};
+use digest_core::{Counted, Fingerprint, WireSummary};
 use session_core::{Last, LinkFault, Pause, Polled, Pumped, both, pause_of};
 use std::alloc::{AllocError, Global};
 use std::io::{Read, Write};

@@ -12,7 +12,7 @@ ghost use Rattle.hub_core.specs.Peers.{Knowing, IsChosen, over_in};
 
 use crate::greeting::Greeting;
 use crate::phase::Phase;
-use digest_core::Summary;
+use digest_core::WireSummary;
 use ends_core::Responding;
 use range_tree::Tree;
 use session_core::Session;
@@ -22,7 +22,7 @@ use store_core::RangeStore;
 use strategy_check::Accepted;
 
 /// A session to which nothing was pushed, and of whose hello these bytes were taken.
-fn started<S: RangeStore, F: Summary>(
+fn started<S: RangeStore, F: WireSummary>(
     alloc: Global,
     accepted: Arc<Accepted>,
     store: S,
@@ -43,7 +43,7 @@ fn started<S: RangeStore, F: Summary>(
 }
 
 /// Tells a session that the input has ended, if it has, and makes the text of all that is due.
-fn finish_if<S: RangeStore, F: Summary>(
+fn finish_if<S: RangeStore, F: WireSummary>(
     alloc: Global,
     session: &mut Session<Responding, S, F>,
     over: bool,
@@ -60,7 +60,7 @@ fn finish_if<S: RangeStore, F: Summary>(
 }
 
 /// The session of this greeting: all of its bytes are pushed, and what was written of our hello is taken.
-fn begun<S: RangeStore, F: Summary>(
+fn begun<S: RangeStore, F: WireSummary>(
     alloc: Global,
     accepted: Arc<Accepted>,
     store: S,

@@ -1,6 +1,6 @@
--- Parts that are made, and the two profiles.
--- Both profiles are real: their hellos are four bytes, and 32 bytes come back from two lanes of 16 bytes each, 36 from
--- a count of 4 and the lanes.
+-- Parts that are made, and the profiles.
+-- The profiles are real: their hellos are four bytes, and 32 bytes come back from two lanes of 16 bytes each, 36 from
+-- a count of 4 and the lanes. The 12 bytes of the compact profile are what they are read as.
 -- Items that are made have no fault exactly if each is above the one before and in the range. A part that is made of
 -- right bounds and items then has a fault exactly if it has no spelling, and the only one that is left is a body that
 -- is too long.
@@ -14,7 +14,7 @@ use Rattle.std.specs.Prelude.{flat_map, if◌then◌else◌, filter, map, IsTrue
 use Rattle.definitions.specs.Sets.{has, difference}
 use Rattle.definitions.proofs.Words.{w32, w128, to_be_bytes, from_be_bytes, AllByRecursion, option_or, IsBytes, Item}
 use Rattle.definitions.proofs.Words.{IsItem, Range, IsRange, contains, item_cmp, lanes_text, lanes_read}
-use Rattle.definitions.proofs.Words.{two_lane_profile, counted_profile, cutting_profile, IsProfile, Profile, body}
+use Rattle.definitions.proofs.Words.{two_lane_profile, counted_profile, compact_profile, IsProfile, Profile, body}
 use Rattle.definitions.proofs.Words.{short_text}
 use Rattle.definitions.proofs.Words.{range_text, count_text, items_text, mark_bytes, mark_bytes_for, marks_text}
 use Rattle.definitions.proofs.Words.{max_body, Part, rises_from, items_fault, body_fault, frame_length, item_order}
@@ -27,7 +27,7 @@ use Rattle.laws.proofs.Fields.{be_bytes_16, front_fits, rest_fits, byte_fits}
 use Rattle.laws.proofs.Bodies.{IsRun, run_rises, rises_run}
 use Rattle.laws.proofs.Marks.{length-mark_bytes}
 
--- ==== Both profiles are real
+-- ==== The profiles are real
 
 lanes_back : (bytes : List ℕ) → IsBytes bytes → length bytes ≡ 32 → lanes_text (lanes_read bytes) ≡ bytes
 lanes_back bytes fits len =
@@ -65,13 +65,13 @@ counted_real = record {
       (λ i. a i ++ b i) ∙ sym whole;
 }
 
-pub cutting_real : IsProfile cutting_profile
-cutting_real = record {
+pub compact_real : IsProfile compact_profile
+compact_real = record {
   hello = refl;
   hello_bytes = (omega arith, (omega arith, (omega arith, (omega arith, tt))));
-  size = counted_real.size;
-  small = counted_real.small;
-  back = counted_real.back;
+  size = omega arith;
+  small = omega arith;
+  back = λ bytes fits len. refl;
 }
 
 -- ==== Items and parts that are made: no fault where they have a spelling

@@ -1,5 +1,5 @@
 -- Fingerprints that are compared exactly, and why the premises are there.
--- Both tests of fingerprints compare all that a fingerprint has, so they hold exactly of equal ones.
+-- The tests of fingerprints compare all that a fingerprint has, so they hold exactly of equal ones.
 -- Then an example against each claim with one premise less. All of them are small enough to be computed. Bounds that
 -- do not rise: a peer with two items is sent, again and again, a Sum that leads the partition back to its first item,
 -- and says one message more than it may. Rows that end below the cap: a table without rows and with limit 0 lists one
@@ -9,7 +9,9 @@
 use Rattle.std.proofs.Common.{◌≡◌, true, ap, ℕ, ◌≤◌, false, List, [], ◌∷◌, Some, refl, arith}
 use Rattle.std.specs.Prelude.{◌==◌}
 use Rattle.std.specs.List.Sorted.{IsStrictlySortedBy}
+use Rattle.std.proofs.lemmas.Slice.Eq.{bytes_eq-Decides}
 use Rattle.definitions.proofs.Words.{IsNonDecreasing, IsExact, Lanes, same_lanes, two_lanes, counted_lanes, whole}
+use Rattle.definitions.proofs.Words.{compact_prints}
 use Rattle.definitions.proofs.Words.{IsSet, Sum, Message, Table, List_items, Split, At_items, Open_sum, list_only}
 use Rattle.definitions.proofs.Words.{Descends}
 use Rattle.definitions.proofs.Words.{Accepted, Peer, Ready}
@@ -31,6 +33,9 @@ two_lanes_exact f g = (same-lanes f g, lanes-same f g)
 
 pub counted_lanes_exact : IsExact counted_lanes
 counted_lanes_exact f g = grind arith
+
+pub compact_prints_exact : IsExact compact_prints
+compact_prints_exact = bytes_eq-Decides
 
 -- ==== Why the premises are there
 

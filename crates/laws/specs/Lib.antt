@@ -13,3 +13,4 @@ pub mod Codec
 pub mod Parts
 pub mod Meeting
 pub mod Spreading
+pub mod Compact

@@ -3,7 +3,7 @@
 ghost use Rattle.std.specs.Prelude.{ℕ, List, ◌<◌, ◌↔◌, slice_index};
 ghost use Rattle.definitions.specs.Items.{IsBytes, IsItem, IsLower, IsUpper};
 ghost use Rattle.definitions.specs.Wire.{Profile, IsProfile, short_text, upper_text, count_text, two_lane_profile};
-ghost use Rattle.definitions.specs.Wire.{counted_profile, cutting_profile};
+ghost use Rattle.definitions.specs.Wire.{counted_profile, compact_profile};
 ghost use Rattle.definitions.specs.Faults.{NoLower, NoUpper, NoItem, IsCount, Stops};
 ghost use Rattle.definitions.specs.Reading.{lower_at, upper_at, text_at, number_at};
 ghost use Rattle.laws.specs.Codec.{FieldIsExact, BodyIsExact, NextIsExact, MessageIsExact, SpellingsStandAlone};
@@ -94,11 +94,11 @@ pub fn counted_is_real()
     ensures { IsProfile counted_profile }
 {}
 
-/// So is the profile whose sessions may begin with a cut.
+/// So is the compact profile.
 /// docs/LAWS.md: *The wire format*.
-#[tactic(auto, using(crate::proofs::Made::cutting_real))]
-pub fn cutting_is_real()
-    ensures { IsProfile cutting_profile }
+#[tactic(auto, using(crate::proofs::Made::compact_real))]
+pub fn compact_is_real()
+    ensures { IsProfile compact_profile }
 {}
 
 /// A stream is fed what its bytes mean, and nothing else.

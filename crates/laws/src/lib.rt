@@ -4,5 +4,6 @@
 #![tactic(auto)]
 
 pub mod codec;
+pub mod compact;
 pub mod ranks;
 pub mod talks;

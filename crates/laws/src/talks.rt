@@ -3,7 +3,7 @@
 ghost use Rattle.std.specs.Prelude.{◌≡◌, List};
 ghost use Rattle.definitions.specs.Items.{Item, whole};
 ghost use Rattle.definitions.specs.Sets.{items_in};
-ghost use Rattle.definitions.specs.Fingerprints.{Summary, IsExact, two_lanes, counted_lanes};
+ghost use Rattle.definitions.specs.Fingerprints.{Summary, IsExact, two_lanes, counted_lanes, compact_prints};
 ghost use Rattle.definitions.specs.Messages.{Message, RangesRise};
 ghost use Rattle.definitions.specs.Wire.{Profile, IsMessage};
 ghost use Rattle.definitions.specs.Theorems.{RepliesArePlaced, RepliesAreShort, EndsKeepLimits, PlacingIsExact};
@@ -43,6 +43,13 @@ pub fn lanes_are_exact()
 #[tactic(auto, using(crate::proofs::Refuted::counted_lanes_exact))]
 pub fn counted_lanes_are_exact()
     ensures { IsExact counted_lanes }
+{}
+
+/// So are those of the compact profile.
+/// docs/LAWS.md: *Fingerprints are compared exactly*.
+#[tactic(auto, using(crate::proofs::Refuted::compact_prints_exact))]
+pub fn compact_prints_are_exact()
+    ensures { IsExact compact_prints }
 {}
 
 /// Sets of fewer than 2^32 items that share a fingerprint of profile 2 are of one size, whoever made them.

@@ -3,7 +3,7 @@
 
 use crate::support::frames::{END, HELLO, SUM_OF_NOTHING, fault, joined};
 use crate::support::tables::{HALVES, item, letters, strategy};
-use digest_core::{Fingerprint, Summary};
+use digest_core::{Fingerprint, Print, Summary, WireSummary};
 use item_core::Range;
 use range_tree::Tree;
 use shard_core::{ShardSum, directory_of, entry_of, split};
@@ -99,6 +99,30 @@ fn of_shards(rt: HostRuntime) -> Result<(), Fail> {
     };
     let entries = directory_of(alloc, &[sum])?;
     assert!(rt; entries.len() == 1 && entries[0] == entry_of(0, sum));
+    Ok(())
+}
+
+/// The bytes that spell a summary, which is read from them again.
+fn text_of<F: WireSummary>(rt: &impl Abort, alloc: Global, sum: F) -> Result<Vec<u8>, Fail> {
+    let mut text = Vec::new(alloc);
+    sum.push(&mut text)?;
+    assert!(rt; text.len() == F::size());
+    assert!(rt; F::read(text.as_slice()).equals(sum));
+    Ok(text)
+}
+
+/// The first bytes of the digest of a count and two lanes, which hashlib of Python gave.
+#[test]
+fn of_a_print(rt: HostRuntime) -> Result<(), Fail> {
+    let alloc = rt.alloc();
+    let store = FlatStore::from_items(alloc, letters(&rt, alloc, b"cab")?)?;
+    let all = Print::of_set(store.len(), store.sum(&Range::whole()));
+    let none = Print::of_set(0, Fingerprint::zero());
+    let text = text_of(&rt, alloc, all)?;
+    let other = text_of(&rt, alloc, none)?;
+    assert!(rt; text.as_slice() == b"\xa5\x28\x4d\xeb\x21\x83\xfb\x60\xac\xde\x29\x1c".as_slice());
+    assert!(rt; other.as_slice() == b"\x6d\xb6\x5f\xd5\x9f\xd3\x56\xf6\x72\x91\x40\x57".as_slice());
+    assert!(rt; !all.equals(none));
     Ok(())
 }
 

@@ -1,6 +1,7 @@
 -- A file of items that is rewritten without those that do not stay.
 --     lines_of form items             the lines of these items
---     IsShorter form floor old text   a quarter of the old bytes' items does not stay, the text is the lines of the others
+--     IsShorter form floor old text   a quarter of the old bytes' items does not stay, the text is the lines of the
+--                                     others
 --     IsLeft form floor old           less than a quarter of its items does not stay
 --     Rewrites form floor p q r       the file at the path was rewritten, or not, and nothing else was there
 use Rattle.std.specs.Prelude.{◌≡◌, ◌⊎◌, ℕ, ◌<◌, ◌≤◌, Bool, true, false, List, [], ◌∷◌, length, flat_map}

@@ -3,7 +3,7 @@
 ghost use Rattle.std.specs.Io.{ReadsAtMost, WritesAtMost};
 ghost use Rattle.std.specs.Io.KnownBytes.{ReadConsumes, WriteAppends, Keeps};
 
-use digest_core::{Counted, Fingerprint, Summary};
+use digest_core::{Counted, Fingerprint, WireSummary};
 use printing_core::Tally;
 use std::io;
 use std::io::{Read, Write};

@@ -10,13 +10,13 @@ ghost use Rattle.definitions.specs.Engines.{initiating, responding};
 ghost use Rattle.definitions.specs.Worlds.{opened_of};
 ghost use Rattle.ends_core.specs.Sides.{KeepsBounds, peer_of};
 
-use digest_core::Summary;
+use digest_core::WireSummary;
 use std::sync::Arc;
 use strategy_check::Accepted;
 
 /// A side that goes by an accepted strategy sends few messages and short lists, and learns just what the messages that
 /// it takes say, whatever the bytes are that it reads.
-pub(crate) fn sides_keep_bounds<F: Summary>(accepted: &Arc<Accepted>)
+pub(crate) fn sides_keep_bounds<F: WireSummary>(accepted: &Arc<Accepted>)
     ensures initiator { (A : List Item) (bytes : List ℕ) → IsBytes bytes → IsSet A →
         length A ≤ (arc_value accepted.now).table.cap →
         KeepsBounds F.summary F.profile (initiating F.summary (peer_of (arc_value accepted.now) A)) bytes

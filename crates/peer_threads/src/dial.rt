@@ -19,7 +19,7 @@ use crate::gate::Gate;
 use crate::sender::Sender;
 use crate::shared::Shared;
 use crate::stop::Stop;
-use digest_core::Summary;
+use digest_core::WireSummary;
 use session_table::Outcome;
 use std::alloc::{AllocError, Global};
 use std::io::{Read, Write};
@@ -28,7 +28,7 @@ use store_core::{RangeStore, set_laws};
 use version_lock::{Pin, Seat};
 
 /// Speaks first to the peer on this connection over the items that are pinned, until the session ends.
-pub fn dial_pinned<T: Wait, S: RangeStore, G: Gate, R: Read, W: Write, F: Summary>(
+pub fn dial_pinned<T: Wait, S: RangeStore, G: Gate, R: Read, W: Write, F: WireSummary>(
     rt: &T,
     alloc: Global,
     shared: &Shared<'_, S, G>,
@@ -59,7 +59,7 @@ pub fn dial_pinned<T: Wait, S: RangeStore, G: Gate, R: Read, W: Write, F: Summar
 }
 
 /// Speaks first to the peer on this connection, until the session ends. The seat is used for one `pin`, first of all.
-pub fn dial_one<T: Wait, S: RangeStore, G: Gate, R: Read, W: Write, F: Summary>(
+pub fn dial_one<T: Wait, S: RangeStore, G: Gate, R: Read, W: Write, F: WireSummary>(
     rt: &T,
     alloc: Global,
     shared: &Shared<'_, S, G>,

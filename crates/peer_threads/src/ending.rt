@@ -10,7 +10,7 @@ ghost use Rattle.peer_threads.specs.Underway.{Talked, Spoke, Leaves};
 
 use crate::sender::Sender;
 use crate::stop::Stop;
-use digest_core::Summary;
+use digest_core::WireSummary;
 use ends_core::{Role, SessionEnd};
 use io_core::Watched;
 use session_table::Outcome;
@@ -21,7 +21,7 @@ use store_core::RangeStore;
 const NO_MEMORY: u8 = 90;
 
 /// The outcome of a session that stopped. Where this side refuses, one fault frame is written.
-pub(crate) fn stopped<W: Write, F: Summary>(
+pub(crate) fn stopped<W: Write, F: WireSummary>(
     sender: Sender<F>,
     writer: &mut Watched<W>,
     stop: Stop,
@@ -48,7 +48,7 @@ pub(crate) fn stopped<W: Write, F: Summary>(
 }
 
 /// The outcome of a session that was talked to its end, or stopped.
-pub(crate) fn concluded<P: Role, S: RangeStore, W: Write, F: Summary>(
+pub(crate) fn concluded<P: Role, S: RangeStore, W: Write, F: WireSummary>(
     party: SessionEnd<P, S, F>,
     version: usize,
     sender: Sender<F>,

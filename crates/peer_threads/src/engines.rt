@@ -40,7 +40,7 @@ use crate::sender::Sender;
 use crate::shared::Shared;
 use crate::stop::Stop;
 use crate::talk::{end, exchange_laws, say, take, talk};
-use digest_core::{Counted, Fingerprint, Summary};
+use digest_core::{Counted, Fingerprint, WireSummary};
 use ends_core::{Role, SessionEnd};
 use io_core::Watched;
 use place_core::Place;
@@ -55,14 +55,14 @@ use wire_core::{Event, Message, Part};
 /// What has come of a session before it is opened: the parts of the peer's first message, and what was read after its
 /// end.
 #[derive(Drop)]
-struct Begun<F: Summary> {
+struct Begun<F: WireSummary> {
     inbox: Inbox<F>,
     first: Vec<Part<F>>,
 }
 
 /// Puts an event of a first message to its parts: whether it ends the message. Else 20 or 22, by the first event that
 /// may not come.
-fn put_first<F: Summary>(
+fn put_first<F: WireSummary>(
     place: &mut Place<F>,
     parts: &mut Vec<Part<F>>,
     event: Event<F>,
@@ -90,7 +90,7 @@ fn put_first<F: Summary>(
 }
 
 /// Waits for the peer's first message: the parts of it.
-fn first_parts<R: Read, F: Summary>(
+fn first_parts<R: Read, F: WireSummary>(
     alloc: Global,
     inbox: &mut Inbox<F>,
     reader: &mut Watched<R>,
@@ -122,7 +122,7 @@ fn first_parts<R: Read, F: Summary>(
 
 /// Answers the peer's hello with the own one, and waits for the first message. Refused 1 where the hello is not that of
 /// the profile.
-fn first_message<R: Read, W: Write, F: Summary>(
+fn first_message<R: Read, W: Write, F: WireSummary>(
     alloc: Global,
     hello: Hello,
     sender: &mut Sender<F>,
@@ -164,7 +164,7 @@ fn first_message<R: Read, W: Write, F: Summary>(
 }
 
 /// Takes the parts of the first message.
-fn take_all<T: Wait, G: Gate, P: Role, S: RangeStore, F: Summary>(
+fn take_all<T: Wait, G: Gate, P: Role, S: RangeStore, F: WireSummary>(
     booking: &Booking<'_, T, G>,
     party: &mut SessionEnd<P, S, F>,
     parts: &[Part<F>],
@@ -183,7 +183,7 @@ fn take_all<T: Wait, G: Gate, P: Role, S: RangeStore, F: Summary>(
 }
 
 /// Answers the first message, and each one after it.
-fn answer<T: Wait, G: Gate, P: Role, S: RangeStore, R: Read, W: Write, F: Summary>(
+fn answer<T: Wait, G: Gate, P: Role, S: RangeStore, R: Read, W: Write, F: WireSummary>(
     booking: &Booking<'_, T, G>,
     party: &mut SessionEnd<P, S, F>,
     begun: Begun<F>,
@@ -222,7 +222,7 @@ fn answer<T: Wait, G: Gate, P: Role, S: RangeStore, R: Read, W: Write, F: Summar
 }
 
 /// The side that is spoken to first, with the version that it speaks of.
-fn respond<T: Wait, S: RangeStore, G: Gate, R: Read, W: Write, F: Summary>(
+fn respond<T: Wait, S: RangeStore, G: Gate, R: Read, W: Write, F: WireSummary>(
     host: &Host<'_, T, G>,
     pin: Pin<S>,
     begun: Begun<F>,
@@ -268,7 +268,7 @@ fn respond<T: Wait, S: RangeStore, G: Gate, R: Read, W: Write, F: Summary>(
 }
 
 /// Writes the hello and the first message, and answers each message that comes.
-fn speak<T: Wait, G: Gate, P: Role, S: RangeStore, R: Read, W: Write, F: Summary>(
+fn speak<T: Wait, G: Gate, P: Role, S: RangeStore, R: Read, W: Write, F: WireSummary>(
     booking: &Booking<'_, T, G>,
     party: &mut SessionEnd<P, S, F>,
     first: &Message<F>,
@@ -299,7 +299,7 @@ fn speak<T: Wait, G: Gate, P: Role, S: RangeStore, R: Read, W: Write, F: Summary
 }
 
 /// The side that speaks first, with the version that it speaks of.
-pub(crate) fn initiate<T: Wait, S: RangeStore, G: Gate, R: Read, W: Write, F: Summary>(
+pub(crate) fn initiate<T: Wait, S: RangeStore, G: Gate, R: Read, W: Write, F: WireSummary>(
     host: &Host<'_, T, G>,
     pin: Pin<S>,
     connection: &mut Connection<R, W>,
@@ -337,7 +337,7 @@ pub(crate) fn initiate<T: Wait, S: RangeStore, G: Gate, R: Read, W: Write, F: Su
 }
 
 /// Answers the peer after its hello, in the profile of the summary, until the session ends.
-fn serve_after<T: Wait, S: RangeStore, G: Gate, R: Read, W: Write, F: Summary>(
+fn serve_after<T: Wait, S: RangeStore, G: Gate, R: Read, W: Write, F: WireSummary>(
     rt: &T,
     alloc: Global,
     shared: &Shared<'_, S, G>,

@@ -12,7 +12,7 @@ ghost use Rattle.peer_threads.specs.Inboxes.{HasRead, StopsAt, Next, SoFar, Read
 use crate::hello::Hello;
 use crate::piece::Piece;
 use crate::stop::Stop;
-use digest_core::Summary;
+use digest_core::WireSummary;
 use io_core::Watched;
 use session_table::Direction;
 use std::alloc::{AllocError, Global};
@@ -27,13 +27,13 @@ const MAX_READS: u64 = 1 << 32;
 ///
 /// It keeps the piece that was read last, and of the stream before it the bytes of an unfinished frame.
 #[derive(Drop)]
-pub(crate) struct Inbox<F: Summary> {
+pub(crate) struct Inbox<F: WireSummary> {
     feed: Feed<F>,
     piece: Piece,
     reads: u64,
 }
 
-impl<F: Summary> Model for Inbox<F> {
+impl<F: WireSummary> Model for Inbox<F> {
     ghost use Rattle.std.specs.Prelude.{◌≤◌, ◌^◌};
     ghost use Rattle.peer_threads.specs.Inboxes.{InboxState};
 
@@ -44,7 +44,7 @@ impl<F: Summary> Model for Inbox<F> {
     ghost invariant = { λ a. a.reads ≤ 2 ^ 32 };
 }
 
-impl<F: Summary> Inbox<F> {
+impl<F: WireSummary> Inbox<F> {
     /// Nothing has been read.
     pub(crate) fn new(alloc: Global) -> Result<Inbox<F>, AllocError>
         ensures read { IfOk result (λ b. HasRead F.profile b [] []) }

@@ -8,7 +8,7 @@ ghost use Rattle.ends_core.specs.Turns.{fresh};
 ghost use Rattle.ends_core.specs.Sides.{peer_of};
 
 use crate::booking::Host;
-use digest_core::Summary;
+use digest_core::WireSummary;
 use ends_core::{Initiator, Responder};
 use std::alloc::AllocError;
 use std::sync::Arc;
@@ -17,7 +17,7 @@ use version_lock::Pin;
 use wire_core::Message;
 
 /// The end that is spoken to first.
-pub(crate) fn new_responder<T, S: RangeStore, G, F: Summary>(
+pub(crate) fn new_responder<T, S: RangeStore, G, F: WireSummary>(
     host: &Host<'_, T, G>,
     pin: Pin<S>,
 ) -> Result<Responder<S, F>, AllocError>
@@ -30,7 +30,7 @@ pub(crate) fn new_responder<T, S: RangeStore, G, F: Summary>(
 }
 
 /// The end that speaks first, and its first message.
-pub(crate) fn new_initiator<T, S: RangeStore, G, F: Summary>(
+pub(crate) fn new_initiator<T, S: RangeStore, G, F: WireSummary>(
     host: &Host<'_, T, G>,
     pin: Pin<S>,
 ) -> Result<(Initiator<S, F>, Message<F>), AllocError>

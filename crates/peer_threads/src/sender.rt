@@ -5,7 +5,7 @@ ghost use Rattle.std.specs.Io.KnownBytes.{Appends};
 ghost use Rattle.peer_threads.specs.Senders.{sender_state, hello_due, refusal_text, Begins, BreaksIn, WroteSo};
 
 use crate::tokens::Counted;
-use digest_core::Summary;
+use digest_core::WireSummary;
 use io_core::{Watched, WriterFailed, write_output};
 use std::io::Write;
 use std::marker::{Model, PhantomData};
@@ -13,13 +13,13 @@ use wire_core::{encode_fault, encode_hello};
 
 /// What a side has written: whether its hello, and how many messages whole.
 #[derive(Drop)]
-pub(crate) struct Sender<F: Summary> {
+pub(crate) struct Sender<F: WireSummary> {
     greeted: bool,
     sent: u32,
     of: PhantomData<F>,
 }
 
-impl<F: Summary> Model for Sender<F> {
+impl<F: WireSummary> Model for Sender<F> {
     ghost use Rattle.peer_threads.specs.Senders.{SenderState, sender_state};
 
     ghost Value = { SenderState };
@@ -27,7 +27,7 @@ impl<F: Summary> Model for Sender<F> {
     ghost view = { λ o. sender_state o.greeted o.sent };
 }
 
-impl<F: Summary> Sender<F> {
+impl<F: WireSummary> Sender<F> {
     /// Nothing was written.
     pub(crate) fn new() -> Sender<F>
         ensures { result ≡ sender_state false 0 }

@@ -21,7 +21,7 @@ use crate::gate::Gate;
 use crate::inbox::Inbox;
 use crate::sender::Sender;
 use crate::stop::Stop;
-use digest_core::Summary;
+use digest_core::WireSummary;
 use ends_core::{Role, SessionEnd, Turn};
 use io_core::Watched;
 use std::io::{Read, Write};
@@ -30,7 +30,7 @@ use store_core::RangeStore;
 use wire_core::{Event, Message, Part, encode_message};
 
 /// The laws of an exchange of messages, in one place.
-pub(crate) fn exchange_laws<F: Summary>()
+pub(crate) fn exchange_laws<F: WireSummary>()
     ensures { Laws F.summary F.profile }
 {
     laws::talks::hearings_go_on::<F>();
@@ -39,7 +39,7 @@ pub(crate) fn exchange_laws<F: Summary>()
 }
 
 /// Says one message: takes all memory for it, counts it in the table, writes it, and asks the gate.
-pub(crate) fn say<T: Wait, G: Gate, W: Write, F: Summary>(
+pub(crate) fn say<T: Wait, G: Gate, W: Write, F: WireSummary>(
     booking: &Booking<'_, T, G>,
     sender: &mut Sender<F>,
     writer: &mut Watched<W>,
@@ -65,7 +65,7 @@ pub(crate) fn say<T: Wait, G: Gate, W: Write, F: Summary>(
 }
 
 /// Says the reply of an end, if it has one.
-fn reply<T: Wait, G: Gate, W: Write, F: Summary>(
+fn reply<T: Wait, G: Gate, W: Write, F: WireSummary>(
     booking: &Booking<'_, T, G>,
     sender: &mut Sender<F>,
     writer: &mut Watched<W>,
@@ -87,7 +87,7 @@ fn reply<T: Wait, G: Gate, W: Write, F: Summary>(
 }
 
 /// Takes one part of the peer's message.
-pub(crate) fn take<T: Wait, G: Gate, P: Role, S: RangeStore, F: Summary>(
+pub(crate) fn take<T: Wait, G: Gate, P: Role, S: RangeStore, F: WireSummary>(
     booking: &Booking<'_, T, G>,
     party: &mut SessionEnd<P, S, F>,
     part: &Part<F>,
@@ -103,7 +103,7 @@ pub(crate) fn take<T: Wait, G: Gate, P: Role, S: RangeStore, F: Summary>(
 }
 
 /// Takes the end of the peer's message, and says the reply to it, if it wants one.
-pub(crate) fn end<T: Wait, G: Gate, P: Role, S: RangeStore, W: Write, F: Summary>(
+pub(crate) fn end<T: Wait, G: Gate, P: Role, S: RangeStore, W: Write, F: WireSummary>(
     booking: &Booking<'_, T, G>,
     party: &mut SessionEnd<P, S, F>,
     sender: &mut Sender<F>,
@@ -129,7 +129,7 @@ pub(crate) fn end<T: Wait, G: Gate, P: Role, S: RangeStore, W: Write, F: Summary
 }
 
 /// Hears one event: a part, the end of a message, or a fault frame.
-fn hear<T: Wait, G: Gate, P: Role, S: RangeStore, W: Write, F: Summary>(
+fn hear<T: Wait, G: Gate, P: Role, S: RangeStore, W: Write, F: WireSummary>(
     booking: &Booking<'_, T, G>,
     party: &mut SessionEnd<P, S, F>,
     sender: &mut Sender<F>,
@@ -159,7 +159,7 @@ fn hear<T: Wait, G: Gate, P: Role, S: RangeStore, W: Write, F: Summary>(
 }
 
 /// Hears one event after another until the session is over.
-pub(crate) fn talk<T: Wait, G: Gate, P: Role, S: RangeStore, R: Read, W: Write, F: Summary>(
+pub(crate) fn talk<T: Wait, G: Gate, P: Role, S: RangeStore, R: Read, W: Write, F: WireSummary>(
     booking: &Booking<'_, T, G>,
     party: &mut SessionEnd<P, S, F>,
     inbox: &mut Inbox<F>,

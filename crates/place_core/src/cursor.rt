@@ -11,7 +11,7 @@ ghost use Rattle.place_core.specs.Placements.{first_list as list_first};
 
 use crate::fault::PlaceFault;
 use crate::fit::{Fit, fit_of, rest_after};
-use digest_core::Summary;
+use digest_core::WireSummary;
 use item_core::{Item, Range};
 use wire_core::{Part, PartKind};
 
@@ -29,14 +29,18 @@ pub enum Cursor {
 
 impl Cursor {
     /// Before the first part of a message that answers an own message.
-    pub fn start<F: Summary>() -> Cursor
+    pub fn start<F: WireSummary>() -> Cursor
         ensures { (sent : Message F) → place_at sent result ≡ placing.place_after sent }
     {
         Cursor::After(0, None)
     }
 
     /// Places the next part. A refusal stays.
-    pub fn next<F: Summary>(&mut self, sent: &[Part<F>], part: &Part<F>) -> Result<(), PlaceFault>
+    pub fn next<F: WireSummary>(
+        &mut self,
+        sent: &[Part<F>],
+        part: &Part<F>,
+    ) -> Result<(), PlaceFault>
         ensures place { place_at sent.now self.new ≡ placing.next (place_at sent.now self.old) part.now }
         ensures fault { fault_in result ≡ placing.refusal (place_at sent.now self.new) }
     {
@@ -50,7 +54,7 @@ impl Cursor {
     }
 
     /// The refusal, if there is one.
-    fn refused<F: Summary>(&self) -> Result<(), PlaceFault>
+    fn refused<F: WireSummary>(&self) -> Result<(), PlaceFault>
         ensures { (sent : Message F) → fault_in result ≡ placing.refusal (place_at sent self.now) }
     {
         match self {
@@ -60,7 +64,7 @@ impl Cursor {
     }
 
     /// The items of the first List at or after the cursor.
-    pub fn due<'a, F: Summary>(&self, sent: &'a [Part<F>]) -> &'a [Item]
+    pub fn due<'a, F: WireSummary>(&self, sent: &'a [Part<F>]) -> &'a [Item]
         ensures { result.now ≡ due sent.now self.now }
     {
         match self {
@@ -70,7 +74,7 @@ impl Cursor {
     }
 
     /// Whether the message may end here.
-    pub fn finish<F: Summary>(&self, sent: &[Part<F>]) -> Result<(), PlaceFault>
+    pub fn finish<F: WireSummary>(&self, sent: &[Part<F>]) -> Result<(), PlaceFault>
         ensures { fault_in result ≡ placing.finish (place_at sent.now self.now) }
     {
         match self {
@@ -83,7 +87,7 @@ impl Cursor {
 }
 
 /// The items of the first List of the parts.
-fn first_list<F: Summary>(parts: &[Part<F>]) -> &[Item]
+fn first_list<F: WireSummary>(parts: &[Part<F>]) -> &[Item]
     ensures { result.now ≡ list_first parts.now }
 {
     let mut left = parts;
@@ -97,21 +101,21 @@ fn first_list<F: Summary>(parts: &[Part<F>]) -> &[Item]
 }
 
 /// The parts from a place on.
-fn rest_of<F: Summary>(sent: &[Part<F>], at: usize) -> &[Part<F>]
+fn rest_of<F: WireSummary>(sent: &[Part<F>], at: usize) -> &[Part<F>]
     ensures { result.now ≡ drop at sent.now }
 {
     &sent[at.min(sent.len())..]
 }
 
 /// Whether a part is a List.
-fn has_list<F: Summary>(parts: &[Part<F>]) -> bool
+fn has_list<F: WireSummary>(parts: &[Part<F>]) -> bool
     ensures { result ≡ list_any placing.is_list parts.now }
 {
     parts.iter().any(|part| part.kind() == PartKind::List)
 }
 
 /// Outside a partition no List may be left without an Answer.
-fn finish_outside<F: Summary>(left: &[Part<F>]) -> Result<(), PlaceFault>
+fn finish_outside<F: WireSummary>(left: &[Part<F>]) -> Result<(), PlaceFault>
     ensures { fault_in result ≡ placing.finish (placing.placed (open_parts left.now)) }
 {
     if has_list(left) {
@@ -121,7 +125,7 @@ fn finish_outside<F: Summary>(left: &[Part<F>]) -> Result<(), PlaceFault>
 }
 
 /// The first part of all: a Sum over everything, after which nothing may come, or one that begins a cut of it.
-fn next_first<F: Summary>(cut: bool, sent: &[Part<F>], part: &Part<F>) -> Cursor
+fn next_first<F: WireSummary>(cut: bool, sent: &[Part<F>], part: &Part<F>) -> Cursor
     ensures { place_at sent.now result ≡ placing.next_first cut part.now }
 {
     if part.kind() != PartKind::Sum {
@@ -142,7 +146,7 @@ fn next_first<F: Summary>(cut: bool, sent: &[Part<F>], part: &Part<F>) -> Cursor
 }
 
 /// Outside a partition the own parts are looked at in order.
-fn next_outside<F: Summary>(sent: &[Part<F>], start: usize, part: &Part<F>) -> Cursor
+fn next_outside<F: WireSummary>(sent: &[Part<F>], start: usize, part: &Part<F>) -> Cursor
     ensures { place_at sent.now result ≡ placing.next_outside (open_parts (drop start sent.now)) part.now }
 {
     let mut at = start;
@@ -158,7 +162,7 @@ fn next_outside<F: Summary>(sent: &[Part<F>], start: usize, part: &Part<F>) -> C
 }
 
 /// Inside a partition, of which a rest is still to come.
-fn next_inside<F: Summary>(at: usize, rest: &Range, part: &Part<F>) -> Cursor
+fn next_inside<F: WireSummary>(at: usize, rest: &Range, part: &Part<F>) -> Cursor
     ensures { (sent : Message F) →
         place_at sent result ≡ placing.next_inside (open_parts (drop at sent)) rest.now part.now }
 {

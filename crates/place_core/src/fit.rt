@@ -9,7 +9,7 @@ ghost use Rattle.definitions.specs.Placing.{next_outside, next_sum};
 ghost use Rattle.place_core.specs.Fits.{rest_between, after_fit};
 
 use crate::fault::PlaceFault;
-use digest_core::Summary;
+use digest_core::WireSummary;
 use item_core::{Item, Lower, Range, Upper, is_listed};
 use wire_core::{Part, PartKind};
 
@@ -43,7 +43,7 @@ fn repeats(listed: &[Item], items: &[Item]) -> bool
 }
 
 /// A part where a List of the range is open.
-fn list_fit<F: Summary>(range: &Range, listed: &[Item], part: &Part<F>) -> Fit
+fn list_fit<F: WireSummary>(range: &Range, listed: &[Item], part: &Part<F>) -> Fit
     requires { IsSet listed.now }
     ensures { (left : Message F) →
         next_outside (Listing range.now listed.now ∷ left) part.now ≡ after_fit result left part.now }
@@ -64,7 +64,7 @@ fn list_fit<F: Summary>(range: &Range, listed: &[Item], part: &Part<F>) -> Fit
 }
 
 /// A Sum that begins where an open Sum of the range begins.
-fn cut_fit<F: Summary>(range: &Range, part: &Range) -> Fit
+fn cut_fit<F: WireSummary>(range: &Range, part: &Range) -> Fit
     ensures { (left : Message F) (p : messages.Part F) →
         next_sum left range.now part.now ≡ after_fit result left p }
 {
@@ -78,7 +78,7 @@ fn cut_fit<F: Summary>(range: &Range, part: &Range) -> Fit
 }
 
 /// A part where a Sum of the range is open.
-fn sum_fit<F: Summary>(range: &Range, part: &Part<F>) -> Fit
+fn sum_fit<F: WireSummary>(range: &Range, part: &Part<F>) -> Fit
     ensures { (f : F) (left : Message F) →
         next_outside (Sum range.now f ∷ left) part.now ≡ after_fit result left part.now }
 {
@@ -90,7 +90,7 @@ fn sum_fit<F: Summary>(range: &Range, part: &Part<F>) -> Fit
 }
 
 /// A part where this part of the own message is the next one; an Answer is open to nothing.
-pub fn fit_of<F: Summary>(own: &Part<F>, part: &Part<F>) -> Fit
+pub fn fit_of<F: WireSummary>(own: &Part<F>, part: &Part<F>) -> Fit
     ensures { (left : Message F) →
         next_outside (open_parts (own.now ∷ left)) part.now ≡ after_fit result (open_parts left) part.now }
 {

@@ -8,7 +8,7 @@ ghost use Rattle.place_core.specs.Placements.{start_of, due};
 
 use crate::cursor::Cursor;
 use crate::fault::PlaceFault;
-use digest_core::{Fingerprint, Summary};
+use digest_core::{Fingerprint, WireSummary};
 use item_core::Item;
 use std::alloc::{AllocError, Global};
 use std::marker::Model;
@@ -17,13 +17,13 @@ use wire_core::{Part, PartKind};
 /// Where the placing of a message stands: the open parts of the own message, of which it keeps a copy, and a cursor in
 /// them. Only `after` takes memory.
 #[derive(Debug, Drop)]
-pub struct Place<F: Summary = Fingerprint> {
+pub struct Place<F: WireSummary = Fingerprint> {
     first: bool,
     own: Vec<Part<F>>,
     cursor: Cursor,
 }
 
-impl<F: Summary> Model for Place<F> {
+impl<F: WireSummary> Model for Place<F> {
     ghost use Rattle.std.specs.Prelude.{◌≡◌, true, []};
     ghost use Rattle.place_core.specs.Cursors.{place_at};
     ghost use Rattle.place_core.specs.Placements.{Placement};
@@ -41,7 +41,7 @@ impl<F: Summary> Model for Place<F> {
 }
 
 /// Appends a copy of the part, where it is open.
-fn push_open<F: Summary>(
+fn push_open<F: WireSummary>(
     alloc: Global,
     kept: &mut Vec<Part<F>>,
     part: &Part<F>,
@@ -56,7 +56,7 @@ fn push_open<F: Summary>(
 }
 
 /// Copies of the open parts.
-fn open_of<F: Summary>(alloc: Global, parts: &[Part<F>]) -> Result<Vec<Part<F>>, AllocError>
+fn open_of<F: WireSummary>(alloc: Global, parts: &[Part<F>]) -> Result<Vec<Part<F>>, AllocError>
     ensures { IfOk result (λ v. v.items ≡ open_parts parts.now) }
 {
     let mut kept = Vec::new(alloc);
@@ -66,7 +66,7 @@ fn open_of<F: Summary>(alloc: Global, parts: &[Part<F>]) -> Result<Vec<Part<F>>,
     Ok(kept)
 }
 
-impl<F: Summary> Place<F> {
+impl<F: WireSummary> Place<F> {
     /// Before the first message of all, which answers none.
     pub fn opening(alloc: Global) -> Place<F>
         ensures { result ≡ record {

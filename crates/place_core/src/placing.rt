@@ -9,11 +9,11 @@ ghost use Rattle.place_core.specs.PlaceFaults.{fault_in};
 
 use crate::cursor::Cursor;
 use crate::fault::PlaceFault;
-use digest_core::Summary;
+use digest_core::WireSummary;
 use wire_core::{Message, Part};
 
 /// Places each of the parts. Of parts after a refusal nothing is looked at.
-fn place_parts<F: Summary>(cursor: &mut Cursor, sent: &[Part<F>], parts: &[Part<F>])
+fn place_parts<F: WireSummary>(cursor: &mut Cursor, sent: &[Part<F>], parts: &[Part<F>])
     ensures { place_at sent.now cursor.new ≡ fold placing.next (place_at sent.now cursor.old) parts.now }
 {
     for part in parts {
@@ -24,7 +24,10 @@ fn place_parts<F: Summary>(cursor: &mut Cursor, sent: &[Part<F>], parts: &[Part<
 /// Whether the message may follow the own message that it answers.
 ///
 /// Refused 20 to 25 by the first thing that is out of place.
-pub fn place_message<F: Summary>(sent: &Message<F>, message: &Message<F>) -> Result<(), PlaceFault>
+pub fn place_message<F: WireSummary>(
+    sent: &Message<F>,
+    message: &Message<F>,
+) -> Result<(), PlaceFault>
     ensures fault { fault_in result ≡ placing.place_fault sent.now message.now }
     ensures placed { Apart (open_ranges sent.now) → IsOk result ↔ placing.Placed sent.now message.now }
 {
@@ -41,7 +44,7 @@ pub fn place_message<F: Summary>(sent: &Message<F>, message: &Message<F>) -> Res
 /// message may cut.
 ///
 /// Refused 20 or 22 else.
-pub fn place_opening<F: Summary>(message: &Message<F>) -> Result<(), PlaceFault>
+pub fn place_opening<F: WireSummary>(message: &Message<F>) -> Result<(), PlaceFault>
     ensures fault { fault_in result ≡ placing.opening_fault F.summary.may_cut message.now }
     ensures opening { IsOk result ↔ placing.IsOpening F.summary.may_cut message.now }
 {

@@ -1,12 +1,12 @@
 -- What `serve` writes of its sessions to its files.
 --     bounds_text X                the bounds of a range in hex: those that it has
---     session_name s w X p         a session, the shard, or the directory, that it spoke of, if it did of one, the bounds
---                                  of the range of its items, and the address of the partner with which it was, if it
---                                  was with one
+--     session_name s w X p         a session, the shard, or the directory, that it spoke of, if it did of one, the
+--                                  bounds of the range of its items, and the address of the partner with which it
+--                                  was, if it was with one
 --     learned_lines form k         the lines of both differences: ours rising, then theirs rising, items in this form
 --     first_lines n lines          the first n of these lines, or all; then how many were left out, if any were
---     report_text form most s w X p o   a session that is over: its head and both differences, at most `most` lines of them
---                                  if it is a number; or why it did not end
+--     report_text form most s w X p o   a session that is over: its head and both differences, at most `most` lines of
+--                                  them if it is a number; or why it did not end
 --     left_out_line s n            that n items which this session learned were not put in
 use Rattle.std.specs.Prelude.{ℕ, ◌-◌, ◌==◌, if◌then◌else◌, List, [], ◌∷◌, ◌++◌, length, map, take, flat_map, codes}
 use Rattle.std.specs.Prelude.{Option, Some, None}

@@ -29,8 +29,8 @@ pub fn tell_shard_flaw<E: Write + Drop>(err: E, flaw: ShardFlaw) -> u8
     USAGE_STATUS
 }
 
-/// Prints why a call does not speak of a part of a set as its words ask for it, and gives the status. A line that is not
-/// taken changes nothing.
+/// Prints why a call does not speak of a part of a set as its words ask for it, and gives the status. A line that is
+/// not taken changes nothing.
 pub fn tell_part_flaw<E: Write + Drop>(err: E, flaw: PartFlaw) -> u8
     ensures { result ≡ 2 }
 {

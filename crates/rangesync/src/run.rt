@@ -156,8 +156,8 @@ struct Meant {
     forgets: FloorRule,
 }
 
-/// Of which shards a command speaks, of which part of their items, and what it forgets. Else the status, once it is told
-/// which words are not fit.
+/// Of which shards a command speaks, of which part of their items, and what it forgets. Else the status, once it is
+/// told which words are not fit.
 fn meant_by<E: Write>(err: &mut E, command: Command<'_>) -> Result<Meant, u8>
     requires { AreInSpan command }
     ensures part { IfOk result (λ meant. range_asked command.entry ≡ Ok meant.part) }

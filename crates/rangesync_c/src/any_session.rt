@@ -10,7 +10,7 @@ ghost use Rattle.ends_core.specs.Sides.{peer_of};
 ghost use Rattle.session_core.specs.declared.state.State.TheVariants as states;
 
 use crate::set::Version;
-use digest_core::{Counted, Fingerprint, Summary};
+use digest_core::{Counted, Fingerprint, WireSummary};
 use ends_core::{Initiating, Learned, Responding, Side};
 use item_files::WireProfile;
 use range_tree::Tree;
@@ -31,7 +31,7 @@ pub enum AnySession {
 }
 
 /// A session that speaks first.
-fn first<F: Summary>(
+fn first<F: WireSummary>(
     alloc: Global,
     version: Version,
 ) -> Result<Session<Initiating, Tree, F>, AllocError>
@@ -46,7 +46,7 @@ fn first<F: Summary>(
 }
 
 /// A session that is spoken to first.
-fn second<F: Summary>(
+fn second<F: WireSummary>(
     alloc: Global,
     version: Version,
 ) -> Result<Session<Responding, Tree, F>, AllocError>

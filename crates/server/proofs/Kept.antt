@@ -2,7 +2,8 @@
 -- A text that was made and told is told (`told_line`). One item more is told after the others (`kept_next`). Lines
 -- that were told, then written, then synced are stored (`stored`): each step keeps what was told, the write ends with
 -- all of it on the device, and the sync saves that.
-use Rattle.std.proofs.Common.{◌≡◌, ℕ, suc, ◌+◌, ◌<◌, Bool, true, List, [], ◌∷◌, ◌++◌, length, take, get_or, Option, arith}
+use Rattle.std.proofs.Common.{◌≡◌, ℕ, suc, ◌+◌, ◌<◌, Bool, true, List, [], ◌∷◌, ◌++◌, length, take, get_or, Option}
+use Rattle.std.proofs.Common.{arith}
 use Rattle.std.proofs.Common.{sym, ap, subst, ◌∙◌, append_assoc, append-nil, flat_map, Result, Ok, Err, false}
 use Rattle.std.specs.Prelude.{OnOk, IfOk, IfErr, IsErr, is_err}
 use Rattle.std.proofs.lemmas.Grind.{flat_map-append}

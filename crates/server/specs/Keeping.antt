@@ -1,6 +1,6 @@
 -- When items count as kept in a file of lines.
---     IsPut held base told text m n g         the text was told to a file that is g now; or it is left out, and counted:
---                                             n are left out now, and m were before
+--     IsPut held base told text m n g         the text was told to a file that is g now; or it is left out, and
+--                                             counted: n are left out now, and m were before
 --     IsStored held saved durable lines f g   of the file f, which is g now: after all that was told of it these lines
 --                                             were told, and the device holds all; where it is to outlive a loss of
 --                                             power, what it holds was saved

@@ -21,6 +21,7 @@ mod putting;
 mod reporting;
 mod rewriting;
 mod serve;
+mod starting;
 mod stdio;
 mod stocking;
 #[cfg(test)]

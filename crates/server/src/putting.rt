@@ -165,8 +165,8 @@ fn are_kept(floor: &Floor, items: &[Item]) -> bool
     items.iter().all(|item| floor.keeps(item))
 }
 
-/// Refuses items of which one is below the floor, or of a part that is not kept, for which a part has no room, or whose lines the file does
-/// not take. Nothing is put in.
+/// Refuses items of which one is below the floor, or of a part that is not kept, for which a part has no room, or whose
+/// lines the file does not take. Nothing is put in.
 fn may_put<R: Wait + Clock, E: Write + Drop>(
     yard: &Yard<'_, '_, R, DiskReporter<'_, '_, R, E>>,
     hand: &mut Hand<'_>,

@@ -225,9 +225,9 @@ impl<'r, 'a, R: Wait, D: Device + Drop, E: Write + Drop> Reporter<'r, 'a, R, D, 
 }
 
 impl<R: Wait + Clock, D: Device + Drop, E: Write + Drop> Reporter<'_, '_, R, D, E> {
-    /// Notes items that the log took from a program, and sees that the lines of all that it gave are kept. Those of items
-    /// that the log had are told again where a session that taught them may not have told them yet, or after a sync that
-    /// failed. None where lines may be lost.
+    /// Notes items that the log took from a program, and sees that the lines of all that it gave are kept. Those of
+    /// items that the log had are told again where a session that taught them may not have told them yet, or after a
+    /// sync that failed. None where lines may be lost.
     pub fn keep(&self, entered: &Vec<Item>, given: &Vec<Item>) -> Option<Kept>
         ensures { IfSome result (λ kept. Covers kept entered.now.items given.now.items) }
     {

@@ -1,43 +1,33 @@
 //! Sessions with those who connect.
 
-ghost use Rattle.std.specs.Prelude.{◌≡◌, IfOk};
-ghost use Rattle.std.specs.Arc.{arc_value};
+ghost use Rattle.std.specs.Prelude.{◌≡◌};
 ghost use Rattle.settings_core.specs.Spans.{IsWorkerCount};
-ghost use Rattle.loading.specs.Sharded.{HaveCap};
 
 use crate::asked::Serving;
 use crate::books::open_books;
-use crate::door::{Door, attend, open_door};
+use crate::door::{Door, attend};
 use crate::doors::{Doors, open_doors};
 use crate::following::When;
 use crate::ledger::Closed;
-use crate::limits::{beside, capacity};
-use crate::linking::partners_of;
+use crate::limits::beside;
 use crate::logging::log_all;
 use crate::loops::Loops;
 use crate::reporting::{DiskReporter, Reporter};
+use crate::starting::{State, open_announced, parts_of, state_of, with_arrivals};
 use crate::watching::{Beginning, Sight, Window, watch};
 use crate::yard::Yard;
-use http_core::Arrivals;
 use io_core::{Watched, write_output};
 use loading::Loaded;
-use peer_loops::{
-    Board, Common, Front, Links, News, Partners, Parts, Seats, Service, call_partners, serve_peers,
-};
+use peer_loops::{Common, Links, Seats, Service, call_partners, serve_peers};
 use peer_threads::{Gate, WorkersReport};
 use printing_core::{Fault, Refusal, refusal_of, served_text, tell_dropped, tell_in_memory};
-use range_tree::Tree;
 use session_table::SessionTable;
-use shard_core::OneShard;
-use std::alloc::{AllocError, Global};
 use std::fs::File;
 use std::io::Write;
 use std::rt::Files;
-use std::sync::{Arc, Mutex};
+use std::sync::Mutex;
 use std::thread::join;
-use strategy_check::Accepted;
 use tcp_front::Listener;
-use version_log::Log;
 
 /// What a server prints to: its output, and a second way to standard error, for its log.
 #[derive(Drop)]
@@ -74,18 +64,8 @@ impl<'a, 'p> Team<'a, 'p> {
     }
 }
 
-/// What the threads of a server share, beside its gate and the parts of its set.
-#[derive(Drop)]
-struct State<'p> {
-    accepted: Arc<Accepted>,
-    sessions: Mutex<SessionTable>,
-    news: News,
-    board: Board,
-    partners: Partners<'p>,
-}
-
-/// Serves by loops until the source has no more. Where there is none, it waits until the server is done, and forgets what
-/// a loop would have.
+/// Serves by loops until the source has no more. Where there is none, it waits until the server is done, and forgets
+/// what a loop would have.
 fn serve_all<R: Loops, E: Write + Drop + Send>(
     rt: &R,
     common: &Common<'_, DiskReporter<'_, '_, R, E>>,
@@ -282,83 +262,10 @@ fn work_tended<R: Loops, E: Write + Drop + Send, L: Write + Drop + Send, T: FnOn
     report
 }
 
-/// Opens the door of a server, if one is asked for, and says so. Else 60, 90 or `io write`; and no file of a socket is
-/// left.
-fn open_announced<'a, R, O: Write, E: Write>(
-    rt: &'a R,
-    serving: Serving<'a>,
-    doors: &Doors<'_, R>,
-    out: &mut O,
-    err: &mut E,
-) -> Result<Option<Door<'a, R>>, Refusal<'a>>
-where
-    R: Files + Loops,
-{
-    let opened = match open_door(rt, serving.watching.control) {
-        Ok(Some(door)) => door,
-        Ok(None) => return Ok(None),
-        Err(refusal) => {
-            doors.remove_files(rt);
-            return Err(refusal);
-        }
-    };
-    match opened.announce(rt.alloc(), out, err) {
-        Ok(()) => Ok(Some(opened)),
-        Err(refusal) => {
-            doors.remove_files(rt);
-            opened.remove_file(rt);
-            Err(refusal)
-        }
-    }
-}
-
-/// The gate of a server whose set has so many items. If there is a door, it keeps the last items that the set takes.
-fn with_arrivals<'r, 'a, R: Loops, E: Write + Drop>(
-    reporter: DiskReporter<'r, 'a, R, E>,
-    alloc: Global,
-    serving: Serving<'_>,
-    items: u64,
-) -> Result<DiskReporter<'r, 'a, R, E>, AllocError> {
-    if serving.watching.control.is_none() {
-        return Ok(reporter);
-    }
-    Ok(reporter.with_arrivals(Arrivals::new(alloc, items)?))
-}
-
 /// The refusal of a run whose workers ended so, and whose files were closed so.
 fn ending(report: WorkersReport, closed: Closed) -> Result<(), Fault> {
     refusal_of(report)?;
     closed.all_written()
-}
-
-/// Which items may be put into the part of this number: those of its shard, if the set is cut into shards, else all.
-fn own_of(front: Front<'_>, number: u16) -> Option<OneShard> {
-    match front {
-        Front::Cut(set) => Some(OneShard {
-            bits: set.bits,
-            number,
-        }),
-        Front::Open | Front::Named(_) => None,
-    }
-}
-
-/// The parts with these logs, of which the first has this number.
-fn parts_of(
-    alloc: Global,
-    accepted: &Arc<Accepted>,
-    front: Front<'_>,
-    first: u16,
-    logs: Vec<Log<Tree>>,
-) -> Result<Parts, AllocError>
-    requires { HaveCap (arc_value accepted.now).table.cap logs.items }
-{
-    let mut parts = Parts::new(alloc, first);
-    let mut number = first;
-    for log in logs {
-        parts.add(alloc, accepted, own_of(front, number), log)?;
-        number = number.saturating_add(1);
-    }
-    Ok(parts)
 }
 
 /// Serves by all threads over what they share, until the source has no more.
@@ -403,27 +310,6 @@ fn serve_over<'b, R: Files<File = File> + Loops, E: Write + Drop + Send, L: Writ
     };
     let tend = || gate.tend();
     work_tended(rt, &common, team, doors, service, log, answered, tend)
-}
-
-/// What the threads of a server share, before they begin.
-fn state_of<'p, R: Loops>(
-    rt: &R,
-    accepted: Accepted,
-    serving: Serving<'p>,
-) -> Result<State<'p>, AllocError>
-    ensures { IfOk result (λ state. arc_value state.accepted ≡ accepted) }
-{
-    let alloc = rt.alloc();
-    let accepted = Arc::new(alloc, accepted)?;
-    let partners = partners_of(rt, alloc, serving.calling)?;
-    let places = capacity(serving.limits.peers, partners.threads());
-    Ok(State {
-        accepted,
-        sessions: Mutex::new(SessionTable::new(alloc, places)?),
-        news: News::new(),
-        board: Board::new(alloc)?,
-        partners,
-    })
 }
 
 /// Prints what was counted. Then the file of the door is removed: who stopped the server sees by this that all is

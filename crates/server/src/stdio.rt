@@ -16,7 +16,7 @@ use crate::books::open_books;
 use crate::ledger::Closed;
 use crate::logging::{OnlySession, log_session};
 use crate::reporting::Reporter;
-use digest_core::{Counted, Fingerprint, Summary};
+use digest_core::{Counted, Fingerprint, WireSummary};
 use io_core::{Watched, write_output};
 use loading::{Loaded, Metered, millis_since};
 use peer_loops::WRONG_SET;

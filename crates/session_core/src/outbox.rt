@@ -10,7 +10,7 @@ ghost use Rattle.session_core.specs.Kept.{kept_to_say};
 ghost use Rattle.session_core.specs.Outboxes as outboxes;
 ghost use Rattle.session_core.specs.Outboxes.{outbox_state, ends_after, ends_from, less, Answered};
 
-use digest_core::Summary;
+use digest_core::WireSummary;
 use ends_core::{EndFault, Role, SessionEnd, Turn, messages_size, open_size};
 use std::alloc::{AllocError, Global};
 use std::marker::Model;
@@ -19,7 +19,7 @@ use wire_core::{Message, encode_hello, push_message};
 
 /// What a side has to say and nobody has taken.
 #[derive(Drop)]
-pub(crate) struct Outbox<F: Summary> {
+pub(crate) struct Outbox<F: WireSummary> {
     made: Vec<u8>,
     // The bytes in front of this place were taken.
     from: usize,
@@ -28,7 +28,7 @@ pub(crate) struct Outbox<F: Summary> {
     unsaid: Vec<Message<F>>,
 }
 
-impl<F: Summary> Model for Outbox<F> {
+impl<F: WireSummary> Model for Outbox<F> {
     ghost use Rattle.std.specs.Prelude.{◌+◌, ◌≤◌, drop, vec_len, vec_items};
     ghost use Rattle.session_core.specs.Outboxes.{OutboxState, outbox_state};
 
@@ -53,7 +53,7 @@ fn end_of(start: usize, count: usize) -> Result<usize, AllocError>
 
 /// The texts of messages, and these bytes after them; and where the texts of the messages end, if the first begins at
 /// this place.
-fn texts_of<F: Summary>(
+fn texts_of<F: WireSummary>(
     alloc: Global,
     messages: &[Message<F>],
     last: &[u8],
@@ -73,7 +73,7 @@ fn texts_of<F: Summary>(
 }
 
 /// The hello.
-pub(crate) fn hello_text<F: Summary>(alloc: Global) -> Result<Vec<u8>, AllocError>
+pub(crate) fn hello_text<F: WireSummary>(alloc: Global) -> Result<Vec<u8>, AllocError>
     ensures { IfOk result (λ text. text.items ≡ F.profile.hello) }
 {
     let mut text = Vec::new(alloc);
@@ -125,7 +125,7 @@ fn pass(ends: &mut Vec<usize>, count: usize)
     lower_all(ends, count);
 }
 
-impl<F: Summary> Outbox<F> {
+impl<F: WireSummary> Outbox<F> {
     /// These bytes are to be said, and then these messages.
     pub(crate) fn of(alloc: Global, made: Vec<u8>, unsaid: Vec<Message<F>>) -> Outbox<F>
         ensures { result ≡ outbox_state made.items [] unsaid.items }

@@ -13,7 +13,7 @@ use crate::polled::{Last, Polled};
 use crate::pumped::{Pause, Pumped, both, pause_of};
 use crate::session::Session;
 use crate::state::State;
-use digest_core::Summary;
+use digest_core::WireSummary;
 use ends_core::Role;
 use std::alloc::Global;
 use std::io::{Read, Write};
@@ -23,7 +23,7 @@ use store_core::RangeStore;
 const TURNS: usize = 16;
 
 /// Writes once of what is due.
-fn say_once<O: Write, R: Role, S: RangeStore, F: Summary>(
+fn say_once<O: Write, R: Role, S: RangeStore, F: WireSummary>(
     writer: &mut Polled<O>,
     session: &mut Session<R, S, F>,
 ) -> Result<Pumped, LinkFault>
@@ -47,7 +47,7 @@ fn say_once<O: Write, R: Role, S: RangeStore, F: Summary>(
 
 /// Pushes what a read gave. At the end of the input the session is told so. Where memory runs out, some of the piece
 /// may have been pushed.
-fn hear<R: Role, S: RangeStore, F: Summary>(
+fn hear<R: Role, S: RangeStore, F: WireSummary>(
     alloc: Global,
     session: &mut Session<R, S, F>,
     piece: &[u8],
@@ -79,7 +79,7 @@ fn hear<R: Role, S: RangeStore, F: Summary>(
 }
 
 /// Reads once, and pushes what came.
-fn hear_once<I: Read, R: Role, S: RangeStore, F: Summary>(
+fn hear_once<I: Read, R: Role, S: RangeStore, F: WireSummary>(
     alloc: Global,
     reader: &mut Polled<I>,
     session: &mut Session<R, S, F>,
@@ -106,7 +106,7 @@ fn hear_once<I: Read, R: Role, S: RangeStore, F: Summary>(
 }
 
 /// Whether the session goes on.
-fn is_open<R: Role, S: RangeStore, F: Summary>(session: &Session<R, S, F>) -> bool
+fn is_open<R: Role, S: RangeStore, F: WireSummary>(session: &Session<R, S, F>) -> bool
     ensures { result ≡ sessions.is_open session.now.talk.state }
 {
     matches!(session.state(), State::Open)
@@ -114,7 +114,7 @@ fn is_open<R: Role, S: RangeStore, F: Summary>(session: &Session<R, S, F>) -> bo
 
 /// Makes the text of all that is due, and then writes once of it, if there is any; else it reads once, and pushes what
 /// came.
-fn move_once<I: Read, O: Write, R: Role, S: RangeStore, F: Summary>(
+fn move_once<I: Read, O: Write, R: Role, S: RangeStore, F: WireSummary>(
     alloc: Global,
     reader: &mut Polled<I>,
     writer: &mut Polled<O>,
@@ -149,7 +149,7 @@ fn move_once<I: Read, O: Write, R: Role, S: RangeStore, F: Summary>(
 ///
 /// It says how it left off, and how many bytes it read and wrote. A read or a write that would wait reads or writes
 /// nothing. After an error the session is to be dropped: some bytes that were read last may not have been pushed.
-pub fn pump<I: Read, O: Write, R: Role, S: RangeStore, F: Summary>(
+pub fn pump<I: Read, O: Write, R: Role, S: RangeStore, F: WireSummary>(
     alloc: Global,
     reader: &mut Polled<I>,
     writer: &mut Polled<O>,

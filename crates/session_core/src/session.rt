@@ -24,7 +24,7 @@ ghost use Rattle.session_core.specs.declared.state.State.TheVariants as states;
 use crate::outbox::{Outbox, hello_text};
 use crate::state::State;
 use crate::talk::Talk;
-use digest_core::{Fingerprint, Summary};
+use digest_core::{Fingerprint, WireSummary};
 use ends_core::{
     Initiating, Initiator, Learned, Responder, Responding, Role, SessionEnd, open_size,
 };
@@ -37,7 +37,7 @@ use wire_core::{DecodeError, Event, Feed, NextEvent, WireFault};
 
 /// A session of this side, over a store and an accepted strategy. The profile is that of the summary.
 #[derive(Drop)]
-pub struct Session<R: Role, S: RangeStore, F: Summary = Fingerprint> {
+pub struct Session<R: Role, S: RangeStore, F: WireSummary = Fingerprint> {
     talk: Talk<R, S, F>,
     feed: Feed<F>,
     // The peer's bytes have ended.
@@ -46,7 +46,7 @@ pub struct Session<R: Role, S: RangeStore, F: Summary = Fingerprint> {
     begun: u64,
 }
 
-impl<R: Role, S: RangeStore, F: Summary> Model for Session<R, S, F> {
+impl<R: Role, S: RangeStore, F: WireSummary> Model for Session<R, S, F> {
     ghost use Rattle.session_core.specs.Sessions.{SessionState};
 
     ghost Value = { SessionState F };
@@ -55,7 +55,7 @@ impl<R: Role, S: RangeStore, F: Summary> Model for Session<R, S, F> {
 }
 
 /// The laws of bytes that are pushed in pieces, in one place.
-fn stream_laws<F: Summary>()
+fn stream_laws<F: WireSummary>()
     ensures { Laws F.summary F.profile }
 {
     laws::codec::feeds_join::<F>();
@@ -64,7 +64,7 @@ fn stream_laws<F: Summary>()
 }
 
 /// How many bytes came after the last whole frame, where so many did before a piece of this length.
-fn bytes_begun<F: Summary>(begun: u64, count: usize, event: &Option<Event<F>>) -> u64
+fn bytes_begun<F: WireSummary>(begun: u64, count: usize, event: &Option<Event<F>>) -> u64
     ensures { result ≡ begun_after event.now begun count }
 {
     match event {
@@ -84,7 +84,7 @@ fn unless_none(taken: usize) -> Result<usize, AllocError>
     Ok(taken)
 }
 
-impl<S: RangeStore, F: Summary> Session<Initiating, S, F> {
+impl<S: RangeStore, F: WireSummary> Session<Initiating, S, F> {
     /// The side that speaks first. Its hello and its first message are due. Where memory runs out the store is given
     /// back.
     pub fn initiate(
@@ -110,7 +110,7 @@ impl<S: RangeStore, F: Summary> Session<Initiating, S, F> {
     }
 }
 
-impl<S: RangeStore, F: Summary> Session<Responding, S, F> {
+impl<S: RangeStore, F: WireSummary> Session<Responding, S, F> {
     /// The side that is spoken to first. Its hello is due. Where memory runs out the store is given back.
     pub fn respond(
         alloc: Global,
@@ -131,7 +131,7 @@ impl<S: RangeStore, F: Summary> Session<Responding, S, F> {
     }
 }
 
-impl<R: Role, S: RangeStore, F: Summary> Session<R, S, F> {
+impl<R: Role, S: RangeStore, F: WireSummary> Session<R, S, F> {
     /// Nothing was pushed, and so much is counted for our message that waits.
     fn of(
         alloc: Global,

@@ -14,7 +14,7 @@ ghost use Rattle.session_core.specs.declared.state.State.TheVariants as states;
 
 use crate::outbox::Outbox;
 use crate::state::State;
-use digest_core::Summary;
+use digest_core::WireSummary;
 use ends_core::{EndFault, Learned, Role, SessionEnd, known_size};
 use std::alloc::{AllocError, Global};
 use std::marker::Model;
@@ -23,7 +23,7 @@ use wire_core::{Event, Part, encode_fault};
 
 /// An end, how its session stands, and what it has to say.
 #[derive(Drop)]
-pub(crate) struct Talk<R: Role, S: RangeStore, F: Summary> {
+pub(crate) struct Talk<R: Role, S: RangeStore, F: WireSummary> {
     end: SessionEnd<R, S, F>,
     outbox: Outbox<F>,
     state: State,
@@ -33,7 +33,7 @@ pub(crate) struct Talk<R: Role, S: RangeStore, F: Summary> {
     waits: u64,
 }
 
-impl<R: Role, S: RangeStore, F: Summary> Model for Talk<R, S, F> {
+impl<R: Role, S: RangeStore, F: WireSummary> Model for Talk<R, S, F> {
     ghost use Rattle.std.specs.Prelude.{◌≡◌};
     ghost use Rattle.definitions.specs.Ends.{own_of};
     ghost use Rattle.ends_core.specs.Sizes.{message_size};
@@ -62,7 +62,7 @@ fn unless_refused(size: u64, fault: EndFault) -> u64
     0
 }
 
-impl<R: Role, S: RangeStore, F: Summary> Talk<R, S, F> {
+impl<R: Role, S: RangeStore, F: WireSummary> Talk<R, S, F> {
     /// Nothing has been heard, and so much is counted for our message that waits.
     pub(crate) fn new(end: SessionEnd<R, S, F>, outbox: Outbox<F>, waits: u64) -> Talk<R, S, F>
         requires { waits ≡ sizes.message_size (own_of end.end.stage) }

@@ -7,7 +7,7 @@ ghost use Rattle.shard_core.specs.Directories.{entry_fault, number_fault, number
 
 use crate::shard::{number, shard_count};
 use crate::shard_sum::{MAX_COUNT, ShardSum};
-use digest_core::{Fingerprint, Summary};
+use digest_core::{Fingerprint, WireSummary};
 use item_core::Item;
 
 /// The number of bytes of an entry.

@@ -16,7 +16,7 @@ ghost use Rattle.sim_core.specs.Costs.{Costs, CostsFrom, CostsSample, HaveSpoken
 ghost use Rattle.sim_core.specs.Samples.{AreMade, IsSample};
 
 use crate::sample::{Sample, sets_of};
-use digest_core::{Fingerprint, Summary};
+use digest_core::{Fingerprint, WireSummary};
 use ends_core::{Initiating, Responding, Role};
 use item_core::Item;
 use range_tree::Tree;
@@ -40,7 +40,7 @@ pub struct Cost {
 
 /// Hands over all that one side has to say, and returns how many bytes that is: with none the other side stays as it
 /// is. Fails where memory runs out before the other side has heard all of it.
-fn hand_over<P: Role, Q: Role, F: Summary>(
+fn hand_over<P: Role, Q: Role, F: WireSummary>(
     alloc: Global,
     from: &mut Session<P, Tree, F>,
     to: &mut Session<Q, Tree, F>,
@@ -78,7 +78,7 @@ fn push_turn(turns: &mut Vec<usize>, count: usize) -> Result<(), AllocError>
 
 /// Lets the two sides speak in turn until neither has anything to say, and returns the bytes of each turn. So many
 /// turns that none would be left fit in no memory.
-fn talk<F: Summary>(
+fn talk<F: WireSummary>(
     alloc: Global,
     first: &mut Session<Initiating, Tree, F>,
     second: &mut Session<Responding, Tree, F>,
@@ -114,7 +114,7 @@ fn total(turns: &[usize]) -> Result<usize, AllocError>
 }
 
 /// The side that speaks first.
-fn first_side<F: Summary>(
+fn first_side<F: WireSummary>(
     alloc: Global,
     accepted: &Arc<Accepted>,
     ours: Tree,
@@ -131,7 +131,7 @@ fn first_side<F: Summary>(
 }
 
 /// The side that is spoken to first.
-fn second_side<F: Summary>(
+fn second_side<F: WireSummary>(
     alloc: Global,
     accepted: &Arc<Accepted>,
     theirs: Tree,
@@ -148,14 +148,14 @@ fn second_side<F: Summary>(
 }
 
 /// Two sides of this strategy that have heard each other, and have nothing due, have ended as the laws say.
-fn sides_meet<F: Summary>(accepted: &Arc<Accepted>)
+fn sides_meet<F: WireSummary>(accepted: &Arc<Accepted>)
     ensures { SessionsMeet F.summary F.profile (arc_value accepted.now) (arc_value accepted.now) }
 {
     session_core::two_sessions_meet::<F>(accepted, accepted);
 }
 
 /// The messages that both sides have said, which are no more than they may.
-fn messages_of<F: Summary>(
+fn messages_of<F: WireSummary>(
     first: &Session<Initiating, Tree, F>,
     second: &Session<Responding, Tree, F>,
 ) -> u64
@@ -167,7 +167,7 @@ fn messages_of<F: Summary>(
 }
 
 /// What it costs to let the two sides speak until neither has anything to say.
-fn spoken_cost<F: Summary>(
+fn spoken_cost<F: WireSummary>(
     alloc: Global,
     first: &mut Session<Initiating, Tree, F>,
     second: &mut Session<Responding, Tree, F>,
@@ -195,7 +195,7 @@ fn spoken_cost<F: Summary>(
 }
 
 /// What a session costs that this side begins with a responder of these items.
-fn cost_with<F: Summary>(
+fn cost_with<F: WireSummary>(
     alloc: Global,
     accepted: &Arc<Accepted>,
     theirs: Tree,
@@ -213,7 +213,7 @@ fn cost_with<F: Summary>(
 }
 
 /// What a session of any profile costs.
-fn cost_by<F: Summary>(
+fn cost_by<F: WireSummary>(
     alloc: Global,
     accepted: &Arc<Accepted>,
     theirs: Tree,

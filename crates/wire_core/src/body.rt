@@ -13,7 +13,7 @@ ghost use Rattle.wire_core.specs.PartFaults.{part_fault_number};
 use crate::fault::PartFault;
 use crate::field::rises_from;
 use crate::marks::Marks;
-use digest_core::Summary;
+use digest_core::WireSummary;
 use item_core::{Item, Range, Upper};
 use std::alloc::{AllocError, Global};
 
@@ -28,7 +28,7 @@ pub enum Body<F> {
     Answer(Marks, Vec<Item>),
 }
 
-impl<F: Summary> Body<F> {
+impl<F: WireSummary> Body<F> {
     /// The kind's byte.
     pub fn kind(&self) -> u8
         ensures { result ≡ kind_byte self.now }
@@ -89,7 +89,10 @@ impl<F: Summary> Body<F> {
         ensures each { AllByRecursion IsItem (items_in self.now) }
     {
         match self {
-            Body::Sum(_) => F::size(),
+            Body::Sum(sum) => {
+                sum.known();
+                F::size()
+            }
             Body::List(items) => 4 + texts_length(items),
             Body::Answer(marks, items) => 4 + marks.bytes().len() + 4 + texts_length(items),
         }

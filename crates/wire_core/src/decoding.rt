@@ -13,7 +13,7 @@ use crate::field::{take_bytes, take_number};
 use crate::message::{MAX_PARTS, Message};
 use crate::part::Part;
 use crate::reading::part_in;
-use digest_core::Summary;
+use digest_core::WireSummary;
 use std::alloc::Global;
 
 /// Takes a frame off the front and gives its body, if a whole one has come.
@@ -41,7 +41,7 @@ pub fn take_frame<'a>(bytes: &mut &'a [u8]) -> Result<Option<&'a [u8]>, WireFaul
 }
 
 /// Takes the next frame of a message off the front, after so many parts of it: a part, or none at the message's end.
-fn take_part<F: Summary>(
+fn take_part<F: WireSummary>(
     alloc: Global,
     bytes: &mut &[u8],
     parts: usize,
@@ -61,7 +61,7 @@ fn take_part<F: Summary>(
 }
 
 /// The parts of the one message that the bytes spell.
-fn parts_in<F: Summary>(alloc: Global, bytes: &[u8]) -> Result<Vec<Part<F>>, DecodeError>
+fn parts_in<F: WireSummary>(alloc: Global, bytes: &[u8]) -> Result<Vec<Part<F>>, DecodeError>
     ensures exact { Gives (λ v. v.items) result (message_in F.profile bytes.now) }
     ensures few { IfOk result (λ v. length v.items ≤ max_parts) }
 {
@@ -77,7 +77,7 @@ fn parts_in<F: Summary>(alloc: Global, bytes: &[u8]) -> Result<Vec<Part<F>>, Dec
 }
 
 /// The message that the bytes spell, or the first fault.
-fn message_of<F: Summary>(alloc: Global, bytes: &[u8]) -> Result<Message<F>, DecodeError>
+fn message_of<F: WireSummary>(alloc: Global, bytes: &[u8]) -> Result<Message<F>, DecodeError>
     ensures { Gives (λ message. message) result (message_in F.profile bytes.now) }
 {
     laws::codec::reads_are_bytes();
@@ -88,7 +88,10 @@ fn message_of<F: Summary>(alloc: Global, bytes: &[u8]) -> Result<Message<F>, Dec
 /// The one message that the bytes spell, from the first byte to the last, without a hello.
 ///
 /// Else the first fault from left to right, 2 to 12; memory may run out before any of these.
-pub fn decode_message<F: Summary>(alloc: Global, bytes: &[u8]) -> Result<Message<F>, DecodeError>
+pub fn decode_message<F: WireSummary>(
+    alloc: Global,
+    bytes: &[u8],
+) -> Result<Message<F>, DecodeError>
     // What is read is spelled so.
     ensures found { IfOk result (λ message. Spells F.profile message bytes.now) }
     // What is spelled so is read, unless memory runs out.

@@ -16,20 +16,20 @@ use crate::fault::{DecodeError, WireFault};
 use crate::pieces::{are_few, keep, next_length};
 use crate::standing::Standing;
 use crate::stream::take_next;
-use digest_core::{Fingerprint, Summary};
+use digest_core::{Fingerprint, WireSummary};
 use std::alloc::{AllocError, Global};
 use std::marker::{Model, PhantomData};
 
 /// A stream that comes in pieces: a hello, and then frames. Keeps the bytes of an unfinished hello or frame, and no
 /// more.
 #[derive(Debug, Drop)]
-pub struct Feed<F: Summary = Fingerprint> {
+pub struct Feed<F: WireSummary = Fingerprint> {
     standing: Standing,
     kept: Vec<u8>,
     of: PhantomData<F>,
 }
 
-impl<F: Summary> Model for Feed<F> {
+impl<F: WireSummary> Model for Feed<F> {
     ghost use Rattle.std.specs.Prelude.{◌≡◌};
     ghost use Rattle.definitions.specs.Streams.{feed, stays};
     ghost use Rattle.wire_core.specs.Feeds.{StreamState};
@@ -46,7 +46,7 @@ impl<F: Summary> Model for Feed<F> {
 
 /// What stands next in a stream.
 #[derive(Debug, Drop)]
-pub struct NextEvent<F: Summary = Fingerprint> {
+pub struct NextEvent<F: WireSummary = Fingerprint> {
     /// How many bytes of the piece it takes.
     pub taken: usize,
     /// The event that these end, if they do.
@@ -57,7 +57,7 @@ pub struct NextEvent<F: Summary = Fingerprint> {
 
 /// Reads the hello, where it is due, and a frame, in bytes that reach no further: the event, if the frame is whole, and
 /// the feed then.
-fn read_alone<F: Summary>(
+fn read_alone<F: WireSummary>(
     alloc: Global,
     bytes: &[u8],
     standing: Standing,
@@ -80,7 +80,10 @@ fn read_alone<F: Summary>(
 }
 
 /// Appends an event, if there is one.
-fn push_if<F: Summary>(out: &mut Vec<Event<F>>, event: Option<Event<F>>) -> Result<(), AllocError>
+fn push_if<F: WireSummary>(
+    out: &mut Vec<Event<F>>,
+    event: Option<Event<F>>,
+) -> Result<(), AllocError>
     ensures ok { OnOk result (out.new.items ≡ out.old.items ++ option_to_list event) }
     ensures before { take (length out.old.items) out.new.items ≡ out.old.items }
 {
@@ -90,7 +93,7 @@ fn push_if<F: Summary>(out: &mut Vec<Event<F>>, event: Option<Event<F>>) -> Resu
     Ok(())
 }
 
-impl<F: Summary> Feed<F> {
+impl<F: WireSummary> Feed<F> {
     /// Where it stands so, and no bytes are kept.
     fn at(alloc: Global, standing: Standing) -> Feed<F>
         ensures { result ≡ record { standing = standing_of standing; kept = [] } }

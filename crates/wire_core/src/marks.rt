@@ -44,7 +44,7 @@ impl Marks {
     }
 
     /// So many marks, packed in these bytes.
-    pub(crate) fn of_packed(alloc: Global, bytes: &[u8], count: u32) -> Result<Marks, AllocError>
+    pub fn of_packed(alloc: Global, bytes: &[u8], count: u32) -> Result<Marks, AllocError>
         requires { IsPacked count bytes.now }
         ensures { IfOk result (λ m. m ≡ marks_in count bytes.now) }
     {

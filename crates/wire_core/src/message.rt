@@ -6,7 +6,7 @@ ghost use Rattle.definitions.specs.Wire.{max_parts, IsPart, IsMessage};
 ghost use Rattle.wire_core.specs.Same.{same_part, same_part_equiv};
 
 use crate::part::Part;
-use digest_core::{Fingerprint, Summary};
+use digest_core::{Fingerprint, WireSummary};
 use std::alloc::{AllocError, Global};
 use std::marker::Model;
 
@@ -28,11 +28,11 @@ impl TooManyParts {
 
 /// A message: 0 to 131,072 parts in order.
 #[derive(Debug, Drop)]
-pub struct Message<F: Summary = Fingerprint> {
+pub struct Message<F: WireSummary = Fingerprint> {
     parts: Vec<Part<F>>,
 }
 
-impl<F: Summary> Model for Message<F> {
+impl<F: WireSummary> Model for Message<F> {
     ghost use Rattle.definitions.specs.Messages as messages;
     ghost use Rattle.definitions.specs.Wire.{IsMessage};
 
@@ -43,7 +43,7 @@ impl<F: Summary> Model for Message<F> {
     ghost invariant = { λ a. IsMessage F.profile a.parts.items };
 }
 
-impl<F: Summary> Message<F> {
+impl<F: WireSummary> Message<F> {
     /// The message of these parts, unless they are too many.
     pub fn new(parts: Vec<Part<F>>) -> Result<Message<F>, TooManyParts>
         ensures message { IfOk result (λ m. m ≡ parts.items) }
@@ -85,7 +85,7 @@ impl<F: Summary> Message<F> {
 }
 
 /// Each of the parts has a spelling, as reading it tells.
-fn have_spellings<F: Summary>(parts: &[Part<F>])
+fn have_spellings<F: WireSummary>(parts: &[Part<F>])
     ensures { AllByRecursion (IsPart F.profile) parts.now }
 {
     for part in parts {
@@ -93,7 +93,7 @@ fn have_spellings<F: Summary>(parts: &[Part<F>])
     }
 }
 
-impl<F: Summary> PartialEq for Message<F> {
+impl<F: WireSummary> PartialEq for Message<F> {
     ghost eq = { pointwise (same_part F.summary) };
 
     ghost laws = { partial_equiv_from_equiv (lists_equiv (same_part_equiv F.summary F.exact)) };
@@ -103,6 +103,6 @@ impl<F: Summary> PartialEq for Message<F> {
     }
 }
 
-impl<F: Summary> Eq for Message<F> {
+impl<F: WireSummary> Eq for Message<F> {
     ghost laws = { lists_equiv (same_part_equiv F.summary F.exact) };
 }

@@ -13,7 +13,7 @@ use crate::body::{Body, items_fault};
 use crate::fault::PartFault;
 use crate::marks::Marks;
 use crate::spelling::push_frame;
-use digest_core::{Fingerprint, Summary};
+use digest_core::{Fingerprint, WireSummary};
 use item_core::{Item, Range};
 use std::alloc::{AllocError, Global};
 use std::marker::Model;
@@ -32,12 +32,12 @@ pub enum PartKind {
 
 /// A part of a message: a range, and what the sender says of its items there. Each part has a spelling.
 #[derive(Debug, Drop)]
-pub struct Part<F: Summary = Fingerprint> {
+pub struct Part<F: WireSummary = Fingerprint> {
     range: Range,
     body: Body<F>,
 }
 
-impl<F: Summary> Model for Part<F> {
+impl<F: WireSummary> Model for Part<F> {
     ghost use Rattle.definitions.specs.Messages as messages;
     ghost use Rattle.definitions.specs.Wire.{IsPart};
 
@@ -50,7 +50,7 @@ impl<F: Summary> Model for Part<F> {
     ghost invariant = { λ a. IsPart F.profile (part_of a.range a.body) };
 }
 
-impl<F: Summary> Part<F> {
+impl<F: WireSummary> Part<F> {
     /// The fingerprint of the sender's items in the range.
     pub fn sum(range: Range, sum: F) -> Part<F>
         ensures { result ≡ Sum range sum }
@@ -159,7 +159,7 @@ impl<F: Summary> Part<F> {
     }
 
     /// Appends the frame of the part.
-    pub(crate) fn push(&self, out: &mut Vec<u8>) -> Result<(), AllocError>
+    pub fn push(&self, out: &mut Vec<u8>) -> Result<(), AllocError>
         ensures { OnOk result (out.new.items ≡ out.old.items ++ part_text F.profile self.now) }
     {
         push_frame(out, &self.range, &self.body)
@@ -196,7 +196,7 @@ impl<F: Summary> Part<F> {
     }
 }
 
-impl<F: Summary> PartialEq for Part<F> {
+impl<F: WireSummary> PartialEq for Part<F> {
     ghost eq = { same_part F.summary };
 
     ghost laws = { partial_equiv_from_equiv (same_part_equiv F.summary F.exact) };
@@ -206,6 +206,6 @@ impl<F: Summary> PartialEq for Part<F> {
     }
 }
 
-impl<F: Summary> Eq for Part<F> {
+impl<F: WireSummary> Eq for Part<F> {
     ghost laws = { same_part_equiv F.summary F.exact };
 }

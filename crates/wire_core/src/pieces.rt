@@ -10,7 +10,7 @@ ghost use Rattle.wire_core.specs.Feeds.{fault_at};
 ghost use Rattle.wire_core.specs.Nexts.{IsReach};
 
 use crate::standing::Standing;
-use digest_core::Summary;
+use digest_core::WireSummary;
 use std::alloc::AllocError;
 
 /// How many bytes an unfinished hello or frame wants beside those that have come, as far as these tell.
@@ -26,7 +26,7 @@ fn wanted(kept: &[u8]) -> usize
 }
 
 /// Tells that bytes that are kept and were read are less than the longest frame; nothing is done.
-pub fn are_few<F: Summary>(kept: &[u8], standing: Standing)
+pub fn are_few<F: WireSummary>(kept: &[u8], standing: Standing)
     requires { feed F.profile (standing_of standing) kept.now ≡ stays (standing_of standing) kept.now }
     ensures { length kept.now < 4 + max_body }
 {
@@ -48,7 +48,7 @@ fn append(kept: &mut Vec<u8>, piece: &[u8]) -> Result<(), AllocError>
 }
 
 /// Keeps a piece that does not end the unfinished hello or frame, and tells whether it did.
-pub fn keep<F: Summary>(
+pub fn keep<F: WireSummary>(
     kept: &mut Vec<u8>,
     piece: &[u8],
     standing: Standing,

@@ -14,7 +14,7 @@ use crate::fault::{DecodeError, WireFault};
 use crate::field::{take_byte, take_bytes, take_items, take_number, take_range};
 use crate::marks::{Marks, has_padding};
 use crate::part::Part;
-use digest_core::Summary;
+use digest_core::WireSummary;
 use item_core::{Item, Range};
 use std::alloc::Global;
 
@@ -39,14 +39,14 @@ fn take_marks(alloc: Global, bytes: &mut &[u8]) -> Result<Marks, DecodeError>
 }
 
 /// A fingerprint.
-fn take_fingerprint<F: Summary>(bytes: &mut &[u8]) -> Result<F, WireFault>
+fn take_fingerprint<F: WireSummary>(bytes: &mut &[u8]) -> Result<F, WireFault>
     ensures { GivesField (λ x. (x, bytes.new.now)) result (fingerprint_at F.profile bytes.old.now) }
 {
     Ok(F::read(take_bytes(bytes, F::size())?))
 }
 
 /// What follows the kind of a Sum.
-fn take_sum<F: Summary>(bytes: &mut &[u8]) -> Result<(Range, Body<F>), WireFault>
+fn take_sum<F: WireSummary>(bytes: &mut &[u8]) -> Result<(Range, Body<F>), WireFault>
     ensures { GivesField (λ x. (part_of x.0 x.1, bytes.new.now)) result
         (reading.sum_at F.profile bytes.old.now) }
 {
@@ -56,7 +56,7 @@ fn take_sum<F: Summary>(bytes: &mut &[u8]) -> Result<(Range, Body<F>), WireFault
 }
 
 /// What follows the kind of a List.
-fn take_listing<F: Summary>(
+fn take_listing<F: WireSummary>(
     alloc: Global,
     bytes: &mut &[u8],
 ) -> Result<(Range, Body<F>), DecodeError>
@@ -68,7 +68,7 @@ fn take_listing<F: Summary>(
 }
 
 /// What follows the kind of an Answer.
-fn take_answer<F: Summary>(
+fn take_answer<F: WireSummary>(
     alloc: Global,
     bytes: &mut &[u8],
 ) -> Result<(Range, Body<F>), DecodeError>
@@ -93,7 +93,7 @@ fn ends(bytes: &[u8]) -> Result<(), WireFault>
 }
 
 /// What follows a kind where one message is read: the fields of a part, or the end of the message.
-fn take_fields<F: Summary>(
+fn take_fields<F: WireSummary>(
     alloc: Global,
     bytes: &mut &[u8],
     kind: u8,
@@ -111,7 +111,7 @@ fn take_fields<F: Summary>(
 }
 
 /// All of a body where one message is read: the fields of a part, or the end of the message.
-fn fields_in<F: Summary>(
+fn fields_in<F: WireSummary>(
     alloc: Global,
     body: &[u8],
 ) -> Result<Option<(Range, Body<F>)>, DecodeError>
@@ -125,7 +125,7 @@ fn fields_in<F: Summary>(
 }
 
 /// What a frame's body says where one message is read: a part, or the end of the message.
-pub fn part_in<F: Summary>(alloc: Global, body: &[u8]) -> Result<Option<Part<F>>, DecodeError>
+pub fn part_in<F: WireSummary>(alloc: Global, body: &[u8]) -> Result<Option<Part<F>>, DecodeError>
     requires { length body.now ≤ max_body }
     ensures { Gives event_of result (reading.event_in F.profile One_message body.now) }
 {
@@ -148,7 +148,7 @@ fn code_in(rest: &[u8]) -> Result<u8, WireFault>
 }
 
 /// What a frame's body says in a stream.
-pub fn event_in<F: Summary>(alloc: Global, body: &[u8]) -> Result<Event<F>, DecodeError>
+pub fn event_in<F: WireSummary>(alloc: Global, body: &[u8]) -> Result<Event<F>, DecodeError>
     requires { length body.now ≤ max_body }
     ensures { Gives event_value result (reading.event_in F.profile Stream body.now) }
 {

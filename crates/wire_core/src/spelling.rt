@@ -10,7 +10,7 @@ use crate::body::Body;
 use crate::marks::Marks;
 use crate::message::Message;
 use crate::part::Part;
-use digest_core::Summary;
+use digest_core::WireSummary;
 use item_core::{Item, Range, Upper};
 use std::alloc::{AllocError, Global};
 
@@ -85,7 +85,7 @@ fn push_marks(out: &mut Vec<u8>, marks: &Marks) -> Result<(), AllocError>
 }
 
 /// Appends the fields of a body after its range.
-fn push_fields<F: Summary>(out: &mut Vec<u8>, body: &Body<F>) -> Result<(), AllocError>
+fn push_fields<F: WireSummary>(out: &mut Vec<u8>, body: &Body<F>) -> Result<(), AllocError>
     requires { length (items_in body.now) < 2 ^ 32 }
     ensures { OnOk result (out.new.items ≡ out.old.items ++ fields_text F.profile body.now) }
 {
@@ -101,7 +101,7 @@ fn push_fields<F: Summary>(out: &mut Vec<u8>, body: &Body<F>) -> Result<(), Allo
 
 /// Appends the frame of a part.
 #[tactic(auto, using(crate::proofs::Lengths::lengths))]
-pub fn push_frame<F: Summary>(
+pub fn push_frame<F: WireSummary>(
     out: &mut Vec<u8>,
     range: &Range,
     body: &Body<F>,
@@ -119,7 +119,7 @@ pub fn push_frame<F: Summary>(
 }
 
 /// The one spelling of a part: a frame.
-pub fn encode_part<F: Summary>(alloc: Global, part: &Part<F>) -> Result<Vec<u8>, AllocError>
+pub fn encode_part<F: WireSummary>(alloc: Global, part: &Part<F>) -> Result<Vec<u8>, AllocError>
     ensures { IfOk result (λ text. text.items ≡ part_text F.profile part.now) }
 {
     let mut frame = Vec::new(alloc);
@@ -128,7 +128,10 @@ pub fn encode_part<F: Summary>(alloc: Global, part: &Part<F>) -> Result<Vec<u8>,
 }
 
 /// Appends the one spelling of a message: its parts' frames in order, and the frame of its end.
-pub fn push_message<F: Summary>(out: &mut Vec<u8>, message: &Message<F>) -> Result<(), AllocError>
+pub fn push_message<F: WireSummary>(
+    out: &mut Vec<u8>,
+    message: &Message<F>,
+) -> Result<(), AllocError>
     ensures text { OnOk result (out.new.items ≡ out.old.items ++ message_text F.profile message.now) }
     ensures message { IsMessage F.profile message.now }
 {
@@ -140,7 +143,7 @@ pub fn push_message<F: Summary>(out: &mut Vec<u8>, message: &Message<F>) -> Resu
 }
 
 /// The one spelling of a message.
-pub fn encode_message<F: Summary>(
+pub fn encode_message<F: WireSummary>(
     alloc: Global,
     message: &Message<F>,
 ) -> Result<Vec<u8>, AllocError>
@@ -152,7 +155,7 @@ pub fn encode_message<F: Summary>(
 }
 
 /// The four bytes with which each side's stream begins.
-pub fn encode_hello<F: Summary>() -> [u8; 4]
+pub fn encode_hello<F: WireSummary>() -> [u8; 4]
     ensures { result ≡ F.profile.hello }
 {
     F::hello()

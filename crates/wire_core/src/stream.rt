@@ -17,12 +17,12 @@ use crate::fault::{DecodeError, WireFault};
 use crate::message::MAX_PARTS;
 use crate::reading::event_in;
 use crate::standing::Standing;
-use digest_core::Summary;
+use digest_core::WireSummary;
 use std::alloc::Global;
 
 /// Takes the next frame off the front, after so many parts of its message, and gives its event, if a whole one has
 /// come.
-fn take_event<F: Summary>(
+pub fn take_event<F: WireSummary>(
     alloc: Global,
     bytes: &mut &[u8],
     parts: usize,
@@ -43,7 +43,7 @@ fn take_event<F: Summary>(
 }
 
 /// Where a stream stands after an event that came after so many parts of its message.
-fn standing_after<F: Summary>(event: &Event<F>, parts: usize) -> Standing
+fn standing_after<F: WireSummary>(event: &Event<F>, parts: usize) -> Standing
     requires { Counts parts (event_value event.now) }
     ensures after { standing_of result ≡ stands_after parts (event_value event.now) }
     ensures faultless { fault_at (standing_of result) ≡ None }
@@ -56,7 +56,7 @@ fn standing_after<F: Summary>(event: &Event<F>, parts: usize) -> Standing
 }
 
 /// Takes a frame off the front, after so many parts of its message, if it has come whole. The bytes reach no further.
-fn take_one<F: Summary>(
+fn take_one<F: WireSummary>(
     alloc: Global,
     bytes: &mut &[u8],
     parts: usize,
@@ -76,7 +76,7 @@ fn take_one<F: Summary>(
 
 /// Takes the hello off the front, if its four bytes have come: then no part of a message has.
 #[tactic(auto, using(crate::proofs::Outcomes::after_cut))]
-fn take_hello<F: Summary>(bytes: &mut &[u8]) -> Result<Option<usize>, WireFault>
+fn take_hello<F: WireSummary>(bytes: &mut &[u8]) -> Result<Option<usize>, WireFault>
     ensures step { feed_start F.profile bytes.old.now
         ≡ starts_at result bytes.new.now (feed_frames F.profile (length bytes.old.now)) }
     ensures shorter { length bytes.new.now ≤ length bytes.old.now }
@@ -95,7 +95,10 @@ fn take_hello<F: Summary>(bytes: &mut &[u8]) -> Result<Option<usize>, WireFault>
 }
 
 /// Takes the hello off the front, where it is due. How many parts of the message have come, if a frame is next.
-fn take_start<F: Summary>(bytes: &mut &[u8], standing: Standing) -> Result<Option<usize>, WireFault>
+fn take_start<F: WireSummary>(
+    bytes: &mut &[u8],
+    standing: Standing,
+) -> Result<Option<usize>, WireFault>
     requires { is_over (standing_of standing) ≡ false }
     ensures step { feed F.profile (standing_of standing) bytes.old.now
         ≡ starts_at result bytes.new.now (feed_frames F.profile (length bytes.old.now)) }
@@ -112,7 +115,7 @@ fn take_start<F: Summary>(bytes: &mut &[u8], standing: Standing) -> Result<Optio
 
 /// Takes what stands next off the front: the hello, where it is due, and a frame, if it has come whole. The bytes reach
 /// no further.
-pub fn take_next<F: Summary>(
+pub fn take_next<F: WireSummary>(
     alloc: Global,
     bytes: &mut &[u8],
     standing: Standing,

@@ -12,7 +12,7 @@ ghost use Rattle.world_core.specs.Nodes.{node_by, newest};
 ghost use Rattle.world_core.specs.Steps.{did_of};
 
 use crate::step::Did;
-use digest_core::Summary;
+use digest_core::WireSummary;
 use ends_core::{Initiator, Responder};
 use item_core::Item;
 use range_tree::Tree;
@@ -88,7 +88,7 @@ impl Node {
     }
 
     /// An initiator with the newest version, and its first message.
-    pub(crate) fn initiator<F: Summary>(
+    pub(crate) fn initiator<F: WireSummary>(
         &self,
         alloc: Global,
     ) -> Result<(Initiator<Tree, F>, Message<F>), AllocError>
@@ -106,7 +106,7 @@ impl Node {
     }
 
     /// A responder with the newest version.
-    pub(crate) fn responder<F: Summary>(
+    pub(crate) fn responder<F: WireSummary>(
         &self,
         alloc: Global,
     ) -> Result<Responder<Tree, F>, AllocError>

@@ -15,7 +15,7 @@ ghost use Rattle.definitions.specs.Theorems.{node_of};
 use crate::node::Node;
 use crate::report::{Lists, Report};
 use crate::step::Did;
-use digest_core::Summary;
+use digest_core::WireSummary;
 use ends_core::{EndFault, Initiator, Responder, Role, SessionEnd, Side, Turn};
 use range_tree::Tree;
 use std::alloc::{AllocError, Global};
@@ -23,7 +23,7 @@ use wire_core::Message;
 
 /// A session of a run: its numbers, its ends, the message made last, and the greatest number of parts of a message.
 #[derive(Drop)]
-pub(crate) struct RunSession<F: Summary> {
+pub(crate) struct RunSession<F: WireSummary> {
     pub(crate) initiator_node: usize,
     pub(crate) responder_node: usize,
     pub(crate) initiator_version: usize,
@@ -36,7 +36,7 @@ pub(crate) struct RunSession<F: Summary> {
 }
 
 /// What an end answered that does not refuse.
-fn taken<F: Summary>(answered: Result<Turn<F>, EndFault>) -> Result<Turn<F>, AllocError>
+fn taken<F: WireSummary>(answered: Result<Turn<F>, EndFault>) -> Result<Turn<F>, AllocError>
     requires { IfSome (answer_in answered) IsTaken }
     ensures turn { IfOk result (λ turn. answer_in answered ≡ Some (answer_of turn)) }
     ensures memory { OnErr result (answer_in answered ≡ None) }
@@ -49,7 +49,7 @@ fn taken<F: Summary>(answered: Result<Turn<F>, EndFault>) -> Result<Turn<F>, All
 }
 
 /// An end hears a message.
-fn hear<R: Role, F: Summary>(
+fn hear<R: Role, F: WireSummary>(
     alloc: Global,
     end: &mut SessionEnd<R, Tree, F>,
     message: &Message<F>,
@@ -64,7 +64,7 @@ fn hear<R: Role, F: Summary>(
 }
 
 /// The responder hears a message. Where there is none yet it begins, with the newest version of its node.
-fn hear_at<F: Summary>(
+fn hear_at<F: WireSummary>(
     alloc: Global,
     second: &mut Option<Responder<Tree, F>>,
     node: &Node,
@@ -88,7 +88,7 @@ fn hear_at<F: Summary>(
 }
 
 /// What a responder learned so far.
-fn learned_second<'b, F: Summary>(second: &'b Option<Responder<Tree, F>>) -> Lists<'b>
+fn learned_second<'b, F: WireSummary>(second: &'b Option<Responder<Tree, F>>) -> Lists<'b>
     ensures { knowledge_of result ≡ learned_in second.now }
 {
     match second {
@@ -97,7 +97,7 @@ fn learned_second<'b, F: Summary>(second: &'b Option<Responder<Tree, F>>) -> Lis
     }
 }
 
-impl<F: Summary> RunSession<F> {
+impl<F: WireSummary> RunSession<F> {
     /// A session that is opened at this node.
     pub(crate) fn open(
         alloc: Global,

@@ -19,7 +19,7 @@ use crate::report::{Lists, Report};
 use crate::session::RunSession;
 use crate::setup::Setup;
 use crate::step::{Did, Step};
-use digest_core::{Fingerprint, Summary};
+use digest_core::{Fingerprint, WireSummary};
 use ends_core::Side;
 use item_core::Item;
 use std::alloc::{AllocError, Global};
@@ -28,12 +28,12 @@ use store_core::spans::distinct;
 
 /// A run of nodes and sessions.
 #[derive(Drop)]
-pub struct World<F: Summary = Fingerprint> {
+pub struct World<F: WireSummary = Fingerprint> {
     nodes: Vec<Node>,
     sessions: Vec<RunSession<F>>,
 }
 
-impl<F: Summary> Model for World<F> {
+impl<F: WireSummary> Model for World<F> {
     ghost use Rattle.definitions.specs.Worlds as worlds;
     ghost use Rattle.world_core.specs.Live.{world_of, IsRunning};
 
@@ -45,14 +45,14 @@ impl<F: Summary> Model for World<F> {
 }
 
 /// What the laws say of a session that is looked at.
-fn look_laws<F: Summary>()
+fn look_laws<F: WireSummary>()
     ensures { Laws F.summary }
 {
     laws::talks::sessions_tell::<F>();
 }
 
 /// And of one whose message is delivered.
-fn delivery_laws<F: Summary>()
+fn delivery_laws<F: WireSummary>()
     ensures { DeliveryLaws F.summary }
 {
     look_laws::<F>();
@@ -71,7 +71,7 @@ fn live_nodes(alloc: Global, prepared: &[Node]) -> Result<Vec<Node>, AllocError>
     Ok(nodes)
 }
 
-impl<F: Summary> World<F> {
+impl<F: WireSummary> World<F> {
     /// The nodes of the setup, and no session.
     pub fn new(alloc: Global, setup: &Setup) -> Result<World<F>, AllocError>
         ensures { IfOk result (λ w. w ≡ worlds.start setup.now) }
@@ -280,7 +280,7 @@ fn rising(alloc: Global, learned: Lists<'_>) -> Result<Vec<Item>, AllocError>
 }
 
 /// The world after these steps, from the setup on.
-fn run_steps<F: Summary>(
+fn run_steps<F: WireSummary>(
     alloc: Global,
     setup: &Setup,
     steps: &[Step],
@@ -301,7 +301,11 @@ fn run_steps<F: Summary>(
 /// ranges share a fingerprint, both differences. No message has more parts than the widths of both tables allow for
 /// each item that only one of the two versions has, or one. Each item of a history was there at the start, or was
 /// inserted. An item travels along sessions, each opened after the last one was absorbed by a node below its cap.
-pub fn run<F: Summary>(alloc: Global, setup: &Setup, steps: &[Step]) -> Result<World<F>, AllocError>
+pub fn run<F: WireSummary>(
+    alloc: Global,
+    setup: &Setup,
+    steps: &[Step],
+) -> Result<World<F>, AllocError>
     ensures world { IfOk result (λ w. w ≡ worlds.run F.summary (worlds.start setup.now) (map step_of steps.now)) }
     ensures few { IfOk result (λ w. AllByRecursion (HasFewMessages F.summary w) w.sessions) }
     ensures bound { IfOk result (λ w. AllByRecursion (IsWithinBound F.summary w) w.sessions) }

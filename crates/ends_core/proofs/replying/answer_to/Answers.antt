@@ -5,7 +5,7 @@ use Rattle.ends_core.proofs.replying.answer_to.Goals as goal
 pub unreachable-requires : goal.unreachable-requires
 unreachable-requires g c =
     let A = g.S.RangeStore.content c.args.store.now in
-    let fits = c.answers_fit.ensures g.F.Summary.profile A c.args.range.now c.args.listed.now
+    let fits = c.answers_fit.ensures g.F.WireSummary.profile A c.args.range.now c.args.listed.now
     (g.met.S.RangeStore.rises c.args.store.now) (g.met.S.RangeStore.are_items c.args.store.now) c.requires.few
     c.requires.part in
     let unlisted : c.push_unlisted.new.unlisted.items

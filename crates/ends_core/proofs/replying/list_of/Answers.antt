@@ -6,6 +6,6 @@ pub listing-requires : goal.listing-requires
 listing-requires g c =
     let A = g.S.RangeStore.content c.args.store.now in
     let range : IsRange c.args.range = search rules in
-    let fits = c.sets_fit.ensures g.F.Summary.profile A c.args.range (g.met.S.RangeStore.rises c.args.store.now)
+    let fits = c.sets_fit.ensures g.F.WireSummary.profile A c.args.range (g.met.S.RangeStore.rises c.args.store.now)
     (g.met.S.RangeStore.are_items c.args.store.now) c.requires.few range in
     rw (c.in_ok-items_at.ensures ∙ c.requires.at) fits

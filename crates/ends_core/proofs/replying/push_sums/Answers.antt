@@ -13,7 +13,7 @@ use Rattle.ends_core.proofs.replying.push_sums.Goals as goal
 pub loop-piece-preserved : goal.loop-piece-preserved
 loop-piece-preserved g c =
     let A = g.S.RangeStore.content c.args.store.now in
-    let S = g.F.Summary.summary in
+    let S = g.F.WireSummary.summary in
     let at = c.args.at in
     let ps = c.args.places.now in
     let ranges = c.args.ranges.now in

@@ -7,7 +7,7 @@ use Rattle.ends_core.proofs.session_end.begin.Goals as goal
 
 pub returns : goal.returns
 returns g c =
-    let S = g.F.Summary.summary in
+    let S = g.F.WireSummary.summary in
     let P : Peer = record { table = c.args.strategy.now; items = g.S.RangeStore.content c.args.store.now } in
     let exact = c.openings_are_exact.ensures S P (g.met.S.RangeStore.rises c.args.store.now) in
     let is : c.parts.result.now ≡ opening S P = search rules in

@@ -6,7 +6,7 @@ use Rattle.ends_core.proofs.session_end.first_message.Goals as goal
 
 pub unreachable-requires : goal.unreachable-requires
 unreachable-requires g c =
-    let S = g.F.Summary.summary in
+    let S = g.F.WireSummary.summary in
     let P : Peer = record { table = c.args.strategy.now; items = g.S.RangeStore.content c.args.store.now } in
     let exact = c.openings_are_exact.ensures S P (g.met.S.RangeStore.rises c.args.store.now) in
     let is : length c.in_ok-opening_parts.field-0.items ≡ length (opening S P) =

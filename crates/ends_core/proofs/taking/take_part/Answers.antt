@@ -14,7 +14,8 @@ returns-in-Ok-clause-ok g c =
     let fine : refusal (next before.now c.args.part.now) ≡ None = search rules in
     let listed = c.answered-listed.result.now in
     let answers : is_open c.args.part.now ≡ false → listed ≡ due before.own c.cursor-before.result = search rules in
-    let added : c.add.new.self ≡ drafted g.F.Summary.summary P c.args.draft.now listed c.args.part.now = search rules in
-    part-taken g.F.Summary.summary P before c.next.new.self c.cursor-before.result c.args.draft.now c.add.new.self
+    let added : c.add.new.self ≡ drafted g.F.WireSummary.summary P c.args.draft.now listed c.args.part.now =
+    search rules in
+    part-taken g.F.WireSummary.summary P before c.next.new.self c.cursor-before.result c.args.draft.now c.add.new.self
     listed c.args.part.now c.cursor-before.ensures.first c.requires.apart c.cursor-before.ensures.now answers
     (search rules) fine added

@@ -8,8 +8,8 @@ use Rattle.hub_core.proofs.opening.begun.Goals as goal
 
 pub returns-clause-knows : goal.returns-clause-knows
 returns-clause-knows g c =
-    let S = g.F.Summary.summary in
-    let W = g.F.Summary.profile in
+    let S = g.F.WireSummary.summary in
+    let W = g.F.WireSummary.profile in
     let P = peer_of (arc_value c.args.accepted) (g.S.RangeStore.content c.args.store) in
     let session = c.in_ok-session.session in
     let came = c.args.greeting.now.came in

@@ -9,13 +9,13 @@ use Rattle.peer_threads.proofs.dial.dial_one.Goals as goal
 
 pub returns-in-Ok-clause-bytes : goal.returns-in-Ok-clause-bytes
 returns-in-Ok-clause-bytes g c =
-    speaks-pinned g.F.Summary.summary g.F.Summary.profile (arc_value c.args.shared.now.accepted.now) c.pin.new.seat.view
-    c.in-Ok.pin _ _ _ c.dial_pinned.result c.in-Ok.ensures.pin c.dial_pinned.ensures.bytes
+    speaks-pinned g.F.WireSummary.summary g.F.WireSummary.profile (arc_value c.args.shared.now.accepted.now)
+    c.pin.new.seat.view c.in-Ok.pin _ _ _ c.dial_pinned.result c.in-Ok.ensures.pin c.dial_pinned.ensures.bytes
 
 pub returns-in-Err-clause-bytes : goal.returns-in-Err-clause-bytes
 returns-in-Err-clause-bytes g c =
     let found = c.pin.new.seat.view in
-    let s = initiating g.F.Summary.summary (peer_at (arc_value c.args.shared.now.accepted.now) found) in
+    let s = initiating g.F.WireSummary.summary (peer_at (arc_value c.args.shared.now.accepted.now) found) in
     let unread = g.R.Read.remaining c.args.connection.now.reader.inner in
     let held = g.W.Write.contents c.args.connection.now.writer.inner in
     let r = seen c.args.connection.now.reader.failed c.args.connection.now.reader.ended in
@@ -24,11 +24,11 @@ returns-in-Err-clause-bytes g c =
     found-fits c.args.seat.now.view found (arc_value c.args.shared.now.accepted.now).table.cap c.pin.ensures.view
     c.requires.fits in
     let set = c.set_of_a_list.ensures.set (items_of found.base) in
-    speaks g.F.Summary.summary g.F.Summary.profile _ s _ _ _ _ r w c.stopped.result
-    (speaks-unsaid g.F.Summary.summary g.F.Summary.profile s _ _ c.new.result unread held
+    speaks g.F.WireSummary.summary g.F.WireSummary.profile _ s _ _ _ _ r w c.stopped.result
+    (speaks-unsaid g.F.WireSummary.summary g.F.WireSummary.profile s _ _ c.new.result unread held
     (g.W.Write.contents c.stopped.new.writer.inner) r w c.args.connection.now.writer.failed Memory c.stopped.result
     c.new.ensures
-    (stops-silent g.F.Summary.summary g.F.Summary.profile (IsTimely c.new.result.sent) s c.new.result unread held r
-    c.args.connection.now.writer.failed c.new.ensures)
+    (stops-silent g.F.WireSummary.summary g.F.WireSummary.profile (IsTimely c.new.result.sent) s c.new.result unread
+    held r c.args.connection.now.writer.failed c.new.ensures)
     c.stopped.ensures.leaves c.stopped.ensures.outcome)
     (λ bytes are known. c.sides_keep_bounds.ensures.initiator (content found.base) bytes are set fits)

@@ -13,8 +13,8 @@ pub returns-in_err-inbox-clause-stopped : goal.returns-in_err-inbox-clause-stopp
 returns-in_err-inbox-clause-stopped g c =
     told c.from_residual.result c.in_err-inbox.field-0.0 _ (search rules) (λ P.
     let r = seen c.args.connection.now.reader.failed c.args.connection.now.reader.ended in
-    let stopped = stops-ungreeted g.F.Summary.summary g.F.Summary.profile c.exchange_laws.ensures P _ c.args.hello.bytes
-    (g.R.Read.remaining c.args.connection.now.reader.inner)
+    let stopped = stops-ungreeted g.F.WireSummary.summary g.F.WireSummary.profile c.exchange_laws.ensures P _
+    c.args.hello.bytes (g.R.Read.remaining c.args.connection.now.reader.inner)
     (g.W.Write.contents c.args.connection.now.writer.inner) r c.args.connection.now.writer.failed
     c.in_err-inbox.field-0.0 c.requires.new
     c.requires.hello.fits (c.in_err-inbox.ensures.stopped r) in
@@ -23,7 +23,7 @@ returns-in_err-inbox-clause-stopped g c =
 pub returns-in_err-greet-clause-stopped : goal.returns-in_err-greet-clause-stopped
 returns-in_err-greet-clause-stopped g c =
     told c.from_residual-in_err-greet.result (stops.Io directions.Write) _ (search rules) (λ P.
-    let stopped = stops-broken-after g.F.Summary.summary g.F.Summary.profile IsNone P c.args.sender.now
+    let stopped = stops-broken-after g.F.WireSummary.summary g.F.WireSummary.profile IsNone P c.args.sender.now
     c.greet.new.self c.args.hello.bytes
     (g.R.Read.remaining c.args.connection.now.reader.inner) (g.W.Write.contents c.args.connection.now.writer.inner)
     (g.W.Write.contents c.greet.new.writer.inner)
@@ -36,20 +36,20 @@ pub returns-in_err-first-clause-stopped : goal.returns-in_err-first-clause-stopp
 returns-in_err-first-clause-stopped g c =
     let is = err_from_is_err_and c.from_residual-in_err-first.result c.from_residual-in_err-first.ensures.1 in
     told c.from_residual-in_err-first.result c.in_err-first.field-0.0 _ (is.1 ∙ ap Err is.2) (λ P.
-    let x = greeted g.F.Summary.summary g.F.Summary.profile _ _ _ _ _ _ _ c.requires.new c.in_ok-greet.ensures.greeted
-    c.in_ok-greet.ensures.whole
+    let x = greeted g.F.WireSummary.summary g.F.WireSummary.profile _ _ _ _ _ _ _ c.requires.new
+    c.in_ok-greet.ensures.greeted c.in_ok-greet.ensures.whole
     c.requires.hello.fits c.in_ok-inbox.ensures.read in
-    let stopped = stops-begun g.F.Summary.summary g.F.Summary.profile c.exchange_laws.ensures P _ _ _ _ _ _
+    let stopped = stops-begun g.F.WireSummary.summary g.F.WireSummary.profile c.exchange_laws.ensures P _ _ _ _ _ _
     c.greet.new.writer.failed c.in_err-first.field-0.0 x
     (c.in_err-first.ensures.stopped x.bytes [] x.are_bytes x.came) in
     search (rules, stopped))
 
 pub returns-clause-met : goal.returns-clause-met
 returns-clause-met g c =
-    let x = greeted g.F.Summary.summary g.F.Summary.profile _ _ _ _ _ _ _ c.requires.new c.in_ok-greet.ensures.greeted
-    c.in_ok-greet.ensures.whole
+    let x = greeted g.F.WireSummary.summary g.F.WireSummary.profile _ _ _ _ _ _ _ c.requires.new
+    c.in_ok-greet.ensures.greeted c.in_ok-greet.ensures.whole
     c.requires.hello.fits c.in_ok-inbox.ensures.read in
-    reads-on g.F.Summary.summary g.F.Summary.profile _ _ _ _ _ [] (message_came c.in_ok-first.first.items) x
+    reads-on g.F.WireSummary.summary g.F.WireSummary.profile _ _ _ _ _ [] (message_came c.in_ok-first.first.items) x
     (c.in_ok-first.ensures.came x.bytes [] x.are_bytes x.came)
 
 pub returns-in_err-inbox-clause-fared : goal.returns-in_err-inbox-clause-fared

@@ -15,8 +15,8 @@ parts-init g c =
       step = λ start step. step;
       reads = omega arith;
       place = search rules;
-      fits = parts-fit g.F.Summary.summary g.F.Summary.profile c.new-parts.result.items none;
-      came = parts-none g.F.Summary.summary g.F.Summary.profile g.met.F.Summary.real
+      fits = parts-fit g.F.WireSummary.summary g.F.WireSummary.profile c.new-parts.result.items none;
+      came = parts-none g.F.WireSummary.summary g.F.WireSummary.profile g.met.F.WireSummary.real
           (g.R.Read.remaining c.args.reader.now.inner) c.args.inbox.now c.new-parts.result.items none;
     }
 
@@ -24,7 +24,7 @@ parts-init g c =
 pub returns-in_err-event-clause-stopped : goal.returns-in_err-event-clause-stopped
 returns-in_err-event-clause-stopped g c =
     told c.from_residual.result c.in_err-event.field-0.0 _ (search rules)
-    (parts-stopped g.F.Summary.summary g.F.Summary.profile g.met.F.Summary.real
+    (parts-stopped g.F.WireSummary.summary g.F.WireSummary.profile g.met.F.WireSummary.real
     (seen c.next.new.reader.failed c.next.new.reader.ended) (g.R.Read.remaining c.args.reader.now.inner)
     (g.R.Read.remaining c.parts.reader.inner) (g.R.Read.remaining c.next.new.reader.inner) c.args.inbox.now
     c.parts.inbox c.next.new.self c.parts.parts.items c.in_err-event.field-0.0 c.parts.invariant.fits
@@ -35,7 +35,7 @@ pub returns-in_err-is_whole-clause-stopped : goal.returns-in_err-is_whole-clause
 returns-in_err-is_whole-clause-stopped g c =
     let is = err_from_is_err_and c.from_residual-in_err-is_whole.result c.from_residual-in_err-is_whole.ensures.1 in
     told c.from_residual-in_err-is_whole.result c.in_err-is_whole.field-0.0 _ (is.1 ∙ ap Err is.2)
-    (parts-refused g.F.Summary.summary g.F.Summary.profile g.met.F.Summary.real
+    (parts-refused g.F.WireSummary.summary g.F.WireSummary.profile g.met.F.WireSummary.real
     (seen c.next.new.reader.failed c.next.new.reader.ended) (g.R.Read.remaining c.args.reader.now.inner)
     (g.R.Read.remaining c.parts.reader.inner) (g.R.Read.remaining c.next.new.reader.inner) c.args.inbox.now
     c.parts.inbox c.next.new.self c.parts.parts.items (event_value c.in_ok-event.event)
@@ -46,11 +46,11 @@ returns-in_err-is_whole-clause-stopped g c =
 pub returns-then-is_whole-clause-came : goal.returns-then-is_whole-clause-came
 returns-then-is_whole-clause-came g c =
     let yes : c.in_ok-is_whole.is_whole ≡ true = search rules in
-    parts-ended g.F.Summary.summary g.F.Summary.profile g.met.F.Summary.real
+    parts-ended g.F.WireSummary.summary g.F.WireSummary.profile g.met.F.WireSummary.real
     (g.R.Read.remaining c.args.reader.now.inner) (g.R.Read.remaining c.parts.reader.inner)
     (g.R.Read.remaining c.next.new.reader.inner) c.args.inbox.now c.parts.inbox c.next.new.self c.parts.parts.items
     c.put_first.new.parts.items (event_value c.in_ok-event.event)
-    (subst (FirstWent g.F.Summary.summary c.parts.parts.items c.put_first.new.parts.items
+    (subst (FirstWent g.F.WireSummary.summary c.parts.parts.items c.put_first.new.parts.items
     (event_value c.in_ok-event.event)) yes c.in_ok-is_whole.ensures.went) c.parts.invariant.came
     c.in_ok-event.ensures.read
 
@@ -58,7 +58,7 @@ returns-then-is_whole-clause-came g c =
 pub parts-preserved : goal.parts-preserved
 parts-preserved g c =
     let none : c.in_ok-is_whole.is_whole ≡ false = search rules in
-    let went = subst (FirstWent g.F.Summary.summary c.parts.parts.items c.put_first.new.parts.items
+    let went = subst (FirstWent g.F.WireSummary.summary c.parts.parts.items c.put_first.new.parts.items
     (event_value c.in_ok-event.event)) none c.in_ok-is_whole.ensures.went in
     record {
       listens = c.in_ok-event.ensures.listens;
@@ -66,7 +66,7 @@ parts-preserved g c =
       reads = omega (arith, c.parts.invariant.reads, c.in_ok-event.ensures.reads.0);
       place = c.in_ok-is_whole.ensures.place;
       fits = went.3;
-      came = parts-more g.F.Summary.summary g.F.Summary.profile g.met.F.Summary.real
+      came = parts-more g.F.WireSummary.summary g.F.WireSummary.profile g.met.F.WireSummary.real
           (g.R.Read.remaining c.args.reader.now.inner) (g.R.Read.remaining c.parts.reader.inner)
           (g.R.Read.remaining c.next.new.reader.inner) c.args.inbox.now c.parts.inbox c.next.new.self
           c.parts.parts.items c.put_first.new.parts.items (event_value c.in_ok-event.event) went

@@ -11,10 +11,10 @@ invariant-parts g l = record {
   listens : l.reader.failed ≡ false;
   step : (start : ℕ) → InStep start l.fn.reader.reads l.fn.inbox.reads → InStep start l.reader.reads l.inbox.reads;
   reads : l.reader.reads + l.fn.inbox.reads ≤ l.fn.reader.reads + l.inbox.reads;
-  place : l.place.now ≡ first_place g.F.Summary.summary l.parts.items;
-  fits : MayBegin g.F.Summary.summary l.parts.items;
-  came : Reads g.F.Summary.profile (g.R.Read.remaining l.fn.reader.inner) (g.R.Read.remaining l.reader.inner) l.fn.inbox
-      (HasParts g.F.Summary.summary g.F.Summary.profile l.inbox l.parts.items);
+  place : l.place.now ≡ first_place g.F.WireSummary.summary l.parts.items;
+  fits : MayBegin g.F.WireSummary.summary l.parts.items;
+  came : Reads g.F.WireSummary.profile (g.R.Read.remaining l.fn.reader.inner) (g.R.Read.remaining l.reader.inner)
+      l.fn.inbox (HasParts g.F.WireSummary.summary g.F.WireSummary.profile l.inbox l.parts.items);
 }
 
 abbrev pub decreases-parts : goal.decreases-parts

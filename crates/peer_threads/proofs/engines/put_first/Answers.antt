@@ -11,7 +11,7 @@ use Rattle.peer_threads.proofs.engines.put_first.Goals as goal
 
 pub returns-in_err-next-in-Part-clause-stopped : goal.returns-in_err-next-in-Part-clause-stopped
 returns-in_err-next-in-Part-clause-stopped g c =
-    let S = g.F.Summary.summary in
+    let S = g.F.WireSummary.summary in
     let M = c.args.parts.now.items in
     let p = c.in-Part.part in
     let f = c.in_err-next-in-Part.field-0.0 in
@@ -22,11 +22,11 @@ returns-in_err-next-in-Part-clause-stopped g c =
     ap (λ x. x.now) c.next.ensures.place ∙ ap (λ x. next x p) c.requires.place in
     told c.from_residual.result (of_placing f) _ (is.1 ∙ ap Err is.2) (λ P.
     subst (λ e. Refuses S (first_held S P M) e (of_placing f)) (sym came)
-    (part-refused S g.F.Summary.profile P M p (place_fault_number f) (said ∙ ap refusal at)))
+    (part-refused S g.F.WireSummary.profile P M p (place_fault_number f) (said ∙ ap refusal at)))
 
 pub returns-in_err-finish-in-End-clause-stopped : goal.returns-in_err-finish-in-End-clause-stopped
 returns-in_err-finish-in-End-clause-stopped g c =
-    let S = g.F.Summary.summary in
+    let S = g.F.WireSummary.summary in
     let M = c.args.parts.now.items in
     let f = c.in_err-finish-in-End.field-0.0 in
     let is = err_from_is_err_and c.from_residual-in_err-finish-in-End.result
@@ -35,4 +35,4 @@ returns-in_err-finish-in-End-clause-stopped g c =
     let said : Some (place_fault_number f) ≡ finish c.args.place.now.now = search rules in
     told c.from_residual-in_err-finish-in-End.result (of_placing f) _ (is.1 ∙ ap Err is.2) (λ P.
     subst (λ e. Refuses S (first_held S P M) e (of_placing f)) (sym ended)
-    (end-refused S g.F.Summary.profile P M (place_fault_number f) (said ∙ ap finish c.requires.place)))
+    (end-refused S g.F.WireSummary.profile P M (place_fault_number f) (said ∙ ap finish c.requires.place)))

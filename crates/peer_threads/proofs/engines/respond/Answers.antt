@@ -21,11 +21,11 @@ returns-in-Err-clause-bytes g c = λ unread held x.
     let r = seen c.args.connection.now.reader.failed c.args.connection.now.reader.ended in
     let w = seen c.stopped.new.writer.failed c.stopped.new.writer.ended in
     let o = c.args.sender in
-    speaks-stopped g.F.Summary.summary g.F.Summary.profile p c.args.pin.version _ o t
+    speaks-stopped g.F.WireSummary.summary g.F.WireSummary.profile p c.args.pin.version _ o t
     (g.W.Write.contents c.stopped.new.writer.inner) r w c.args.connection.now.writer.failed stops.Memory
     c.stopped.result
     c.requires.none
-    (stops-poor g.F.Summary.summary g.F.Summary.profile p _ o t r c.args.connection.now.writer.failed _ x)
+    (stops-poor g.F.WireSummary.summary g.F.WireSummary.profile p _ o t r c.args.connection.now.writer.failed _ x)
     c.stopped.ensures.leaves c.stopped.ensures.outcome
 
 pub returns-in-Err-clause-on : goal.returns-in-Err-clause-on
@@ -42,11 +42,11 @@ returns-in-Err-open-clause-bytes g c = λ unread held x.
     let o = c.args.sender in
     let code = table_fault_number c.in-Err-open.refusal.fault in
     let broken = c.args.connection.now.writer.failed in
-    speaks-stopped g.F.Summary.summary g.F.Summary.profile p c.args.pin.version _ o t holds r w broken
+    speaks-stopped g.F.WireSummary.summary g.F.WireSummary.profile p c.args.pin.version _ o t holds r w broken
     (stops.Refused code) c.stopped-in-Err-open.result c.requires.none
-    (stops-unlisted g.F.Summary.summary g.F.Summary.profile p _ o t r broken _ code x
+    (stops-unlisted g.F.WireSummary.summary g.F.WireSummary.profile p _ o t r broken _ code x
     c.in-Err-open.ensures.refused c.requires.none)
-    (subst (λ y. Leaves g.F.Summary.profile o t.holds holds broken w.failed y) c.from.ensures
+    (subst (λ y. Leaves g.F.WireSummary.profile o t.holds holds broken w.failed y) c.from.ensures
     c.stopped-in-Err-open.ensures.leaves)
     (c.stopped-in-Err-open.ensures.outcome ∙ ap (λ y. outcome_of o.sent y) c.from.ensures)
 
@@ -60,11 +60,11 @@ returns-clause-bytes g c = λ unread held x.
     let holds = g.W.Write.contents c.concluded-outcome.new.writer.inner in
     let r = seen c.answer-talked.new.connection.reader.failed c.answer-talked.new.connection.reader.ended in
     let w = seen c.concluded-outcome.new.writer.failed c.concluded-outcome.new.writer.ended in
-    subst (λ v. Spoke g.F.Summary.summary g.F.Summary.profile (responding g.F.Summary.summary p) v bound
+    subst (λ v. Spoke g.F.WireSummary.summary g.F.WireSummary.profile (responding g.F.WireSummary.summary p) v bound
     (traffic_of unread left held holds) r w c.concluded-outcome.result) c.version-version.ensures
-    (c.concluded-outcome.ensures.bytes (responding g.F.Summary.summary p) bound unread left held r
+    (c.concluded-outcome.ensures.bytes (responding g.F.WireSummary.summary p) bound unread left held r
     (c.answer-talked.ensures.talked p a.steps unread held is x)
-    (subst (λ h. c.answer-talked.new.sender.sent ≤ most_sent g.F.Summary.summary Responder h) is
+    (subst (λ h. c.answer-talked.new.sender.sent ≤ most_sent g.F.WireSummary.summary Responder h) is
     c.answer-talked.ensures.few))
 
 pub returns-in-Err-open-clause-on : goal.returns-in-Err-open-clause-on

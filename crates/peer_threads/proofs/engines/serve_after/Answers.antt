@@ -14,7 +14,7 @@ returns-in-Err-clause-view g c =
     let w = seen c.stopped.new.writer.failed c.stopped.new.writer.ended in
     inr (
       refl,
-      unopened g.F.Summary.summary g.F.Summary.profile c.first_message.new.sender _
+      unopened g.F.WireSummary.summary g.F.WireSummary.profile c.first_message.new.sender _
           (g.W.Write.contents c.stopped.new.writer.inner) r w c.first_message.new.connection.writer.failed c.in-Err.stop
           c.stopped.result
           c.first_message.ensures.none
@@ -29,12 +29,12 @@ returns-in-Err-clause-bytes g c =
     let p = peer_at (arc_value c.args.shared.now.accepted.now) v in
     let r = seen c.first_message.new.connection.reader.failed c.first_message.new.connection.reader.ended in
     let w = seen c.stopped.new.writer.failed c.stopped.new.writer.ended in
-    let why = stopped-anyhow g.F.Summary.summary g.F.Summary.profile (responding g.F.Summary.summary p)
+    let why = stopped-anyhow g.F.WireSummary.summary g.F.WireSummary.profile (responding g.F.WireSummary.summary p)
     c.first_message.new.sender _ r
     c.first_message.new.connection.writer.failed c.in-Err.stop
     (untold c.first_message.result c.in-Err.stop _ c.in-Err.is c.first_message.ensures.stopped p) in
-    speaks g.F.Summary.summary g.F.Summary.profile _ (responding g.F.Summary.summary p) _ _ _ _ r w c.stopped.result
-    (speaks-stopped g.F.Summary.summary g.F.Summary.profile p _ _ c.first_message.new.sender _
+    speaks g.F.WireSummary.summary g.F.WireSummary.profile _ (responding g.F.WireSummary.summary p) _ _ _ _ r w
+    c.stopped.result (speaks-stopped g.F.WireSummary.summary g.F.WireSummary.profile p _ _ c.first_message.new.sender _
     (g.W.Write.contents c.stopped.new.writer.inner) r w c.first_message.new.connection.writer.failed c.in-Err.stop
     c.stopped.result
     c.first_message.ensures.none why c.stopped.ensures.leaves c.stopped.ensures.outcome)
@@ -43,8 +43,8 @@ returns-in-Err-clause-bytes g c =
 pub returns-in-Ok-pin-clause-bytes : goal.returns-in-Ok-pin-clause-bytes
 returns-in-Ok-pin-clause-bytes g c =
     let met = c.in-Ok.ensures.met in
-    serves g.F.Summary.summary g.F.Summary.profile (arc_value c.args.shared.now.accepted.now) _ c.pin.new.seat.view
-    c.in-Ok-pin.pin
+    serves g.F.WireSummary.summary g.F.WireSummary.profile (arc_value c.args.shared.now.accepted.now) _
+    c.pin.new.seat.view c.in-Ok-pin.pin
     _ _ _ c.respond.result
     c.in-Ok-pin.ensures.pin c.of-host.ensures
     (c.respond.ensures.bytes (After c.args.hello.bytes (g.R.Read.remaining c.args.connection.now.reader.inner))
@@ -56,13 +56,13 @@ returns-in-Err-pin-clause-bytes g c =
     let p = peer_at (arc_value c.args.shared.now.accepted.now) found in
     let r = seen c.first_message.new.connection.reader.failed c.first_message.new.connection.reader.ended in
     let w = seen c.stopped-in-Err-pin.new.writer.failed c.stopped-in-Err-pin.new.writer.ended in
-    speaks g.F.Summary.summary g.F.Summary.profile _ (responding g.F.Summary.summary p) _ _ _ _ r w
+    speaks g.F.WireSummary.summary g.F.WireSummary.profile _ (responding g.F.WireSummary.summary p) _ _ _ _ r w
     c.stopped-in-Err-pin.result
-    (speaks-stopped g.F.Summary.summary g.F.Summary.profile p _ _ c.first_message.new.sender _
+    (speaks-stopped g.F.WireSummary.summary g.F.WireSummary.profile p _ _ c.first_message.new.sender _
     (g.W.Write.contents c.stopped-in-Err-pin.new.writer.inner) r w c.first_message.new.connection.writer.failed
     stops.Memory
     c.stopped-in-Err-pin.result c.first_message.ensures.none
-    (stops-poor g.F.Summary.summary g.F.Summary.profile p _ c.first_message.new.sender _ r
+    (stops-poor g.F.WireSummary.summary g.F.WireSummary.profile p _ c.first_message.new.sender _ r
     c.first_message.new.connection.writer.failed _
     c.in-Ok.ensures.met)
     c.stopped-in-Err-pin.ensures.leaves c.stopped-in-Err-pin.ensures.outcome)
@@ -71,13 +71,13 @@ returns-in-Err-pin-clause-bytes g c =
 pub returns-in-Ok-pin-clause-opened : goal.returns-in-Ok-pin-clause-opened
 returns-in-Ok-pin-clause-opened g c =
     let met = c.in-Ok.ensures.met in
-    let join = c.feeds_join.ensures g.F.Summary.profile g.met.F.Summary.real in
-    inr (came-first g.F.Summary.summary g.F.Summary.profile join c.opening_is_exact.ensures _ _ _ _ _ _ _ _
+    let join = c.feeds_join.ensures g.F.WireSummary.profile g.met.F.WireSummary.real in
+    inr (came-first g.F.WireSummary.summary g.F.WireSummary.profile join c.opening_is_exact.ensures _ _ _ _ _ _ _ _
     c.in-Ok.ensures.first met (c.respond.ensures.on _ (g.W.Write.contents c.args.connection.now.writer.inner) met))
 
 pub returns-in-Err-pin-clause-opened : goal.returns-in-Err-pin-clause-opened
 returns-in-Err-pin-clause-opened g c =
     let met = c.in-Ok.ensures.met in
-    let join = c.feeds_join.ensures g.F.Summary.profile g.met.F.Summary.real in
-    inr (came-first g.F.Summary.summary g.F.Summary.profile join c.opening_is_exact.ensures _ _ _ _ _ _ _ _
+    let join = c.feeds_join.ensures g.F.WireSummary.profile g.met.F.WireSummary.real in
+    inr (came-first g.F.WireSummary.summary g.F.WireSummary.profile join c.opening_is_exact.ensures _ _ _ _ _ _ _ _
     c.in-Ok.ensures.first met (on-nothing _))

@@ -6,7 +6,7 @@ use Rattle.peer_threads.proofs.engines.take_all.Goals as goal
 
 pub loop-part-init : goal.loop-part-init
 loop-part-init g c = record {
-  heard = heard-goes g.F.Summary.summary g.F.Summary.profile c.args.party.now c.requires;
+  heard = heard-goes g.F.WireSummary.summary g.F.WireSummary.profile c.args.party.now c.requires;
   end = refl;
   most = refl;
 }
@@ -18,7 +18,7 @@ returns-in_err-take-clause-stopped g c =
     let live : is_over c.loop-part.party.end.stage ≡ false =
     ap (λ e. is_over e.stage) c.loop-part.invariant.end ∙ c.requires in
     rw is
-    (stops-among g.F.Summary.summary g.F.Summary.profile c.args.party.now c.loop-part.party c.args.parts.now
+    (stops-among g.F.WireSummary.summary g.F.WireSummary.profile c.args.party.now c.loop-part.party c.args.parts.now
     c.loop-part.part-index c.part-item.result stop c.loop-part-test.true c.part-item.is live
     c.loop-part.invariant.heard c.in_err-take.ensures.stopped)
 
@@ -27,8 +27,9 @@ loop-part-preserved g c =
     let live : is_over c.loop-part.party.end.stage ≡ false =
     ap (λ e. is_over e.stage) c.loop-part.invariant.end ∙ c.requires in
     record {
-      heard = taken-more g.F.Summary.summary g.F.Summary.profile c.args.party.now c.loop-part.party c.take.new.party
-          c.args.parts.now c.loop-part.part-index c.part-item.result c.loop-part-test.true c.part-item.is live
+      heard = taken-more g.F.WireSummary.summary g.F.WireSummary.profile c.args.party.now c.loop-part.party
+          c.take.new.party c.args.parts.now c.loop-part.part-index c.part-item.result c.loop-part-test.true
+          c.part-item.is live
           c.loop-part.invariant.heard c.in_ok-take.ensures.heard;
       end = c.in_ok-take.ensures.end ∙ c.loop-part.invariant.end;
       most = c.in_ok-take.ensures.most ∙ c.loop-part.invariant.most;

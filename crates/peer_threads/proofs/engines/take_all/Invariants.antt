@@ -9,9 +9,9 @@ use Rattle.peer_threads.proofs.engines.take_all.Given as goal
 abbrev pub invariant-loop-part : goal.invariant-loop-part
 invariant-loop-part g l = record {
   heard : heard_as l.party
-      ≡ fold (hear g.F.Summary.summary) (Goes_on l.fn.party.end l.fn.party.taken) (map Came (take l.part-index
+      ≡ fold (hear g.F.WireSummary.summary) (Goes_on l.fn.party.end l.fn.party.taken) (map Came (take l.part-index
       l.parts));
   end : l.party.end ≡ l.fn.party.end;
-  most : most_sent g.F.Summary.summary g.P.Role.side l.party
-      ≡ most_sent g.F.Summary.summary g.P.Role.side l.fn.party;
+  most : most_sent g.F.WireSummary.summary g.P.Role.side l.party
+      ≡ most_sent g.F.WireSummary.summary g.P.Role.side l.fn.party;
 }

@@ -11,14 +11,14 @@ use Rattle.peer_threads.proofs.talk.talk.Goals as goal
 pub returns-then-is_over-clause-talked : goal.returns-then-is_over-clause-talked
 returns-then-is_over-clause-talked g c = λ s unread held live start.
     let over : is_over c.turns.party.end.stage ≡ true = search rules in
-    finished g.F.Summary.summary g.F.Summary.profile c.exchange_laws.ensures s _ _ _ _ live
+    finished g.F.WireSummary.summary g.F.WireSummary.profile c.exchange_laws.ensures s _ _ _ _ live
     (c.turns.invariant.goes s unread held live start).0 over
 
 pub returns-in_err-event-clause-talked : goal.returns-in_err-event-clause-talked
 returns-in_err-event-clause-talked g c = λ s unread held live start.
     let u = (c.turns.invariant.goes s unread held live start).0 in
     let goes : is_over c.turns.party.end.stage ≡ false = search rules in
-    let stops = stops-underway g.F.Summary.summary g.F.Summary.profile c.exchange_laws.ensures s _ _ _ _ _
+    let stops = stops-underway g.F.WireSummary.summary g.F.WireSummary.profile c.exchange_laws.ensures s _ _ _ _ _
     (seen c.next.new.reader.failed c.next.new.reader.ended)
     c.turns.connection.writer.failed c.in_err-event.field-0.0 live u goes
     (c.in_err-event.ensures.read u.bytes u.events u.are_bytes u.came) in
@@ -28,10 +28,10 @@ pub returns-in_err-hear-clause-talked : goal.returns-in_err-hear-clause-talked
 returns-in_err-hear-clause-talked g c = λ s unread held live start.
     let u = (c.turns.invariant.goes s unread held live start).0 in
     let goes : is_over c.turns.party.end.stage ≡ false = search rules in
-    let x = at-event g.F.Summary.summary g.F.Summary.profile s _ _ _ _ _ _ _ u (c.in_ok-event.ensures.read u.bytes
-    u.events u.are_bytes u.came) goes in
+    let x = at-event g.F.WireSummary.summary g.F.WireSummary.profile s _ _ _ _ _ _ _ u
+    (c.in_ok-event.ensures.read u.bytes u.events u.are_bytes u.came) goes in
     let stops =
-    stops-event g.F.Summary.summary g.F.Summary.profile c.exchange_laws.ensures s _ _ _ _ _
+    stops-event g.F.WireSummary.summary g.F.WireSummary.profile c.exchange_laws.ensures s _ _ _ _ _
     (seen c.next.new.reader.failed c.next.new.reader.ended) c.hear.new.writer.failed _
     c.in_err-hear.field-0.0 live x c.in_err-hear.ensures.stopped in
     search (rules, stops)
@@ -52,9 +52,9 @@ turns-preserved g c = record {
       let u = (c.turns.invariant.goes s unread held live start).0 in
       let goes : is_over c.turns.party.end.stage ≡ false = search rules in
       let more = c.in_ok-event.ensures.read u.bytes u.events u.are_bytes u.came in
-      let x = at-event g.F.Summary.summary g.F.Summary.profile s _ _ _ _ _ _ _ u more goes in
+      let x = at-event g.F.WireSummary.summary g.F.WireSummary.profile s _ _ _ _ _ _ _ u more goes in
       let next =
-      goes-on g.F.Summary.summary g.F.Summary.profile c.exchange_laws.ensures s _ _ _ _ _ _ _ _ live x more.3
+      goes-on g.F.WireSummary.summary g.F.WireSummary.profile c.exchange_laws.ensures s _ _ _ _ _ _ _ _ live x more.3
       c.in_ok-hear.ensures.heard c.in_ok-hear.ensures.said in
       let on = (c.turns.invariant.goes s unread held live start).1 in
       (next, on-further _ _ _ on (more.0, more.1, more.2));
@@ -90,7 +90,8 @@ returns-in_err-hear-clause-fared g c = λ start step.
     let is : c.from_residual-in_err-hear.result ≡ Err c.in_err-hear.field-0.0 = search rules in
     fares-by start c.next.new.reader.reads c.next.new.reader.failed c.from_residual-in_err-hear.result
     c.in_err-hear.field-0.0 is
-    (event-fares g.F.Summary.summary g.F.Summary.profile c.turns.party (event_value c.in_ok-event.event) c.turns.sender
+    (event-fares g.F.WireSummary.summary g.F.WireSummary.profile c.turns.party (event_value c.in_ok-event.event)
+    c.turns.sender
     c.hear.new.sender (g.W.Write.contents c.turns.connection.writer.inner) (g.W.Write.contents c.hear.new.writer.inner)
     c.hear.new.writer.failed c.in_err-hear.field-0.0 start c.next.new.reader.reads c.next.new.reader.failed
     c.in_err-hear.ensures.stopped fine)

@@ -14,16 +14,17 @@ invariant-turns g l = record {
   step : (start : ℕ) → InStep start l.fn.connection.reader.reads l.fn.inbox.reads →
       InStep start l.connection.reader.reads l.inbox.reads;
   count : l.sender.sent ≡ l.party.end.sent;
-  most : most_sent g.F.Summary.summary g.P.Role.side l.party ≡ most_sent g.F.Summary.summary g.P.Role.side l.fn.party;
-  few : l.sender.sent ≤ most_sent g.F.Summary.summary g.P.Role.side l.fn.party;
+  most : most_sent g.F.WireSummary.summary g.P.Role.side l.party
+      ≡ most_sent g.F.WireSummary.summary g.P.Role.side l.fn.party;
+  few : l.sender.sent ≤ most_sent g.F.WireSummary.summary g.P.Role.side l.fn.party;
   reads : l.fn.inbox.reads ≤ 2 ^ 32 →
       Counts l.fn.connection.reader.reads l.connection.reader.reads l.fn.inbox l.inbox;
   goes : (s : Speaker g.row.F.Denot) (unread : Origin) (held : Option (List ℕ)) → is_live s.start.stage ≡ true →
-      Underway g.F.Summary.summary g.F.Summary.profile s l.fn.party l.fn.inbox
+      Underway g.F.WireSummary.summary g.F.WireSummary.profile s l.fn.party l.fn.inbox
       l.fn.sender
       (traffic_of unread (g.R.Read.remaining l.fn.connection.reader.inner) held
       (g.W.Write.contents l.fn.connection.writer.inner)) →
-      Underway g.F.Summary.summary g.F.Summary.profile s l.party l.inbox l.sender
+      Underway g.F.WireSummary.summary g.F.WireSummary.profile s l.party l.inbox l.sender
       (traffic_of unread (g.R.Read.remaining l.connection.reader.inner) held
       (g.W.Write.contents l.connection.writer.inner))
       × ReadOn (g.R.Read.remaining l.fn.connection.reader.inner) (g.R.Read.remaining l.connection.reader.inner);

@@ -8,7 +8,7 @@ pub returns-clause-placed : goal.returns-clause-placed
 returns-clause-placed g c apart =
     let sent = c.args.sent.now in
     let message = c.args.message.now in
-    let rise = c.messages_have_ranges.ensures g.F.Summary.profile message c.parts-received.ensures.message in
+    let rise = c.messages_have_ranges.ensures g.F.WireSummary.profile message c.parts-received.ensures.message in
     let starts = c.start-cursor.ensures sent in
     let fault : fault_in c.finish.result ≡ place_fault sent message = search (rules, starts) in
     none_is_ok c.finish.result (place_fault sent message) (Placed sent message) fault

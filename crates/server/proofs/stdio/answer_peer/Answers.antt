@@ -16,7 +16,8 @@ puts_nothing gate (outcomes.Memory sent) v not_ended = refl
 pub returns-in_default : goal.returns-in_default
 returns-in_default g c =
     let not_ended : HasNotEnded c.in_default.outcome = search rules in
-    let nothing = puts_nothing (says (g.G.Gate.lets_in c.args.shared.now.gate.now) (g.G.Gate.floors c.args.shared.now.gate.now))
+    let nothing = puts_nothing
+    (says (g.G.Gate.lets_in c.args.shared.now.gate.now) (g.G.Gate.floors c.args.shared.now.gate.now))
     c.in_default.outcome
     c.serve_one.new.seat.view not_ended in
     search (rules, nothing)

@@ -6,7 +6,7 @@ use Rattle.session_core.proofs.outbox.texts_of.Goals as goal
 
 pub loop-message-preserved : goal.loop-message-preserved
 loop-message-preserved g c =
-    let W = g.F.Summary.profile in
+    let W = g.F.WireSummary.profile in
     let all = c.args.messages.now in
     let i = c.loop-message.message-index in
     let M = c.message-item.result in

@@ -6,6 +6,6 @@ use Rattle.session_core.proofs.outbox.texts_of.Given as goal
 
 abbrev pub invariant-loop-message : goal.invariant-loop-message
 invariant-loop-message g l = record {
-  written : l.texts.items ≡ flat_map (message_text g.F.Summary.profile) (take l.message-index l.messages);
-  ended : l.ends.items ≡ ends_from g.F.Summary.profile l.start (take l.message-index l.messages);
+  written : l.texts.items ≡ flat_map (message_text g.F.WireSummary.profile) (take l.message-index l.messages);
+  ended : l.ends.items ≡ ends_from g.F.WireSummary.profile l.start (take l.message-index l.messages);
 }

@@ -9,14 +9,14 @@ returns-else-taken-piece-clause-pushes g c =
     let piece = c.args.piece.now in
     let took = c.in_ok-taken-in-Moved in
     let all : took.taken ≡ length piece = omega (arith, took.ensures.took, c.if-taken-piece.false) in
-    pushes-whole g.F.Summary.summary g.F.Summary.profile c.args.session.now c.push.new.self piece took.taken all
-    (pushes-open g.F.Summary.summary g.F.Summary.profile c.args.session.now c.push.new.self (take took.taken piece)
-    c.requires.goes took.ensures.pushes)
+    pushes-whole g.F.WireSummary.summary g.F.WireSummary.profile c.args.session.now c.push.new.self piece took.taken all
+    (pushes-open g.F.WireSummary.summary g.F.WireSummary.profile c.args.session.now c.push.new.self
+    (take took.taken piece) c.requires.goes took.ensures.pushes)
 
 pub returns-in_default : goal.returns-in_default
 returns-in_default g c = record {
-  pushes = pushes-none g.F.Summary.summary g.F.Summary.profile c.args.session.now c.args.session.now c.args.piece.now
-      (c.requires.none c.in_default.not-Moved) (λ s pushed taken live k. k);
+  pushes = pushes-none g.F.WireSummary.summary g.F.WireSummary.profile c.args.session.now c.args.session.now
+      c.args.piece.now (c.requires.none c.in_default.not-Moved) (λ s pushed taken live k. k);
   some = tt;
   fault = tt;
   ended = λ is. absurd (c.in_default.not-Ended is);
@@ -28,12 +28,12 @@ pub returns-in_err-taken-in-Moved-clause-some : goal.returns-in_err-taken-in-Mov
 returns-in_err-taken-in-Moved-clause-some g c =
     let is : c.from_residual.result ≡ Err faults.Memory = search rules in
     rw is (rw c.in_err-taken-in-Moved.ensures.memory
-    (0, pushes-nothing g.F.Summary.summary g.F.Summary.profile c.args.session.now))
+    (0, pushes-nothing g.F.WireSummary.summary g.F.WireSummary.profile c.args.session.now))
 
 pub returns-then-taken-piece-clause-some : goal.returns-then-taken-piece-clause-some
 returns-then-taken-piece-clause-some g c =
     let took = c.in_ok-taken-in-Moved in (
       took.taken,
-      pushes-open g.F.Summary.summary g.F.Summary.profile c.args.session.now c.push.new.self
+      pushes-open g.F.WireSummary.summary g.F.WireSummary.profile c.args.session.now c.push.new.self
           (take took.taken c.args.piece.now) c.requires.goes took.ensures.pushes,
     )

@@ -19,7 +19,7 @@ pub returns-in_err-next-clause-moved : goal.returns-in_err-next-clause-moved
 returns-in_err-next-clause-moved g c =
     let is : c.from_residual-in_err-next.result ≡ Err c.in_err-next.field-0.0 = search rules in
     let next = c.move_once-in-loop-turn.new in
-    rw is (MovesSo-failed g.F.Summary.summary g.F.Summary.profile c.loop-turn.pumped c.in_err-next.field-0.0
+    rw is (MovesSo-failed g.F.WireSummary.summary g.F.WireSummary.profile c.loop-turn.pumped c.in_err-next.field-0.0
     c.args.session.now c.loop-turn.session next.session (g.I.Read.remaining c.args.reader.now.way)
     (g.I.Read.remaining c.loop-turn.reader.way) (g.I.Read.remaining next.reader.way)
     (g.O.Write.contents c.args.writer.now.way) (g.O.Write.contents c.loop-turn.writer.way)
@@ -29,12 +29,12 @@ pub loop-turn-preserved : goal.loop-turn-preserved
 loop-turn-preserved g c =
     let next = c.move_once-in-loop-turn.new in
     rw c.both-pumped.ensures (record {
-      moved = MovesSo-both g.F.Summary.summary g.F.Summary.profile c.loop-turn.pumped c.in_ok-next.next
+      moved = MovesSo-both g.F.WireSummary.summary g.F.WireSummary.profile c.loop-turn.pumped c.in_ok-next.next
           c.args.session.now c.loop-turn.session next.session (g.I.Read.remaining c.args.reader.now.way)
           (g.I.Read.remaining c.loop-turn.reader.way) (g.I.Read.remaining next.reader.way)
           (g.O.Write.contents c.args.writer.now.way) (g.O.Write.contents c.loop-turn.writer.way)
           (g.O.Write.contents next.writer.way) c.loop-turn.invariant.moved c.in_ok-next.ensures.moved;
-      stands = stands-both g.F.Summary.summary g.F.Summary.profile c.loop-turn.pumped c.in_ok-next.next
+      stands = stands-both g.F.WireSummary.summary g.F.WireSummary.profile c.loop-turn.pumped c.in_ok-next.next
           next.session next.reader.last next.writer.last
           c.in_ok-next.ensures.stands;
       over = ends-both c.args.session.now c.loop-turn.session next.session c.loop-turn.reader.last next.reader.last

@@ -11,7 +11,7 @@ returns-in_err-pause-clause-moved g c = λ unread.
     let appended = subst (λ (l : List ℕ). Appends held holds (take c.write-count.result l)) c.due.ensures
     c.write-count.ensures.bytes in
     let fits = subst (λ (l : List ℕ). c.write-count.result ≤ length l) c.due.ensures c.write-count.ensures.bound in
-    rw is (says-and-fails g.F.Summary.summary g.F.Summary.profile c.in_err-pause.field-0.0 c.args.session.now
+    rw is (says-and-fails g.F.WireSummary.summary g.F.WireSummary.profile c.in_err-pause.field-0.0 c.args.session.now
     c.take.new.self unread held holds c.args.session.now.talk.outbox.ready c.write-count.result c.take.result appended
     fits c.take.ensures.count c.take.ensures.takes)
 
@@ -23,7 +23,7 @@ returns-clause-moved g c = λ unread.
     c.write-count.ensures.bytes in
     let fits = subst (λ (l : List ℕ). c.write-count.result ≤ length l) c.due.ensures c.write-count.ensures.bound in
     let small : c.write-count.result < 2 ^ 64 = search rules in
-    says-so g.F.Summary.summary g.F.Summary.profile
+    says-so g.F.WireSummary.summary g.F.WireSummary.profile
     (record { pause = c.in_ok-pause.pause; read = 0; written = c.write-count.result }) c.args.session.now
     c.take.new.self unread held holds c.args.session.now.talk.outbox.ready c.write-count.result c.take.result appended
     fits small c.take.ensures.count c.take.ensures.takes refl refl

@@ -5,7 +5,7 @@ use Rattle.sim_core.proofs.costing.sides_meet.Goals as goal
 
 pub returns : goal.returns
 returns g c =
-    let S = g.F.Summary.summary in
-    let W = g.F.Summary.profile in
+    let S = g.F.WireSummary.summary in
+    let W = g.F.WireSummary.profile in
     subst (λ b. SessionsMeet S W (arc_value c.args.accepted.now) b) c.deref-2.ensures
     (subst (λ a. SessionsMeet S W a c.deref-2.result.now) c.deref.ensures c.two_sessions_meet.ensures)

@@ -12,8 +12,8 @@ loop-init g c = record {
 
 pub returns-then-answered-eq0-clause-talks : goal.returns-then-answered-eq0-clause-talks
 returns-then-answered-eq0-clause-talks g c =
-    spoken-more g.F.Summary.summary g.F.Summary.profile c.args.first.now c.args.second.now c.loop.first c.loop.second
-    c.hand_over.new.from c.hand_over.new.to c.hand_over-in-loop.new.to c.hand_over-in-loop.new.from
+    spoken-more g.F.WireSummary.summary g.F.WireSummary.profile c.args.first.now c.args.second.now c.loop.first
+    c.loop.second c.hand_over.new.from c.hand_over.new.to c.hand_over-in-loop.new.to c.hand_over-in-loop.new.from
     c.loop.turns.items _ (c.push_turn-in-loop.new.turns.items) _ _ c.loop.invariant.spoken
     c.in_ok-asked.ensures.takes c.in_ok-asked.ensures.pushes c.in_ok-answered.ensures.takes
     c.in_ok-answered.ensures.pushes c.in_ok-asked.ensures.said c.in_ok-answered.ensures.said
@@ -22,14 +22,14 @@ returns-then-answered-eq0-clause-talks g c =
 pub returns-then-answered-eq0-clause-done : goal.returns-then-answered-eq0-clause-done
 returns-then-answered-eq0-clause-done g c =
     let zero : c.in_ok-answered.answered ≡ 0 = search rules in (
-      ap (λ (x : SessionState g.row.F.Denot). due g.F.Summary.profile x.talk) (c.in_ok-answered.ensures.same zero)
+      ap (λ (x : SessionState g.row.F.Denot). due g.F.WireSummary.profile x.talk) (c.in_ok-answered.ensures.same zero)
           ∙ c.in_ok-asked.ensures.done,
       c.in_ok-answered.ensures.done,
     )
 
 pub loop-preserved : goal.loop-preserved
 loop-preserved g c = record {
-  spoken = spoken-more g.F.Summary.summary g.F.Summary.profile c.args.first.now c.args.second.now c.loop.first
+  spoken = spoken-more g.F.WireSummary.summary g.F.WireSummary.profile c.args.first.now c.args.second.now c.loop.first
       c.loop.second c.hand_over.new.from c.hand_over.new.to c.hand_over-in-loop.new.to c.hand_over-in-loop.new.from
       c.loop.turns.items _ (c.push_turn-in-loop.new.turns.items) _ _ c.loop.invariant.spoken
       c.in_ok-asked.ensures.takes c.in_ok-asked.ensures.pushes c.in_ok-answered.ensures.takes

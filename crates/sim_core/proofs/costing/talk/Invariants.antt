@@ -4,7 +4,7 @@ use Rattle.sim_core.proofs.costing.talk.Given as goal
 
 abbrev pub invariant-loop : goal.invariant-loop
 invariant-loop g l = record {
-  spoken : HaveSpoken g.F.Summary.summary g.F.Summary.profile l.initial.first l.initial.second l.first l.second
+  spoken : HaveSpoken g.F.WireSummary.summary g.F.WireSummary.profile l.initial.first l.initial.second l.first l.second
       l.turns.items;
   first : l.first.over ≡ false;
   second : l.second.over ≡ false;

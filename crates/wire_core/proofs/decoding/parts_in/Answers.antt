@@ -13,9 +13,9 @@ returns-in_err-part-clause-exact g c =
     let count_is : c.len.result ≡ length c.frames.parts.items = search rules in
     let left = c.frames.invariant.left in
     rw (p.1, p.2)
-    (parts_fail g.F.Summary.profile c.in_err-part.field-0.0
+    (parts_fail g.F.WireSummary.profile c.in_err-part.field-0.0
     (length c.args.bytes.now + 1 - length c.frames.parts.items) c.frames.parts.items c.frames.rest.now _ (omega arith)
-    (subst (λ m. Fails c.in_err-part.field-0.0 (next_at g.F.Summary.profile m c.frames.rest.now)) count_is
+    (subst (λ m. Fails c.in_err-part.field-0.0 (next_at g.F.WireSummary.profile m c.frames.rest.now)) count_is
     c.in_err-part.ensures.read) c.frames.invariant.so_far)
 
 pub frames-preserved : goal.frames-preserved
@@ -29,16 +29,16 @@ frames-preserved g c =
     omega (arith, length-append c.frames.parts.items (part ∷ [])) in
     let next : length c.args.bytes.now + 1 - length (c.frames.parts.items ++ part ∷ []) ≡ fuel - 1 = omega arith in
     let read =
-    read_after g.F.Summary.profile c.len.result (length c.frames.parts.items) c.frames.rest.now
+    read_after g.F.WireSummary.profile c.len.result (length c.frames.parts.items) c.frames.rest.now
     c.take_part.new.bytes.now _ (Some part) count_is c.in_ok-part.ensures.read c.in-Some.is in
     let so_far =
-    parts_go_on g.F.Summary.profile fuel c.frames.parts.items c.frames.rest.now part c.take_part.new.bytes.now _
+    parts_go_on g.F.WireSummary.profile fuel c.frames.parts.items c.frames.rest.now part c.take_part.new.bytes.now _
     (omega arith) read c.frames.invariant.so_far in
     rw c.in_ok-push.ensures.items record {
       so_far =
           ap (λ k. with_parts (c.frames.parts.items ++ part ∷ [])
-          (message_from g.F.Summary.profile k (length (c.frames.parts.items ++ part ∷ [])) c.take_part.new.bytes.now))
-          next ∙ so_far;
+          (message_from g.F.WireSummary.profile k (length (c.frames.parts.items ++ part ∷ []))
+          c.take_part.new.bytes.now)) next ∙ so_far;
       few = let room = rw c.in-Some.is at c.in_ok-part.ensures.room in omega arith;
       left = omega arith;
     }
@@ -48,9 +48,9 @@ returns-then-not-is_empty-clause-exact g c =
     let fuel = length c.args.bytes.now + 1 - length c.frames.parts.items in
     let count_is : c.len.result ≡ length c.frames.parts.items = search rules in
     let left = c.frames.invariant.left in
-    parts_trail g.F.Summary.profile fuel c.frames.parts.items c.frames.rest.now c.take_part.new.bytes.now _
+    parts_trail g.F.WireSummary.profile fuel c.frames.parts.items c.frames.rest.now c.take_part.new.bytes.now _
     (omega arith)
-    (read_after g.F.Summary.profile c.len.result (length c.frames.parts.items) c.frames.rest.now
+    (read_after g.F.WireSummary.profile c.len.result (length c.frames.parts.items) c.frames.rest.now
     c.take_part.new.bytes.now _ None count_is c.in_ok-part.ensures.read c.in_default.is) (search rules)
     c.frames.invariant.so_far
 
@@ -59,7 +59,7 @@ returns-clause-exact g c =
     let fuel = length c.args.bytes.now + 1 - length c.frames.parts.items in
     let count_is : c.len.result ≡ length c.frames.parts.items = search rules in
     let left = c.frames.invariant.left in
-    parts_end g.F.Summary.profile fuel c.frames.parts.items c.frames.rest.now c.take_part.new.bytes.now _ (omega arith)
-    (read_after g.F.Summary.profile c.len.result (length c.frames.parts.items) c.frames.rest.now
+    parts_end g.F.WireSummary.profile fuel c.frames.parts.items c.frames.rest.now c.take_part.new.bytes.now _
+    (omega arith) (read_after g.F.WireSummary.profile c.len.result (length c.frames.parts.items) c.frames.rest.now
     c.take_part.new.bytes.now _ None count_is c.in_ok-part.ensures.read c.in_default.is) (search rules)
     c.frames.invariant.so_far

@@ -8,8 +8,8 @@ use Rattle.wire_core.proofs.decoding.parts_in.Given as goal
 abbrev pub invariant-frames : goal.invariant-frames
 invariant-frames g l = record {
   so_far : with_parts l.parts.items
-      (message_from g.F.Summary.profile (length l.bytes + 1 - length l.parts.items) (length l.parts.items) l.rest)
-      ≡ message_in g.F.Summary.profile l.bytes;
+      (message_from g.F.WireSummary.profile (length l.bytes + 1 - length l.parts.items) (length l.parts.items) l.rest)
+      ≡ message_in g.F.WireSummary.profile l.bytes;
   few : length l.parts.items ≤ max_parts;
   left : length l.rest + length l.parts.items ≤ length l.bytes;
 }

@@ -4,5 +4,5 @@ use Rattle.wire_core.proofs.pieces.are_few.Goals as goal
 
 pub returns : goal.returns
 returns g c =
-    kept_few g.F.Summary.profile (c.feeds_rest.ensures g.F.Summary.profile g.met.F.Summary.real)
+    kept_few g.F.WireSummary.profile (c.feeds_rest.ensures g.F.WireSummary.profile g.met.F.WireSummary.real)
     (standing_of c.args.standing) c.args.kept.now c.are_bytes.ensures c.requires

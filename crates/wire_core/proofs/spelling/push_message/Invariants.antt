@@ -7,5 +7,5 @@ abbrev pub invariant-loop-part : goal.invariant-loop-part
 invariant-loop-part g l = record {
   same : l.part-items ≡ l.message;
   written : l.out.items
-      ≡ l.fn.out.items ++ flat_map (part_text g.F.Summary.profile) (take l.part-index l.part-items);
+      ≡ l.fn.out.items ++ flat_map (part_text g.F.WireSummary.profile) (take l.part-index l.part-items);
 }

@@ -9,8 +9,8 @@ use Rattle.wire_core.proofs.stream.take_one.Goals as goal
 
 pub returns-in_err-event-clause-read : goal.returns-in_err-event-clause-read
 returns-in_err-event-clause-read g c =
-    let P = g.F.Summary.profile in
-    let exact = c.next_is_exact.ensures P g.met.F.Summary.real in
+    let P = g.F.WireSummary.profile in
+    let exact = c.next_is_exact.ensures P g.met.F.WireSummary.real in
     let bytes = c.args.bytes.now.now in
     let left = c.take_event.new.bytes.now in
     let same : c.from_residual.result ≡ Err c.in_err-event.field-0.0 = search rules in
@@ -20,8 +20,8 @@ returns-in_err-event-clause-read g c =
 
 pub returns-in-Some-clause-read : goal.returns-in-Some-clause-read
 returns-in-Some-clause-read g c =
-    let P = g.F.Summary.profile in
-    let exact = c.next_is_exact.ensures P g.met.F.Summary.real in
+    let P = g.F.WireSummary.profile in
+    let exact = c.next_is_exact.ensures P g.met.F.WireSummary.real in
     let bytes = c.args.bytes.now.now in
     let left = c.take_event.new.bytes.now in
     let at : event_at P Stream c.args.parts bytes ≡ Ok (Some (event_value c.in-Some.event, left)) =

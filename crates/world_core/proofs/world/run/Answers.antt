@@ -8,7 +8,7 @@ use Rattle.world_core.proofs.world.run.Goals as goal
 
 pub returns : goal.returns
 returns g c =
-    let S = g.F.Summary.summary in
+    let S = g.F.WireSummary.summary in
     let w = c.in_ok-world.world in
     let hold = c.sessions.ensures.hold in record {
       world = c.in_ok-world.ensures;
@@ -19,6 +19,6 @@ returns g c =
       sound = All-map (Holds S w) (LearnsNothingWrong S w) (λ s h. h.sound) w.sessions hold;
       cost = All-map (Holds S w) (HasFewParts S w) (λ s h. h.cost) w.sessions hold;
       items = c.sessions.ensures.items c.args.setup.now (map step_of c.args.steps.now) c.in_ok-world.ensures;
-      spread = spreads_in S (c.spread_claim.ensures S) g.met.F.Summary.exact c.args.setup.now
+      spread = spreads_in S (c.spread_claim.ensures S) g.met.F.WireSummary.exact c.args.setup.now
           (map step_of c.args.steps.now) w c.in_ok-world.ensures;
     }

@@ -5,4 +5,4 @@ use Rattle.world_core.proofs.world.run_steps.Given as goal
 
 abbrev pub invariant-loop-step : goal.invariant-loop-step
 invariant-loop-step g l =
-    l.world ≡ worlds.run g.F.Summary.summary (worlds.start l.setup) (map step_of (take l.step-index l.steps))
+    l.world ≡ worlds.run g.F.WireSummary.summary (worlds.start l.setup) (map step_of (take l.step-index l.steps))

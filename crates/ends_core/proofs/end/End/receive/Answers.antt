@@ -7,4 +7,4 @@ pub returns-then-not-is_live-clause-answer : goal.returns-then-not-is_live-claus
 returns-then-not-is_live-clause-answer g c =
     let dead : is_live c.args.self.now.end.stage
     ≡ false = search (rules, c.is_live.ensures.live, c.if-not-is_live.true) in
-    dead-answers g.F.Summary.summary c.args.self.now c.args.message.now (c.is_live.ensures.dead dead)
+    dead-answers g.F.WireSummary.summary c.args.self.now c.args.message.now (c.is_live.ensures.dead dead)

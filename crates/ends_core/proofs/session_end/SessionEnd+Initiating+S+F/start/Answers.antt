@@ -10,8 +10,8 @@ use Rattle.ends_core.proofs.session_end.SessionEnd+Initiating+S+F.start.Goals as
 pub invariant_of-result : goal.invariant_of-result
 invariant_of-result g c =
     let P : Peer = record { table = (arc_value c.args.accepted).table; items = g.S.RangeStore.content c.args.store } in
-    let is : c.initiating.result ≡ fresh (arc_value c.args.accepted).steps (initiator g.F.Summary.summary P) =
+    let is : c.initiating.result ≡ fresh (arc_value c.args.accepted).steps (initiator g.F.WireSummary.summary P) =
     search rules in
-    stands-first g.F.Summary.summary g.F.Summary.profile
-    (initiator g.F.Summary.summary) c.initiating.result (arc_value c.args.accepted).steps P is refl
+    stands-first g.F.WireSummary.summary g.F.WireSummary.profile
+    (initiator g.F.WireSummary.summary) c.initiating.result (arc_value c.args.accepted).steps P is refl
     (subst IsChecked c.deref.ensures c.cap.ensures.checked) c.requires (g.met.S.RangeStore.rises c.args.store)

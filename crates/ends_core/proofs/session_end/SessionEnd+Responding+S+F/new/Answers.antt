@@ -9,7 +9,7 @@ use Rattle.ends_core.proofs.session_end.SessionEnd+Responding+S+F.new.Goals as g
 pub invariant_of-result : goal.invariant_of-result
 invariant_of-result g c =
     let P : Peer = record { table = (arc_value c.args.accepted).table; items = g.S.RangeStore.content c.args.store } in
-    stands-first g.F.Summary.summary g.F.Summary.profile (responder g.F.Summary.summary) c.responding.result
+    stands-first g.F.WireSummary.summary g.F.WireSummary.profile (responder g.F.WireSummary.summary) c.responding.result
     (arc_value c.args.accepted).steps P
     c.responding.ensures refl (subst IsChecked c.deref.ensures c.cap.ensures.checked) c.requires
     (g.met.S.RangeStore.rises c.args.store)

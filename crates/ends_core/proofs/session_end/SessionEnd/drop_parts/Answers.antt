@@ -4,6 +4,6 @@ use Rattle.ends_core.proofs.session_end.SessionEnd.drop_parts.Goals as goal
 
 pub invariant_of-self : goal.invariant_of-self
 invariant_of-self g c =
-    stands-dropped g.F.Summary.summary g.F.Summary.profile (start_of g.R.Role.side g.F.Summary.summary)
+    stands-dropped g.F.WireSummary.summary g.F.WireSummary.profile (start_of g.R.Role.side g.F.WireSummary.summary)
     c.self.inside.end c.drop_parts.new.self
     c.drop_parts.ensures c.self.invariant

@@ -13,8 +13,8 @@ use Rattle.peer_threads.proofs.inbox.Inbox.next.Goals as goal
 pub reads-init : goal.reads-init
 reads-init g c =
     let unread = g.R.Read.remaining c.args.reader.now.inner in (
-      reads_nothing g.F.Summary.profile g.met.F.Summary.real unread c.args.self.now (HasRead g.F.Summary.profile
-          c.args.self.now) (λ bytes es fits has. has),
+      reads_nothing g.F.WireSummary.profile g.met.F.WireSummary.real unread c.args.self.now
+          (HasRead g.F.WireSummary.profile c.args.self.now) (λ bytes es fits has. has),
       omega arith,
       c.requires.listens,
       λ start step. step,
@@ -28,10 +28,10 @@ returns-in_err-event-clause-read g c =
     let is : c.from_residual.result ≡ Err c.in_err-event.field-0.0 = search rules in
     let over = seen c.reads.reader.failed c.reads.reader.ended in
     let new = c.next_held.new.self in
-    reads_so g.F.Summary.profile g.met.F.Summary.real unread left c.args.self.now (HasRead g.F.Summary.profile
-    c.reads.self)
-    (λ bytes es. Next g.F.Summary.profile over new bytes es c.from_residual.result)
-    (λ bytes es fits has. subst (Next g.F.Summary.profile over new bytes es) (sym is)
+    reads_so g.F.WireSummary.profile g.met.F.WireSummary.real unread left c.args.self.now
+    (HasRead g.F.WireSummary.profile c.reads.self)
+    (λ bytes es. Next g.F.WireSummary.profile over new bytes es c.from_residual.result)
+    (λ bytes es fits has. subst (Next g.F.WireSummary.profile over new bytes es) (sym is)
     (c.in_err-event.ensures.held bytes es fits has over))
     c.reads.invariant.0
 
@@ -41,10 +41,10 @@ returns-in-Some-clause-read g c =
     let left = g.R.Read.remaining c.reads.reader.inner in
     let over = seen c.reads.reader.failed c.reads.reader.ended in
     let new = c.next_held.new.self in
-    reads_so g.F.Summary.profile g.met.F.Summary.real unread left c.args.self.now (HasRead g.F.Summary.profile
-    c.reads.self)
-    (λ bytes es. HasRead g.F.Summary.profile new bytes (es ++ event_value c.in-Some.event ∷ []))
-    (λ bytes es fits has. subst (λ (made : Option (declared.Event g.row.F.Denot)). Held g.F.Summary.profile over new
+    reads_so g.F.WireSummary.profile g.met.F.WireSummary.real unread left c.args.self.now
+    (HasRead g.F.WireSummary.profile c.reads.self)
+    (λ bytes es. HasRead g.F.WireSummary.profile new bytes (es ++ event_value c.in-Some.event ∷ []))
+    (λ bytes es fits has. subst (λ (made : Option (declared.Event g.row.F.Denot)). Held g.F.WireSummary.profile over new
     bytes es (Ok made)) c.in-Some.is
     (c.in_ok-event.ensures.held bytes es fits has over))
     c.reads.invariant.0
@@ -57,9 +57,9 @@ reads-preserved g c =
     let over = seen c.reads.reader.failed c.reads.reader.ended in
     let fed = c.next_held.new.self in
     let new = c.read_more.new.self in
-    let all = reads_more g.F.Summary.profile g.met.F.Summary.real unread mid left c.args.self.now c.reads.self fed
-    (HasRead g.F.Summary.profile new) c.reads.invariant.0
-    (λ bytes es fits has. subst (λ (made : Option (declared.Event g.row.F.Denot)). Held g.F.Summary.profile over fed
+    let all = reads_more g.F.WireSummary.profile g.met.F.WireSummary.real unread mid left c.args.self.now c.reads.self
+    fed (HasRead g.F.WireSummary.profile new) c.reads.invariant.0
+    (λ bytes es fits has. subst (λ (made : Option (declared.Event g.row.F.Denot)). Held g.F.WireSummary.profile over fed
     bytes es (Ok made)) c.in-None.is
     (c.in_ok-event.ensures.held bytes es fits has over))
     c.in_ok-read_more-in-None.ensures.read in
@@ -98,16 +98,17 @@ returns-in_err-read_more-in-None-clause-read g c =
     c.in-None.is c.in_ok-event.ensures.none in
     let fine : fault_at new.feed.standing ≡ None =
     ap (λ (s : StreamState). fault_at s.standing) c.read_more.ensures.feed ∙ none.1 in
-    reads_more g.F.Summary.profile g.met.F.Summary.real unread mid left c.args.self.now c.reads.self fed
-    (λ bytes es. Next g.F.Summary.profile over new bytes es result)
+    reads_more g.F.WireSummary.profile g.met.F.WireSummary.real unread mid left c.args.self.now c.reads.self fed
+    (λ bytes es. Next g.F.WireSummary.profile over new bytes es result)
     c.reads.invariant.0
-    (λ bytes es fits has. subst (λ (made : Option (declared.Event g.row.F.Denot)). Held g.F.Summary.profile over fed
+    (λ bytes es fits has. subst (λ (made : Option (declared.Event g.row.F.Denot)). Held g.F.WireSummary.profile over fed
     bytes es (Ok made)) c.in-None.is
     (c.in_ok-event.ensures.held bytes es fits has over))
-    (reads_so g.F.Summary.profile g.met.F.Summary.real mid left fed (λ bytes es. FetchStops g.F.Summary.profile over new
-    bytes es stop) (λ bytes es. Next g.F.Summary.profile over new bytes es result)
-    (λ bytes es fits stopped. subst (Next g.F.Summary.profile over new bytes es) (sym is)
-    (fetch_stops g.F.Summary.profile g.met.F.Summary.real over new stop fine bytes es stopped))
+    (reads_so g.F.WireSummary.profile g.met.F.WireSummary.real mid left fed
+    (λ bytes es. FetchStops g.F.WireSummary.profile over new
+    bytes es stop) (λ bytes es. Next g.F.WireSummary.profile over new bytes es result)
+    (λ bytes es fits stopped. subst (Next g.F.WireSummary.profile over new bytes es) (sym is)
+    (fetch_stops g.F.WireSummary.profile g.met.F.WireSummary.real over new stop fine bytes es stopped))
     c.in_err-read_more-in-None.ensures.read)
 
 pub read_more-requires-clause-listens : goal.read_more-requires-clause-listens

@@ -14,10 +14,10 @@ returns-in_err-taken-clause-held g c =
     let rest = c.rest.result.now in
     let parts = sym c.rest.ensures ∙ sym (append-nil rest) in
     let did = c.in_err-taken.ensures in
-    λ bytes es fits has over. subst (Held g.F.Summary.profile over new bytes es) (sym is)
-    (stopped g.F.Summary.profile g.met.F.Summary.real old c.next.new.self rest [] e parts did.next did.fault did.joined
-    bytes es fits
-    (subst (λ (b : InboxState). HasRead g.F.Summary.profile b bytes es) (sym c.self.view_is) has) over)
+    λ bytes es fits has over. subst (Held g.F.WireSummary.profile over new bytes es) (sym is)
+    (stopped g.F.WireSummary.profile g.met.F.WireSummary.real old c.next.new.self rest [] e parts did.next did.fault
+    did.joined bytes es fits
+    (subst (λ (b : InboxState). HasRead g.F.WireSummary.profile b bytes es) (sym c.self.view_is) has) over)
 
 pub returns-clause-held : goal.returns-clause-held
 returns-clause-held g c =
@@ -28,5 +28,5 @@ returns-clause-held g c =
     let taken = c.in_ok-taken.taken in
     let event = c.in_ok-taken.event in
     rw (← c.self.view_is)
-    (held g.F.Summary.profile g.met.F.Summary.real old new c.rest.result.now c.rest.ensures taken event did.next
+    (held g.F.WireSummary.profile g.met.F.WireSummary.real old new c.rest.result.now c.rest.ensures taken event did.next
     did.joined c.skip.ensures refl)

@@ -10,8 +10,8 @@ returns-then-self-ge-MAX_READS-clause-read g c =
     let unread = g.R.Read.remaining c.args.reader.now.inner in
     let most = c.if-self-ge-MAX_READS.true in
     let same = ap (λ (b : InboxState). b.reads) c.self.view_is in
-    reads_nothing g.F.Summary.profile g.met.F.Summary.real unread c.args.self.now (λ bytes es. IsUnread
-    g.F.Summary.profile (seen c.args.reader.now.failed c.args.reader.now.ended)
+    reads_nothing g.F.WireSummary.profile g.met.F.WireSummary.real unread c.args.self.now (λ bytes es. IsUnread
+    g.F.WireSummary.profile (seen c.args.reader.now.failed c.args.reader.now.ended)
     bytes es directions.Read)
     (λ bytes es fits has. let counted = has.counted in
     let all : 2 ^ 32 ≤ length bytes = omega arith in
@@ -26,7 +26,7 @@ returns-clause-read g c =
     let bytes = c.in-Ok.ensures.bytes in
     let some : 0 < length c.fill.new.self = search rules in
     rw (← c.self.view_is)
-    (came g.F.Summary.profile g.met.F.Summary.real _ _ old new none refl bytes.0 refl some bytes.1)
+    (came g.F.WireSummary.profile g.met.F.WireSummary.real _ _ old new none refl bytes.0 refl some bytes.1)
 
 pub returns-then-count-eq0-clause-read : goal.returns-then-count-eq0-clause-read
 returns-then-count-eq0-clause-read g c =
@@ -38,5 +38,5 @@ returns-then-count-eq0-clause-read g c =
     let over = seen c.fill.new.reader.failed c.fill.new.reader.ended in
     let ended : IsTrue c.fill.new.reader.ended = search rules in
     rw (← c.self.view_is)
-    (ended_read g.F.Summary.profile g.met.F.Summary.real _ _ old new over c.number.result c.fill.new.self none refl nil
-    c.in-Ok.ensures.bytes.1 ended c.number.ensures)
+    (ended_read g.F.WireSummary.profile g.met.F.WireSummary.real _ _ old new over c.number.result c.fill.new.self none
+    refl nil c.in-Ok.ensures.bytes.1 ended c.number.ensures)

@@ -7,4 +7,5 @@ use Rattle.server.proofs.book.Book.put_each.Given as goal
 abbrev pub invariant-loop-item : goal.invariant-loop-item
 invariant-loop-item g l =
     l.are_told ≡ true →
-    Tells g.D.Device.held (lines_of l.wanted.form (take l.item-index l.wanted.items.now.items)) l.fn.self.lines l.self.lines
+    Tells g.D.Device.held (lines_of l.wanted.form (take l.item-index l.wanted.items.now.items)) l.fn.self.lines
+    l.self.lines

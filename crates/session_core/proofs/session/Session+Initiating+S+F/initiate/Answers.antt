@@ -15,16 +15,16 @@ pub returns-clause-begins : goal.returns-clause-begins
 returns-clause-begins g c =
     let a = arc_value c.args.accepted in
     let s : Speaker g.row.F.Denot =
-    initiating g.F.Summary.summary (peer_of (arc_value c.args.accepted) (g.S.RangeStore.content c.args.store)) in
-    subst (λ (d : SessionState g.row.F.Denot). Begins g.F.Summary.summary g.F.Summary.profile a s d)
+    initiating g.F.WireSummary.summary (peer_of (arc_value c.args.accepted) (g.S.RangeStore.content c.args.store)) in
+    subst (λ (d : SessionState g.row.F.Denot). Begins g.F.WireSummary.summary g.F.WireSummary.profile a s d)
     (sym c.of-2.ensures)
-    (begins-opened g.F.Summary.summary g.F.Summary.profile a s _ _ (search rules) (search rules) (search rules) refl
-    (search rules) (search rules) (search rules))
+    (begins-opened g.F.WireSummary.summary g.F.WireSummary.profile a s _ _ (search rules) (search rules) (search rules)
+    refl (search rules) (search rules) (search rules))
 
 -- all that a session begins with is open
 pub of-requires-2 : goal.of-requires-2
 of-requires-2 g c =
-    let S = g.F.Summary.summary in
+    let S = g.F.WireSummary.summary in
     let P : Peer = peer_of (arc_value c.args.accepted) (g.S.RangeStore.content c.args.store) in
     let said : c.parts.result.now ≡ opening S P = search rules in
     let size : c.open_size-waits.result ≡ message_size (open_parts c.parts.result.now) = search rules in

@@ -10,8 +10,8 @@ pub returns-clause-begins : goal.returns-clause-begins
 returns-clause-begins g c =
     let a = arc_value c.args.accepted in
     let s : Speaker g.row.F.Denot =
-    responding g.F.Summary.summary (peer_of (arc_value c.args.accepted) (g.S.RangeStore.content c.args.store)) in
-    subst (λ (d : SessionState g.row.F.Denot). Begins g.F.Summary.summary g.F.Summary.profile a s d)
+    responding g.F.WireSummary.summary (peer_of (arc_value c.args.accepted) (g.S.RangeStore.content c.args.store)) in
+    subst (λ (d : SessionState g.row.F.Denot). Begins g.F.WireSummary.summary g.F.WireSummary.profile a s d)
     (sym c.of.ensures)
-    (begins-opened g.F.Summary.summary g.F.Summary.profile a s _ _ (search rules) (search rules) (search rules) refl
-    (search rules) (search rules) (search rules))
+    (begins-opened g.F.WireSummary.summary g.F.WireSummary.profile a s _ _ (search rules) (search rules) (search rules)
+    refl (search rules) (search rules) (search rules))

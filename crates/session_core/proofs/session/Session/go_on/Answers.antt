@@ -12,11 +12,12 @@ returns-clause-pushes g c = λ s pushed taken live k.
       over = c.args.self.now.over;
       begun = c.bytes_begun-begun.result;
     } in
-    let heard : HearsIf g.F.Summary.summary g.F.Summary.profile c.args.self.now.talk c.args.event c.hear.new.self =
+    let heard : HearsIf g.F.WireSummary.summary g.F.WireSummary.profile c.args.self.now.talk c.args.event
+    c.hear.new.self =
     search rules in
     let begun : c.bytes_begun-begun.result ≡ begun_after c.args.event c.args.self.now.begun (length c.args.piece.now) =
     search rules in
-    let after = piece-heard g.F.Summary.summary g.F.Summary.profile c.stream_laws.ensures s c.args.self.now d
+    let after = piece-heard g.F.WireSummary.summary g.F.WireSummary.profile c.stream_laws.ensures s c.args.self.now d
     c.args.event c.args.piece.now pushed taken live (ap is_open c.requires.open) c.requires.bytes heard refl begun
     c.requires.fed k in
     search (rules, after)

@@ -15,12 +15,12 @@ loop-taken-preserved g c =
     let rest : take (length piece - from) (drop from piece) ≡ drop from piece =
     ap (λ (n : ℕ). take n (drop from piece)) (sym left) ∙ take-length (drop from piece) in
     let goes : is_open c.loop-taken.self.talk.state ≡ true = search rules in
-    let heard = subst (λ (l : List ℕ). Pushes g.F.Summary.summary g.F.Summary.profile c.loop-taken.self
+    let heard = subst (λ (l : List ℕ). Pushes g.F.WireSummary.summary g.F.WireSummary.profile c.loop-taken.self
     (take c.in-Ok.count l) c.hear_next.new.self) rest c.in-Ok.ensures.pushes in
     record {
       some = omega (arith, before.some, took.1, left, ap (λ (l : List ℕ). length l) rest);
-      pushes = pushes-on g.F.Summary.summary g.F.Summary.profile c.args.self.now c.loop-taken.self c.hear_next.new.self
-          piece from c.in-Ok.count before.pushes heard;
+      pushes = pushes-on g.F.WireSummary.summary g.F.WireSummary.profile c.args.self.now c.loop-taken.self
+          c.hear_next.new.self piece from c.in-Ok.count before.pushes heard;
       over = c.in-Ok.ensures.over ∙ before.over;
       none = λ is. absurd (omega (arith, is, took.0));
       after = λ closed.
@@ -31,6 +31,6 @@ loop-taken-preserved g c =
 
 pub returns-in-Err-clause-pushes : goal.returns-in-Err-clause-pushes
 returns-in-Err-clause-pushes g c =
-    pushes-so g.F.Summary.summary g.F.Summary.profile c.args.self.now c.loop-taken.self c.hear_next.new.self
+    pushes-so g.F.WireSummary.summary g.F.WireSummary.profile c.args.self.now c.loop-taken.self c.hear_next.new.self
     c.args.piece.now c.loop-taken.taken c.unless_none.result c.unless_none.ensures.some c.in-Err.ensures.memory
     c.loop-taken.invariant.pushes

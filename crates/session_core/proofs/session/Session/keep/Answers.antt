@@ -17,8 +17,8 @@ returns-clause-pushes g c = λ kept.
     search rules in
     let yes : c.in_ok-keep.field-0 ≡ true = search rules in
     let step = c.in_ok-keep.ensures.kept yes in
-    let fed : feed_of g.F.Summary.profile c.args.self.now.feed c.args.piece.now ≡ fed_into [] c.keep.new.self =
+    let fed : feed_of g.F.WireSummary.profile c.args.self.now.feed c.args.piece.now ≡ fed_into [] c.keep.new.self =
     search (rules, step.0) in
-    let after = piece-kept g.F.Summary.summary g.F.Summary.profile c.stream_laws.ensures c.args.self.now d
+    let after = piece-kept g.F.WireSummary.summary g.F.WireSummary.profile c.stream_laws.ensures c.args.self.now d
     c.args.piece.now (ap is_open c.requires.open) c.requires.bytes refl refl begun fed step.1 in
     search (rules, after)

@@ -5,6 +5,6 @@ use Rattle.session_core.proofs.session.Session.written.Goals as goal
 
 pub returns-clause-whole : goal.returns-clause-whole
 returns-clause-whole g c = λ s pushed taken k.
-    written-so g.F.Summary.profile (said_to g.F.Summary.summary g.F.Summary.profile s pushed) taken
+    written-so g.F.WireSummary.profile (said_to g.F.WireSummary.summary g.F.WireSummary.profile s pushed) taken
     c.args.self.now.talk.outbox c.args.self.now.talk.held.end.sent c.written.result k.tells.sent (search rules)
     k.tells.laid

@@ -8,9 +8,9 @@ use Rattle.wire_core.proofs.feed.Feed.read_all.Given as goal
 abbrev pub invariant-events : goal.invariant-events
 invariant-events g l = record {
   so_far : put_after (event_values l.fn.out.items)
-      (feed g.F.Summary.profile l.self.standing (l.self.kept ++ l.piece))
-      ≡ put_after (event_values l.out.items) (feed g.F.Summary.profile l.there.standing (l.there.kept ++ l.rest));
-  held : feed g.F.Summary.profile l.there.standing l.there.kept ≡ stays l.there.standing l.there.kept;
+      (feed g.F.WireSummary.profile l.self.standing (l.self.kept ++ l.piece))
+      ≡ put_after (event_values l.out.items) (feed g.F.WireSummary.profile l.there.standing (l.there.kept ++ l.rest));
+  held : feed g.F.WireSummary.profile l.there.standing l.there.kept ≡ stays l.there.standing l.there.kept;
   before : take (length l.fn.out.items) l.out.items ≡ l.fn.out.items;
 }
 

@@ -12,19 +12,19 @@ there g c =
 
 pub invariant_of-self-2 : goal.invariant_of-self-2
 invariant_of-self-2 g c =
-    insert_runs g.F.Summary.summary (c.sessions_stay.ensures g.F.Summary.summary)
-    (c.sessions_keep_nodes.ensures g.F.Summary.summary) c.insert.result c.self.inside.nodes.items
+    insert_runs g.F.WireSummary.summary (c.sessions_stay.ensures g.F.WireSummary.summary)
+    (c.sessions_keep_nodes.ensures g.F.WireSummary.summary) c.insert.result c.self.inside.nodes.items
     c.self.inside.sessions.items c.args.node c.args.item
     c.in-Some.node.now c.insert.new.self (there g c) c.insert.ensures.node c.insert.ensures.refused c.self.invariant
 
 pub returns-clause-world : goal.returns-clause-world
 returns-clause-world g c =
-    insert_world g.F.Summary.summary c.insert.result c.args.self.now c.self.inside.nodes.items
+    insert_world g.F.WireSummary.summary c.insert.result c.args.self.now c.self.inside.nodes.items
     c.self.inside.sessions.items c.args.node c.args.item
     c.in-Some.node.now c.insert.new.self c.self.view_is (there g c) c.insert.ensures.node
 
 pub returns-clause-did : goal.returns-clause-did
 returns-clause-did g c =
-    insert_did g.F.Summary.summary did_of c.insert.result c.args.self.now c.self.inside.nodes.items
+    insert_did g.F.WireSummary.summary did_of c.insert.result c.args.self.now c.self.inside.nodes.items
     c.self.inside.sessions.items c.args.node c.args.item
     c.in-Some.node.now c.self.view_is (there g c) c.insert.ensures.did

@@ -15,7 +15,7 @@ there g c =
     slice_get_read c.self.inside.nodes.items _ c.args.initiator c.index.result.now refl (room_first g c) c.index.ensures
 
 started : (g : _) (c : goal.In_ok-push g) →
-    c.in_ok-session.session ≡ beginning g.F.Summary.summary c.args.initiator c.args.responder c.index.result.now
+    c.in_ok-session.session ≡ beginning g.F.WireSummary.summary c.args.initiator c.args.responder c.index.result.now
 started g c = c.in_ok-session.ensures
 
 pushed : (g : _) (c : goal.In_ok-push g) →
@@ -26,15 +26,15 @@ room : (g : _) (c : goal.In_ok-push g) → c.args.responder < length c.self.insi
 room g c = omega arith
 
 after : (g : _) (c : goal.In_ok-push g) →
-    c.push.new.self.items ≡ c.self.inside.sessions.items ++ beginning g.F.Summary.summary c.args.initiator
+    c.push.new.self.items ≡ c.self.inside.sessions.items ++ beginning g.F.WireSummary.summary c.args.initiator
     c.args.responder c.index.result.now ∷ []
 after g c = pushed g c ∙ ap (λ l. c.self.inside.sessions.items ++ l ∷ []) (started g c)
 
 pub invariant_of-self-2 : goal.invariant_of-self-2
 invariant_of-self-2 g c =
-    subst (IsRunning g.F.Summary.summary c.self.inside.nodes.items) (sym (after g c))
-    (open_runs g.F.Summary.summary (c.sessions_open.ensures g.F.Summary.summary)
-    (c.sessions_keep_nodes.ensures g.F.Summary.summary)
+    subst (IsRunning g.F.WireSummary.summary c.self.inside.nodes.items) (sym (after g c))
+    (open_runs g.F.WireSummary.summary (c.sessions_open.ensures g.F.WireSummary.summary)
+    (c.sessions_keep_nodes.ensures g.F.WireSummary.summary)
     c.self.inside.nodes.items c.self.inside.sessions.items c.args.initiator c.args.responder c.index.result.now
     (there g c)
     c.if-initiator-responder.false (slice_get_within _ _ _ (there g c)) (room g c) c.self.invariant)
@@ -43,12 +43,12 @@ opened : (g : _) (c : goal.In_ok-push g) →
     open_at c.args.self.now c.args.initiator c.args.responder (slice_get c.args.self.now.nodes c.args.initiator)
     (slice_get c.args.self.now.nodes c.args.responder)
     ≡ (
-      world_of c.self.inside.nodes.items (c.self.inside.sessions.items ++ beginning g.F.Summary.summary
+      world_of c.self.inside.nodes.items (c.self.inside.sessions.items ++ beginning g.F.WireSummary.summary
           c.args.initiator c.args.responder c.index.result.now ∷ []),
       worlds.Opened (length c.self.inside.sessions.items),
     )
 opened g c =
-    open_world g.F.Summary.summary c.args.self.now c.self.inside.nodes.items c.self.inside.sessions.items
+    open_world g.F.WireSummary.summary c.args.self.now c.self.inside.nodes.items c.self.inside.sessions.items
     c.args.initiator c.args.responder c.index.result.now c.self.view_is (there g c) c.if-initiator-responder.false
     (room g c)
 

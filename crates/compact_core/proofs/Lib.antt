@@ -1,0 +1,9 @@
+pub mod Readings
+pub mod Entries
+pub mod Fields
+pub mod Bodies
+pub mod Unpacks
+pub mod Packs
+pub mod Texts
+pub mod Frames
+pub mod Joined

@@ -1,0 +1,6 @@
+pub mod Readings
+pub mod Unpacking
+pub mod Places
+pub mod Packing
+pub mod Reached
+pub mod Spellings
